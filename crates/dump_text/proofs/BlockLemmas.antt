@@ -1,0 +1,194 @@
+-- A block, from the lines that a scan finds.
+use Rattle.std.proofs.Common.{◌≡◌, ℕ, zero, suc, ◌+◌, ◌-◌, ◌<◌, ◌≤◌, nat_lt, nat_le, Bool, true, false, not, ◌&&◌, ◌||◌, ◌==◌, List, [], ◌∷◌, ◌++◌, take, drop, length, slice_range, refl, sym, ap, ◌∙◌, subst, arith, append_assoc, length-append, bytes_eq, if◌then◌else◌, codes}
+use Rattle.std.specs.List.{list_all, list_any}
+use Rattle.std.proofs.lemmas.List.{take_at, drop_at, append-nil, length-drop, length-take, length-take-le, drop-drop, drop-take, take-take, take-append-drop}
+use Rattle.std.proofs.lemmas.List.Sums.{sum_by-cons}
+use Rattle.std.proofs.lemmas.Slice.Eq.{bytes_eq-Decides}
+use Rattle.dump_text.specs.Names.{known_names}
+use Rattle.dump_text.specs.HeaderLine as line
+use Rattle.dump_text.specs.HeaderLine.{is_header, header_text, is_named, has_header, header_value, count_named}
+use Rattle.dump_text.specs.HeaderBlock.{is_block, lines_bytes, block_text, BeginsWithBlock, HasBlock}
+use Rattle.dump_text.specs.ReadHeaders.{headers_of, AreHeaderLines, IsBlockBetween, IsPartBetween}
+use Rattle.dump_text.specs.Scanning.{IsLinesEnd, IsBlockEnd, HasLines, is_known, names_stand_once}
+use Rattle.dump_text.proofs.Unique.{lines_once, lawful_lines, first_true, second_true}
+use Rattle.dump_text.proofs.ScanLemmas.{headers_of-lines}
+
+-- whether each known name stands at most once, by counting and by looking ahead
+abbrev counts_once : List (List ℕ) → List line.Header → Bool
+counts_once names headers = list_all (λ name. nat_le (count_named name headers) 1) names
+
+count_cons : (name : List ℕ) (h : line.Header) (hs : List line.Header)
+    → count_named name (h ∷ hs) ≡ (if is_named name h then 1 else 0) + count_named name hs
+count_cons name h hs = sum_by-cons (λ (x : line.Header). if is_named name x then 1 else 0) h hs
+
+has_count : (name : List ℕ) (hs : List line.Header) → has_header name hs ≡ nat_lt 0 (count_named name hs)
+has_count name [] = refl
+has_count name (h ∷ hs) =
+    let more = has_count name hs in
+    ap (λ b. is_named name h || b) more ∙ sum (is_named name h) (count_named name hs) ∙ ap (nat_lt 0) (sym (count_cons name h hs))
+  where
+    sum : (b : Bool) (n : ℕ) → (b || nat_lt 0 n) ≡ nat_lt 0 ((if b then 1 else 0) + n)
+    sum true n = grind arith
+    sum false n = grind arith
+
+-- one more line keeps a name at most once where it isn't of this name or no other line is
+one_name : (name : List ℕ) (h : line.Header) (hs : List line.Header)
+    → nat_le (count_named name (h ∷ hs)) 1 ≡ (not (is_named name h && has_header h.name hs) && nat_le (count_named name hs) 1)
+one_name name h hs = ap (λ n. nat_le n 1) (count_cons name h hs) ∙ cases (is_named name h) refl
+  where
+    add : (n : ℕ) → nat_le (1 + n) 1 ≡ (not (nat_lt 0 n) && nat_le n 1)
+    add zero = refl
+    add (suc n) = grind arith
+
+    cases : (b : Bool) → is_named name h ≡ b
+        → nat_le ((if b then 1 else 0) + count_named name hs) 1 ≡ (not (b && has_header h.name hs) && nat_le (count_named name hs) 1)
+    cases true is =
+        let name_is : h.name ≡ name = (bytes_eq-Decides h.name name).0 is in
+        let seen : has_header h.name hs ≡ nat_lt 0 (count_named name hs) = ap (λ n. has_header n hs) name_is ∙ has_count name hs in
+        add (count_named name hs) ∙ ap (λ b. not b && nat_le (count_named name hs) 1) (sym seen)
+    cases false is = ap (λ n. nat_le n 1) (omega arith)
+
+spread : (names : List (List ℕ)) (h : line.Header) (hs : List line.Header)
+    → counts_once names (h ∷ hs) ≡ (not (list_any (λ known. bytes_eq h.name known) names && has_header h.name hs) && counts_once names hs)
+spread [] h hs = refl
+spread (name ∷ names) h hs =
+    rw (one_name name h hs, spread names h hs)
+    (mix (bytes_eq h.name name) (has_header h.name hs) (nat_le (count_named name hs) 1) (list_any (λ known. bytes_eq h.name known) names) (counts_once names hs))
+  where
+    mix : (e x q f r : Bool) → ((not (e && x) && q) && (not (f && x) && r)) ≡ (not ((e || f) && x) && (q && r))
+    mix true true q f r = refl
+    mix true false q true r = refl
+    mix true false q false r = refl
+    mix false true true true r = refl
+    mix false true false true r = refl
+    mix false true q false r = refl
+    mix false false q true r = refl
+    mix false false q false r = refl
+
+none_counted : (names : List (List ℕ)) → counts_once names [] ≡ true
+none_counted [] = refl
+none_counted (name ∷ names) = none_counted names
+
+pub stand_once-counts : (hs : List line.Header) → names_stand_once hs ≡ counts_once known_names hs
+stand_once-counts [] = refl
+stand_once-counts (h ∷ hs) =
+    ap (λ b. not (is_known h.name && has_header h.name hs) && b) (stand_once-counts hs) ∙ sym (spread known_names h hs)
+
+-- the lines that a scan found are those of each block that stands there
+same_lines : (text rest : List ℕ) (hs : List line.Header) (size : ℕ) → IsLinesEnd text size → BeginsWithBlock text hs rest
+    → hs ≡ headers_of (take size text)
+same_lines text rest hs size found b =
+    (lines_once hs (headers_of (take size text)) rest (drop (size + 1) text) (lawful_lines hs b.block) found.lines.lawful
+    (sym (append_assoc (lines_bytes hs) (10 ∷ []) rest) ∙ sym b.spelled ∙ found.ended ∙ ap (λ t. t ++ 10 ∷ drop (size + 1) text) found.lines.spelled)).0
+
+pub block_end : (text : List ℕ) (size : ℕ) → IsLinesEnd text size → 0 < size → names_stand_once (headers_of (take size text)) ≡ true
+    → IsBlockEnd text (size + 1)
+block_end text size found some once =
+    let hs = headers_of (take size text) in
+    let below = found.below in
+    let cut : text ≡ (take size text ++ 10 ∷ []) ++ drop (size + 1) text = found.ended ∙ sym (append_assoc (take size text) (10 ∷ []) (drop (size + 1) text)) in
+    let size_is : length (take size text ++ 10 ∷ []) ≡ size + 1 = length-append (take size text) (10 ∷ []) ∙ ap (λ n. n + 1) (length-take-le size text (omega arith)) in
+    let front : take (size + 1) text ≡ lines_bytes hs ++ 10 ∷ [] =
+    ap (take (size + 1)) cut ∙ take_at (take size text ++ 10 ∷ []) (drop (size + 1) text) (size + 1) size_is
+    ∙ ap (λ t. t ++ 10 ∷ []) found.lines.spelled in
+    let read : headers_of (take (size + 1) text) ≡ hs = ap headers_of front ∙ headers_of-lines hs (10 ∷ []) found.lines.lawful refl in
+    let full : nat_lt 0 (length hs) ≡ true = some_lines hs (ap length (sym found.lines.spelled) ∙ length-take-le size text (omega arith)) some in
+    let lawful = found.lines.lawful in
+    let counted = sym (stand_once-counts hs) ∙ once in
+    record {
+      inside = omega arith;
+      block = record {
+        block = ap is_block read ∙ rw (full, lawful, counted) refl;
+        spelled = cut ∙ ap (λ t. (t ++ 10 ∷ []) ++ drop (size + 1) text) found.lines.spelled
+            ∙ ap (λ (g : List line.Header). block_text g ++ drop (size + 1) text) (sym read);
+      };
+    }
+  where
+    some_lines : (hs : List line.Header) → length (lines_bytes hs) ≡ size → 0 < size → nat_lt 0 (length hs) ≡ true
+    some_lines [] is some = absurd (omega arith)
+    some_lines (h ∷ hs) is some = grind arith
+
+pub no_block-once : (text : List ℕ) (size : ℕ) → IsLinesEnd text size → names_stand_once (headers_of (take size text)) ≡ false → ¬ HasBlock text
+no_block-once text size found once (hs, rest, b) =
+    let same = same_lines text rest hs size found b in
+    let counted : counts_once known_names hs ≡ true = second_true (nat_lt 0 (length hs) && list_all is_header hs) (counts_once known_names hs) b.block in
+    let bad : true ≡ false = sym counted ∙ sym (stand_once-counts hs) ∙ ap names_stand_once same ∙ once in
+    cc
+
+pub no_block-empty : (text : List ℕ) (size : ℕ) → IsLinesEnd text size → size ≤ 0 → ¬ HasBlock text
+no_block-empty text size found none (hs, rest, b) =
+    let same = same_lines text rest hs size found b in
+    let some = first_true (nat_lt 0 (length hs)) (list_all is_header hs) (first_true (nat_lt 0 (length hs) && list_all is_header hs) (counts_once known_names hs) b.block) in
+    let zero_is : size ≡ 0 = omega arith in
+    let empty : hs ≡ [] = same ∙ ap (λ n. headers_of (take n text)) zero_is in
+    let bad : true ≡ false = sym some ∙ ap (λ (g : List line.Header). nat_lt 0 (length g)) empty in
+    cc
+
+pub no_block-lines : (text : List ℕ) → ¬ HasLines text → ¬ HasBlock text
+no_block-lines text none (hs, rest, b) =
+    none (hs, rest, lawful_lines hs b.block, b.spelled ∙ append_assoc (lines_bytes hs) (10 ∷ []) rest)
+
+-- the bytes of a block's lines in its dump
+pub record LinesOf (dump : List ℕ) (place after : ℕ) (text : List ℕ) : Type 0 where
+  pub lines : AreHeaderLines text
+  pub headers : headers_of text ≡ headers_of (slice_range dump place after)
+
+pub lines_of : (dump : List ℕ) (place after : ℕ) → IsBlockBetween dump place after → LinesOf dump place after (take (after - 1 - place) (drop place dump))
+lines_of dump place after stands =
+    let hs = headers_of (slice_range dump place after) in
+    let b = stands.block in
+    let inside = stands.inside in
+    let all = lawful_lines hs b.block in
+    let sizes = ap length b.spelled ∙ length-append (block_text hs) (drop after dump) in
+    let size = length-append (lines_bytes hs) (10 ∷ []) in
+    let whole = length-drop place dump in
+    let behind = length-drop after dump in
+    let count : length (lines_bytes hs) ≡ after - 1 - place = omega arith in
+    let is : take (after - 1 - place) (drop place dump) ≡ lines_bytes hs =
+    ap (take (after - 1 - place)) (b.spelled ∙ append_assoc (lines_bytes hs) (10 ∷ []) (drop after dump))
+    ∙ take_at (lines_bytes hs) (10 ∷ drop after dump) _ count in
+    let read : headers_of (take (after - 1 - place) (drop place dump)) ≡ hs =
+    ap headers_of (is ∙ sym (append-nil (lines_bytes hs))) ∙ headers_of-lines hs [] all refl in
+    record {
+      lines = record { lawful = ap (list_all is_header) read ∙ all; spelled = is ∙ ap lines_bytes (sym read) };
+      headers = read;
+    }
+
+-- a part of a part
+pub part_of_part : (dump : List ℕ) (place after : ℕ) (x y z : List ℕ) → IsPartBetween dump place after (x ++ (y ++ z)) → IsPartBetween dump place after y
+part_of_part dump place after x y z (from, to, low, middle, high, is) =
+    let whole = take (to - from) (drop from dump) in
+    let sizes = ap length is ∙ length-take (to - from) (drop from dump) in
+    let parts = length-append x (y ++ z) in
+    let tail = length-append y z in
+    let rest : y ++ z ≡ drop (length x) whole = sym (drop_at x (y ++ z) (length x) refl) ∙ ap (drop (length x)) is in
+    let room : length x + (to - from - length x) ≡ to - from = omega arith in
+    let moved : drop (length x) whole ≡ take (to - from - length x) (drop (from + length x) dump) =
+    ap (λ n. drop (length x) (take n (drop from dump))) (sym room) ∙ drop-take (length x) (to - from - length x) (drop from dump)
+    ∙ ap (take (to - from - length x)) (drop-drop (length x) from dump) in
+    let front : y ≡ take (length y) (drop (from + length x) dump) =
+    sym (take_at y z (length y) refl) ∙ ap (take (length y)) (rest ∙ moved) ∙ take-take (length y) (to - from - length x) (drop (from + length x) dump) (omega arith) in (
+      from + length x,
+      from + length x + length y,
+      omega arith,
+      omega arith,
+      omega arith,
+      front ∙ ap (λ n. take n (drop (from + length x) dump)) (omega arith),
+    )
+
+-- a line's value, and the lines behind it
+pub value_between : (dump : List ℕ) (place after : ℕ) (text whole name value rest : List ℕ) → IsPartBetween dump place after text
+    → text ≡ whole ++ 10 ∷ rest → whole ≡ name ++ codes ": " ++ value → IsPartBetween dump place after value
+value_between dump place after text whole name value rest part is spelled =
+    part_of_part dump place after (name ++ codes ": ") value (10 ∷ rest)
+    (subst (IsPartBetween dump place after) (is ∙ ap (λ w. w ++ 10 ∷ rest) spelled ∙ append_assoc (name ++ codes ": ") value (10 ∷ rest)) part)
+
+pub rest_between : (dump : List ℕ) (place after : ℕ) (text whole rest : List ℕ) → IsPartBetween dump place after text
+    → text ≡ whole ++ 10 ∷ rest → IsPartBetween dump place after rest
+rest_between dump place after text whole rest part is =
+    part_of_part dump place after (whole ++ 10 ∷ []) rest []
+    (subst (IsPartBetween dump place after) (is ∙ sym (append_assoc whole (10 ∷ []) rest) ∙ ap (λ t. (whole ++ 10 ∷ []) ++ t) (sym (append-nil rest))) part)
+
+pub value_behind : (name : List ℕ) (h : line.Header) (hs : List line.Header) → is_named name h ≡ false
+    → header_value name (h ∷ hs) ≡ header_value name hs
+value_behind name h hs other = rw other refl

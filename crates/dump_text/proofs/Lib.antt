@@ -1,0 +1,4 @@
+pub mod NumberLemmas
+pub mod Unique
+pub mod ScanLemmas
+pub mod BlockLemmas

@@ -1,0 +1,11 @@
+use Rattle.std.proofs.Common.{◌≡◌, ℕ, List, ◌++◌, length, true}
+use Rattle.std.specs.List.{list_all}
+use Rattle.dump_text.specs.HeaderLine.{Header, is_header}
+use Rattle.dump_text.specs.HeaderBlock.{lines_bytes}
+use Rattle.dump_text.proofs.scan.lines_len.Given as goal
+
+abbrev pub invariant-loop-whole : goal.invariant-loop-whole
+invariant-loop-whole l = (hs : List Header) × (l.text ≡ lines_bytes hs ++ l.rest) × (list_all is_header hs ≡ true)
+
+abbrev pub decreases-loop-whole : goal.decreases-loop-whole
+decreases-loop-whole l = length l.rest

@@ -1,0 +1,107 @@
+//! A block of header lines, found in a dump.
+ghost use Rattle.std.specs.Prelude.{◌≡◌, ◌↔◌, IfOk, IfErr, IfSome, IsOk, MatchOption, option_copied, drop};
+ghost use Rattle.dump_text.specs.HeaderLine.{header_value};
+ghost use Rattle.dump_text.specs.HeaderBlock.{HasBlock, block_fault};
+ghost use Rattle.dump_text.specs.ReadHeaders.{IsBlockBetween, IsPartBetween};
+ghost use Rattle.dump_text.specs.Scanning.{IsBlockEnd};
+
+use crate::fault::FaultKind;
+use crate::lines::Lines;
+use crate::names::stand_once;
+use crate::scan::{begins_with_lf, finds_empty_line, lines_len};
+
+/// A block of header lines in a dump.
+#[derive(Clone, Copy)]
+pub struct Block<'a> {
+    dump: &'a [u8],
+    place: usize,
+    after: usize,
+    pub ghost stands: { IsBlockBetween dump.now place after },
+}
+
+/// Why no block stands at the front of a text that begins with none.
+fn fault_of(text: &[u8]) -> FaultKind
+    ensures { result ≡ block_fault text.now }
+{
+    if begins_with_lf(text) || finds_empty_line(text) {
+        FaultKind::Header
+    } else {
+        FaultKind::HeaderCut
+    }
+}
+
+/// How many bytes the block at the front of a text takes; None where there is none.
+fn block_len(text: &[u8]) -> Option<usize>
+    ensures { MatchOption result (¬ HasBlock text.now) (λ size. IsBlockEnd text.now size) }
+{
+    let Some(size) = lines_len(text) else {
+        return None;
+    };
+    let lines = Lines {
+        rest: &text[..size],
+    };
+    if size > 0 && stand_once(lines) {
+        Some(size + 1)
+    } else {
+        None
+    }
+}
+
+impl<'a> Block<'a> {
+    ghost use Rattle.dump_text.specs.Views.{block_dump, block_place, block_after, block_headers, lines_left, lines_text};
+
+    /// The block at a place of the dump; `HeaderCut` where no empty line follows, also at the end and past it, else
+    /// `Header`.
+    pub fn cut(dump: &'a [u8], place: usize) -> Result<Block<'a>, FaultKind>
+        ensures dump { IfOk result (λ b. block_dump b ≡ dump.now) }
+        ensures place { IfOk result (λ b. block_place b ≡ place) }
+        ensures found { IsOk result ↔ HasBlock (drop place dump.now) }
+        ensures fault { IfErr result (λ kind. kind ≡ block_fault (drop place dump.now)) }
+    {
+        if place >= dump.len() {
+            return Err(FaultKind::HeaderCut);
+        }
+        let text = &dump[place..];
+        match block_len(text) {
+            Some(size) => Ok(Block {
+                dump,
+                place,
+                after: place + size,
+            }),
+            None => Err(fault_of(text)),
+        }
+    }
+
+    /// The value of the first line of that name.
+    pub fn get(&self, name: &[u8]) -> Option<&'a [u8]>
+        ensures value { option_copied result ≡ header_value name.now (block_headers self.now) }
+        ensures lent { IfSome result (λ value.
+            IsPartBetween (block_dump self.now) (block_place self.now) (block_after self.now) value.now) }
+    {
+        let mut lines = self.lines();
+        while let Some(line) = lines.next() {
+            if line.name == name {
+                return Some(line.value);
+            }
+        }
+        None
+    }
+
+    /// The block's lines, in their order.
+    pub fn lines(&self) -> Lines<'a>
+        ensures lines { lines_left result ≡ block_headers self.now }
+        ensures lent { IsPartBetween (block_dump self.now) (block_place self.now) (block_after self.now)
+            (lines_text result) }
+    {
+        Lines {
+            rest: &self.dump[self.place..self.after - 1],
+        }
+    }
+
+    /// The byte behind the block's empty line.
+    pub fn after(&self) -> usize
+        ensures { result ≡ block_after self.now }
+    {
+        self.after
+    }
+}

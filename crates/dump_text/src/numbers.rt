@@ -1,0 +1,71 @@
+//! Numbers as headers, property lengths and mergeinfo have them.
+ghost use Rattle.std.specs.Prelude.{◌≡◌, ◌<◌, ◌^◌, IfSome};
+ghost use Rattle.dump_text.specs.Number.{number_of, spelled_number};
+
+use std::marker::Model;
+
+/// A longer run of digits is no number (this project's own rule): sums of two numbers fit a `u64`.
+const MOST_DIGITS: usize = 18;
+
+/// The number that 1 to 18 ASCII digits spell, with leading zeros or without.
+pub fn number(bytes: &[u8]) -> Option<u64>
+    ensures value { result ≡ number_of bytes.now }
+    ensures small { IfSome result (λ n. n < 10 ^ 18) }
+{
+    if bytes.is_empty() || bytes.len() > MOST_DIGITS {
+        return None;
+    }
+    let mut value = 0u64;
+    for digit in bytes {
+        if !digit.is_ascii_digit() {
+            return None;
+        }
+        value = value * 10 + u64::from(*digit - b'0');
+    }
+    Some(value)
+}
+
+/// How many digits the greatest `u64` has.
+const ROOM: usize = 20;
+
+/// The digits of a number, without leading zeros.
+#[derive(Drop)]
+pub struct Digits {
+    bytes: [u8; ROOM],
+    start: usize,
+}
+
+impl Model for Digits {
+    ghost use Rattle.std.specs.Prelude.{List, ℕ, ◌≤◌, drop};
+
+    ghost Value = { List ℕ };
+
+    ghost view = { λ d. drop d.start d.bytes };
+
+    ghost invariant = { λ d. d.start ≤ 20 };
+}
+
+impl Digits {
+    /// The digits as ASCII.
+    pub fn bytes(&self) -> &[u8]
+        ensures { result.now ≡ self.now }
+    {
+        &self.bytes[self.start..]
+    }
+}
+
+/// The digits of a number, as the filter writes it.
+pub fn spell(n: u64) -> Digits
+    ensures { result ≡ spelled_number n }
+{
+    let mut bytes = [b'0'; ROOM];
+    let mut start = ROOM - 1;
+    let mut left = n;
+    while left >= 10 && start > 0 {
+        bytes[start] = b'0' + (left % 10) as u8;
+        left /= 10;
+        start -= 1;
+    }
+    bytes[start] = b'0' + (left % 10) as u8;
+    Digits { bytes, start }
+}

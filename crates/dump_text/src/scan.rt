@@ -1,0 +1,73 @@
+//! The scan of header lines: where a line ends, where its name ends, and where the lines end.
+ghost use Rattle.std.specs.Prelude.{◌≡◌, MatchOption, IsFalse};
+ghost use Rattle.dump_text.specs.HeaderLine.{has_byte};
+ghost use Rattle.dump_text.specs.HeaderBlock.{starts_with_lf, has_empty_line};
+ghost use Rattle.dump_text.specs.Scanning.{IsFirstAt, IsFirstLine, IsCutAtColon, IsNoHeader, HasLines, IsLinesEnd};
+
+use memchr::memchr;
+
+/// Where the byte stands first.
+fn find(byte: u8, text: &[u8]) -> Option<usize>
+    ensures { MatchOption result (IsFalse (has_byte byte text.now)) (λ k. IsFirstAt byte text.now k) }
+{
+    memchr(byte, text)
+}
+
+/// The bytes before the first LF, and those behind it.
+pub(crate) fn first_line(text: &[u8]) -> Option<(&[u8], &[u8])>
+    ensures { MatchOption result (IsFalse (has_byte 10 text.now)) (λ r. IsFirstLine text.now r.0.now r.1.now) }
+{
+    let at = find(b'\n', text)?;
+    Some((&text[..at], &text[at + 1..]))
+}
+
+/// The name and the value of a line; None where it is no header line.
+pub(crate) fn name_and_value(whole: &[u8]) -> Option<(&[u8], &[u8])>
+    ensures { MatchOption result (IsNoHeader whole.now) (λ r. IsCutAtColon whole.now r.0.now r.1.now) }
+{
+    let Some(colon) = find(b':', whole) else {
+        return None;
+    };
+    if colon == 0 || whole.len() - colon < 2 || whole[colon + 1] != b' ' {
+        return None;
+    }
+    Some((&whole[..colon], &whole[colon + 2..]))
+}
+
+/// How many bytes the header lines before the first empty line take; None where there are no such lines.
+pub(crate) fn lines_len(text: &[u8]) -> Option<usize>
+    ensures { MatchOption result (¬ HasLines text.now) (λ size. IsLinesEnd text.now size) }
+{
+    let mut rest = text;
+    while let Some((whole, others)) = first_line(rest) {
+        if whole.is_empty() {
+            return Some(text.len() - rest.len());
+        }
+        let Some(_) = name_and_value(whole) else {
+            return None;
+        };
+        rest = others;
+    }
+    None
+}
+
+/// Whether an LF stands first.
+pub(crate) fn begins_with_lf(text: &[u8]) -> bool
+    ensures { result ≡ starts_with_lf text.now }
+{
+    matches!(text, [b'\n', ..])
+}
+
+/// Whether two LFs stand side by side.
+pub(crate) fn finds_empty_line(text: &[u8]) -> bool
+    ensures { result ≡ has_empty_line text.now }
+{
+    let mut rest = text;
+    while let Some((_, others)) = first_line(rest) {
+        if begins_with_lf(others) {
+            return true;
+        }
+        rest = others;
+    }
+    false
+}
