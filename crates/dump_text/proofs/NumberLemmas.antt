@@ -1,5 +1,5 @@
 -- Digits, one more at a time.
-use Rattle.std.proofs.Common.{◌≡◌, ℕ, ◌+◌, ◌-◌, ◌*◌, ◌/◌, ◌%◌, ◌<◌, ◌≤◌, ◌^◌, ◌&&◌, Bool, true, false, List, [], ◌∷◌, ◌++◌, take, drop, set, length, get_or, decimal, refl, sym, ap, ◌∙◌, arith, suc}
+use Rattle.std.proofs.Common.{◌≡◌, ℕ, ◌+◌, ◌-◌, ◌*◌, ◌/◌, ◌%◌, ◌<◌, ◌≤◌, ◌^◌, true, List, [], ◌∷◌, ◌++◌, take, drop, set, length, get_or, decimal, refl, sym, ap, ◌∙◌, arith, suc}
 use Rattle.std.specs.List.{list_all}
 use Rattle.std.specs.Char.{is_ascii_digit, digit_value}
 use Rattle.std.specs.Str.Parse.{digits_value}
@@ -7,7 +7,7 @@ use Rattle.std.proofs.lemmas.Int.Digits.{digits_value_more}
 use Rattle.std.proofs.lemmas.List.Folds.{list_all_more}
 use Rattle.std.proofs.lemmas.List.{drop-set, append_assoc}
 use Rattle.std.proofs.lemmas.Fmt.{decimal_step, decimal_digit}
-use Rattle.std.proofs.Math.Nat.{pow-le-pow_right, pow-succ'}
+use Rattle.std.proofs.Math.Nat.{pow-succ'}
 
 pub digit_is : (c : ℕ) → is_ascii_digit c ≡ true → digit_value c ≡ c - 48
 digit_is c h = grind arith

@@ -1,17 +1,17 @@
 -- A text is cut at a byte in one way, and so into header lines.
-use Rattle.std.proofs.Common.{◌≡◌, ℕ, zero, suc, ◌+◌, ◌-◌, ◌<◌, ◌≤◌, nat_lt, Bool, true, false, not, ◌&&◌, ◌||◌, ◌==◌, List, [], ◌∷◌, ◌++◌, take, drop, map, filter, length, get_or, slice_index, refl, sym, ap, ◌∙◌, subst, arith, append_assoc, length-append, flat_map, codes, Option, Some, None, MatchOption}
-use Rattle.std.specs.List.{list_all, slice_split, before_first, after_first, prefix_len, position_or_len, All}
+use Rattle.std.proofs.Common.{◌≡◌, ℕ, suc, ◌+◌, ◌-◌, ◌<◌, ◌≤◌, nat_lt, Bool, true, false, ◌||◌, ◌==◌, List, [], ◌∷◌, ◌++◌, take, drop, map, filter, length, get_or, slice_index, refl, sym, ap, ◌∙◌, arith, append_assoc, length-append, codes, Option, Some, None, MatchOption}
+use Rattle.std.specs.List.{list_all, position_or_len, All}
 use Rattle.std.proofs.lemmas.List.{take-append-drop, drop_more, get_or-take, get_or-drop, length-drop, length-take-le, take_at, drop_at, append-nil, flat_map_more}
 use Rattle.std.proofs.lemmas.List.Elements.{All-cons}
 use Rattle.std.proofs.lemmas.List.Splits.{slice_split_at}
 use Rattle.std.proofs.lemmas.Bool.{eqb-true}
 use Rattle.std.proofs.lemmas.List.Folds.{list_all-append}
-use Rattle.memchr.specs.Find.{IsFirstByte, is_byte, NoneBefore}
+use Rattle.memchr.specs.Find.{IsFirstByte, is_byte}
 use Rattle.dump_text.specs.HeaderLine as line
 use Rattle.dump_text.specs.HeaderLine.{has_byte, header_text, is_header}
-use Rattle.dump_text.specs.HeaderBlock.{lines_bytes, block_text, starts_with_lf, has_empty_line}
+use Rattle.dump_text.specs.HeaderBlock.{lines_bytes, starts_with_lf, has_empty_line}
 use Rattle.dump_text.specs.ReadHeaders.{header_of, headers_of, AreHeaderLines}
-use Rattle.dump_text.specs.Scanning.{IsFirstAt, IsFirstLine, IsCutAtColon, IsNoHeader, HasLines, IsLinesEnd}
+use Rattle.dump_text.specs.Scanning.{IsFirstAt, IsFirstLine, IsCutAtColon, IsNoHeader, IsLinesEnd}
 use Rattle.dump_text.proofs.Unique.{split_once, Lawful, lawful, text_no_lf, regroup, all_first, all_rest, not_empty, first_true, first_false, second_false, or_right, ended}
 
 -- a byte that stands at no place of a text isn't in it

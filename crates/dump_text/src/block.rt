@@ -72,6 +72,20 @@ impl<'a> Block<'a> {
         }
     }
 
+    /// The dump that the block stands in.
+    pub fn dump(&self) -> &'a [u8]
+        ensures { result.now ≡ block_dump self.now }
+    {
+        self.dump
+    }
+
+    /// The byte at which the block begins.
+    pub fn place(&self) -> usize
+        ensures { result ≡ block_place self.now }
+    {
+        self.place
+    }
+
     /// The value of the first line of that name.
     pub fn get(&self, name: &[u8]) -> Option<&'a [u8]>
         ensures value { option_copied result ≡ header_value name.now (block_headers self.now) }

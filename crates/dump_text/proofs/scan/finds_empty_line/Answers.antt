@@ -1,5 +1,5 @@
-use Rattle.std.proofs.Common.{◌≡◌, ◌||◌, false, refl, sym, ap, ◌∙◌}
-use Rattle.dump_text.specs.HeaderBlock.{starts_with_lf, has_empty_line}
+use Rattle.std.proofs.Common.{◌||◌, sym, ap, ◌∙◌}
+use Rattle.dump_text.specs.HeaderBlock.{has_empty_line}
 use Rattle.dump_text.proofs.ScanLemmas.{empty_line-step, empty_line-none}
 use Rattle.dump_text.proofs.scan.finds_empty_line.Goals as goal
 

@@ -1,4 +1,4 @@
-use Rattle.std.proofs.Common.{[], ◌∷◌, ◌++◌, sym, ap, ◌∙◌, refl, arith}
+use Rattle.std.proofs.Common.{[], ◌∷◌, ◌++◌, sym, ◌∙◌}
 use Rattle.std.proofs.lemmas.Bool.{eqb-true}
 use Rattle.dump_text.specs.HeaderLine.{Header}
 use Rattle.dump_text.proofs.ScanLemmas.{lines_behind, lines_more, all_more, is_line, lines_end, clash, no_line_here}

@@ -1,4 +1,4 @@
-use Rattle.std.proofs.Common.{◌≡◌, ℕ, List, ◌++◌, length, true}
+use Rattle.std.proofs.Common.{◌≡◌, List, ◌++◌, length, true}
 use Rattle.std.specs.List.{list_all}
 use Rattle.dump_text.specs.HeaderLine.{Header, is_header}
 use Rattle.dump_text.specs.HeaderBlock.{lines_bytes}

@@ -1,4 +1,4 @@
-use Rattle.std.proofs.Common.{arith, sym, ◌∙◌}
+use Rattle.std.proofs.Common.{arith, ◌∙◌}
 use Rattle.dump_text.proofs.ScanLemmas.{clash, colon_at, header_text-is}
 use Rattle.dump_text.proofs.scan.name_and_value.Goals as goal
 use Rattle.dump_text.proofs.scan.name_and_value.Goals.{then-colon-eq0-via-then-colon-eq0, then-colon-eq0-via-else-colon-eq0+then-whole-colon-lt2, then-colon-eq0-via-else-colon-eq0+else-whole-colon-lt2+then-whole-colon-ne32}

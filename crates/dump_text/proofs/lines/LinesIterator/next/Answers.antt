@@ -1,4 +1,4 @@
-use Rattle.std.proofs.Common.{length, arith, refl, sym, ap, ◌∙◌}
+use Rattle.std.proofs.Common.{length, arith, refl, ap}
 use Rattle.dump_text.proofs.ScanLemmas.{first_header, no_lines, lines_left, headers_step}
 use Rattle.dump_text.proofs.lines.LinesIterator.next.Goals as goal
 

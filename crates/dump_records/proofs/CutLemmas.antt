@@ -1,0 +1,279 @@
+-- A dump cut record by record.
+use Rattle.std.proofs.Common.{◌≡◌, ◌≢◌, ◌⊎◌, ℕ, zero, suc, ◌+◌, ◌-◌, ◌<◌, ◌≤◌, Bool, true, false, ◌==◌, List, [], ◌∷◌, ◌++◌, take, drop, length, refl, sym, ap, ◌∙◌, subst, arith, append_assoc, length-append, inl, inr}
+use Rattle.std.proofs.lemmas.List.{append-nil, length-drop, drop_at, drop-drop, drop_all, take_rest}
+use Rattle.std.proofs.lemmas.Bool.{eqb-true, eqb-false}
+use Rattle.dump_text.specs.declared.fault.FaultKind.{FaultKind}
+use Rattle.dump_text.specs.HeaderBlock.{block_text, lines_bytes, starts_with_lf}
+use Rattle.dump_records.specs.RecordText.{DumpRecord, record_text, BeginsWithRecord, IsCutFault}
+use Rattle.dump_records.specs.DumpText.{Ending, line_feeds, IsCutInto, EndsAfter, IsRecordOf}
+use Rattle.dump_records.specs.CutterState.{IsCutUpTo}
+use Rattle.dump_records.specs.Standing.{IsGap, AreInside, StandsAt}
+use Rattle.dump_records.specs.declared.parts.Parts.{Parts}
+use Rattle.dump_records.specs.RecordPlaces.{record_between}
+use Rattle.dump_text.specs.Views.{block_dump, block_place, block_after}
+
+lfs_add : (m n : ℕ) → line_feeds m ++ line_feeds n ≡ line_feeds (m + n)
+lfs_add zero n = let e : n ≡ 0 + n = omega arith in ap line_feeds e
+lfs_add (suc m) n = let e : suc (m + n) ≡ suc m + n = omega arith in ap (λ t. 10 ∷ t) (lfs_add m n) ∙ ap line_feeds e
+
+lfs_join : (m n : ℕ) (rest : List ℕ) → line_feeds m ++ (line_feeds n ++ rest) ≡ line_feeds (m + n) ++ rest
+lfs_join m n rest = sym (append_assoc (line_feeds m) (line_feeds n) rest) ∙ ap (λ t. t ++ rest) (lfs_add m n)
+
+pub lfs_length : (n : ℕ) → length (line_feeds n) ≡ n
+lfs_length zero = refl
+lfs_length (suc n) = ap suc (lfs_length n)
+
+-- a text is some LFs and a rest that doesn't begin with one
+pub record Stripped (text : List ℕ) : Type 0 where
+  pub count : ℕ
+  pub rest : List ℕ
+  pub is : text ≡ line_feeds count ++ rest
+  pub stop : starts_with_lf rest ≡ false
+
+pub strip : (text : List ℕ) → Stripped text
+strip [] = record { count = 0; rest = []; is = refl; stop = refl }
+strip (b ∷ text) = strip_cons b text (strip text) (b == 10) refl
+  where
+    strip_cons : (b : ℕ) (text : List ℕ) → Stripped text → (lf : Bool) → (b == 10) ≡ lf → Stripped (b ∷ text)
+    strip_cons b text more true is = record { count = suc more.count; rest = more.rest; is = let e = eqb-true b 10 is in let f = more.is in cc; stop = more.stop }
+    strip_cons b text more false is = record { count = 0; rest = b ∷ text; is = refl; stop = is }
+
+-- records before others
+pub cut_append : (number place : ℕ) (before after rest : List ℕ) (rs ss : List DumpRecord)
+    → IsCutInto number place before rs []
+    → IsCutInto (number + length rs) (place + length before) after ss rest
+    → IsCutInto number place (before ++ after) (rs ++ ss) rest
+cut_append number place before after rest [] [] (lfs, is, stop) (lfs', is', stop') =
+    (lfs + lfs', ap (λ t. t ++ after) (is ∙ append-nil (line_feeds lfs)) ∙ ap (λ t. line_feeds lfs ++ t) is' ∙ lfs_join lfs lfs' rest, stop')
+cut_append number place before after rest [] (s ∷ ss) (lfs, is, stop) (lfs', front, behind, is', at, b, more) =
+    let count : number + 0 ≡ number = omega arith in
+    let size : length before ≡ lfs = ap length (is ∙ append-nil (line_feeds lfs)) ∙ lfs_length lfs in (
+      lfs + lfs',
+      front,
+      behind,
+      ap (λ t. t ++ after) (is ∙ append-nil (line_feeds lfs)) ∙ ap (λ t. line_feeds lfs ++ t) is' ∙ lfs_join lfs lfs' front,
+      at ∙ omega arith,
+      subst (λ (n : ℕ). BeginsWithRecord n front s behind) count b,
+      subst (λ (n : ℕ). IsCutInto (n + 1) (s.place + length (record_text s)) behind ss rest) count more,
+    )
+cut_append number place before after rest (r ∷ rs) ss (lfs, front, behind, is, at, b, more) others =
+    let count : number + length (r ∷ rs) ≡ number + 1 + length rs = omega arith in
+    let size = ap length is ∙ length-append (line_feeds lfs) front in
+    let gap = lfs_length lfs in
+    let body = ap length b.spelled ∙ length-append (record_text r) behind in
+    let at_end : place + length before ≡ r.place + length (record_text r) + length behind = omega arith in (
+      lfs,
+      front ++ after,
+      behind ++ after,
+      ap (λ t. t ++ after) is ∙ append_assoc (line_feeds lfs) front after,
+      at,
+      record {
+        block = b.block;
+        lawful = b.lawful;
+        props_fit = b.props_fit;
+        text_fits = b.text_fits;
+        spelled = ap (λ t. t ++ after) b.spelled ∙ append_assoc (record_text r) behind after;
+      },
+      cut_append (number + 1) (r.place + length (record_text r)) behind after rest rs ss more
+          (subst (λ (n : ℕ). IsCutInto n (r.place + length (record_text r) + length behind) after ss rest) count
+          (subst (λ (p : ℕ). IsCutInto (number + length (r ∷ rs)) p after ss rest) at_end others)),
+    )
+
+-- a record takes a byte or more
+pub record_some : (r : DumpRecord) → 0 < length (record_text r)
+record_some r =
+    let block = length-append (block_text r.headers ++ r.props) r.text in
+    let props = length-append (block_text r.headers) r.props in
+    let lines = length-append (lines_bytes r.headers) (10 ∷ []) in
+    omega arith
+
+pub count_fits : (number place : ℕ) (text rest : List ℕ) (rs : List DumpRecord) → IsCutInto number place text rs rest → length rs ≤ length text
+count_fits number place text rest [] cut = omega arith
+count_fits number place text rest (r ∷ rs) (lfs, front, behind, is, at, b, more) =
+    let rest_fits = count_fits (number + 1) (r.place + length (record_text r)) behind rest rs more in
+    let size = ap length is ∙ length-append (line_feeds lfs) front in
+    let body = ap length b.spelled ∙ length-append (record_text r) behind in
+    let some = record_some r in
+    omega arith
+
+-- what a cutter at a place has before it and behind it
+pub record CutAt (dump : List ℕ) (number place : ℕ) : Type 0 where
+  pub records : List DumpRecord
+  pub before : List ℕ
+  pub is : dump ≡ before ++ drop place dump
+  pub size : length before ≡ place
+  pub cut : IsCutInto 0 0 before records []
+  pub count : length records ≡ number
+
+pub cut_at : (dump : List ℕ) (number place : ℕ) → IsCutUpTo dump number place → CutAt dump number place
+cut_at dump number place (records, before, after, rest, is, size, cut, none, count) = record {
+  records = records;
+  before = before;
+  is = is ∙ ap (λ t. before ++ t) (sym (drop_at before after place size) ∙ ap (drop place) (sym is));
+  size = size;
+  cut = subst (IsCutInto 0 0 before records) none cut;
+  count = count;
+}
+
+pub number_fits : (dump : List ℕ) (number place : ℕ) → IsCutUpTo dump number place → number ≤ place
+number_fits dump number place up =
+    let at = cut_at dump number place up in
+    let fits = count_fits 0 0 at.before [] at.records at.cut in
+    let size = at.size in
+    let count = at.count in
+    omega arith
+
+-- the records before a place, and what is cut behind it
+go_on : (dump : List ℕ) (number place : ℕ) (at : CutAt dump number place) (after rest : List ℕ) (ss : List DumpRecord)
+    → IsCutInto number place after ss rest → IsCutInto 0 0 (at.before ++ after) (at.records ++ ss) rest
+go_on dump number place at after rest ss more =
+    let count : number ≡ 0 + length at.records = sym at.count ∙ omega arith in
+    let size : place ≡ 0 + length at.before = sym at.size ∙ omega arith in
+    cut_append 0 0 at.before after rest at.records ss at.cut
+    (subst (λ (n : ℕ). IsCutInto n (0 + length at.before) after ss rest) count
+    (subst (λ (p : ℕ). IsCutInto number p after ss rest) size more))
+
+module _ (dump : List ℕ) (number place gap : ℕ) (up : IsCutUpTo dump number place) (lfs : IsGap (drop place dump) gap) where
+  at : CutAt dump number place
+  at = cut_at dump number place up
+
+  behind : drop place dump ≡ line_feeds gap ++ drop (place + gap) dump
+  behind = lfs.spelled ∙ ap (λ t. line_feeds gap ++ t) (drop-drop gap place dump)
+
+  -- a record stands behind the LFs
+  module _ (r : DumpRecord) (after : ℕ) (r_at : r.place ≡ place + gap)
+      (b : BeginsWithRecord number (drop (place + gap) dump) r (drop after dump)) where
+    pub is_record : IsRecordOf dump number r
+    is_record =
+        let end = strip (drop after dump) in (
+          at.records,
+          (
+            end.rest,
+            subst (λ (t : List ℕ). IsCutInto 0 0 t (at.records ++ r ∷ []) end.rest) (sym at.is)
+                (go_on dump number place at (drop place dump) end.rest (r ∷ [])
+                (gap, drop (place + gap) dump, drop after dump, behind, r_at, b, (end.count, end.is, end.stop))),
+          ),
+          at.count,
+        )
+
+    pub cut_on : after ≤ length dump → IsCutUpTo dump (number + 1) after
+    cut_on fits =
+        let piece = line_feeds gap ++ record_text r in
+        let whole : dump ≡ (at.before ++ piece) ++ drop after dump =
+        at.is ∙ ap (λ t. at.before ++ t) (behind ∙ ap (λ t. line_feeds gap ++ t) b.spelled ∙ sym (append_assoc (line_feeds gap) (record_text r) (drop after dump)))
+        ∙ sym (append_assoc at.before piece (drop after dump)) in
+        let sizes = ap length whole ∙ length-append (at.before ++ piece) (drop after dump) in
+        let left = length-drop after dump in
+        let alone : BeginsWithRecord number (record_text r) r [] = record {
+          block = b.block;
+          lawful = b.lawful;
+          props_fit = b.props_fit;
+          text_fits = b.text_fits;
+          spelled = sym (append-nil (record_text r));
+        } in (
+          at.records ++ r ∷ [],
+          at.before ++ piece,
+          drop after dump,
+          [],
+          whole,
+          omega arith,
+          go_on dump number place at piece [] (r ∷ []) (gap, record_text r, [], refl, r_at, alone, (0, refl, refl)),
+          refl,
+          length-append at.records (r ∷ []) ∙ ap (λ n. n + 1) at.count,
+        )
+
+  -- only LFs are left
+  pub ends_whole : place + gap ≡ length dump → 0 < number → EndsAfter dump number Ending.Whole
+  ends_whole end some =
+      let none : drop (place + gap) dump ≡ [] = drop_all (place + gap) dump (omega arith) in
+      let count = at.count in (
+        at.records,
+        (
+          [],
+          subst (λ (t : List ℕ). IsCutInto 0 0 t at.records []) (sym at.is)
+              (subst (λ (rs : List DumpRecord). IsCutInto 0 0 (at.before ++ drop place dump) rs []) (append-nil at.records)
+              (go_on dump number place at (drop place dump) [] [] (gap, behind ∙ ap (λ t. line_feeds gap ++ t) none, refl))),
+          (refl, omega arith),
+        ),
+        at.count,
+      )
+
+  -- no record stands behind the LFs
+  pub ends_broken : (fault : FaultKind) → (place + gap ≡ length dump → number ≡ 0) → place + gap ≤ length dump
+      → IsCutFault number (drop (place + gap) dump) fault
+      → EndsAfter dump number (Ending.Broken fault (place + gap))
+  ends_broken fault first inside cause =
+      let rest = drop (place + gap) dump in
+      let left = length-drop (place + gap) dump in
+      let stop : starts_with_lf rest ≡ false = ap starts_with_lf (sym (drop-drop gap place dump)) ∙ lfs.stop in (
+        at.records,
+        (
+          rest,
+          subst (λ (t : List ℕ). IsCutInto 0 0 t at.records rest) (sym at.is)
+              (subst (λ (rs : List DumpRecord). IsCutInto 0 0 (at.before ++ drop place dump) rs rest) (append-nil at.records)
+              (go_on dump number place at (drop place dump) rest [] (gap, behind, stop))),
+          (some_left, omega arith, subst (λ (n : ℕ). IsCutFault n rest fault) (sym at.count) cause),
+        ),
+        at.count,
+      )
+    where
+      no_records : (rs : List DumpRecord) → length rs ≡ 0 → rs ≡ []
+      no_records [] none = refl
+      no_records (r ∷ rs) none = absurd (omega arith)
+
+      some_left : (drop (place + gap) dump ≢ []) ⊎ (at.records ≡ [])
+      some_left = elim (place + gap == length dump) as (λ (t : Bool). (place + gap == length dump) ≡ t → (drop (place + gap) dump ≢ []) ⊎ (at.records ≡ [])) [
+        | true ↦ λ is. inr (no_records at.records (at.count ∙ first (eqb-true _ _ is)))
+        | false ↦ λ is. inl (λ none. let size = ap length none in let left = length-drop (place + gap) dump in eqb-false (place + gap) (length dump) is (omega arith))
+      ] refl
+
+-- the LFs in a part of a dump up to its end
+pub gap_in : (dump : List ℕ) (place gap : ℕ) → IsGap (take (length dump - place) (drop place dump)) gap → IsGap (drop place dump) gap
+gap_in dump place gap lfs = subst (λ (t : List ℕ). IsGap t gap) (take_rest dump place) lfs
+
+-- the record of the parts that stand at a place of a dump, in the dump of its own block
+abbrev pub item_of : Parts → DumpRecord
+item_of parts =
+    record_between (block_dump parts.block) (block_place parts.block) (block_after parts.block) parts.text_from parts.after
+
+module _ (dump : List ℕ) (place number : ℕ) (parts : Parts) (at : StandsAt dump place number parts) where
+  pub own_inside : AreInside (block_dump parts.block) (block_after parts.block) parts.text_from parts.after
+  own_inside = subst (λ (d : List ℕ). AreInside d (block_after parts.block) parts.text_from parts.after) (sym at.dump_is) at.inside
+
+  pub own_stands : BeginsWithRecord number (drop (block_place parts.block) (block_dump parts.block)) (item_of parts) (drop parts.after (block_dump parts.block))
+  own_stands =
+      subst (λ (d : List ℕ). BeginsWithRecord number (drop (block_place parts.block) d)
+      (record_between d (block_place parts.block) (block_after parts.block) parts.text_from parts.after) (drop parts.after d)) (sym at.dump_is)
+      (subst (λ (p : ℕ). BeginsWithRecord number (drop p dump)
+      (record_between dump p (block_after parts.block) parts.text_from parts.after) (drop parts.after dump)) (sym at.place_is) at.stands)
+
+  pub item_is : record_between dump place (block_after parts.block) parts.text_from parts.after ≡ item_of parts
+  item_is =
+      ap (λ p. record_between dump p (block_after parts.block) parts.text_from parts.after) (sym at.place_is)
+      ∙ ap (λ d. record_between d (block_place parts.block) (block_after parts.block) parts.text_from parts.after) (sym at.dump_is)
+
+  pub own_number : IsRecordOf dump number (item_of parts) → IsRecordOf (block_dump parts.block) number (item_of parts)
+  own_number is = subst (λ (d : List ℕ). IsRecordOf d number (item_of parts)) (sym at.dump_is) is
+
+module _ (dump : List ℕ) (number place gap : ℕ) (parts : Parts) (up : IsCutUpTo dump number place) (lfs : IsGap (drop place dump) gap)
+    (at : StandsAt dump (place + gap) number parts) where
+  pub item_record : IsRecordOf dump number (item_of parts)
+  item_record = subst (IsRecordOf dump number) (item_is dump (place + gap) number parts at)
+      (is_record dump number place gap up lfs _ parts.after refl at.stands)
+
+  pub item_cut : IsCutUpTo dump (number + 1) parts.after
+  item_cut = cut_on dump number place gap up lfs _ parts.after refl at.stands at.inside.end
+
+  pub item_room : number + 1 ≤ length dump
+  item_room =
+      let fits = number_fits dump (number + 1) parts.after item_cut in
+      let end = at.inside.end in
+      omega arith
+
+pub room_behind : (dump : List ℕ) (number place gap : ℕ) → IsCutUpTo dump number place → IsGap (drop place dump) gap → place + gap ≤ length dump
+room_behind dump number place gap up lfs =
+    let at = cut_at dump number place up in
+    let sizes = ap length at.is ∙ length-append at.before (drop place dump) in
+    let size = at.size in
+    let bound = lfs.bound in
+    omega arith

@@ -1,0 +1,5 @@
+pub mod HeaderLemmas
+pub mod Unique
+pub mod PartLemmas
+pub mod CutLemmas
+pub mod ListLaw

@@ -1,0 +1,9 @@
+use Rattle.std.proofs.Common.{ap, ◌∙◌, is_some}
+use Rattle.dump_text.specs.Views.{block_headers}
+use Rattle.dump_records.proofs.HeaderLemmas.{some_copied, has_value}
+use Rattle.dump_records.proofs.headers.has.Goals as goal
+
+pub returns : goal.returns
+returns c =
+    c.is_some.ensures ∙ some_copied c.get.result ∙ ap is_some c.get.ensures.value
+    ∙ has_value c.args.name.now (block_headers c.args.block.now)

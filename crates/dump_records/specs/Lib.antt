@@ -1,0 +1,9 @@
+pub mod HeaderRules
+pub mod RecordText
+pub mod Lawful
+pub mod DumpText
+pub mod RecordPlaces
+pub mod Standing
+pub mod CutterState
+pub mod RecordViews
+pub mod RecordLaws

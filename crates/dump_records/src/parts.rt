@@ -1,0 +1,46 @@
+//! The parts of the record that stands at a place of a dump, or why none stands there.
+ghost use Rattle.std.specs.Prelude.{◌≡◌, IfOk, IfErr, drop};
+ghost use Rattle.dump_records.specs.RecordText.{IsCutFault};
+ghost use Rattle.dump_records.specs.Standing.{StandsAt, IsGap};
+
+use crate::headers::read_lengths;
+use dump_text::{Block, FaultKind};
+
+/// A record's block, and where its text and what follows it begin.
+#[derive(Clone, Copy)]
+pub(crate) struct Parts<'a> {
+    pub(crate) block: Block<'a>,
+    pub(crate) text_from: usize,
+    pub(crate) after: usize,
+}
+
+/// How many LFs a text begins with.
+pub(crate) fn count_line_feeds(text: &[u8]) -> usize
+    ensures { IsGap text.now result }
+{
+    for (i, byte) in text.iter().enumerate() {
+        if *byte != b'\n' {
+            return i;
+        }
+    }
+    text.len()
+}
+
+/// The record with this number at a place of the dump, or the first fault that holds there.
+pub(crate) fn parts_at(dump: &[u8], place: usize, number: u64) -> Result<Parts<'_>, FaultKind>
+    ensures stands { IfOk result (StandsAt dump.now place number) }
+    ensures fault { IfErr result (IsCutFault number (drop place dump.now)) }
+{
+    let block = Block::cut(dump, place)?;
+    let lengths = read_lengths(&block, number)?;
+    let left = dump.len() - block.after();
+    if (left as u64) < lengths.props + lengths.text {
+        return Err(FaultKind::ContentCut);
+    }
+    let text_from = block.after() + lengths.props as usize;
+    Ok(Parts {
+        block,
+        text_from,
+        after: text_from + lengths.text as usize,
+    })
+}

@@ -1,0 +1,142 @@
+//! A record of a dump, as a view into it.
+ghost use Rattle.std.specs.Prelude.{drop};
+ghost use Rattle.dump_text.specs.Views.{block_dump, block_place, block_after};
+ghost use Rattle.dump_records.specs.RecordText.{BeginsWithRecord};
+ghost use Rattle.dump_records.specs.RecordPlaces.{record_between};
+ghost use Rattle.dump_records.specs.DumpText.{IsRecordOf};
+ghost use Rattle.dump_records.specs.Standing.{AreInside};
+
+use crate::headers::{has, kind_at, number_at};
+use crate::kind::RecordKind;
+use dump_text::Block;
+
+/// A record of a dump, with its number there. Every slice that it lends is a part of the dump.
+#[derive(Clone, Copy)]
+pub struct Record<'a> {
+    pub(crate) block: Block<'a>,
+    pub(crate) number: u64,
+    pub(crate) text_from: usize,
+    pub(crate) after: usize,
+    pub ghost inside: { AreInside (block_dump block) (block_after block) text_from after },
+    pub ghost stands: { BeginsWithRecord number (drop (block_place block) (block_dump block))
+        (record_between (block_dump block) (block_place block) (block_after block) text_from after)
+        (drop after (block_dump block)) },
+    pub ghost numbered: { ∥ IsRecordOf (block_dump block) number
+        (record_between (block_dump block) (block_place block) (block_after block) text_from after) ∥₁ },
+}
+
+impl<'a> Record<'a> {
+    ghost use Rattle.std.specs.Prelude.{◌≡◌, List, IfSome, option_copied, slice_range};
+    ghost use Rattle.dump_text.specs.Names.{path_name, revision_name, copy_path_name, copy_revision_name, property_length_name, text_length_name};
+    ghost use Rattle.dump_text.specs.HeaderLine.{header_value};
+    ghost use Rattle.dump_text.specs.Views.{block_headers};
+    ghost use Rattle.dump_records.specs.HeaderRules.{kind_of, header_number};
+    ghost use Rattle.dump_records.specs.RecordPlaces.{props_place, text_place, place_after};
+    ghost use Rattle.dump_records.specs.RecordViews.{record_dump, record_number, record_item, part_with, part_of_node, IsInBlock};
+
+    /// Its number in the dump, from 0.
+    pub fn number(&self) -> u64
+        ensures { result ≡ record_number self.now }
+    {
+        self.number
+    }
+
+    /// The byte of the dump at which its block begins.
+    pub fn place(&self) -> usize
+        ensures { result ≡ (record_item self.now).place }
+    {
+        self.block.place()
+    }
+
+    /// The byte behind its text.
+    pub fn after(&self) -> usize
+        ensures { result ≡ place_after (record_item self.now) }
+    {
+        self.after
+    }
+
+    /// What it is.
+    pub fn kind(&self) -> RecordKind
+        ensures { result ≡ kind_of (record_item self.now).headers }
+    {
+        kind_at(&self.block)
+    }
+
+    /// Its header lines.
+    pub fn block(&self) -> Block<'a>
+        ensures dump { block_dump result ≡ record_dump self.now }
+        ensures place { block_place result ≡ (record_item self.now).place }
+        ensures after { block_after result ≡ props_place (record_item self.now) }
+        ensures lines { block_headers result ≡ (record_item self.now).headers }
+    {
+        self.block
+    }
+
+    /// The path of a node.
+    pub fn path(&self) -> Option<&'a [u8]>
+        ensures value { option_copied result ≡ header_value path_name (record_item self.now).headers }
+        ensures lent { IfSome result (λ path. IsInBlock self.now path.now) }
+    {
+        self.block.get(b"Node-path")
+    }
+
+    /// The path that a node is copied from.
+    pub fn copy_path(&self) -> Option<&'a [u8]>
+        ensures value { let r = record_item self.now in
+            option_copied result ≡ part_of_node r (header_value copy_path_name r.headers) }
+        ensures lent { IfSome result (λ path. IsInBlock self.now path.now) }
+    {
+        if has(&self.block, b"Node-path") {
+            self.block.get(b"Node-copyfrom-path")
+        } else {
+            None
+        }
+    }
+
+    /// The revision that a node is copied from.
+    pub fn copy_revision(&self) -> Option<u64>
+        ensures { let r = record_item self.now in
+            result ≡ part_of_node r (header_number copy_revision_name r.headers) }
+    {
+        if has(&self.block, b"Node-path") {
+            number_at(&self.block, b"Node-copyfrom-rev")
+        } else {
+            None
+        }
+    }
+
+    /// The number of a revision.
+    pub fn revision(&self) -> Option<u64>
+        ensures { result ≡ header_number revision_name (record_item self.now).headers }
+    {
+        number_at(&self.block, b"Revision-number")
+    }
+
+    /// Its properties, where it has a length for them.
+    pub fn props(&self) -> Option<&'a [u8]>
+        ensures value { let r = record_item self.now in
+            option_copied result ≡ part_with property_length_name r r.props }
+        ensures lent { let r = record_item self.now in
+            IfSome result (λ bytes. bytes.now ≡ slice_range (record_dump self.now) (props_place r) (text_place r)) }
+    {
+        if has(&self.block, b"Prop-content-length") {
+            Some(&self.block.dump()[self.block.after()..self.text_from])
+        } else {
+            None
+        }
+    }
+
+    /// Its text, where it has a length for it.
+    pub fn text(&self) -> Option<&'a [u8]>
+        ensures value { let r = record_item self.now in
+            option_copied result ≡ part_with text_length_name r r.text }
+        ensures lent { let r = record_item self.now in
+            IfSome result (λ bytes. bytes.now ≡ slice_range (record_dump self.now) (text_place r) (place_after r)) }
+    {
+        if has(&self.block, b"Text-content-length") {
+            Some(&self.block.dump()[self.text_from..self.after])
+        } else {
+            None
+        }
+    }
+}
