@@ -3,3 +3,4 @@ pub mod Unique
 pub mod PartLemmas
 pub mod CutLemmas
 pub mod ListLaw
+pub mod Prefixes

@@ -34,11 +34,11 @@ begins number text r after b = record {
   spelled = b.spelled ∙ append_assoc (block_text r.headers ++ r.props) r.text after ∙ append_assoc (block_text r.headers) r.props (r.text ++ after);
 }
 
-record-eq : (r s : DumpRecord) → r.place ≡ s.place → r.headers ≡ s.headers → r.props ≡ s.props → r.text ≡ s.text → r ≡ s
+pub record-eq : (r s : DumpRecord) → r.place ≡ s.place → r.headers ≡ s.headers → r.props ≡ s.props → r.text ≡ s.text → r ≡ s
 record-eq r s p h q t = λ i. record { place = p i; headers = h i; props = q i; text = t i }
 
 -- at a place stands at most one record
-record_once : (number : ℕ) (text : List ℕ) (r s : DumpRecord) (x y : List ℕ) → r.place ≡ s.place → BeginsWithRecord number text r x → BeginsWithRecord number text s y → (r ≡ s) × (x ≡ y)
+pub record_once : (number : ℕ) (text : List ℕ) (r s : DumpRecord) (x y : List ℕ) → r.place ≡ s.place → BeginsWithRecord number text r x → BeginsWithRecord number text s y → (r ≡ s) × (x ≡ y)
 record_once number text r s x y place b c =
     let blocks = block_once text r.headers s.headers (content r x) (content s y) (begins number text r x b) (begins number text s y c) in
     let contents = split_by_length r.props s.props (r.text ++ x) (s.text ++ y) (b.props_fit ∙ ap property_length blocks.0 ∙ sym c.props_fit) blocks.1 in
@@ -160,7 +160,7 @@ ends_once size count x y (Ending.Broken k p) (Ending.Broken l q) same a b =
     λ i. Ending.Broken (kinds i) (places i)
 
 -- the records don't end where one stands
-goes_on : (size count : ℕ) (x : List ℕ) (e : Ending) (r : DumpRecord) (after : List ℕ) → BeginsWithRecord count x r after → EndsWith size count x e → ⊥
+pub goes_on : (size count : ℕ) (x : List ℕ) (e : Ending) (r : DumpRecord) (after : List ℕ) → BeginsWithRecord count x r after → EndsWith size count x e → ⊥
 goes_on size count x Ending.Whole r after b a =
     block_some r.headers (content r after) (subst (λ (t : List ℕ). BeginsWithBlock t r.headers (content r after)) a.0 (begins count x r after b))
 goes_on size count x (Ending.Broken fault place) r after b a = none_holds count x r after b fault a.2.holds
@@ -188,7 +188,7 @@ cuts_once size number place count other text (r ∷ rs) (s ∷ ss) x y e f n m (
     let rest = cuts_once size (number + 1) (r.place + length (record_text r)) count other after rs ss x y e f (omega arith) (omega arith) more moved a z in
     ((λ i. one.0 i ∷ rest.0 i), rest.1)
 
-ending_of : (dump : List ℕ) (records : List DumpRecord) (rest : List ℕ) (e : Ending) → HasEnding dump records rest e → EndsWith (length dump) (length records) rest e
+pub ending_of : (dump : List ℕ) (records : List DumpRecord) (rest : List ℕ) (e : Ending) → HasEnding dump records rest e → EndsWith (length dump) (length records) rest e
 ending_of dump records rest Ending.Whole h = h
 ending_of dump records rest (Ending.Broken fault place) h =
     ((elim h.0 [ inl some ↦ inl some | inr none ↦ inr (ap length none) ]), h.1, h.2)
