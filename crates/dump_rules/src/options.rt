@@ -1,0 +1,165 @@
+//! The filter's options.
+ghost use Rattle.std.specs.Prelude.{◌≡◌, IfOk, map, option_copied, slice_get};
+ghost use Rattle.std.specs.List.{list_any};
+ghost use Rattle.dump_rules.specs.Prefix.{matches_path};
+
+use crate::memory::Memory;
+use crate::prefix::matches;
+use std::alloc::Global;
+use std::marker::Model;
+
+/// Which nodes the filter keeps: those that some prefix matches, or those that none does.
+#[derive(Clone, Copy, Debug, PartialEq, Eq)]
+pub enum Side {
+    Include,
+    Exclude,
+}
+
+/// What becomes of a revision without a kept node.
+#[derive(Clone, Copy, Debug, PartialEq, Eq)]
+pub enum Empty {
+    /// It stays, and its properties are replaced where it had nodes.
+    Pad,
+    /// It goes where it had nodes.
+    DropEmptied,
+    /// It goes.
+    DropAll,
+}
+
+/// The filter's options, with their own copies of the prefixes.
+#[derive(Drop)]
+pub struct Options {
+    side: Side,
+    prefixes: Vec<Vec<u8>>,
+    empty: Empty,
+    renumber: bool,
+    preserve: bool,
+    skip_missing: bool,
+}
+
+impl Model for Options {
+    ghost use Rattle.std.specs.Prelude.{map};
+    ghost use Rattle.dump_rules.specs.Settings.{Settings};
+
+    ghost Value = { Settings };
+
+    ghost view = { λ o. record {
+      side = o.side;
+      prefixes = map (λ prefix. prefix.items) o.prefixes.items;
+      empty = o.empty;
+      renumber = o.renumber;
+      preserve = o.preserve;
+      skip_missing = o.skip_missing;
+    } };
+}
+
+/// Copies of texts, in their order.
+fn copies(alloc: Global, texts: &[&[u8]]) -> Result<Vec<Vec<u8>>, Memory>
+    ensures { IfOk result (λ copied. map (λ text. text.items) copied.items ≡ map (λ text. text.now) texts.now) }
+{
+    let mut copied = Vec::new(alloc);
+    for text in texts {
+        let Ok(copy) = Vec::from_slice(alloc, text) else {
+            return Err(Memory);
+        };
+        if copied.push(copy).is_err() {
+            return Err(Memory);
+        }
+    }
+    Ok(copied)
+}
+
+/// Whether one of the prefixes matches the path.
+fn some_matches(prefixes: &[Vec<u8>], path: &[u8]) -> bool
+    ensures { result ≡ list_any (λ prefix. matches_path prefix.items path.now) prefixes.now }
+{
+    prefixes
+        .iter()
+        .any(|prefix| matches(prefix.as_slice(), path))
+}
+
+impl Options {
+    /// Whether a prefix matches the path.
+    pub(crate) fn has_match(&self, path: &[u8]) -> bool
+        ensures { result ≡ list_any (λ prefix. matches_path prefix path.now) self.now.prefixes }
+    {
+        some_matches(&self.prefixes, path)
+    }
+
+    /// Options with copies of the prefixes.
+    pub fn new(
+        alloc: Global,
+        side: Side,
+        prefixes: &[&[u8]],
+        empty: Empty,
+        renumber: bool,
+        preserve: bool,
+        skip_missing: bool,
+    ) -> Result<Options, Memory>
+        ensures { IfOk result (λ o. o ≡ record {
+          side = side;
+          prefixes = map (λ prefix. prefix.now) prefixes.now;
+          empty = empty;
+          renumber = renumber;
+          preserve = preserve;
+          skip_missing = skip_missing;
+        }) }
+    {
+        let Ok(prefixes) = copies(alloc, prefixes) else {
+            return Err(Memory);
+        };
+        Ok(Options {
+            side,
+            prefixes,
+            empty,
+            renumber,
+            preserve,
+            skip_missing,
+        })
+    }
+
+    /// Which nodes are kept.
+    pub fn side(&self) -> Side
+        ensures { result ≡ self.now.side }
+    {
+        self.side
+    }
+
+    /// The prefix with this index, as it was handed in.
+    pub fn prefix(&self, n: usize) -> Option<&[u8]>
+        ensures { option_copied result ≡ slice_get self.now.prefixes n }
+    {
+        match self.prefixes.get(n) {
+            Some(prefix) => Some(prefix.as_slice()),
+            None => None,
+        }
+    }
+
+    /// What becomes of revisions without a kept node.
+    pub fn empty(&self) -> Empty
+        ensures { result ≡ self.now.empty }
+    {
+        self.empty
+    }
+
+    /// Whether kept revisions get new numbers without gaps.
+    pub fn renumber(&self) -> bool
+        ensures { result ≡ self.now.renumber }
+    {
+        self.renumber
+    }
+
+    /// Whether a revision that lost its nodes keeps its properties.
+    pub fn preserve(&self) -> bool
+        ensures { result ≡ self.now.preserve }
+    {
+        self.preserve
+    }
+
+    /// Whether merge sources that aren't kept are left out.
+    pub fn skip_missing(&self) -> bool
+        ensures { result ≡ self.now.skip_missing }
+    {
+        self.skip_missing
+    }
+}
