@@ -52,7 +52,9 @@ impl Write for Broken {
 
 // A sink that has failed so often that its count stays.
 #[derive(Drop)]
-struct WornOut;
+struct WornOut {
+    calls: u32,
+}
 
 impl Sink for WornOut {
     ghost taken = { λ _. Some [] };
@@ -60,6 +62,7 @@ impl Sink for WornOut {
     ghost failure_count = { λ _. greatest };
 
     fn accept(&mut self, bytes: &[u8]) -> Result<usize, SinkDown> {
+        self.calls = self.calls.saturating_add(1);
         if bytes.is_empty() {
             Ok(0)
         } else {
@@ -200,13 +203,18 @@ fn a_writer_that_breaks_is_a_failure(rt: HostRuntime) -> Result<(), Fail> {
 #[test]
 fn a_worn_out_sink_takes_nothing(rt: HostRuntime) -> Result<(), Fail> {
     let piece = five(rt.alloc())?;
-    let mut sink = WornOut;
+    let mut sink = WornOut { calls: 0 };
     assert_eq!(rt;
         write_piece(&mut sink, &piece),
         Err(SinkFault { written: 0 })
     );
-    assert_eq!(rt; sink.failures(), u64::MAX);
-    assert_eq!(rt; write_piece(&mut sink, &Piece::new(rt.alloc())), Ok(()));
+    assert_eq!(rt; (sink.failures(), sink.calls), (u64::MAX, 1));
+
+    let mut blank = Piece::new(rt.alloc());
+    blank.push(Chunk::Lent(b""))?;
+    blank.push(Chunk::Own(Vec::new(rt.alloc())))?;
+    assert_eq!(rt; write_piece(&mut sink, &blank), Ok(()));
+    assert_eq!(rt; sink.calls, 1, "no call for no bytes");
     Ok(())
 }
 
