@@ -1,0 +1,83 @@
+ghost use Rattle.std.specs.Prelude.{◌≡◌, ◌+◌, ◌≤◌, ◌<◌, [], ℕ, List, Option, take, length, IfOk, OnErr, OnOk};
+ghost use Rattle.std.specs.Io.KnownBytes.{Appends, Keeps, GrowsBy};
+ghost use Rattle.dump_writer.specs.SinkWords.{CountsFailure, capped};
+
+use crate::sink::SinkDown;
+use std::io::Write;
+
+// What a sink over a writer counts; both numbers stay at `u64::MAX`.
+#[derive(Clone, Copy)]
+pub(crate) struct Counts {
+    pub(crate) written: u64,
+    pub(crate) failures: u64,
+}
+
+impl Counts {
+    // Nothing was written, and nothing failed.
+    pub(crate) fn new() -> Counts
+        ensures { result ≡ record { written = 0; failures = 0 } }
+    {
+        Counts {
+            written: 0,
+            failures: 0,
+        }
+    }
+
+    // One more failure.
+    fn fail(&mut self) -> SinkDown
+        ensures written { self.new.written ≡ self.old.written }
+        ensures failures { CountsFailure self.old.failures self.new.failures }
+    {
+        self.failures = self.failures.saturating_add(1);
+        SinkDown
+    }
+}
+
+// One call of the writer, which takes the first of the bytes; an error, or none of them, is a
+// failure. No bytes make no call.
+pub(crate) fn write_counted<W: Write>(
+    writer: &mut W,
+    counts: &mut Counts,
+    bytes: &[u8],
+) -> Result<usize, SinkDown>
+    ensures most { IfOk result (λ n. n ≤ length bytes.now) }
+    ensures some { IfOk result (λ n. 0 < length bytes.now → 0 < n) }
+    ensures empty { bytes.now ≡ [] → result ≡ Ok 0 }
+    ensures taken { IfOk result (λ n.
+        Appends (W.contents writer.old) (W.contents writer.new) (take n bytes.now)) }
+    ensures untaken { OnErr result (Keeps (W.contents writer.old) (W.contents writer.new)) }
+
+    ensures written { IfOk result (λ n. counts.new.written ≡ capped (counts.old.written + n)) }
+    ensures no_failure { OnOk result (counts.new.failures ≡ counts.old.failures) }
+    ensures unwritten { OnErr result (counts.new.written ≡ counts.old.written) }
+    ensures counted { OnErr result (CountsFailure counts.old.failures counts.new.failures) }
+
+    // The count goes on from wherever it began.
+    ensures grown { (start : Option (List ℕ)) → GrowsBy start (W.contents writer.old) counts.old.written
+        → GrowsBy start (W.contents writer.new) counts.new.written }
+{
+    let before = counts.written;
+    if bytes.is_empty() {
+        return Ok(0);
+    }
+    match writer.write(bytes) {
+        Ok(count) if count > 0 => {
+            counts.written = before.saturating_add(count as u64);
+            Ok(count)
+        }
+        _ => Err(counts.fail()),
+    }
+}
+
+// Flushes the writer, once; an error is a failure.
+pub(crate) fn flush_counted<W: Write>(writer: &mut W, counts: &mut Counts) -> Result<(), SinkDown>
+    ensures kept { Keeps (W.contents writer.old) (W.contents writer.new) }
+    ensures written { counts.new.written ≡ counts.old.written }
+    ensures no_failure { OnOk result (counts.new.failures ≡ counts.old.failures) }
+    ensures counted { OnErr result (CountsFailure counts.old.failures counts.new.failures) }
+{
+    match writer.flush() {
+        Ok(()) => Ok(()),
+        Err(_) => Err(counts.fail()),
+    }
+}

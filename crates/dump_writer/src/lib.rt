@@ -1,0 +1,41 @@
+//! Sinks of bytes, and pieces of text that are written into them.
+//!
+//! A [`Sink`] takes some of the bytes that it is given, or fails and takes none of them; it counts
+//! its failures. There are three: [`Out`] over a writer that it owns, [`OutMut`] over a writer that
+//! is lent, and [`MemorySink`], which keeps what it takes and fails where a test wants it to. A
+//! [`Piece`] is a text in chunks, lent or made. [`write_piece`] writes it whole, or says how many
+//! of its first bytes the sink took.
+//!
+//! ```
+//! // `dump` is a `&[u8]`, and `made` is a `Vec<u8>`.
+//! let mut piece = Piece::new(alloc);
+//! piece.push(Chunk::Lent(dump))?;
+//! piece.push(Chunk::Own(made))?;
+//!
+//! let mut sink = OutMut::new(writer);
+//! let answer = write_piece(&mut sink, &piece);
+//! let flushed = sink.flush();
+//! let _ = sink.into_inner();
+//! ```
+//!
+//! A failure is never tried again here: who holds the sink may go on behind the bytes that were
+//! taken. Nothing is buffered either, so each chunk makes a call of the writer or more; for many
+//! small chunks give `Out` a `BufWriter`. Only `Piece::push`, and the growth of a `MemorySink`,
+//! take memory.
+#![tactic(auto)]
+
+mod counted;
+mod memory;
+mod out;
+mod out_mut;
+mod piece;
+mod sink;
+
+pub use memory::{MemorySink, Trouble};
+pub use out::Out;
+pub use out_mut::OutMut;
+pub use piece::{Chunk, Memory, Piece, write_piece};
+pub use sink::{Sink, SinkDown, SinkFault};
+
+#[cfg(test)]
+mod tests;

@@ -1,0 +1,238 @@
+//! What no clause says: worked examples, writers that fail in mid-stream, and each call once where
+//! memory suffices.
+ghost use Rattle.std.specs.Prelude.{◌≡◌, OnOk, OnErr, IfOk, IfErr, Some, []};
+ghost use Rattle.std.specs.Io.KnownBytes.{Appends};
+ghost use Rattle.dump_writer.specs.SinkWords.{TakesOnlyFirst, greatest};
+
+use crate::{
+    Chunk, Memory, MemorySink, Out, OutMut, Piece, Sink, SinkDown, SinkFault, Trouble, write_piece,
+};
+use std::alloc::Global;
+use std::io::{self, ErrorKind, Write};
+use std::test::Fail;
+
+// What a broken writer answers once it has no room left.
+#[derive(Clone, Copy)]
+enum Ending {
+    Error,
+    Nothing,
+}
+
+// A writer that has room for so many bytes, and whose flush fails where it has none.
+#[derive(Drop)]
+struct Broken {
+    held: Vec<u8>,
+    room: usize,
+    ending: Ending,
+    flushes: u32,
+}
+
+impl Write for Broken {
+    fn write(&mut self, bytes: &[u8]) -> io::Result<usize> {
+        let count = bytes.len().min(self.room);
+        if count == 0 {
+            return match self.ending {
+                Ending::Error => Err(ErrorKind::BrokenPipe.into()),
+                Ending::Nothing => Ok(0),
+            };
+        }
+        self.held.extend_from_slice(&bytes[..count])?;
+        self.room -= count;
+        Ok(count)
+    }
+
+    fn flush(&mut self) -> io::Result<()> {
+        self.flushes = self.flushes.saturating_add(1);
+        if self.room == 0 {
+            return Err(ErrorKind::BrokenPipe.into());
+        }
+        Ok(())
+    }
+}
+
+// A sink that has failed so often that its count stays.
+#[derive(Drop)]
+struct WornOut {
+    calls: u32,
+}
+
+impl Sink for WornOut {
+    ghost taken = { λ _. Some [] };
+
+    ghost failure_count = { λ _. greatest };
+
+    fn accept(&mut self, bytes: &[u8]) -> Result<usize, SinkDown> {
+        self.calls = self.calls.saturating_add(1);
+        if bytes.is_empty() {
+            Ok(0)
+        } else {
+            Err(SinkDown)
+        }
+    }
+
+    fn failures(&self) -> u64 {
+        u64::MAX
+    }
+}
+
+// The piece `abcde`, of a lent chunk and one of its own.
+fn five(alloc: Global) -> Result<Piece<'static>, Fail> {
+    let mut piece = Piece::new(alloc);
+    piece.push(Chunk::Lent(b"ab"))?;
+    piece.push(Chunk::Lent(b""))?;
+    piece.push(Chunk::Own(Vec::from_slice(alloc, b"cde")?))?;
+    Ok(piece)
+}
+
+// A caller that is generic in the writer, and knows at its end what the writer holds.
+fn write_through<W: Write>(piece: &Piece<'_>, writer: &mut W) -> Result<(), SinkFault>
+    ensures whole { OnOk result (Appends (W.contents writer.old) (W.contents writer.new) piece.now) }
+    ensures cut { IfErr result (λ e.
+        TakesOnlyFirst (W.contents writer.old) (W.contents writer.new) piece.now e.written) }
+{
+    let mut sink = OutMut::new(writer);
+    let answer = write_piece(&mut sink, piece);
+    let _ = sink.into_inner();
+    answer
+}
+
+#[test]
+fn a_piece_is_its_chunks_in_order(rt: HostRuntime) -> Result<(), Fail> {
+    let piece = five(rt.alloc())?;
+    let wanted = [b"ab".as_slice(), b"", b"cde"];
+    assert_eq!(rt; piece.chunks().len(), wanted.len());
+    for (chunk, bytes) in piece.chunks().iter().zip(wanted) {
+        assert_eq!(rt; chunk.bytes(), bytes);
+    }
+    Ok(())
+}
+
+#[test]
+fn pieces_are_written_up_to_the_trouble(rt: HostRuntime) -> Result<(), Fail> {
+    let piece = five(rt.alloc())?;
+    let cut = |written| Err(SinkFault { written });
+    let rows = [
+        (1, Trouble::Never, Ok(()), b"abcde".as_slice()),
+        (8, Trouble::Never, Ok(()), b"abcde"),
+        (1, Trouble::Once(3), cut(3), b"abc"),
+        (8, Trouble::From(4), cut(4), b"abcd"),
+        (8, Trouble::Once(5), Ok(()), b"abcde"),
+        (8, Trouble::Once(0), cut(0), b""),
+    ];
+    for (most, trouble, answer, taken) in rows {
+        let mut sink = MemorySink::new(rt.alloc(), most, trouble);
+        assert_eq!(rt; write_piece(&mut sink, &piece), answer, "{trouble:?}");
+        assert_eq!(rt; sink.taken(), taken, "{trouble:?}");
+        assert_eq!(rt; sink.failures(), u64::from(answer.is_err()), "{trouble:?}");
+    }
+    Ok(())
+}
+
+#[test]
+fn trouble_comes_once_or_for_good(rt: HostRuntime) {
+    let mut sink = MemorySink::new(rt.alloc(), 8, Trouble::Once(3));
+    assert_eq!(rt; sink.accept(b"abcde"), Ok(3));
+    assert_eq!(rt; sink.accept(b""), Ok(0));
+    assert_eq!(rt; sink.accept(b"de"), Err(SinkDown));
+    assert_eq!(rt; sink.accept(b"de"), Ok(2));
+    assert_eq!(rt; sink.taken(), b"abcde".as_slice());
+    assert_eq!(rt; sink.failures(), 1);
+
+    let mut sink = MemorySink::new(rt.alloc(), 8, Trouble::From(3));
+    assert_eq!(rt; sink.accept(b"abcde"), Ok(3));
+    for failures in 1..4 {
+        assert_eq!(rt; sink.accept(b"de"), Err(SinkDown));
+        assert_eq!(rt; sink.failures(), failures);
+    }
+    assert_eq!(rt; sink.taken(), b"abc".as_slice());
+}
+
+#[test]
+fn a_writer_is_written_counted_and_given_back(rt: HostRuntime) -> Result<(), Fail> {
+    let piece = five(rt.alloc())?;
+    let mut out = Out::new(Vec::from_slice(rt.alloc(), b"> ")?);
+    assert_eq!(rt; write_piece(&mut out, &piece), Ok(()));
+    assert_eq!(rt; out.accept(b""), Ok(0));
+    assert_eq!(rt; out.accept(b"fg"), Ok(2));
+    assert_eq!(rt; out.flush(), Ok(()));
+    assert_eq!(rt; (out.written(), out.failures()), (7, 0));
+    assert_eq!(rt; out.into_inner().as_slice(), b"> abcdefg".as_slice());
+    Ok(())
+}
+
+#[test]
+fn a_lent_writer_is_written_and_counted(rt: HostRuntime) -> Result<(), Fail> {
+    let piece = five(rt.alloc())?;
+    let mut text = Vec::from_slice(rt.alloc(), b"> ")?;
+    assert_eq!(rt; write_through(&piece, &mut text), Ok(()));
+    let mut sink = OutMut::new(&mut text);
+    assert_eq!(rt; sink.accept(b"fg"), Ok(2));
+    assert_eq!(rt; sink.accept(b""), Ok(0));
+    assert_eq!(rt; sink.flush(), Ok(()));
+    assert_eq!(rt; (sink.written(), sink.failures()), (2, 0));
+    assert_eq!(rt; sink.into_inner().as_slice(), b"> abcdefg".as_slice());
+    Ok(())
+}
+
+#[test]
+fn a_writer_that_breaks_is_a_failure(rt: HostRuntime) -> Result<(), Fail> {
+    let piece = five(rt.alloc())?;
+    for ending in [Ending::Error, Ending::Nothing] {
+        let mut writer = Broken {
+            held: Vec::new(rt.alloc()),
+            room: 4,
+            ending,
+            flushes: 0,
+        };
+        assert_eq!(rt;
+            write_through(&piece, &mut writer),
+            Err(SinkFault { written: 4 })
+        );
+        assert_eq!(rt; writer.held.as_slice(), b"abcd".as_slice());
+
+        let mut out = Out::new(writer);
+        assert_eq!(rt; out.accept(b"e"), Err(SinkDown));
+        assert_eq!(rt; out.accept(b""), Ok(0));
+        assert_eq!(rt; out.flush(), Err(SinkDown));
+        assert_eq!(rt; (out.written(), out.failures()), (0, 2));
+        assert_eq!(rt; out.into_inner().flushes, 1);
+    }
+    Ok(())
+}
+
+#[test]
+fn a_worn_out_sink_takes_nothing(rt: HostRuntime) -> Result<(), Fail> {
+    let piece = five(rt.alloc())?;
+    let mut sink = WornOut { calls: 0 };
+    assert_eq!(rt;
+        write_piece(&mut sink, &piece),
+        Err(SinkFault { written: 0 })
+    );
+    assert_eq!(rt; (sink.failures(), sink.calls), (u64::MAX, 1));
+
+    let mut blank = Piece::new(rt.alloc());
+    blank.push(Chunk::Lent(b""))?;
+    blank.push(Chunk::Own(Vec::new(rt.alloc())))?;
+    assert_eq!(rt; write_piece(&mut sink, &blank), Ok(()));
+    assert_eq!(rt; sink.calls, 1, "no call for no bytes");
+    Ok(())
+}
+
+// Run with each allocation refused in turn: what fails leaves the bytes, and the next call goes on.
+#[test]
+fn a_refused_growth_changes_nothing(rt: HostRuntime) {
+    let mut piece = Piece::new(rt.alloc());
+    let pushed = piece.push(Chunk::Lent(b"ab"));
+    assert_eq!(rt; piece.chunks().len(), usize::from(pushed == Ok(())));
+    assert!(rt; pushed == Ok(()) || pushed == Err(Memory));
+
+    let mut sink = MemorySink::new(rt.alloc(), 8, Trouble::From(2));
+    let refused = sink.accept(b"abc").is_err();
+    assert_eq!(rt; sink.failures(), u64::from(refused));
+    assert_eq!(rt; sink.taken().is_empty(), refused);
+    if refused {
+        assert_eq!(rt; sink.accept(b"abc"), Ok(2));
+    }
+    assert_eq!(rt; sink.taken(), b"ab".as_slice());
+    assert_eq!(rt; sink.accept(b"c"), Err(SinkDown));
+}
