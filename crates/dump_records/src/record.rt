@@ -1,5 +1,5 @@
 //! A record of a dump, as a view into it.
-ghost use Rattle.std.specs.Prelude.{drop};
+ghost use Rattle.std.specs.Prelude.{drop, ◌+◌, ◌<◌, ◌^◌};
 ghost use Rattle.dump_text.specs.Views.{block_dump, block_place, block_after};
 ghost use Rattle.dump_records.specs.RecordText.{BeginsWithRecord};
 ghost use Rattle.dump_records.specs.RecordPlaces.{record_between};
@@ -17,6 +17,7 @@ pub struct Record<'a> {
     pub(crate) number: u64,
     pub(crate) text_from: usize,
     pub(crate) after: usize,
+    pub ghost counted: { number + 1 < 2 ^ 64 },
     pub ghost inside: { AreInside (block_dump block) (block_after block) text_from after },
     pub ghost stands: { BeginsWithRecord number (drop (block_place block) (block_dump block))
         (record_between (block_dump block) (block_place block) (block_after block) text_from after)

@@ -25,7 +25,9 @@ invariant_of-record c =
     let gap = c.count_line_feeds.result in
     let lfs = gap_in s.dump.now s.place gap c.count_line_feeds.ensures in
     let at = c.in-Ok.ensures.stands in
+    let room = item_room s.dump.now s.number s.place gap c.in-Ok.parts c.self.invariant lfs at in
     record {
+      counted = omega (arith, c.self.told);
       inside = own_inside s.dump.now (s.place + gap) s.number c.in-Ok.parts at;
       stands = own_stands s.dump.now (s.place + gap) s.number c.in-Ok.parts at;
       numbered = ∣ own_number s.dump.now (s.place + gap) s.number c.in-Ok.parts at

@@ -1,0 +1,12 @@
+//! What a clean run tells.
+
+/// What a run kept, dropped and checked.
+#[derive(Clone, Copy, Debug, PartialEq, Eq)]
+pub struct Report {
+    pub revisions_kept: u64,
+    pub revisions_dropped: u64,
+    pub nodes_kept: u64,
+    pub nodes_dropped: u64,
+    /// Kept texts that were compared with a digest.
+    pub texts_checked: u64,
+}
