@@ -1,0 +1,105 @@
+-- What a call leaves an end with.
+use Rattle.std.proofs.Common.{◌≡◌, Bool, true, List, [], ◌∷◌, ◌++◌, sym, ap, ◌∙◌, subst, Result, Ok, Err, MatchResult}
+use Rattle.std.specs.Result.{is_ok}
+use Rattle.atomic_table.specs.declared.badge.Badge.{Badge}
+use Rattle.crossbeam_channel.specs.Claims.{Pass, IsSeatAt, view}
+use Rattle.crossbeam_channel.specs.declared.flavors.array.Doing.{Doing}
+use Rattle.crossbeam_channel.specs.declared.flavors.array.Key.{Key}
+use Rattle.crossbeam_channel.specs.declared.flavors.array.Rows.{Rows}
+use Rattle.dump_lanes.specs.declared.ends.Told.{Told}
+use Rattle.dump_lanes.specs.declared.ends.Told.TheVariants.{MayCome, Ended, SenderGone}
+use Rattle.dump_lanes.specs.declared.protocol.Log.{Log}
+use Rattle.dump_lanes.specs.declared.protocol.Mark.{Mark}
+use Rattle.dump_lanes.specs.declared.protocol.Mark.TheVariants.{Item, End}
+use Rattle.dump_lanes.specs.LaneEnds.{LaneEnd, IsWholeAtEnd}
+use Rattle.dump_lanes.specs.LaneMarks.{items_of, AreItemsThen, IsPutting, IsTaking, mark_if, mark_of}
+use Rattle.dump_lanes.specs.LaneRule.{log}
+use Rattle.dump_lanes.specs.LaneViews.{lane_of, sending_of, receiving_of, told, ComesAgain}
+use Rattle.dump_lanes.proofs.MarkLists.{items_of-then_item, items_of-then_end, then_item, then_end, is_whole}
+
+-- an end that may still be given items has no end to tell again
+pub nothing_told : (end : Told) (next : LaneEnd) → end ≡ MayCome → ComesAgain (told end) next
+nothing_told end next o other = absurd (other (ap told o))
+
+module _ {T Q M L A : Type 0} (c : Rows (Badge (Key (Mark T))) (Doing (Mark T) (Log T)) Q M (Key (Mark T)) L A) where
+  -- two passes at one channel are for one lane
+  same_lane : (p q : Pass (Mark T) (Log T)) → IsSeatAt c p → IsSeatAt c q → lane_of p ≡ lane_of q
+  same_lane p q a b i = record { table = (a.0 ∙ sym b.0) i; key = (a.1 ∙ sym b.1) i }
+
+  -- a sending end after a call, whose pass was q and is p
+  pub same_sending : (p q : Pass (Mark T) (Log T)) (put : List T)
+      → IsSeatAt c p → IsSeatAt c q → items_of (view p).put ≡ put → sending_of p ≡ record (sending_of q) { put = put }
+  same_sending p q put a b e i = record { lane = same_lane p q a b i; put = e i }
+
+  -- a receiving end after a call, whose pass was q and is p
+  pub same_receiving : (p q : Pass (Mark T) (Log T)) (end : Told) (taken : List T)
+      → IsSeatAt c p → IsSeatAt c q → items_of (view p).taken ≡ taken → receiving_of p end ≡ record (receiving_of q end) { taken = taken }
+  same_receiving p q end taken a b e i = record { lane = same_lane p q a b i; taken = e i; told = told end }
+
+module _ {T : Type 0} where
+  -- an end that was told this is the same after it is told again
+  pub ends_as : (pass : Pass (Mark T) (Log T)) (end : Told) (next : LaneEnd)
+      → told end ≡ next → receiving_of pass end ≡ record (receiving_of pass end) { told = next }
+  ends_as pass end next e i = record { lane = lane_of pass; taken = items_of (view pass).taken; told = e i }
+
+  -- the log after a mark was put
+  abbrev pub after_put : Log T → Mark T → Log T
+  after_put v m = log v.puts v.takes (v.put ++ m ∷ []) v.taken
+
+  -- the log after a mark was taken
+  abbrev pub after_take : Log T → Mark T → Log T
+  after_take v m = log v.puts v.takes v.put (v.taken ++ m ∷ [])
+
+  pub put_item : (v w : Log T) (x : T) → w ≡ after_put v (Item x) → items_of w.put ≡ items_of v.put ++ x ∷ []
+  put_item v w x e = ap (λ (l : Log T). items_of l.put) e ∙ items_of-then_item v.put x
+
+  pub take_item : (v w : Log T) (x : T) → w ≡ after_take v (Item x) → items_of w.taken ≡ items_of v.taken ++ x ∷ []
+  take_item v w x e = ap (λ (l : Log T). items_of l.taken) e ∙ items_of-then_item v.taken x
+
+  pub take_end : (v w : Log T) → w ≡ after_take v End → items_of w.taken ≡ items_of v.taken
+  take_end v w e = ap (λ (l : Log T). items_of l.taken) e ∙ items_of-then_end v.taken
+
+  -- a sending end that put an item, or had it handed back, may put more
+  pub still_puts : {A B : Type 0} (r : Result A B) (v w : Log T) (x : T) (P : B → Type 0) → IsPutting [] v
+      → MatchResult r (λ _. w ≡ after_put v (Item x)) (λ e. P e × (w ≡ v)) → IsPutting [] w
+  still_puts (Ok a) v w x P h e =
+      subst (IsPutting []) (sym e) record { may_put = h.may_put; marks = then_item v.put x h.marks }
+  still_puts (Err b) v w x P h e = subst (IsPutting []) (sym e.1) h
+
+  -- a sending end that was closed has put its end mark, or the send of it failed
+  pub closes : {A B : Type 0} (r : Result A B) (marked : Bool) (v w : Log T) (P : B → Type 0) → marked ≡ is_ok r → IsPutting [] v
+      → MatchResult r (λ _. w ≡ after_put v End) (λ e. P e × (w ≡ v)) → IsPutting (mark_if marked) w
+  closes (Ok a) marked v w P m h e =
+      let closed : IsPutting (mark_if true) w =
+      subst (IsPutting (End ∷ [])) (sym e) record { may_put = h.may_put; marks = then_end v.put h.marks } in
+      subst (λ b. IsPutting (mark_if b) w) (sym m) closed
+  closes (Err b) marked v w P m h e = subst (λ b. IsPutting (mark_if b) w) (sym m) (subst (IsPutting []) (sym e.1) h)
+
+  -- a close changes no item
+  pub close_keeps : {A B : Type 0} (r : Result A B) (v w : Log T) (P : B → Type 0)
+      → MatchResult r (λ _. w ≡ after_put v End) (λ e. P e × (w ≡ v)) → items_of w.put ≡ items_of v.put
+  close_keeps (Ok a) v w P e = ap (λ (l : Log T). items_of l.put) e ∙ items_of-then_end v.put
+  close_keeps (Err b) v w P e = ap (λ (l : Log T). items_of l.put) e.1
+
+  -- a receiving end that took an item may take more
+  pub still_takes : (v w : Log T) (x : T) (end : Told) → end ≡ MayCome
+      → IsTaking (mark_of end) v → w ≡ after_take v (Item x) → IsTaking (mark_of end) w
+  still_takes v w x end o h e =
+      let before : IsTaking [] v = subst (λ t. IsTaking (mark_of t) v) o h in
+      let after : IsTaking [] w =
+      subst (IsTaking []) (sym e) record { may_take = before.may_take; marks = then_item v.taken x before.marks } in
+      subst (λ t. IsTaking (mark_of t) w) (sym o) after
+
+  -- a receiving end that took the end mark has been told so
+  pub ends : (v w : Log T) (end : Told) → end ≡ MayCome
+      → IsTaking (mark_of end) v → w ≡ after_take v End → IsTaking (mark_of Ended) w
+  ends v w end o h e =
+      let before : IsTaking [] v = subst (λ t. IsTaking (mark_of t) v) o h in
+      subst (IsTaking (End ∷ [])) (sym e) record { may_take = before.may_take; marks = then_end v.taken before.marks }
+
+  -- where the end mark was taken, both lists are the same
+  pub whole_at_end : (put taken left : List (Mark T)) (marked : Bool) (end : Told)
+      → AreItemsThen (mark_if marked) put → AreItemsThen (mark_of end) taken → put ≡ taken ++ left → IsWholeAtEnd (told end) (items_of put) (items_of taken)
+  whole_at_end put taken left marked MayCome hp ht e = tt
+  whole_at_end put taken left marked Ended hp ht e = is_whole put taken marked left hp ht e
+  whole_at_end put taken left marked SenderGone hp ht e = tt

@@ -1,0 +1,3 @@
+pub mod LaneSteps
+pub mod MarkLists
+pub mod Moves

@@ -1,0 +1,12 @@
+use Rattle.std.proofs.Common.{rules, refl}
+use Rattle.dump_lanes.proofs.Moves.{begins, forks}
+use Rattle.dump_lanes.proofs.ends.pair.lane.Goals as goal
+
+pub bounded_with-requires-clause-rule : goal.bounded_with-requires-clause-rule
+bounded_with-requires-clause-rule g c = begins
+
+pub another-other-requires-clause-rule : goal.another-other-requires-clause-rule
+another-other-requires-clause-rule g c = forks _ _ (search rules) (search rules)
+
+pub returns-clause-nothing_told : goal.returns-clause-nothing_told
+returns-clause-nothing_told g c = refl

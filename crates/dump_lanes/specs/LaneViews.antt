@@ -1,0 +1,58 @@
+-- What the contracts see of a lane's ends.
+use Rattle.std.specs.Prelude.{◌≡◌, ◌≢◌, [], ◌∷◌, ◌++◌}
+use Rattle.crossbeam_channel.specs.Claims.{Pass, view}
+use Rattle.dump_lanes.specs.declared.ends.LaneIn.{LaneIn}
+use Rattle.dump_lanes.specs.declared.ends.Sent.{Sent}
+use Rattle.dump_lanes.specs.declared.ends.LaneOut.{LaneOut}
+use Rattle.dump_lanes.specs.declared.ends.Taken.{Taken}
+use Rattle.dump_lanes.specs.declared.ends.Taken.TheVariants as takes
+use Rattle.dump_lanes.specs.declared.ends.Told.{Told}
+use Rattle.dump_lanes.specs.declared.ends.Told.TheVariants as tells
+use Rattle.dump_lanes.specs.declared.protocol.Log.{Log}
+use Rattle.dump_lanes.specs.declared.protocol.Mark.{Mark}
+use Rattle.dump_lanes.specs.LaneEnds.{LaneName, LaneEnd, Sending, Receiving}
+use Rattle.dump_lanes.specs.LaneMarks.{items_of}
+
+-- what the receiver was last told
+abbrev pub told : Told → LaneEnd
+told tells.MayCome = LaneEnd.MayCome
+told tells.Ended = LaneEnd.Ended
+told tells.SenderGone = LaneEnd.SenderGone
+
+module _ {T : Type 0} where
+  -- the lane that a pass is for
+  abbrev pub lane_of : Pass (Mark T) (Log T) → LaneName T
+  lane_of pass = record { table = pass.table_id; key = pass.me.0.of }
+
+  -- what the pass of a sending end says
+  abbrev pub sending_of : Pass (Mark T) (Log T) → Sending T
+  sending_of pass = record { lane = lane_of pass; put = items_of (view pass).put }
+
+  -- what the pass of a receiving end says, with what the end was last told
+  abbrev pub receiving_of : Pass (Mark T) (Log T) → Told → Receiving T
+  receiving_of pass end = record { lane = lane_of pass; taken = items_of (view pass).taken; told = told end }
+
+  -- the sending end
+  abbrev pub sending : LaneIn T → Sending T
+  sending l = sending_of l.pass
+
+  -- a sending end after its close
+  abbrev pub sent : Sent T → Sending T
+  sent l = sending_of l.pass
+
+  -- the receiving end
+  abbrev pub receiving : LaneOut T → Receiving T
+  receiving l = receiving_of l.pass l.told
+
+-- an end that was told is told again
+abbrev pub ComesAgain : LaneEnd → LaneEnd → Type 0
+ComesAgain old new = (old ≢ LaneEnd.MayCome) → old ≡ new
+
+-- one call of the receiver: an item joins the taken ones, or the end is told; after an end the same is told again
+abbrev pub TakeStep : {T : Type 0} → Receiving T → Taken T → Receiving T → Type 0
+TakeStep old (takes.Item value) new =
+    (old.told ≡ LaneEnd.MayCome) × (new ≡ record old { taken = old.taken ++ value ∷ [] })
+TakeStep old takes.Closed new =
+    (new ≡ record old { told = LaneEnd.Ended }) × ComesAgain old.told LaneEnd.Ended
+TakeStep old takes.Lost new =
+    (new ≡ record old { told = LaneEnd.SenderGone }) × ComesAgain old.told LaneEnd.SenderGone

@@ -1,0 +1,4 @@
+pub mod LaneEnds
+pub mod LaneMarks
+pub mod LaneRule
+pub mod LaneViews

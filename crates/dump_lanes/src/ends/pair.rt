@@ -1,0 +1,41 @@
+//! How the two ends of a lane are made.
+ghost use Rattle.std.specs.Prelude.{◌≡◌, ◌≤◌, [], IfOk};
+ghost use Rattle.dump_lanes.specs.LaneEnds.{LaneEnd};
+ghost use Rattle.dump_lanes.specs.LaneViews.{sending, receiving};
+
+use super::{LaneIn, LaneOut, Told};
+use crate::protocol::{InOrder, Log, Mark, Roles};
+use crossbeam_channel::bounded_with;
+use std::alloc::Global;
+
+/// Makes a lane. Its channel has `capacity` places and one more, so that the end mark has room where
+/// no more than `capacity` items are ever in the lane at once.
+pub fn lane<T: Drop>(alloc: Global, capacity: usize) -> Result<(LaneIn<T>, LaneOut<T>), Memory>
+    requires some { 1 ≤ capacity }
+    requires most { capacity ≤ 4096 }
+    ensures ends { IfOk result (λ ends. (receiving ends.1).lane ≡ (sending ends.0).lane) }
+    ensures nothing_put { IfOk result (λ ends. (sending ends.0).put ≡ []) }
+    ensures nothing_taken { IfOk result (λ ends. (receiving ends.1).taken ≡ []) }
+    ensures nothing_told { IfOk result (λ ends. (receiving ends.1).told ≡ LaneEnd.MayCome) }
+{
+    let Ok((sender, receiver, mut pass)) = bounded_with::<Mark<T>, Log<T>, InOrder, Global>(
+        alloc,
+        capacity + 1,
+    ) else {
+        return Err(Memory);
+    };
+    let other = sender.another::<Roles>(&mut pass);
+    let told = Told::MayCome;
+    Ok((
+        LaneIn { sender, pass },
+        LaneOut {
+            receiver,
+            pass: other,
+            told,
+        },
+    ))
+}
+
+/// Memory ran out.
+#[derive(Clone, Copy, Debug, PartialEq, Eq)]
+pub struct Memory;
