@@ -1,16 +1,20 @@
 -- Groups and what is written, where a list is cut before a record that is no node.
-use Rattle.std.proofs.Common.{◌≡◌, ℕ, ◌+◌, Bool, true, false, not, ◌&&◌, ◌||◌, ◌==◌, List, [], ◌∷◌, ◌++◌, map, length, take_while, refl, sym, ap, ◌∙◌, subst, arith, append_assoc, length-append, if◌then◌else◌, count_by, Option, Some, None, MatchBool}
-use Rattle.std.specs.List.{list_all, list_any, last_or}
+use Rattle.std.proofs.Common.{◌≡◌, ℕ, suc, ◌+◌, Bool, true, false, not, ◌&&◌, ◌||◌, ◌==◌, List, [], ◌∷◌, ◌++◌, map, length, take, take_while, refl, sym, ap, ◌∙◌, subst, arith, append_assoc, length-append, if◌then◌else◌, count_by, Option, Some, None, MatchBool}
+use Rattle.std.specs.List.{list_all, list_any, last_or, prefix_len}
 use Rattle.std.proofs.lemmas.List.{append-nil}
 use Rattle.std.proofs.lemmas.List.Folds.{list_all-append, list_any-append}
 use Rattle.std.proofs.lemmas.List.Sums.{sum_by-append}
 use Rattle.dump_records.specs.RecordText.{DumpRecord}
+use Rattle.dump_text.specs.HeaderBlock.{block_text}
 use Rattle.dump_rules.specs.Settings.{Settings}
 use Rattle.dump_rules.specs.Renumbering.{KeptRevisions}
 use Rattle.dump_digest.specs.RecordParts.{is_revision, is_node, is_kept_node}
 use Rattle.dump_filter.specs.Groups.{Group, group_of, groups, group_number, has_kept_node, is_bare, keeps_group, keeps_empty, revision_number, revision_numbers, present_revision}
 use Rattle.dump_filter.specs.RecordOutput.{revision_text, IsNodeOutput, IsOutput}
 use Rattle.dump_filter.specs.Written.{is_open, is_written, AreOutputs}
+
+take_cons : (n : ℕ) (x : DumpRecord) (xs : List DumpRecord) → take (1 + n) (x ∷ xs) ≡ x ∷ take n xs
+take_cons n x xs = let e : 1 + n ≡ suc n = omega arith in ap (λ m. take m (x ∷ xs)) e
 
 -- the nodes at the front end before a record that is no node
 nodes_before : (xs zs : List DumpRecord) (y : DumpRecord) → is_node y ≡ false → take_while is_node (xs ++ y ∷ zs) ≡ take_while is_node xs
@@ -19,7 +23,9 @@ nodes_before (x ∷ xs) zs y other = cases (is_node x) refl (nodes_before xs zs 
   where
     cases : (b : Bool) → is_node x ≡ b → take_while is_node (xs ++ y ∷ zs) ≡ take_while is_node xs
         → take_while is_node (x ∷ (xs ++ y ∷ zs)) ≡ take_while is_node (x ∷ xs)
-    cases true is more = rw is (ap (λ (t : List DumpRecord). x ∷ t) more)
+    cases true is more = rw is
+        (take_cons (prefix_len is_node (xs ++ y ∷ zs)) x (xs ++ y ∷ zs) ∙ ap (λ (t : List DumpRecord). x ∷ t) more
+        ∙ sym (take_cons (prefix_len is_node xs) x xs))
     cases false is more = rw is refl
 
 pub group_before : (x : DumpRecord) (xs zs : List DumpRecord) (y : DumpRecord) → is_node y ≡ false → group_of x (xs ++ y ∷ zs) ≡ group_of x xs
@@ -47,6 +53,14 @@ pub second_true : (a b : Bool) → (a && b) ≡ true → b ≡ true
 second_true true b h = h
 second_true false b h = cc
 
+pub first_false : (a b : Bool) → (a || b) ≡ false → a ≡ false
+first_false true b h = h
+first_false false b h = refl
+
+pub second_false : (a b : Bool) → (a || b) ≡ false → b ≡ false
+second_false true b h = cc
+second_false false b h = h
+
 not_true : (a : Bool) → not a ≡ true → a ≡ false
 not_true true h = cc
 not_true false h = refl
@@ -68,7 +82,8 @@ pub take_nodes : (ns : List DumpRecord) → list_all is_plain ns ≡ true → ta
 take_nodes [] all = refl
 take_nodes (n ∷ ns) all =
     let one = plain_node n (first_true (is_plain n) (list_all is_plain ns) all) in
-    rw one (ap (λ (t : List DumpRecord). n ∷ t) (take_nodes ns (second_true (is_plain n) (list_all is_plain ns) all)))
+    rw one (take_cons (prefix_len is_node ns) n ns
+    ∙ ap (λ (t : List DumpRecord). n ∷ t) (take_nodes ns (second_true (is_plain n) (list_all is_plain ns) all)))
 
 pub no_groups : (ns : List DumpRecord) → list_all is_plain ns ≡ true → groups ns ≡ []
 no_groups [] all = refl
@@ -116,16 +131,275 @@ module _ (settings : Settings) (k k' : KeptRevisions) where
       either true false c = refl
       either false b c = refl
       cases : (b : Bool) → is_revision x ≡ b → is_written settings ended x (xs ++ y ∷ zs) ≡ is_written settings true x xs
-      cases true is = rw (is, closed, group_before x xs zs y other)
-          (either (keeps_group settings (group_of x xs)) ended (has_kept_node settings (group_of x xs)))
+      cases true is = rw is
+          (ap (λ (g : Group). keeps_group settings g && (ended || not (is_open (xs ++ y ∷ zs)) || has_kept_node settings g)) (group_before x xs zs y other)
+          ∙ ap (λ b. keeps_group settings (group_of x xs) && (ended || not b || has_kept_node settings (group_of x xs))) closed
+          ∙ either (keeps_group settings (group_of x xs)) ended (has_kept_node settings (group_of x xs)))
       cases false is = rw is refl
+
+  outputs_kept : (ended : Bool) (rs : List DumpRecord) (text : List ℕ) → AreOutputs settings ended k rs text → AreOutputs settings ended k' rs text
+  outputs_kept ended [] text out = out
+  outputs_kept ended (r ∷ rs) text (front, rest, is, this, more) = (front, rest, is, this, outputs_kept ended rs rest more)
 
   pub outputs_cut : (ended : Bool) (xs zs : List DumpRecord) (y : DumpRecord) (text : List ℕ) → is_node y ≡ false
       → AreOutputs settings ended k (xs ++ y ∷ zs) text
       → (front rest : List ℕ) × (text ≡ front ++ rest) × AreOutputs settings true k' xs front × AreOutputs settings ended k' (y ∷ zs) rest
-  outputs_cut ended xs zs y text other out = ?
+  outputs_cut ended [] zs y text other out = ([], text, refl, refl, outputs_kept ended (y ∷ zs) text out)
+  outputs_cut ended (x ∷ xs) zs y text other (front, rest, is, this, more) =
+      let left = outputs_cut ended xs zs y rest other more in
+      (front ++ left.0, left.1,
+      is ∙ ap (λ t. front ++ t) left.2 ∙ sym (append_assoc front left.0 left.1),
+      (front, left.0, refl,
+      subst (λ (b : Bool). MatchBool b (IsOutput settings k' x xs front) (front ≡ [])) (written_before ended x xs zs y other) this,
+      left.3),
+      left.4)
 
   pub outputs_join : (ended : Bool) (xs zs : List DumpRecord) (y : DumpRecord) (front rest : List ℕ) → is_node y ≡ false
       → AreOutputs settings true k xs front → AreOutputs settings ended k' (y ∷ zs) rest
       → AreOutputs settings ended k' (xs ++ y ∷ zs) (front ++ rest)
-  outputs_join ended xs zs y front rest other out behind = ?
+  outputs_join ended [] zs y front rest other none behind =
+      subst (λ (t : List ℕ). AreOutputs settings ended k' (y ∷ zs) t) (ap (λ t. t ++ rest) (sym none)) behind
+  outputs_join ended (x ∷ xs) zs y front rest other (first, more, is, this, out) behind =
+      (first, more ++ rest, ap (λ t. t ++ rest) is ∙ append_assoc first more rest,
+      subst (λ (b : Bool). MatchBool b (IsOutput settings k' x xs first) (first ≡ [])) (sym (written_before ended x xs zs y other)) this,
+      outputs_join ended xs zs y more rest other out behind)
+
+  -- what is written of a node
+  abbrev pub OwnOutput : DumpRecord → List ℕ → Type 0
+  OwnOutput r text = MatchBool (is_kept_node settings r) (IsNodeOutput settings k' r text) (text ≡ [])
+
+  node_written : (ended : Bool) (r : DumpRecord) (after : List DumpRecord) → is_plain r ≡ true → is_written settings ended r after ≡ is_kept_node settings r
+  node_written ended r after plain = rw (plain_other r plain, plain_node r plain) refl
+
+  node_output : (r : DumpRecord) (after : List DumpRecord) (text : List ℕ) → is_plain r ≡ true → OwnOutput r text
+      → (ended : Bool) → MatchBool (is_written settings ended r after) (IsOutput settings k' r after text) (text ≡ [])
+  node_output r after text plain own ended = subst (λ (b : Bool). MatchBool b (IsOutput settings k' r after text) (text ≡ [])) (sym (node_written ended r after plain))
+      (rw (plain_other r plain, plain_node r plain) (rw (plain_node r plain) at own))
+
+  -- one more node behind nodes
+  pub nodes_more : (ended last : Bool) (ns : List DumpRecord) (r : DumpRecord) (text own : List ℕ)
+      → list_all is_plain ns ≡ true → is_plain r ≡ true → AreOutputs settings ended k ns text → OwnOutput r own
+      → AreOutputs settings last k' (ns ++ r ∷ []) (text ++ own)
+  nodes_more ended last [] r text own all plain none mine =
+      (own, [], ap (λ t. t ++ own) none ∙ sym (append-nil own), node_output r [] own plain mine last, refl)
+  nodes_more ended last (n ∷ ns) r text own all plain (front, rest, is, this, more) mine =
+      let one = first_true (is_plain n) (list_all is_plain ns) all in
+      (front, rest ++ own, ap (λ t. t ++ own) is ∙ append_assoc front rest own,
+      subst (λ (b : Bool). MatchBool b (IsOutput settings k' n (ns ++ r ∷ []) front) (front ≡ []))
+          (node_written ended n ns one ∙ sym (node_written last n (ns ++ r ∷ []) one)) this,
+      nodes_more ended last ns r rest own (second_true (is_plain n) (list_all is_plain ns) all) plain more mine)
+
+  -- nodes behind which the dump ends
+  pub nodes_end : (ended last : Bool) (ns : List DumpRecord) (text : List ℕ) → list_all is_plain ns ≡ true
+      → AreOutputs settings ended k ns text → AreOutputs settings last k' ns text
+  nodes_end ended last [] text all none = none
+  nodes_end ended last (n ∷ ns) text all (front, rest, is, this, more) =
+      let one = first_true (is_plain n) (list_all is_plain ns) all in
+      (front, rest, is,
+      subst (λ (b : Bool). MatchBool b (IsOutput settings k' n ns front) (front ≡ [])) (node_written ended n ns one ∙ sym (node_written last n ns one)) this,
+      nodes_end ended last ns rest (second_true (is_plain n) (list_all is_plain ns) all) more)
+
+  -- nothing is written of nodes of which none is kept
+  pub nodes_dropped : (ended : Bool) (ns : List DumpRecord) (text : List ℕ) → list_all is_plain ns ≡ true → list_any (is_kept_node settings) ns ≡ false
+      → AreOutputs settings ended k ns text → text ≡ []
+  nodes_dropped ended [] text all none out = out
+  nodes_dropped ended (n ∷ ns) text all none (front, rest, is, this, more) =
+      let one = first_true (is_plain n) (list_all is_plain ns) all in
+      let no_own = first_false (is_kept_node settings n) (list_any (is_kept_node settings) ns) none in
+      let nothing : front ≡ [] = subst (λ (b : Bool). MatchBool b (IsOutput settings k n ns front) (front ≡ [])) (node_written ended n ns one ∙ no_own) this in
+      is ∙ ap (λ t. t ++ rest) nothing
+      ∙ nodes_dropped ended ns rest (second_true (is_plain n) (list_all is_plain ns) all) (second_false (is_kept_node settings n) (list_any (is_kept_node settings) ns) none) more
+
+  -- a revision whose group has a kept node is written
+  rev_kept : (ended : Bool) (y : DumpRecord) (ns : List DumpRecord) → is_revision y ≡ true → list_all is_plain ns ≡ true
+      → list_any (is_kept_node settings) ns ≡ true → is_written settings ended y ns ≡ true
+  rev_kept ended y ns rev all some =
+      rw rev
+      (ap (λ (g : Group). keeps_group settings g && (ended || not (is_open ns) || has_kept_node settings g)) (own_group y ns all)
+      ∙ ap (λ b. (group_number (record { revision = y; nodes = ns }) == 0 || b || keeps_empty settings.empty (is_bare (record { revision = y; nodes = ns }))) && (ended || not (is_open ns) || b)) some
+      ∙ all_true (revision_number y == 0) (keeps_empty settings.empty (is_bare (record { revision = y; nodes = ns }))) ended (not (is_open ns)))
+    where
+      all_true : (a e b c : Bool) → (((a || true) || e) && ((b || c) || true)) ≡ true
+      all_true true e true c = refl
+      all_true true e false true = refl
+      all_true true e false false = refl
+      all_true false e true c = refl
+      all_true false e false true = refl
+      all_true false e false false = refl
+
+  -- one without waits while the dump may go on
+  rev_waits : (y : DumpRecord) (ns : List DumpRecord) → is_revision y ≡ true → list_all is_plain ns ≡ true
+      → list_any (is_kept_node settings) ns ≡ false → is_written settings false y ns ≡ false
+  rev_waits y ns rev all none =
+      rw rev
+      (ap (λ (g : Group). keeps_group settings g && (false || not (is_open ns) || has_kept_node settings g)) (own_group y ns all)
+      ∙ ap (λ b. keeps_group settings (record { revision = y; nodes = ns }) && (not (is_open ns) || b)) none
+      ∙ ap (λ b. keeps_group settings (record { revision = y; nodes = ns }) && (not b || false)) (all_nodes ns all)
+      ∙ and_false (keeps_group settings (record { revision = y; nodes = ns })))
+    where
+      and_false : (b : Bool) → (b && false) ≡ false
+      and_false true = refl
+      and_false false = refl
+
+  -- and is written at the end where the options keep it
+  rev_ends : (y : DumpRecord) (ns : List DumpRecord) → is_revision y ≡ true → list_all is_plain ns ≡ true
+      → is_written settings true y ns ≡ keeps_group settings (record { revision = y; nodes = ns })
+  rev_ends y ns rev all =
+      rw rev
+      (ap (λ (g : Group). keeps_group settings g && true) (own_group y ns all)
+      ∙ and_true (keeps_group settings (record { revision = y; nodes = ns })))
+    where
+      and_true : (b : Bool) → (b && true) ≡ b
+      and_true true = refl
+      and_true false = refl
+
+-- a list that ends with the group of a revision
+module _ (settings : Settings) (k k' : KeptRevisions) (closed ns : List DumpRecord) (y : DumpRecord) (text : List ℕ)
+    (other : is_node y ≡ false) (rev : is_revision y ≡ true) (all : list_all is_plain ns ≡ true)
+    (out : AreOutputs settings false k (closed ++ y ∷ ns) text) where
+  -- what is written before the group, of its revision, and of its nodes
+  record Parts : Type 0 where
+    before : List ℕ
+    own : List ℕ
+    nodes : List ℕ
+    is : text ≡ before ++ (own ++ nodes)
+    closed_out : AreOutputs settings true k' closed before
+    own_out : MatchBool (is_written settings false y ns) (IsOutput settings k' y ns own) (own ≡ [])
+    nodes_out : AreOutputs settings false k' ns nodes
+
+  parts : Parts
+  parts =
+      let cut = outputs_cut settings k k' false closed ns y text other out in
+      let group = cut.4 in
+      record {
+        before = cut.0;
+        own = group.0;
+        nodes = group.1;
+        is = cut.2 ∙ ap (λ t. cut.0 ++ t) group.2;
+        closed_out = cut.3;
+        own_out = group.3;
+        nodes_out = group.4;
+      }
+
+  -- the group with other outputs
+  joined : (ended : Bool) (ms : List DumpRecord) (own nodes new : List ℕ)
+      → MatchBool (is_written settings ended y ms) (IsOutput settings k' y ms own) (own ≡ [])
+      → AreOutputs settings ended k' ms nodes
+      → new ≡ parts.before ++ (own ++ nodes)
+      → AreOutputs settings ended k' (closed ++ y ∷ ms) new
+  joined ended ms own nodes new own_out nodes_out is =
+      subst (AreOutputs settings ended k' (closed ++ y ∷ ms)) (sym is)
+      (outputs_join settings k' k' ended closed ms y parts.before (own ++ nodes) other parts.closed_out (own, nodes, refl, own_out, nodes_out))
+
+  -- behind a kept node a node adds what is written of it
+  pub passed_more : (r : DumpRecord) (own : List ℕ) → is_plain r ≡ true → list_any (is_kept_node settings) ns ≡ true
+      → OwnOutput settings k' k' r own → AreOutputs settings false k' (closed ++ y ∷ (ns ++ r ∷ [])) (text ++ own)
+  passed_more r own plain some mine =
+      let p = parts in
+      let more : list_any (is_kept_node settings) (ns ++ r ∷ []) ≡ true = any_more settings ns r ∙ ap (λ b. b || is_kept_node settings r) some in
+      joined false (ns ++ r ∷ []) p.own (p.nodes ++ own) (text ++ own)
+      (subst (λ (b : Bool). MatchBool b (IsOutput settings k' y (ns ++ r ∷ []) p.own) (p.own ≡ []))
+          (rev_kept settings k' k' false y ns rev all some ∙ sym (rev_kept settings k' k' false y (ns ++ r ∷ []) rev (plain_more ns r all plain) more)) p.own_out)
+      (nodes_more settings k' k' false false ns r p.nodes own all plain p.nodes_out mine)
+      (ap (λ t. t ++ own) p.is ∙ append_assoc p.before (p.own ++ p.nodes) own ∙ ap (λ t. p.before ++ t) (append_assoc p.own p.nodes own))
+
+  -- and the end adds nothing
+  pub passed_end : list_any (is_kept_node settings) ns ≡ true → AreOutputs settings true k' (closed ++ y ∷ ns) text
+  passed_end some =
+      let p = parts in
+      joined true ns p.own p.nodes text
+      (subst (λ (b : Bool). MatchBool b (IsOutput settings k' y ns p.own) (p.own ≡ []))
+          (rev_kept settings k' k' false y ns rev all some ∙ sym (rev_kept settings k' k' true y ns rev all some)) p.own_out)
+      (nodes_end settings k' k' false true ns p.nodes all p.nodes_out)
+      p.is
+
+  -- while the revision waits nothing of its group is written
+  nothing : list_any (is_kept_node settings) ns ≡ false → text ≡ parts.before
+  nothing none =
+      let p = parts in
+      let no_own : p.own ≡ [] = subst (λ (b : Bool). MatchBool b (IsOutput settings k' y ns p.own) (p.own ≡ [])) (rev_waits settings k' k' y ns rev all none) p.own_out in
+      let no_nodes : p.nodes ≡ [] = nodes_dropped settings k' k' false ns p.nodes all none p.nodes_out in
+      p.is ∙ ap (λ t. p.before ++ (t ++ p.nodes)) no_own ∙ ap (λ t. p.before ++ t) no_nodes ∙ append-nil p.before
+
+  empty_nodes : list_any (is_kept_node settings) ns ≡ false → AreOutputs settings false k' ns []
+  empty_nodes none = subst (AreOutputs settings false k' ns) (nodes_dropped settings k' k' false ns parts.nodes all none parts.nodes_out) parts.nodes_out
+
+  rev_output : (ended : Bool) (ms : List DumpRecord) → is_written settings ended y ms ≡ true
+      → MatchBool (is_written settings ended y ms) (IsOutput settings k' y ms (revision_text settings k' y)) (revision_text settings k' y ≡ [])
+  rev_output ended ms is = subst (λ (b : Bool). MatchBool b (IsOutput settings k' y ms (revision_text settings k' y)) (revision_text settings k' y ≡ [])) (sym is) (rw rev refl)
+
+  -- the first kept node brings the revision with it
+  pub waits_more : (r : DumpRecord) (own : List ℕ) → is_plain r ≡ true → list_any (is_kept_node settings) ns ≡ false
+      → is_kept_node settings r ≡ true → IsNodeOutput settings k' r own
+      → AreOutputs settings false k' (closed ++ y ∷ (ns ++ r ∷ [])) (text ++ (revision_text settings k' y ++ own))
+  waits_more r own plain none kept mine =
+      let p = parts in
+      let rt = revision_text settings k' y in
+      let more : list_any (is_kept_node settings) (ns ++ r ∷ []) ≡ true = any_more settings ns r ∙ ap (λ b. b || is_kept_node settings r) none ∙ kept in
+      let mine' : OwnOutput settings k' k' r own = subst (λ (b : Bool). MatchBool b (IsNodeOutput settings k' r own) (own ≡ [])) (sym kept) mine in
+      joined false (ns ++ r ∷ []) rt own (text ++ (rt ++ own))
+      (rev_output false (ns ++ r ∷ []) (rev_kept settings k' k' false y (ns ++ r ∷ []) rev (plain_more ns r all plain) more))
+      (nodes_more settings k' k' false false ns r [] own all plain (empty_nodes none) mine')
+      (ap (λ t. t ++ (rt ++ own)) (nothing none))
+
+  -- a dropped one adds nothing
+  pub waits_on : (r : DumpRecord) → is_plain r ≡ true → list_any (is_kept_node settings) ns ≡ false
+      → is_kept_node settings r ≡ false
+      → AreOutputs settings false k' (closed ++ y ∷ (ns ++ r ∷ [])) text
+  waits_on r plain none dropped =
+      let p = parts in
+      let more : list_any (is_kept_node settings) (ns ++ r ∷ []) ≡ false = any_more settings ns r ∙ ap (λ b. b || is_kept_node settings r) none ∙ dropped in
+      let mine : OwnOutput settings k' k' r [] = subst (λ (b : Bool). MatchBool b (IsNodeOutput settings k' r []) (◌≡◌ {A = List ℕ} [] [])) (sym dropped) refl in
+      joined false (ns ++ r ∷ []) [] [] text
+      (subst (λ (b : Bool). MatchBool b (IsOutput settings k' y (ns ++ r ∷ []) []) (◌≡◌ {A = List ℕ} [] []))
+          (sym (rev_waits settings k' k' y (ns ++ r ∷ []) rev (plain_more ns r all plain) more)) refl)
+      (nodes_more settings k' k' false false ns r [] [] all plain (empty_nodes none) mine)
+      (nothing none ∙ sym (append-nil p.before))
+
+  -- the end brings the revision where the options keep it
+  pub waits_kept : list_any (is_kept_node settings) ns ≡ false → keeps_group settings (record { revision = y; nodes = ns }) ≡ true
+      → AreOutputs settings true k' (closed ++ y ∷ ns) (text ++ revision_text settings k' y)
+  waits_kept none keep =
+      let rt = revision_text settings k' y in
+      joined true ns rt [] (text ++ rt)
+      (rev_output true ns (rev_ends settings k' k' y ns rev all ∙ keep))
+      (nodes_end settings k' k' false true ns [] all (empty_nodes none))
+      (ap (λ t. t ++ rt) (nothing none) ∙ ap (λ t. parts.before ++ t) (sym (append-nil rt)))
+
+  pub waits_dropped : list_any (is_kept_node settings) ns ≡ false → keeps_group settings (record { revision = y; nodes = ns }) ≡ false
+      → AreOutputs settings true k' (closed ++ y ∷ ns) text
+  waits_dropped none drop =
+      joined true ns [] [] text
+      (subst (λ (b : Bool). MatchBool b (IsOutput settings k' y ns []) (◌≡◌ {A = List ℕ} [] [])) (sym (rev_ends settings k' k' y ns rev all ∙ drop)) refl)
+      (nodes_end settings k' k' false true ns [] all (empty_nodes none))
+      (nothing none ∙ sym (append-nil parts.before))
+
+module _ (settings : Settings) (k k' : KeptRevisions) where
+  -- a list that ends with a version or UUID record ends as it stands
+  pub idle_end : (closed : List DumpRecord) (y : DumpRecord) (text : List ℕ) → is_node y ≡ false → is_revision y ≡ false
+      → AreOutputs settings false k (closed ++ y ∷ []) text → AreOutputs settings true k' (closed ++ y ∷ []) text
+  idle_end closed y text other no_rev out =
+      let cut = outputs_cut settings k k' false closed [] y text other out in
+      let group = cut.4 in
+      let same : is_written settings false y [] ≡ is_written settings true y [] = rw (no_rev, other) refl in
+      subst (AreOutputs settings true k' (closed ++ y ∷ [])) (sym cut.2)
+      (outputs_join settings k' k' true closed [] y cut.0 cut.1 other cut.3
+      (group.0, group.1, group.2, subst (λ (b : Bool). MatchBool b (IsOutput settings k' y [] group.0) (group.0 ≡ [])) same group.3, group.4))
+
+  -- a revision behind ended records waits
+  pub revision_more : (before : List DumpRecord) (r : DumpRecord) (text : List ℕ) → is_node r ≡ false → is_revision r ≡ true
+      → AreOutputs settings true k before text → AreOutputs settings false k' (before ++ r ∷ []) text
+  revision_more before r text other rev out =
+      subst (AreOutputs settings false k' (before ++ r ∷ [])) (append-nil text)
+      (outputs_join settings k k' false before [] r text [] other out
+      ([], [], refl, subst (λ (b : Bool). MatchBool b (IsOutput settings k' r [] []) (◌≡◌ {A = List ℕ} [] [])) (sym (rev_waits settings k' k' r [] rev refl refl)) refl, refl))
+
+  -- a version or UUID record is written as it stood
+  pub other_more : (before : List DumpRecord) (r : DumpRecord) (text : List ℕ) → is_node r ≡ false → is_revision r ≡ false
+      → AreOutputs settings true k before text → AreOutputs settings false k' (before ++ r ∷ []) (text ++ block_text r.headers)
+  other_more before r text other no_rev out =
+      let bytes = block_text r.headers in
+      let written : is_written settings false r [] ≡ true = rw (no_rev, other) refl in
+      outputs_join settings k k' false before [] r text bytes other out
+      (bytes, [], sym (append-nil bytes),
+      subst (λ (b : Bool). MatchBool b (IsOutput settings k' r [] bytes) (bytes ≡ [])) (sym written) (rw (no_rev, other) refl), refl)

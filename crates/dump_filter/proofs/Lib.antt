@@ -1,1 +1,4 @@
 pub mod GroupLemmas
+pub mod LineLemmas
+pub mod OutputLemmas
+pub mod KindLemmas

@@ -1,6 +1,9 @@
 pub mod Groups
 pub mod NewHeaders
+pub mod NewLines
 pub mod RecordOutput
+pub mod OwnText
+pub mod Turns
 pub mod Written
 pub mod RecordFaults
 pub mod Counts

@@ -1,6 +1,9 @@
 //! The filter: what it writes of each record, what it refuses, and its counts.
 #![tactic(auto)]
 
+mod new_lines;
+mod output;
 mod report;
+mod turn;
 
 pub use report::Report;

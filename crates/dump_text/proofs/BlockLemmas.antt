@@ -192,3 +192,17 @@ rest_between dump place after text whole rest part is =
 pub value_behind : (name : List ℕ) (h : line.Header) (hs : List line.Header) → is_named name h ≡ false
     → header_value name (h ∷ hs) ≡ header_value name hs
 value_behind name h hs other = rw other refl
+
+-- the bytes of a block between its places
+pub block_bytes : (dump : List ℕ) (place after : ℕ) → IsBlockBetween dump place after
+    → slice_range dump place after ≡ block_text (headers_of (slice_range dump place after))
+block_bytes dump place after stands =
+    let text = block_text (headers_of (slice_range dump place after)) in
+    let b = stands.block in
+    let inside = stands.inside in
+    let sizes = ap length b.spelled ∙ length-append text (drop after dump) in
+    let size = length-append (lines_bytes (headers_of (slice_range dump place after))) (10 ∷ []) in
+    let whole = length-drop place dump in
+    let behind = length-drop after dump in
+    let count : length text ≡ after - place = omega arith in
+    ap (take (after - place)) b.spelled ∙ take_at text (drop after dump) (after - place) count

@@ -1,13 +1,13 @@
 //! A block of header lines, found in a dump.
 ghost use Rattle.std.specs.Prelude.{◌≡◌, ◌↔◌, IfOk, IfErr, IfSome, IsOk, MatchOption, option_copied, drop};
-ghost use Rattle.dump_text.specs.HeaderLine.{header_value};
-ghost use Rattle.dump_text.specs.HeaderBlock.{HasBlock, block_fault};
+ghost use Rattle.dump_text.specs.HeaderLine.{header_value, has_header};
+ghost use Rattle.dump_text.specs.HeaderBlock.{HasBlock, block_fault, block_text};
 ghost use Rattle.dump_text.specs.ReadHeaders.{IsBlockBetween, IsPartBetween};
 ghost use Rattle.dump_text.specs.Scanning.{IsBlockEnd};
 
 use crate::fault::FaultKind;
 use crate::lines::Lines;
-use crate::names::stand_once;
+use crate::names::{has_name, stand_once};
 use crate::scan::{begins_with_lf, finds_empty_line, lines_len};
 
 /// A block of header lines in a dump.
@@ -86,6 +86,13 @@ impl<'a> Block<'a> {
         self.place
     }
 
+    /// The block as it stands: its lines and its empty line.
+    pub fn bytes(&self) -> &'a [u8]
+        ensures { result.now ≡ block_text (block_headers self.now) }
+    {
+        &self.dump[self.place..self.after]
+    }
+
     /// The value of the first line of that name.
     pub fn get(&self, name: &[u8]) -> Option<&'a [u8]>
         ensures value { option_copied result ≡ header_value name.now (block_headers self.now) }
@@ -99,6 +106,13 @@ impl<'a> Block<'a> {
             }
         }
         None
+    }
+
+    /// Whether a line has this name.
+    pub fn has(&self, name: &[u8]) -> bool
+        ensures { result ≡ has_header name.now (block_headers self.now) }
+    {
+        has_name(&self.lines(), name)
     }
 
     /// The block's lines, in their order.

@@ -41,7 +41,7 @@ fn knows(name: &[u8]) -> bool
 }
 
 /// Whether a line has this name.
-fn has_name(lines: &Lines<'_>, name: &[u8]) -> bool
+pub(crate) fn has_name(lines: &Lines<'_>, name: &[u8]) -> bool
     ensures { result ≡ has_header name.now (lines_left lines.now) }
 {
     let mut left = lines.again();

@@ -1,0 +1,64 @@
+-- What a record is, by its deciding names, of which exactly one stands there.
+use Rattle.std.proofs.Common.{◌≡◌, ℕ, ◌+◌, ◌==◌, Bool, true, false, not, ◌&&◌, ◌||◌, List, [], ◌∷◌, refl, sym, ap, ◌∙◌, subst, arith, Option, Some, None, is_some, unwrap_or, if◌then◌else◌, IsTrue}
+use Rattle.dump_text.specs.Names.{version_name, uuid_name, revision_name, path_name}
+use Rattle.dump_text.specs.HeaderLine.{Header, has_header, header_value}
+use Rattle.dump_records.specs.HeaderRules.{kind_of, has_bad_kind, has_bad_version, has_bad_number, has_bad_lengths}
+use Rattle.dump_records.specs.declared.kind.RecordKind.{RecordKind}
+use Rattle.dump_records.specs.declared.kind.RecordKind.TheVariants as kinds
+use Rattle.dump_records.specs.RecordText.{DumpRecord, is_lawful}
+use Rattle.dump_records.proofs.HeaderLemmas.{has_value}
+use Rattle.dump_records.proofs.Unique.{keeps}
+use Rattle.dump_rules.specs.Settings.{Settings, keeps_path}
+use Rattle.dump_digest.specs.RecordParts.{is_revision, is_node, is_kept_node}
+
+pub kept_some : (settings : Settings) (r : DumpRecord) (path : List ℕ) → header_value path_name r.headers ≡ Some path
+    → keeps_path settings path ≡ is_kept_node settings r
+kept_some settings r path is =
+    let node : has_header path_name r.headers ≡ true = sym (has_value path_name r.headers) ∙ ap is_some is in
+    sym (rw (node, is) refl)
+
+pub kept_none : (settings : Settings) (r : DumpRecord) → header_value path_name r.headers ≡ None → false ≡ is_kept_node settings r
+kept_none settings r is =
+    let node : has_header path_name r.headers ≡ false = sym (has_value path_name r.headers) ∙ ap is_some is in
+    sym (rw node refl)
+
+-- a record is of this kind, and of no other
+abbrev pub IsOfKind : DumpRecord → RecordKind → Type 0
+IsOfKind r kinds.Version = (is_node r ≡ false) × (is_revision r ≡ false)
+IsOfKind r kinds.Uuid = (is_node r ≡ false) × (is_revision r ≡ false)
+IsOfKind r kinds.Revision = (is_node r ≡ false) × (is_revision r ≡ true)
+IsOfKind r kinds.Node = (is_node r ≡ true) × (is_revision r ≡ false)
+
+not_true : (b : Bool) → (b ≡ true → ⊥) → b ≡ false
+not_true true bad = absurd (bad refl)
+not_true false bad = refl
+
+pub of_kind : (number : ℕ) (r : DumpRecord) → IsTrue (is_lawful number r.headers) → IsOfKind r (kind_of r.headers)
+of_kind number r lawful =
+    cases (has_header version_name r.headers) (has_header uuid_name r.headers) (has_header revision_name r.headers) (has_header path_name r.headers)
+    refl refl refl refl
+  where
+    bad : has_bad_kind r.headers ≡ false
+    bad = not_true (has_bad_kind r.headers) (keeps number r.headers lawful).kind
+    wrong : has_bad_kind r.headers ≡ true → IsOfKind r (kind_of r.headers)
+    wrong is = let no_way : false ≡ true = sym bad ∙ is in cc
+    is_kind : (which : RecordKind) → kind_of r.headers ≡ which → IsOfKind r which → IsOfKind r (kind_of r.headers)
+    is_kind which e of = subst (IsOfKind r) (sym e) of
+    cases : (v u s n : Bool) → has_header version_name r.headers ≡ v → has_header uuid_name r.headers ≡ u
+        → has_header revision_name r.headers ≡ s → has_header path_name r.headers ≡ n → IsOfKind r (kind_of r.headers)
+    cases true true true true is-v is-u is-s is-n = wrong (rw (is-v, is-u, is-s, is-n) refl)
+    cases true true true false is-v is-u is-s is-n = wrong (rw (is-v, is-u, is-s, is-n) refl)
+    cases true true false true is-v is-u is-s is-n = wrong (rw (is-v, is-u, is-s, is-n) refl)
+    cases true true false false is-v is-u is-s is-n = wrong (rw (is-v, is-u, is-s, is-n) refl)
+    cases true false true true is-v is-u is-s is-n = wrong (rw (is-v, is-u, is-s, is-n) refl)
+    cases true false true false is-v is-u is-s is-n = wrong (rw (is-v, is-u, is-s, is-n) refl)
+    cases true false false true is-v is-u is-s is-n = wrong (rw (is-v, is-u, is-s, is-n) refl)
+    cases true false false false is-v is-u is-s is-n = is_kind kinds.Version (rw is-v refl) (is-n, is-s)
+    cases false true true true is-v is-u is-s is-n = wrong (rw (is-v, is-u, is-s, is-n) refl)
+    cases false true true false is-v is-u is-s is-n = wrong (rw (is-v, is-u, is-s, is-n) refl)
+    cases false true false true is-v is-u is-s is-n = wrong (rw (is-v, is-u, is-s, is-n) refl)
+    cases false true false false is-v is-u is-s is-n = is_kind kinds.Uuid (rw (is-v, is-u) refl) (is-n, is-s)
+    cases false false true true is-v is-u is-s is-n = wrong (rw (is-v, is-u, is-s, is-n) refl)
+    cases false false true false is-v is-u is-s is-n = is_kind kinds.Revision (rw (is-v, is-u, is-s) refl) (is-n, is-s)
+    cases false false false true is-v is-u is-s is-n = is_kind kinds.Node (rw (is-v, is-u, is-s) refl) (is-n, is-s)
+    cases false false false false is-v is-u is-s is-n = wrong (rw (is-v, is-u, is-s, is-n) refl)

@@ -1,0 +1,96 @@
+//! The header lines of a record that is written: the old ones with new numbers, and lengths that were missing.
+ghost use Rattle.std.specs.Prelude.{◌≡◌, ◌+◌, ◌++◌, ◌∷◌, [], OnOk, IfOk};
+ghost use Rattle.dump_text.specs.HeaderLine.{header_text};
+ghost use Rattle.dump_text.specs.HeaderBlock.{lines_bytes, block_text};
+ghost use Rattle.dump_text.specs.Views.{block_headers, line_header};
+ghost use Rattle.dump_filter.specs.NewLines.{number_for, numbered, with_number, added, new_headers};
+
+use dump_text::{Block, Line, spell};
+use dump_writer::Memory;
+use std::alloc::Global;
+
+/// The numbers that the lines of a record get: its revision and its copy revision where they change, and its lengths.
+#[derive(Clone, Copy)]
+pub(crate) struct Changes {
+    pub(crate) revision: Option<u64>,
+    pub(crate) copy: Option<u64>,
+    pub(crate) props: u64,
+    pub(crate) text: u64,
+    pub(crate) content: u64,
+}
+
+/// The number that the line of this name gets.
+fn new_number(changes: &Changes, name: &[u8]) -> Option<u64>
+    ensures { result ≡ number_for changes.now name.now }
+{
+    if name == b"Revision-number".as_slice() {
+        changes.revision
+    } else if name == b"Node-copyfrom-rev".as_slice() {
+        changes.copy
+    } else if name == b"Prop-content-length".as_slice() {
+        Some(changes.props)
+    } else if name == b"Text-content-length".as_slice() {
+        Some(changes.text)
+    } else if name == b"Content-length".as_slice() {
+        Some(changes.content)
+    } else {
+        None
+    }
+}
+
+fn push_bytes(out: &mut Vec<u8>, bytes: &[u8]) -> Result<(), Memory>
+    ensures { OnOk result (out.new.items ≡ out.old.items ++ bytes.now) }
+{
+    match out.extend_from_slice(bytes) {
+        Ok(()) => Ok(()),
+        Err(_) => Err(Memory),
+    }
+}
+
+/// Adds a line of this name and number.
+fn push_number(out: &mut Vec<u8>, name: &[u8], n: u64) -> Result<(), Memory>
+    ensures { OnOk result (out.new.items ≡ out.old.items ++ (header_text (numbered name.now n) ++ 10 ∷ [])) }
+{
+    push_bytes(out, name)?;
+    push_bytes(out, b": ")?;
+    push_bytes(out, spell(n).bytes())?;
+    push_bytes(out, b"\n")
+}
+
+/// Adds a line, with a new number if it gets one.
+fn push_line(out: &mut Vec<u8>, line: &Line<'_>, number: Option<u64>) -> Result<(), Memory>
+    ensures { OnOk result (out.new.items ≡ out.old.items ++ (header_text (with_number (line_header line.now) number) ++ 10 ∷ [])) }
+{
+    match number {
+        Some(n) => push_number(out, line.name, n),
+        None => {
+            push_bytes(out, line.whole)?;
+            push_bytes(out, b"\n")
+        }
+    }
+}
+
+/// Adds a length that isn't 0 where the block has no line for it.
+fn push_missing(out: &mut Vec<u8>, block: &Block<'_>, name: &[u8], n: u64) -> Result<(), Memory>
+    ensures { OnOk result (out.new.items ≡ out.old.items ++ lines_bytes (added name.now n (block_headers block.now))) }
+{
+    if n == 0 || block.has(name) {
+        return Ok(());
+    }
+    push_number(out, name, n)
+}
+
+/// The block of a record as it is written.
+pub(crate) fn write_block(alloc: Global, block: &Block<'_>, changes: &Changes) -> Result<Vec<u8>, Memory>
+    ensures { IfOk result (λ bytes. bytes.items ≡ block_text (new_headers changes.now (block_headers block.now))) }
+{
+    let mut out = Vec::new(alloc);
+    let mut lines = block.lines();
+    while let Some(line) = lines.next() {
+        push_line(&mut out, &line, new_number(changes, line.name))?;
+    }
+    push_missing(&mut out, block, b"Prop-content-length", changes.props)?;
+    push_missing(&mut out, block, b"Content-length", changes.content)?;
+    push_bytes(&mut out, b"\n")?;
+    Ok(out)
+}
