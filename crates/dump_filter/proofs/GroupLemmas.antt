@@ -11,6 +11,7 @@ use Rattle.dump_rules.specs.Renumbering.{KeptRevisions}
 use Rattle.dump_digest.specs.RecordParts.{is_revision, is_node, is_kept_node}
 use Rattle.dump_filter.specs.Groups.{Group, group_of, groups, group_number, has_kept_node, is_bare, keeps_group, keeps_empty, revision_number, revision_numbers, present_revision}
 use Rattle.dump_filter.specs.RecordOutput.{revision_text, IsNodeOutput, IsOutput}
+use Rattle.dump_filter.specs.Shape.{is_plain}
 use Rattle.dump_filter.specs.Written.{is_open, is_written, AreOutputs}
 
 take_cons : (n : ℕ) (x : DumpRecord) (xs : List DumpRecord) → take (1 + n) (x ∷ xs) ≡ x ∷ take n xs
@@ -40,10 +41,6 @@ groups_before (x ∷ xs) zs y other = cases (is_revision x) refl (groups_before 
     cases true is more = rw is (ap (λ (g : Group). g ∷ groups (xs ++ y ∷ zs)) (group_before x xs zs y other)
         ∙ ap (λ (gs : List Group). group_of x xs ∷ gs) more)
     cases false is more = rw is more
-
--- a node that is nothing else
-abbrev pub is_plain : DumpRecord → Bool
-is_plain r = is_node r && not (is_revision r)
 
 pub first_true : (a b : Bool) → (a && b) ≡ true → a ≡ true
 first_true true b h = refl
@@ -126,10 +123,12 @@ module _ (settings : Settings) (k k' : KeptRevisions) where
           and_false : (b : Bool) → (b && false) ≡ false
           and_false true = refl
           and_false false = refl
+
       either : (a b c : Bool) → (a && ((b || true) || c)) ≡ (a && true)
       either true true c = refl
       either true false c = refl
       either false b c = refl
+
       cases : (b : Bool) → is_revision x ≡ b → is_written settings ended x (xs ++ y ∷ zs) ≡ is_written settings true x xs
       cases true is = rw is
           (ap (λ (g : Group). keeps_group settings g && (ended || not (is_open (xs ++ y ∷ zs)) || has_kept_node settings g)) (group_before x xs zs y other)
@@ -146,23 +145,32 @@ module _ (settings : Settings) (k k' : KeptRevisions) where
       → (front rest : List ℕ) × (text ≡ front ++ rest) × AreOutputs settings true k' xs front × AreOutputs settings ended k' (y ∷ zs) rest
   outputs_cut ended [] zs y text other out = ([], text, refl, refl, outputs_kept ended (y ∷ zs) text out)
   outputs_cut ended (x ∷ xs) zs y text other (front, rest, is, this, more) =
-      let left = outputs_cut ended xs zs y rest other more in
-      (front ++ left.0, left.1,
-      is ∙ ap (λ t. front ++ t) left.2 ∙ sym (append_assoc front left.0 left.1),
-      (front, left.0, refl,
-      subst (λ (b : Bool). MatchBool b (IsOutput settings k' x xs front) (front ≡ [])) (written_before ended x xs zs y other) this,
-      left.3),
-      left.4)
+      let left = outputs_cut ended xs zs y rest other more in (
+        front ++ left.0,
+        left.1,
+        is ∙ ap (λ t. front ++ t) left.2 ∙ sym (append_assoc front left.0 left.1),
+        (
+          front,
+          left.0,
+          refl,
+          subst (λ (b : Bool). MatchBool b (IsOutput settings k' x xs front) (front ≡ [])) (written_before ended x xs zs y other) this,
+          left.3,
+        ),
+        left.4,
+      )
 
   pub outputs_join : (ended : Bool) (xs zs : List DumpRecord) (y : DumpRecord) (front rest : List ℕ) → is_node y ≡ false
       → AreOutputs settings true k xs front → AreOutputs settings ended k' (y ∷ zs) rest
       → AreOutputs settings ended k' (xs ++ y ∷ zs) (front ++ rest)
   outputs_join ended [] zs y front rest other none behind =
       subst (λ (t : List ℕ). AreOutputs settings ended k' (y ∷ zs) t) (ap (λ t. t ++ rest) (sym none)) behind
-  outputs_join ended (x ∷ xs) zs y front rest other (first, more, is, this, out) behind =
-      (first, more ++ rest, ap (λ t. t ++ rest) is ∙ append_assoc first more rest,
-      subst (λ (b : Bool). MatchBool b (IsOutput settings k' x xs first) (first ≡ [])) (sym (written_before ended x xs zs y other)) this,
-      outputs_join ended xs zs y more rest other out behind)
+  outputs_join ended (x ∷ xs) zs y front rest other (first, more, is, this, out) behind = (
+    first,
+    more ++ rest,
+    ap (λ t. t ++ rest) is ∙ append_assoc first more rest,
+    subst (λ (b : Bool). MatchBool b (IsOutput settings k' x xs first) (first ≡ [])) (sym (written_before ended x xs zs y other)) this,
+    outputs_join ended xs zs y more rest other out behind,
+  )
 
   -- what is written of a node
   abbrev pub OwnOutput : DumpRecord → List ℕ → Type 0
@@ -183,21 +191,27 @@ module _ (settings : Settings) (k k' : KeptRevisions) where
   nodes_more ended last [] r text own all plain none mine =
       (own, [], ap (λ t. t ++ own) none ∙ sym (append-nil own), node_output r [] own plain mine last, refl)
   nodes_more ended last (n ∷ ns) r text own all plain (front, rest, is, this, more) mine =
-      let one = first_true (is_plain n) (list_all is_plain ns) all in
-      (front, rest ++ own, ap (λ t. t ++ own) is ∙ append_assoc front rest own,
-      subst (λ (b : Bool). MatchBool b (IsOutput settings k' n (ns ++ r ∷ []) front) (front ≡ []))
-          (node_written ended n ns one ∙ sym (node_written last n (ns ++ r ∷ []) one)) this,
-      nodes_more ended last ns r rest own (second_true (is_plain n) (list_all is_plain ns) all) plain more mine)
+      let one = first_true (is_plain n) (list_all is_plain ns) all in (
+        front,
+        rest ++ own,
+        ap (λ t. t ++ own) is ∙ append_assoc front rest own,
+        subst (λ (b : Bool). MatchBool b (IsOutput settings k' n (ns ++ r ∷ []) front) (front ≡ []))
+            (node_written ended n ns one ∙ sym (node_written last n (ns ++ r ∷ []) one)) this,
+        nodes_more ended last ns r rest own (second_true (is_plain n) (list_all is_plain ns) all) plain more mine,
+      )
 
   -- nodes behind which the dump ends
   pub nodes_end : (ended last : Bool) (ns : List DumpRecord) (text : List ℕ) → list_all is_plain ns ≡ true
       → AreOutputs settings ended k ns text → AreOutputs settings last k' ns text
   nodes_end ended last [] text all none = none
   nodes_end ended last (n ∷ ns) text all (front, rest, is, this, more) =
-      let one = first_true (is_plain n) (list_all is_plain ns) all in
-      (front, rest, is,
-      subst (λ (b : Bool). MatchBool b (IsOutput settings k' n ns front) (front ≡ [])) (node_written ended n ns one ∙ sym (node_written last n ns one)) this,
-      nodes_end ended last ns rest (second_true (is_plain n) (list_all is_plain ns) all) more)
+      let one = first_true (is_plain n) (list_all is_plain ns) all in (
+        front,
+        rest,
+        is,
+        subst (λ (b : Bool). MatchBool b (IsOutput settings k' n ns front) (front ≡ [])) (node_written ended n ns one ∙ sym (node_written last n ns one)) this,
+        nodes_end ended last ns rest (second_true (is_plain n) (list_all is_plain ns) all) more,
+      )
 
   -- nothing is written of nodes of which none is kept
   pub nodes_dropped : (ended : Bool) (ns : List DumpRecord) (text : List ℕ) → list_all is_plain ns ≡ true → list_any (is_kept_node settings) ns ≡ false
@@ -299,7 +313,7 @@ module _ (settings : Settings) (k k' : KeptRevisions) (closed ns : List DumpReco
       let more : list_any (is_kept_node settings) (ns ++ r ∷ []) ≡ true = any_more settings ns r ∙ ap (λ b. b || is_kept_node settings r) some in
       joined false (ns ++ r ∷ []) p.own (p.nodes ++ own) (text ++ own)
       (subst (λ (b : Bool). MatchBool b (IsOutput settings k' y (ns ++ r ∷ []) p.own) (p.own ≡ []))
-          (rev_kept settings k' k' false y ns rev all some ∙ sym (rev_kept settings k' k' false y (ns ++ r ∷ []) rev (plain_more ns r all plain) more)) p.own_out)
+      (rev_kept settings k' k' false y ns rev all some ∙ sym (rev_kept settings k' k' false y (ns ++ r ∷ []) rev (plain_more ns r all plain) more)) p.own_out)
       (nodes_more settings k' k' false false ns r p.nodes own all plain p.nodes_out mine)
       (ap (λ t. t ++ own) p.is ∙ append_assoc p.before (p.own ++ p.nodes) own ∙ ap (λ t. p.before ++ t) (append_assoc p.own p.nodes own))
 
@@ -309,7 +323,7 @@ module _ (settings : Settings) (k k' : KeptRevisions) (closed ns : List DumpReco
       let p = parts in
       joined true ns p.own p.nodes text
       (subst (λ (b : Bool). MatchBool b (IsOutput settings k' y ns p.own) (p.own ≡ []))
-          (rev_kept settings k' k' false y ns rev all some ∙ sym (rev_kept settings k' k' true y ns rev all some)) p.own_out)
+      (rev_kept settings k' k' false y ns rev all some ∙ sym (rev_kept settings k' k' true y ns rev all some)) p.own_out)
       (nodes_end settings k' k' false true ns p.nodes all p.nodes_out)
       p.is
 
@@ -352,7 +366,7 @@ module _ (settings : Settings) (k k' : KeptRevisions) (closed ns : List DumpReco
       let mine : OwnOutput settings k' k' r [] = subst (λ (b : Bool). MatchBool b (IsNodeOutput settings k' r []) (◌≡◌ {A = List ℕ} [] [])) (sym dropped) refl in
       joined false (ns ++ r ∷ []) [] [] text
       (subst (λ (b : Bool). MatchBool b (IsOutput settings k' y (ns ++ r ∷ []) []) (◌≡◌ {A = List ℕ} [] []))
-          (sym (rev_waits settings k' k' y (ns ++ r ∷ []) rev (plain_more ns r all plain) more)) refl)
+      (sym (rev_waits settings k' k' y (ns ++ r ∷ []) rev (plain_more ns r all plain) more)) refl)
       (nodes_more settings k' k' false false ns r [] [] all plain (empty_nodes none) mine)
       (nothing none ∙ sym (append-nil p.before))
 
@@ -400,6 +414,10 @@ module _ (settings : Settings) (k k' : KeptRevisions) where
   other_more before r text other no_rev out =
       let bytes = block_text r.headers in
       let written : is_written settings false r [] ≡ true = rw (no_rev, other) refl in
-      outputs_join settings k k' false before [] r text bytes other out
-      (bytes, [], sym (append-nil bytes),
-      subst (λ (b : Bool). MatchBool b (IsOutput settings k' r [] bytes) (bytes ≡ [])) (sym written) (rw (no_rev, other) refl), refl)
+      outputs_join settings k k' false before [] r text bytes other out (
+        bytes,
+        [],
+        sym (append-nil bytes),
+        subst (λ (b : Bool). MatchBool b (IsOutput settings k' r [] bytes) (bytes ≡ [])) (sym written) (rw (no_rev, other) refl),
+        refl,
+      )

@@ -2,3 +2,5 @@ pub mod GroupLemmas
 pub mod LineLemmas
 pub mod OutputLemmas
 pub mod KindLemmas
+pub mod TurnLemmas
+pub mod FilterLemmas

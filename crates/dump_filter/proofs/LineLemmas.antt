@@ -60,6 +60,7 @@ five c h = by_revision (is_named revision_name h) refl
         → is_named text_length_name h ≡ false → (b : Bool) → is_named content_length_name h ≡ b → put content_length_name c.content h ≡ renewed c h
     by_content r k p t true is = hit h content_length_name (Some c.content) ((bytes_eq-Decides h.name content_length_name).0 is) ∙ rw (r, k, p, t, is) refl
     by_content r k p t false is = miss-false h content_length_name (Some c.content) is ∙ rw (r, k, p, t, is) refl
+
     by_text : is_named revision_name h ≡ false → is_named copy_revision_name h ≡ false → is_named property_length_name h ≡ false
         → (b : Bool) → is_named text_length_name h ≡ b → put content_length_name c.content (put text_length_name c.text h) ≡ renewed c h
     by_text r k p true is =
@@ -69,6 +70,7 @@ five c h = by_revision (is_named revision_name h) refl
         ∙ rw (r, k, p, is) refl
     by_text r k p false is = ap (put content_length_name c.content) (miss-false h text_length_name (Some c.text) is)
         ∙ by_content r k p is (is_named content_length_name h) refl
+
     by_props : is_named revision_name h ≡ false → is_named copy_revision_name h ≡ false → (b : Bool) → is_named property_length_name h ≡ b
         → put content_length_name c.content (put text_length_name c.text (put property_length_name c.props h)) ≡ renewed c h
     by_props r k true is =
@@ -80,6 +82,7 @@ five c h = by_revision (is_named revision_name h) refl
         ∙ rw (r, k, is) refl
     by_props r k false is = ap (λ (x : Header). put content_length_name c.content (put text_length_name c.text x)) (miss-false h property_length_name (Some c.props) is)
         ∙ by_text r k is (is_named text_length_name h) refl
+
     by_copy : is_named revision_name h ≡ false → (b : Bool) → is_named copy_revision_name h ≡ b
         → put content_length_name c.content (put text_length_name c.text (put property_length_name c.props (put_some copy_revision_name c.copy h))) ≡ renewed c h
     by_copy r true is =
@@ -94,6 +97,7 @@ five c h = by_revision (is_named revision_name h) refl
     by_copy r false is =
         ap (λ (x : Header). put content_length_name c.content (put text_length_name c.text (put property_length_name c.props x))) (miss-false h copy_revision_name c.copy is)
         ∙ by_props r is (is_named property_length_name h) refl
+
     by_revision : (b : Bool) → is_named revision_name h ≡ b → put_five c h ≡ renewed c h
     by_revision true is =
         let e = (bytes_eq-Decides h.name revision_name).0 is in
@@ -188,15 +192,15 @@ module _ (c : Changes) (headers : List Header) where
   unfolding base
   put_base =
       ap (λ (t : List Header). map (put content_length_name c.content) (map (put text_length_name c.text) (map (put property_length_name c.props) t)))
-          (put_all-map copy_revision_name c.copy (put_all revision_name c.revision headers)
-          ∙ ap (map (put_some copy_revision_name c.copy)) (put_all-map revision_name c.revision headers)
-          ∙ mapped (put_some copy_revision_name c.copy) (put_some revision_name c.revision) headers)
+      (put_all-map copy_revision_name c.copy (put_all revision_name c.revision headers)
+      ∙ ap (map (put_some copy_revision_name c.copy)) (put_all-map revision_name c.revision headers)
+      ∙ mapped (put_some copy_revision_name c.copy) (put_some revision_name c.revision) headers)
       ∙ ap (λ (t : List Header). map (put content_length_name c.content) (map (put text_length_name c.text) t))
-          (mapped (put property_length_name c.props) (λ h. put_some copy_revision_name c.copy (put_some revision_name c.revision h)) headers)
+      (mapped (put property_length_name c.props) (λ h. put_some copy_revision_name c.copy (put_some revision_name c.revision h)) headers)
       ∙ ap (map (put content_length_name c.content))
-          (mapped (put text_length_name c.text) (λ h. put property_length_name c.props (put_some copy_revision_name c.copy (put_some revision_name c.revision h))) headers)
+      (mapped (put text_length_name c.text) (λ h. put property_length_name c.props (put_some copy_revision_name c.copy (put_some revision_name c.revision h))) headers)
       ∙ mapped (put content_length_name c.content)
-          (λ h. put text_length_name c.text (put property_length_name c.props (put_some copy_revision_name c.copy (put_some revision_name c.revision h)))) headers
+      (λ h. put text_length_name c.text (put property_length_name c.props (put_some copy_revision_name c.copy (put_some revision_name c.revision h)))) headers
       ∙ map_same (put_five c) (renewed c) (five c) headers
 
   missing : List Header
@@ -207,10 +211,10 @@ module _ (c : Changes) (headers : List Header) where
   unfolding missing
   with_text =
       ap (map (put text_length_name c.text)) (length_is property_length_name c.props base
-          ∙ ap (λ (t : List Header). map (put property_length_name c.props) base ++ t) (added_same property_length_name c.props base headers (base_has property_length_name)))
+      ∙ ap (λ (t : List Header). map (put property_length_name c.props) base ++ t) (added_same property_length_name c.props base headers (base_has property_length_name)))
       ∙ map-append (put text_length_name c.text) (map (put property_length_name c.props) base) (added property_length_name c.props headers)
       ∙ ap (λ (t : List Header). map (put text_length_name c.text) (map (put property_length_name c.props) base) ++ t)
-          (passed text_length_name property_length_name c.text c.props headers refl)
+      (passed text_length_name property_length_name c.text c.props headers refl)
 
   content_has : has_header content_length_name (map (put text_length_name c.text) (map (put property_length_name c.props) base) ++ missing)
       ≡ has_header content_length_name headers
@@ -218,7 +222,7 @@ module _ (c : Changes) (headers : List Header) where
   content_has =
       list_any-append (is_named content_length_name) (map (put text_length_name c.text) (map (put property_length_name c.props) base)) (added property_length_name c.props headers)
       ∙ ap (λ b. has_header content_length_name (map (put text_length_name c.text) (map (put property_length_name c.props) base)) || b)
-          (has_added content_length_name property_length_name c.props headers refl)
+      (has_added content_length_name property_length_name c.props headers refl)
       ∙ or_false (has_header content_length_name (map (put text_length_name c.text) (map (put property_length_name c.props) base)))
       ∙ has_same content_length_name text_length_name c.text (map (put property_length_name c.props) base)
       ∙ has_same content_length_name property_length_name c.props base
@@ -236,11 +240,11 @@ module _ (c : Changes) (headers : List Header) where
       ap (with_length content_length_name c.content) with_text
       ∙ length_is content_length_name c.content (lines ++ missing)
       ∙ ap (λ (t : List Header). t ++ added content_length_name c.content (lines ++ missing))
-          (map-append (put content_length_name c.content) lines missing
-          ∙ ap (λ (t : List Header). map (put content_length_name c.content) lines ++ t) (passed content_length_name property_length_name c.content c.props headers refl)
-          ∙ ap (λ (t : List Header). t ++ added property_length_name c.props headers) put_base)
+      (map-append (put content_length_name c.content) lines missing
+      ∙ ap (λ (t : List Header). map (put content_length_name c.content) lines ++ t) (passed content_length_name property_length_name c.content c.props headers refl)
+      ∙ ap (λ (t : List Header). t ++ added property_length_name c.props headers) put_base)
       ∙ ap (λ (t : List Header). (map (renewed c) headers ++ added property_length_name c.props headers) ++ t)
-          (added_same content_length_name c.content (lines ++ missing) headers content_has)
+      (added_same content_length_name c.content (lines ++ missing) headers content_has)
 
   pub lines_are : (props text : List ℕ) → c.props ≡ length props → c.text ≡ length text → c.content ≡ length props + length text
       → new_headers c headers ≡ with_lengths props text (put_all copy_revision_name c.copy (put_all revision_name c.revision headers))

@@ -9,3 +9,4 @@ pub mod RecordFaults
 pub mod Counts
 pub mod FilterState
 pub mod WholeText
+pub mod Shape

@@ -1,9 +1,11 @@
 //! The filter: what it writes of each record, what it refuses, and its counts.
 #![tactic(auto)]
 
+mod filter;
 mod new_lines;
 mod output;
 mod report;
 mod turn;
 
+pub use filter::{Filter, StepFault};
 pub use report::Report;

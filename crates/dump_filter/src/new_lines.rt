@@ -81,7 +81,11 @@ fn push_missing(out: &mut Vec<u8>, block: &Block<'_>, name: &[u8], n: u64) -> Re
 }
 
 /// The block of a record as it is written.
-pub(crate) fn write_block(alloc: Global, block: &Block<'_>, changes: &Changes) -> Result<Vec<u8>, Memory>
+pub(crate) fn write_block(
+    alloc: Global,
+    block: &Block<'_>,
+    changes: &Changes,
+) -> Result<Vec<u8>, Memory>
     ensures { IfOk result (λ bytes. bytes.items ≡ block_text (new_headers changes.now (block_headers block.now))) }
 {
     let mut out = Vec::new(alloc);

@@ -1,5 +1,5 @@
 //! What one record does: what it writes, what waits behind it, and what it counts.
-ghost use Rattle.std.specs.Prelude.{◌≡◌, ◌<◌, ◌+◌, ◌^◌, ◌++◌, IfOk, option_map};
+ghost use Rattle.std.specs.Prelude.{◌≡◌, ◌<◌, ◌+◌, ◌^◌, ◌++◌, IfOk, IfSome, option_map};
 ghost use Rattle.dump_records.specs.RecordViews.{record_item};
 ghost use Rattle.dump_digest.specs.RecordParts.{is_revision, is_node, is_kept_node};
 ghost use Rattle.dump_filter.specs.Groups.{keeps_empty, revision_number};
@@ -7,9 +7,9 @@ ghost use Rattle.dump_filter.specs.RecordFaults.{ends_in_group};
 ghost use Rattle.dump_filter.specs.OwnText.{node_own};
 ghost use Rattle.dump_filter.specs.Turns.{waited, role_of, stays, end_text, front_text, turn_text, next_waiting, next_present, end_report, front_report, next_report, rises, is_in_order};
 
-use dump_records::{Record, RecordKind};
 use crate::output::{push_lines, push_node, push_revision};
 use crate::report::Report;
+use dump_records::{Record, RecordKind};
 use dump_rules::{Empty, Options, keeps};
 use dump_writer::{Memory, Piece};
 use std::alloc::Global;
@@ -108,8 +108,7 @@ pub(crate) fn in_order(
 fn is_kept_at_end(options: &Options, waiting: &Waiting<'_>) -> bool
     ensures { result ≡ stays options.now (waited waiting.now) }
 {
-    number_of_revision(&waiting.revision) == 0
-        || keeps_when_empty(options.empty(), waiting.bare)
+    number_of_revision(&waiting.revision) == 0 || keeps_when_empty(options.empty(), waiting.bare)
 }
 
 /// What is written where a group ends.
@@ -197,8 +196,7 @@ pub(crate) fn report_at_end(
     waiting: &Option<Waiting<'_>>,
     report: Report,
 ) -> Report
-    requires kept { report.revisions_kept + 1 < 2 ^ 64 }
-    requires dropped { report.revisions_dropped + 1 < 2 ^ 64 }
+    requires { IfSome waiting.now (λ w. report.revisions_kept + report.revisions_dropped + 1 < 2 ^ 64) }
     ensures { result ≡ end_report options.now (option_map waited waiting.now) report }
 {
     let mut counted = report;
@@ -229,8 +227,7 @@ pub(crate) fn report_behind(
     report: Report,
     role: Role,
 ) -> Report
-    requires kept { report.revisions_kept + 1 < 2 ^ 64 }
-    requires dropped { report.revisions_dropped + 1 < 2 ^ 64 }
+    requires revisions { report.revisions_kept + report.revisions_dropped + 1 < 2 ^ 64 }
     requires nodes_kept { report.nodes_kept + 1 < 2 ^ 64 }
     requires nodes_dropped { report.nodes_dropped + 1 < 2 ^ 64 }
     ensures { result ≡ next_report options.now (option_map waited waiting.now) report role }

@@ -1,0 +1,150 @@
+//! The filter: it takes the records of a dump one after another, and gives what is written of each.
+use crate::report::Report;
+use crate::turn::{
+    Waiting, end_piece, find_role, in_order, present_behind, report_at_end, report_behind,
+    turn_piece, waiting_behind,
+};
+use dump_digest::Done;
+use dump_records::Record;
+use dump_rules::Options;
+use dump_text::FaultKind;
+use dump_writer::Piece;
+use std::alloc::Global;
+use std::marker::Model;
+
+/// Why a step gives no piece.
+#[derive(Clone, Copy, Debug, PartialEq, Eq)]
+pub enum StepFault {
+    /// The record has this fault.
+    Rule(FaultKind),
+    /// Memory ran out.
+    Memory,
+    /// An earlier step gave no piece.
+    Closed,
+}
+
+/// Filters the records of a dump, one after another. It holds a revision back until a node of it is kept or its group
+/// ends.
+#[derive(Drop)]
+pub struct Filter<'o, 'a> {
+    options: &'o Options,
+    last: Option<Record<'a>>,
+    present: Option<u64>,
+    waiting: Option<Waiting<'a>>,
+    report: Report,
+    active: bool,
+}
+
+impl<'o, 'a> Model for Filter<'o, 'a> {
+    ghost use Rattle.std.specs.Prelude.{◌≡◌, true, option_map};
+    ghost use Rattle.dump_records.specs.RecordViews.{record_dump, record_number};
+    ghost use Rattle.dump_filter.specs.FilterState.{FilterState};
+    ghost use Rattle.dump_filter.specs.Turns.{waited};
+    ghost use Rattle.dump_filter.specs.Shape.{Knows};
+
+    ghost Value = { FilterState };
+
+    ghost view = { λ f. record {
+      settings = f.options.now;
+      last = option_map (λ r. record { dump = record_dump r; number = record_number r }) f.last;
+      active = f.active;
+    } };
+
+    ghost invariant = { λ f. f.active ≡ true → Knows f.options.now f.last f.present (option_map waited f.waiting) f.report };
+}
+
+impl<'o, 'a> Filter<'o, 'a> {
+    ghost use Rattle.std.specs.Prelude.{◌≡◌, ◌↔◌, ◌⊎◌, ◌<◌, ◌+◌, ◌^◌, List, Some, IfOk, IfErr, OnOk, OnErr, IsTrue, IsFalse, false};
+    ghost use Rattle.dump_text.specs.declared.fault.FaultKind.{FaultKind as Kind};
+    ghost use Rattle.dump_records.specs.RecordText.{DumpRecord};
+    ghost use Rattle.dump_records.specs.RecordViews.{record_dump, record_number, record_item};
+    ghost use Rattle.dump_digest.specs.DoneViews.{done_record, done_settings};
+    ghost use Rattle.dump_filter.specs.FilterState.{first_state, count_up_to, IsOfSameDump, AreAccepted, Accepts, Refuses, Finishes};
+    ghost use Rattle.dump_filter.specs.Counts.{report_of};
+
+    /// A filter that has accepted no record. It takes no memory.
+    pub fn new(_alloc: Global, options: &'o Options) -> Filter<'o, 'a>
+        ensures { result ≡ first_state options.now }
+    {
+        Filter {
+            options,
+            last: None,
+            present: None,
+            waiting: None,
+            report: Report {
+                revisions_kept: 0,
+                revisions_dropped: 0,
+                nodes_kept: 0,
+                nodes_dropped: 0,
+                texts_checked: 0,
+            },
+            active: true,
+        }
+    }
+
+    /// The number of the record that comes next.
+    pub fn expected(&self) -> u64
+        ensures { result ≡ count_up_to self.now.last }
+    {
+        match &self.last {
+            Some(last) => last.number() + 1,
+            None => 0,
+        }
+    }
+
+    /// What is written where this record comes next. A fault comes before want of memory; after either, each call
+    /// answers `Closed`.
+    pub fn step(&mut self, alloc: Global, done: Done<'a>) -> Result<Piece<'a>, StepFault>
+        requires options { done_settings done ≡ self.old.settings }
+        requires dump { IsOfSameDump self.old (record_dump (done_record done)) }
+        requires number { record_number (done_record done) ≡ count_up_to self.old.last }
+        ensures piece { IfOk result (λ piece. Accepts self.old (record_item (done_record done.entry)) piece) }
+        ensures accepted { OnOk result (self.new ≡ record self.old {
+          last = Some (record {
+            dump = record_dump (done_record done.entry);
+            number = record_number (done_record done.entry);
+          });
+        }) }
+        ensures closed { (result ≡ Err StepFault.Closed) ↔ IsFalse self.old.active }
+        ensures rule { (kind : Kind) → (result ≡ Err (StepFault.Rule kind))
+            ↔ (IsTrue self.old.active × Refuses self.old (record_item (done_record done.entry)) kind) }
+        ensures err { OnErr result (self.new ≡ record self.old { active = false }) }
+    {
+        if !self.active {
+            return Err(StepFault::Closed);
+        }
+        let record = done.item();
+        let role = find_role(self.options, &record);
+        if !in_order(&self.last, self.present, &record, role) {
+            self.active = false;
+            return Err(StepFault::Rule(FaultKind::Order));
+        }
+        let Ok(piece) = turn_piece(alloc, self.options, &self.waiting, &record, role) else {
+            self.active = false;
+            return Err(StepFault::Memory);
+        };
+        self.report = report_behind(self.options, &self.waiting, self.report, role);
+        self.present = present_behind(self.present, &record, role);
+        self.waiting = waiting_behind(self.waiting, record, role);
+        self.last = Some(record);
+        Ok(piece)
+    }
+
+    /// What is written where the dump ends, and the counts.
+    pub fn finish(self, alloc: Global) -> Result<(Piece<'a>, Report), StepFault>
+        ensures piece { IfOk result (λ end. Finishes self.entry end.0) }
+        ensures report { IfOk result (λ end. (records : List DumpRecord) → AreAccepted self.entry records
+            → end.1 ≡ report_of self.entry.settings records) }
+        ensures closed { (result ≡ Err StepFault.Closed) ↔ IsFalse self.entry.active }
+        ensures no_rule { IfErr result (λ e. (e ≡ StepFault.Closed) ⊎ (e ≡ StepFault.Memory)) }
+    {
+        if !self.active {
+            return Err(StepFault::Closed);
+        }
+        let Ok(piece) = end_piece(alloc, self.options, &self.waiting) else {
+            return Err(StepFault::Memory);
+        };
+        let report = report_at_end(self.options, &self.waiting, self.report);
+        Ok((piece, report))
+    }
+}
