@@ -4,3 +4,4 @@ pub mod OutputLemmas
 pub mod KindLemmas
 pub mod TurnLemmas
 pub mod FilterLemmas
+pub mod Answered

@@ -1,0 +1,2 @@
+pub mod FilterAnswer
+pub mod RunAnswer

@@ -1,0 +1,8 @@
+//! A whole run of the filter: from a dump to a sink and an answer.
+#![tactic(auto)]
+
+mod answer;
+mod plain;
+
+pub use answer::{Answer, Failure};
+pub use plain::run_plain;
