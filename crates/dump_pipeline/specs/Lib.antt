@@ -1,2 +1,3 @@
 pub mod FilterAnswer
 pub mod RunAnswer
+pub mod Sending

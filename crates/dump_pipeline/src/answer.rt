@@ -36,5 +36,8 @@ pub enum Answer {
         place: usize,
     },
     /// The run was broken off; so many bytes were written. The count stays at `u64::MAX`.
-    Failed { failure: Failure, written: u64 },
+    Failed {
+        failure: Failure,
+        written: u64,
+    },
 }

@@ -2,6 +2,7 @@
 #![tactic(auto)]
 
 mod answer;
+mod count;
 mod plain;
 
 pub use answer::{Answer, Failure};
