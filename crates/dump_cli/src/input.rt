@@ -1,5 +1,5 @@
 //! The whole input, in one buffer.
-ghost use Rattle.std.specs.Prelude.{◌≡◌, ◌<◌, length, IfOk, OnOk, IfSome};
+ghost use Rattle.std.specs.Prelude.{◌≡◌, ◌<◌, length, vec_len, IfOk, OnOk, IfSome};
 ghost use Rattle.std.specs.Io.KnownBytes.{IsAtEnd};
 
 use std::alloc::Global;
@@ -25,10 +25,18 @@ pub fn read_all<R: Read>(alloc: Global, reader: &mut R) -> Result<Vec<u8>, Unrea
     ensures whole { IfOk result (λ input. IfSome (R.remaining reader.old) (λ left. input.items ≡ left)) }
     ensures end { OnOk result (IsAtEnd (R.remaining reader.new)) }
 {
-    let Ok(mut chunk) = vec![in alloc; 0; CHUNK] else {
-        return Err(Unread::Memory);
-    };
+    let mut chunk = chunk(alloc)?;
     read_by(alloc, reader, chunk.as_mut_slice())
+}
+
+// Room for what one call reads.
+fn chunk(alloc: Global) -> Result<Vec<u8>, Unread>
+    ensures { IfOk result (λ chunk. 0 < vec_len chunk) }
+{
+    match vec![in alloc; 0; CHUNK] {
+        Ok(chunk) => Ok(chunk),
+        Err(_) => Err(Unread::Memory),
+    }
 }
 
 // All that the reader has left, read by as much at a time as the chunk holds.

@@ -35,7 +35,7 @@ pub fn write_usage<E: Write>(errors: &mut E) {
 }
 
 /// The fault of the record with this number, whose block begins at this place.
-pub fn write_fault<E: Write>(errors: &mut E, kind: FaultKind, number: u64, place: u64) {
+pub fn write_fault<E: Write>(errors: &mut E, kind: FaultKind, number: u64, place: usize) {
     let code = kind.code();
     let name = kind.name();
     let _ = writeln!(
