@@ -13,17 +13,6 @@ pub enum Failure {
     Threads,
 }
 
-impl Failure {
-    /// The failure's number, as users see it.
-    pub fn code(self) -> u8 {
-        match self {
-            Failure::Sink => 20,
-            Failure::Memory => 21,
-            Failure::Threads => 22,
-        }
-    }
-}
-
 /// What a run answers.
 #[derive(Clone, Copy, Debug, PartialEq, Eq)]
 pub enum Answer {
