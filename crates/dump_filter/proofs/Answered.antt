@@ -78,8 +78,8 @@ module _ (settings : Settings) (before : List DumpRecord) (reached : Reached set
       let k' = kept_revisions settings (before ++ r ∷ []) in
       let role = role_of settings r in
       let turn = turned settings (kept_revisions settings before) k' r reached.report reached.text before reached.waiting role reached.shape
-          (role_is settings r (alone number r lawful)) follows
-          (λ keep. node_is number settings k' r lawful (first_true (is_node r) (keeps_path settings (node_path r)) keep)) reached.written in
+      (role_is settings r (alone number r lawful)) follows
+      (λ keep. node_is number settings k' r lawful (first_true (is_node r) (keeps_path settings (node_path r)) keep)) reached.written in
       record {
         more = turn_text settings reached.waiting r role;
         next = record {
@@ -149,9 +149,9 @@ follow settings before [] all free reached =
     (subst (λ (t : List ℕ). IsWritten settings false (before ++ []) t) (sym text_same) (subst (λ (l : List DumpRecord). IsWritten settings false l reached.text) (sym same) reached.written))
     (end_text settings reached.waiting)
     (subst (λ (t : List ℕ). IsWritten settings true (before ++ []) (t ++ end_text settings reached.waiting)) (sym text_same)
-        (subst (λ (l : List DumpRecord). IsWritten settings true l (reached.text ++ end_text settings reached.waiting)) (sym same)
-            (ended_text settings (kept_revisions settings before) (kept_revisions settings before) before reached.waiting reached.report.revisions_kept reached.report.revisions_dropped
-                reached.text reached.shape reached.written)))
+    (subst (λ (l : List DumpRecord). IsWritten settings true l (reached.text ++ end_text settings reached.waiting)) (sym same)
+    (ended_text settings (kept_revisions settings before) (kept_revisions settings before) before reached.waiting reached.report.revisions_kept reached.report.revisions_dropped
+    reached.text reached.shape reached.written)))
 follow settings before (r ∷ rest) all free reached = by_order (ordered_or_not settings before reached r all.0.0 all.0.1)
     (λ good. follow settings (before ++ r ∷ []) rest all.1 (free_more settings before r free (no_fault settings before r good)) (next_of settings before reached r all.0.0 all.0.1 good).next)
   where
@@ -173,6 +173,7 @@ copy_once settings k r g h = cases (is_copy r)
   where
     same : (a b : ℕ) → Some a ≡ Some b → a ≡ b
     same a b e = cc
+
     cases : (b : Bool) → MatchBool b ((old new : ℕ) × (header_number copy_revision_name r.headers ≡ Some old) × (new ≡ old)
         × (g ≡ with_header_value copy_revision_name (spelled_number new) r.headers)) (g ≡ r.headers)
         → MatchBool b ((old new : ℕ) × (header_number copy_revision_name r.headers ≡ Some old) × (new ≡ old)

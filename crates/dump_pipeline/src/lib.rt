@@ -7,3 +7,6 @@ mod plain;
 
 pub use answer::{Answer, Failure};
 pub use plain::run_plain;
+
+#[cfg(test)]
+mod tests;

@@ -17,8 +17,8 @@ two_parts dump a b c low high =
     sym (take-append-drop (b - a) (slice_range dump a c))
     ∙ ap (λ t. t ++ drop (b - a) (slice_range dump a c)) (take-take (b - a) (c - a) (drop a dump) (omega arith))
     ∙ ap (λ t. slice_range dump a b ++ t)
-        (ap (λ n. drop (b - a) (take n (drop a dump))) sum ∙ drop-take (b - a) (c - b) (drop a dump)
-        ∙ ap (take (c - b)) (drop-drop (b - a) a dump ∙ ap (λ n. drop n dump) at))
+    (ap (λ n. drop (b - a) (take n (drop a dump))) sum ∙ drop-take (b - a) (c - b) (drop a dump)
+    ∙ ap (take (c - b)) (drop-drop (b - a) a dump ∙ ap (λ n. drop n dump) at))
 
 pub content_is : (r : Record) → slice_range (block_dump r.block) (block_after r.block) r.after ≡ (record_item r).props ++ (record_item r).text
 content_is r = two_parts (block_dump r.block) (block_after r.block) r.text_from r.after r.inside.props r.inside.text
