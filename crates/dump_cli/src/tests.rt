@@ -1,5 +1,7 @@
 //! What no clause says: worked words, readers that fail or drip, and the lines as users see them.
 
+mod drive;
+
 use crate::input::{Unread, read_all};
 use crate::lines::{Failure, write_failure, write_fault, write_usage};
 use crate::words::{Usage, options_of};
