@@ -1,4 +1,23 @@
 //! Numbers and blocks of header lines in a Subversion dump file, read where they lie.
+//!
+//! A [`Block`] is one or more lines `name: value` and the empty line behind them. [`Block::cut`]
+//! finds the block at a place of the dump, or says what is wrong there. A block lends its lines and
+//! its values as parts of the dump: nothing is copied, and no memory is taken. [`number`] reads a
+//! number as headers have it, and [`spell`] writes one. [`FaultKind`] names all that may be wrong
+//! with a record of a dump, with the number and the name that users see.
+//!
+//! ```
+//! let dump = b"Revision-number: 7\nNote: a\n\n";
+//! let block = Block::cut(dump, 0)?;
+//! block.get(b"Revision-number");   // Some(b"7"), of which `number` is Some(7)
+//! block.get(b"revision-number");   // None: names are compared byte for byte
+//! block.after();                   // 28, the byte behind the empty line
+//! Block::cut(dump, 28).err();      // Some(FaultKind::HeaderCut)
+//! ```
+//!
+//! A name that has a meaning in a dump stands once in a block; any other may stand more often, and
+//! then `get` gives the first. What the values mean is not asked here, and no bytes behind the empty
+//! line are read. A number has 1 to 18 digits, so that the sum of two fits a `u64`.
 #![tactic(auto)]
 
 mod block;
@@ -12,3 +31,6 @@ pub use block::Block;
 pub use fault::FaultKind;
 pub use lines::{Line, Lines};
 pub use numbers::{Digits, number, spell};
+
+#[cfg(test)]
+mod tests;

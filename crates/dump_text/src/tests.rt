@@ -1,0 +1,117 @@
+//! What no clause says: worked examples, and each call once.
+use crate::{Block, FaultKind, number, spell};
+use std::test::Fail;
+
+const VERSION: &[u8] = b"SVN-fs-dump-format-version: 2\n\n";
+
+const UUID: &[u8] = b"UUID: 7bf7a5ef-cabf-0310-b7d4-93df341afa7e\n\n";
+
+#[test]
+fn one_to_eighteen_digits_are_a_number(rt: HostRuntime) {
+    let rows = [
+        (b"0".as_slice(), Some(0)),
+        (b"007", Some(7)),
+        (b"999999999999999999", Some(999_999_999_999_999_999)),
+        (b"", None),
+        (b"+1", None),
+        (b"1234567890123456789", None),
+    ];
+    for (text, value) in rows {
+        assert_eq!(rt; number(text), value, "{text:?}");
+    }
+}
+
+#[test]
+fn numbers_are_spelled_without_leading_zeros(rt: HostRuntime) {
+    let rows = [(0, b"0".as_slice()), (u64::MAX, b"18446744073709551615")];
+    for (value, text) in rows {
+        assert_eq!(rt; spell(value).bytes(), text, "{value}");
+    }
+}
+
+#[test]
+fn a_block_is_cut_where_it_stands(rt: HostRuntime) -> Result<(), Fail> {
+    let version = Block::cut(VERSION, 0)?;
+    assert_eq!(rt; version.dump(), VERSION);
+    assert_eq!(rt; (version.place(), version.after()), (0, 31));
+
+    let uuid = Block::cut(UUID, 0)?;
+    assert_eq!(rt; uuid.after(), 44);
+    let value = b"7bf7a5ef-cabf-0310-b7d4-93df341afa7e".as_slice();
+    assert_eq!(rt; uuid.get(b"UUID"), Some(value));
+    assert_eq!(rt; uuid.get(b"uuid"), None);
+    Ok(())
+}
+
+#[test]
+fn lines_are_given_in_their_order(rt: HostRuntime) -> Result<(), Fail> {
+    let text = b"behind\nNote: a: b\nUUID: \nNote:  c\n\nbehind: it\n\n";
+    let block = Block::cut(text, 7)?;
+    assert_eq!(rt; (block.place(), block.after()), (7, 35));
+    assert_eq!(rt;
+        block.get(b"Note"),
+        Some(b"a: b".as_slice()),
+        "the first of two"
+    );
+    let rows = [
+        (
+            b"Note".as_slice(),
+            b"a: b".as_slice(),
+            b"Note: a: b".as_slice(),
+        ),
+        (b"UUID", b"", b"UUID: "),
+        (b"Note", b" c", b"Note:  c"),
+    ];
+    let mut lines = block.lines();
+    for (name, value, whole) in rows {
+        let line = lines.next().ok_or("a line is missing")?;
+        assert_eq!(rt; line.name, name);
+        assert_eq!(rt; line.value, value);
+        assert_eq!(rt; line.whole, whole);
+    }
+    assert!(rt; lines.next().is_none());
+    Ok(())
+}
+
+#[test]
+fn no_block_is_cut_short_or_malformed(rt: HostRuntime) {
+    let rows = [
+        (VERSION, 31, FaultKind::HeaderCut),
+        (VERSION, 32, FaultKind::HeaderCut),
+        (b"", 0, FaultKind::HeaderCut),
+        (b"\n\n", 0, FaultKind::Header),
+        (b"Node-path: a\nNode-path: b\n\n", 0, FaultKind::Header),
+        (b"Node-path:a\n\n", 0, FaultKind::Header),
+        (b"Node-path\n\n", 0, FaultKind::Header),
+        (b"Node-path\n", 0, FaultKind::HeaderCut),
+    ];
+    for (dump, place, kind) in rows {
+        let fault = Block::cut(dump, place).err();
+        assert_eq!(rt; fault, Some(kind), "{dump:?} at {place}");
+    }
+}
+
+#[test]
+fn faults_have_numbers_and_names(rt: HostRuntime) {
+    let rows = [
+        (FaultKind::HeaderCut, 1, "HeaderCut"),
+        (FaultKind::Header, 2, "Header"),
+        (FaultKind::Kind, 3, "Kind"),
+        (FaultKind::Version, 4, "Version"),
+        (FaultKind::Number, 5, "Number"),
+        (FaultKind::Lengths, 6, "Lengths"),
+        (FaultKind::ContentCut, 7, "ContentCut"),
+        (FaultKind::Order, 8, "Order"),
+        (FaultKind::Props, 9, "Props"),
+        (FaultKind::Md5, 10, "Md5"),
+        (FaultKind::Sha1, 11, "Sha1"),
+        (FaultKind::CopySource, 12, "CopySource"),
+        (FaultKind::CopyRevision, 13, "CopyRevision"),
+        (FaultKind::MergeInfo, 14, "MergeInfo"),
+        (FaultKind::MergeSource, 15, "MergeSource"),
+        (FaultKind::MergeRange, 16, "MergeRange"),
+    ];
+    for (kind, code, name) in rows {
+        assert_eq!(rt; (kind.code(), kind.name()), (code, name));
+    }
+}
