@@ -67,7 +67,7 @@ cut_within size number place text x y [] (s ∷ ss) e (lfs, at, stop) ends (lfs'
     let same = blank_once lfs lfs' x start stop (front_of number start s after b) (sym at ∙ at') in
     let count : number ≡ number + 0 = omega arith in
     absurd (goes_on size (number + 0) x e s after
-        (subst (λ (k : ℕ). BeginsWithRecord k x s after) count (subst (λ (t : List ℕ). BeginsWithRecord number t s after) (sym same.1) b)) ends)
+    (subst (λ (k : ℕ). BeginsWithRecord k x s after) count (subst (λ (t : List ℕ). BeginsWithRecord number t s after) (sym same.1) b)) ends)
 cut_within size number place text x y (r ∷ all) (s ∷ ss) e (lfs, start, after, at, is, b, more) ends (lfs', start', after', at', is', c, more') =
     let gaps = blank_once lfs lfs' start start' (front_of number start r after b) (front_of number start' s after' c) (sym at ∙ at') in
     let places : r.place ≡ s.place = is ∙ ap (λ (k : ℕ). place + k) gaps.0 ∙ sym is' in
@@ -105,7 +105,7 @@ pub one_more : (dump : List ℕ) (rs : List DumpRecord) (r : DumpRecord) → Beg
     → BeginsWithRecords dump (rs ++ r ∷ [])
 one_more dump rs r b next = untruncated dump (rs ++ r ∷ [])
     (∥∥₁_map next (λ (before, c, count). subst (λ (ss : List DumpRecord). BeginsWithRecords dump (ss ++ r ∷ []))
-        (begins_once dump before rs count (begins_prefix dump before (r ∷ []) c) b) c))
+    (begins_once dump before rs count (begins_prefix dump before (r ∷ []) c) b) c))
 
 -- a list of the first records that is as long as the whole one is the whole one
 pub whole_list : (dump : List ℕ) (rs : List DumpRecord) (ending : Ending) → BeginsWithRecords dump rs → EndsAfter dump (length rs) ending → HasRecords dump rs ending
