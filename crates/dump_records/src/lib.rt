@@ -1,4 +1,25 @@
 //! The records of a Subversion dump: a cutter gives them one after another, as views into the dump.
+//!
+//! A [`Record`] is a block of header lines, then its properties, then its text. [`Cutter::next`]
+//! gives the next one, or says how the list of records ends: with the dump, or at a byte where no
+//! record stands, with the first fault that holds there. After its end a cutter tells the same end
+//! again. A record is a copyable view: it holds places of the dump and lends parts of it.
+//!
+//! ```
+//! let mut cutter = Cutter::new(dump);
+//! loop {
+//!     match cutter.next() {
+//!         Cut::Item(record) => show(record.number(), record.kind(), record.path()),
+//!         Cut::Finished => break,
+//!         Cut::Fault { kind, place } => return Err(complain(kind, place)),
+//!     }
+//! }
+//! ```
+//!
+//! [`laws`] states two laws of dumps: no record begins another, and each dump has exactly one list
+//! of records. What a record may be is asked by itself: the order of nodes and revisions, property
+//! blocks, digests, copy sources and mergeinfo are not looked at here. Format version 2 is read, and
+//! no other. No memory is taken.
 #![tactic(auto)]
 
 mod cutter;
@@ -11,3 +32,6 @@ mod record;
 pub use cutter::{Cut, Cutter};
 pub use kind::RecordKind;
 pub use record::Record;
+
+#[cfg(test)]
+mod tests;

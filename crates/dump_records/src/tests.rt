@@ -1,0 +1,173 @@
+//! What no clause says: worked examples, and each call once.
+use crate::laws::{each_dump_has_one_list, no_record_begins_another};
+use crate::{Cut, Cutter, Record, RecordKind};
+use dump_text::FaultKind;
+use std::alloc::Global;
+use std::test::Fail;
+
+const VERSION: &[u8] = b"SVN-fs-dump-format-version: 2\n\n";
+
+const UUID: &[u8] = b"UUID: 7bf7a5ef-cabf-0310-b7d4-93df341afa7e\n\n";
+
+// A revision, with one LF behind it.
+const REVISION: &[u8] =
+    b"Revision-number: 0\nProp-content-length: 56\nContent-length: 56\n\nK 8\nsvn:date\nV 27\n2024-01-02T03:04:05.000000Z\nPROPS-END\n\n";
+
+// A revision with a header that only a node has a use for.
+const COPYING_REVISION: &[u8] =
+    b"Revision-number: 4\nNode-copyfrom-path: other/f\nProp-content-length: 10\nContent-length: 10\n\nPROPS-END\n";
+
+const NODE: &[u8] =
+    b"Node-path: trunk/f\nNode-kind: file\nNode-action: add\nNode-copyfrom-rev: 3\nNode-copyfrom-path: other/f\nText-content-length: 3\nContent-length: 3\n\nabc";
+
+// What a call of `next` gives.
+#[derive(Clone, Copy, Debug, PartialEq, Eq)]
+enum Seen {
+    Item(u64),
+    Finished,
+    Fault(FaultKind, usize),
+}
+
+fn seen_in(cut: Cut<'_>) -> Seen {
+    match cut {
+        Cut::Item(record) => Seen::Item(record.number()),
+        Cut::Finished => Seen::Finished,
+        Cut::Fault { kind, place } => Seen::Fault(kind, place),
+    }
+}
+
+fn joined(alloc: Global, parts: &[&[u8]]) -> Result<Vec<u8>, Fail> {
+    let mut whole = Vec::new(alloc);
+    for part in parts {
+        whole.extend_from_slice(part)?;
+    }
+    Ok(whole)
+}
+
+fn next_record<'a>(cutter: &mut Cutter<'a>) -> Result<Record<'a>, Fail> {
+    match cutter.next() {
+        Cut::Item(record) => Ok(record),
+        _ => Err("no record".into()),
+    }
+}
+
+#[test]
+fn the_end_is_told_again(rt: HostRuntime) -> Result<(), Fail> {
+    let all = joined(rt.alloc(), &[VERSION, UUID, REVISION])?;
+    assert_eq!(rt; all.len(), 195);
+    let whole = all.get(..194).ok_or("too short")?;
+    let short = all.get(..193).ok_or("too short")?;
+    let cut = all.get(..80).ok_or("too short")?;
+    let rows = [
+        (VERSION, 1, Seen::Finished),
+        (b"", 0, Seen::Fault(FaultKind::HeaderCut, 0)),
+        (b"\n\n\n", 0, Seen::Fault(FaultKind::HeaderCut, 3)),
+        (all.as_slice(), 3, Seen::Finished),
+        (whole, 3, Seen::Finished),
+        (short, 2, Seen::Fault(FaultKind::ContentCut, 75)),
+        (cut, 2, Seen::Fault(FaultKind::HeaderCut, 75)),
+    ];
+    for (dump, count, end) in rows {
+        let mut cutter = Cutter::new(dump);
+        for number in 0..count {
+            assert_eq!(rt; seen_in(cutter.next()), Seen::Item(number), "{dump:?}");
+        }
+        for _ in 0..2 {
+            assert_eq!(rt; seen_in(cutter.next()), end, "{dump:?}");
+        }
+    }
+    Ok(())
+}
+
+#[test]
+fn the_first_record_is_a_version_record(rt: HostRuntime) {
+    for dump in [b"SVN-fs-dump-format-version: 3\n\n".as_slice(), REVISION] {
+        let first = seen_in(Cutter::new(dump).next());
+        assert_eq!(rt; first, Seen::Fault(FaultKind::Version, 0), "{dump:?}");
+    }
+}
+
+#[test]
+fn header_lines_that_break_a_rule_are_a_fault(rt: HostRuntime) -> Result<(), Fail> {
+    let rows = [
+        (b"UUID: a\nNode-path: f\n\n".as_slice(), FaultKind::Kind),
+        (b"Node-path: f\nNode-copyfrom-rev: 0\n\n", FaultKind::Kind),
+        (
+            b"Node-path: f\nText-content-length: 999999999999999999\nContent-length: 999999999999999999\n\n",
+            FaultKind::ContentCut,
+        ),
+        (
+            b"Node-path: f\nContent-length: 999999999999999999\n\n",
+            FaultKind::Lengths,
+        ),
+        (
+            b"Node-path: f\nContent-length: 9999999999999999999\n\n",
+            FaultKind::Number,
+        ),
+        (
+            b"Node-path: f\nProp-content-length: 999999999999999999\nText-content-length: 999999999999999999\n\n",
+            FaultKind::ContentCut,
+        ),
+        (
+            b"Node-path: f\nProp-content-length: 999999999999999999\nText-content-length: 999999999999999999\nContent-length: 1999999999999999998\n\n",
+            FaultKind::Number,
+        ),
+    ];
+    for (block, kind) in rows {
+        let dump = joined(rt.alloc(), &[VERSION, block])?;
+        let mut cutter = Cutter::new(&dump);
+        assert_eq!(rt; seen_in(cutter.next()), Seen::Item(0));
+        assert_eq!(rt; seen_in(cutter.next()), Seen::Fault(kind, 31), "{block:?}");
+    }
+    Ok(())
+}
+
+#[test]
+fn records_are_read(rt: HostRuntime) -> Result<(), Fail> {
+    let dump = joined(rt.alloc(), &[VERSION, UUID, COPYING_REVISION, NODE])?;
+    let mut cutter = Cutter::new(&dump);
+
+    let version = next_record(&mut cutter)?;
+    assert_eq!(rt; version.kind(), RecordKind::Version);
+    assert_eq!(rt;
+        (version.number(), version.place(), version.after()),
+        (0, 0, 31)
+    );
+
+    let uuid = next_record(&mut cutter)?;
+    assert_eq!(rt; uuid.kind(), RecordKind::Uuid);
+    assert_eq!(rt; (uuid.number(), uuid.place(), uuid.after()), (1, 31, 75));
+
+    let revision = next_record(&mut cutter)?;
+    assert_eq!(rt; revision.kind(), RecordKind::Revision);
+    assert_eq!(rt;
+        (revision.number(), revision.place(), revision.after()),
+        (2, 75, 176)
+    );
+    assert_eq!(rt; revision.revision(), Some(4));
+    assert_eq!(rt; revision.props(), Some(b"PROPS-END\n".as_slice()));
+    assert_eq!(rt; revision.text(), None);
+    assert_eq!(rt; revision.path(), None);
+    assert_eq!(rt; revision.copy_path(), None);
+    assert_eq!(rt; revision.copy_revision(), None);
+
+    let node = next_record(&mut cutter)?;
+    assert_eq!(rt; node.kind(), RecordKind::Node);
+    assert_eq!(rt; (node.number(), node.place(), node.after()), (3, 176, 322));
+    assert_eq!(rt; (node.block().place(), node.block().after()), (176, 319));
+    assert_eq!(rt; node.block().get(b"Node-kind"), Some(b"file".as_slice()));
+    assert_eq!(rt; node.path(), Some(b"trunk/f".as_slice()));
+    assert_eq!(rt; node.copy_path(), Some(b"other/f".as_slice()));
+    assert_eq!(rt; node.copy_revision(), Some(3));
+    assert_eq!(rt; node.revision(), None);
+    assert_eq!(rt; node.props(), None);
+    assert_eq!(rt; node.text(), Some(b"abc".as_slice()));
+    assert_eq!(rt; seen_in(cutter.next()), Seen::Finished);
+    Ok(())
+}
+
+#[test]
+fn the_laws_can_be_called() {
+    no_record_begins_another();
+    each_dump_has_one_list();
+}
