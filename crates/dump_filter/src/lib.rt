@@ -9,3 +9,6 @@ mod turn;
 
 pub use filter::{Filter, StepFault};
 pub use report::Report;
+
+#[cfg(test)]
+mod tests;
