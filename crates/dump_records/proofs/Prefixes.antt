@@ -1,16 +1,15 @@
 -- The first records of a dump: there is one list of each length, so a truncated fact about them is a fact.
-use Rattle.std.proofs.Common.{◌≡◌, ◌≢◌, ◌⊎◌, ℕ, zero, suc, ◌+◌, ◌-◌, ◌<◌, ◌≤◌, Bool, true, false, List, [], ◌∷◌, ◌++◌, take, drop, length, refl, sym, ap, ◌∙◌, subst, arith, append_assoc, length-append, inl, inr}
+use Rattle.std.proofs.Common.{◌≡◌, ℕ, ◌+◌, ◌≤◌, false, List, [], ◌∷◌, ◌++◌, take, drop, length, refl, sym, ap, ◌∙◌, subst, arith}
 use Rattle.std.proofs.Math.Logic.{∥∥₁_elim, ∥∥₁_map}
 use Rattle.std.specs.Coded.{Coded, Coded-set, coded_ℕ, coded_list}
 use base.Stored.{coded×, coded_via}
-use Rattle.std.proofs.lemmas.List.{append-nil, take-append-drop, length-take-le, take_all}
-use Rattle.dump_text.specs.declared.fault.FaultKind.{FaultKind}
+use Rattle.std.proofs.lemmas.List.{take-append-drop, length-take-le, take_all}
 use Rattle.dump_text.specs.HeaderLine as line
-use Rattle.dump_text.specs.HeaderBlock.{starts_with_lf, BeginsWithBlock}
+use Rattle.dump_text.specs.HeaderBlock.{starts_with_lf}
 use Rattle.dump_text.proofs.Unique.{block_front, blank_once, header-eq}
-use Rattle.dump_records.specs.RecordText.{DumpRecord, record_text, BeginsWithRecord, IsCutFault}
-use Rattle.dump_records.specs.DumpText.{Ending, line_feeds, IsCutInto, HasEnding, HasRecords, BeginsWithRecords, EndsAfter, IsRecordOf}
-use Rattle.dump_records.proofs.Unique.{content, begins, record_once, record-eq, goes_on, EndsWith, records_once, ending_of}
+use Rattle.dump_records.specs.RecordText.{DumpRecord, record_text, BeginsWithRecord}
+use Rattle.dump_records.specs.DumpText.{Ending, IsCutInto, HasRecords, BeginsWithRecords, EndsAfter, IsRecordOf}
+use Rattle.dump_records.proofs.Unique.{content, begins, record_once, record-eq, goes_on, EndsWith, ending_of}
 use Rattle.dump_records.proofs.ListLaw.{each_dump_has_one_list}
 
 header_coded : Coded line.Header
