@@ -8,9 +8,9 @@ use Rattle.dump_pipeline.specs.RunAnswer.{RunLeaves}
 use Rattle.dump_cli.specs.declared.words.Usage.{Usage}
 
 abbrev pub status_of : Answer → ℕ
-status_of (Clean report) = 0
-status_of (Fault kind number place) = 1
-status_of (Failed failure written) = 1
+status_of (Clean _) = 0
+status_of (Fault _ _ _) = 1
+status_of (Failed _ _) = 1
 
 -- the writer has what a run on the input leaves; a flush that failed gives status 1
 pub record Ran (settings : Settings) (input : List ℕ) (old new : Option (List ℕ)) (status : ℕ) : Type 0 where
