@@ -1,27 +1,23 @@
 -- Each dump has an answer: from any records without a fault the filter goes on to one.
-use Rattle.std.proofs.Common.{◌≡◌, ◌⊎◌, ℕ, ◌+◌, Bool, true, false, not, ◌&&◌, List, [], ◌∷◌, ◌++◌, length, refl, sym, ap, ◌∙◌, subst, append_assoc, inl, inr, Option, Some, None, IsTrue, MatchBool, codes}
+use Rattle.std.proofs.Common.{◌≡◌, ◌⊎◌, ℕ, ◌+◌, Bool, true, false, List, [], ◌∷◌, ◌++◌, length, refl, sym, ap, ◌∙◌, subst, append_assoc, inl, inr, Option, Some, None, IsTrue, MatchBool, codes}
 use Rattle.std.specs.List.{last_or}
 use Rattle.std.proofs.lemmas.List.{append-nil}
-use Rattle.dump_text.specs.declared.fault.FaultKind.{FaultKind}
 use Rattle.dump_text.specs.declared.fault.FaultKind.TheVariants as faults
-use Rattle.dump_text.specs.FaultTable.{NoFault}
 use Rattle.dump_text.specs.HeaderLine.{Header, with_header_value}
 use Rattle.dump_text.specs.HeaderBlock.{block_text}
 use Rattle.dump_text.specs.Names.{copy_revision_name}
 use Rattle.dump_text.specs.Number.{spelled_number}
 use Rattle.dump_records.specs.HeaderRules.{header_number}
-use Rattle.dump_records.specs.RecordText.{DumpRecord, record_text, is_lawful, BeginsWithRecord}
+use Rattle.dump_records.specs.RecordText.{DumpRecord, record_text, is_lawful}
 use Rattle.dump_records.specs.DumpText.{IsCutInto}
 use Rattle.dump_rules.specs.Settings.{Settings, keeps_path}
 use Rattle.dump_rules.specs.Renumbering.{KeptRevisions}
-use Rattle.dump_digest.specs.RecordParts.{is_revision, is_node, is_kept_node, node_path}
+use Rattle.dump_digest.specs.RecordParts.{is_revision, is_node, node_path}
 use Rattle.dump_filter.specs.declared.report.Report.{Report}
-use Rattle.dump_filter.specs.declared.turn.Role.{Role}
 use Rattle.dump_filter.specs.Groups.{present_revision, kept_revisions}
 use Rattle.dump_filter.specs.NewHeaders.{is_copy, IsNewCopy}
-use Rattle.dump_filter.specs.RecordFaults.{ends_in_group, IsOutOfOrder, HoldsOfRecord, IsRecordFault, AreFaultFree}
+use Rattle.dump_filter.specs.RecordFaults.{ends_in_group, IsOutOfOrder, IsRecordFault, AreFaultFree}
 use Rattle.dump_filter.specs.RecordOutput.{IsOutput, IsNodeOutput, revision_text, whole_text}
-use Rattle.dump_filter.specs.OwnText.{node_own}
 use Rattle.dump_filter.specs.Written.{is_written, AreOutputs, IsWritten}
 use Rattle.dump_filter.specs.Turns.{Waited, role_of, turn_text, end_text, next_waiting, next_report, is_in_order}
 use Rattle.dump_filter.specs.Shape.{Shape}

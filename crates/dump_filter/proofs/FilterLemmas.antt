@@ -1,13 +1,12 @@
 -- A filter's step and end, by what it knows of the records that it has accepted.
-use Rattle.std.proofs.Common.{◌≡◌, ◌⊎◌, ℕ, ◌+◌, ◌<◌, ◌≤◌, ◌^◌, ◌==◌, nat_lt, Bool, true, false, not, ◌&&◌, ◌||◌, List, [], ◌∷◌, ◌++◌, length, map, refl, sym, ap, ◌∙◌, subst, arith, append_assoc, length-append, inl, inr, Option, Some, None, option_map, count_by, if◌then◌else◌, MatchOption, IsTrue}
-use Rattle.std.specs.List.{list_all, list_any, last_or}
-use Rattle.std.proofs.Math.Logic.{∥∥₁_map}
-use Rattle.std.proofs.lemmas.List.{append-nil, map-append}
+use Rattle.std.proofs.Common.{◌≡◌, ◌⊎◌, ℕ, ◌+◌, ◌<◌, ◌≤◌, nat_lt, Bool, true, false, not, ◌&&◌, List, [], ◌∷◌, ◌++◌, length, map, refl, sym, ap, ◌∙◌, subst, arith, length-append, inl, inr, Option, Some, None, option_map, count_by, if◌then◌else◌}
+use Rattle.std.specs.List.{last_or}
+use Rattle.std.proofs.lemmas.List.{map-append}
 use Rattle.std.proofs.lemmas.List.Sums.{count_by-le-length, sum_by-append}
 use borrow.Author.Tests.{ltb-true, ltb-false}
 use Rattle.dump_text.specs.declared.fault.FaultKind.{FaultKind}
 use Rattle.dump_text.specs.declared.fault.FaultKind.TheVariants as faults
-use Rattle.dump_text.specs.FaultTable.{fault_code, IsLeastFault, NoFault}
+use Rattle.dump_text.specs.FaultTable.{fault_code, NoFault}
 use Rattle.dump_records.specs.declared.record.Record.{Record}
 use Rattle.dump_records.specs.RecordText.{DumpRecord}
 use Rattle.dump_records.specs.RecordViews.{record_dump, record_number, record_item}
@@ -31,8 +30,8 @@ use Rattle.dump_filter.specs.Shape.Shape.{Fresh}
 use Rattle.dump_rules.specs.Settings.{keeps_path}
 use Rattle.dump_rules.specs.Renumbering.{KeptRevisions}
 use Rattle.dump_digest.specs.RecordParts.{node_path}
-use Rattle.dump_filter.specs.Shape.{is_plain, Shape, waiting_count, AreUpTo, Knows}
-use Rattle.dump_filter.proofs.GroupLemmas.{first_true, plain_node, plain_other, groups_before, groups_revision, groups_other}
+use Rattle.dump_filter.specs.Shape.{waiting_count, AreUpTo, Knows}
+use Rattle.dump_filter.proofs.GroupLemmas.{first_true, plain_node, plain_other, groups_before, groups_revision}
 use Rattle.dump_filter.proofs.KindLemmas.{alone, node_is}
 use Rattle.dump_filter.proofs.TurnLemmas.{IsRole, role_is, last_is, turned, ended_text, ended_counts}
 

@@ -1,15 +1,14 @@
 -- Groups and what is written, where a list is cut before a record that is no node.
-use Rattle.std.proofs.Common.{◌≡◌, ℕ, suc, ◌+◌, Bool, true, false, not, ◌&&◌, ◌||◌, ◌==◌, List, [], ◌∷◌, ◌++◌, map, length, take, take_while, refl, sym, ap, ◌∙◌, subst, arith, append_assoc, length-append, if◌then◌else◌, count_by, Option, Some, None, MatchBool}
-use Rattle.std.specs.List.{list_all, list_any, last_or, prefix_len}
+use Rattle.std.proofs.Common.{◌≡◌, ℕ, suc, ◌+◌, Bool, true, false, not, ◌&&◌, ◌||◌, ◌==◌, List, [], ◌∷◌, ◌++◌, take, take_while, refl, sym, ap, ◌∙◌, subst, arith, append_assoc, MatchBool}
+use Rattle.std.specs.List.{list_all, list_any, prefix_len}
 use Rattle.std.proofs.lemmas.List.{append-nil}
 use Rattle.std.proofs.lemmas.List.Folds.{list_all-append, list_any-append}
-use Rattle.std.proofs.lemmas.List.Sums.{sum_by-append}
 use Rattle.dump_records.specs.RecordText.{DumpRecord}
 use Rattle.dump_text.specs.HeaderBlock.{block_text}
 use Rattle.dump_rules.specs.Settings.{Settings}
 use Rattle.dump_rules.specs.Renumbering.{KeptRevisions}
 use Rattle.dump_digest.specs.RecordParts.{is_revision, is_node, is_kept_node}
-use Rattle.dump_filter.specs.Groups.{Group, group_of, groups, group_number, has_kept_node, is_bare, keeps_group, keeps_empty, revision_number, revision_numbers, present_revision}
+use Rattle.dump_filter.specs.Groups.{Group, group_of, groups, group_number, has_kept_node, is_bare, keeps_group, keeps_empty, revision_number}
 use Rattle.dump_filter.specs.RecordOutput.{revision_text, IsNodeOutput, IsOutput}
 use Rattle.dump_filter.specs.Shape.{is_plain}
 use Rattle.dump_filter.specs.Written.{is_open, is_written, AreOutputs}

@@ -1,5 +1,5 @@
 -- What a record is, by its deciding names, of which exactly one stands there.
-use Rattle.std.proofs.Common.{◌≡◌, ℕ, ◌+◌, ◌==◌, Bool, true, false, not, ◌&&◌, ◌||◌, List, [], ◌∷◌, refl, sym, ap, ◌∙◌, subst, arith, Option, Some, None, is_some, is_none, unwrap_or, if◌then◌else◌, IsTrue, MatchBool, count_by, option_and_then}
+use Rattle.std.proofs.Common.{◌≡◌, ℕ, ◌==◌, Bool, true, false, not, ◌&&◌, List, ◌∷◌, refl, sym, ap, ◌∙◌, subst, Option, Some, None, is_some, is_none, IsTrue, MatchBool, count_by, option_and_then}
 use Rattle.std.specs.List.{list_any}
 use Rattle.dump_text.specs.Number.{number_of, spelled_number}
 use Rattle.dump_rules.specs.Renumbering.{KeptRevisions}
@@ -11,8 +11,8 @@ use Rattle.dump_filter.specs.OwnText.{node_own}
 use Rattle.dump_filter.proofs.GroupLemmas.{first_false, second_false}
 use Rattle.dump_filter.proofs.OutputLemmas.{no_value}
 use Rattle.dump_text.specs.Names.{version_name, uuid_name, revision_name, path_name, copy_revision_name, copy_path_name, deciding_names, length_names}
-use Rattle.dump_text.specs.HeaderLine.{Header, has_header, header_value, with_header_value}
-use Rattle.dump_records.specs.HeaderRules.{kind_of, is_one_alone, header_number, has_bad_kind, has_bad_version, has_bad_number, has_bad_lengths}
+use Rattle.dump_text.specs.HeaderLine.{has_header, header_value, with_header_value}
+use Rattle.dump_records.specs.HeaderRules.{kind_of, is_one_alone, header_number, has_bad_kind, has_bad_number}
 use Rattle.dump_records.specs.declared.kind.RecordKind.{RecordKind}
 use Rattle.dump_records.specs.declared.kind.RecordKind.TheVariants as kinds
 use Rattle.dump_records.specs.RecordText.{DumpRecord, is_lawful}

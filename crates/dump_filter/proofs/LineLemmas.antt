@@ -1,5 +1,5 @@
 -- The new lines of a block, line by line and by name.
-use Rattle.std.proofs.Common.{◌≡◌, ℕ, ◌+◌, ◌==◌, Bool, true, false, ◌||◌, List, [], ◌∷◌, ◌++◌, map, length, refl, sym, ap, ◌∙◌, subst, arith, append_assoc, Option, Some, None, bytes_eq, if◌then◌else◌}
+use Rattle.std.proofs.Common.{◌≡◌, ℕ, ◌+◌, ◌==◌, Bool, true, false, ◌||◌, List, [], ◌∷◌, ◌++◌, map, length, refl, sym, ap, ◌∙◌, Option, Some, None, bytes_eq, if◌then◌else◌}
 use Rattle.std.proofs.lemmas.List.{append-nil, map-append}
 use Rattle.std.proofs.lemmas.Slice.Eq.{bytes_eq-Decides}
 use Rattle.std.proofs.lemmas.List.Folds.{list_any-append}
@@ -9,7 +9,7 @@ use Rattle.dump_text.specs.HeaderLine.{Header, is_named, has_header, with_header
 use Rattle.dump_filter.proofs.GroupLemmas.{first_false, second_false}
 use Rattle.dump_filter.specs.declared.new_lines.Changes.{Changes}
 use Rattle.dump_filter.specs.NewHeaders.{with_length, with_lengths}
-use Rattle.dump_filter.specs.NewLines.{number_for, numbered, with_number, renewed, added, new_headers, put_all}
+use Rattle.dump_filter.specs.NewLines.{numbered, with_number, renewed, added, new_headers, put_all}
 
 -- the line, with this number where it has this name
 abbrev pub put : List ℕ → ℕ → Header → Header

@@ -1,7 +1,7 @@
 -- What is written of a record, from its parts.
-use Rattle.std.proofs.Common.{◌≡◌, ℕ, ◌+◌, Bool, true, false, List, [], ◌∷◌, ◌++◌, length, refl, sym, ap, ◌∙◌, append_assoc, Option, Some, None, Result, Ok, Err, find}
+use Rattle.std.proofs.Common.{◌≡◌, ℕ, Bool, true, false, List, [], ◌∷◌, ◌++◌, length, refl, sym, ap, ◌∙◌, append_assoc, Some, None, Result, Ok, Err}
 use Rattle.std.specs.Result.{OnOk}
-use Rattle.dump_text.specs.Names.{revision_name, copy_revision_name, text_length_name}
+use Rattle.dump_text.specs.Names.{text_length_name}
 use Rattle.dump_text.specs.HeaderLine.{Header, is_named, has_header, header_value}
 use Rattle.dump_text.specs.HeaderBlock.{block_text}
 use Rattle.dump_records.specs.HeaderRules.{text_length, header_length}

@@ -1,9 +1,8 @@
 -- What a filter knows of the records that it has accepted, and how each turn keeps it.
-use Rattle.std.proofs.Common.{◌≡◌, ◌⊎◌, ℕ, ◌+◌, ◌<◌, ◌≤◌, ◌==◌, nat_lt, Bool, true, false, not, ◌&&◌, ◌||◌, List, [], ◌∷◌, ◌++◌, length, map, refl, sym, ap, ◌∙◌, subst, arith, append_assoc, length-append, inl, inr, Option, Some, None, count_by, if◌then◌else◌, MatchBool}
+use Rattle.std.proofs.Common.{◌≡◌, ℕ, ◌+◌, ◌==◌, Bool, true, false, not, ◌||◌, List, [], ◌∷◌, ◌++◌, length, refl, sym, ap, ◌∙◌, subst, arith, append_assoc, length-append, Option, Some, None, count_by, if◌then◌else◌, MatchBool}
 use Rattle.std.specs.List.{list_all, list_any, last_or}
-use Rattle.std.proofs.lemmas.List.{append-nil, map-append}
-use Rattle.std.proofs.lemmas.List.Sums.{sum_by-append, sum_by-cons}
-use Rattle.dump_text.specs.declared.fault.FaultKind.{FaultKind}
+use Rattle.std.proofs.lemmas.List.{append-nil}
+use Rattle.std.proofs.lemmas.List.Sums.{sum_by-append}
 use Rattle.dump_text.specs.HeaderBlock.{block_text}
 use Rattle.dump_records.specs.RecordText.{DumpRecord}
 use Rattle.dump_rules.specs.Settings.{Settings}
@@ -12,12 +11,12 @@ use Rattle.dump_digest.specs.RecordParts.{is_revision, is_node, is_kept_node}
 use Rattle.dump_filter.specs.declared.report.Report.{Report}
 use Rattle.dump_filter.specs.declared.turn.Role.{Role}
 use Rattle.dump_filter.specs.declared.turn.Role.TheVariants as roles
-use Rattle.dump_filter.specs.Groups.{Group, group_of, groups, group_number, keeps_group, revision_number, revision_numbers, present_revision, is_bare, keeps_empty}
-use Rattle.dump_filter.specs.RecordFaults.{ends_in_group, IsOutOfOrder}
-use Rattle.dump_filter.specs.RecordOutput.{revision_text, IsNodeOutput}
+use Rattle.dump_filter.specs.Groups.{Group, groups, keeps_group, revision_number, keeps_empty}
+use Rattle.dump_filter.specs.RecordFaults.{ends_in_group}
+use Rattle.dump_filter.specs.RecordOutput.{IsNodeOutput}
 use Rattle.dump_filter.specs.OwnText.{revision_own, node_own}
 use Rattle.dump_filter.specs.Written.{AreOutputs}
-use Rattle.dump_filter.specs.Turns.{Waited, stays, role_of, end_text, front_text, turn_text, next_waiting, next_present, end_report, next_report, rises, is_in_order}
+use Rattle.dump_filter.specs.Turns.{Waited, stays, role_of, end_text, turn_text, next_waiting, end_report, next_report}
 use Rattle.dump_filter.specs.Shape.{is_plain, kept_groups, dropped_groups, Shape}
 use Rattle.dump_filter.specs.Shape.Shape.{Fresh, Idle, Passed, Waits}
 use Rattle.dump_filter.proofs.GroupLemmas.{groups_before, groups_revision, groups_other, plain_more, any_more, plain_node, passed_more, passed_end, waits_more, waits_on, waits_kept, waits_dropped, idle_end, revision_more, other_more, OwnOutput}

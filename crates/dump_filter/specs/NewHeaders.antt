@@ -1,6 +1,6 @@
 -- The header lines that the filter writes (svndumpfilter in "Version Control with Subversion"; which lines change and
 -- where a missing one is added: this project's own rule).
-use Rattle.std.specs.Prelude.{◌≡◌, ℕ, ◌+◌, ◌==◌, Bool, false, List, [], ◌∷◌, ◌++◌, length, Some, if◌then◌else◌, MatchBool}
+use Rattle.std.specs.Prelude.{◌≡◌, ℕ, ◌+◌, ◌==◌, Bool, List, [], ◌∷◌, ◌++◌, length, Some, if◌then◌else◌, MatchBool}
 use Rattle.dump_text.specs.Number.{spelled_number}
 use Rattle.dump_text.specs.Names.{copy_revision_name, copy_path_name, property_length_name, text_length_name, content_length_name}
 use Rattle.dump_text.specs.HeaderLine.{Header, has_header, with_header_value}

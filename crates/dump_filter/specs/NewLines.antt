@@ -1,5 +1,5 @@
 -- The lines of a block under new numbers, line by line.
-use Rattle.std.specs.Prelude.{◌≡◌, ℕ, ◌==◌, List, [], ◌∷◌, ◌++◌, map, Option, Some, None, bytes_eq, if◌then◌else◌}
+use Rattle.std.specs.Prelude.{ℕ, ◌==◌, List, [], ◌∷◌, ◌++◌, map, Option, Some, None, bytes_eq, if◌then◌else◌}
 use Rattle.dump_text.specs.Number.{spelled_number}
 use Rattle.dump_text.specs.Names.{revision_name, copy_revision_name, property_length_name, text_length_name, content_length_name}
 use Rattle.dump_text.specs.HeaderLine.{Header, has_header, with_header_value}

@@ -1,12 +1,9 @@
 -- What is written of one record by itself.
-use Rattle.std.specs.Prelude.{◌≡◌, ℕ, ◌+◌, List, [], ◌++◌, length, codes, Option, Some, None, unwrap_or, if◌then◌else◌}
+use Rattle.std.specs.Prelude.{◌≡◌, ℕ, ◌+◌, List, ◌++◌, length, codes, Option, Some, None}
 use Rattle.dump_text.specs.Names.{revision_name, copy_revision_name}
-use Rattle.dump_text.specs.HeaderLine.{Header}
-use Rattle.dump_text.specs.HeaderBlock.{block_text}
 use Rattle.dump_records.specs.HeaderRules.{header_number}
 use Rattle.dump_records.specs.RecordText.{DumpRecord}
 use Rattle.dump_records.specs.RecordViews.{part_of_node}
-use Rattle.dump_digest.specs.RecordParts.{is_revision, is_node}
 use Rattle.dump_filter.specs.Groups.{revision_number}
 use Rattle.dump_filter.specs.NewLines.{put_all}
 use Rattle.dump_filter.specs.RecordOutput.{whole_text}

@@ -10,7 +10,6 @@ use Rattle.dump_digest.specs.RecordParts.{is_revision, is_node, is_kept_node}
 use Rattle.dump_filter.specs.declared.report.Report.{Report}
 use Rattle.dump_filter.specs.Groups.{groups, keeps_group, present_revision}
 use Rattle.dump_filter.specs.RecordFaults.{AreFaultFree}
-use Rattle.dump_filter.specs.Counts.{report_of}
 use Rattle.dump_filter.specs.Written.{IsWritten}
 use Rattle.dump_filter.specs.Turns.{Waited}
 

@@ -1,5 +1,5 @@
 -- What one record does to a filter: what it writes, what waits behind it, and what it counts.
-use Rattle.std.specs.Prelude.{ℕ, ◌+◌, ◌==◌, Bool, true, false, ◌||◌, List, [], ◌∷◌, ◌++◌, Option, Some, None, option_map, nat_lt, if◌then◌else◌}
+use Rattle.std.specs.Prelude.{ℕ, ◌+◌, ◌==◌, Bool, true, false, ◌||◌, List, [], ◌++◌, Option, Some, None, option_map, nat_lt, if◌then◌else◌}
 use Rattle.dump_text.specs.HeaderBlock.{block_text}
 use Rattle.dump_records.specs.RecordText.{DumpRecord}
 use Rattle.dump_records.specs.RecordViews.{record_item}

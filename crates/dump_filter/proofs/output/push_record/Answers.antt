@@ -1,4 +1,4 @@
-use Rattle.std.proofs.Common.{sym, ap, ◌∙◌, ◌++◌}
+use Rattle.std.proofs.Common.{ap, ◌∙◌}
 use Rattle.dump_records.specs.RecordViews.{record_item}
 use Rattle.dump_text.specs.HeaderBlock.{block_text}
 use Rattle.dump_filter.specs.NewLines.{new_headers}

@@ -1,4 +1,4 @@
-use Rattle.std.proofs.Common.{sym, ◌∙◌}
+use Rattle.std.proofs.Common.{sym}
 use Rattle.dump_records.specs.RecordViews.{record_item}
 use Rattle.dump_filter.proofs.OutputLemmas.{text_without}
 use Rattle.dump_filter.proofs.output.text_len.Goals as goal

@@ -1,6 +1,5 @@
-use Rattle.std.proofs.Common.{◌≡◌, sym, ap, ◌∙◌, subst, option_map, List, ℕ}
+use Rattle.std.proofs.Common.{◌≡◌, sym, ◌∙◌, subst, option_map, List}
 use Rattle.dump_records.specs.RecordText.{DumpRecord}
-use Rattle.dump_filter.specs.declared.report.Report.{Report}
 use Rattle.dump_filter.specs.Counts.{report_of}
 use Rattle.dump_filter.specs.FilterState.{FilterState, AreAccepted, Finishes}
 use Rattle.dump_filter.specs.Turns.{waited}

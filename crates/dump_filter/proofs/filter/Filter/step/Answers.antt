@@ -1,9 +1,9 @@
-use Rattle.std.proofs.Common.{◌≡◌, ◌+◌, ◌<◌, ◌≤◌, ◌^◌, ℕ, true, false, sym, ap, ◌∙◌, subst, refl, arith, option_map}
+use Rattle.std.proofs.Common.{◌≡◌, sym, ap, ◌∙◌, subst, arith, option_map}
 use Rattle.dump_records.specs.RecordViews.{record_dump, record_number, record_item}
 use Rattle.dump_records.specs.declared.record.Record.{Record}
 use Rattle.dump_text.specs.declared.fault.FaultKind.TheVariants as faults
 use Rattle.dump_digest.specs.DoneViews.{done_record}
-use Rattle.dump_filter.specs.FilterState.{FilterState, IsOfSameDump, Accepts, Refuses, count_up_to}
+use Rattle.dump_filter.specs.FilterState.{FilterState, IsOfSameDump, Accepts, Refuses}
 use Rattle.dump_filter.specs.Turns.{waited}
 use Rattle.dump_filter.proofs.FilterLemmas.{step_knows, step_accepts, step_never_refuses, step_refuses, step_refuses_only, room_is}
 use Rattle.dump_filter.proofs.filter.Filter.step.Goals as goal
