@@ -20,14 +20,14 @@ impl<'a> Done<'a> {
     ghost use Rattle.dump_digest.specs.DoneViews.{done_record, done_settings, done_verdict};
 
     /// The record, checked under these options.
-    pub fn of(record: Record<'a>, options: &'a Options) -> Done<'a>
-        ensures item { done_record result ≡ record.entry }
+    pub fn of(item: Record<'a>, options: &'a Options) -> Done<'a>
+        ensures item { done_record result ≡ item.entry }
         ensures options { done_settings result ≡ options.now }
     {
         Done {
-            item: record,
+            item,
             options,
-            verdict: check(&record, options),
+            verdict: check(&item, options),
         }
     }
 

@@ -1,12 +1,13 @@
 //! The header lines of a record that is written: the old ones with new numbers, and lengths that were missing.
-ghost use Rattle.std.specs.Prelude.{◌≡◌, ◌+◌, ◌++◌, ◌∷◌, [], OnOk, IfOk};
+ghost use Rattle.std.specs.Prelude.{◌≡◌, ◌+◌, ◌++◌, ◌∷◌, [], map, OnOk, IfOk, IsTrue};
 ghost use Rattle.dump_text.specs.HeaderLine.{header_text};
 ghost use Rattle.dump_text.specs.HeaderBlock.{lines_bytes, block_text};
 ghost use Rattle.dump_text.specs.Views.{block_headers, line_header};
-ghost use Rattle.dump_filter.specs.NewLines.{number_for, numbered, with_number, added, new_headers};
+ghost use Rattle.dump_writer.specs.ChunkBytes.{chunk_bytes};
+ghost use Rattle.dump_filter.specs.NewLines.{number_for, numbered, with_number, renewed, added, new_headers};
 
 use dump_text::{Block, Line, spell};
-use dump_writer::Memory;
+use dump_writer::{Chunk, Memory};
 use std::alloc::Global;
 
 /// The numbers that the lines of a record get: its revision and its copy revision where they change, and its lengths.
@@ -80,8 +81,62 @@ fn push_missing(out: &mut Vec<u8>, block: &Block<'_>, name: &[u8], n: u64) -> Re
     push_number(out, name, n)
 }
 
-/// The block of a record as it is written.
-pub(crate) fn write_block(
+/// Whether a line stays as it stands where it gets this number.
+fn stays(line: &Line<'_>, number: Option<u64>) -> bool
+    ensures { IsTrue result → with_number (line_header line.now) number ≡ line_header line.now }
+{
+    match number {
+        Some(n) => line.value == spell(n).bytes(),
+        None => true,
+    }
+}
+
+/// Whether all lines stay as they stand.
+fn all_stay(block: &Block<'_>, changes: &Changes) -> bool
+    ensures { IsTrue result → map (renewed changes.now) (block_headers block.now) ≡ block_headers block.now }
+{
+    let mut lines = block.lines();
+    while let Some(line) = lines.next() {
+        if !stays(&line, new_number(changes, line.name)) {
+            return false;
+        }
+    }
+    true
+}
+
+/// Whether a length that isn't 0 has a line of this name.
+fn has_length(block: &Block<'_>, name: &[u8], n: u64) -> bool
+    ensures { IsTrue result → added name.now n (block_headers block.now) ≡ [] }
+{
+    n == 0 || block.has(name)
+}
+
+/// Whether the block is written as it stands.
+fn block_stays(block: &Block<'_>, changes: &Changes) -> bool
+    ensures { IsTrue result → new_headers changes.now (block_headers block.now) ≡ block_headers block.now }
+{
+    all_stay(block, changes)
+        && has_length(block, b"Prop-content-length", changes.props)
+        && has_length(block, b"Content-length", changes.content)
+}
+
+/// The block of a record as it is written: lent where it stays as it stands.
+pub(crate) fn new_block<'a>(
+    alloc: Global,
+    block: &Block<'a>,
+    changes: &Changes,
+) -> Result<Chunk<'a>, Memory>
+    ensures { IfOk result (λ chunk. chunk_bytes chunk ≡ block_text (new_headers changes.now (block_headers block.now))) }
+{
+    if block_stays(block, changes) {
+        return Ok(Chunk::Lent(block.bytes()));
+    }
+    let bytes = write_block(alloc, block, changes)?;
+    Ok(Chunk::Own(bytes))
+}
+
+/// The lines of a record, written anew.
+fn write_block(
     alloc: Global,
     block: &Block<'_>,
     changes: &Changes,

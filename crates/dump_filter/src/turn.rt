@@ -42,29 +42,29 @@ fn keeps_when_empty(empty: Empty, bare: bool) -> bool
 }
 
 /// The number of a revision record.
-pub(crate) fn number_of_revision(record: &Record<'_>) -> u64
-    ensures { result ≡ revision_number (record_item record.now) }
+pub(crate) fn number_of_revision(item: &Record<'_>) -> u64
+    ensures { result ≡ revision_number (record_item item.now) }
 {
-    record.revision().unwrap_or(0)
+    item.revision().unwrap_or(0)
 }
 
 /// Whether the record is a node whose path the options keep.
-fn is_kept(options: &Options, record: &Record<'_>) -> bool
-    ensures { result ≡ is_kept_node options.now (record_item record.now) }
+fn is_kept(options: &Options, item: &Record<'_>) -> bool
+    ensures { result ≡ is_kept_node options.now (record_item item.now) }
 {
-    match record.path() {
+    match item.path() {
         Some(path) => keeps(options, path),
         None => false,
     }
 }
 
 /// What the record is to the filter.
-pub(crate) fn find_role(options: &Options, record: &Record<'_>) -> Role
-    ensures { result ≡ role_of options.now (record_item record.now) }
+pub(crate) fn find_role(options: &Options, item: &Record<'_>) -> Role
+    ensures { result ≡ role_of options.now (record_item item.now) }
 {
-    match record.kind() {
+    match item.kind() {
         RecordKind::Node => {
-            if is_kept(options, record) {
+            if is_kept(options, item) {
                 Role::KeptNode
             } else {
                 Role::DroppedNode
@@ -89,15 +89,15 @@ fn leads_node(last: &Option<Record<'_>>) -> bool
 pub(crate) fn in_order(
     last: &Option<Record<'_>>,
     present: Option<u64>,
-    record: &Record<'_>,
+    item: &Record<'_>,
     role: Role,
 ) -> bool
-    ensures { result ≡ is_in_order (option_map record_item last.now) present (record_item record.now) role }
+    ensures { result ≡ is_in_order (option_map record_item last.now) present (record_item item.now) role }
 {
     match role {
         Role::KeptNode | Role::DroppedNode => leads_node(last),
         Role::Revision => match present {
-            Some(present) => present < number_of_revision(record),
+            Some(present) => present < number_of_revision(item),
             None => true,
         },
         Role::Other => true,
@@ -132,15 +132,15 @@ pub(crate) fn end_piece<'a>(
 fn node_piece<'a>(
     alloc: Global,
     waiting: &Option<Waiting<'a>>,
-    record: &Record<'a>,
+    item: &Record<'a>,
 ) -> Result<Piece<'a>, Memory>
-    ensures { IfOk result (λ piece. piece ≡ front_text (option_map waited waiting.now) ++ node_own (record_item record.now)) }
+    ensures { IfOk result (λ piece. piece ≡ front_text (option_map waited waiting.now) ++ node_own (record_item item.now)) }
 {
     let mut piece = Piece::new(alloc);
     if let Some(waiting) = waiting {
         push_revision(&mut piece, alloc, &waiting.revision)?;
     }
-    push_node(&mut piece, alloc, record)?;
+    push_node(&mut piece, alloc, item)?;
     Ok(piece)
 }
 
@@ -149,18 +149,18 @@ pub(crate) fn turn_piece<'a>(
     alloc: Global,
     options: &Options,
     waiting: &Option<Waiting<'a>>,
-    record: &Record<'a>,
+    item: &Record<'a>,
     role: Role,
 ) -> Result<Piece<'a>, Memory>
-    ensures { IfOk result (λ piece. piece ≡ turn_text options.now (option_map waited waiting.now) (record_item record.now) role) }
+    ensures { IfOk result (λ piece. piece ≡ turn_text options.now (option_map waited waiting.now) (record_item item.now) role) }
 {
     match role {
-        Role::KeptNode => node_piece(alloc, waiting, record),
+        Role::KeptNode => node_piece(alloc, waiting, item),
         Role::DroppedNode => Ok(Piece::new(alloc)),
         Role::Revision => end_piece(alloc, options, waiting),
         Role::Other => {
             let mut piece = end_piece(alloc, options, waiting)?;
-            push_lines(&mut piece, record)?;
+            push_lines(&mut piece, item)?;
             Ok(piece)
         }
     }
@@ -169,10 +169,10 @@ pub(crate) fn turn_piece<'a>(
 /// What waits behind the record.
 pub(crate) fn waiting_behind<'a>(
     waiting: Option<Waiting<'a>>,
-    record: Record<'a>,
+    item: Record<'a>,
     role: Role,
 ) -> Option<Waiting<'a>>
-    ensures { option_map waited result ≡ next_waiting (option_map waited waiting.entry) (record_item record.entry) role }
+    ensures { option_map waited result ≡ next_waiting (option_map waited waiting.entry) (record_item item.entry) role }
 {
     match role {
         Role::KeptNode | Role::Other => None,
@@ -184,7 +184,7 @@ pub(crate) fn waiting_behind<'a>(
             None => None,
         },
         Role::Revision => Some(Waiting {
-            revision: record,
+            revision: item,
             bare: true,
         }),
     }
@@ -211,11 +211,11 @@ pub(crate) fn report_at_end(
 }
 
 /// The number of the present revision behind the record.
-pub(crate) fn present_behind(present: Option<u64>, record: &Record<'_>, role: Role) -> Option<u64>
-    ensures { result ≡ next_present present (record_item record.now) role }
+pub(crate) fn present_behind(present: Option<u64>, item: &Record<'_>, role: Role) -> Option<u64>
+    ensures { result ≡ next_present present (record_item item.now) role }
 {
     match role {
-        Role::Revision => Some(number_of_revision(record)),
+        Role::Revision => Some(number_of_revision(item)),
         _ => present,
     }
 }

@@ -4,4 +4,4 @@ use Rattle.dump_filter.proofs.OutputLemmas.{text_without}
 use Rattle.dump_filter.proofs.output.text_len.Goals as goal
 
 pub returns-in-None : goal.returns-in-None
-returns-in-None c = sym (text_without (record_item c.args.record.now) c.args.record.now.stands.text_fits (sym c.in-None.ensures.value))
+returns-in-None c = sym (text_without (record_item c.args.item.now) c.args.item.now.stands.text_fits (sym c.in-None.ensures.value))
