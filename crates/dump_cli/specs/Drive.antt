@@ -1,10 +1,12 @@
 -- What the program does with its words and its input.
 use Rattle.std.specs.Prelude.{◌≡◌, ℕ, ◌⊎◌, List, Option, Result, Ok, Err, IfSome}
-use Rattle.std.specs.Io.KnownBytes.{Keeps}
+use Rattle.std.specs.Io.KnownBytes.{Keeps, Appends, GrowsBy}
 use Rattle.dump_rules.specs.Settings.{Settings}
+use Rattle.dump_writer.specs.SinkWords.{IsPrefixOf}
 use Rattle.dump_pipeline.specs.declared.answer.Answer.{Answer}
 use Rattle.dump_pipeline.specs.declared.answer.Answer.TheVariants.{Clean, Fault, Failed}
-use Rattle.dump_pipeline.specs.RunAnswer.{RunLeaves}
+use Rattle.dump_pipeline.specs.declared.answer.Failure.TheVariants as failures
+use Rattle.dump_pipeline.specs.RunAnswer.{IsRunAnswer}
 use Rattle.dump_cli.specs.declared.words.Usage.{Usage}
 
 abbrev pub status_of : Answer → ℕ
@@ -12,14 +14,26 @@ status_of (Clean _) = 0
 status_of (Fault _ _ _) = 1
 status_of (Failed _ _) = 1
 
--- the writer has what a run on the input leaves; a flush that failed gives status 1
-pub record Ran (settings : Settings) (input : List ℕ) (old new : Option (List ℕ)) (status : ℕ) : Type 0 where
+-- the output broke off: the writer took only the first of the bytes, and the answer is the failure with their count
+pub record BreaksOff (old new : Option (List ℕ)) (sent : List ℕ) (told : Answer) : Type 0 where
+  pub part : List ℕ
+  pub written : ℕ
+  pub begins : IsPrefixOf part sent
+  pub appended : Appends old new part
+  pub counted : GrowsBy old new written
+  pub told_is : told ≡ Failed failures.Sink written
+
+-- a run on the input gave an answer and sent bytes: all of them reached the writer and the answer is told, or the output
+-- broke off
+pub record Ran (settings : Settings) (input : List ℕ) (old new : Option (List ℕ)) (told : Answer) : Type 0 where
   pub answer : Answer
-  pub leaves : RunLeaves settings input old new answer
-  pub status_is : (status ≡ status_of answer) ⊎ (status ≡ 1)
+  pub sent : List ℕ
+  pub answered : IsRunAnswer settings input sent answer
+  pub arrived : (Appends old new sent × (told ≡ answer)) ⊎ BreaksOff old new sent told
 
 -- other words write nothing; an order is run on the whole input, or writes nothing for want of memory or input
 abbrev pub Drives : Result Settings Usage → Option (List ℕ) → Option (List ℕ) → Option (List ℕ) → ℕ → Type 0
 Drives (Err usage) input old new status = Keeps old new × (status ≡ 2)
 Drives (Ok settings) input old new status =
-    IfSome input (λ bytes. Ran settings bytes old new status) ⊎ (Keeps old new × (status ≡ 1))
+    IfSome input (λ bytes. (told : Answer) × Ran settings bytes old new told × (status ≡ status_of told))
+    ⊎ (Keeps old new × (status ≡ 1))

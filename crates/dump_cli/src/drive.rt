@@ -1,18 +1,21 @@
 //! The whole program, over any reader and writers.
-ghost use Rattle.std.specs.Prelude.{◌≡◌};
+ghost use Rattle.std.specs.Prelude.{◌≡◌, [], OnOk};
 ghost use Rattle.std.specs.Io.KnownBytes.{Keeps};
-ghost use Rattle.dump_pipeline.specs.RunAnswer.{RunLeaves};
+ghost use Rattle.dump_writer.specs.SinkStates.{lent_taken, loan_of};
 ghost use Rattle.dump_cli.specs.Words.{meaning_of};
-ghost use Rattle.dump_cli.specs.Drive.{Drives, status_of};
+ghost use Rattle.dump_cli.specs.Drive.{Drives, Ran, status_of};
 
 use crate::input::{Unread, read_all};
-use crate::lines::{self, write_failure, write_fault, write_usage};
+use crate::lines::{write_failure, write_fault, write_unread, write_usage};
 use crate::words::{Usage, options_of};
 use dump_pipeline::{Answer, Failure, run_plain};
 use dump_rules::Options;
-use dump_writer::OutMut;
+use dump_writer::{OutMut, SinkDown};
 use std::alloc::Global;
 use std::io::{Read, Write};
+
+/// So many bytes of small texts wait for one call of the writer.
+const BUFFER: usize = 1 << 16;
 
 /// The whole program, with its exit status.
 pub fn drive<R: Read, W: Write, E: Write>(
@@ -26,10 +29,7 @@ pub fn drive<R: Read, W: Write, E: Write>(
 {
     let options = match options_of(alloc, words) {
         Ok(options) => options,
-        Err(Usage::Memory) => {
-            write_failure(errors, lines::Failure::Memory, 0);
-            return 1;
-        }
+        Err(Usage::Memory) => return tell_want_of_memory(errors),
         Err(Usage::Words) => {
             write_usage(errors);
             return 2;
@@ -41,42 +41,57 @@ pub fn drive<R: Read, W: Write, E: Write>(
     };
     let input = match read_all(alloc, reader) {
         Ok(input) => input,
-        Err(Unread::Memory) => {
-            write_failure(errors, lines::Failure::Memory, 0);
-            return 1;
-        }
+        Err(Unread::Memory) => return tell_want_of_memory(errors),
         Err(Unread::Source) => {
-            write_failure(errors, lines::Failure::Source, 0);
+            write_unread(errors);
             return 1;
         }
     };
-    let run = filter_into(alloc, input.as_slice(), &options, writer);
-    if let Some(written) = run.unflushed {
-        write_failure(errors, lines::Failure::Sink, written);
-        return 1;
-    }
-    tell(errors, run.answer)
-}
-
-// A run, and how much was written where the flush behind it failed.
-#[derive(Clone, Copy)]
-struct Flushed {
-    answer: Answer,
-    unflushed: Option<u64>,
-}
-
-// Filters into a writer that is lent, and flushes it unless the run failed.
-fn filter_into<W: Write>(alloc: Global, dump: &[u8], options: &Options, writer: &mut W) -> Flushed
-    ensures { RunLeaves options.now dump.now (W.contents writer.old) (W.contents writer.new) result.answer }
-{
-    let mut sink = OutMut::new(writer);
-    let answer = run_plain(alloc, dump, options, &mut sink);
-    let unflushed = match answer {
-        Answer::Failed { .. } => None,
-        _ => flush(&mut sink),
+    let Ok(buffer) = Vec::with_capacity(alloc, BUFFER) else {
+        return tell_want_of_memory(errors);
     };
+    let answer = filter_into(alloc, input.as_slice(), &options, writer, buffer);
+    tell(errors, answer)
+}
+
+// Filters into a writer that is lent, and hands on all that waits for it.
+fn filter_into<W: Write>(
+    alloc: Global,
+    dump: &[u8],
+    options: &Options,
+    writer: &mut W,
+    buffer: Vec<u8>,
+) -> Answer
+    ensures { Ran options.now dump.now (W.contents writer.old) (W.contents writer.new) result }
+{
+    let mut sink = OutMut::new(writer, buffer);
+    let answer = run_plain(alloc, dump, options, &mut sink);
+    let flushed = flush_behind(&mut sink, answer);
+    let written = sink.written();
     let _ = sink.into_inner();
-    Flushed { answer, unflushed }
+    match flushed {
+        Ok(()) => answer,
+        Err(SinkDown) => Answer::Failed {
+            failure: Failure::Sink,
+            written,
+        },
+    }
+}
+
+// Hands on all that waits and flushes the writer, unless the run's sink failed: then no more is tried.
+fn flush_behind<W: Write>(sink: &mut OutMut<'_, W>, answer: Answer) -> Result<(), SinkDown>
+    ensures taken { Keeps (lent_taken sink.old) (lent_taken sink.new) }
+    ensures empty { OnOk result (sink.new.waiting ≡ []) }
+    ensures loan { loan_of sink.new ≡ loan_of sink.old }
+{
+    if let Answer::Failed {
+        failure: Failure::Sink,
+        ..
+    } = answer
+    {
+        return Err(SinkDown);
+    }
+    sink.flush()
 }
 
 // The line of an answer, and the status.
@@ -94,28 +109,16 @@ fn tell<E: Write>(errors: &mut E, answer: Answer) -> u8
             1
         }
         Answer::Failed { failure, written } => {
-            write_failure(errors, failure_named(failure), written);
+            write_failure(errors, failure, written);
             1
         }
     }
 }
 
-fn failure_named(failure: Failure) -> lines::Failure {
-    match failure {
-        Failure::Sink => lines::Failure::Sink,
-        Failure::Memory => lines::Failure::Memory,
-        Failure::Threads => lines::Failure::Threads,
-    }
-}
-
-// How much was written, where a flush failed.
-fn flush<W: Write>(sink: &mut OutMut<'_, W>) -> Option<u64>
-    ensures start { sink.new.out.start ≡ sink.old.out.start }
-    ensures taken { Keeps sink.old.out.taken sink.new.out.taken }
-    ensures through { sink.new.through ≡ sink.old.through }
+// The line and the status where there was no memory before the run.
+fn tell_want_of_memory<E: Write>(errors: &mut E) -> u8
+    ensures { result ≡ 1 }
 {
-    match sink.flush() {
-        Ok(()) => None,
-        Err(_) => Some(sink.written()),
-    }
+    write_failure(errors, Failure::Memory, 0);
+    1
 }

@@ -1,31 +1,16 @@
 //! The lines on standard error. What goes wrong in writing them is ignored: there is nowhere left to
 //! say so.
 
+use dump_pipeline::Failure;
 use dump_text::FaultKind;
 use std::io::Write;
 
-/// Why a run ended before the dump did, for no fault of the dump.
-#[derive(Clone, Copy, Debug, PartialEq, Eq)]
-pub enum Failure {
-    /// The output took no more bytes.
-    Sink,
-    /// No memory was left.
-    Memory,
-    /// A thread couldn't be started.
-    Threads,
-    /// The input couldn't be read.
-    Source,
-}
-
-impl Failure {
-    /// The failure's number, as users see it.
-    fn code(self) -> u8 {
-        match self {
-            Failure::Sink => 20,
-            Failure::Memory => 21,
-            Failure::Threads => 22,
-            Failure::Source => 24,
-        }
+/// The failure's number, as users see it.
+fn code(failure: Failure) -> u8 {
+    match failure {
+        Failure::Sink => 20,
+        Failure::Memory => 21,
+        Failure::Threads => 22,
     }
 }
 
@@ -46,9 +31,14 @@ pub fn write_fault<E: Write>(errors: &mut E, kind: FaultKind, number: u64, place
 
 /// The failure of a run that had written so many bytes.
 pub fn write_failure<E: Write>(errors: &mut E, failure: Failure, written: u64) {
-    let code = failure.code();
+    let code = code(failure);
     let _ = writeln!(
         errors,
         "svndumpfilter: failure {code} {failure:?} after {written} bytes"
     );
+}
+
+/// The failure of the input, of which nothing was filtered.
+pub fn write_unread<E: Write>(errors: &mut E) {
+    let _ = errors.write_all(b"svndumpfilter: failure 24 Source after 0 bytes\n");
 }

@@ -3,8 +3,9 @@
 mod drive;
 
 use crate::input::{Unread, read_all};
-use crate::lines::{Failure, write_failure, write_fault, write_usage};
+use crate::lines::{write_failure, write_fault, write_unread, write_usage};
 use crate::words::{Usage, options_of};
+use dump_pipeline::Failure;
 use dump_rules::{Empty, Side};
 use dump_text::FaultKind;
 use std::alloc::Global;
@@ -235,14 +236,14 @@ fn lines_say_what_went_wrong(rt: HostRuntime) {
     write_fault(&mut lines, FaultKind::Sha1, 2, 151);
     write_failure(&mut lines, Failure::Sink, 100);
     write_failure(&mut lines, Failure::Memory, 0);
-    write_failure(&mut lines, Failure::Threads, 0);
-    write_failure(&mut lines, Failure::Source, u64::MAX);
+    write_failure(&mut lines, Failure::Threads, u64::MAX);
+    write_unread(&mut lines);
     write_usage(&mut lines);
     let wanted = "svndumpfilter: fault 11 Sha1 in record 2 at byte 151\n\
         svndumpfilter: failure 20 Sink after 100 bytes\n\
         svndumpfilter: failure 21 Memory after 0 bytes\n\
-        svndumpfilter: failure 22 Threads after 0 bytes\n\
-        svndumpfilter: failure 24 Source after 18446744073709551615 bytes\n\
+        svndumpfilter: failure 22 Threads after 18446744073709551615 bytes\n\
+        svndumpfilter: failure 24 Source after 0 bytes\n\
         usage: svndumpfilter include|exclude [OPTIONS] PREFIX...\n";
     assert_eq!(rt; lines.as_slice(), wanted.as_bytes());
 }
@@ -264,6 +265,7 @@ impl Write for Gone {
 #[test]
 fn a_line_that_nobody_reads_is_let_go() {
     write_fault(&mut Gone, FaultKind::Order, 1, 31);
-    write_failure(&mut Gone, Failure::Source, 0);
+    write_failure(&mut Gone, Failure::Sink, 0);
+    write_unread(&mut Gone);
     write_usage(&mut Gone);
 }

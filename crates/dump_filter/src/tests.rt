@@ -7,7 +7,7 @@ use dump_digest::Done;
 use dump_records::{Cut, Cutter};
 use dump_rules::{Empty, Options, Side};
 use dump_text::FaultKind;
-use dump_writer::Piece;
+use dump_writer::{Chunk, Piece};
 use std::alloc::{AllocError, Global};
 use std::process::Abort;
 use std::test::Fail;
@@ -59,12 +59,13 @@ struct Worked<'a> {
     counts: (u64, u64, u64, u64),
 }
 
-// What was written, and how long it was behind each piece. Its room is reserved, so that behind it only the filter's
-// memory is refused.
+// What was written, how long it was behind each piece, and how many chunks were made and not lent. Its room is
+// reserved, so that behind it only the filter's memory is refused.
 #[derive(Drop)]
 struct Written {
     text: Vec<u8>,
     lengths: Vec<usize>,
+    made: u64,
 }
 
 impl Written {
@@ -72,12 +73,16 @@ impl Written {
         Ok(Written {
             text: Vec::with_capacity(alloc, 1000)?,
             lengths: Vec::with_capacity(alloc, 7)?,
+            made: 0,
         })
     }
 
     fn add(&mut self, piece: &Piece<'_>) -> Result<(), AllocError> {
         for chunk in piece.chunks() {
             self.text.extend_from_slice(chunk.bytes())?;
+            if let Chunk::Own(_) = chunk {
+                self.made = self.made.saturating_add(1);
+            }
         }
         self.lengths.push(self.text.len())?;
         Ok(())
@@ -270,6 +275,24 @@ fn numbers_are_spelled_anew(rt: HostRuntime) -> Result<(), Fail> {
         counts: (1, 0, 0, 0),
     };
     assert_worked(&rt, rt.alloc(), &worked)
+}
+
+#[test]
+fn what_stays_is_lent(rt: HostRuntime) -> Result<(), Fail> {
+    let alloc = rt.alloc();
+    let options = options(alloc, Side::Include, b"/", Empty::Pad)?;
+    let rows = [
+        ([VERSION, UUID, REVISION_0, REVISION_1, TRUNK].as_slice(), 0),
+        (&[VERSION, SPELLED_REVISION_7], 1),
+    ];
+    for (parts, made) in rows {
+        let dump = joined(alloc, parts)?;
+        let mut out = Written::new(alloc)?;
+        let answer = run(&rt, alloc, &dump, &options, &mut out);
+        assert!(rt; answer.is_ok());
+        assert_eq!(rt; out.made, made);
+    }
+    Ok(())
 }
 
 #[test]

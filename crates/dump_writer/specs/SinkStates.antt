@@ -1,10 +1,11 @@
 -- What the contracts see of a sink over a writer and of a sink in memory.
 use Rattle.std.specs.Prelude.{◌≡◌, ℕ, ◌+◌, ◌-◌, ◌<◌, ◌==◌, Bool, min, List, ◌++◌, length, take, Option, Result, Ok, Err, if◌then◌else◌}
 use base.Fml.{GName}
+use Rattle.std.specs.Io.KnownBytes.{append_known}
 use Rattle.dump_writer.specs.declared.memory.Trouble.{Trouble}
 use Rattle.dump_writer.specs.declared.memory.Trouble.TheVariants.{Never, Once, From}
 use Rattle.dump_writer.specs.declared.sink.SinkDown.{SinkDown}
-use Rattle.dump_writer.specs.SinkWords.{capped}
+use Rattle.dump_writer.specs.SinkWords.{capped, Loan}
 
 -- a sink over a writer: what the writer held at first and what it holds, where that is known, how many bytes the sink
 -- took, and how often it failed
@@ -23,10 +24,19 @@ abbrev pub OutStep : OutState → Result ℕ SinkDown → OutState → Type 0
 OutStep old (Ok n) new = (new.start ≡ old.start) × (new.written ≡ capped (old.written + n)) × (new.failures ≡ old.failures)
 OutStep old (Err down) new = (new.start ≡ old.start) × (new.written ≡ old.written) × (new.failures ≡ capped (old.failures + 1))
 
--- a sink over a writer that is lent: the loan, and the rest
+-- a sink over a writer that is lent: the loan, the bytes that wait for the writer, and what the writer holds and took
 pub record LentState : Type 0 where
   pub through : GName
+  pub waiting : List ℕ
   pub out : OutState
+
+-- its loan
+abbrev pub loan_of : LentState → Loan
+loan_of sink = record { writer = sink.through; held = sink.out.start }
+
+-- what such a sink took: what the writer holds, and what waits
+abbrev pub lent_taken : LentState → Option (List ℕ)
+lent_taken sink = append_known sink.out.taken sink.waiting
 
 -- a sink in memory: what it took, how many bytes it takes at most in a call, its trouble, and how often it failed
 pub record MemoryState : Type 0 where

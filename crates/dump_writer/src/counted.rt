@@ -69,6 +69,30 @@ pub(crate) fn write_counted<W: Write>(
     }
 }
 
+// Calls of the writer until it has taken all the bytes or fails; how many it took.
+pub(crate) fn write_all_counted<W: Write>(
+    writer: &mut W,
+    counts: &mut Counts,
+    bytes: &[u8],
+) -> usize
+    ensures most { result ≤ length bytes.now }
+    ensures taken { Appends (W.contents writer.old) (W.contents writer.new) (take result bytes.now) }
+    ensures no_failure { result ≡ length bytes.now → counts.new.failures ≡ counts.old.failures }
+    ensures counted { result < length bytes.now → CountsFailure counts.old.failures counts.new.failures }
+    ensures written { counts.new.written ≡ capped (counts.old.written + result) }
+    ensures grown { (start : Option (List ℕ)) → GrowsBy start (W.contents writer.old) counts.old.written
+        → GrowsBy start (W.contents writer.new) counts.new.written }
+{
+    let mut at = 0;
+    while at < bytes.len() {
+        match write_counted(writer, counts, &bytes[at..]) {
+            Ok(count) => at += count,
+            Err(SinkDown) => return at,
+        }
+    }
+    at
+}
+
 // Flushes the writer, once; an error is a failure.
 pub(crate) fn flush_counted<W: Write>(writer: &mut W, counts: &mut Counts) -> Result<(), SinkDown>
     ensures kept { Keeps (W.contents writer.old) (W.contents writer.new) }

@@ -1,15 +1,16 @@
-ghost use Rattle.std.specs.Prelude.{◌≡◌, ◌≤◌, ◌<◌, [], Some, take, length, IfOk, OnErr, OnOk};
-ghost use Rattle.std.specs.Io.KnownBytes.{Appends, Keeps, GrowsBy};
+ghost use Rattle.std.specs.Prelude.{◌≡◌, ◌≤◌, ◌<◌, ◌-◌, ◌++◌, [], Some, take, drop, length, vec_len, vec_capacity, IfOk, OnErr, OnOk};
+ghost use Rattle.std.specs.Io.KnownBytes.{Appends, Keeps, GrowsBy, append_known};
 ghost use Rattle.dump_writer.specs.SinkWords.{CountsFailure};
-ghost use Rattle.dump_writer.specs.SinkStates.{OutStep, new_out_state};
+ghost use Rattle.dump_writer.specs.SinkStates.{new_out_state, lent_taken, loan_of};
 
-use crate::counted::{Counts, flush_counted, write_counted};
+use crate::counted::{Counts, flush_counted, write_all_counted, write_counted};
 use crate::sink::{Sink, SinkDown};
 use std::io::Write;
 use std::marker::Model;
 use std::snapshot::Snapshot;
 
-/// A sink over a writer that is lent.
+/// A sink over a writer that is lent. Small texts wait in a buffer until there are enough for a call of the writer;
+/// [`flush`](OutMut::flush) hands them on.
 ///
 /// An [`Out`](crate::Out) over a `&mut W` takes the same bytes, but who passes it to a function that
 /// is generic in the sink no longer knows that it holds this reference. An `OutMut` says so by
@@ -18,6 +19,7 @@ use std::snapshot::Snapshot;
 pub struct OutMut<'a, W: Write> {
     writer: &'a mut W,
     start: Snapshot<W>,
+    waiting: Vec<u8>,
     counts: Counts,
 }
 
@@ -29,6 +31,7 @@ impl<'a, W: Write> Model for OutMut<'a, W> {
 
     ghost view = { λ o. record {
       through = o.writer.ghost_name;
+      waiting = o.waiting.items;
       out = record {
         start = W.contents o.start.value;
         taken = W.contents o.writer.now;
@@ -41,20 +44,55 @@ impl<'a, W: Write> Model for OutMut<'a, W> {
         GrowsBy (W.contents o.start.value) (W.contents o.writer.now) o.counts.written };
 }
 
+// Takes the first bytes away.
+fn remove_front(bytes: &mut Vec<u8>, count: usize)
+    requires { count ≤ vec_len bytes.old }
+    ensures items { bytes.new.items ≡ drop count bytes.old.items }
+    ensures capacity { vec_capacity bytes.new ≡ vec_capacity bytes.old }
+{
+    let len = bytes.len();
+    bytes.as_mut_slice().copy_within(count..len, 0);
+    bytes.truncate(len - count);
+}
+
+// How many bytes fit behind these.
+fn room(bytes: &Vec<u8>) -> usize
+    ensures { result ≡ vec_capacity bytes.now - vec_len bytes.now }
+{
+    bytes.capacity() - bytes.len()
+}
+
+// Adds bytes that fit.
+fn append(bytes: &mut Vec<u8>, more: &[u8])
+    requires { length more.now ≤ vec_capacity bytes.old - vec_len bytes.old }
+    ensures { bytes.new.items ≡ bytes.old.items ++ more.now }
+{
+    let Ok(()) = bytes.extend_from_slice(more) else {
+        unreachable!()
+    };
+}
+
 impl<'a, W: Write> OutMut<'a, W> {
-    /// A sink over this writer, which has taken nothing so far. It takes no memory.
-    pub fn new(writer: &'a mut W) -> OutMut<'a, W>
-        ensures through { result.through ≡ writer.entry.ghost_name }
-        ensures out { result.out ≡ new_out_state (W.contents writer.entry.now) }
+    /// A sink over this writer, which has taken nothing so far. What the buffer holds is let go; texts wait in its
+    /// capacity, and where it has none each is handed on at once. It takes no memory.
+    pub fn new(writer: &'a mut W, buffer: Vec<u8>) -> OutMut<'a, W>
+        ensures { result ≡ record {
+          through = writer.entry.ghost_name;
+          waiting = [];
+          out = new_out_state (W.contents writer.entry.now);
+        } }
     {
+        let mut waiting = buffer;
+        waiting.clear();
         OutMut {
             start: Snapshot::of(&*writer),
             writer,
+            waiting,
             counts: Counts::new(),
         }
     }
 
-    /// How many bytes it has taken; the count stays at `u64::MAX`.
+    /// How many bytes the writer has taken; the count stays at `u64::MAX`.
     pub fn written(&self) -> u64
         ensures count { result ≡ self.now.out.written }
         ensures grown { GrowsBy self.now.out.start self.now.out.taken result }
@@ -62,20 +100,39 @@ impl<'a, W: Write> OutMut<'a, W> {
         self.counts.written
     }
 
-    /// Flushes the writer, once. An error counts as one more failure.
-    pub fn flush(&mut self) -> Result<(), SinkDown>
+    // Hands on what waits; what the writer doesn't take goes on waiting.
+    fn hand_on(&mut self) -> Result<(), SinkDown>
         ensures start { self.new.out.start ≡ self.old.out.start }
-        ensures taken { Keeps self.old.out.taken self.new.out.taken }
-        ensures written { self.new.out.written ≡ self.old.out.written }
+        ensures taken { Keeps (lent_taken self.old) (lent_taken self.new) }
+        ensures empty { OnOk result (self.new.waiting ≡ []) }
         ensures no_failure { OnOk result (self.new.out.failures ≡ self.old.out.failures) }
         ensures counted { OnErr result (CountsFailure self.old.out.failures self.new.out.failures) }
         ensures through { self.new.through ≡ self.old.through }
     {
+        let all = self.waiting.len();
+        let count = write_all_counted(&mut *self.writer, &mut self.counts, self.waiting.as_slice());
+        remove_front(&mut self.waiting, count);
+        if count < all {
+            return Err(SinkDown);
+        }
+        Ok(())
+    }
+
+    /// Hands on what waits, and flushes the writer, once. An error counts as one more failure.
+    pub fn flush(&mut self) -> Result<(), SinkDown>
+        ensures start { self.new.out.start ≡ self.old.out.start }
+        ensures taken { Keeps (lent_taken self.old) (lent_taken self.new) }
+        ensures empty { OnOk result (self.new.waiting ≡ []) }
+        ensures no_failure { OnOk result (self.new.out.failures ≡ self.old.out.failures) }
+        ensures counted { OnErr result (CountsFailure self.old.out.failures self.new.out.failures) }
+        ensures through { self.new.through ≡ self.old.through }
+    {
+        self.hand_on()?;
         flush_counted(&mut *self.writer, &mut self.counts)
     }
 
-    /// The reference that was lent. A caller that wants to know what its writer holds calls this at
-    /// the end, and may let the reference go at once; of a sink that is only dropped it knows
+    /// The reference that was lent. What waits is let go: flush before. A caller that wants to know what its writer
+    /// holds calls this at the end, and may let the reference go at once; of a sink that is only dropped it knows
     /// nothing.
     pub fn into_inner(self) -> &'a mut W
         ensures through { result.ghost_name ≡ self.entry.through }
@@ -88,24 +145,31 @@ impl<'a, W: Write> OutMut<'a, W> {
 }
 
 impl<'a, W: Write> Sink for OutMut<'a, W> {
-    ghost taken = { λ out. out.out.taken };
+    ghost taken = { λ sink. lent_taken sink };
 
-    ghost failure_count = { λ out. out.out.failures };
+    ghost failure_count = { λ sink. sink.out.failures };
 
-    ghost through = { λ out. Some out.through };
+    ghost through = { λ sink. Some (loan_of sink) };
 
     fn accept(&mut self, bytes: &[u8]) -> Result<usize, SinkDown>
         ensures most { IfOk result (λ n. n ≤ length bytes.now) }
         ensures some { IfOk result (λ n. 0 < length bytes.now → 0 < n) }
         ensures empty { bytes.now ≡ [] → result ≡ Ok 0 }
-        ensures taken { IfOk result (λ n.
-            Appends self.old.out.taken self.new.out.taken (take n bytes.now)) }
+        ensures taken { IfOk result (λ n. Appends (lent_taken self.old) (lent_taken self.new) (take n bytes.now)) }
         ensures no_failure { IfOk result (λ _. self.new.out.failures ≡ self.old.out.failures) }
-        ensures untaken { OnErr result (Keeps self.old.out.taken self.new.out.taken) }
+        ensures untaken { OnErr result (Keeps (lent_taken self.old) (lent_taken self.new)) }
         ensures counted { OnErr result (CountsFailure self.old.out.failures self.new.out.failures) }
-        ensures through { Some self.new.through ≡ Some self.old.through }
-        ensures step { OutStep self.old.out result self.new.out }
+        ensures through { Some (loan_of self.new) ≡ Some (loan_of self.old) }
     {
+        if bytes.len() <= room(&self.waiting) {
+            append(&mut self.waiting, bytes);
+            return Ok(bytes.len());
+        }
+        self.hand_on()?;
+        if bytes.len() <= room(&self.waiting) {
+            append(&mut self.waiting, bytes);
+            return Ok(bytes.len());
+        }
         write_counted(&mut *self.writer, &mut self.counts, bytes)
     }
 

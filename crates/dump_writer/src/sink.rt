@@ -1,7 +1,6 @@
 ghost use Rattle.std.specs.Prelude.{◌≡◌, ◌≤◌, ◌<◌, [], ℕ, List, take, length, Option, None, IfOk, OnErr};
 ghost use Rattle.std.specs.Io.KnownBytes.{Appends, Keeps};
-ghost use base.Fml.{GName};
-ghost use Rattle.dump_writer.specs.SinkWords.{CountsFailure};
+ghost use Rattle.dump_writer.specs.SinkWords.{CountsFailure, Loan};
 
 /// A sink took none of the bytes.
 #[derive(Clone, Copy, Debug, PartialEq, Eq)]
@@ -22,8 +21,8 @@ pub trait Sink {
     /// How often it has failed; the count stays at `u64::MAX`.
     ghost failure_count: { Self → ℕ };
 
-    /// The lent writer that it writes to, where it has one: it stays the same.
-    ghost through: { Self → Option GName } = { λ _. None };
+    /// The lent writer that it writes to, and what that held at first, where it has one: they stay the same.
+    ghost through: { Self → Option Loan } = { λ _. None };
 
     /// Takes the first of the bytes, one or more where there are any.
     fn accept(&mut self, bytes: &[u8]) -> Result<usize, SinkDown>

@@ -84,16 +84,22 @@ fn five(alloc: Global) -> Result<Piece<'static>, Fail> {
     Ok(piece)
 }
 
-// A caller that is generic in the writer, and knows at its end what the writer holds.
-fn write_through<W: Write>(piece: &Piece<'_>, writer: &mut W) -> Result<(), SinkFault>
-    ensures whole { OnOk result (Appends (W.contents writer.old) (W.contents writer.new) piece.now) }
-    ensures cut { IfErr result (λ e.
-        TakesOnlyFirst (W.contents writer.old) (W.contents writer.new) piece.now e.written) }
+// A caller that is generic in the writer, and knows at its end what the writer holds. The error says how many bytes
+// the writer took.
+fn write_through<W: Write>(piece: &Piece<'_>, writer: &mut W, buffer: Vec<u8>) -> Result<(), u64>
+    ensures { OnOk result (Appends (W.contents writer.old) (W.contents writer.new) piece.now) }
 {
-    let mut sink = OutMut::new(writer);
-    let answer = write_piece(&mut sink, piece);
+    let mut sink = OutMut::new(writer, buffer);
+    let answer = match write_piece(&mut sink, piece) {
+        Ok(()) => sink.flush(),
+        Err(_) => Err(SinkDown),
+    };
+    let written = sink.written();
     let _ = sink.into_inner();
-    answer
+    match answer {
+        Ok(()) => Ok(()),
+        Err(SinkDown) => Err(written),
+    }
 }
 
 #[test]
@@ -163,14 +169,35 @@ fn a_writer_is_written_counted_and_given_back(rt: HostRuntime) -> Result<(), Fai
 #[test]
 fn a_lent_writer_is_written_and_counted(rt: HostRuntime) -> Result<(), Fail> {
     let piece = five(rt.alloc())?;
+    for room in [0, 1, 4, 5, 100] {
+        let mut text = Vec::from_slice(rt.alloc(), b"> ")?;
+        let buffer = Vec::with_capacity(rt.alloc(), room)?;
+        assert_eq!(rt; write_through(&piece, &mut text, buffer), Ok(()));
+        assert_eq!(rt; text.as_slice(), b"> abcde".as_slice());
+    }
+    Ok(())
+}
+
+#[test]
+fn small_texts_wait_for_the_writer(rt: HostRuntime) -> Result<(), Fail> {
     let mut text = Vec::from_slice(rt.alloc(), b"> ")?;
-    assert_eq!(rt; write_through(&piece, &mut text), Ok(()));
-    let mut sink = OutMut::new(&mut text);
-    assert_eq!(rt; sink.accept(b"fg"), Ok(2));
-    assert_eq!(rt; sink.accept(b""), Ok(0));
+    let buffer = Vec::with_capacity(rt.alloc(), 4)?;
+    let mut sink = OutMut::new(&mut text, buffer);
+    let rows = [
+        (b"ab".as_slice(), 0),
+        (b"", 0),
+        (b"cd", 0),
+        (b"efg", 4),
+        (b"hijkl", 12),
+        (b"m", 12),
+    ];
+    for (bytes, written) in rows {
+        assert_eq!(rt; sink.accept(bytes), Ok(bytes.len()));
+        assert_eq!(rt; sink.written(), written);
+    }
     assert_eq!(rt; sink.flush(), Ok(()));
-    assert_eq!(rt; (sink.written(), sink.failures()), (2, 0));
-    assert_eq!(rt; sink.into_inner().as_slice(), b"> abcdefg".as_slice());
+    assert_eq!(rt; (sink.written(), sink.failures()), (13, 0));
+    assert_eq!(rt; sink.into_inner().as_slice(), b"> abcdefghijklm".as_slice());
     Ok(())
 }
 
@@ -184,10 +211,7 @@ fn a_writer_that_breaks_is_a_failure(rt: HostRuntime) -> Result<(), Fail> {
             ending,
             flushes: 0,
         };
-        assert_eq!(rt;
-            write_through(&piece, &mut writer),
-            Err(SinkFault { written: 4 })
-        );
+        assert_eq!(rt; write_through(&piece, &mut writer, Vec::new(rt.alloc())), Err(4));
         assert_eq!(rt; writer.held.as_slice(), b"abcd".as_slice());
 
         let mut out = Out::new(writer);

@@ -1,0 +1,40 @@
+-- An output that broke off.
+use Rattle.std.proofs.Common.{ℕ, List, [], ◌++◌, Option, None, Some, refl, sym, ap, ◌∙◌, append_assoc, inr}
+use Rattle.std.proofs.lemmas.List.{append_cancel_left, append-nil}
+use Rattle.std.specs.Io.KnownBytes.{Appends, Keeps, GrowsBy, append_known}
+use Rattle.std.proofs.KnownBytes.{Appends-kept}
+use Rattle.dump_rules.specs.Settings.{Settings}
+use Rattle.dump_writer.specs.SinkWords.{IsPrefixOf}
+use Rattle.dump_pipeline.specs.declared.answer.Answer.{Answer}
+use Rattle.dump_pipeline.specs.declared.answer.Answer.TheVariants.{Failed}
+use Rattle.dump_pipeline.specs.declared.answer.Failure.TheVariants as failures
+use Rattle.dump_pipeline.specs.RunAnswer.{RunLeaves}
+use Rattle.dump_cli.specs.Drive.{Ran}
+
+-- where nothing waits the known bytes are those of the writer
+from_none : (a b : Option (List ℕ)) (bytes : List ℕ) → Appends (append_known a []) b bytes → Appends a b bytes
+from_none None b bytes more = tt
+from_none (Some xs) None bytes more = absurd more
+from_none (Some xs) (Some ys) bytes more = more ∙ ap (λ t. t ++ bytes) (append-nil xs)
+
+-- of the bytes that were sent the writer took those that don't wait
+arrived : (a c : Option (List ℕ)) (waiting sent : List ℕ) (n : ℕ) → GrowsBy a c n → Appends a (append_known c waiting) sent
+    → (part : List ℕ) × IsPrefixOf part sent × Appends a c part
+arrived None c waiting sent n grown all = ([], (sent, refl), tt)
+arrived (Some xs) None waiting sent n grown all = absurd all
+arrived (Some xs) (Some ys) waiting sent n grown all =
+    (grown.0, (waiting, append_cancel_left xs sent (grown.0 ++ waiting) (sym all ∙ ap (λ t. t ++ waiting) grown.1 ∙ append_assoc xs grown.0 waiting)), grown.1)
+
+-- a run whose last bytes wait for a writer that failed
+pub broke_off : (settings : Settings) (input : List ℕ) (answer : Answer) (a b c : Option (List ℕ)) (waiting : List ℕ) (n : ℕ)
+    → RunLeaves settings input (append_known a []) b answer → Keeps b (append_known c waiting) → GrowsBy a c n
+    → Ran settings input a c (Failed failures.Sink n)
+broke_off settings input answer a b c waiting n ran kept grown =
+    let all = Appends-kept a b (append_known c waiting) ran.received (from_none a b ran.received ran.appended) kept in
+    let part = arrived a c waiting ran.received n grown all in
+    record {
+      answer = answer;
+      sent = ran.received;
+      answered = ran.answered;
+      arrived = inr (record { part = part.0; written = n; begins = part.1; appended = part.2; counted = grown; told_is = refl });
+    }
