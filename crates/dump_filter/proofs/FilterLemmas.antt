@@ -107,6 +107,14 @@ pub only_order : (settings : Settings) (before : List DumpRecord) (r : DumpRecor
 only_order settings before r faults.Order h = refl
 only_order settings before r _ h = absurd h
 
+-- no record stands in no list
+no_snoc : (b a : List DumpRecord) (x : DumpRecord) → [] ≡ b ++ x ∷ a → ⊥
+no_snoc [] a x e = cc
+no_snoc (c ∷ b) a x e = cc
+
+pub free_none : (settings : Settings) → AreFaultFree settings []
+free_none settings = λ b a x is. absurd (no_snoc b a x is)
+
 -- one more record without a fault
 snoc_split : (before b a : List DumpRecord) (r x : DumpRecord) → before ++ r ∷ [] ≡ b ++ x ∷ a
     → ((before ≡ b) × (r ≡ x)) ⊎ ((rest : List DumpRecord) × (before ≡ b ++ x ∷ rest))
@@ -115,10 +123,6 @@ snoc_split [] (c ∷ b) a r x is = absurd (no_snoc b a x (tail_of r c [] (b ++ x
   where
     tail_of : (x y : DumpRecord) (xs ys : List DumpRecord) → x ∷ xs ≡ y ∷ ys → xs ≡ ys
     tail_of x y xs ys e = cc
-
-    no_snoc : (b a : List DumpRecord) (x : DumpRecord) → [] ≡ b ++ x ∷ a → ⊥
-    no_snoc [] a x e = cc
-    no_snoc (c ∷ b) a x e = cc
 snoc_split (y ∷ before) [] a r x is = inr (before, (let e : y ≡ x = head_of y x (before ++ r ∷ []) a is in ap (λ z. z ∷ before) e))
   where
     head_of : (x y : DumpRecord) (xs ys : List DumpRecord) → x ∷ xs ≡ y ∷ ys → x ≡ y
@@ -239,7 +243,7 @@ nodes_next settings before waiting report r roles.Other (other, no_rev) c =
     other_nodes settings before r (end_report settings waiting report) other (end_nodes settings before waiting report c)
 
 -- the records up to the next one
-begins_none : (dump : List ℕ) → BeginsWithRecords dump []
+pub begins_none : (dump : List ℕ) → BeginsWithRecords dump []
 begins_none dump = let s = strip dump in (s.rest, (s.count, s.is, s.stop))
 
 pub up_to_next : (settings : Settings) (active : Bool) (last : Option Record) (before : List DumpRecord) (r : Record) → AreUpTo last before
@@ -369,7 +373,7 @@ knows_none settings = record {
   before = [];
   up_to = refl;
   last_is = refl;
-  free = λ b a x is. absurd (no_snoc b a x is);
+  free = free_none settings;
   text = [];
   written = refl;
   present_is = refl;
@@ -379,10 +383,6 @@ knows_none settings = record {
   dropped_is = refl;
   texts_is = refl;
 }
-  where
-    no_snoc : (b a : List DumpRecord) (x : DumpRecord) → [] ≡ b ++ x ∷ a → ⊥
-    no_snoc [] a x e = cc
-    no_snoc (c ∷ b) a x e = cc
 
 -- a step, by a filter's fields
 module _ (settings : Settings) (active : Bool) (last : Option Record) (present : Option ℕ) (waiting : Option Waited) (report : Report)

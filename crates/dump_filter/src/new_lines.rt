@@ -136,11 +136,7 @@ pub(crate) fn new_block<'a>(
 }
 
 /// The lines of a record, written anew.
-fn write_block(
-    alloc: Global,
-    block: &Block<'_>,
-    changes: &Changes,
-) -> Result<Vec<u8>, Memory>
+fn write_block(alloc: Global, block: &Block<'_>, changes: &Changes) -> Result<Vec<u8>, Memory>
     ensures { IfOk result (λ bytes. bytes.items ≡ block_text (new_headers changes.now (block_headers block.now))) }
 {
     let mut out = Vec::new(alloc);

@@ -1,5 +1,5 @@
 -- A run over a dump, record by record.
-use Rattle.std.proofs.Common.{◌≡◌, ◌≢◌, ℕ, ◌+◌, ◌-◌, ◌<◌, Bool, true, false, List, [], ◌∷◌, ◌++◌, take, drop, length, refl, sym, ap, ◌∙◌, subst, arith, append_assoc, length-append, inl, inr, Option, Some, None}
+use Rattle.std.proofs.Common.{◌≡◌, ℕ, ◌+◌, ◌-◌, ◌<◌, Bool, true, false, List, [], ◌∷◌, ◌++◌, take, drop, length, refl, sym, ap, ◌∙◌, subst, arith, append_assoc, length-append, inl, inr, Option, Some, None}
 use Rattle.std.proofs.lemmas.List.{append-nil, take-append-drop, length-take}
 use Rattle.std.specs.Io.KnownBytes.{Appends}
 use Rattle.std.proofs.KnownBytes.{Appends-nil, Appends-trans}
@@ -12,7 +12,7 @@ use Rattle.dump_records.specs.RecordText.{DumpRecord}
 use Rattle.dump_records.specs.RecordViews.{record_dump, record_number, record_item, CutStep}
 use Rattle.dump_records.specs.CutterState.{CutterState}
 use Rattle.dump_records.specs.DumpText.{Ending, BeginsWithRecords, HasRecords, EndsAfter, IsRecordOf}
-use Rattle.dump_records.proofs.CutLemmas.{count_fits, strip}
+use Rattle.dump_records.proofs.CutLemmas.{count_fits}
 use Rattle.dump_records.proofs.ListLaw.{each_dump_has_one_list}
 use Rattle.dump_records.proofs.Prefixes.{is_front, one_more, whole_list, begins_prefix, begins_once}
 use Rattle.dump_rules.specs.Settings.{Settings}
@@ -23,7 +23,7 @@ use Rattle.dump_filter.specs.RecordFaults.{AreFaultFree, HoldsOfRecord, IsRecord
 use Rattle.dump_filter.specs.WholeText.{IsCleanText}
 use Rattle.dump_filter.specs.Groups.{kept_revisions}
 use Rattle.dump_filter.specs.Written.{IsWritten}
-use Rattle.dump_filter.proofs.FilterLemmas.{free_more}
+use Rattle.dump_filter.proofs.FilterLemmas.{free_more, free_none, begins_none}
 use Rattle.dump_filter.proofs.Answered.{AllLawful, Reached, all_lawful, lawful_front, lawful_behind, reach, reached_none, follow, Outcome, outputs_once}
 use Rattle.dump_filter.proofs.Answered.Outcome.{Stops, Ends}
 use Rattle.dump_pipeline.specs.declared.answer.Answer.{Answer}
@@ -114,14 +114,10 @@ begun settings dump cutter filter old cut first =
     subst (λ (c : CutterState). Progress settings dump c filter old old 0) (sym cut)
     (subst (λ (f : FilterState). Progress settings dump (record { dump = dump; number = 0 }) f old old 0) (sym first) at_first)
   where
-    no_snoc : (before after : List DumpRecord) (r : DumpRecord) → [] ≢ before ++ r ∷ after
-    no_snoc [] after r = λ is. absurd cc
-    no_snoc (x ∷ before) after r = λ is. absurd cc
-
     at_first : Progress settings dump (record { dump = dump; number = 0 }) (first_state settings) old old 0
-    at_first = let s = strip dump in record {
+    at_first = record {
       before = [];
-      begins = (s.rest, (s.count, s.is, s.stop));
+      begins = begins_none dump;
       count = refl;
       cut = refl;
       settings_is = refl;
@@ -129,7 +125,7 @@ begun settings dump cutter filter old cut first =
       accepted = refl;
       same_dump = tt;
       next = refl;
-      free = λ before after r is. absurd (no_snoc before after r is);
+      free = free_none settings;
       text = [];
       out = refl;
       appended = Appends-nil old;

@@ -211,7 +211,10 @@ fn a_writer_that_breaks_is_a_failure(rt: HostRuntime) -> Result<(), Fail> {
             ending,
             flushes: 0,
         };
-        assert_eq!(rt; write_through(&piece, &mut writer, Vec::new(rt.alloc())), Err(4));
+        assert_eq!(rt;
+            write_through(&piece, &mut writer, Vec::new(rt.alloc())),
+            Err(4)
+        );
         assert_eq!(rt; writer.held.as_slice(), b"abcd".as_slice());
 
         let mut out = Out::new(writer);

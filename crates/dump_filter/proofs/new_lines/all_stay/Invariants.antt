@@ -8,4 +8,4 @@ abbrev pub invariant-loop-line : goal.invariant-loop-line
 invariant-loop-line l =
     (goal.iterator-loop-line).can_next l.lines × (goal.iterator-loop-line).is_finite l.lines
     × (map (renewed l.changes) (lines_left l.lines) ≡ lines_left l.lines
-        → map (renewed l.changes) (block_headers l.block) ≡ block_headers l.block)
+    → map (renewed l.changes) (block_headers l.block) ≡ block_headers l.block)
