@@ -10,18 +10,22 @@ use Rattle.dump_rules.specs.declared.options.Empty.TheVariants.{Pad, DropEmptied
 use Rattle.dump_cli.specs.declared.words.Usage.{Usage}
 use Rattle.dump_cli.specs.declared.words.Usage.TheVariants.{Words, BothDrops, Memory}
 
--- the three flags
+-- the four flags
 abbrev pub drop_empty_flag : List ℕ
 drop_empty_flag = codes "--drop-empty-revs"
 
 abbrev pub drop_all_flag : List ℕ
 drop_all_flag = codes "--drop-all-empty-revs"
 
+abbrev pub renumber_flag : List ℕ
+renumber_flag = codes "--renumber-revs"
+
 abbrev pub preserve_flag : List ℕ
 preserve_flag = codes "--preserve-revprops"
 
 abbrev pub is_flag : List ℕ → Bool
-is_flag word = bytes_eq word drop_empty_flag || bytes_eq word drop_all_flag || bytes_eq word preserve_flag
+is_flag word =
+    bytes_eq word drop_empty_flag || bytes_eq word drop_all_flag || bytes_eq word renumber_flag || bytes_eq word preserve_flag
 
 -- whether a minus sign stands first; flags begin so, and no prefix does
 abbrev pub has_minus_first : List ℕ → Bool
@@ -38,13 +42,13 @@ empty_of true false = Some DropEmptied
 empty_of false true = Some DropAll
 empty_of true true = None
 
-abbrev pub settings_of : Side → List (List ℕ) → Bool → Option Empty → Result Settings Usage
-settings_of side prefixes preserve None = Err BothDrops
-settings_of side prefixes preserve (Some empty) = Ok (record {
+abbrev pub settings_of : Side → List (List ℕ) → Bool → Bool → Option Empty → Result Settings Usage
+settings_of side prefixes renumber preserve None = Err BothDrops
+settings_of side prefixes renumber preserve (Some empty) = Ok (record {
   side = side;
   prefixes = prefixes;
   empty = empty;
-  renumber = false;
+  renumber = renumber;
   preserve = preserve;
   skip_missing = false;
 })
@@ -64,7 +68,7 @@ module _ {Word : Type 0} (text : Word → List ℕ) where
   -- flags alone, each at most once
   abbrev pub are_flags : List Word → Bool
   are_flags words = list_all (λ word. is_flag (text word)) words && nat_le (times drop_empty_flag words) 1
-      && nat_le (times drop_all_flag words) 1 && nat_le (times preserve_flag words) 1
+      && nat_le (times drop_all_flag words) 1 && nat_le (times renumber_flag words) 1 && nat_le (times preserve_flag words) 1
 
   -- one or more words, none of which begins with a minus sign
   abbrev pub are_prefixes : List Word → Bool
@@ -74,7 +78,7 @@ module _ {Word : Type 0} (text : Word → List ℕ) where
   abbrev pub order_of : Option Side → List Word → List Word → Result Settings Usage
   order_of None flags prefixes = Err Words
   order_of (Some side) flags prefixes = if are_flags flags && are_prefixes prefixes
-      then settings_of side (map text prefixes) (has preserve_flag flags) (empty_of (has drop_empty_flag flags) (has drop_all_flag flags))
+      then settings_of side (map text prefixes) (has renumber_flag flags) (has preserve_flag flags) (empty_of (has drop_empty_flag flags) (has drop_all_flag flags))
       else Err Words
 
   -- the order that the words give: the program's name, a side, flags in any order, prefixes

@@ -18,6 +18,7 @@ struct Order<'a> {
     side: Side,
     prefixes: &'a [&'a str],
     empty: Empty,
+    renumber: bool,
     preserve: bool,
 }
 
@@ -25,11 +26,9 @@ fn assert_order(rt: &impl Abort, alloc: Global, words: &[&str], order: &Order) -
     let options = options_of(alloc, words)?;
     assert_eq!(rt; options.side(), order.side, "in {words:?}");
     assert_eq!(rt; options.empty(), order.empty, "in {words:?}");
+    assert_eq!(rt; options.renumber(), order.renumber, "in {words:?}");
     assert_eq!(rt; options.preserve(), order.preserve, "in {words:?}");
-    assert!(rt;
-        !options.renumber() && !options.skip_missing(),
-        "in {words:?}"
-    );
+    assert!(rt; !options.skip_missing(), "in {words:?}");
     for (n, prefix) in order.prefixes.iter().enumerate() {
         assert_eq!(rt; options.prefix(n), Some(prefix.as_bytes()), "in {words:?}");
     }
@@ -44,6 +43,7 @@ fn sides_and_prefixes_are_read(rt: HostRuntime) -> Result<(), Fail> {
         side: Side::Include,
         prefixes: &["trunk"],
         empty: Empty::Pad,
+        renumber: false,
         preserve: false,
     };
     assert_order(&rt, alloc, &["svndumpfilter", "include", "trunk"], &include)?;
@@ -51,6 +51,7 @@ fn sides_and_prefixes_are_read(rt: HostRuntime) -> Result<(), Fail> {
         side: Side::Exclude,
         prefixes: &["//trunk/", "", "br\u{e4}nche", "a b"],
         empty: Empty::Pad,
+        renumber: false,
         preserve: false,
     };
     let words = ["", "exclude", "//trunk/", "", "br\u{e4}nche", "a b"];
@@ -64,6 +65,7 @@ fn flags_are_read_in_any_order(rt: HostRuntime) -> Result<(), Fail> {
         side: Side::Include,
         prefixes: &["a"],
         empty: Empty::Pad,
+        renumber: false,
         preserve: true,
     };
     assert_order(
@@ -107,6 +109,32 @@ fn flags_are_read_in_any_order(rt: HostRuntime) -> Result<(), Fail> {
     )
 }
 
+#[test]
+fn renumbering_is_read_beside_the_other_flags(rt: HostRuntime) -> Result<(), Fail> {
+    let alloc = rt.alloc();
+    let mut order = Order {
+        side: Side::Exclude,
+        prefixes: &["a", "b"],
+        empty: Empty::Pad,
+        renumber: true,
+        preserve: false,
+    };
+    let words = ["p", "exclude", "--renumber-revs", "a", "b"];
+    assert_order(&rt, alloc, &words, &order)?;
+    order.empty = Empty::DropEmptied;
+    order.preserve = true;
+    let words = [
+        "p",
+        "exclude",
+        "--preserve-revprops",
+        "--renumber-revs",
+        "--drop-empty-revs",
+        "a",
+        "b",
+    ];
+    assert_order(&rt, alloc, &words, &order)
+}
+
 fn assert_refused(rt: &impl Abort, alloc: Global, words: &[&str], usage: Usage) {
     match options_of(alloc, words) {
         Ok(_) => panic!(rt; "{words:?} is an order"),
@@ -144,6 +172,9 @@ fn other_flags_are_refused(rt: HostRuntime) {
         "--preserve-revprops",
         "a",
     ]);
+    refused(&["p", "include", "--renumber-revs", "--renumber-revs", "a"]);
+    refused(&["p", "include", "--renumber", "a"]);
+    refused(&["p", "include", "a", "--renumber-revs"]);
     refused(&[
         "p",
         "include",

@@ -10,6 +10,8 @@ const DROP_EMPTY: &str = "--drop-empty-revs";
 
 const DROP_ALL: &str = "--drop-all-empty-revs";
 
+const RENUMBER: &str = "--renumber-revs";
+
 const PRESERVE: &str = "--preserve-revprops";
 
 /// Why words give no options.
@@ -49,11 +51,20 @@ fn order(alloc: Global, side: &str, flags: &[&str], prefixes: &[&str]) -> Result
     let Some(empty) = empty(flags) else {
         return Err(Usage::BothDrops);
     };
+    let renumber = contains(flags, RENUMBER);
     let preserve = contains(flags, PRESERVE);
     let Ok(texts) = as_bytes(alloc, prefixes) else {
         return Err(Usage::Memory);
     };
-    match Options::new(alloc, side, texts.as_slice(), empty, false, preserve, false) {
+    match Options::new(
+        alloc,
+        side,
+        texts.as_slice(),
+        empty,
+        renumber,
+        preserve,
+        false,
+    ) {
         Ok(options) => Ok(options),
         Err(_) => Err(Usage::Memory),
     }
@@ -107,7 +118,7 @@ fn stands_once(words: &[&str], word: &str) -> bool
 fn is_known(word: &str) -> bool
     ensures { result ≡ is_flag word.now }
 {
-    word == DROP_EMPTY || word == DROP_ALL || word == PRESERVE
+    word == DROP_EMPTY || word == DROP_ALL || word == RENUMBER || word == PRESERVE
 }
 
 fn all_known(words: &[&str]) -> bool
@@ -123,6 +134,7 @@ fn all_flags(words: &[&str]) -> bool
     all_known(words)
         && stands_once(words, DROP_EMPTY)
         && stands_once(words, DROP_ALL)
+        && stands_once(words, RENUMBER)
         && stands_once(words, PRESERVE)
 }
 

@@ -1,10 +1,11 @@
 -- What a verdict on a record means.
-use Rattle.std.specs.Prelude.{◌≡◌, true, false}
+use Rattle.std.specs.Prelude.{◌≡◌, ◌↔◌, true, false, IsFalse}
 use Rattle.dump_records.specs.RecordText.{DumpRecord}
 use Rattle.dump_rules.specs.Settings.{Settings}
 use Rattle.dump_digest.specs.declared.verdict.Verdict.{Verdict}
+use Rattle.dump_digest.specs.ContentFaults.{HasBadProperties}
 
--- nothing is checked yet, and all is ok
-abbrev pub IsVerdict : Settings → DumpRecord → Verdict → Type 0
-IsVerdict settings r v =
-    v ≡ record { props_ok = true; md5_ok = true; sha1_ok = true; merge_ok = true; checked = false }
+-- the properties aren't ok exactly where the record has their fault; the rest isn't checked yet, and is ok
+pub record IsVerdict (settings : Settings) (r : DumpRecord) (v : Verdict) : Type 0 where
+  pub props : IsFalse v.props_ok ↔ HasBadProperties settings r
+  pub rest : v ≡ record v { md5_ok = true; sha1_ok = true; merge_ok = true; checked = false }

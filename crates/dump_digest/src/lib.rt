@@ -11,14 +11,16 @@
 //! done.item().place();   // the record's place in the dump
 //! ```
 //!
-//! Nothing is checked yet: each verdict says that all is ok and that no text was compared with a
-//! digest. No memory is taken.
+//! The properties of revisions and of kept nodes are checked. Digests and mergeinfo aren't yet: a
+//! verdict says that they are ok, and that no text was compared with a digest. No memory is taken.
 #![tactic(auto)]
 
 mod done;
+mod kept;
 mod verdict;
 
 pub use done::Done;
+pub use kept::is_kept;
 pub use verdict::{Verdict, check};
 
 #[cfg(test)]

@@ -8,9 +8,10 @@ use Rattle.dump_text.specs.HeaderBlock.{block_text}
 use Rattle.dump_rules.specs.Settings.{Settings}
 use Rattle.dump_rules.specs.Renumbering.{KeptRevisions}
 use Rattle.dump_digest.specs.RecordParts.{is_revision, is_node, is_kept_node}
-use Rattle.dump_filter.specs.Groups.{Group, group_of, groups, group_number, has_kept_node, is_bare, keeps_group, keeps_empty, revision_number}
-use Rattle.dump_filter.specs.RecordOutput.{revision_text, IsNodeOutput, IsOutput}
+use Rattle.dump_filter.specs.Groups.{Group, group_of, groups, group_number, has_kept_node, is_bare, is_pad, is_padded, keeps_group, keeps_empty, revision_number}
+use Rattle.dump_filter.specs.RecordOutput.{revision_text, IsRevisionOutput, IsNodeOutput, IsOutput}
 use Rattle.dump_filter.specs.Shape.{is_plain}
+use Rattle.dump_filter.proofs.BoolLemmas.{first_true, second_true, first_false, second_false, not_true}
 use Rattle.dump_filter.specs.Written.{is_open, is_written, AreOutputs}
 
 take_cons : (n : ℕ) (x : DumpRecord) (xs : List DumpRecord) → take (1 + n) (x ∷ xs) ≡ x ∷ take n xs
@@ -40,26 +41,6 @@ groups_before (x ∷ xs) zs y other = cases (is_revision x) refl (groups_before 
     cases true is more = rw is (ap (λ (g : Group). g ∷ groups (xs ++ y ∷ zs)) (group_before x xs zs y other)
         ∙ ap (λ (gs : List Group). group_of x xs ∷ gs) more)
     cases false is more = rw is more
-
-pub first_true : (a b : Bool) → (a && b) ≡ true → a ≡ true
-first_true true b h = refl
-first_true false b h = cc
-
-pub second_true : (a b : Bool) → (a && b) ≡ true → b ≡ true
-second_true true b h = h
-second_true false b h = cc
-
-pub first_false : (a b : Bool) → (a || b) ≡ false → a ≡ false
-first_false true b h = h
-first_false false b h = refl
-
-pub second_false : (a b : Bool) → (a || b) ≡ false → b ≡ false
-second_false true b h = cc
-second_false false b h = h
-
-not_true : (a : Bool) → not a ≡ true → a ≡ false
-not_true true h = cc
-not_true false h = refl
 
 pub plain_node : (r : DumpRecord) → is_plain r ≡ true → is_node r ≡ true
 plain_node r h = first_true (is_node r) (not (is_revision r)) h
@@ -110,7 +91,7 @@ any_more settings ns r = list_any-append (is_kept_node settings) ns (r ∷ []) �
     or_false true = refl
     or_false false = refl
 
-module _ (settings : Settings) (k k' : KeptRevisions) where
+module _ (settings : Settings) (k : KeptRevisions) where
   -- a record before one that is no node is written as if the dump had ended
   written_before : (ended : Bool) (x : DumpRecord) (xs zs : List DumpRecord) (y : DumpRecord) → is_node y ≡ false
       → is_written settings ended x (xs ++ y ∷ zs) ≡ is_written settings true x xs
@@ -135,14 +116,35 @@ module _ (settings : Settings) (k k' : KeptRevisions) where
           ∙ either (keeps_group settings (group_of x xs)) ended (has_kept_node settings (group_of x xs)))
       cases false is = rw is refl
 
-  outputs_kept : (ended : Bool) (rs : List DumpRecord) (text : List ℕ) → AreOutputs settings ended k rs text → AreOutputs settings ended k' rs text
-  outputs_kept ended [] text out = out
-  outputs_kept ended (r ∷ rs) text (front, rest, is, this, more) = (front, rest, is, this, outputs_kept ended rs rest more)
+  -- what is written of a record, by its group
+  abbrev OutputBy : DumpRecord → Group → List ℕ → Type 0
+  OutputBy r g text = MatchBool (is_revision r) (IsRevisionOutput settings k g text)
+      (MatchBool (is_node r) (IsNodeOutput settings k r text) (text ≡ block_text r.headers))
+
+  -- the group of a record that is no revision doesn't matter
+  plain_output : (r : DumpRecord) (g h : Group) (text : List ℕ) → is_revision r ≡ false → OutputBy r g text → OutputBy r h text
+  plain_output r g h text other out =
+      subst (λ (b : Bool). MatchBool b (IsRevisionOutput settings k h text) (MatchBool (is_node r) (IsNodeOutput settings k r text) (text ≡ block_text r.headers))) (sym other)
+      (subst (λ (b : Bool). MatchBool b (IsRevisionOutput settings k g text) (MatchBool (is_node r) (IsNodeOutput settings k r text) (text ≡ block_text r.headers))) other out)
+
+  abbrev WrittenBy : Bool → DumpRecord → Group → List ℕ → Type 0
+  WrittenBy b r g text = MatchBool b (OutputBy r g text) (text ≡ [])
+
+  moved_output : (b c : Bool) (r : DumpRecord) (g h : Group) (text : List ℕ) → b ≡ c → g ≡ h → WrittenBy b r g text → WrittenBy c r h text
+  moved_output b c r g h text same group out =
+      subst (λ (d : Bool). WrittenBy d r h text) same (subst (λ (i : Group). WrittenBy b r i text) group out)
+
+  plain_written : (b c : Bool) (r : DumpRecord) (g h : Group) (text : List ℕ) → is_revision r ≡ false → b ≡ c → WrittenBy b r g text → WrittenBy c r h text
+  plain_written b c r g h text other same out = subst (λ (d : Bool). WrittenBy d r h text) same (by_case b out)
+    where
+      by_case : (d : Bool) → WrittenBy d r g text → WrittenBy d r h text
+      by_case true own = plain_output r g h text other own
+      by_case false none = none
 
   pub outputs_cut : (ended : Bool) (xs zs : List DumpRecord) (y : DumpRecord) (text : List ℕ) → is_node y ≡ false
       → AreOutputs settings ended k (xs ++ y ∷ zs) text
-      → (front rest : List ℕ) × (text ≡ front ++ rest) × AreOutputs settings true k' xs front × AreOutputs settings ended k' (y ∷ zs) rest
-  outputs_cut ended [] zs y text other out = ([], text, refl, refl, outputs_kept ended (y ∷ zs) text out)
+      → (front rest : List ℕ) × (text ≡ front ++ rest) × AreOutputs settings true k xs front × AreOutputs settings ended k (y ∷ zs) rest
+  outputs_cut ended [] zs y text other out = ([], text, refl, refl, out)
   outputs_cut ended (x ∷ xs) zs y text other (front, rest, is, this, more) =
       let left = outputs_cut ended xs zs y rest other more in (
         front ++ left.0,
@@ -152,41 +154,41 @@ module _ (settings : Settings) (k k' : KeptRevisions) where
           front,
           left.0,
           refl,
-          subst (λ (b : Bool). MatchBool b (IsOutput settings k' x xs front) (front ≡ [])) (written_before ended x xs zs y other) this,
+          moved_output _ _ x (group_of x (xs ++ y ∷ zs)) (group_of x xs) front (written_before ended x xs zs y other) (group_before x xs zs y other) this,
           left.3,
         ),
         left.4,
       )
 
   pub outputs_join : (ended : Bool) (xs zs : List DumpRecord) (y : DumpRecord) (front rest : List ℕ) → is_node y ≡ false
-      → AreOutputs settings true k xs front → AreOutputs settings ended k' (y ∷ zs) rest
-      → AreOutputs settings ended k' (xs ++ y ∷ zs) (front ++ rest)
+      → AreOutputs settings true k xs front → AreOutputs settings ended k (y ∷ zs) rest
+      → AreOutputs settings ended k (xs ++ y ∷ zs) (front ++ rest)
   outputs_join ended [] zs y front rest other none behind =
-      subst (λ (t : List ℕ). AreOutputs settings ended k' (y ∷ zs) t) (ap (λ t. t ++ rest) (sym none)) behind
+      subst (λ (t : List ℕ). AreOutputs settings ended k (y ∷ zs) t) (ap (λ t. t ++ rest) (sym none)) behind
   outputs_join ended (x ∷ xs) zs y front rest other (first, more, is, this, out) behind = (
     first,
     more ++ rest,
     ap (λ t. t ++ rest) is ∙ append_assoc first more rest,
-    subst (λ (b : Bool). MatchBool b (IsOutput settings k' x xs first) (first ≡ [])) (sym (written_before ended x xs zs y other)) this,
+    moved_output _ _ x (group_of x xs) (group_of x (xs ++ y ∷ zs)) first (sym (written_before ended x xs zs y other)) (sym (group_before x xs zs y other)) this,
     outputs_join ended xs zs y more rest other out behind,
   )
 
   -- what is written of a node
   abbrev pub OwnOutput : DumpRecord → List ℕ → Type 0
-  OwnOutput r text = MatchBool (is_kept_node settings r) (IsNodeOutput settings k' r text) (text ≡ [])
+  OwnOutput r text = MatchBool (is_kept_node settings r) (IsNodeOutput settings k r text) (text ≡ [])
 
   node_written : (ended : Bool) (r : DumpRecord) (after : List DumpRecord) → is_plain r ≡ true → is_written settings ended r after ≡ is_kept_node settings r
   node_written ended r after plain = rw (plain_other r plain, plain_node r plain) refl
 
   node_output : (r : DumpRecord) (after : List DumpRecord) (text : List ℕ) → is_plain r ≡ true → OwnOutput r text
-      → (ended : Bool) → MatchBool (is_written settings ended r after) (IsOutput settings k' r after text) (text ≡ [])
-  node_output r after text plain own ended = subst (λ (b : Bool). MatchBool b (IsOutput settings k' r after text) (text ≡ [])) (sym (node_written ended r after plain))
+      → (ended : Bool) → MatchBool (is_written settings ended r after) (IsOutput settings k r after text) (text ≡ [])
+  node_output r after text plain own ended = subst (λ (b : Bool). MatchBool b (IsOutput settings k r after text) (text ≡ [])) (sym (node_written ended r after plain))
       (rw (plain_other r plain, plain_node r plain) (rw (plain_node r plain) at own))
 
   -- one more node behind nodes
   pub nodes_more : (ended last : Bool) (ns : List DumpRecord) (r : DumpRecord) (text own : List ℕ)
       → list_all is_plain ns ≡ true → is_plain r ≡ true → AreOutputs settings ended k ns text → OwnOutput r own
-      → AreOutputs settings last k' (ns ++ r ∷ []) (text ++ own)
+      → AreOutputs settings last k (ns ++ r ∷ []) (text ++ own)
   nodes_more ended last [] r text own all plain none mine =
       (own, [], ap (λ t. t ++ own) none ∙ sym (append-nil own), node_output r [] own plain mine last, refl)
   nodes_more ended last (n ∷ ns) r text own all plain (front, rest, is, this, more) mine =
@@ -194,21 +196,21 @@ module _ (settings : Settings) (k k' : KeptRevisions) where
         front,
         rest ++ own,
         ap (λ t. t ++ own) is ∙ append_assoc front rest own,
-        subst (λ (b : Bool). MatchBool b (IsOutput settings k' n (ns ++ r ∷ []) front) (front ≡ []))
+        plain_written _ _ n (group_of n ns) (group_of n (ns ++ r ∷ [])) front (plain_other n one)
             (node_written ended n ns one ∙ sym (node_written last n (ns ++ r ∷ []) one)) this,
         nodes_more ended last ns r rest own (second_true (is_plain n) (list_all is_plain ns) all) plain more mine,
       )
 
   -- nodes behind which the dump ends
   pub nodes_end : (ended last : Bool) (ns : List DumpRecord) (text : List ℕ) → list_all is_plain ns ≡ true
-      → AreOutputs settings ended k ns text → AreOutputs settings last k' ns text
+      → AreOutputs settings ended k ns text → AreOutputs settings last k ns text
   nodes_end ended last [] text all none = none
   nodes_end ended last (n ∷ ns) text all (front, rest, is, this, more) =
       let one = first_true (is_plain n) (list_all is_plain ns) all in (
         front,
         rest,
         is,
-        subst (λ (b : Bool). MatchBool b (IsOutput settings k' n ns front) (front ≡ [])) (node_written ended n ns one ∙ sym (node_written last n ns one)) this,
+        plain_written _ _ n (group_of n ns) (group_of n ns) front (plain_other n one) (node_written ended n ns one ∙ sym (node_written last n ns one)) this,
         nodes_end ended last ns rest (second_true (is_plain n) (list_all is_plain ns) all) more,
       )
 
@@ -266,8 +268,32 @@ module _ (settings : Settings) (k k' : KeptRevisions) where
       and_true true = refl
       and_true false = refl
 
+  -- what is written of a revision, by its group
+  own_output : (y : DumpRecord) (ns : List DumpRecord) (text : List ℕ) → is_revision y ≡ true → list_all is_plain ns ≡ true
+      → IsRevisionOutput settings k (record { revision = y; nodes = ns }) text → IsOutput settings k y ns text
+  own_output y ns text rev all out = rw rev (subst (λ (g : Group). IsRevisionOutput settings k g text) (sym (own_group y ns all)) out)
+
+  output_own : (y : DumpRecord) (ns : List DumpRecord) (text : List ℕ) → is_revision y ≡ true → list_all is_plain ns ≡ true
+      → IsOutput settings k y ns text → IsRevisionOutput settings k (record { revision = y; nodes = ns }) text
+  output_own y ns text rev all out = subst (λ (g : Group). IsRevisionOutput settings k g text) (own_group y ns all) (rw rev at out)
+
+  -- a revision with a kept node isn't padded, whatever other nodes follow
+  pub unpadded : (y : DumpRecord) (ns : List DumpRecord) → list_any (is_kept_node settings) ns ≡ true → is_padded settings (record { revision = y; nodes = ns }) ≡ false
+  unpadded y ns some = ap (λ b. not (is_bare (record { revision = y; nodes = ns })) && not b && is_pad settings.empty && not settings.preserve) some
+      ∙ none (is_bare (record { revision = y; nodes = ns })) (is_pad settings.empty) (not settings.preserve)
+    where
+      none : (a c d : Bool) → (not a && false && c && d) ≡ false
+      none true c d = refl
+      none false c d = refl
+
+  passed_output : (y : DumpRecord) (ns ms : List DumpRecord) (text : List ℕ) → is_revision y ≡ true → list_all is_plain ns ≡ true → list_all is_plain ms ≡ true
+      → list_any (is_kept_node settings) ns ≡ true → list_any (is_kept_node settings) ms ≡ true → IsOutput settings k y ns text → IsOutput settings k y ms text
+  passed_output y ns ms text rev all all' some some' out =
+      let own = output_own y ns text rev all out in
+      own_output y ms text rev all' (own.0, own.1, own.2 ∙ ap (λ b. revision_text settings k b y own.0) (unpadded y ns some ∙ sym (unpadded y ms some')))
+
 -- a list that ends with the group of a revision
-module _ (settings : Settings) (k k' : KeptRevisions) (closed ns : List DumpRecord) (y : DumpRecord) (text : List ℕ)
+module _ (settings : Settings) (k : KeptRevisions) (closed ns : List DumpRecord) (y : DumpRecord) (text : List ℕ)
     (other : is_node y ≡ false) (rev : is_revision y ≡ true) (all : list_all is_plain ns ≡ true)
     (out : AreOutputs settings false k (closed ++ y ∷ ns) text) where
   -- what is written before the group, of its revision, and of its nodes
@@ -276,13 +302,13 @@ module _ (settings : Settings) (k k' : KeptRevisions) (closed ns : List DumpReco
     own : List ℕ
     nodes : List ℕ
     is : text ≡ before ++ (own ++ nodes)
-    closed_out : AreOutputs settings true k' closed before
-    own_out : MatchBool (is_written settings false y ns) (IsOutput settings k' y ns own) (own ≡ [])
-    nodes_out : AreOutputs settings false k' ns nodes
+    closed_out : AreOutputs settings true k closed before
+    own_out : MatchBool (is_written settings false y ns) (IsOutput settings k y ns own) (own ≡ [])
+    nodes_out : AreOutputs settings false k ns nodes
 
   parts : Parts
   parts =
-      let cut = outputs_cut settings k k' false closed ns y text other out in
+      let cut = outputs_cut settings k false closed ns y text other out in
       let group = cut.4 in
       record {
         before = cut.0;
@@ -296,127 +322,129 @@ module _ (settings : Settings) (k k' : KeptRevisions) (closed ns : List DumpReco
 
   -- the group with other outputs
   joined : (ended : Bool) (ms : List DumpRecord) (own nodes new : List ℕ)
-      → MatchBool (is_written settings ended y ms) (IsOutput settings k' y ms own) (own ≡ [])
-      → AreOutputs settings ended k' ms nodes
+      → MatchBool (is_written settings ended y ms) (IsOutput settings k y ms own) (own ≡ [])
+      → AreOutputs settings ended k ms nodes
       → new ≡ parts.before ++ (own ++ nodes)
-      → AreOutputs settings ended k' (closed ++ y ∷ ms) new
+      → AreOutputs settings ended k (closed ++ y ∷ ms) new
   joined ended ms own nodes new own_out nodes_out is =
-      subst (AreOutputs settings ended k' (closed ++ y ∷ ms)) (sym is)
-      (outputs_join settings k' k' ended closed ms y parts.before (own ++ nodes) other parts.closed_out (own, nodes, refl, own_out, nodes_out))
+      subst (AreOutputs settings ended k (closed ++ y ∷ ms)) (sym is)
+      (outputs_join settings k ended closed ms y parts.before (own ++ nodes) other parts.closed_out (own, nodes, refl, own_out, nodes_out))
 
   -- behind a kept node a node adds what is written of it
   pub passed_more : (r : DumpRecord) (own : List ℕ) → is_plain r ≡ true → list_any (is_kept_node settings) ns ≡ true
-      → OwnOutput settings k' k' r own → AreOutputs settings false k' (closed ++ y ∷ (ns ++ r ∷ [])) (text ++ own)
+      → OwnOutput settings k r own → AreOutputs settings false k (closed ++ y ∷ (ns ++ r ∷ [])) (text ++ own)
   passed_more r own plain some mine =
       let p = parts in
       let more : list_any (is_kept_node settings) (ns ++ r ∷ []) ≡ true = any_more settings ns r ∙ ap (λ b. b || is_kept_node settings r) some in
       joined false (ns ++ r ∷ []) p.own (p.nodes ++ own) (text ++ own)
-      (subst (λ (b : Bool). MatchBool b (IsOutput settings k' y (ns ++ r ∷ []) p.own) (p.own ≡ []))
-      (rev_kept settings k' k' false y ns rev all some ∙ sym (rev_kept settings k' k' false y (ns ++ r ∷ []) rev (plain_more ns r all plain) more)) p.own_out)
-      (nodes_more settings k' k' false false ns r p.nodes own all plain p.nodes_out mine)
+      (subst (λ (b : Bool). MatchBool b (IsOutput settings k y (ns ++ r ∷ []) p.own) (p.own ≡ []))
+      (sym (rev_kept settings k false y (ns ++ r ∷ []) rev (plain_more ns r all plain) more))
+      (passed_output settings k y ns (ns ++ r ∷ []) p.own rev all (plain_more ns r all plain) some more
+      (subst (λ (b : Bool). MatchBool b (IsOutput settings k y ns p.own) (p.own ≡ [])) (rev_kept settings k false y ns rev all some) p.own_out)))
+      (nodes_more settings k false false ns r p.nodes own all plain p.nodes_out mine)
       (ap (λ t. t ++ own) p.is ∙ append_assoc p.before (p.own ++ p.nodes) own ∙ ap (λ t. p.before ++ t) (append_assoc p.own p.nodes own))
 
   -- and the end adds nothing
-  pub passed_end : list_any (is_kept_node settings) ns ≡ true → AreOutputs settings true k' (closed ++ y ∷ ns) text
+  pub passed_end : list_any (is_kept_node settings) ns ≡ true → AreOutputs settings true k (closed ++ y ∷ ns) text
   passed_end some =
       let p = parts in
       joined true ns p.own p.nodes text
-      (subst (λ (b : Bool). MatchBool b (IsOutput settings k' y ns p.own) (p.own ≡ []))
-      (rev_kept settings k' k' false y ns rev all some ∙ sym (rev_kept settings k' k' true y ns rev all some)) p.own_out)
-      (nodes_end settings k' k' false true ns p.nodes all p.nodes_out)
+      (subst (λ (b : Bool). MatchBool b (IsOutput settings k y ns p.own) (p.own ≡ []))
+      (rev_kept settings k false y ns rev all some ∙ sym (rev_kept settings k true y ns rev all some)) p.own_out)
+      (nodes_end settings k false true ns p.nodes all p.nodes_out)
       p.is
 
   -- while the revision waits nothing of its group is written
   nothing : list_any (is_kept_node settings) ns ≡ false → text ≡ parts.before
   nothing none =
       let p = parts in
-      let no_own : p.own ≡ [] = subst (λ (b : Bool). MatchBool b (IsOutput settings k' y ns p.own) (p.own ≡ [])) (rev_waits settings k' k' y ns rev all none) p.own_out in
-      let no_nodes : p.nodes ≡ [] = nodes_dropped settings k' k' false ns p.nodes all none p.nodes_out in
+      let no_own : p.own ≡ [] = subst (λ (b : Bool). MatchBool b (IsOutput settings k y ns p.own) (p.own ≡ [])) (rev_waits settings k y ns rev all none) p.own_out in
+      let no_nodes : p.nodes ≡ [] = nodes_dropped settings k false ns p.nodes all none p.nodes_out in
       p.is ∙ ap (λ t. p.before ++ (t ++ p.nodes)) no_own ∙ ap (λ t. p.before ++ t) no_nodes ∙ append-nil p.before
 
-  empty_nodes : list_any (is_kept_node settings) ns ≡ false → AreOutputs settings false k' ns []
-  empty_nodes none = subst (AreOutputs settings false k' ns) (nodes_dropped settings k' k' false ns parts.nodes all none parts.nodes_out) parts.nodes_out
+  empty_nodes : list_any (is_kept_node settings) ns ≡ false → AreOutputs settings false k ns []
+  empty_nodes none = subst (AreOutputs settings false k ns) (nodes_dropped settings k false ns parts.nodes all none parts.nodes_out) parts.nodes_out
 
-  rev_output : (ended : Bool) (ms : List DumpRecord) → is_written settings ended y ms ≡ true
-      → MatchBool (is_written settings ended y ms) (IsOutput settings k' y ms (revision_text settings k' y)) (revision_text settings k' y ≡ [])
-  rev_output ended ms is = subst (λ (b : Bool). MatchBool b (IsOutput settings k' y ms (revision_text settings k' y)) (revision_text settings k' y ≡ [])) (sym is) (rw rev refl)
+  rev_output : (ended : Bool) (ms : List DumpRecord) (rt : List ℕ) → list_all is_plain ms ≡ true → is_written settings ended y ms ≡ true
+      → IsRevisionOutput settings k (record { revision = y; nodes = ms }) rt
+      → MatchBool (is_written settings ended y ms) (IsOutput settings k y ms rt) (rt ≡ [])
+  rev_output ended ms rt all' is mine = subst (λ (b : Bool). MatchBool b (IsOutput settings k y ms rt) (rt ≡ [])) (sym is) (own_output settings k y ms rt rev all' mine)
 
   -- the first kept node brings the revision with it
-  pub waits_more : (r : DumpRecord) (own : List ℕ) → is_plain r ≡ true → list_any (is_kept_node settings) ns ≡ false
-      → is_kept_node settings r ≡ true → IsNodeOutput settings k' r own
-      → AreOutputs settings false k' (closed ++ y ∷ (ns ++ r ∷ [])) (text ++ (revision_text settings k' y ++ own))
-  waits_more r own plain none kept mine =
+  pub waits_more : (r : DumpRecord) (rt own : List ℕ) → is_plain r ≡ true → list_any (is_kept_node settings) ns ≡ false
+      → is_kept_node settings r ≡ true → IsRevisionOutput settings k (record { revision = y; nodes = ns ++ r ∷ [] }) rt → IsNodeOutput settings k r own
+      → AreOutputs settings false k (closed ++ y ∷ (ns ++ r ∷ [])) (text ++ (rt ++ own))
+  waits_more r rt own plain none kept first mine =
       let p = parts in
-      let rt = revision_text settings k' y in
       let more : list_any (is_kept_node settings) (ns ++ r ∷ []) ≡ true = any_more settings ns r ∙ ap (λ b. b || is_kept_node settings r) none ∙ kept in
-      let mine' : OwnOutput settings k' k' r own = subst (λ (b : Bool). MatchBool b (IsNodeOutput settings k' r own) (own ≡ [])) (sym kept) mine in
+      let mine' : OwnOutput settings k r own = subst (λ (b : Bool). MatchBool b (IsNodeOutput settings k r own) (own ≡ [])) (sym kept) mine in
       joined false (ns ++ r ∷ []) rt own (text ++ (rt ++ own))
-      (rev_output false (ns ++ r ∷ []) (rev_kept settings k' k' false y (ns ++ r ∷ []) rev (plain_more ns r all plain) more))
-      (nodes_more settings k' k' false false ns r [] own all plain (empty_nodes none) mine')
+      (rev_output false (ns ++ r ∷ []) rt (plain_more ns r all plain) (rev_kept settings k false y (ns ++ r ∷ []) rev (plain_more ns r all plain) more) first)
+      (nodes_more settings k false false ns r [] own all plain (empty_nodes none) mine')
       (ap (λ t. t ++ (rt ++ own)) (nothing none))
 
   -- a dropped one adds nothing
   pub waits_on : (r : DumpRecord) → is_plain r ≡ true → list_any (is_kept_node settings) ns ≡ false
       → is_kept_node settings r ≡ false
-      → AreOutputs settings false k' (closed ++ y ∷ (ns ++ r ∷ [])) text
+      → AreOutputs settings false k (closed ++ y ∷ (ns ++ r ∷ [])) text
   waits_on r plain none dropped =
       let p = parts in
       let more : list_any (is_kept_node settings) (ns ++ r ∷ []) ≡ false = any_more settings ns r ∙ ap (λ b. b || is_kept_node settings r) none ∙ dropped in
-      let mine : OwnOutput settings k' k' r [] = subst (λ (b : Bool). MatchBool b (IsNodeOutput settings k' r []) (◌≡◌ {A = List ℕ} [] [])) (sym dropped) refl in
+      let mine : OwnOutput settings k r [] = subst (λ (b : Bool). MatchBool b (IsNodeOutput settings k r []) (◌≡◌ {A = List ℕ} [] [])) (sym dropped) refl in
       joined false (ns ++ r ∷ []) [] [] text
-      (subst (λ (b : Bool). MatchBool b (IsOutput settings k' y (ns ++ r ∷ []) []) (◌≡◌ {A = List ℕ} [] []))
-      (sym (rev_waits settings k' k' y (ns ++ r ∷ []) rev (plain_more ns r all plain) more)) refl)
-      (nodes_more settings k' k' false false ns r [] [] all plain (empty_nodes none) mine)
+      (subst (λ (b : Bool). MatchBool b (IsOutput settings k y (ns ++ r ∷ []) []) (◌≡◌ {A = List ℕ} [] []))
+      (sym (rev_waits settings k y (ns ++ r ∷ []) rev (plain_more ns r all plain) more)) refl)
+      (nodes_more settings k false false ns r [] [] all plain (empty_nodes none) mine)
       (nothing none ∙ sym (append-nil p.before))
 
   -- the end brings the revision where the options keep it
-  pub waits_kept : list_any (is_kept_node settings) ns ≡ false → keeps_group settings (record { revision = y; nodes = ns }) ≡ true
-      → AreOutputs settings true k' (closed ++ y ∷ ns) (text ++ revision_text settings k' y)
-  waits_kept none keep =
-      let rt = revision_text settings k' y in
+  pub waits_kept : (rt : List ℕ) → list_any (is_kept_node settings) ns ≡ false → keeps_group settings (record { revision = y; nodes = ns }) ≡ true
+      → IsRevisionOutput settings k (record { revision = y; nodes = ns }) rt
+      → AreOutputs settings true k (closed ++ y ∷ ns) (text ++ rt)
+  waits_kept rt none keep mine =
       joined true ns rt [] (text ++ rt)
-      (rev_output true ns (rev_ends settings k' k' y ns rev all ∙ keep))
-      (nodes_end settings k' k' false true ns [] all (empty_nodes none))
+      (rev_output true ns rt all (rev_ends settings k y ns rev all ∙ keep) mine)
+      (nodes_end settings k false true ns [] all (empty_nodes none))
       (ap (λ t. t ++ rt) (nothing none) ∙ ap (λ t. parts.before ++ t) (sym (append-nil rt)))
 
   pub waits_dropped : list_any (is_kept_node settings) ns ≡ false → keeps_group settings (record { revision = y; nodes = ns }) ≡ false
-      → AreOutputs settings true k' (closed ++ y ∷ ns) text
+      → AreOutputs settings true k (closed ++ y ∷ ns) text
   waits_dropped none drop =
       joined true ns [] [] text
-      (subst (λ (b : Bool). MatchBool b (IsOutput settings k' y ns []) (◌≡◌ {A = List ℕ} [] [])) (sym (rev_ends settings k' k' y ns rev all ∙ drop)) refl)
-      (nodes_end settings k' k' false true ns [] all (empty_nodes none))
+      (subst (λ (b : Bool). MatchBool b (IsOutput settings k y ns []) (◌≡◌ {A = List ℕ} [] [])) (sym (rev_ends settings k y ns rev all ∙ drop)) refl)
+      (nodes_end settings k false true ns [] all (empty_nodes none))
       (nothing none ∙ sym (append-nil parts.before))
 
-module _ (settings : Settings) (k k' : KeptRevisions) where
+module _ (settings : Settings) (k : KeptRevisions) where
   -- a list that ends with a version or UUID record ends as it stands
   pub idle_end : (closed : List DumpRecord) (y : DumpRecord) (text : List ℕ) → is_node y ≡ false → is_revision y ≡ false
-      → AreOutputs settings false k (closed ++ y ∷ []) text → AreOutputs settings true k' (closed ++ y ∷ []) text
+      → AreOutputs settings false k (closed ++ y ∷ []) text → AreOutputs settings true k (closed ++ y ∷ []) text
   idle_end closed y text other no_rev out =
-      let cut = outputs_cut settings k k' false closed [] y text other out in
+      let cut = outputs_cut settings k false closed [] y text other out in
       let group = cut.4 in
       let same : is_written settings false y [] ≡ is_written settings true y [] = rw (no_rev, other) refl in
-      subst (AreOutputs settings true k' (closed ++ y ∷ [])) (sym cut.2)
-      (outputs_join settings k' k' true closed [] y cut.0 cut.1 other cut.3
-      (group.0, group.1, group.2, subst (λ (b : Bool). MatchBool b (IsOutput settings k' y [] group.0) (group.0 ≡ [])) same group.3, group.4))
+      subst (AreOutputs settings true k (closed ++ y ∷ [])) (sym cut.2)
+      (outputs_join settings k true closed [] y cut.0 cut.1 other cut.3
+      (group.0, group.1, group.2, subst (λ (b : Bool). MatchBool b (IsOutput settings k y [] group.0) (group.0 ≡ [])) same group.3, group.4))
 
   -- a revision behind ended records waits
   pub revision_more : (before : List DumpRecord) (r : DumpRecord) (text : List ℕ) → is_node r ≡ false → is_revision r ≡ true
-      → AreOutputs settings true k before text → AreOutputs settings false k' (before ++ r ∷ []) text
+      → AreOutputs settings true k before text → AreOutputs settings false k (before ++ r ∷ []) text
   revision_more before r text other rev out =
-      subst (AreOutputs settings false k' (before ++ r ∷ [])) (append-nil text)
-      (outputs_join settings k k' false before [] r text [] other out
-      ([], [], refl, subst (λ (b : Bool). MatchBool b (IsOutput settings k' r [] []) (◌≡◌ {A = List ℕ} [] [])) (sym (rev_waits settings k' k' r [] rev refl refl)) refl, refl))
+      subst (AreOutputs settings false k (before ++ r ∷ [])) (append-nil text)
+      (outputs_join settings k false before [] r text [] other out
+      ([], [], refl, subst (λ (b : Bool). MatchBool b (IsOutput settings k r [] []) (◌≡◌ {A = List ℕ} [] [])) (sym (rev_waits settings k r [] rev refl refl)) refl, refl))
 
   -- a version or UUID record is written as it stood
   pub other_more : (before : List DumpRecord) (r : DumpRecord) (text : List ℕ) → is_node r ≡ false → is_revision r ≡ false
-      → AreOutputs settings true k before text → AreOutputs settings false k' (before ++ r ∷ []) (text ++ block_text r.headers)
+      → AreOutputs settings true k before text → AreOutputs settings false k (before ++ r ∷ []) (text ++ block_text r.headers)
   other_more before r text other no_rev out =
       let bytes = block_text r.headers in
       let written : is_written settings false r [] ≡ true = rw (no_rev, other) refl in
-      outputs_join settings k k' false before [] r text bytes other out (
+      outputs_join settings k false before [] r text bytes other out (
         bytes,
         [],
         sym (append-nil bytes),
-        subst (λ (b : Bool). MatchBool b (IsOutput settings k' r [] bytes) (bytes ≡ [])) (sym written) (rw (no_rev, other) refl),
+        subst (λ (b : Bool). MatchBool b (IsOutput settings k r [] bytes) (bytes ≡ [])) (sym written) (rw (no_rev, other) refl),
         refl,
       )

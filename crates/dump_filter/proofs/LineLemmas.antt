@@ -1,15 +1,18 @@
 -- The new lines of a block, line by line and by name.
-use Rattle.std.proofs.Common.{◌≡◌, ℕ, ◌+◌, ◌==◌, Bool, true, false, ◌||◌, List, [], ◌∷◌, ◌++◌, map, length, refl, sym, ap, ◌∙◌, Option, Some, None, bytes_eq, if◌then◌else◌}
+use Rattle.std.proofs.Common.{◌≡◌, ℕ, ◌+◌, ◌==◌, Bool, true, false, ◌||◌, List, [], ◌∷◌, ◌++◌, map, filter, length, refl, sym, ap, ◌∙◌, Option, Some, None, bytes_eq, if◌then◌else◌}
 use Rattle.std.proofs.lemmas.List.{append-nil, map-append}
 use Rattle.std.proofs.lemmas.Slice.Eq.{bytes_eq-Decides}
 use Rattle.std.proofs.lemmas.List.Folds.{list_any-append}
 use Rattle.dump_text.specs.Number.{spelled_number}
 use Rattle.dump_text.specs.Names.{revision_name, copy_revision_name, property_length_name, text_length_name, content_length_name}
 use Rattle.dump_text.specs.HeaderLine.{Header, is_named, has_header, with_header_value}
-use Rattle.dump_filter.proofs.GroupLemmas.{first_false, second_false}
+use Rattle.dump_filter.proofs.BoolLemmas.{first_false, second_false, absurd_bool}
+use Rattle.dump_filter.specs.declared.copies.NewCopy.{NewCopy}
+use Rattle.dump_filter.specs.declared.copies.NewCopy.TheVariants.{Same, Number, Plain}
 use Rattle.dump_filter.specs.declared.new_lines.Changes.{Changes}
 use Rattle.dump_filter.specs.NewHeaders.{with_length, with_lengths}
-use Rattle.dump_filter.specs.NewLines.{numbered, with_number, renewed, added, new_headers, put_all}
+use Rattle.dump_filter.specs.OwnText.{copied_headers}
+use Rattle.dump_filter.specs.NewLines.{copy_number, is_copy_line, is_dropped, lines_that_stay, numbered, with_number, renewed, added, new_headers, AreLengths, put_all}
 
 -- the line, with this number where it has this name
 abbrev pub put : List ℕ → ℕ → Header → Header
@@ -50,7 +53,7 @@ put_five c h =
     put content_length_name c.content
     (put text_length_name c.text
     (put property_length_name c.props
-    (put_some copy_revision_name c.copy
+    (put_some copy_revision_name (copy_number c.copy)
     (put_some revision_name c.revision h))))
 
 five : (c : Changes) (h : Header) → put_five c h ≡ renewed c h
@@ -84,18 +87,18 @@ five c h = by_revision (is_named revision_name h) refl
         ∙ by_text r k is (is_named text_length_name h) refl
 
     by_copy : is_named revision_name h ≡ false → (b : Bool) → is_named copy_revision_name h ≡ b
-        → put content_length_name c.content (put text_length_name c.text (put property_length_name c.props (put_some copy_revision_name c.copy h))) ≡ renewed c h
+        → put content_length_name c.content (put text_length_name c.text (put property_length_name c.props (put_some copy_revision_name (copy_number c.copy) h))) ≡ renewed c h
     by_copy r true is =
         let e = (bytes_eq-Decides h.name copy_revision_name).0 is in
-        let g = with_number h c.copy in
-        let name : g.name ≡ copy_revision_name = same_name h c.copy ∙ e in
-        ap (λ (x : Header). put content_length_name c.content (put text_length_name c.text (put property_length_name c.props x))) (hit h copy_revision_name c.copy e)
+        let g = with_number h (copy_number c.copy) in
+        let name : g.name ≡ copy_revision_name = same_name h (copy_number c.copy) ∙ e in
+        ap (λ (x : Header). put content_length_name c.content (put text_length_name c.text (put property_length_name c.props x))) (hit h copy_revision_name (copy_number c.copy) e)
         ∙ ap (λ (x : Header). put content_length_name c.content (put text_length_name c.text x)) (miss g copy_revision_name property_length_name (Some c.props) name refl)
         ∙ ap (put content_length_name c.content) (miss g copy_revision_name text_length_name (Some c.text) name refl)
         ∙ miss g copy_revision_name content_length_name (Some c.content) name refl
         ∙ rw (r, is) refl
     by_copy r false is =
-        ap (λ (x : Header). put content_length_name c.content (put text_length_name c.text (put property_length_name c.props x))) (miss-false h copy_revision_name c.copy is)
+        ap (λ (x : Header). put content_length_name c.content (put text_length_name c.text (put property_length_name c.props x))) (miss-false h copy_revision_name (copy_number c.copy) is)
         ∙ by_props r is (is_named property_length_name h) refl
 
     by_revision : (b : Bool) → is_named revision_name h ≡ b → put_five c h ≡ renewed c h
@@ -103,14 +106,14 @@ five c h = by_revision (is_named revision_name h) refl
         let e = (bytes_eq-Decides h.name revision_name).0 is in
         let g = with_number h c.revision in
         let name : g.name ≡ revision_name = same_name h c.revision ∙ e in
-        ap (λ (x : Header). put content_length_name c.content (put text_length_name c.text (put property_length_name c.props (put_some copy_revision_name c.copy x)))) (hit h revision_name c.revision e)
-        ∙ ap (λ (x : Header). put content_length_name c.content (put text_length_name c.text (put property_length_name c.props x))) (miss g revision_name copy_revision_name c.copy name refl)
+        ap (λ (x : Header). put content_length_name c.content (put text_length_name c.text (put property_length_name c.props (put_some copy_revision_name (copy_number c.copy) x)))) (hit h revision_name c.revision e)
+        ∙ ap (λ (x : Header). put content_length_name c.content (put text_length_name c.text (put property_length_name c.props x))) (miss g revision_name copy_revision_name (copy_number c.copy) name refl)
         ∙ ap (λ (x : Header). put content_length_name c.content (put text_length_name c.text x)) (miss g revision_name property_length_name (Some c.props) name refl)
         ∙ ap (put content_length_name c.content) (miss g revision_name text_length_name (Some c.text) name refl)
         ∙ miss g revision_name content_length_name (Some c.content) name refl
         ∙ rw is refl
     by_revision false is =
-        ap (λ (x : Header). put content_length_name c.content (put text_length_name c.text (put property_length_name c.props (put_some copy_revision_name c.copy x)))) (miss-false h revision_name c.revision is)
+        ap (λ (x : Header). put content_length_name c.content (put text_length_name c.text (put property_length_name c.props (put_some copy_revision_name (copy_number c.copy) x)))) (miss-false h revision_name c.revision is)
         ∙ by_copy is (is_named copy_revision_name h) refl
 
 mapped : {X Y Z : Type 0} (f : Y → Z) (g : X → Y) (xs : List X) → map f (map g xs) ≡ map (λ x. f (g x)) xs
@@ -182,25 +185,25 @@ has_some other name (Some n) hs = has_same other name n hs
 -- the lines of a block, with its numbers put one name after another
 module _ (c : Changes) (headers : List Header) where
   base : List Header
-  base = put_all copy_revision_name c.copy (put_all revision_name c.revision headers)
+  base = put_all copy_revision_name (copy_number c.copy) (put_all revision_name c.revision headers)
 
   base_has : (name : List ℕ) → has_header name base ≡ has_header name headers
   unfolding base
-  base_has name = has_some name copy_revision_name c.copy (put_all revision_name c.revision headers) ∙ has_some name revision_name c.revision headers
+  base_has name = has_some name copy_revision_name (copy_number c.copy) (put_all revision_name c.revision headers) ∙ has_some name revision_name c.revision headers
 
   put_base : map (put content_length_name c.content) (map (put text_length_name c.text) (map (put property_length_name c.props) base)) ≡ map (renewed c) headers
   unfolding base
   put_base =
       ap (λ (t : List Header). map (put content_length_name c.content) (map (put text_length_name c.text) (map (put property_length_name c.props) t)))
-      (put_all-map copy_revision_name c.copy (put_all revision_name c.revision headers)
-      ∙ ap (map (put_some copy_revision_name c.copy)) (put_all-map revision_name c.revision headers)
-      ∙ mapped (put_some copy_revision_name c.copy) (put_some revision_name c.revision) headers)
+      (put_all-map copy_revision_name (copy_number c.copy) (put_all revision_name c.revision headers)
+      ∙ ap (map (put_some copy_revision_name (copy_number c.copy))) (put_all-map revision_name c.revision headers)
+      ∙ mapped (put_some copy_revision_name (copy_number c.copy)) (put_some revision_name c.revision) headers)
       ∙ ap (λ (t : List Header). map (put content_length_name c.content) (map (put text_length_name c.text) t))
-      (mapped (put property_length_name c.props) (λ h. put_some copy_revision_name c.copy (put_some revision_name c.revision h)) headers)
+      (mapped (put property_length_name c.props) (λ h. put_some copy_revision_name (copy_number c.copy) (put_some revision_name c.revision h)) headers)
       ∙ ap (map (put content_length_name c.content))
-      (mapped (put text_length_name c.text) (λ h. put property_length_name c.props (put_some copy_revision_name c.copy (put_some revision_name c.revision h))) headers)
+      (mapped (put text_length_name c.text) (λ h. put property_length_name c.props (put_some copy_revision_name (copy_number c.copy) (put_some revision_name c.revision h))) headers)
       ∙ mapped (put content_length_name c.content)
-      (λ h. put text_length_name c.text (put property_length_name c.props (put_some copy_revision_name c.copy (put_some revision_name c.revision h)))) headers
+      (λ h. put text_length_name c.text (put property_length_name c.props (put_some copy_revision_name (copy_number c.copy) (put_some revision_name c.revision h)))) headers
       ∙ map_same (put_five c) (renewed c) (five c) headers
 
   missing : List Header
@@ -233,7 +236,7 @@ module _ (c : Changes) (headers : List Header) where
       or_false false = refl
 
   put_lengths : with_length content_length_name c.content (with_header_value text_length_name (spelled_number c.text) (with_length property_length_name c.props base))
-      ≡ new_headers c headers
+      ≡ (map (renewed c) headers ++ added property_length_name c.props headers) ++ added content_length_name c.content headers
   unfolding missing
   put_lengths =
       let lines = map (put text_length_name c.text) (map (put property_length_name c.props) base) in
@@ -246,11 +249,75 @@ module _ (c : Changes) (headers : List Header) where
       ∙ ap (λ (t : List Header). (map (renewed c) headers ++ added property_length_name c.props headers) ++ t)
       (added_same content_length_name c.content (lines ++ missing) headers content_has)
 
-  pub lines_are : (props text : List ℕ) → c.props ≡ length props → c.text ≡ length text → c.content ≡ length props + length text
-      → new_headers c headers ≡ with_lengths props text (put_all copy_revision_name c.copy (put_all revision_name c.revision headers))
+  put_are : (props text : List ℕ) → c.props ≡ length props → c.text ≡ length text → c.content ≡ length props + length text
+      → (map (renewed c) headers ++ added property_length_name c.props headers) ++ added content_length_name c.content headers
+      ≡ with_lengths props text (put_all copy_revision_name (copy_number c.copy) (put_all revision_name c.revision headers))
   unfolding base
-  lines_are props text props_is text_is content_is =
+  put_are props text props_is text_is content_is =
       sym put_lengths
       ∙ ap (λ n. with_length content_length_name n (with_header_value text_length_name (spelled_number c.text) (with_length property_length_name c.props base))) content_is
       ∙ ap (λ n. with_length content_length_name (length props + length text) (with_header_value text_length_name (spelled_number n) (with_length property_length_name c.props base))) text_is
       ∙ ap (λ n. with_length content_length_name (length props + length text) (with_header_value text_length_name (spelled_number (length text)) (with_length property_length_name n base))) props_is
+
+-- a line that goes is of a copy source
+dropped_copy : (copy : NewCopy) (name : List ℕ) → is_dropped copy name ≡ true → is_copy_line name ≡ true
+dropped_copy Same name is = cc
+dropped_copy (Number n) name is = cc
+dropped_copy Plain name is = is
+
+-- where a line of no copy source stood, it still stands
+stay_has : (name : List ℕ) (copy : NewCopy) → is_copy_line name ≡ false → (headers : List Header)
+    → has_header name (lines_that_stay copy headers) ≡ has_header name headers
+stay_has name copy other [] = refl
+stay_has name copy other (h ∷ headers) = cases (stay_has name copy other headers) (is_dropped copy h.name) refl
+  where
+    no_name : is_dropped copy h.name ≡ true → (b : Bool) → is_named name h ≡ b → is_named name h ≡ false
+    no_name goes false is = is
+    no_name goes true is =
+        let same = (bytes_eq-Decides h.name name).0 is in
+        absurd (absurd_bool (is_copy_line name) (sym (ap is_copy_line same) ∙ dropped_copy copy h.name goes) other)
+
+    cases : has_header name (lines_that_stay copy headers) ≡ has_header name headers → (b : Bool) → is_dropped copy h.name ≡ b
+        → has_header name (lines_that_stay copy (h ∷ headers)) ≡ has_header name (h ∷ headers)
+    cases others true is = rw is (rw (no_name is (is_named name h) refl) others)
+    cases others false is = rw is (ap (λ b. is_named name h || b) others)
+
+-- a copy that stays one loses no line
+all_stay : (headers : List Header) → filter (λ h. true) headers ≡ headers
+all_stay [] = refl
+all_stay (h ∷ headers) = ap (λ (t : List Header). h ∷ t) (all_stay headers)
+
+-- the lines that are written, as the ones with their new numbers and lengths
+pub lines_are : (c : Changes) (headers : List Header) (props text : List ℕ) → AreLengths props text c
+    → new_headers c headers
+    ≡ with_lengths props text (put_all copy_revision_name (copy_number c.copy) (put_all revision_name c.revision (lines_that_stay c.copy headers)))
+lines_are c headers props text lengths =
+    let lines = lines_that_stay c.copy headers in
+    ap (λ t. (map (renewed c) lines ++ t) ++ added content_length_name c.content headers)
+    (added_same property_length_name c.props headers lines (sym (stay_has property_length_name c.copy refl headers)))
+    ∙ ap (λ t. (map (renewed c) lines ++ added property_length_name c.props lines) ++ t)
+    (added_same content_length_name c.content headers lines (sym (stay_has content_length_name c.copy refl headers)))
+    ∙ put_are c lines props text lengths.props_is lengths.text_is lengths.content_is
+
+-- the lines of a revision
+pub revision_lines : (c : Changes) (headers : List Header) (number : ℕ) (props text : List ℕ) → c.revision ≡ Some number → c.copy ≡ Same
+    → AreLengths props text c → new_headers c headers ≡ with_lengths props text (with_header_value revision_name (spelled_number number) headers)
+revision_lines c headers number props text revision copy lengths =
+    lines_are c headers props text lengths
+    ∙ ap (λ k. with_lengths props text (put_all copy_revision_name (copy_number k) (put_all revision_name c.revision (lines_that_stay k headers)))) copy
+    ∙ ap (λ n. with_lengths props text (put_all revision_name n (lines_that_stay Same headers))) revision
+    ∙ ap (λ (hs : List Header). with_lengths props text (with_header_value revision_name (spelled_number number) hs)) (all_stay headers)
+
+-- the lines of a node
+pub node_lines : (c : Changes) (headers : List Header) (copy : NewCopy) (props text : List ℕ) → c.revision ≡ None → c.copy ≡ copy
+    → AreLengths props text c → new_headers c headers ≡ with_lengths props text (copied_headers copy headers)
+node_lines c headers copy props text revision copy_is lengths =
+    lines_are c headers props text lengths
+    ∙ ap (λ n. with_lengths props text (put_all copy_revision_name (copy_number c.copy) (put_all revision_name n (lines_that_stay c.copy headers)))) revision
+    ∙ ap (λ k. with_lengths props text (put_all copy_revision_name (copy_number k) (lines_that_stay k headers))) copy_is
+    ∙ ap (with_lengths props text) (copied copy)
+  where
+    copied : (copy : NewCopy) → put_all copy_revision_name (copy_number copy) (lines_that_stay copy headers) ≡ copied_headers copy headers
+    copied Same = all_stay headers
+    copied (Number n) = ap (with_header_value copy_revision_name (spelled_number n)) (all_stay headers)
+    copied Plain = refl

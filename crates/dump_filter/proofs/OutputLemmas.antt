@@ -1,45 +1,54 @@
 -- What is written of a record, from its parts.
-use Rattle.std.proofs.Common.{◌≡◌, ℕ, Bool, true, false, List, [], ◌∷◌, ◌++◌, length, refl, sym, ap, ◌∙◌, append_assoc, Some, None, Result, Ok, Err}
+use Rattle.std.proofs.Common.{◌≡◌, ℕ, Bool, false, List, ◌++◌, ap, ◌∙◌, subst, append_assoc, codes, Some, None, Result, Ok, Err}
 use Rattle.std.specs.Result.{OnOk}
-use Rattle.dump_text.specs.Names.{text_length_name}
-use Rattle.dump_text.specs.HeaderLine.{Header, is_named, has_header, header_value}
+use Rattle.dump_text.specs.Number.{spelled_number}
+use Rattle.dump_text.specs.Names.{revision_name}
+use Rattle.dump_text.specs.HeaderLine.{Header, with_header_value}
 use Rattle.dump_text.specs.HeaderBlock.{block_text}
-use Rattle.dump_records.specs.HeaderRules.{text_length, header_length}
+use Rattle.dump_text.specs.PropertyList.{Property}
 use Rattle.dump_records.specs.RecordText.{DumpRecord}
-use Rattle.dump_records.specs.RecordViews.{part_with}
+use Rattle.dump_filter.specs.declared.copies.NewCopy.{NewCopy}
+use Rattle.dump_filter.specs.declared.copies.NewCopy.TheVariants.{Same}
 use Rattle.dump_filter.specs.declared.new_lines.Changes.{Changes}
-use Rattle.dump_filter.specs.NewLines.{new_headers}
-use Rattle.dump_filter.specs.OwnText.{ChangesOf, changed_text}
-use Rattle.dump_filter.proofs.GroupLemmas.{first_false, second_false}
-use Rattle.dump_filter.proofs.LineLemmas.{lines_are}
-
-pub no_value : (name : List ℕ) (headers : List Header) → has_header name headers ≡ false → header_value name headers ≡ None
-no_value name [] none = refl
-no_value name (h ∷ headers) none =
-    let one = first_false (is_named name h) (has_header name headers) none in
-    rw one (no_value name headers (second_false (is_named name h) (has_header name headers) none))
-
-pub no_length : (name : List ℕ) (headers : List Header) → has_header name headers ≡ false → header_length name headers ≡ 0
-no_length name headers none = rw (no_value name headers none) refl
-
-pub text_without : (r : DumpRecord) → length r.text ≡ text_length r.headers → part_with text_length_name r r.text ≡ None → length r.text ≡ 0
-text_without r fits none = fits ∙ no_length text_length_name r.headers (absent (has_header text_length_name r.headers) refl)
-  where
-    absent : (b : Bool) → has_header text_length_name r.headers ≡ b → has_header text_length_name r.headers ≡ false
-    absent false is = is
-    absent true is = let bad : Some r.text ≡ None = sym (rw is refl) ∙ none in cc
+use Rattle.dump_filter.specs.NewHeaders.{with_lengths}
+use Rattle.dump_filter.specs.NewContent.{revision_properties, new_block}
+use Rattle.dump_filter.specs.NewLines.{new_headers, AreLengths, new_record}
+use Rattle.dump_filter.specs.RecordOutput.{whole_text}
+use Rattle.dump_filter.specs.OwnText.{copied_headers, revision_own, node_own}
+use Rattle.dump_filter.proofs.LineLemmas.{revision_lines, node_lines}
 
 pub on_ok : {T E : Type 0} (r : Result T E) (P Q : Type 0) → (P → Q) → OnOk r P → OnOk r Q
 on_ok (Ok x) P Q f p = f p
 on_ok (Err e) P Q f p = tt
 
-pub record_out : (r : DumpRecord) (c : Changes) (end old lines content one two new : List ℕ) → ChangesOf r c.revision c.copy c
-    → lines ≡ block_text (new_headers c r.headers) → content ≡ r.props ++ r.text
-    → one ≡ old ++ lines → two ≡ one ++ content → new ≡ two ++ end
-    → new ≡ old ++ changed_text r c.revision c.copy end
-record_out r c end old lines content one two new of lines_is content_is one_is two_is new_is =
-    let bytes = block_text (new_headers c r.headers) in
-    new_is ∙ ap (λ t. t ++ end) (two_is ∙ ap (λ t. t ++ content) (one_is ∙ ap (λ t. old ++ t) lines_is) ∙ ap (λ t. (old ++ bytes) ++ t) content_is)
-    ∙ ap (λ t. t ++ end) (append_assoc old bytes (r.props ++ r.text) ∙ ap (λ t. old ++ t) (sym (append_assoc bytes r.props r.text)))
-    ∙ append_assoc old ((bytes ++ r.props) ++ r.text) end
-    ∙ ap (λ (h : List Header). old ++ (((block_text h ++ r.props) ++ r.text) ++ end)) (lines_are c r.headers r.props r.text of.props_is of.text_is of.content_is)
+-- four chunks, one behind the other
+pub chunks_out : (old lines props text end one two three new : List ℕ) → one ≡ old ++ lines → two ≡ one ++ props → three ≡ two ++ text
+    → new ≡ three ++ end → new ≡ old ++ (lines ++ props ++ text ++ end)
+chunks_out old lines props text end one two three new one_is two_is three_is new_is =
+    new_is
+    ∙ ap (λ t. t ++ end) (three_is ∙ ap (λ t. t ++ text) (two_is ∙ ap (λ t. t ++ props) one_is ∙ append_assoc old lines props)
+    ∙ append_assoc old (lines ++ props) text)
+    ∙ append_assoc old (lines ++ props ++ text) end
+
+-- a record whose lines have the lengths of what follows them
+record_is : (c : Changes) (headers lines : List Header) (bytes props text : List ℕ) → new_headers c headers ≡ with_lengths bytes text lines
+    → bytes ≡ props → new_record c headers bytes text ≡ whole_text lines props text
+record_is c headers lines bytes props text lines_are bytes_are =
+    ap (λ h. block_text h ++ bytes ++ text) lines_are ∙ ap (λ b. whole_text lines b text) bytes_are
+
+pub revision_is : (c : Changes) (r : DumpRecord) (number : ℕ) (padded : Bool) (bytes text : List ℕ) (ps : List Property)
+    → c.revision ≡ Some number → c.copy ≡ Same → AreLengths bytes text c → text ≡ r.text
+    → bytes ≡ new_block padded r (revision_properties padded ps)
+    → new_record c r.headers bytes r.text ++ codes "\n" ≡ revision_own r number padded ps
+revision_is c r number padded bytes text ps revision copy lengths text_is bytes_are =
+    ap (λ t. t ++ codes "\n")
+    (record_is c r.headers (with_header_value revision_name (spelled_number number) r.headers) bytes (new_block padded r (revision_properties padded ps)) r.text
+    (revision_lines c r.headers number bytes r.text revision copy (subst (λ t. AreLengths bytes t c) text_is lengths)) bytes_are)
+
+pub node_is : (c : Changes) (r : DumpRecord) (copy : NewCopy) (bytes text : List ℕ) (ps : List Property)
+    → c.revision ≡ None → c.copy ≡ copy → AreLengths bytes text c → text ≡ r.text → bytes ≡ new_block false r ps
+    → new_record c r.headers bytes r.text ++ codes "\n\n" ≡ node_own r copy ps
+node_is c r copy bytes text ps revision copy_is lengths text_is bytes_are =
+    ap (λ t. t ++ codes "\n\n")
+    (record_is c r.headers (copied_headers copy r.headers) bytes (new_block false r ps) r.text
+    (node_lines c r.headers copy bytes r.text revision copy_is (subst (λ t. AreLengths bytes t c) text_is lengths)) bytes_are)

@@ -1,6 +1,8 @@
 pub mod Groups
 pub mod NewHeaders
+pub mod NewContent
 pub mod NewLines
+pub mod NewProperties
 pub mod RecordOutput
 pub mod OwnText
 pub mod Turns

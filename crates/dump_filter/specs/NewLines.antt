@@ -1,15 +1,39 @@
 -- The lines of a block under new numbers, line by line.
-use Rattle.std.specs.Prelude.{ℕ, ◌==◌, List, [], ◌∷◌, ◌++◌, map, Option, Some, None, bytes_eq, if◌then◌else◌}
+use Rattle.std.specs.Prelude.{◌≡◌, ℕ, ◌+◌, Bool, false, not, ◌==◌, List, [], ◌∷◌, ◌++◌, length, map, filter, Option, Some, None, bytes_eq, if◌then◌else◌}
+use Rattle.std.specs.List.{list_any}
 use Rattle.dump_text.specs.Number.{spelled_number}
-use Rattle.dump_text.specs.Names.{revision_name, copy_revision_name, property_length_name, text_length_name, content_length_name}
+use Rattle.dump_text.specs.Names.{revision_name, copy_revision_name, copy_names, property_length_name, text_length_name, content_length_name}
 use Rattle.dump_text.specs.HeaderLine.{Header, has_header, with_header_value}
+use Rattle.dump_text.specs.HeaderBlock.{block_text}
+use Rattle.dump_filter.specs.declared.copies.NewCopy.{NewCopy}
+use Rattle.dump_filter.specs.declared.copies.NewCopy.TheVariants.{Same, Number, Plain}
 use Rattle.dump_filter.specs.declared.new_lines.Changes.{Changes}
+
+-- the number that the line of a copy revision gets
+abbrev pub copy_number : NewCopy → Option ℕ
+copy_number Same = None
+copy_number (Number n) = Some n
+copy_number Plain = None
+
+-- whether the line of this name tells of a copy source
+abbrev pub is_copy_line : List ℕ → Bool
+is_copy_line name = list_any (bytes_eq name) copy_names
+
+-- whether the line of this name goes
+abbrev pub is_dropped : NewCopy → List ℕ → Bool
+is_dropped Same name = false
+is_dropped (Number n) name = false
+is_dropped Plain name = is_copy_line name
+
+-- the lines that don't go
+abbrev pub lines_that_stay : NewCopy → List Header → List Header
+lines_that_stay copy headers = filter (λ h. not (is_dropped copy h.name)) headers
 
 -- the number that the line of this name gets
 abbrev pub number_for : Changes → List ℕ → Option ℕ
 number_for c name =
     if bytes_eq name revision_name then c.revision
-    else if bytes_eq name copy_revision_name then c.copy
+    else if bytes_eq name copy_revision_name then copy_number c.copy
     else if bytes_eq name property_length_name then Some c.props
     else if bytes_eq name text_length_name then Some c.text
     else if bytes_eq name content_length_name then Some c.content
@@ -28,6 +52,10 @@ with_number h (Some n) = numbered h.name n
 abbrev pub renewed : Changes → Header → Header
 renewed c h = with_number h (number_for c h.name)
 
+-- the old lines as they are written
+abbrev pub renewed_lines : Changes → List Header → List Header
+renewed_lines c headers = map (renewed c) (lines_that_stay c.copy headers)
+
 -- a line that is added where it is missing and isn't 0
 abbrev pub added : List ℕ → ℕ → List Header → List Header
 added name n headers = if has_header name headers then [] else if n == 0 then [] else numbered name n ∷ []
@@ -35,7 +63,17 @@ added name n headers = if has_header name headers then [] else if n == 0 then []
 -- the lines of a block as they are written
 abbrev pub new_headers : Changes → List Header → List Header
 new_headers c headers =
-    (map (renewed c) headers ++ added property_length_name c.props headers) ++ added content_length_name c.content headers
+    (renewed_lines c headers ++ added property_length_name c.props headers) ++ added content_length_name c.content headers
+
+-- the lengths are those of these properties and this text
+pub record AreLengths (props text : List ℕ) (c : Changes) : Type 0 where
+  pub props_is : c.props ≡ length props
+  pub text_is : c.text ≡ length text
+  pub content_is : c.content ≡ length props + length text
+
+-- a record of these lines as they are written, with its properties and its text
+abbrev pub new_record : Changes → List Header → List ℕ → List ℕ → List ℕ
+new_record c headers props text = block_text (new_headers c headers) ++ props ++ text
 
 -- the lines with this number where they have this name, if there is a number
 abbrev pub put_all : List ℕ → Option ℕ → List Header → List Header

@@ -1,13 +1,22 @@
--- What one record does to a filter: what it writes, what waits behind it, and what it counts.
-use Rattle.std.specs.Prelude.{ℕ, ◌+◌, ◌==◌, Bool, true, false, ◌||◌, List, [], ◌++◌, Option, Some, None, option_map, nat_lt, if◌then◌else◌}
+-- What one record does to a filter: what it writes, what waits behind it, which revisions are kept, and what it counts.
+use Rattle.std.specs.Prelude.{◌≡◌, ◌⊎◌, ℕ, ◌+◌, ◌<◌, ◌==◌, Bool, true, false, not, ◌&&◌, ◌||◌, List, [], ◌∷◌, ◌++◌, length, Option, Some, None, option_map, unwrap_or, nat_lt, Result, Ok, Err, if◌then◌else◌, IsTrue, MatchBool}
+use Rattle.dump_text.specs.declared.fault.FaultKind.{FaultKind}
+use Rattle.dump_text.specs.declared.fault.FaultKind.TheVariants.{Order, Props, CopySource, CopyRevision}
+use Rattle.dump_text.specs.Names.{copy_revision_name}
 use Rattle.dump_text.specs.HeaderBlock.{block_text}
+use Rattle.dump_text.specs.PropertyList.{Property, IsPropertyBlock}
+use Rattle.dump_records.specs.HeaderRules.{header_number}
 use Rattle.dump_records.specs.RecordText.{DumpRecord}
-use Rattle.dump_records.specs.RecordViews.{record_item}
+use Rattle.dump_records.specs.RecordViews.{record_item, part_of_node}
 use Rattle.dump_rules.specs.Settings.{Settings}
+use Rattle.dump_rules.specs.Renumbering.{KeptRevisions, image}
 use Rattle.dump_digest.specs.RecordParts.{is_revision, is_node, is_kept_node}
-use Rattle.dump_filter.specs.Groups.{keeps_empty, revision_number}
+use Rattle.dump_filter.specs.Groups.{keeps_empty, is_pad, revision_number}
+use Rattle.dump_filter.specs.NewHeaders.{has_lost_source, is_whole_file, stays_copy}
 use Rattle.dump_filter.specs.RecordFaults.{ends_in_group}
 use Rattle.dump_filter.specs.OwnText.{revision_own, node_own}
+use Rattle.dump_filter.specs.declared.copies.NewCopy.{NewCopy}
+use Rattle.dump_filter.specs.declared.copies.NewCopy.TheVariants.{Same, Number, Plain}
 use Rattle.dump_filter.specs.declared.report.Report.{Report}
 use Rattle.dump_filter.specs.declared.turn.Waiting.{Waiting}
 use Rattle.dump_filter.specs.declared.turn.Role.{Role}
@@ -31,22 +40,42 @@ role_of settings r =
 abbrev pub stays : Settings → Waited → Bool
 stays settings w = revision_number w.revision == 0 || keeps_empty settings.empty w.bare
 
+-- whether a revision whose group ends so is padded
+abbrev pub pads : Settings → Waited → Bool
+pads settings w = not w.bare && is_pad settings.empty && not settings.preserve
+
+-- the number under which a revision above all kept ones is written
+abbrev pub next_number : Settings → KeptRevisions → DumpRecord → ℕ
+next_number settings kept r = if settings.renumber then kept.first + length kept.numbers else revision_number r
+
+-- the text is a revision, of whatever properties it has
+abbrev pub IsOwnRevision : Settings → KeptRevisions → DumpRecord → Bool → List ℕ → Type 0
+IsOwnRevision settings kept r padded text = (ps : List Property) → IsPropertyBlock r.props ps
+    → text ≡ revision_own r (next_number settings kept r) padded ps
+
+-- the text is a node, of whatever properties it has
+abbrev pub IsOwnNode : DumpRecord → NewCopy → List ℕ → Type 0
+IsOwnNode r copy text = (ps : List Property) → IsPropertyBlock r.props ps → text ≡ node_own r copy ps
+
 -- what is written where a group ends while its revision waits
-abbrev pub end_text : Settings → Option Waited → List ℕ
-end_text settings None = []
-end_text settings (Some w) = if stays settings w then revision_own w.revision else []
+abbrev pub IsEndText : Settings → KeptRevisions → Option Waited → List ℕ → Type 0
+IsEndText settings kept None text = text ≡ []
+IsEndText settings kept (Some w) text =
+    MatchBool (stays settings w) (IsOwnRevision settings kept w.revision (pads settings w) text) (text ≡ [])
 
 -- what is written of a waiting revision before its first kept node
-abbrev pub front_text : Option Waited → List ℕ
-front_text None = []
-front_text (Some w) = revision_own w.revision
+abbrev pub IsFrontText : Settings → KeptRevisions → Option Waited → List ℕ → Type 0
+IsFrontText settings kept None text = text ≡ []
+IsFrontText settings kept (Some w) text = IsOwnRevision settings kept w.revision false text
 
 -- what is written where this record comes next
-abbrev pub turn_text : Settings → Option Waited → DumpRecord → Role → List ℕ
-turn_text settings waiting r KeptNode = front_text waiting ++ node_own r
-turn_text settings waiting r DroppedNode = []
-turn_text settings waiting r Revision = end_text settings waiting
-turn_text settings waiting r Other = end_text settings waiting ++ block_text r.headers
+abbrev pub IsTurnText : Settings → KeptRevisions → Option Waited → DumpRecord → NewCopy → Role → List ℕ → Type 0
+IsTurnText settings kept waiting r copy KeptNode text = (front own : List ℕ) × (text ≡ front ++ own)
+    × IsFrontText settings kept waiting front × IsOwnNode r copy own
+IsTurnText settings kept waiting r copy DroppedNode text = text ≡ []
+IsTurnText settings kept waiting r copy Revision text = IsEndText settings kept waiting text
+IsTurnText settings kept waiting r copy Other text = (front : List ℕ) × (text ≡ front ++ block_text r.headers)
+    × IsEndText settings kept waiting front
 
 -- a revision that waits behind a dropped node
 abbrev pub emptied : Option Waited → Option Waited
@@ -63,6 +92,32 @@ next_waiting waiting r Other = None
 abbrev pub next_present : Option ℕ → DumpRecord → Role → Option ℕ
 next_present present r Revision = Some (revision_number r)
 next_present present r _ = present
+
+-- one more kept revision
+abbrev pub with_kept : KeptRevisions → DumpRecord → KeptRevisions
+with_kept kept r = record kept { numbers = kept.numbers ++ revision_number r ∷ [] }
+
+-- the kept revisions where a waiting one is kept for its node
+abbrev pub front_kept : KeptRevisions → Option Waited → KeptRevisions
+front_kept kept None = kept
+front_kept kept (Some w) = with_kept kept w.revision
+
+-- the kept revisions where a group ends
+abbrev pub end_kept : Settings → KeptRevisions → Option Waited → KeptRevisions
+end_kept settings kept None = kept
+end_kept settings kept (Some w) = if stays settings w then with_kept kept w.revision else kept
+
+-- the kept revisions behind the dump's first revision, or behind another
+abbrev pub started : Option ℕ → DumpRecord → KeptRevisions → KeptRevisions
+started None r kept = record { first = revision_number r; numbers = [] }
+started (Some present) r kept = kept
+
+-- the kept revisions behind the record
+abbrev pub next_kept : Settings → KeptRevisions → Option Waited → Option ℕ → DumpRecord → Role → KeptRevisions
+next_kept settings kept waiting present r KeptNode = front_kept kept waiting
+next_kept settings kept waiting present r DroppedNode = kept
+next_kept settings kept waiting present r Revision = started present r (end_kept settings kept waiting)
+next_kept settings kept waiting present r Other = end_kept settings kept waiting
 
 -- the counts where a group ends
 abbrev pub end_report : Settings → Option Waited → Report → Report
@@ -94,3 +149,42 @@ is_in_order last present r KeptNode = ends_in_group last
 is_in_order last present r DroppedNode = ends_in_group last
 is_in_order last present r Revision = rises present (revision_number r)
 is_in_order last present r Other = true
+
+-- whether a node is copied from a path that isn't kept, and can't stand alone
+abbrev pub is_orphan : Settings → DumpRecord → Bool
+is_orphan settings r = has_lost_source settings r && not (is_whole_file r)
+
+-- a copy's revision has no image, or is above the present one
+abbrev pub HasNoSource : Settings → KeptRevisions → Option ℕ → DumpRecord → Type 0
+HasNoSource settings kept present r = IsTrue (settings.renumber && stays_copy settings r)
+    × (number : ℕ) × (header_number copy_revision_name r.headers ≡ Some number)
+    × ((image kept number ≡ None) ⊎ (unwrap_or present 0 < number))
+
+-- a copy of the revision with this image
+abbrev pub imaged : Option ℕ → Result NewCopy FaultKind
+imaged None = Err CopyRevision
+imaged (Some n) = Ok (Number n)
+
+-- the new copy source of a node that stays a copy of this revision, if it is one
+abbrev pub source_of : Settings → KeptRevisions → Option ℕ → Option ℕ → Result NewCopy FaultKind
+source_of settings kept present None = Ok Same
+source_of settings kept present (Some number) =
+    if settings.renumber then (if nat_lt (unwrap_or present 0) number then Err CopyRevision else imaged (image kept number))
+    else Ok (Number number)
+
+-- the new copy source of a kept node, or its fault
+abbrev pub copy_of : Settings → KeptRevisions → Option ℕ → DumpRecord → Result NewCopy FaultKind
+copy_of settings kept present r =
+    if has_lost_source settings r then (if is_whole_file r then Ok Plain else Err CopySource)
+    else source_of settings kept present (part_of_node r (header_number copy_revision_name r.headers))
+
+-- the same for a record of any role: only a kept node's copy source is looked at
+abbrev pub role_copy : Settings → KeptRevisions → Option Waited → Option ℕ → DumpRecord → Role → Result NewCopy FaultKind
+role_copy settings kept waiting present r KeptNode = copy_of settings (front_kept kept waiting) present r
+role_copy settings kept waiting present r _ = Ok Same
+
+-- the fault of the record that comes next, or its new copy source; its properties are ok or not
+abbrev pub judged : Settings → KeptRevisions → Option Waited → Option DumpRecord → Option ℕ → DumpRecord → Role → Bool → Result NewCopy FaultKind
+judged settings kept waiting last present r role props_ok =
+    if is_in_order last present r role then (if props_ok then role_copy settings kept waiting present r role else Err Props)
+    else Err Order

@@ -1,12 +1,10 @@
 //! The filter: it takes the records of a dump one after another, and gives what is written of each.
 use crate::report::Report;
 use crate::turn::{
-    Waiting, end_piece, find_role, in_order, present_behind, report_at_end, report_behind,
-    turn_piece, waiting_behind,
+    Held, advance, end_piece, find_role, judge, report_at_end, report_behind, turn_piece,
 };
 use dump_digest::Done;
-use dump_records::Record;
-use dump_rules::Options;
+use dump_rules::{Options, Reach};
 use dump_text::FaultKind;
 use dump_writer::Piece;
 use std::alloc::Global;
@@ -28,9 +26,7 @@ pub enum StepFault {
 #[derive(Drop)]
 pub struct Filter<'o, 'a> {
     options: &'o Options,
-    last: Option<Record<'a>>,
-    present: Option<u64>,
-    waiting: Option<Waiting<'a>>,
+    held: Held<'a>,
     report: Report,
     active: bool,
 }
@@ -46,11 +42,11 @@ impl<'o, 'a> Model for Filter<'o, 'a> {
 
     ghost view = { λ f. record {
       settings = f.options.now;
-      last = option_map (λ r. record { dump = record_dump r; number = record_number r }) f.last;
+      last = option_map (λ r. record { dump = record_dump r; number = record_number r }) f.held.last;
       active = f.active;
     } };
 
-    ghost invariant = { λ f. f.active ≡ true → Knows f.options.now f.last f.present (option_map waited f.waiting) f.report };
+    ghost invariant = { λ f. f.active ≡ true → Knows f.options.now f.held.last f.held.present f.held.kept (option_map waited f.held.waiting) f.report };
 }
 
 impl<'o, 'a> Filter<'o, 'a> {
@@ -63,14 +59,17 @@ impl<'o, 'a> Filter<'o, 'a> {
     ghost use Rattle.dump_filter.specs.Counts.{report_of};
 
     /// A filter that has accepted no record. It takes no memory.
-    pub fn new(_alloc: Global, options: &'o Options) -> Filter<'o, 'a>
+    pub fn new(alloc: Global, options: &'o Options) -> Filter<'o, 'a>
         ensures { result ≡ first_state options.now }
     {
         Filter {
             options,
-            last: None,
-            present: None,
-            waiting: None,
+            held: Held {
+                last: None,
+                present: None,
+                kept: Reach::new(alloc, 0),
+                waiting: None,
+            },
             report: Report {
                 revisions_kept: 0,
                 revisions_dropped: 0,
@@ -86,7 +85,7 @@ impl<'o, 'a> Filter<'o, 'a> {
     pub fn expected(&self) -> u64
         ensures { result ≡ count_up_to self.now.last }
     {
-        match &self.last {
+        match &self.held.last {
             Some(last) => last.number() + 1,
             None => 0,
         }
@@ -115,18 +114,24 @@ impl<'o, 'a> Filter<'o, 'a> {
         }
         let record = done.item();
         let role = find_role(self.options, &record);
-        if !in_order(&self.last, self.present, &record, role) {
-            self.active = false;
-            return Err(StepFault::Rule(FaultKind::Order));
-        }
-        let Ok(piece) = turn_piece(alloc, self.options, &self.waiting, &record, role) else {
+        let props_ok = done.verdict().props_ok;
+        let copy = match judge(self.options, &self.held, &record, role, props_ok) {
+            Ok(copy) => copy,
+            Err(kind) => {
+                self.active = false;
+                return Err(StepFault::Rule(kind));
+            }
+        };
+        let Ok(piece) = turn_piece(alloc, self.options, &self.held, &record, copy, role) else {
             self.active = false;
             return Err(StepFault::Memory);
         };
-        self.report = report_behind(self.options, &self.waiting, self.report, role);
-        self.present = present_behind(self.present, &record, role);
-        self.waiting = waiting_behind(self.waiting, record, role);
-        self.last = Some(record);
+        let report = report_behind(self.options, &self.held.waiting, self.report, role);
+        let Ok(()) = advance(&mut self.held, alloc, self.options, record, role) else {
+            self.active = false;
+            return Err(StepFault::Memory);
+        };
+        self.report = report;
         Ok(piece)
     }
 
@@ -141,10 +146,16 @@ impl<'o, 'a> Filter<'o, 'a> {
         if !self.active {
             return Err(StepFault::Closed);
         }
-        let Ok(piece) = end_piece(alloc, self.options, &self.waiting) else {
+        let Held {
+            present,
+            kept,
+            waiting,
+            ..
+        } = &self.held;
+        let Ok(piece) = end_piece(alloc, self.options, kept, *present, waiting) else {
             return Err(StepFault::Memory);
         };
-        let report = report_at_end(self.options, &self.waiting, self.report);
+        let report = report_at_end(self.options, waiting, self.report);
         Ok((piece, report))
     }
 }

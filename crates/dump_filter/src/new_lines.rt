@@ -1,23 +1,54 @@
 //! The header lines of a record that is written: the old ones with new numbers, and lengths that were missing.
-ghost use Rattle.std.specs.Prelude.{◌≡◌, ◌+◌, ◌++◌, ◌∷◌, [], map, OnOk, IfOk, IsTrue};
+ghost use Rattle.std.specs.Prelude.{◌≡◌, ◌++◌, ◌∷◌, [], OnOk, IfOk, IsTrue};
 ghost use Rattle.dump_text.specs.HeaderLine.{header_text};
 ghost use Rattle.dump_text.specs.HeaderBlock.{lines_bytes, block_text};
 ghost use Rattle.dump_text.specs.Views.{block_headers, line_header};
 ghost use Rattle.dump_writer.specs.ChunkBytes.{chunk_bytes};
-ghost use Rattle.dump_filter.specs.NewLines.{number_for, numbered, with_number, renewed, added, new_headers};
+ghost use Rattle.dump_filter.specs.NewLines.{copy_number, is_copy_line, is_dropped, number_for, numbered, with_number, renewed_lines, added, new_headers};
 
+use crate::copies::NewCopy;
 use dump_text::{Block, Line, spell};
 use dump_writer::{Chunk, Memory};
 use std::alloc::Global;
 
-/// The numbers that the lines of a record get: its revision and its copy revision where they change, and its lengths.
+/// What changes in the lines of a record: its revision number, its copy source, and its lengths.
 #[derive(Clone, Copy)]
 pub(crate) struct Changes {
     pub(crate) revision: Option<u64>,
-    pub(crate) copy: Option<u64>,
+    pub(crate) copy: NewCopy,
     pub(crate) props: u64,
     pub(crate) text: u64,
     pub(crate) content: u64,
+}
+
+/// The number that the line of a copy revision gets.
+fn copy_number_of(copy: NewCopy) -> Option<u64>
+    ensures { result ≡ copy_number copy }
+{
+    match copy {
+        NewCopy::Number(n) => Some(n),
+        NewCopy::Same | NewCopy::Plain => None,
+    }
+}
+
+/// Whether the line of this name tells of a copy source.
+fn tells_of_copy(name: &[u8]) -> bool
+    ensures { result ≡ is_copy_line name.now }
+{
+    name == b"Node-copyfrom-rev".as_slice()
+        || name == b"Node-copyfrom-path".as_slice()
+        || name == b"Text-copy-source-md5".as_slice()
+        || name == b"Text-copy-source-sha1".as_slice()
+}
+
+/// Whether the line of this name goes.
+fn goes(changes: &Changes, name: &[u8]) -> bool
+    ensures { result ≡ is_dropped changes.now.copy name.now }
+{
+    match changes.copy {
+        NewCopy::Plain => tells_of_copy(name),
+        NewCopy::Same | NewCopy::Number(_) => false,
+    }
 }
 
 /// The number that the line of this name gets.
@@ -27,7 +58,7 @@ fn new_number(changes: &Changes, name: &[u8]) -> Option<u64>
     if name == b"Revision-number".as_slice() {
         changes.revision
     } else if name == b"Node-copyfrom-rev".as_slice() {
-        changes.copy
+        copy_number_of(changes.copy)
     } else if name == b"Prop-content-length".as_slice() {
         Some(changes.props)
     } else if name == b"Text-content-length".as_slice() {
@@ -39,7 +70,8 @@ fn new_number(changes: &Changes, name: &[u8]) -> Option<u64>
     }
 }
 
-fn push_bytes(out: &mut Vec<u8>, bytes: &[u8]) -> Result<(), Memory>
+/// Adds bytes.
+pub(crate) fn push_bytes(out: &mut Vec<u8>, bytes: &[u8]) -> Result<(), Memory>
     ensures { OnOk result (out.new.items ≡ out.old.items ++ bytes.now) }
 {
     match out.extend_from_slice(bytes) {
@@ -93,11 +125,11 @@ fn stays(line: &Line<'_>, number: Option<u64>) -> bool
 
 /// Whether all lines stay as they stand.
 fn all_stay(block: &Block<'_>, changes: &Changes) -> bool
-    ensures { IsTrue result → map (renewed changes.now) (block_headers block.now) ≡ block_headers block.now }
+    ensures { IsTrue result → renewed_lines changes.now (block_headers block.now) ≡ block_headers block.now }
 {
     let mut lines = block.lines();
     while let Some(line) = lines.next() {
-        if !stays(&line, new_number(changes, line.name)) {
+        if goes(changes, line.name) || !stays(&line, new_number(changes, line.name)) {
             return false;
         }
     }
@@ -121,7 +153,7 @@ fn block_stays(block: &Block<'_>, changes: &Changes) -> bool
 }
 
 /// The block of a record as it is written: lent where it stays as it stands.
-pub(crate) fn new_block<'a>(
+pub(crate) fn new_lines<'a>(
     alloc: Global,
     block: &Block<'a>,
     changes: &Changes,
@@ -142,7 +174,9 @@ fn write_block(alloc: Global, block: &Block<'_>, changes: &Changes) -> Result<Ve
     let mut out = Vec::new(alloc);
     let mut lines = block.lines();
     while let Some(line) = lines.next() {
-        push_line(&mut out, &line, new_number(changes, line.name))?;
+        if !goes(changes, line.name) {
+            push_line(&mut out, &line, new_number(changes, line.name))?;
+        }
     }
     push_missing(&mut out, block, b"Prop-content-length", changes.props)?;
     push_missing(&mut out, block, b"Content-length", changes.content)?;

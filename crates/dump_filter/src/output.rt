@@ -1,79 +1,95 @@
 //! What is written of a record, as chunks of a piece.
-ghost use Rattle.std.specs.Prelude.{◌≡◌, ◌++◌, OnOk, length};
+ghost use Rattle.std.specs.Prelude.{◌≡◌, ℕ, ◌++◌, List, OnOk};
 ghost use Rattle.dump_text.specs.HeaderBlock.{block_text};
+ghost use Rattle.dump_text.specs.PropertyList.{Property, IsPropertyBlock};
+ghost use Rattle.dump_writer.specs.ChunkBytes.{chunk_bytes};
 ghost use Rattle.dump_records.specs.RecordViews.{record_item};
-ghost use Rattle.dump_filter.specs.OwnText.{ChangesOf, changed_text, revision_own, node_own};
+ghost use Rattle.dump_filter.specs.OwnText.{revision_own};
+ghost use Rattle.dump_filter.specs.NewLines.{AreLengths, new_record};
+ghost use Rattle.dump_filter.specs.Turns.{IsOwnNode};
 
-use crate::new_lines::{Changes, new_block};
+use crate::copies::NewCopy;
+use crate::new_lines::{Changes, new_lines};
+use crate::props::new_properties;
 use dump_records::Record;
 use dump_writer::{Chunk, Memory, Piece};
 use std::alloc::Global;
 
-/// How long a record's text is.
-fn text_len(item: &Record<'_>) -> usize
-    ensures { result ≡ length (record_item item.now).text }
+/// What changes in the lines of a record of these properties and this text.
+fn changes_of(props: &Chunk<'_>, text: &[u8], revision: Option<u64>, copy: NewCopy) -> Changes
+    ensures lengths { AreLengths (chunk_bytes props.now) text.now result }
+    ensures revision { result.revision ≡ revision }
+    ensures copy { result.copy ≡ copy }
 {
-    match item.text() {
-        Some(text) => text.len(),
-        None => 0,
-    }
-}
-
-/// The numbers that the lines of a record get.
-fn changes_of(item: &Record<'_>, revision: Option<u64>, copy: Option<u64>) -> Changes
-    ensures { ChangesOf (record_item item.now) revision copy result }
-{
-    let content = item.content().len();
-    let text = text_len(item);
+    let props = props.bytes().len() as u64;
+    let text = text.len() as u64;
     Changes {
         revision,
         copy,
-        props: (content - text) as u64,
-        text: text as u64,
-        content: content as u64,
+        props,
+        text,
+        content: props + text,
     }
 }
 
-/// Adds a record under its new revision and copy revision, and the empty lines behind it.
+/// Adds a chunk, if it has a byte.
+fn push_some<'a>(piece: &mut Piece<'a>, chunk: Chunk<'a>) -> Result<(), Memory>
+    ensures { OnOk result (piece.new ≡ piece.old ++ chunk_bytes chunk.entry) }
+{
+    if chunk.bytes().is_empty() {
+        Ok(())
+    } else {
+        piece.push(chunk)
+    }
+}
+
+/// Adds a record with these changes and these properties, and what stands behind it.
 fn push_record<'a>(
     piece: &mut Piece<'a>,
     alloc: Global,
     item: &Record<'a>,
     changes: &Changes,
+    props: Chunk<'a>,
     end: &'static [u8],
 ) -> Result<(), Memory>
-    requires { ChangesOf (record_item item.now) changes.now.revision changes.now.copy changes.now }
-    ensures { OnOk result (piece.new ≡ piece.old ++ changed_text (record_item item.now) changes.now.revision changes.now.copy end.entry.now) }
+    ensures { let r = record_item item.now in
+        OnOk result (piece.new ≡ piece.old ++ (new_record changes.now r.headers (chunk_bytes props.entry) r.text ++ end.entry.now)) }
 {
-    let block = new_block(alloc, &item.block(), changes)?;
+    let block = new_lines(alloc, &item.block(), changes)?;
     piece.push(block)?;
-    piece.push(Chunk::Lent(item.content()))?;
+    push_some(piece, props)?;
+    push_some(piece, Chunk::Lent(item.text_bytes()))?;
     piece.push(Chunk::Lent(end))
 }
 
-/// Adds a revision.
+/// Adds a revision under a new number, with its properties or with those of an empty revision.
 pub(crate) fn push_revision<'a>(
     piece: &mut Piece<'a>,
     alloc: Global,
     item: &Record<'a>,
+    number: u64,
+    padded: bool,
 ) -> Result<(), Memory>
-    ensures { OnOk result (piece.new ≡ piece.old ++ revision_own (record_item item.now)) }
+    ensures { OnOk result ((ps : List Property) → IsPropertyBlock (record_item item.now).props ps
+        → piece.new ≡ piece.old ++ revision_own (record_item item.now) number padded ps) }
 {
-    let number = item.revision().unwrap_or(0);
-    let changes = changes_of(item, Some(number), None);
-    push_record(piece, alloc, item, &changes, b"\n")
+    let props = new_properties(alloc, item, padded)?;
+    let changes = changes_of(&props, item.text_bytes(), Some(number), NewCopy::Same);
+    push_record(piece, alloc, item, &changes, props, b"\n")
 }
 
-/// Adds a node.
+/// Adds a node with its new copy source.
 pub(crate) fn push_node<'a>(
     piece: &mut Piece<'a>,
     alloc: Global,
     item: &Record<'a>,
+    copy: NewCopy,
 ) -> Result<(), Memory>
-    ensures { OnOk result (piece.new ≡ piece.old ++ node_own (record_item item.now)) }
+    ensures { OnOk result ((own : List ℕ) × (piece.new ≡ piece.old ++ own) × IsOwnNode (record_item item.now) copy own) }
 {
-    let changes = changes_of(item, None, item.copy_revision());
-    push_record(piece, alloc, item, &changes, b"\n\n")
+    let props = new_properties(alloc, item, false)?;
+    let changes = changes_of(&props, item.text_bytes(), None, copy);
+    push_record(piece, alloc, item, &changes, props, b"\n\n")
 }
 
 /// Adds the lines of a version or UUID record, as they stand.

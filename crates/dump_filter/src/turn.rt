@@ -1,16 +1,18 @@
-//! What one record does: what it writes, what waits behind it, and what it counts.
-ghost use Rattle.std.specs.Prelude.{◌≡◌, ◌<◌, ◌+◌, ◌^◌, ◌++◌, IfOk, IfSome, option_map};
+//! What one record does: what it writes, what waits behind it, which revisions are kept, and what it counts.
+ghost use Rattle.std.specs.Prelude.{◌≡◌, ℕ, ◌<◌, ◌+◌, ◌^◌, ◌++◌, List, Some, length, IfOk, IfSome, OnOk, OnErr, option_map};
 ghost use Rattle.dump_records.specs.RecordViews.{record_item};
-ghost use Rattle.dump_digest.specs.RecordParts.{is_revision, is_node, is_kept_node};
 ghost use Rattle.dump_filter.specs.Groups.{keeps_empty, revision_number};
 ghost use Rattle.dump_filter.specs.RecordFaults.{ends_in_group};
-ghost use Rattle.dump_filter.specs.OwnText.{node_own};
-ghost use Rattle.dump_filter.specs.Turns.{waited, role_of, stays, end_text, front_text, turn_text, next_waiting, next_present, end_report, front_report, next_report, rises, is_in_order};
+ghost use Rattle.dump_filter.specs.Turns.{waited, role_of, stays, pads, next_number, IsOwnRevision, IsOwnNode, IsEndText, IsFrontText, IsTurnText, next_waiting, next_present, with_kept, front_kept, end_kept, next_kept, end_report, next_report, is_in_order, judged};
+ghost use Rattle.dump_filter.specs.Shape.{AreKept};
 
+use crate::copies::{NewCopy, find_copy};
 use crate::output::{push_lines, push_node, push_revision};
 use crate::report::Report;
+use dump_digest::is_kept;
 use dump_records::{Record, RecordKind};
-use dump_rules::{Empty, Options, keeps};
+use dump_rules::{Empty, Options, Reach};
+use dump_text::FaultKind;
 use dump_writer::{Memory, Piece};
 use std::alloc::Global;
 
@@ -28,6 +30,17 @@ pub(crate) enum Role {
     DroppedNode,
     Revision,
     Other,
+}
+
+/// What the filter holds of the records so far.
+#[derive(Drop)]
+pub(crate) struct Held<'a> {
+    /// The last record.
+    pub(crate) last: Option<Record<'a>>,
+    /// The number of the present revision.
+    pub(crate) present: Option<u64>,
+    pub(crate) kept: Reach,
+    pub(crate) waiting: Option<Waiting<'a>>,
 }
 
 /// Whether the options keep a revision whose group ends so.
@@ -48,23 +61,13 @@ pub(crate) fn number_of_revision(item: &Record<'_>) -> u64
     item.revision().unwrap_or(0)
 }
 
-/// Whether the record is a node whose path the options keep.
-fn is_kept(options: &Options, item: &Record<'_>) -> bool
-    ensures { result ≡ is_kept_node options.now (record_item item.now) }
-{
-    match item.path() {
-        Some(path) => keeps(options, path),
-        None => false,
-    }
-}
-
 /// What the record is to the filter.
 pub(crate) fn find_role(options: &Options, item: &Record<'_>) -> Role
     ensures { result ≡ role_of options.now (record_item item.now) }
 {
     match item.kind() {
         RecordKind::Node => {
-            if is_kept(options, item) {
+            if is_kept(item, options) {
                 Role::KeptNode
             } else {
                 Role::DroppedNode
@@ -111,36 +114,113 @@ fn is_kept_at_end(options: &Options, waiting: &Waiting<'_>) -> bool
     number_of_revision(&waiting.revision) == 0 || keeps_when_empty(options.empty(), waiting.bare)
 }
 
+/// Whether a waiting revision whose group ends is written as an empty one.
+fn is_padded(options: &Options, waiting: &Waiting<'_>) -> bool
+    ensures { result ≡ pads options.now (waited waiting.now) }
+{
+    !waiting.bare && matches!(options.empty(), Empty::Pad) && !options.preserve()
+}
+
+/// The number that the next kept revision gets with renumbering.
+pub(crate) fn next_image(kept: &Reach) -> u64
+    requires { kept.now.first + length kept.now.numbers < 2 ^ 64 }
+    ensures { result ≡ kept.now.first + length kept.now.numbers }
+{
+    kept.first() + kept.count()
+}
+
+/// The number under which a waiting revision is written.
+fn number_written(
+    options: &Options,
+    kept: &Reach,
+    present: Option<u64>,
+    waiting: &Waiting<'_>,
+) -> u64
+    requires { AreKept kept.now present (Some (waited waiting.now)) }
+    ensures { result ≡ next_number options.now kept.now (record_item waiting.now.revision) }
+{
+    let number = number_of_revision(&waiting.revision);
+    if options.renumber() {
+        next_image(kept)
+    } else {
+        number
+    }
+}
+
+/// What is written of a waiting revision, padded or not.
+fn revision_piece<'a>(
+    alloc: Global,
+    options: &Options,
+    kept: &Reach,
+    present: Option<u64>,
+    waiting: &Waiting<'a>,
+    padded: bool,
+) -> Result<Piece<'a>, Memory>
+    requires { AreKept kept.now present (Some (waited waiting.now)) }
+    ensures { IfOk result (λ piece. IsOwnRevision options.now kept.now (record_item waiting.now.revision) padded piece) }
+{
+    let number = number_written(options, kept, present, waiting);
+    let mut piece = Piece::new(alloc);
+    push_revision(&mut piece, alloc, &waiting.revision, number, padded)?;
+    Ok(piece)
+}
+
 /// What is written where a group ends.
 pub(crate) fn end_piece<'a>(
     alloc: Global,
     options: &Options,
+    kept: &Reach,
+    present: Option<u64>,
     waiting: &Option<Waiting<'a>>,
 ) -> Result<Piece<'a>, Memory>
-    ensures { IfOk result (λ piece. piece ≡ end_text options.now (option_map waited waiting.now)) }
+    requires { AreKept kept.now present (option_map waited waiting.now) }
+    ensures { IfOk result (λ piece. IsEndText options.now kept.now (option_map waited waiting.now) piece) }
 {
-    let mut piece = Piece::new(alloc);
-    if let Some(waiting) = waiting {
-        if is_kept_at_end(options, waiting) {
-            push_revision(&mut piece, alloc, &waiting.revision)?;
-        }
+    let Some(waiting) = waiting else {
+        return Ok(Piece::new(alloc));
+    };
+    if is_kept_at_end(options, waiting) {
+        let padded = is_padded(options, waiting);
+        revision_piece(alloc, options, kept, present, waiting, padded)
+    } else {
+        Ok(Piece::new(alloc))
     }
-    Ok(piece)
+}
+
+/// What is written of a waiting revision before its first kept node.
+fn front_piece<'a>(
+    alloc: Global,
+    options: &Options,
+    kept: &Reach,
+    present: Option<u64>,
+    waiting: &Option<Waiting<'a>>,
+) -> Result<Piece<'a>, Memory>
+    requires { AreKept kept.now present (option_map waited waiting.now) }
+    ensures { IfOk result (λ piece. IsFrontText options.now kept.now (option_map waited waiting.now) piece) }
+{
+    match waiting {
+        Some(waiting) => revision_piece(alloc, options, kept, present, waiting, false),
+        None => Ok(Piece::new(alloc)),
+    }
 }
 
 /// What is written of a kept node, behind its revision where that waited.
 fn node_piece<'a>(
     alloc: Global,
+    options: &Options,
+    kept: &Reach,
+    present: Option<u64>,
     waiting: &Option<Waiting<'a>>,
     item: &Record<'a>,
+    copy: NewCopy,
 ) -> Result<Piece<'a>, Memory>
-    ensures { IfOk result (λ piece. piece ≡ front_text (option_map waited waiting.now) ++ node_own (record_item item.now)) }
+    requires { AreKept kept.now present (option_map waited waiting.now) }
+    ensures { IfOk result (λ piece. (front own : List ℕ) × (piece ≡ front ++ own)
+        × IsFrontText options.now kept.now (option_map waited waiting.now) front
+        × IsOwnNode (record_item item.now) copy own) }
 {
-    let mut piece = Piece::new(alloc);
-    if let Some(waiting) = waiting {
-        push_revision(&mut piece, alloc, &waiting.revision)?;
-    }
-    push_node(&mut piece, alloc, item)?;
+    let mut piece = front_piece(alloc, options, kept, present, waiting)?;
+    push_node(&mut piece, alloc, item, copy)?;
     Ok(piece)
 }
 
@@ -148,26 +228,103 @@ fn node_piece<'a>(
 pub(crate) fn turn_piece<'a>(
     alloc: Global,
     options: &Options,
-    waiting: &Option<Waiting<'a>>,
+    held: &Held<'a>,
     item: &Record<'a>,
+    copy: NewCopy,
     role: Role,
 ) -> Result<Piece<'a>, Memory>
-    ensures { IfOk result (λ piece. piece ≡ turn_text options.now (option_map waited waiting.now) (record_item item.now) role) }
+    requires { AreKept held.now.kept held.now.present (option_map waited held.now.waiting) }
+    ensures { IfOk result (λ piece. IsTurnText options.now held.now.kept (option_map waited held.now.waiting) (record_item item.now) copy role piece) }
 {
+    let (kept, present, waiting) = (&held.kept, held.present, &held.waiting);
     match role {
-        Role::KeptNode => node_piece(alloc, waiting, item),
+        Role::KeptNode => node_piece(alloc, options, kept, present, waiting, item, copy),
         Role::DroppedNode => Ok(Piece::new(alloc)),
-        Role::Revision => end_piece(alloc, options, waiting),
+        Role::Revision => end_piece(alloc, options, kept, present, waiting),
         Role::Other => {
-            let mut piece = end_piece(alloc, options, waiting)?;
+            let mut piece = end_piece(alloc, options, kept, present, waiting)?;
             push_lines(&mut piece, item)?;
             Ok(piece)
         }
     }
 }
 
+/// Keeps a waiting revision.
+fn keep_waiting(kept: &mut Reach, present: Option<u64>, waiting: &Waiting<'_>) -> Result<(), Memory>
+    requires { AreKept kept.old present (Some (waited waiting.now)) }
+    ensures { OnOk result (kept.new ≡ with_kept kept.old (record_item waiting.now.revision)) }
+{
+    match kept.push(number_of_revision(&waiting.revision)) {
+        Ok(()) => Ok(()),
+        Err(_) => Err(Memory),
+    }
+}
+
+/// Keeps a waiting revision for its first kept node.
+fn keep_for_node(
+    kept: &mut Reach,
+    present: Option<u64>,
+    waiting: &Option<Waiting<'_>>,
+) -> Result<(), Memory>
+    requires { AreKept kept.old present (option_map waited waiting.now) }
+    ensures { OnOk result (kept.new ≡ front_kept kept.old (option_map waited waiting.now)) }
+{
+    match waiting {
+        Some(waiting) => keep_waiting(kept, present, waiting),
+        None => Ok(()),
+    }
+}
+
+/// Keeps a waiting revision where its group ends, if the options keep it.
+fn keep_at_end(
+    kept: &mut Reach,
+    options: &Options,
+    present: Option<u64>,
+    waiting: &Option<Waiting<'_>>,
+) -> Result<(), Memory>
+    requires { AreKept kept.old present (option_map waited waiting.now) }
+    ensures { OnOk result (kept.new ≡ end_kept options.now kept.old (option_map waited waiting.now)) }
+{
+    let Some(waiting) = waiting else {
+        return Ok(());
+    };
+    if is_kept_at_end(options, waiting) {
+        keep_waiting(kept, present, waiting)
+    } else {
+        Ok(())
+    }
+}
+
+/// Brings the kept revisions to where they are behind the record. New numbers count from the dump's
+/// first revision, so they begin anew at that one.
+fn keep_behind(
+    kept: &mut Reach,
+    alloc: Global,
+    options: &Options,
+    present: Option<u64>,
+    waiting: &Option<Waiting<'_>>,
+    item: &Record<'_>,
+    role: Role,
+) -> Result<(), Memory>
+    requires { AreKept kept.old present (option_map waited waiting.now) }
+    ensures { OnOk result (kept.new ≡ next_kept options.now kept.old (option_map waited waiting.now) present (record_item item.now) role) }
+{
+    match role {
+        Role::KeptNode => keep_for_node(kept, present, waiting),
+        Role::DroppedNode => Ok(()),
+        Role::Revision => {
+            if present.is_some() {
+                return keep_at_end(kept, options, present, waiting);
+            }
+            *kept = Reach::new(alloc, number_of_revision(item));
+            Ok(())
+        }
+        Role::Other => keep_at_end(kept, options, present, waiting),
+    }
+}
+
 /// What waits behind the record.
-pub(crate) fn waiting_behind<'a>(
+fn waiting_behind<'a>(
     waiting: Option<Waiting<'a>>,
     item: Record<'a>,
     role: Role,
@@ -211,7 +368,7 @@ pub(crate) fn report_at_end(
 }
 
 /// The number of the present revision behind the record.
-pub(crate) fn present_behind(present: Option<u64>, item: &Record<'_>, role: Role) -> Option<u64>
+fn present_behind(present: Option<u64>, item: &Record<'_>, role: Role) -> Option<u64>
     ensures { result ≡ next_present present (record_item item.now) role }
 {
     match role {
@@ -244,4 +401,57 @@ pub(crate) fn report_behind(
         Role::Revision | Role::Other => counted = report_at_end(options, waiting, report),
     }
     counted
+}
+
+/// The fault of the record that comes next, or its new copy source.
+pub(crate) fn judge(
+    options: &Options,
+    held: &Held<'_>,
+    item: &Record<'_>,
+    role: Role,
+    props_ok: bool,
+) -> Result<NewCopy, FaultKind>
+    requires { AreKept held.now.kept held.now.present (option_map waited held.now.waiting) }
+    ensures { result ≡ judged options.now held.now.kept (option_map waited held.now.waiting) (option_map record_item held.now.last) held.now.present (record_item item.now) role props_ok }
+{
+    if !in_order(&held.last, held.present, item, role) {
+        return Err(FaultKind::Order);
+    }
+    if !props_ok {
+        return Err(FaultKind::Props);
+    }
+    match role {
+        Role::KeptNode => find_copy(options, &held.kept, &held.waiting, held.present, item),
+        Role::DroppedNode | Role::Revision | Role::Other => Ok(NewCopy::Same),
+    }
+}
+
+/// Brings what is held to where it is behind the record.
+pub(crate) fn advance<'a>(
+    held: &mut Held<'a>,
+    alloc: Global,
+    options: &Options,
+    item: Record<'a>,
+    role: Role,
+) -> Result<(), Memory>
+    requires { AreKept held.old.kept held.old.present (option_map waited held.old.waiting) }
+    ensures last { OnOk result (held.new.last ≡ Some item.entry) }
+    ensures err { OnErr result (held.new.last ≡ held.old.last) }
+    ensures present { OnOk result (held.new.present ≡ next_present held.old.present (record_item item.entry) role) }
+    ensures kept { OnOk result (held.new.kept ≡ next_kept options.now held.old.kept (option_map waited held.old.waiting) held.old.present (record_item item.entry) role) }
+    ensures waiting { OnOk result (option_map waited held.new.waiting ≡ next_waiting (option_map waited held.old.waiting) (record_item item.entry) role) }
+{
+    keep_behind(
+        &mut held.kept,
+        alloc,
+        options,
+        held.present,
+        &held.waiting,
+        &item,
+        role,
+    )?;
+    held.present = present_behind(held.present, &item, role);
+    held.waiting = waiting_behind(held.waiting, item, role);
+    held.last = Some(item);
+    Ok(())
 }

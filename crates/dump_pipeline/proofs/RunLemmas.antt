@@ -4,7 +4,6 @@ use Rattle.std.proofs.lemmas.List.{append-nil, take-append-drop, length-take}
 use Rattle.std.specs.Io.KnownBytes.{Appends}
 use Rattle.std.proofs.KnownBytes.{Appends-nil, Appends-trans}
 use Rattle.dump_text.specs.declared.fault.FaultKind.{FaultKind}
-use Rattle.dump_text.specs.declared.fault.FaultKind.TheVariants as faults
 use Rattle.dump_text.specs.FaultTable.{NoFault}
 use Rattle.dump_records.specs.declared.record.Record.{Record}
 use Rattle.dump_records.specs.declared.cutter.Cut.TheVariants as cuts
@@ -24,7 +23,8 @@ use Rattle.dump_filter.specs.WholeText.{IsCleanText}
 use Rattle.dump_filter.specs.Groups.{kept_revisions}
 use Rattle.dump_filter.specs.Written.{IsWritten}
 use Rattle.dump_filter.proofs.FilterLemmas.{free_more, free_none, begins_none}
-use Rattle.dump_filter.proofs.Answered.{AllLawful, Reached, all_lawful, lawful_front, lawful_behind, reach, reached_none, follow, Outcome, outputs_once}
+use Rattle.dump_filter.proofs.OnceLemmas.{outputs_once}
+use Rattle.dump_filter.proofs.Answered.{AllLawful, Reached, reached_written, all_lawful, lawful_front, lawful_behind, reach, reached_none, follow, Outcome}
 use Rattle.dump_filter.proofs.Answered.Outcome.{Stops, Ends}
 use Rattle.dump_pipeline.specs.declared.answer.Answer.{Answer}
 use Rattle.dump_pipeline.specs.declared.answer.Answer.TheVariants as answers
@@ -55,23 +55,23 @@ goes_on settings dump before text begins free written = by_law (each_dump_has_on
         lawful = subst AllLawful split (all_lawful 0 0 dump has.0 all has.1)
 
         found : Reached settings ([] ++ before)
-        found = reach settings [] before (lawful_front before rest lawful) free (reached_none settings)
+        found = reach settings [] before (lawful_front before rest lawful) free (free_none settings) (reached_none settings)
 
         reached : Reached settings before
         reached = found
 
         same : reached.text ≡ text
-        same = outputs_once settings false (kept_revisions settings before) before reached.text text reached.written written
+        same = outputs_once settings false (kept_revisions settings before) before reached.text text (reached_written settings before reached) written
 
         prefix : (final : List ℕ) (more : List ℕ) → final ≡ reached.text ++ more → IsPrefixOf text final
         prefix final more is = (more, is ∙ ap (λ t. t ++ more) same)
 
         by_outcome : Outcome settings before rest reached.text → IsFilterPrefix settings dump text
-        by_outcome (Stops mid after r at free' fault more out) =
+        by_outcome (Stops mid after r which at free' fault more out) =
             let listed : BeginsWithRecords dump (((before ++ mid) ++ r ∷ []) ++ after) =
             subst (BeginsWithRecords dump) (split ∙ ap (λ (l : List DumpRecord). before ++ l) at ∙ sym (append_assoc before mid (r ∷ after)) ∙ sym (append_assoc (before ++ mid) (r ∷ []) after)) (has.0, has.1) in (
               reached.text ++ more,
-              answers.Fault faults.Order (length (before ++ mid)) r.place,
+              answers.Fault which (length (before ++ mid)) r.place,
               (before ++ mid, (free', inl (r, begins_prefix dump ((before ++ mid) ++ r ∷ []) after listed, fault, refl)), out, refl),
               prefix (reached.text ++ more) more refl,
             )

@@ -6,6 +6,7 @@ use dump_rules::{Empty, Options, Side};
 use dump_text::FaultKind;
 use dump_writer::{MemorySink, Trouble};
 use std::alloc::Global;
+use std::io::Write;
 use std::test::Fail;
 
 // Revision 1 adds `trunk`, `trunk/a` and `trunk2`, in this order.
@@ -142,11 +143,76 @@ fn what_stands_before_a_fault_is_written(rt: HostRuntime) -> Result<(), Fail> {
     Ok(())
 }
 
+const DATE: &str = "K 8\nsvn:date\nV 27\n2024-01-02T03:04:05.000000Z\nPROPS-END\n\n";
+
+// A revision, and a node under `x` or under `trunk`.
+fn write_group(dump: &mut Vec<u8>, number: u64) -> Result<(), Fail> {
+    write_revision(dump, number)?;
+    let parent = if number % 2 == 0 { "trunk" } else { "x" };
+    write!(
+        dump,
+        "Node-path: {parent}/{number}\nNode-kind: dir\nNode-action: add\n\
+        Prop-content-length: 10\nContent-length: 10\n\nPROPS-END\n\n\n"
+    )?;
+    Ok(())
+}
+
+fn write_revision(dump: &mut Vec<u8>, number: u64) -> Result<(), Fail> {
+    write!(
+        dump,
+        "Revision-number: {number}\nProp-content-length: 56\nContent-length: 56\n\n{DATE}"
+    )?;
+    Ok(())
+}
+
+#[test]
+fn every_second_revision_is_dropped_and_the_rest_renumbered(rt: HostRuntime) -> Result<(), Fail> {
+    let alloc = rt.alloc();
+    let mut dump = Vec::from_slice(alloc, b"SVN-fs-dump-format-version: 2\n\n")?;
+    write_revision(&mut dump, 0)?;
+    for number in 1..100 {
+        write_group(&mut dump, number)?;
+    }
+    let prefixes = [b"trunk".as_slice()];
+    let options = Options::new(
+        alloc,
+        Side::Include,
+        prefixes.as_slice(),
+        Empty::DropEmptied,
+        true,
+        false,
+        false,
+    )?;
+    let mut sink = MemorySink::new(alloc, 1000, Trouble::Never);
+    let counts = Report {
+        revisions_kept: 50,
+        revisions_dropped: 50,
+        nodes_kept: 49,
+        nodes_dropped: 50,
+        texts_checked: 0,
+    };
+    assert_eq!(rt;
+        run_plain(alloc, &dump, &options, &mut sink),
+        Answer::Clean(counts)
+    );
+    assert_eq!(rt; sink.taken().len(), 11_359);
+    let last = "Revision-number: 49\nProp-content-length: 56\nContent-length: 56\n\n";
+    let mut end = Vec::from_slice(alloc, last.as_bytes())?;
+    end.extend_from_slice(DATE.as_bytes())?;
+    end.extend_from_slice(b"Node-path: trunk/98\nNode-kind: dir\nNode-action: add\n")?;
+    end.extend_from_slice(b"Prop-content-length: 10\nContent-length: 10\n\nPROPS-END\n\n\n")?;
+    assert!(rt; sink.taken().ends_with(&end));
+    Ok(())
+}
+
 // Run with each allocation refused in turn.
 #[test]
-fn want_of_memory_leaves_a_first_part(rt: HostRuntime) -> Result<(), Fail> {
+fn want_of_memory_leaves_a_first_part(rt: HostRuntime) {
     let alloc = rt.alloc();
-    let options = options(alloc, Side::Include, Empty::Pad)?;
+    let (side, prefixes) = (Side::Include, [b"trunk".as_slice()]);
+    let Ok(options) = Options::new(alloc, side, &prefixes, Empty::Pad, false, true, false) else {
+        return;
+    };
     let mut sink = MemorySink::new(alloc, 1000, Trouble::Never);
     let answer = run_plain(alloc, DUMP, &options, &mut sink);
     assert!(rt; DUMP.starts_with(sink.taken()));
@@ -156,5 +222,4 @@ fn want_of_memory_leaves_a_first_part(rt: HostRuntime) -> Result<(), Fail> {
         }
         _ => assert_eq!(rt; answer, report(2, 1)),
     }
-    Ok(())
 }

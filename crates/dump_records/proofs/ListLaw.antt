@@ -10,6 +10,8 @@ use Rattle.dump_text.specs.HeaderLine as line
 use Rattle.dump_text.specs.HeaderLine.{has_byte, header_text, is_header, count_named}
 use Rattle.dump_text.specs.HeaderBlock.{is_block, lines_bytes, block_text, BeginsWithBlock, HasBlock, block_fault}
 use Rattle.dump_text.specs.Scanning.{IsFirstLine, IsCutAtColon, IsNoHeader, HasLines}
+use Rattle.dump_text.proofs.Splits.{Split, split}
+use Rattle.dump_text.proofs.Splits.Split.{Cut, Lacks}
 use Rattle.dump_text.proofs.Unique.{lawful, split_once, lawful_lines, lines_once, regroup}
 use Rattle.dump_text.proofs.ScanLemmas.{clash, lines_behind, no_line_here, header_text-is, is_line}
 use Rattle.dump_records.specs.HeaderRules.{property_length, text_length}
@@ -21,20 +23,6 @@ use Rattle.dump_records.proofs.Unique.{EndsWith, records_once}
 use Rattle.dump_records.proofs.PartLemmas.{no_block, unlawful, cut_short}
 use Rattle.dump_records.proofs.CutLemmas.{Stripped, strip, lfs_length, record_some}
 use Rattle.dump_text.proofs.BlockLemmas.{no_block-lines}
-
--- a text up to the first of these bytes, or without any
-data Split (b : ℕ) (text : List ℕ) : Type 0 where
-  Cut : (front rest : List ℕ) → text ≡ front ++ b ∷ rest → has_byte b front ≡ false → Split b text
-  Lacks : has_byte b text ≡ false → Split b text
-
-split : (b : ℕ) (text : List ℕ) → Split b text
-split b [] = Lacks refl
-split b (c ∷ text) = add b c text (split b text) (c == b) refl
-  where
-    add : (b c : ℕ) (text : List ℕ) → Split b text → (t : Bool) → (c == b) ≡ t → Split b (c ∷ text)
-    add b c text more true is = Cut [] text (let e = eqb-true c b is in cc) refl
-    add b c text (Cut front rest cut none) false is = Cut (c ∷ front) rest (ap (λ t. c ∷ t) cut) (rw is none)
-    add b c text (Lacks none) false is = Lacks (rw is none)
 
 head_of : (a b : ℕ) (x y : List ℕ) → a ∷ x ≡ b ∷ y → a ≡ b
 head_of a b x y e = cc

@@ -1,9 +1,7 @@
 -- The bytes of a record between its places.
-use Rattle.std.proofs.Common.{◌≡◌, ℕ, ◌+◌, ◌-◌, ◌≤◌, List, ◌++◌, take, drop, length, slice_range, refl, sym, ap, ◌∙◌, arith, append_assoc, length-append}
-use Rattle.std.proofs.lemmas.List.{take-append-drop, take_at, length-drop, drop-drop, drop-take, length-take-le, take-take}
-use Rattle.dump_text.specs.HeaderBlock.{block_text}
+use Rattle.std.proofs.Common.{◌≡◌, ℕ, ◌+◌, ◌-◌, ◌≤◌, List, ◌++◌, take, drop, length, slice_range, sym, ap, ◌∙◌, arith, length-append}
+use Rattle.std.proofs.lemmas.List.{take-append-drop, take_at, length-drop, drop-drop, drop-take, take-take}
 use Rattle.dump_text.specs.Views.{block_dump, block_place, block_after}
-use Rattle.dump_text.specs.ReadHeaders.{headers_between}
 use Rattle.dump_records.specs.RecordText.{record_text}
 use Rattle.dump_records.proofs.CutLemmas.{record_some}
 use Rattle.dump_records.specs.RecordViews.{record_item}

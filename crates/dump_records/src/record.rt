@@ -142,6 +142,20 @@ impl<'a> Record<'a> {
         }
     }
 
+    /// Its property block; no bytes where it has no length for one.
+    pub fn property_bytes(&self) -> &'a [u8]
+        ensures { result.now ≡ (record_item self.now).props }
+    {
+        &self.block.dump()[self.block.after()..self.text_from]
+    }
+
+    /// Its text; no bytes where it has no length for one.
+    pub fn text_bytes(&self) -> &'a [u8]
+        ensures { result.now ≡ (record_item self.now).text }
+    {
+        &self.block.dump()[self.text_from..self.after]
+    }
+
     /// Its properties and its text, as they stand one behind the other.
     pub fn content(&self) -> &'a [u8]
         ensures { result.now ≡ (record_item self.now).props ++ (record_item self.now).text }

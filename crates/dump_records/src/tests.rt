@@ -147,6 +147,8 @@ fn records_are_read(rt: HostRuntime) -> Result<(), Fail> {
     assert_eq!(rt; revision.revision(), Some(4));
     assert_eq!(rt; revision.props(), Some(b"PROPS-END\n".as_slice()));
     assert_eq!(rt; revision.text(), None);
+    assert_eq!(rt; revision.property_bytes(), b"PROPS-END\n".as_slice());
+    assert_eq!(rt; revision.text_bytes(), b"".as_slice());
     assert_eq!(rt; revision.path(), None);
     assert_eq!(rt; revision.copy_path(), None);
     assert_eq!(rt; revision.copy_revision(), None);
@@ -162,6 +164,8 @@ fn records_are_read(rt: HostRuntime) -> Result<(), Fail> {
     assert_eq!(rt; node.revision(), None);
     assert_eq!(rt; node.props(), None);
     assert_eq!(rt; node.text(), Some(b"abc".as_slice()));
+    assert_eq!(rt; node.property_bytes(), b"".as_slice());
+    assert_eq!(rt; node.text_bytes(), b"abc".as_slice());
     assert_eq!(rt; seen_in(cutter.next()), Seen::Finished);
     Ok(())
 }

@@ -1,4 +1,5 @@
-//! The rules of the filter: its options, and which paths they keep.
+//! The rules of the filter: its options, which paths they keep, the new numbers of revisions, and
+//! which values are mergeinfo.
 //!
 //! [`Options`] hold what a user asked for: whether nodes are included or excluded, the path
 //! prefixes, what becomes of revisions without a kept node, and three switches. [`keeps`] says
@@ -13,19 +14,41 @@
 //! options.prefix(0);             // Some(b"trunk"), as it was handed in
 //! ```
 //!
-//! Only `Options::new` takes memory, for its copies of the prefixes; it answers [`Memory`] where
-//! there is none. Prefixes are bytes: no pattern, no letter case and no `..` has a meaning. What
-//! the switches do is for the filter: they are only kept here.
+//! A [`Reach`] is the table of the revisions that were kept so far. Renumbering closes the gaps:
+//! kept revisions count up from the dump's first number, whether that revision was kept or not. A
+//! revision that wasn't kept stands for the last kept one before it, if there is one.
+//!
+//! ```
+//! let mut reach = Reach::new(alloc, 5);
+//! reach.push(6)?;
+//! reach.push(9)?;
+//! reach.reach(5);    // None
+//! reach.reach(8);    // Some(5), the new number of 6
+//! reach.reach(9);    // Some(6)
+//! ```
+//!
+//! [`merge_reads`] tells whether a value of `svn:mergeinfo` is lines of a path, a colon and ranges
+//! of revisions, as `/trunk:1-4,6*`. In no line a revision may stand both with `*` and without.
+//!
+//! `Options::new` takes memory, for its copies of the prefixes, and `Reach::push`, where its table
+//! grows; they answer [`Memory`] where there is none. Prefixes are bytes: no pattern, no letter
+//! case and no `..` has a meaning. What the switches do is for the filter: they are only kept
+//! here, and a `Reach` renumbers whether or not one asks for it.
 #![tactic(auto)]
 
 mod memory;
+mod mergeinfo;
 mod options;
 mod paths;
 mod prefix;
+mod ranges;
+mod reach;
 
 pub use memory::Memory;
+pub use mergeinfo::merge_reads;
 pub use options::{Empty, Options, Side};
 pub use paths::keeps;
+pub use reach::Reach;
 
 #[cfg(test)]
 mod tests;

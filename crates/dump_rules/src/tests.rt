@@ -1,5 +1,5 @@
 //! What no clause says: worked examples, each call once, and memory that is refused.
-use crate::{Empty, Memory, Options, Side, keeps};
+use crate::{Empty, Memory, Options, Reach, Side, keeps, merge_reads};
 use std::alloc::Global;
 use std::test::Fail;
 
@@ -85,4 +85,87 @@ fn options_or_no_memory(rt: HostRuntime) -> Result<(), Fail> {
         Err(refused) => assert_eq!(rt; refused, Memory),
     }
     Ok(())
+}
+
+#[test]
+fn images_are_of_the_last_kept_revision(rt: HostRuntime) -> Result<(), Fail> {
+    let mut reach = Reach::new(rt.alloc(), 5);
+    assert_eq!(rt; (reach.first(), reach.count()), (5, 0));
+    assert!(rt; reach.reach(100).is_none());
+    reach.push(6)?;
+    reach.push(9)?;
+    let rows = [
+        (5, None),
+        (6, Some(5)),
+        (8, Some(5)),
+        (9, Some(6)),
+        (100, Some(6)),
+    ];
+    for (revision, image) in rows {
+        assert_eq!(rt; reach.reach(revision), image, "{revision}");
+    }
+    assert_eq!(rt; reach.count(), 2);
+    Ok(())
+}
+
+// Run with each allocation refused in turn: a revision is kept, or nothing has changed.
+#[test]
+fn push_or_no_memory(rt: HostRuntime) -> Result<(), Fail> {
+    let mut reach = Reach::new(rt.alloc(), 5);
+    for revision in 6..20 {
+        let kept = reach.count();
+        let last = reach.reach(revision);
+        match reach.push(revision) {
+            Ok(()) => {
+                assert_eq!(rt; reach.count(), kept + 1);
+                assert_eq!(rt; reach.reach(revision), Some(5 + kept));
+            }
+            Err(refused) => {
+                assert_eq!(rt; refused, Memory);
+                assert_eq!(rt; reach.count(), kept);
+                assert_eq!(rt; reach.reach(revision), last);
+            }
+        }
+    }
+    Ok(())
+}
+
+#[test]
+fn mergeinfo_is_lines_of_ranges(rt: HostRuntime) {
+    let rows = [
+        (b"".as_slice(), true),
+        (b"\n", true),
+        (b"\n\n", false),
+        (b"/a:", true),
+        (b"/a:0", false),
+        (b"/a:3-2", false),
+        (b":1", false),
+        (b"/a:b:1", true),
+        (b"/a:1,,2", false),
+        (b"/a:1\n\n", false),
+        (b"/a:1-4,6*\n/b:2\n", true),
+        (b"/a:1\n\n/b:2", false),
+        (b"/a:1-999999999999999999", true),
+        (b"/a:1000000000000000000", false),
+        (b"/a", false),
+    ];
+    for (value, reads) in rows {
+        assert_eq!(rt; merge_reads(value), reads, "{value:?}");
+    }
+}
+
+#[test]
+fn no_revision_stands_with_a_star_and_without(rt: HostRuntime) {
+    let rows = [
+        (b"/a:5*,1-4".as_slice(), true),
+        (b"/a:5*,1-6", false),
+        (b"/a:1-4,3*", false),
+        (b"/a:4-9*,1-4", false),
+        (b"/a:3-8,5,1-4", true),
+        (b"/a:7*,5-6,1*", true),
+        (b"/a:1\n/a:1*", true),
+    ];
+    for (value, reads) in rows {
+        assert_eq!(rt; merge_reads(value), reads, "{value:?}");
+    }
 }

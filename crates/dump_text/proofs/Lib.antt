@@ -2,3 +2,9 @@ pub mod NumberLemmas
 pub mod Unique
 pub mod ScanLemmas
 pub mod BlockLemmas
+pub mod PartLemmas
+pub mod PropertyLemmas
+pub mod WrittenLemmas
+pub mod PropertyTruth
+pub mod Splits
+pub mod PropertyChoice

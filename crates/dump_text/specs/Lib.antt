@@ -5,4 +5,7 @@ pub mod FaultTable
 pub mod HeaderBlock
 pub mod ReadHeaders
 pub mod Scanning
+pub mod PropertyList
+pub mod PropertyScan
 pub mod Views
+pub mod PropertyViews

@@ -1,5 +1,5 @@
 //! What no clause says: worked examples, and each call once.
-use crate::{Block, FaultKind, number, spell};
+use crate::{Block, FaultKind, Props, number, spell};
 use std::test::Fail;
 
 const VERSION: &[u8] = b"SVN-fs-dump-format-version: 2\n\n";
@@ -88,6 +88,67 @@ fn no_block_is_cut_short_or_malformed(rt: HostRuntime) {
     for (dump, place, kind) in rows {
         let fault = Block::cut(dump, place).err();
         assert_eq!(rt; fault, Some(kind), "{dump:?} at {place}");
+    }
+}
+
+#[test]
+fn a_property_block_without_entries_is_read(rt: HostRuntime) -> Result<(), Fail> {
+    let rows = [(b"".as_slice(), false), (b"PROPS-END\n", true)];
+    for (block, spelled) in rows {
+        let props = Props::read(block).ok_or("a block is refused")?;
+        assert!(rt; props.entries().next().is_none());
+        assert_eq!(rt; props.get(b"a"), None);
+        assert_eq!(rt; props.spelled(), spelled, "{block:?}");
+    }
+    Ok(())
+}
+
+#[test]
+fn leading_zeros_of_lengths_are_read(rt: HostRuntime) -> Result<(), Fail> {
+    let props = Props::read(b"K 01\na\nV 0\n\nPROPS-END\n").ok_or("zeros are refused")?;
+    let mut entries = props.entries();
+    let entry = entries.next().ok_or("the entry is missing")?;
+    assert_eq!(rt;
+        (entry.name, entry.value),
+        (b"a".as_slice(), b"".as_slice())
+    );
+    assert!(rt; entries.next().is_none());
+    assert!(rt; !props.spelled());
+    Ok(())
+}
+
+#[test]
+fn values_hold_any_bytes_and_names_stand_twice(rt: HostRuntime) -> Result<(), Fail> {
+    let inner = b"\nK 1\nb\nV 1\nc\nPROPS-END\n\n".as_slice();
+    let block =
+        b"K 1\na\nV 24\n\nK 1\nb\nV 1\nc\nPROPS-END\n\n\nK 1\na\nV 1\n2\nPROPS-END\n".as_slice();
+    let props = Props::read(block).ok_or("the block is refused")?;
+    assert_eq!(rt; props.get(b"a"), Some(inner), "the first of two");
+    assert_eq!(rt; props.get(b"b"), None, "a name inside a value");
+    assert!(rt; props.spelled());
+
+    let mut entries = props.entries();
+    for value in [inner, b"2"] {
+        let entry = entries.next().ok_or("an entry is missing")?;
+        assert_eq!(rt; (entry.name, entry.value), (b"a".as_slice(), value));
+    }
+    assert!(rt; entries.next().is_none());
+    Ok(())
+}
+
+#[test]
+fn no_property_block_is_cut_short_or_malformed(rt: HostRuntime) {
+    let rows = [
+        b"PROPS-END".as_slice(),
+        b"PROPS-ENDX",
+        b"PROPS-END\n\n",
+        b"K 1\na\nV 1\nb\n",
+        b"K 1\na\nPROPS-END\n",
+        b"K 1\na\nV 2\nb\nPROPS-END\n",
+        b"K 0000000000000000001\na\nV 0\n\nPROPS-END\n",
+    ];
+    for block in rows {
+        assert!(rt; Props::read(block).is_none(), "{block:?}");
     }
 }
 

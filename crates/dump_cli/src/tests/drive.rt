@@ -1,7 +1,7 @@
 //! The whole program on readers and writers of the tests' own.
 
 use crate::drive::drive;
-use std::alloc::Global;
+use std::alloc::{AllocError, Global};
 use std::io::{self, ErrorKind, Write};
 use std::process::Abort;
 use std::test::Fail;
@@ -17,7 +17,7 @@ const LEFT_OUT: &[u8] =
 
 const ORDER: [&str; 3] = ["svndumpfilter", "include", "a"];
 
-fn dump(alloc: Global) -> Result<Vec<u8>, Fail> {
+fn dump(alloc: Global) -> Result<Vec<u8>, AllocError> {
     let mut dump = Vec::new(alloc);
     dump.extend_from_slice(KEPT)?;
     dump.extend_from_slice(LEFT_OUT)?;
@@ -155,11 +155,61 @@ fn a_failed_flush_is_a_failure(rt: HostRuntime) -> Result<(), Fail> {
     Ok(())
 }
 
+// Fails at its first call, and then takes all.
+#[derive(Drop)]
+struct Hiccup {
+    held: Vec<u8>,
+    failed: bool,
+}
+
+impl Write for Hiccup {
+    fn write(&mut self, bytes: &[u8]) -> io::Result<usize> {
+        if !self.failed {
+            self.failed = true;
+            return Err(ErrorKind::BrokenPipe.into());
+        }
+        self.held.extend_from_slice(bytes)?;
+        Ok(bytes.len())
+    }
+
+    fn flush(&mut self) -> io::Result<()> {
+        Ok(())
+    }
+}
+
+#[test]
+fn nothing_is_tried_behind_a_failure(rt: HostRuntime) -> Result<(), Fail> {
+    let alloc = rt.alloc();
+    let mut dump = Vec::from_slice(alloc, KEPT)?;
+    let head = b"Node-path: a/f\nText-content-length: 100000\nContent-length: 100000\n\n";
+    dump.extend_from_slice(head)?;
+    dump.extend_from_slice(&vec![in alloc; 7; 100_000]?)?;
+    let mut errors = Vec::new(alloc);
+    let mut output = Hiccup {
+        held: Vec::new(alloc),
+        failed: false,
+    };
+    let status = drive(
+        alloc,
+        &ORDER,
+        &mut dump.as_slice(),
+        &mut output,
+        &mut errors,
+    );
+    assert_eq!(rt; status, 1);
+    assert!(rt; output.held.is_empty());
+    let line = "svndumpfilter: failure 20 Sink after 0 bytes\n";
+    assert_line(&rt, errors.as_slice(), line);
+    Ok(())
+}
+
 // Run with each allocation refused in turn.
 #[test]
-fn want_of_memory_leaves_a_first_part(rt: HostRuntime) -> Result<(), Fail> {
+fn want_of_memory_leaves_a_first_part(rt: HostRuntime) {
     let alloc = rt.alloc();
-    let dump = dump(alloc)?;
+    let Ok(dump) = dump(alloc) else {
+        return;
+    };
     let mut output = Vec::new(alloc);
     let mut errors = Vec::new(alloc);
     let status = drive(
@@ -171,5 +221,4 @@ fn want_of_memory_leaves_a_first_part(rt: HostRuntime) -> Result<(), Fail> {
     );
     assert!(rt; KEPT.starts_with(output.as_slice()));
     assert!(rt; (status == 0) == (output.as_slice() == KEPT));
-    Ok(())
 }

@@ -1,0 +1,149 @@
+-- The kept revisions so far, and those of the whole list.
+use Rattle.std.proofs.Common.{◌≡◌, ℕ, ◌+◌, ◌<◌, ◌≤◌, Bool, true, false, List, [], ◌∷◌, ◌++◌, length, refl, sym, ap, ◌∙◌, arith, append_assoc, Option, Some, None, All, if◌then◌else◌}
+use Rattle.std.proofs.lemmas.List.{append-nil}
+use Rattle.std.proofs.lemmas.List.Elements.{All-append, All-cons, All-head, All-nil, All-tail}
+use Rattle.dump_records.specs.RecordText.{DumpRecord}
+use Rattle.dump_rules.specs.Settings.{Settings}
+use Rattle.dump_rules.specs.Renumbering.{KeptRevisions, new_number, image}
+use Rattle.dump_rules.proofs.ReachLemmas.{new_number_above, new_number_pushed, image_pushed, rise_pushed}
+use Rattle.dump_filter.specs.Groups.{revision_number}
+use Rattle.dump_filter.specs.NewHeaders.{written_number}
+use Rattle.dump_filter.specs.Turns.{Waited, stays, next_number, with_kept, front_kept, end_kept}
+use Rattle.dump_filter.specs.Shape.{open_from, GoesOn, AreRising}
+
+-- the same claim of each number, weakened
+all_weaker : (P Q : ℕ → Type 0) (ns : List ℕ) → ((n : ℕ) → P n → Q n) → All P ns → All Q ns
+all_weaker P Q ns weaker all = λ k d low. weaker _ (all k d low)
+
+all_one : (P : ℕ → Type 0) (n : ℕ) → P n → All P (n ∷ [])
+all_one P n p = All-cons P n [] p (All-nil P)
+
+-- later numbers change nothing below them
+number_goes_on : (first : ℕ) (numbers later : List ℕ) (m : ℕ) → All (λ n. m ≤ n) later
+    → new_number (record { first = first; numbers = numbers ++ later }) m ≡ new_number (record { first = first; numbers = numbers }) m
+number_goes_on first numbers [] m all = ap (λ ns. new_number (record { first = first; numbers = ns }) m) (append-nil numbers)
+number_goes_on first numbers (n ∷ later) m all =
+    ap (λ ns. new_number (record { first = first; numbers = ns }) m) (sym (append_assoc numbers (n ∷ []) later))
+    ∙ number_goes_on first (numbers ++ n ∷ []) later m (All-tail (λ k. m ≤ k) n later all)
+    ∙ new_number_pushed (record { first = first; numbers = numbers }) n m (All-head (λ k. m ≤ k) n later all)
+
+image_goes_on : (first : ℕ) (numbers later : List ℕ) (m : ℕ) → All (λ n. m < n) later
+    → image (record { first = first; numbers = numbers ++ later }) m ≡ image (record { first = first; numbers = numbers }) m
+image_goes_on first numbers [] m all = ap (λ ns. image (record { first = first; numbers = ns }) m) (append-nil numbers)
+image_goes_on first numbers (n ∷ later) m all =
+    ap (λ ns. image (record { first = first; numbers = ns }) m) (sym (append_assoc numbers (n ∷ []) later))
+    ∙ image_goes_on first (numbers ++ n ∷ []) later m (All-tail (λ k. m < k) n later all)
+    ∙ image_pushed (record { first = first; numbers = numbers }) n m (All-head (λ k. m < k) n later all)
+
+whole_is : (kept : KeptRevisions) (from : ℕ) (whole : KeptRevisions) (g : GoesOn kept from whole)
+    → whole ≡ record { first = kept.first; numbers = kept.numbers ++ g.later }
+whole_is kept from whole g = λ i. record { first = g.first_is i; numbers = g.numbers_are i }
+
+-- the image of a number below all that may come
+pub image_kept : (kept : KeptRevisions) (from : ℕ) (whole : KeptRevisions) (m : ℕ) → GoesOn kept from whole → m < from → image whole m ≡ image kept m
+image_kept kept from whole m g low =
+    ap (λ (k : KeptRevisions). image k m) (whole_is kept from whole g)
+    ∙ image_goes_on kept.first kept.numbers g.later m (all_weaker (λ n. from ≤ n) (λ n. m < n) g.later (λ n up. omega (arith, up, low)) g.behind)
+
+-- the number of a revision that comes behind all kept ones
+pub next_written : (settings : Settings) (kept : KeptRevisions) (from : ℕ) (whole : KeptRevisions) (r : DumpRecord) → GoesOn kept from whole
+    → revision_number r ≤ from → All (λ n. n < revision_number r) kept.numbers
+    → written_number settings whole (revision_number r) ≡ next_number settings kept r
+next_written settings kept from whole r g low below = by_case settings.renumber
+  where
+    at : new_number whole (revision_number r) ≡ kept.first + length kept.numbers
+    at = ap (λ (k : KeptRevisions). new_number k (revision_number r)) (whole_is kept from whole g)
+        ∙ number_goes_on kept.first kept.numbers g.later (revision_number r) (all_weaker (λ n. from ≤ n) (λ n. revision_number r ≤ n) g.later (λ n up. omega (arith, up, low)) g.behind)
+        ∙ new_number_above kept (revision_number r) below
+
+    by_case : (b : Bool) → (if b then new_number whole (revision_number r) else revision_number r)
+        ≡ (if b then kept.first + length kept.numbers else revision_number r)
+    by_case true = at
+    by_case false = refl
+
+-- what may come behind a waiting revision that is kept might come before
+reopened : (kept whole : KeptRevisions) (r : DumpRecord) (p q : ℕ) → revision_number r ≡ p → p ≤ q → GoesOn (with_kept kept r) q whole → GoesOn kept p whole
+reopened kept whole r p q is low g = record {
+  first_is = g.first_is;
+  later = revision_number r ∷ g.later;
+  numbers_are = g.numbers_are ∙ append_assoc kept.numbers (revision_number r ∷ []) g.later;
+  behind = All-cons (λ n. p ≤ n) (revision_number r) g.later (omega (arith, is)) (all_weaker (λ n. q ≤ n) (λ n. p ≤ n) g.later (λ n up. omega (arith, up, low)) g.behind);
+}
+
+pub lowered : (kept whole : KeptRevisions) (p q : ℕ) → p ≤ q → GoesOn kept q whole → GoesOn kept p whole
+lowered kept whole p q low g = record {
+  first_is = g.first_is;
+  later = g.later;
+  numbers_are = g.numbers_are;
+  behind = all_weaker (λ n. q ≤ n) (λ n. p ≤ n) g.later (λ n up. omega (arith, up, low)) g.behind;
+}
+
+pub front_reopened : (kept whole : KeptRevisions) (waiting : Option Waited) (present : ℕ) → AreRising kept present waiting
+    → GoesOn (front_kept kept waiting) (present + 1) whole → GoesOn kept (open_from present waiting) whole
+front_reopened kept whole None present up g = g
+front_reopened kept whole (Some w) present up g = reopened kept whole w.revision present (present + 1) up.waits (omega arith) g
+
+pub end_reopened : (settings : Settings) (kept whole : KeptRevisions) (waiting : Option Waited) (present next : ℕ) → AreRising kept present waiting → present < next
+    → GoesOn (end_kept settings kept waiting) next whole → GoesOn kept (open_from present waiting) whole
+end_reopened settings kept whole None present next up low g = lowered kept whole (present + 1) next (omega (arith, low)) g
+end_reopened settings kept whole (Some w) present next up low g = by_case (stays settings w) g
+  where
+    by_case : (b : Bool) → GoesOn (if b then with_kept kept w.revision else kept) next whole → GoesOn kept present whole
+    by_case true h = reopened kept whole w.revision present next up.waits (omega (arith, low)) h
+    by_case false h = lowered kept whole present next (omega (arith, low)) h
+
+-- the kept revisions go on rising
+pushed_rising : (kept : KeptRevisions) (r : DumpRecord) (bare : Bool) (present : ℕ) → AreRising kept present (Some (record { revision = r; bare = bare }))
+    → AreRising (with_kept kept r) present None
+pushed_rising kept r bare present up =
+    let at = up.waits in
+    let low = up.low in
+    let below : All (λ n. n < revision_number r) kept.numbers = all_weaker (λ n. n < present) (λ n. n < revision_number r) kept.numbers (λ n under. omega (arith, under, at)) up.below in
+    record {
+      low = low;
+      rise = rise_pushed kept.first (revision_number r) kept.numbers up.rise below (omega (arith, at, low));
+      below = All-append (λ n. n < present + 1) kept.numbers (revision_number r ∷ [])
+          (all_weaker (λ n. n < present) (λ n. n < present + 1) kept.numbers (λ n under. omega (arith, under)) up.below)
+          (all_one (λ n. n < present + 1) (revision_number r) (omega (arith, at)));
+      waits = tt;
+    }
+
+dropped_rising : (kept : KeptRevisions) (w : Waited) (present : ℕ) → AreRising kept present (Some w) → AreRising kept present None
+dropped_rising kept w present up = record {
+  low = up.low;
+  rise = up.rise;
+  below = all_weaker (λ n. n < present) (λ n. n < present + 1) kept.numbers (λ n under. omega (arith, under)) up.below;
+  waits = tt;
+}
+
+pub front_rising : (kept : KeptRevisions) (waiting : Option Waited) (present : ℕ) → AreRising kept present waiting → AreRising (front_kept kept waiting) present None
+front_rising kept None present up = up
+front_rising kept (Some w) present up = pushed_rising kept w.revision w.bare present up
+
+pub end_rising : (settings : Settings) (kept : KeptRevisions) (waiting : Option Waited) (present : ℕ) → AreRising kept present waiting
+    → AreRising (end_kept settings kept waiting) present None
+end_rising settings kept None present up = up
+end_rising settings kept (Some w) present up = by_case (stays settings w)
+  where
+    by_case : (b : Bool) → AreRising (if b then with_kept kept w.revision else kept) present None
+    by_case true = pushed_rising kept w.revision w.bare present up
+    by_case false = dropped_rising kept w present up
+
+-- a revision that begins to wait
+pub next_rising : (kept : KeptRevisions) (r : DumpRecord) (present : ℕ) → AreRising kept present None → present < revision_number r
+    → AreRising kept (revision_number r) (Some (record { revision = r; bare = true }))
+next_rising kept r present up above = let low = up.low in record {
+  low = omega (arith, low, above);
+  rise = up.rise;
+  below = all_weaker (λ n. n < present + 1) (λ n. n < revision_number r) kept.numbers (λ n under. omega (arith, under, above)) up.below;
+  waits = refl;
+}
+
+pub first_rising : (r : DumpRecord) → AreRising (record { first = revision_number r; numbers = [] }) (revision_number r) (Some (record { revision = r; bare = true }))
+first_rising r = record { low = omega arith; rise = tt; below = All-nil (λ n. n < revision_number r); waits = refl }
+
+-- the waiting revision stands above all kept ones
+pub below_waiting : (kept : KeptRevisions) (w : Waited) (present : ℕ) → AreRising kept present (Some w) → All (λ n. n < revision_number w.revision) kept.numbers
+below_waiting kept w present up =
+    let at = up.waits in
+    all_weaker (λ n. n < present) (λ n. n < revision_number w.revision) kept.numbers (λ n under. omega (arith, under, at)) up.below

@@ -1,0 +1,92 @@
+-- What is written of a record by itself is its output, in whatever way the dump goes on.
+use Rattle.std.proofs.Common.{◌≡◌, ℕ, ◌+◌, ◌<◌, ◌≤◌, ◌==◌, Bool, true, false, not, ◌&&◌, List, [], ◌∷◌, length, refl, sym, ap, ap₂, ◌∙◌, subst, arith, inl, inr, Some, All, MatchBool}
+use Rattle.std.specs.List.{list_any}
+use Rattle.std.proofs.lemmas.Bool.Decides.{leb_tells}
+use Rattle.dump_text.specs.Number.{spelled_number}
+use Rattle.dump_text.specs.Names.{copy_revision_name}
+use Rattle.dump_text.specs.HeaderLine.{Header, with_header_value}
+use Rattle.dump_text.specs.PropertyList.{Property, HasProperties}
+use Rattle.dump_records.specs.HeaderRules.{header_number}
+use Rattle.dump_records.specs.RecordText.{DumpRecord}
+use Rattle.dump_rules.specs.Settings.{Settings}
+use Rattle.dump_rules.specs.Renumbering.{KeptRevisions, image}
+use Rattle.dump_digest.specs.RecordParts.{is_kept_node}
+use Rattle.dump_filter.specs.declared.copies.NewCopy.{NewCopy}
+use Rattle.dump_filter.specs.Groups.{is_bare, is_pad, is_padded, revision_number}
+use Rattle.dump_filter.specs.NewHeaders.{is_copy, becomes_plain, stays_copy, without_copy_headers, IsWrittenCopyNumber, IsNewCopy}
+use Rattle.dump_filter.specs.NewContent.{AreNewProperties}
+use Rattle.dump_filter.specs.RecordOutput.{IsRevisionOutput, IsNodeOutput}
+use Rattle.dump_filter.specs.OwnText.{copied_headers, revision_own}
+use Rattle.dump_filter.specs.Turns.{pads, IsOwnRevision, IsOwnNode, HasNoSource}
+use Rattle.dump_filter.specs.Shape.{GoesOn}
+use Rattle.dump_filter.proofs.BoolLemmas.{both_true, not_false}
+use Rattle.dump_filter.proofs.KeptLemmas.{next_written, image_kept}
+
+pub revision_out : (settings : Settings) (kept : KeptRevisions) (from : ℕ) (whole : KeptRevisions) (y : DumpRecord) (ns : List DumpRecord) (padded : Bool) (text : List ℕ)
+    → GoesOn kept from whole → revision_number y ≤ from → All (λ n. n < revision_number y) kept.numbers → HasProperties y.props
+    → is_padded settings (record { revision = y; nodes = ns }) ≡ padded
+    → IsOwnRevision settings kept y padded text → IsRevisionOutput settings whole (record { revision = y; nodes = ns }) text
+revision_out settings kept from whole y ns padded text g low below (ps, block) pad own =
+    (ps, block, own ps block ∙ ap₂ (λ n b. revision_own y n b ps) (sym (next_written settings kept from whole y g low below)) (sym pad))
+
+-- a group without a kept node is padded where its waiting revision is
+pub pads_is : (settings : Settings) (y : DumpRecord) (ns : List DumpRecord) → list_any (is_kept_node settings) ns ≡ false
+    → is_padded settings (record { revision = y; nodes = ns }) ≡ pads settings (record { revision = y; bare = length ns == 0 })
+pads_is settings y ns none =
+    ap (λ b. not (is_bare (record { revision = y; nodes = ns })) && not b && is_pad settings.empty && not settings.preserve) none
+    ∙ short (is_bare (record { revision = y; nodes = ns })) (is_pad settings.empty) (not settings.preserve)
+  where
+    short : (a c d : Bool) → (not a && true && c && d) ≡ (not a && c && d)
+    short true c d = refl
+    short false c d = refl
+
+-- a copy's source where the dump goes on
+new_copy_kept : (settings : Settings) (kept whole : KeptRevisions) (present : ℕ) (r : DumpRecord) (headers : List Header) → GoesOn kept (present + 1) whole
+    → ¬ HasNoSource settings kept (Some present) r → IsNewCopy settings kept r headers → IsNewCopy settings whole r headers
+new_copy_kept settings kept whole present r headers g good new = by_plain (becomes_plain settings r) refl new
+  where
+    number_kept : becomes_plain settings r ≡ false → is_copy r ≡ true → (old n : ℕ) → header_number copy_revision_name r.headers ≡ Some old
+        → IsWrittenCopyNumber settings kept old n → IsWrittenCopyNumber settings whole old n
+    number_kept plain copy old n at is = by_case settings.renumber refl is
+      where
+        low : settings.renumber ≡ true → old < present + 1
+        low renumber = elim (leb_tells old present) [
+          | inl within ↦ let under = within.1 in omega arith
+          | inr over ↦ absurd (good (
+            both_true settings.renumber (stays_copy settings r) renumber
+                (both_true (is_copy r) (not (becomes_plain settings r)) copy (not_false (becomes_plain settings r) plain)),
+            old,
+            at,
+            inr over.1,
+          ))
+        ]
+
+        by_case : (b : Bool) → settings.renumber ≡ b → MatchBool b (image kept old ≡ Some n) (n ≡ old) → MatchBool settings.renumber (image whole old ≡ Some n) (n ≡ old)
+        by_case true e h = subst (λ b. MatchBool b (image whole old ≡ Some n) (n ≡ old)) (sym e) (image_kept kept (present + 1) whole old g (low e) ∙ h)
+        by_case false e h = subst (λ b. MatchBool b (image whole old ≡ Some n) (n ≡ old)) (sym e) h
+
+    by_copy : becomes_plain settings r ≡ false → (c : Bool) → is_copy r ≡ c
+        → MatchBool c ((old n : ℕ) × (header_number copy_revision_name r.headers ≡ Some old) × IsWrittenCopyNumber settings kept old n
+        × (headers ≡ with_header_value copy_revision_name (spelled_number n) r.headers)) (headers ≡ r.headers)
+        → MatchBool c ((old n : ℕ) × (header_number copy_revision_name r.headers ≡ Some old) × IsWrittenCopyNumber settings whole old n
+        × (headers ≡ with_header_value copy_revision_name (spelled_number n) r.headers)) (headers ≡ r.headers)
+    by_copy plain true copy (old, n, at, is, lines) = (old, n, at, number_kept plain copy old n at is, lines)
+    by_copy plain false copy lines = lines
+
+    by_plain : (b : Bool) → becomes_plain settings r ≡ b
+        → MatchBool b (headers ≡ without_copy_headers r.headers)
+        (MatchBool (is_copy r) ((old n : ℕ) × (header_number copy_revision_name r.headers ≡ Some old) × IsWrittenCopyNumber settings kept old n
+        × (headers ≡ with_header_value copy_revision_name (spelled_number n) r.headers)) (headers ≡ r.headers))
+        → IsNewCopy settings whole r headers
+    by_plain true plain lines = rw plain lines
+    by_plain false plain h = rw plain (by_copy plain (is_copy r) refl h)
+
+same_properties : (settings : Settings) (kept : KeptRevisions) (ps : List Property) → AreNewProperties settings kept ps ps
+same_properties settings kept [] = tt
+same_properties settings kept (p ∷ ps) = (refl, same_properties settings kept ps)
+
+pub node_out : (settings : Settings) (kept whole : KeptRevisions) (present : ℕ) (r : DumpRecord) (copy : NewCopy) (text : List ℕ) → GoesOn kept (present + 1) whole
+    → ¬ HasNoSource settings kept (Some present) r → HasProperties r.props → IsNewCopy settings kept r (copied_headers copy r.headers) → IsOwnNode r copy text
+    → IsNodeOutput settings whole r text
+node_out settings kept whole present r copy text g good (ps, block) new own =
+    (copied_headers copy r.headers, ps, ps, new_copy_kept settings kept whole present r (copied_headers copy r.headers) g good new, block, same_properties settings whole ps, own ps block)

@@ -1,0 +1,10 @@
+use Rattle.std.proofs.Common.{◌↔◌, ◌∙◌, IsTrue, ap, sym, subst, Bool}
+use Rattle.dump_rules.specs.Mergeinfo.{HasMergeLines}
+use Rattle.dump_rules.specs.ReadMergeinfo.{lines_read}
+use Rattle.dump_rules.proofs.MergeinfoLemmas.{reads_exactly}
+use Rattle.dump_rules.proofs.mergeinfo.merge_reads.Goals as goal
+
+pub returns : goal.returns
+returns c =
+    subst (λ (t : Bool). IsTrue t ↔ HasMergeLines c.args.value.now) (sym (c.lines_read.ensures ∙ ap lines_read c.cut_lf.ensures))
+    (reads_exactly c.args.value.now)

@@ -1,0 +1,9 @@
+use Rattle.std.proofs.Common.{sym, ap, ◌∙◌, is_some}
+use Rattle.dump_rules.specs.ReadRanges.{range_parts}
+use Rattle.dump_rules.proofs.ClimbLemmas.{some_agrees}
+use Rattle.dump_rules.proofs.ranges.parts_agree.Goals as goal
+
+pub returns-then-is_some : goal.returns-then-is_some
+returns-then-is_some c =
+    let some = c.if-is_some.true in
+    some ∙ sym (some_agrees (record { inheritable = 0; starred = 0 }) (range_parts c.args.list.now) (ap is_some (sym c.climbed.ensures) ∙ sym c.is_some.ensures ∙ some))

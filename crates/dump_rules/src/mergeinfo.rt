@@ -1,0 +1,55 @@
+//! The values of svn:mergeinfo.
+ghost use Rattle.std.specs.Prelude.{◌≡◌, ◌↔◌, ◌==◌, IsTrue};
+ghost use Rattle.std.specs.List.{list_all, slice_split};
+ghost use Rattle.dump_rules.specs.Mergeinfo.{HasMergeLines};
+ghost use Rattle.dump_rules.specs.ReadMergeinfo.{colon_end, line_reads, lines_read, without_lf};
+
+use crate::ranges::list_reads;
+
+/// The place behind the last colon of a line; 0 where there is none.
+fn colon_end(line: &[u8]) -> usize
+    ensures { result ≡ colon_end line.now }
+{
+    let mut place = line.len();
+    while place > 0 && line[place - 1] != b':' {
+        place -= 1;
+    }
+    place
+}
+
+/// Whether the text is a line of a path, a colon and a range list.
+fn line_reads(line: &[u8]) -> bool
+    ensures { result ≡ line_reads line.now }
+{
+    let place = colon_end(line);
+    place > 1 && list_reads(&line[place..])
+}
+
+/// Whether each part between two LFs is a line.
+fn parts_read(text: &[u8]) -> bool
+    ensures { result ≡ list_all line_reads (slice_split (λ b. b == 10) text.now) }
+{
+    text.split(|b| *b == b'\n').all(|line| line_reads(line))
+}
+
+/// Whether the text is some lines, joined by LFs.
+fn lines_read(text: &[u8]) -> bool
+    ensures { result ≡ lines_read text.now }
+{
+    text.is_empty() || parts_read(text)
+}
+
+/// The value without an LF at its end.
+fn cut_lf(value: &[u8]) -> &[u8]
+    ensures { result.now ≡ without_lf value.now }
+{
+    value.strip_suffix(b"\n").unwrap_or(value)
+}
+
+/// Whether the value of the property is mergeinfo. It takes no memory: lists whose ranges rise, or
+/// are all of one kind, are read in one pass, and in any other list each range is held against all.
+pub fn merge_reads(value: &[u8]) -> bool
+    ensures { IsTrue result ↔ HasMergeLines value.now }
+{
+    lines_read(cut_lf(value))
+}

@@ -1,0 +1,188 @@
+//! The ranges of svn:mergeinfo, read where they lie.
+ghost use Rattle.std.specs.Prelude.{◌≡◌, ◌==◌, not, option_map, position};
+ghost use Rattle.std.specs.List.{list_all, list_any};
+ghost use Rattle.dump_rules.specs.ReadRanges.{contradicts, ends_in_star, climbed, ends_of, list_reads, part_agrees, part_contradicts, raised, raised_by, range_parts, range_of, span_range, without_star};
+
+use dump_text::number;
+
+/// The revisions from one number to another, all inheritable or all not.
+#[derive(Clone, Copy)]
+pub(crate) struct Span {
+    pub(crate) from: u64,
+    pub(crate) to: u64,
+    pub(crate) inheritable: bool,
+}
+
+/// Where the byte stands first.
+fn find(byte: u8, text: &[u8]) -> Option<usize>
+    ensures { result ≡ position (λ b. b == byte) text.now }
+{
+    text.iter().position(|b| *b == byte)
+}
+
+/// The text without a star at its end, and whether there is none.
+fn cut_star(text: &[u8]) -> (&[u8], bool)
+    ensures body { result.0.now ≡ without_star text.now }
+    ensures inheritable { result.1 ≡ not (ends_in_star text.now) }
+{
+    match text.strip_suffix(b"*") {
+        Some(body) => (body, false),
+        None => (text, true),
+    }
+}
+
+/// The two ends of a range without its star.
+fn ends(text: &[u8]) -> Option<(u64, u64)>
+    ensures { result ≡ ends_of text.now }
+{
+    match find(b'-', text) {
+        Some(dash) => {
+            let from = number(&text[..dash])?;
+            let to = number(&text[dash + 1..])?;
+            Some((from, to))
+        }
+        None => {
+            let only = number(text)?;
+            Some((only, only))
+        }
+    }
+}
+
+/// The range that the text is, if it is one.
+pub(crate) fn range(text: &[u8]) -> Option<Span>
+    ensures { option_map span_range result ≡ range_of text.now }
+{
+    let (body, inheritable) = cut_star(text);
+    let (from, to) = ends(body)?;
+    if from >= 1 && from <= to {
+        Some(Span {
+            from,
+            to,
+            inheritable,
+        })
+    } else {
+        None
+    }
+}
+
+impl Span {
+    /// Whether the ranges have a number in common, and are of unlike kinds.
+    fn contradicts(self, other: Span) -> bool
+        ensures { result ≡ contradicts (span_range self) (span_range other) }
+    {
+        self.inheritable != other.inheritable && self.from <= other.to && other.from <= self.to
+    }
+}
+
+/// Whether the text is a range that contradicts this one.
+fn part_contradicts(span: Span, part: &[u8]) -> bool
+    ensures { result ≡ part_contradicts (span_range span) (range_of part.now) }
+{
+    match range(part) {
+        Some(other) => span.contradicts(other),
+        None => false,
+    }
+}
+
+/// Whether a range of the list contradicts this one.
+fn some_contradicts(span: Span, list: &[u8]) -> bool
+    ensures { result ≡ list_any (λ part. part_contradicts (span_range span) (range_of part)) (range_parts list.now) }
+{
+    list.split(|b| *b == b',')
+        .any(|part| part_contradicts(span, part))
+}
+
+/// Whether the text is a range that none of the list contradicts.
+fn part_agrees(list: &[u8], part: &[u8]) -> bool
+    ensures { result ≡ part_agrees (range_parts list.now) (range_of part.now) }
+{
+    match range(part) {
+        Some(span) => !some_contradicts(span, list),
+        None => false,
+    }
+}
+
+/// The highest numbers of each kind.
+#[derive(Clone, Copy)]
+struct Tops {
+    inheritable: u64,
+    starred: u64,
+}
+
+impl Tops {
+    /// The highest numbers with those of a range, which has to begin above those of the other kind.
+    fn raised(self, span: Span) -> Option<Tops>
+        ensures { result ≡ raised self (span_range span) }
+    {
+        if span.inheritable {
+            if self.starred >= span.from {
+                return None;
+            }
+            Some(Tops {
+                inheritable: self.inheritable.max(span.to),
+                starred: self.starred,
+            })
+        } else {
+            if self.inheritable >= span.from {
+                return None;
+            }
+            Some(Tops {
+                inheritable: self.inheritable,
+                starred: self.starred.max(span.to),
+            })
+        }
+    }
+
+    /// The same of a part, which has to be a range.
+    fn raised_by(self, part: &[u8]) -> Option<Tops>
+        ensures { result ≡ raised_by self (range_of part.now) }
+    {
+        match range(part) {
+            Some(span) => self.raised(span),
+            None => None,
+        }
+    }
+}
+
+/// The highest numbers of a list in which each range begins above those of the other kind before it.
+fn climbed(list: &[u8]) -> Option<Tops>
+    ensures { result ≡ climbed (record { inheritable = 0; starred = 0 }) (range_parts list.now) }
+{
+    let mut tops = Tops {
+        inheritable: 0,
+        starred: 0,
+    };
+    let mut rest = list;
+    while let Some(comma) = find(b',', rest) {
+        let Some(next) = tops.raised_by(&rest[..comma]) else {
+            return None;
+        };
+        tops = next;
+        rest = &rest[comma + 1..];
+    }
+    tops.raised_by(rest)
+}
+
+/// Whether all parts of the list are ranges of which none contradicts another, whatever their order.
+fn each_part_agrees(list: &[u8]) -> bool
+    ensures { result ≡ list_all (λ part. part_agrees (range_parts list.now) (range_of part)) (range_parts list.now) }
+{
+    list.split(|b| *b == b',')
+        .all(|part| part_agrees(list, part))
+}
+
+/// Whether all parts of the list are ranges that don't contradict each other. One pass tells it of
+/// ranges that rise, as Subversion writes them, and of ranges of one kind; no memory is taken for
+/// the others, so each of their ranges is held against all of them.
+fn parts_agree(list: &[u8]) -> bool
+    ensures { result ≡ list_all (λ part. part_agrees (range_parts list.now) (range_of part)) (range_parts list.now) }
+{
+    climbed(list).is_some() || each_part_agrees(list)
+}
+
+/// Whether the text is a range list without contradictions.
+pub(crate) fn list_reads(list: &[u8]) -> bool
+    ensures { result ≡ list_reads list.now }
+{
+    list.is_empty() || parts_agree(list)
+}

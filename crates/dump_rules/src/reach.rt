@@ -1,0 +1,75 @@
+//! The revisions that are kept, and their new numbers.
+ghost use Rattle.std.specs.Prelude.{◌≡◌, ◌++◌, ◌<◌, ◌≤◌, [], ◌∷◌, All, OnErr, OnOk, length};
+ghost use Rattle.dump_rules.specs.Renumbering.{image};
+
+use crate::memory::Memory;
+use std::alloc::Global;
+use std::marker::Model;
+
+/// The revisions that the filter keeps, and their new numbers.
+///
+/// New numbers count up from the dump's first revision, without gaps. Revisions are told in rising
+/// order, as they are kept, and the new number of each is asked by binary search.
+#[derive(Drop)]
+pub struct Reach {
+    first: u64,
+    numbers: Vec<u64>,
+}
+
+impl Model for Reach {
+    ghost use Rattle.dump_rules.specs.Renumbering.{KeptRevisions, RiseFrom};
+
+    ghost Value = { KeptRevisions };
+
+    ghost view = { λ r. record { first = r.first; numbers = r.numbers.items } };
+
+    ghost invariant = { λ r. RiseFrom r.first r.numbers.items };
+}
+
+impl Reach {
+    /// No kept revision so far, in a dump whose first revision has this number. It takes no memory.
+    pub fn new(alloc: Global, first: u64) -> Reach
+        ensures { result ≡ record { first = first; numbers = [] } }
+    {
+        Reach {
+            first,
+            numbers: Vec::new(alloc),
+        }
+    }
+
+    /// Keeps one more revision. Where there is no memory for it, the table stays as it was.
+    pub fn push(&mut self, revision: u64) -> Result<(), Memory>
+        requires from_first { self.old.first ≤ revision }
+        requires above_last { All (λ k. k < revision) self.old.numbers }
+        ensures ok { OnOk result (self.new ≡ record self.old { numbers = self.old.numbers ++ revision ∷ [] }) }
+        ensures err { OnErr result (self.new ≡ self.old) }
+    {
+        match self.numbers.push(revision) {
+            Ok(()) => Ok(()),
+            Err(_) => Err(Memory),
+        }
+    }
+
+    /// The new number of the last kept revision that is at most this one, if there is one.
+    pub fn reach(&self, revision: u64) -> Option<u64>
+        ensures { result ≡ image self.now revision }
+    {
+        let up_to = self.numbers.partition_point(|number| *number <= revision);
+        let before = up_to.checked_sub(1)?;
+        Some(self.first + before as u64)
+    }
+
+    /// The number of the dump's first revision.
+    pub fn first(&self) -> u64
+        ensures { result ≡ self.now.first }
+    {
+        self.first
+    }
+
+    /// How many revisions are kept.
+    pub fn count(&self) -> u64
+        ensures { result ≡ length self.now.numbers }
+    {
+        self.numbers.len() as u64
+    }
+}

@@ -1,0 +1,5 @@
+use Rattle.dump_text.proofs.PropertyLemmas.{no_entry-value}
+use Rattle.dump_text.proofs.parts.entry.Goals as goal
+
+pub returns-in_default-sized_part : goal.returns-in_default-sized_part
+returns-in_default-sized_part c = no_entry-value _ _ _ _ c.in-Some.ensures c.in_default-sized_part.ensures

@@ -1,0 +1,38 @@
+-- What the parts of the scan of a property block find.
+use Rattle.std.specs.Prelude.{◌≡◌, ℕ, List, [], ◌∷◌, ◌++◌, length, Some}
+use Rattle.dump_text.specs.declared.parts.Part.{Part}
+use Rattle.dump_text.specs.Number.{number_of}
+use Rattle.dump_text.specs.PropertyList.{Property, sized_text, IsEntry, AreEntries}
+
+-- the text begins with a part: this letter, a length in these digits, and that many bytes
+pub record IsSized (letter : ℕ) (text digits bytes rest : List ℕ) : Type 0 where
+  pub cut : text ≡ sized_text (letter ∷ []) digits bytes ++ rest
+  pub size : number_of digits ≡ Some (length bytes)
+
+-- the text begins with a part of this letter
+abbrev pub HasSized : ℕ → List ℕ → Type 0
+HasSized letter text = (digits bytes rest : List ℕ) × IsSized letter text digits bytes rest
+
+-- the part stands at the front of the text
+abbrev pub IsPartOf : ℕ → List ℕ → Part → Type 0
+IsPartOf letter text part = IsSized letter text part.digits.now part.bytes.now part.rest.now
+
+-- the text is the letter, a space, and then this
+abbrev pub IsLetter : ℕ → List ℕ → List ℕ → Type 0
+IsLetter letter text behind = text ≡ letter ∷ 32 ∷ behind
+
+-- the text begins with the letter and a space
+abbrev pub HasLetter : ℕ → List ℕ → Type 0
+HasLetter letter text = (behind : List ℕ) × IsLetter letter text behind
+
+-- the text begins with an entry
+abbrev pub HasEntry : List ℕ → Type 0
+HasEntry text = (p : Property) × (entry rest : List ℕ) × (text ≡ entry ++ rest) × IsEntry entry p
+
+-- the text begins with an entry of these two parts
+abbrev pub IsEntryOf : List ℕ → Part → Part → Type 0
+IsEntryOf text name value = IsPartOf 75 text name × IsPartOf 86 name.rest.now value
+
+-- the text is entries of some list, and then the end
+abbrev pub HasEntries : List ℕ → Type 0
+HasEntries text = (ps : List Property) × AreEntries text ps

@@ -1,0 +1,28 @@
+-- What the contracts see of property blocks.
+use Rattle.std.specs.Prelude.{◌≡◌, ℕ, List, [], ◌++◌, Option, Some, None}
+use Rattle.dump_text.specs.declared.props.Props.{Props}
+use Rattle.dump_text.specs.declared.props.Entry.{Entry}
+use Rattle.dump_text.specs.declared.props.Entries.{Entries}
+use Rattle.dump_text.specs.PropertyList.{Property, IsEntry, IsPropertyBlock}
+
+-- the bytes of a property block
+abbrev pub props_bytes : Props → List ℕ
+props_bytes p = p.bytes.now
+
+-- an entry as its name and value
+abbrev pub entry_property : Entry → Property
+entry_property e = record { name = e.name.now; value = e.value.now }
+
+-- the bytes that an iterator over properties has left
+abbrev pub entries_text : Entries → List ℕ
+entries_text entries = entries.rest.now
+
+-- the properties that an iterator has left
+abbrev pub HasEntriesLeft : Entries → List Property → Type 0
+HasEntriesLeft entries ps = IsPropertyBlock (entries_text entries) ps
+
+-- one call of an iterator over properties: the next one and the rest behind its entry, or none where none is left
+abbrev pub EntryStep : Entries → Option Entry → Entries → Type 0
+EntryStep old None new = HasEntriesLeft old [] × (new ≡ old)
+EntryStep old (Some e) new = (text : List ℕ)
+    × (entries_text old ≡ text ++ entries_text new) × IsEntry text (entry_property e)
