@@ -4,3 +4,12 @@ pub mod RangeLemmas
 pub mod RangeListLemmas
 pub mod MergeinfoLemmas
 pub mod ClimbLemmas
+pub mod Unique
+pub mod Values
+pub mod JoinLemmas
+pub mod RunsLaw
+pub mod NewRangeLemmas
+pub mod RunsLemmas
+pub mod NewLineLemmas
+pub mod ValueLemmas
+pub mod FaultLemmas

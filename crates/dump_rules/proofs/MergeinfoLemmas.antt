@@ -21,7 +21,7 @@ use Rattle.dump_rules.proofs.RangeListLemmas.{AllLack, none_all, split_joined, p
 same : (n : ℕ) → (n == n) ≡ true
 same n = grind arith
 
-colon_end_is : (path list : List ℕ) → has_byte 58 list ≡ false → colon_end ((path ++ 58 ∷ []) ++ list) ≡ length path + 1
+pub colon_end_is : (path list : List ℕ) → has_byte 58 list ≡ false → colon_end ((path ++ 58 ∷ []) ++ list) ≡ length path + 1
 colon_end_is path list none =
     let front = length-append path (58 ∷ []) in
     let whole = length-append (path ++ 58 ∷ []) list in
@@ -146,7 +146,7 @@ joined part (next ∷ parts) line (second ∷ lines) all =
           ∙ rest.ends;
     }
 
-all_read : (texts : List (List ℕ)) (lines : List MergeLine) → AllZip IsMergeLine texts lines → (list_all line_reads texts ≡ true) × AllLack 10 texts
+pub all_read : (texts : List (List ℕ)) (lines : List MergeLine) → AllZip IsMergeLine texts lines → (list_all line_reads texts ≡ true) × AllLack 10 texts
 all_read [] [] all = (refl, tt)
 all_read [] (line ∷ lines) all = absurd all
 all_read (text ∷ texts) [] all = absurd all
@@ -172,7 +172,7 @@ lines_are_read (part ∷ parts) lines all (b ∷ text) is =
     let read = all_read (part ∷ parts) lines all in
     ap (list_all line_reads) (ap (slice_split (λ c. c == 10)) is ∙ split_joined 10 part parts read.1) ∙ read.0
 
-read_are_lines : (text : List ℕ) → lines_read text ≡ true
+pub read_are_lines : (text : List ℕ) → lines_read text ≡ true
     → (texts : List (List ℕ)) × (lines : List MergeLine) × AllZip IsMergeLine texts lines × (text ≡ join_with_byte 10 texts)
 read_are_lines [] reads = ([], [], tt, refl)
 read_are_lines (b ∷ text) reads =
@@ -180,7 +180,7 @@ read_are_lines (b ∷ text) reads =
     (slice_split (λ c. c == 10) (b ∷ text), found.0, found.1, sym (join_with_byte-slice_split 10 (b ∷ text)))
 
 -- the value without its LF is what the lines joined are
-bare : (texts : List (List ℕ)) (lines : List MergeLine) → AllZip IsMergeLine texts lines → (value : List ℕ)
+pub bare : (texts : List (List ℕ)) (lines : List MergeLine) → AllZip IsMergeLine texts lines → (value : List ℕ)
     → (value ≡ join_with_byte 10 texts) ⊎ (value ≡ join_with_byte 10 texts ++ 10 ∷ []) → without_lf value ≡ join_with_byte 10 texts
 bare [] lines all value (inl is) = ap without_lf is
 bare (text ∷ texts) [] all value (inl is) = absurd all

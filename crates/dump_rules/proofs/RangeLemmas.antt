@@ -27,7 +27,7 @@ digits_lack b (c ∷ text) other all =
     let first = not_digit b c other parts.0 in
     rw first (digits_lack b text other parts.1)
 
-number_parts : (text : List ℕ) (n : ℕ) → number_of text ≡ Some n → is_number text ≡ true
+pub number_parts : (text : List ℕ) (n : ℕ) → number_of text ≡ Some n → is_number text ≡ true
 number_parts text n is = go (is_number text) refl
   where
     go : (b : Bool) → is_number text ≡ b → is_number text ≡ true

@@ -205,7 +205,7 @@ part_lacks b part r other marks is = elim is.spelled [
     no_dash : has_byte b (45 ∷ []) ≡ false
     no_dash = second_false (42 == b) (has_byte b (45 ∷ [])) marks
 
-all_lack : (b : ℕ) (parts : List (List ℕ)) (ranges : List Range) → is_ascii_digit b ≡ false → has_byte b (42 ∷ 45 ∷ []) ≡ false
+pub all_lack : (b : ℕ) (parts : List (List ℕ)) (ranges : List Range) → is_ascii_digit b ≡ false → has_byte b (42 ∷ 45 ∷ []) ≡ false
     → AllZip IsRangeText parts ranges → AllLack b parts
 all_lack b [] ranges other marks all = tt
 all_lack b (part ∷ parts) [] other marks all = absurd all

@@ -4,25 +4,25 @@ use Rattle.std.specs.List.{last_or}
 use Rattle.std.specs.List.Sorted.{IsNonDecreasing, IsPartitionedBy, IsPartitionPoint}
 use Rattle.std.proofs.lemmas.Bool.Decides.{leb_tells, nat_tests}
 use Rattle.std.proofs.lemmas.List.Elements.{All-head, All-tail, filter-append}
-use Rattle.std.proofs.lemmas.List.Sorted.{IsPartitionedBy-leb}
+use Rattle.std.proofs.lemmas.List.Sorted.{IsPartitionedBy-leb, IsPartitionedBy-ltb}
 use Rattle.std.proofs.lemmas.List.Sums.{sum_by-cons, sum_by_push}
 use Rattle.dump_rules.specs.Renumbering.{KeptRevisions, RiseFrom, new_number, last_kept, image}
 
 -- counts of numbers
 
-abbrev below : ℕ → List ℕ → ℕ
+abbrev pub below : ℕ → List ℕ → ℕ
 below n numbers = count_by (λ k. nat_lt k n) numbers
 
-abbrev up_to : ℕ → List ℕ → ℕ
+abbrev pub up_to : ℕ → List ℕ → ℕ
 up_to n numbers = count_by (λ k. nat_le k n) numbers
 
-below-cons : (n k : ℕ) (numbers : List ℕ) → below n (k ∷ numbers) ≡ cond (nat_lt k n) 1 0 + below n numbers
+pub below-cons : (n k : ℕ) (numbers : List ℕ) → below n (k ∷ numbers) ≡ cond (nat_lt k n) 1 0 + below n numbers
 below-cons n k numbers = sum_by-cons (λ j. cond (nat_lt j n) 1 0) k numbers
 
-up_to-cons : (n k : ℕ) (numbers : List ℕ) → up_to n (k ∷ numbers) ≡ cond (nat_le k n) 1 0 + up_to n numbers
+pub up_to-cons : (n k : ℕ) (numbers : List ℕ) → up_to n (k ∷ numbers) ≡ cond (nat_le k n) 1 0 + up_to n numbers
 up_to-cons n k numbers = sum_by-cons (λ j. cond (nat_le j n) 1 0) k numbers
 
-is_below : (k n : ℕ) → k < n → nat_lt k n ≡ true
+pub is_below : (k n : ℕ) → k < n → nat_lt k n ≡ true
 is_below k n h = grind (arith, nat_tests)
 
 is_not_below : (k n : ℕ) → n ≤ k → nat_lt k n ≡ false
@@ -32,7 +32,7 @@ is_over : (k n : ℕ) → n < k → nat_le k n ≡ false
 is_over k n h = grind (arith, nat_tests)
 
 -- numbers that rise from n on aren't below it
-none_below : (first n : ℕ) (numbers : List ℕ) → n ≤ first → RiseFrom first numbers → below n numbers ≡ 0
+pub none_below : (first n : ℕ) (numbers : List ℕ) → n ≤ first → RiseFrom first numbers → below n numbers ≡ 0
 none_below first n [] low up = refl
 none_below first n (k ∷ numbers) low up =
     let lowest = up.0 in
@@ -213,7 +213,7 @@ image_at_pushed kept n r all low =
 
 -- the search
 
-from_first : (first : ℕ) (numbers : List ℕ) → RiseFrom first numbers → (j : ℕ) (d : ℕ) → j < length numbers → first ≤ get_or numbers j d
+pub from_first : (first : ℕ) (numbers : List ℕ) → RiseFrom first numbers → (j : ℕ) (d : ℕ) → j < length numbers → first ≤ get_or numbers j d
 from_first first [] up j d within = absurd (omega arith)
 from_first first (k ∷ numbers) up zero d within = up.0
 from_first first (k ∷ numbers) up (suc j) d within =
@@ -232,6 +232,9 @@ rises first (k ∷ numbers) up (suc i) (suc j) d under within = rises (k + 1) nu
 -- what a search asks of the kept numbers
 pub parted_from_rise : (first n : ℕ) (numbers : List ℕ) → RiseFrom first numbers → IsPartitionedBy (λ k. nat_le k n) numbers
 parted_from_rise first n numbers up = IsPartitionedBy-leb (λ k. k) numbers n (rises first numbers up)
+
+pub parted_below : (first n : ℕ) (numbers : List ℕ) → RiseFrom first numbers → IsPartitionedBy (λ k. nat_lt k n) numbers
+parted_below first n numbers up = IsPartitionedBy-ltb (λ k. k) numbers n (rises first numbers up)
 
 -- what it finds counts those that pass
 pub count_at_point : (p : ℕ → Bool) (i : ℕ) (numbers : List ℕ) → i ≤ length numbers

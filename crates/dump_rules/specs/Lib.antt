@@ -5,3 +5,8 @@ pub mod RangeList
 pub mod Mergeinfo
 pub mod ReadRanges
 pub mod ReadMergeinfo
+pub mod Rewriting
+pub mod RangeLaws
+pub mod Runs
+pub mod NewRanges
+pub mod NewLines

@@ -1,5 +1,5 @@
 //! The rules of the filter: its options, which paths they keep, the new numbers of revisions, and
-//! which values are mergeinfo.
+//! what becomes of mergeinfo.
 //!
 //! [`Options`] hold what a user asked for: whether nodes are included or excluded, the path
 //! prefixes, what becomes of revisions without a kept node, and three switches. [`keeps`] says
@@ -30,12 +30,21 @@
 //! [`merge_reads`] tells whether a value of `svn:mergeinfo` is lines of a path, a colon and ranges
 //! of revisions, as `/trunk:1-4,6*`. In no line a revision may stand both with `*` and without.
 //!
-//! `Options::new` takes memory, for its copies of the prefixes, and `Reach::push`, where its table
-//! grows; they answer [`Memory`] where there is none. Prefixes are bytes: no pattern, no letter
-//! case and no `..` has a meaning. What the switches do is for the filter: they are only kept
-//! here, and a `Reach` renumbers whether or not one asks for it.
+//! [`rewrite`] gives the new value: the lines whose paths are kept, each with the runs of its map,
+//! in new numbers if revisions are renumbered. [`laws`] says that a map has no other spelling.
+//!
+//! ```
+//! rewrite(alloc, b"/trunk:4,1-3", &options, &reach, 4)?;    // /trunk:1-4
+//! rewrite(alloc, b"/trunk:3,1-2*", &options, &reach, 4)?;   // /trunk:1-2*,3
+//! ```
+//!
+//! `Options::new` takes memory, for its copies of the prefixes, `Reach::push`, where its table
+//! grows, and `rewrite`; they say so where there is none. Prefixes are bytes: no pattern, no letter
+//! case and no `..` has a meaning. Of the switches `rewrite` reads two; what else they do is for
+//! the filter, and a `Reach` renumbers whether or not one asks for it.
 #![tactic(auto)]
 
+pub mod laws;
 mod memory;
 mod mergeinfo;
 mod options;
@@ -43,12 +52,15 @@ mod paths;
 mod prefix;
 mod ranges;
 mod reach;
+mod rewriting;
+mod runs;
 
 pub use memory::Memory;
 pub use mergeinfo::merge_reads;
 pub use options::{Empty, Options, Side};
 pub use paths::keeps;
 pub use reach::Reach;
+pub use rewriting::{RewriteFault, rewrite};
 
 #[cfg(test)]
 mod tests;

@@ -7,7 +7,7 @@ ghost use Rattle.dump_rules.specs.ReadMergeinfo.{colon_end, line_reads, lines_re
 use crate::ranges::list_reads;
 
 /// The place behind the last colon of a line; 0 where there is none.
-fn colon_end(line: &[u8]) -> usize
+pub(crate) fn colon_end(line: &[u8]) -> usize
     ensures { result ≡ colon_end line.now }
 {
     let mut place = line.len();
@@ -40,7 +40,7 @@ fn lines_read(text: &[u8]) -> bool
 }
 
 /// The value without an LF at its end.
-fn cut_lf(value: &[u8]) -> &[u8]
+pub(crate) fn cut_lf(value: &[u8]) -> &[u8]
     ensures { result.now ≡ without_lf value.now }
 {
     value.strip_suffix(b"\n").unwrap_or(value)

@@ -14,7 +14,7 @@ pub(crate) struct Span {
 }
 
 /// Where the byte stands first.
-fn find(byte: u8, text: &[u8]) -> Option<usize>
+pub(crate) fn find(byte: u8, text: &[u8]) -> Option<usize>
     ensures { result ≡ position (λ b. b == byte) text.now }
 {
     text.iter().position(|b| *b == byte)

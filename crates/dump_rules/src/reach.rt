@@ -1,8 +1,11 @@
 //! The revisions that are kept, and their new numbers.
-ghost use Rattle.std.specs.Prelude.{◌≡◌, ◌++◌, ◌<◌, ◌≤◌, [], ◌∷◌, All, OnErr, OnOk, length};
-ghost use Rattle.dump_rules.specs.Renumbering.{image};
+ghost use Rattle.std.specs.Prelude.{◌≡◌, ◌++◌, ◌<◌, ◌≤◌, [], ◌∷◌, All, OnErr, OnOk, count_by, length, nat_le, nat_lt, option_map};
+ghost use Rattle.dump_rules.specs.NewRanges.{new_range};
+ghost use Rattle.dump_rules.specs.ReadRanges.{span_range};
+ghost use Rattle.dump_rules.specs.Renumbering.{RiseFrom, image};
 
 use crate::memory::Memory;
+use crate::ranges::Span;
 use std::alloc::Global;
 use std::marker::Model;
 
@@ -59,9 +62,40 @@ impl Reach {
         Some(self.first + before as u64)
     }
 
+    /// How many kept revisions have a lower number.
+    fn below(&self, revision: u64) -> usize
+        ensures { result ≡ count_by (λ k. nat_lt k revision) self.now.numbers }
+    {
+        self.numbers.partition_point(|number| *number < revision)
+    }
+
+    /// How many kept revisions have at most this number.
+    fn up_to(&self, revision: u64) -> usize
+        ensures { result ≡ count_by (λ k. nat_le k revision) self.now.numbers }
+    {
+        self.numbers.partition_point(|number| *number <= revision)
+    }
+
+    /// The new numbers of the kept revisions of a range, if there are some.
+    pub(crate) fn span(&self, span: Span) -> Option<Span>
+        ensures { option_map span_range result ≡ new_range self.now (span_range span) }
+    {
+        let below = self.below(span.from);
+        let up_to = self.up_to(span.to);
+        if below >= up_to {
+            return None;
+        }
+        Some(Span {
+            from: self.first + below as u64,
+            to: self.first + (up_to - 1) as u64,
+            inheritable: span.inheritable,
+        })
+    }
+
     /// The number of the dump's first revision.
     pub fn first(&self) -> u64
-        ensures { result ≡ self.now.first }
+        ensures first { result ≡ self.now.first }
+        ensures rising { RiseFrom self.now.first self.now.numbers }
     {
         self.first
     }

@@ -1,5 +1,8 @@
 //! What no clause says: worked examples, each call once, and memory that is refused.
-use crate::{Empty, Memory, Options, Reach, Side, keeps, merge_reads};
+ghost use Rattle.std.specs.Prelude.{◌≤◌, All};
+
+use crate::laws::each_map_has_one_spelling;
+use crate::{Empty, Memory, Options, Reach, RewriteFault, Side, keeps, merge_reads, rewrite};
 use std::alloc::Global;
 use std::test::Fail;
 
@@ -168,4 +171,170 @@ fn no_revision_stands_with_a_star_and_without(rt: HostRuntime) {
     for (value, reads) in rows {
         assert_eq!(rt; merge_reads(value), reads, "{value:?}");
     }
+}
+
+fn rules(
+    alloc: Global,
+    prefix: &[u8],
+    renumber: bool,
+    skip_missing: bool,
+) -> Result<Options, Memory> {
+    Options::new(
+        alloc,
+        Side::Include,
+        &[prefix],
+        Empty::DropEmptied,
+        renumber,
+        false,
+        skip_missing,
+    )
+}
+
+// What becomes of a value, which has to be mergeinfo.
+fn rewritten(
+    alloc: Global,
+    value: &[u8],
+    options: &Options,
+    reach: &Reach,
+    now: u64,
+) -> Result<Result<Vec<u8>, RewriteFault>, Fail>
+    requires { All (λ k. k ≤ now) reach.now.numbers }
+{
+    if !merge_reads(value) {
+        return Err("no mergeinfo".into());
+    }
+    Ok(rewrite(alloc, value, options, reach, now))
+}
+
+#[test]
+fn lines_of_kept_paths_are_written_as_runs(rt: HostRuntime) -> Result<(), Fail> {
+    let reach = Reach::new(rt.alloc(), 0);
+    let rows = [
+        (b"/".as_slice(), b"/a:\n/b:1".as_slice(), b"/b:1".as_slice()),
+        (b"/", b"/a:1-999999999999999999", b"/a:1-999999999999999999"),
+        (b"trunk", b"/trunk:4,1-3", b"/trunk:1-4"),
+        (b"trunk", b"/trunk:3,1-2*", b"/trunk:1-2*,3"),
+        (b"trunk", b"/trunk:2,1\n", b"/trunk:1-2"),
+        (b"trunk", b"/trunk:1*", b"/trunk:1*"),
+        (b"trunk", b"/trunk:3-8,5,1-4", b"/trunk:1-8"),
+        (b"trunk", b"/trunk:001,003", b"/trunk:1,3"),
+        (b"/", b"/a:1\n/b:\n/a:2*", b"/a:1\n/a:2*"),
+        (b"/", b"", b""),
+    ];
+    for (prefix, value, wanted) in rows {
+        let options = rules(rt.alloc(), prefix, false, false)?;
+        let new = rewritten(rt.alloc(), value, &options, &reach, 1)??;
+        assert_eq!(rt; new.as_slice(), wanted, "{value:?}");
+    }
+    Ok(())
+}
+
+#[test]
+fn lines_of_other_paths_are_refused_or_left_out(rt: HostRuntime) -> Result<(), Fail> {
+    let reach = Reach::new(rt.alloc(), 0);
+    let strict = rules(rt.alloc(), b"trunk", false, false)?;
+    match rewritten(rt.alloc(), b"/other:1", &strict, &reach, 1)? {
+        Ok(_) => assert!(rt; false),
+        Err(fault) => assert_eq!(rt; fault, RewriteFault::MergeSource),
+    }
+    let lenient = rules(rt.alloc(), b"trunk", false, true)?;
+    let new = rewritten(rt.alloc(), b"/other:1\n/trunk:1", &lenient, &reach, 1)??;
+    assert_eq!(rt; new.as_slice(), b"/trunk:1".as_slice());
+    Ok(())
+}
+
+#[test]
+fn kept_revisions_get_new_numbers(rt: HostRuntime) -> Result<(), Fail> {
+    let mut reach = Reach::new(rt.alloc(), 0);
+    reach.push(0)?;
+    reach.push(1)?;
+    reach.push(4)?;
+    reach.push(5)?;
+    reach.push(7)?;
+    reach.push(8)?;
+    let options = rules(rt.alloc(), b"trunk", true, false)?;
+    let rows = [
+        (b"/trunk:1-4,6*".as_slice(), b"/trunk:1-2".as_slice()),
+        (b"/trunk:2-3", b""),
+    ];
+    for (value, wanted) in rows {
+        let new = rewritten(rt.alloc(), value, &options, &reach, 8)??;
+        assert_eq!(rt; new.as_slice(), wanted, "{value:?}");
+    }
+    Ok(())
+}
+
+#[test]
+fn long_ranges_cost_no_more_than_short_ones(rt: HostRuntime) -> Result<(), Fail> {
+    let mut reach = Reach::new(rt.alloc(), 1);
+    reach.push(1)?;
+    reach.push(500000000000000000)?;
+    let options = rules(rt.alloc(), b"/", true, false)?;
+    let rows = [
+        (b"/a:1-999999999999999999".as_slice(), b"/a:1-2".as_slice()),
+        (b"/a:1,2-999999999999999999*", b"/a:1,2*"),
+        (b"/a:2-499999999999999999", b""),
+        (b"/a:500000000000000000*,1*", b"/a:1-2*"),
+    ];
+    for (value, wanted) in rows {
+        let new = rewritten(rt.alloc(), value, &options, &reach, 999999999999999999)??;
+        assert_eq!(rt; new.as_slice(), wanted, "{value:?}");
+    }
+    Ok(())
+}
+
+#[test]
+fn numbers_that_the_dump_cannot_have_are_refused(rt: HostRuntime) -> Result<(), Fail> {
+    let mut reach = Reach::new(rt.alloc(), 5);
+    reach.push(5)?;
+    reach.push(6)?;
+    let strict = rules(rt.alloc(), b"/", true, false)?;
+    for value in [
+        b"/trunk:4-5".as_slice(),
+        b"/trunk:1-999999999999999999",
+        b"/trunk:7",
+    ] {
+        match rewritten(rt.alloc(), value, &strict, &reach, 6)? {
+            Ok(_) => assert!(rt; false),
+            Err(fault) => assert_eq!(rt; fault, RewriteFault::MergeRange, "{value:?}"),
+        }
+    }
+    let lenient = rules(rt.alloc(), b"/", true, true)?;
+    let new = rewritten(rt.alloc(), b"/trunk:4-5", &lenient, &reach, 6)??;
+    assert_eq!(rt; new.as_slice(), b"/trunk:5".as_slice());
+    Ok(())
+}
+
+#[test]
+fn ten_thousand_ranges_in_any_order(rt: HostRuntime) -> Result<(), Fail> {
+    let reach = Reach::new(rt.alloc(), 0);
+    let options = rules(rt.alloc(), b"/", false, false)?;
+    let mut down = String::from_str(rt.alloc(), "/a:10000")?;
+    let mut odd = String::from_str(rt.alloc(), "/a:1")?;
+    for n in 1..10000u64 {
+        let lower = 10000 - n;
+        let next = 2 * n + 1;
+        down.push_str(&format!(in rt.alloc(); ",{lower}")?)?;
+        odd.push_str(&format!(in rt.alloc(); ",{next}")?)?;
+    }
+    let joined = rewritten(rt.alloc(), down.as_bytes(), &options, &reach, 1)??;
+    assert_eq!(rt; joined.as_slice(), b"/a:1-10000".as_slice());
+    let same = rewritten(rt.alloc(), odd.as_bytes(), &options, &reach, 1)??;
+    assert_eq!(rt; same.as_slice(), odd.as_bytes());
+    Ok(())
+}
+
+// Run with each allocation refused in turn: there is a new value, or no memory.
+#[test]
+fn new_value_or_no_memory(rt: HostRuntime) -> Result<(), Fail> {
+    each_map_has_one_spelling();
+    let reach = Reach::new(rt.alloc(), 0);
+    let Ok(options) = rules(rt.alloc(), b"/", false, false) else {
+        return Ok(());
+    };
+    match rewritten(rt.alloc(), b"/a:4,1-3\n/b:9,7,5,3,1", &options, &reach, 1)? {
+        Ok(new) => assert_eq!(rt; new.as_slice(), b"/a:1-4\n/b:1,3,5,7,9".as_slice()),
+        Err(fault) => assert_eq!(rt; fault, RewriteFault::Memory),
+    }
+    Ok(())
 }

@@ -1,0 +1,231 @@
+//! New values of svn:mergeinfo.
+ghost use Rattle.std.specs.Prelude.{◌≡◌, ◌&&◌, ◌==◌, ◌≤◌, ◌↔◌, [], All, Err, IfOk, OnOk, map, not, true};
+ghost use Rattle.std.specs.List.{list_all, list_any, slice_split};
+ghost use Rattle.dump_rules.specs.Mergeinfo.{HasMergeLines};
+ghost use Rattle.dump_rules.specs.NewLines.{line_foreign, line_list, line_misses, line_path, list_foreign, part_foreign, range_foreign, text_foreign, text_lines, text_misses, with_break, with_new_line, with_new_lines, with_runs};
+ghost use Rattle.dump_rules.specs.RangeList.{IsConsistent};
+ghost use Rattle.dump_rules.specs.Renumbering.{RiseFrom};
+ghost use Rattle.dump_rules.specs.ReadMergeinfo.{line_reads, lines_read};
+ghost use Rattle.dump_rules.specs.ReadRanges.{range_of, range_parts, span_range};
+ghost use Rattle.dump_rules.specs.Rewriting.{IsNewMergeinfo, HasForeignNumber, HasMissingSource};
+ghost use Rattle.dump_rules.specs.Runs.{HaveNumbers, runs_of};
+ghost use Rattle.dump_rules.specs.Settings.{keeps_path};
+
+use crate::memory::Memory;
+use crate::mergeinfo::{colon_end, cut_lf};
+use crate::options::Options;
+use crate::paths::keeps;
+use crate::ranges::{Span, find, range};
+use crate::reach::Reach;
+use crate::runs::{cut_at, new_spans, push_bytes, push_runs, sort};
+use std::alloc::Global;
+
+/// Why a value of svn:mergeinfo can't be rewritten.
+#[derive(Clone, Copy, Debug, PartialEq, Eq)]
+pub enum RewriteFault {
+    /// A line names a path that isn't kept, and such lines may not be left out.
+    MergeSource,
+    /// A line that stays names a revision that the dump can't have, and revisions are renumbered.
+    MergeRange,
+    /// Memory ran out.
+    Memory,
+}
+
+/// The path of a line.
+fn path_of(line: &[u8]) -> &[u8]
+    ensures { result.now ≡ line_path line.now }
+{
+    &line[..colon_end(line).saturating_sub(1)]
+}
+
+/// The range list of a line.
+fn list_of(line: &[u8]) -> &[u8]
+    ensures { result.now ≡ line_list line.now }
+{
+    &line[colon_end(line)..]
+}
+
+/// Adds an LF where something stands already.
+fn push_break(out: &mut Vec<u8>) -> Result<(), Memory>
+    ensures { OnOk result (out.new.items ≡ with_break out.old.items) }
+{
+    if out.is_empty() {
+        return Ok(());
+    }
+    push_bytes(out, b"\n")
+}
+
+/// Adds a line of the runs of these ranges, if there are ranges.
+fn push_spans(out: &mut Vec<u8>, path: &[u8], spans: Vec<Span>) -> Result<(), Memory>
+    requires numbers { HaveNumbers (map span_range spans.items) }
+    requires consistent { IsConsistent (map span_range spans.items) }
+    ensures { OnOk result (out.new.items ≡ with_runs out.old.items path.now (runs_of (map span_range spans.items))) }
+{
+    if spans.is_empty() {
+        return Ok(());
+    }
+    let mut spans = spans;
+    sort(&mut spans);
+    push_break(out)?;
+    push_bytes(out, path)?;
+    push_bytes(out, b":")?;
+    push_runs(out, &spans)
+}
+
+/// Adds what becomes of a line.
+fn push_line(
+    alloc: Global,
+    out: &mut Vec<u8>,
+    line: &[u8],
+    options: &Options,
+    reach: &Reach,
+) -> Result<(), Memory>
+    requires rising { RiseFrom reach.now.first reach.now.numbers }
+    requires reads { line_reads line.now ≡ true }
+    ensures { OnOk result (out.new.items ≡ with_new_line options.now reach.now out.old.items line.now) }
+{
+    let path = path_of(line);
+    if !keeps(options, path) {
+        return Ok(());
+    }
+    let spans = new_spans(alloc, list_of(line), options.renumber(), reach)?;
+    push_spans(out, path, spans)
+}
+
+/// Adds what becomes of the lines of a text that isn't empty.
+fn push_lines(
+    alloc: Global,
+    out: &mut Vec<u8>,
+    text: &[u8],
+    options: &Options,
+    reach: &Reach,
+) -> Result<(), Memory>
+    requires rising { RiseFrom reach.now.first reach.now.numbers }
+    requires reads { list_all line_reads (slice_split (λ b. b == 10) text.now) ≡ true }
+    ensures { OnOk result (out.new.items
+        ≡ with_new_lines options.now reach.now out.old.items (slice_split (λ b. b == 10) text.now)) }
+{
+    let mut rest = text;
+    while let Some(lf) = find(b'\n', rest) {
+        let (line, behind) = cut_at(rest, lf);
+        push_line(alloc, out, line, options, reach)?;
+        rest = behind;
+    }
+    push_line(alloc, out, rest, options, reach)
+}
+
+/// What becomes of the lines of a text.
+fn new_text(alloc: Global, text: &[u8], options: &Options, reach: &Reach) -> Result<Vec<u8>, Memory>
+    requires rising { RiseFrom reach.now.first reach.now.numbers }
+    requires reads { lines_read text.now ≡ true }
+    ensures { IfOk result (λ v. v.items ≡ with_new_lines options.now reach.now [] (text_lines text.now)) }
+{
+    let mut out = Vec::new(alloc);
+    if !text.is_empty() {
+        push_lines(alloc, &mut out, text, options, reach)?;
+    }
+    Ok(out)
+}
+
+/// Whether the path of a line isn't kept.
+fn line_misses(line: &[u8], options: &Options) -> bool
+    ensures { result ≡ line_misses options.now line.now }
+{
+    !keeps(options, path_of(line))
+}
+
+/// Whether a line has a path that isn't kept.
+fn some_misses(text: &[u8], options: &Options) -> bool
+    ensures { result ≡ list_any (line_misses options.now) (slice_split (λ b. b == 10) text.now) }
+{
+    text.split(|b| *b == b'\n')
+        .any(|line| line_misses(line, options))
+}
+
+/// Whether a line has a path that isn't kept, and may not be left out.
+fn text_misses(text: &[u8], options: &Options) -> bool
+    ensures { result ≡ text_misses options.now text.now }
+{
+    !options.skip_missing() && !text.is_empty() && some_misses(text, options)
+}
+
+/// Whether a part is a range that the dump can't have.
+fn part_foreign(part: &[u8], options: &Options, first: u64, now: u64) -> bool
+    ensures { result ≡ part_foreign options.now first now (range_of part.now) }
+{
+    match range(part) {
+        Some(span) => span.to > now || !options.skip_missing() && span.from < first,
+        None => false,
+    }
+}
+
+/// Whether some part is such a range.
+fn some_foreign(list: &[u8], options: &Options, first: u64, now: u64) -> bool
+    ensures { result ≡ list_any (λ part. part_foreign options.now first now (range_of part)) (range_parts list.now) }
+{
+    list.split(|b| *b == b',')
+        .any(|part| part_foreign(part, options, first, now))
+}
+
+/// Whether a range list has such a range.
+fn list_foreign(list: &[u8], options: &Options, first: u64, now: u64) -> bool
+    ensures { result ≡ list_foreign options.now first now list.now }
+{
+    !list.is_empty() && some_foreign(list, options, first, now)
+}
+
+/// Whether a line that stays has such a range.
+fn line_foreign(line: &[u8], options: &Options, first: u64, now: u64) -> bool
+    ensures { result ≡ line_foreign options.now first now line.now }
+{
+    keeps(options, path_of(line)) && list_foreign(list_of(line), options, first, now)
+}
+
+/// Whether some line is such a line.
+fn some_line_foreign(text: &[u8], options: &Options, first: u64, now: u64) -> bool
+    ensures { result ≡ list_any (line_foreign options.now first now) (slice_split (λ b. b == 10) text.now) }
+{
+    text.split(|b| *b == b'\n')
+        .any(|line| line_foreign(line, options, first, now))
+}
+
+/// Whether revisions are renumbered and a line that stays has such a range.
+fn text_foreign(text: &[u8], options: &Options, first: u64, now: u64) -> bool
+    ensures { result ≡ text_foreign options.now first now text.now }
+{
+    options.renumber() && !text.is_empty() && some_line_foreign(text, options, first, now)
+}
+
+/// The new value: the lines whose paths are kept, in their order, each with the runs of its map,
+/// in new numbers if revisions are renumbered. A line whose map is empty goes. `now` is the present
+/// revision, and `reach` has those kept up to it.
+///
+/// A fault is found before memory is taken. The work is that of sorting each line's ranges,
+/// however many numbers they have.
+pub fn rewrite(
+    alloc: Global,
+    value: &[u8],
+    options: &Options,
+    reach: &Reach,
+    now: u64,
+) -> Result<Vec<u8>, RewriteFault>
+    requires reads { ¬ ¬ HasMergeLines value.now }
+    requires present { All (λ k. k ≤ now) reach.now.numbers }
+    ensures new { IfOk result (λ v. IsNewMergeinfo options.now reach.now value.now v.items) }
+    ensures source { (result ≡ Err RewriteFault.MergeSource) ↔ HasMissingSource options.now value.now }
+    ensures range { (result ≡ Err RewriteFault.MergeRange)
+        ↔ (¬ HasMissingSource options.now value.now × HasForeignNumber options.now reach.now now value.now) }
+{
+    let text = cut_lf(value);
+    let first = reach.first();
+    if text_misses(text, options) {
+        return Err(RewriteFault::MergeSource);
+    }
+    if text_foreign(text, options, first, now) {
+        return Err(RewriteFault::MergeRange);
+    }
+    match new_text(alloc, text, options, reach) {
+        Ok(new) => Ok(new),
+        Err(_) => Err(RewriteFault::Memory),
+    }
+}
