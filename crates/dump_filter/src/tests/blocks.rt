@@ -1,0 +1,110 @@
+//! The records that the dumps of the tests are made of.
+
+pub(crate) const VERSION: &[u8] = b"SVN-fs-dump-format-version: 2\n\n";
+
+pub(crate) const UUID: &[u8] = b"UUID: 7bf7a5ef-cabf-0310-b7d4-93df341afa7e\n\n";
+
+pub(crate) const REVISION_0: &[u8] =
+    b"Revision-number: 0\nProp-content-length: 56\nContent-length: 56\n\nK 8\nsvn:date\nV 27\n2024-01-02T03:04:05.000000Z\nPROPS-END\n\n";
+
+pub(crate) const REVISION_1: &[u8] =
+    b"Revision-number: 1\nProp-content-length: 56\nContent-length: 56\n\nK 8\nsvn:date\nV 27\n2024-01-02T03:04:05.000000Z\nPROPS-END\n\n";
+
+pub(crate) const REVISION_2: &[u8] =
+    b"Revision-number: 2\nProp-content-length: 56\nContent-length: 56\n\nK 8\nsvn:date\nV 27\n2024-01-02T03:04:05.000000Z\nPROPS-END\n\n";
+
+pub(crate) const REVISION_3: &[u8] =
+    b"Revision-number: 3\nProp-content-length: 56\nContent-length: 56\n\nK 8\nsvn:date\nV 27\n2024-01-02T03:04:05.000000Z\nPROPS-END\n\n";
+
+pub(crate) const REVISION_4: &[u8] =
+    b"Revision-number: 4\nProp-content-length: 56\nContent-length: 56\n\nK 8\nsvn:date\nV 27\n2024-01-02T03:04:05.000000Z\nPROPS-END\n\n";
+
+pub(crate) const REVISION_5: &[u8] =
+    b"Revision-number: 5\nProp-content-length: 56\nContent-length: 56\n\nK 8\nsvn:date\nV 27\n2024-01-02T03:04:05.000000Z\nPROPS-END\n\n";
+
+pub(crate) const REVISION_6: &[u8] =
+    b"Revision-number: 6\nProp-content-length: 56\nContent-length: 56\n\nK 8\nsvn:date\nV 27\n2024-01-02T03:04:05.000000Z\nPROPS-END\n\n";
+
+// Numbers with leading zeros, and no line for the whole length.
+pub(crate) const SPELLED_REVISION_7: &[u8] =
+    b"Revision-number: 007\nProp-content-length: 056\n\nK 8\nsvn:date\nV 27\n2024-01-02T03:04:05.000000Z\nPROPS-END\n\n";
+
+pub(crate) const REVISION_7: &[u8] =
+    b"Revision-number: 7\nProp-content-length: 56\nContent-length: 56\n\nK 8\nsvn:date\nV 27\n2024-01-02T03:04:05.000000Z\nPROPS-END\n\n";
+
+pub(crate) const REVISION_9: &[u8] =
+    b"Revision-number: 9\nProp-content-length: 56\nContent-length: 56\n\nK 8\nsvn:date\nV 27\n2024-01-02T03:04:05.000000Z\nPROPS-END\n\n";
+
+pub(crate) const PADDING_1: &[u8] =
+    b"Revision-number: 1\nProp-content-length: 112\nContent-length: 112\n\nK 8\nsvn:date\nV 27\n2024-01-02T03:04:05.000000Z\nK 7\nsvn:log\nV 38\nThis is an empty revision for padding.\nPROPS-END\n\n";
+
+// A revision without a length, and as it is padded.
+pub(crate) const SHORT_REVISION_1: &[u8] = b"Revision-number: 1\n\n\n";
+
+pub(crate) const DATELESS_PADDING_1: &[u8] =
+    b"Revision-number: 1\nProp-content-length: 66\nContent-length: 66\n\nK 7\nsvn:log\nV 38\nThis is an empty revision for padding.\nPROPS-END\n\n";
+
+// Its ten bytes of properties are none.
+pub(crate) const BROKEN_REVISION_1: &[u8] =
+    b"Revision-number: 1\nProp-content-length: 10\nContent-length: 10\n\nPROPS-ENDX\n";
+
+pub(crate) const TRUNK: &[u8] =
+    b"Node-path: trunk\nNode-kind: dir\nNode-action: add\nProp-content-length: 10\nContent-length: 10\n\nPROPS-END\n\n\n";
+
+pub(crate) const TRUNK_A: &[u8] =
+    b"Node-path: trunk/a\nNode-kind: dir\nNode-action: add\nProp-content-length: 10\nContent-length: 10\n\nPROPS-END\n\n\n";
+
+pub(crate) const TRUNK_2: &[u8] =
+    b"Node-path: trunk2\nNode-kind: dir\nNode-action: add\nProp-content-length: 10\nContent-length: 10\n\nPROPS-END\n\n\n";
+
+pub(crate) const OTHER: &[u8] =
+    b"Node-path: other\nNode-kind: dir\nNode-action: add\nProp-content-length: 10\nContent-length: 10\n\nPROPS-END\n\n\n";
+
+pub(crate) const X: &[u8] =
+    b"Node-path: x\nNode-kind: dir\nNode-action: add\nProp-content-length: 10\nContent-length: 10\n\nPROPS-END\n\n\n";
+
+pub(crate) const X_Y: &[u8] =
+    b"Node-path: x/y\nNode-kind: dir\nNode-action: add\nProp-content-length: 10\nContent-length: 10\n\nPROPS-END\n\n\n";
+
+pub(crate) const ROOT: &[u8] =
+    b"Node-path: \nNode-kind: dir\nNode-action: change\nProp-content-length: 10\nContent-length: 10\n\nPROPS-END\n\n\n";
+
+// Its lengths are 0, and no property block stands.
+pub(crate) const BLOCKLESS_TRUNK: &[u8] =
+    b"Node-path: trunk\nNode-kind: dir\nNode-action: add\nProp-content-length: 0\nContent-length: 0\n\n\n\n";
+
+// A property whose length has a leading zero, and as it is written.
+pub(crate) const SPELLED_TRUNK: &[u8] =
+    b"Node-path: trunk\nNode-kind: dir\nNode-action: add\nProp-content-length: 22\nContent-length: 22\n\nK 01\na\nV 0\n\nPROPS-END\n\n\n";
+
+pub(crate) const RESPELLED_TRUNK: &[u8] =
+    b"Node-path: trunk\nNode-kind: dir\nNode-action: add\nProp-content-length: 21\nContent-length: 21\n\nK 1\na\nV 0\n\nPROPS-END\n\n\n";
+
+pub(crate) const FILE: &[u8] =
+    b"Node-path: trunk/f\nNode-kind: file\nNode-action: add\nText-content-length: 3\nContent-length: 3\n\nabc\n\n";
+
+// The file as a copy of one that isn't kept, with its text and without.
+pub(crate) const COPIED_FILE: &[u8] =
+    b"Node-path: trunk/f\nNode-kind: file\nNode-action: add\nNode-copyfrom-rev: 0\nNode-copyfrom-path: other/f\nText-copy-source-md5: 900150983cd24fb0d6963f7d28e17f72\nText-copy-source-sha1: a9993e364706816aba3e25717850c26c9cd0d89d\nText-content-length: 3\nContent-length: 3\n\nabc\n\n";
+
+pub(crate) const TEXTLESS_COPIED_FILE: &[u8] =
+    b"Node-path: trunk/f\nNode-kind: file\nNode-action: add\nNode-copyfrom-rev: 0\nNode-copyfrom-path: other/f\nText-copy-source-md5: 900150983cd24fb0d6963f7d28e17f72\nText-copy-source-sha1: a9993e364706816aba3e25717850c26c9cd0d89d\n\n\n\n";
+
+// Copies of these directories.
+pub(crate) const TAG_OF_TRUNK_1: &[u8] =
+    b"Node-path: trunk/tag\nNode-kind: dir\nNode-action: add\nNode-copyfrom-rev: 1\nNode-copyfrom-path: trunk\n\n\n\n";
+
+pub(crate) const TAG_OF_TRUNK_2: &[u8] =
+    b"Node-path: trunk/tag\nNode-kind: dir\nNode-action: add\nNode-copyfrom-rev: 2\nNode-copyfrom-path: trunk\n\n\n\n";
+
+pub(crate) const TAG_OF_TRUNK_3: &[u8] =
+    b"Node-path: trunk/tag\nNode-kind: dir\nNode-action: add\nNode-copyfrom-rev: 3\nNode-copyfrom-path: trunk\n\n\n\n";
+
+pub(crate) const TAG_OF_TRUNK_5: &[u8] =
+    b"Node-path: trunk/tag\nNode-kind: dir\nNode-action: add\nNode-copyfrom-rev: 5\nNode-copyfrom-path: trunk\n\n\n\n";
+
+pub(crate) const TAG_OF_TRUNK_7: &[u8] =
+    b"Node-path: trunk/tag\nNode-kind: dir\nNode-action: add\nNode-copyfrom-rev: 7\nNode-copyfrom-path: trunk\n\n\n\n";
+
+pub(crate) const TAG_OF_OTHER_0: &[u8] =
+    b"Node-path: trunk/tag\nNode-kind: dir\nNode-action: add\nNode-copyfrom-rev: 0\nNode-copyfrom-path: other\n\n\n\n";
