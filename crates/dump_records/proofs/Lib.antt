@@ -4,4 +4,3 @@ pub mod PartLemmas
 pub mod CutLemmas
 pub mod ListLaw
 pub mod Prefixes
-pub mod Places

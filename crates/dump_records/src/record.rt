@@ -27,12 +27,11 @@ pub struct Record<'a> {
 }
 
 impl<'a> Record<'a> {
-    ghost use Rattle.std.specs.Prelude.{◌≡◌, ◌++◌, List, IfSome, option_copied, slice_range};
+    ghost use Rattle.std.specs.Prelude.{◌≡◌, List, IfSome, option_copied, slice_range};
     ghost use Rattle.dump_text.specs.Names.{path_name, revision_name, copy_path_name, copy_revision_name, property_length_name, text_length_name};
     ghost use Rattle.dump_text.specs.HeaderLine.{header_value};
     ghost use Rattle.dump_text.specs.Views.{block_headers};
     ghost use Rattle.dump_records.specs.HeaderRules.{kind_of, header_number};
-    ghost use Rattle.dump_records.specs.RecordText.{record_text};
     ghost use Rattle.dump_records.specs.RecordPlaces.{props_place, text_place, place_after};
     ghost use Rattle.dump_records.specs.RecordViews.{record_dump, record_number, record_item, part_with, part_of_node, IsInBlock};
 
@@ -154,19 +153,5 @@ impl<'a> Record<'a> {
         ensures { result.now ≡ (record_item self.now).text }
     {
         &self.block.dump()[self.text_from..self.after]
-    }
-
-    /// Its properties and its text, as they stand one behind the other.
-    pub fn content(&self) -> &'a [u8]
-        ensures { result.now ≡ (record_item self.now).props ++ (record_item self.now).text }
-    {
-        &self.block.dump()[self.block.after()..self.after]
-    }
-
-    /// The whole record as it stands.
-    pub fn bytes(&self) -> &'a [u8]
-        ensures { result.now ≡ record_text (record_item self.now) }
-    {
-        &self.block.dump()[self.block.place()..self.after]
     }
 }
