@@ -1,5 +1,6 @@
 # make         proves and builds the program, build/svndumpfilter
 # make test    proves every crate from nothing, runs their tests, and then tests/run on the program that was so proved
+# make bench   measures the program on made dumps, beside md5sum, sha1sum, cat and, where it is installed, the stock svndumpfilter
 # make clean   removes build/; what the checks keep in crates/*/out stays
 
 PROGRAM := build/svndumpfilter
@@ -8,7 +9,7 @@ BUILT := crates/dump_cli/out/dump_cli
 FIRST := tests/cases/include_with_preserve_revprops
 SOURCES := crates.txt HANDLES $(shell find crates -name out -prune -o -type f \( -name '*.rt' -o -name '*.antt' \) -print)
 
-.PHONY: all test clean
+.PHONY: all test bench clean
 .DELETE_ON_ERROR:
 
 all: $(PROGRAM)
@@ -29,6 +30,9 @@ test:
 	cp $(BUILT) $(PROGRAM)
 	@echo "make: running tests/cases on $(PROGRAM)"
 	tests/run $(PROGRAM)
+
+bench: $(PROGRAM)
+	bench/measure $(PROGRAM)
 
 clean:
 	@echo "make: removing build/"

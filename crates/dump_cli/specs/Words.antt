@@ -10,7 +10,7 @@ use Rattle.dump_rules.specs.declared.options.Empty.TheVariants.{Pad, DropEmptied
 use Rattle.dump_cli.specs.declared.words.Usage.{Usage}
 use Rattle.dump_cli.specs.declared.words.Usage.TheVariants.{Words, BothDrops, Memory}
 
--- the four flags
+-- the five flags
 abbrev pub drop_empty_flag : List ℕ
 drop_empty_flag = codes "--drop-empty-revs"
 
@@ -23,9 +23,13 @@ renumber_flag = codes "--renumber-revs"
 abbrev pub preserve_flag : List ℕ
 preserve_flag = codes "--preserve-revprops"
 
+abbrev pub skip_flag : List ℕ
+skip_flag = codes "--skip-missing-merge-sources"
+
 abbrev pub is_flag : List ℕ → Bool
 is_flag word =
     bytes_eq word drop_empty_flag || bytes_eq word drop_all_flag || bytes_eq word renumber_flag || bytes_eq word preserve_flag
+    || bytes_eq word skip_flag
 
 -- whether a minus sign stands first; flags begin so, and no prefix does
 abbrev pub has_minus_first : List ℕ → Bool
@@ -42,15 +46,15 @@ empty_of true false = Some DropEmptied
 empty_of false true = Some DropAll
 empty_of true true = None
 
-abbrev pub settings_of : Side → List (List ℕ) → Bool → Bool → Option Empty → Result Settings Usage
-settings_of side prefixes renumber preserve None = Err BothDrops
-settings_of side prefixes renumber preserve (Some empty) = Ok (record {
+abbrev pub settings_of : Side → List (List ℕ) → Bool → Bool → Bool → Option Empty → Result Settings Usage
+settings_of side prefixes renumber preserve skip None = Err BothDrops
+settings_of side prefixes renumber preserve skip (Some empty) = Ok (record {
   side = side;
   prefixes = prefixes;
   empty = empty;
   renumber = renumber;
   preserve = preserve;
-  skip_missing = false;
+  skip_missing = skip;
 })
 
 module _ {Word : Type 0} (text : Word → List ℕ) where
@@ -69,6 +73,7 @@ module _ {Word : Type 0} (text : Word → List ℕ) where
   abbrev pub are_flags : List Word → Bool
   are_flags words = list_all (λ word. is_flag (text word)) words && nat_le (times drop_empty_flag words) 1
       && nat_le (times drop_all_flag words) 1 && nat_le (times renumber_flag words) 1 && nat_le (times preserve_flag words) 1
+      && nat_le (times skip_flag words) 1
 
   -- one or more words, none of which begins with a minus sign
   abbrev pub are_prefixes : List Word → Bool
@@ -78,7 +83,8 @@ module _ {Word : Type 0} (text : Word → List ℕ) where
   abbrev pub order_of : Option Side → List Word → List Word → Result Settings Usage
   order_of None flags prefixes = Err Words
   order_of (Some side) flags prefixes = if are_flags flags && are_prefixes prefixes
-      then settings_of side (map text prefixes) (has renumber_flag flags) (has preserve_flag flags) (empty_of (has drop_empty_flag flags) (has drop_all_flag flags))
+      then settings_of side (map text prefixes) (has renumber_flag flags) (has preserve_flag flags) (has skip_flag flags)
+      (empty_of (has drop_empty_flag flags) (has drop_all_flag flags))
       else Err Words
 
   -- the order that the words give: the program's name, a side, flags in any order, prefixes

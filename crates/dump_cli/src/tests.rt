@@ -20,6 +20,7 @@ struct Order<'a> {
     empty: Empty,
     renumber: bool,
     preserve: bool,
+    skip_missing: bool,
 }
 
 fn assert_order(rt: &impl Abort, alloc: Global, words: &[&str], order: &Order) -> Result<(), Fail> {
@@ -28,7 +29,7 @@ fn assert_order(rt: &impl Abort, alloc: Global, words: &[&str], order: &Order) -
     assert_eq!(rt; options.empty(), order.empty, "in {words:?}");
     assert_eq!(rt; options.renumber(), order.renumber, "in {words:?}");
     assert_eq!(rt; options.preserve(), order.preserve, "in {words:?}");
-    assert!(rt; !options.skip_missing(), "in {words:?}");
+    assert_eq!(rt; options.skip_missing(), order.skip_missing, "in {words:?}");
     for (n, prefix) in order.prefixes.iter().enumerate() {
         assert_eq!(rt; options.prefix(n), Some(prefix.as_bytes()), "in {words:?}");
     }
@@ -45,6 +46,7 @@ fn sides_and_prefixes_are_read(rt: HostRuntime) -> Result<(), Fail> {
         empty: Empty::Pad,
         renumber: false,
         preserve: false,
+        skip_missing: false,
     };
     assert_order(&rt, alloc, &["svndumpfilter", "include", "trunk"], &include)?;
     let exclude = Order {
@@ -53,6 +55,7 @@ fn sides_and_prefixes_are_read(rt: HostRuntime) -> Result<(), Fail> {
         empty: Empty::Pad,
         renumber: false,
         preserve: false,
+        skip_missing: false,
     };
     let words = ["", "exclude", "//trunk/", "", "br\u{e4}nche", "a b"];
     assert_order(&rt, alloc, &words, &exclude)
@@ -67,6 +70,7 @@ fn flags_are_read_in_any_order(rt: HostRuntime) -> Result<(), Fail> {
         empty: Empty::Pad,
         renumber: false,
         preserve: true,
+        skip_missing: false,
     };
     assert_order(
         &rt,
@@ -118,6 +122,7 @@ fn renumbering_is_read_beside_the_other_flags(rt: HostRuntime) -> Result<(), Fai
         empty: Empty::Pad,
         renumber: true,
         preserve: false,
+        skip_missing: false,
     };
     let words = ["p", "exclude", "--renumber-revs", "a", "b"];
     assert_order(&rt, alloc, &words, &order)?;
@@ -127,6 +132,18 @@ fn renumbering_is_read_beside_the_other_flags(rt: HostRuntime) -> Result<(), Fai
         "p",
         "exclude",
         "--preserve-revprops",
+        "--renumber-revs",
+        "--drop-empty-revs",
+        "a",
+        "b",
+    ];
+    assert_order(&rt, alloc, &words, &order)?;
+    order.skip_missing = true;
+    let words = [
+        "p",
+        "exclude",
+        "--preserve-revprops",
+        "--skip-missing-merge-sources",
         "--renumber-revs",
         "--drop-empty-revs",
         "a",

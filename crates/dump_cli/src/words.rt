@@ -14,6 +14,8 @@ const RENUMBER: &str = "--renumber-revs";
 
 const PRESERVE: &str = "--preserve-revprops";
 
+const SKIP_MISSING: &str = "--skip-missing-merge-sources";
+
 /// Why words give no options.
 #[derive(Clone, Copy, Debug, PartialEq, Eq)]
 pub enum Usage {
@@ -53,6 +55,7 @@ fn order(alloc: Global, side: &str, flags: &[&str], prefixes: &[&str]) -> Result
     };
     let renumber = contains(flags, RENUMBER);
     let preserve = contains(flags, PRESERVE);
+    let skip_missing = contains(flags, SKIP_MISSING);
     let Ok(texts) = as_bytes(alloc, prefixes) else {
         return Err(Usage::Memory);
     };
@@ -63,7 +66,7 @@ fn order(alloc: Global, side: &str, flags: &[&str], prefixes: &[&str]) -> Result
         empty,
         renumber,
         preserve,
-        false,
+        skip_missing,
     ) {
         Ok(options) => Ok(options),
         Err(_) => Err(Usage::Memory),
@@ -118,7 +121,11 @@ fn stands_once(words: &[&str], word: &str) -> bool
 fn is_known(word: &str) -> bool
     ensures { result ≡ is_flag word.now }
 {
-    word == DROP_EMPTY || word == DROP_ALL || word == RENUMBER || word == PRESERVE
+    word == DROP_EMPTY
+        || word == DROP_ALL
+        || word == RENUMBER
+        || word == PRESERVE
+        || word == SKIP_MISSING
 }
 
 fn all_known(words: &[&str]) -> bool
@@ -136,6 +143,7 @@ fn all_flags(words: &[&str]) -> bool
         && stands_once(words, DROP_ALL)
         && stands_once(words, RENUMBER)
         && stands_once(words, PRESERVE)
+        && stands_once(words, SKIP_MISSING)
 }
 
 fn any_minus(words: &[&str]) -> bool

@@ -1,1 +1,6 @@
 pub mod KeptLemmas
+pub mod DigestLemmas
+pub mod MergeLemmas
+pub mod VerdictLemmas
+pub mod Values
+pub mod VerdictChoice

@@ -11,12 +11,17 @@
 //! done.item().place();   // the record's place in the dump
 //! ```
 //!
-//! The properties of revisions and of kept nodes are checked. Digests and mergeinfo aren't yet: a
-//! verdict says that they are ok, and that no text was compared with a digest. No memory is taken.
+//! Of a node that the options keep, the properties, the two digests of its text and its mergeinfo
+//! are checked; of a revision, kept or not, its properties; of other records nothing. What isn't to
+//! be checked is ok. A text is checked where the record has a length for it, and digested where it
+//! lies: nothing is copied, no memory is taken, and nothing waits. What depends on other records,
+//! as the order of revisions, copy sources and the numbers in mergeinfo, isn't asked here.
 #![tactic(auto)]
 
+mod digests;
 mod done;
 mod kept;
+mod merge;
 mod verdict;
 
 pub use done::Done;

@@ -1,4 +1,4 @@
-//! Each call once, and whose property block a verdict tells of.
+//! Each call once, worked digests of either kind, and whose parts a verdict tells of.
 use crate::{Done, Verdict, check, is_kept};
 use dump_records::{Cut, Cutter, Record};
 use dump_rules::{Empty, Options, Side};
@@ -30,13 +30,33 @@ const OK: Verdict = Verdict {
     checked: false,
 };
 
+const CHECKED: Verdict = Verdict {
+    checked: true,
+    ..OK
+};
+
 const BAD_PROPERTIES: Verdict = Verdict {
     props_ok: false,
     ..OK
 };
 
-fn record(number: u64) -> Result<Record<'static>, Fail> {
-    let mut cutter = Cutter::new(DUMP);
+const BAD_MD5: Verdict = Verdict {
+    md5_ok: false,
+    ..CHECKED
+};
+
+const BAD_SHA1: Verdict = Verdict {
+    sha1_ok: false,
+    ..CHECKED
+};
+
+const BAD_MERGEINFO: Verdict = Verdict {
+    merge_ok: false,
+    ..OK
+};
+
+fn record(dump: &[u8], number: u64) -> Result<Record<'_>, Fail> {
+    let mut cutter = Cutter::new(dump);
     for _ in 0..number {
         let _ = cutter.next();
     }
@@ -62,10 +82,10 @@ fn include_trunk(alloc: Global) -> Result<Options, Fail> {
 #[test]
 fn a_done_keeps_its_record_and_verdict(rt: HostRuntime) -> Result<(), Fail> {
     let options = include_trunk(rt.alloc())?;
-    let done = Done::of(record(UUID)?, &options);
+    let done = Done::of(record(DUMP, UUID)?, &options);
     assert_eq!(rt; done.verdict(), OK);
     assert_eq!(rt; (done.item().number(), done.item().place()), (1, 31));
-    let done = Done::of(record(REVISION)?, &options);
+    let done = Done::of(record(DUMP, REVISION)?, &options);
     assert_eq!(rt; done.verdict(), BAD_PROPERTIES);
     assert_eq!(rt; (done.item().number(), done.item().place()), (2, 40));
     Ok(())
@@ -74,19 +94,161 @@ fn a_done_keeps_its_record_and_verdict(rt: HostRuntime) -> Result<(), Fail> {
 #[test]
 fn properties_of_revisions_and_of_kept_nodes_are_checked(rt: HostRuntime) -> Result<(), Fail> {
     let options = include_trunk(rt.alloc())?;
-    assert_eq!(rt; check(&record(UUID)?, &options), OK);
-    assert_eq!(rt; check(&record(REVISION)?, &options), BAD_PROPERTIES);
-    assert_eq!(rt; check(&record(GOOD_NODE)?, &options), OK);
-    assert_eq!(rt; check(&record(BAD_NODE)?, &options), BAD_PROPERTIES);
-    assert_eq!(rt; check(&record(OTHER_BAD_NODE)?, &options), OK);
+    assert_eq!(rt; check(&record(DUMP, UUID)?, &options), OK);
+    assert_eq!(rt; check(&record(DUMP, REVISION)?, &options), BAD_PROPERTIES);
+    assert_eq!(rt; check(&record(DUMP, GOOD_NODE)?, &options), OK);
+    assert_eq!(rt; check(&record(DUMP, BAD_NODE)?, &options), BAD_PROPERTIES);
+    assert_eq!(rt; check(&record(DUMP, OTHER_BAD_NODE)?, &options), OK);
     Ok(())
 }
 
 #[test]
 fn nodes_are_kept_by_their_paths(rt: HostRuntime) -> Result<(), Fail> {
     let options = include_trunk(rt.alloc())?;
-    assert!(rt; is_kept(&record(BAD_NODE)?, &options));
-    assert!(rt; !is_kept(&record(OTHER_BAD_NODE)?, &options));
-    assert!(rt; !is_kept(&record(REVISION)?, &options));
+    assert!(rt; is_kept(&record(DUMP, BAD_NODE)?, &options));
+    assert!(rt; !is_kept(&record(DUMP, OTHER_BAD_NODE)?, &options));
+    assert!(rt; !is_kept(&record(DUMP, REVISION)?, &options));
+    Ok(())
+}
+
+// The verdict on the record that is alone in a dump.
+fn verdict_on(alloc: Global, text: &str) -> Result<Verdict, Fail> {
+    let options = include_trunk(alloc)?;
+    let dump = format!(in alloc; "SVN-fs-dump-format-version: 2\n\n{text}")?;
+    Ok(check(&record(dump.as_bytes(), 1)?, &options))
+}
+
+// The verdict on a file with the text `abc` and these digest lines.
+fn verdict_on_abc(alloc: Global, path: &str, digests: &str) -> Result<Verdict, Fail> {
+    let file = format!(in alloc;
+        "Node-path: {path}\nNode-kind: file\nNode-action: add\n\
+Text-content-length: 3\n{digests}Content-length: 3\n\nabc\n\n"
+    )?;
+    verdict_on(alloc, file.as_str())
+}
+
+#[test]
+fn digests_are_those_of_the_text(rt: HostRuntime) -> Result<(), Fail> {
+    let rows = [
+        ("", OK),
+        (
+            "Text-content-md5: 900150983cd24fb0d6963f7d28e17f72\n",
+            CHECKED,
+        ),
+        (
+            "Text-content-md5: 900150983CD24FB0D6963F7D28E17F72\n",
+            CHECKED,
+        ),
+        (
+            "Text-content-md5: 900150983cd24fb0d6963f7d28e17f73\n",
+            BAD_MD5,
+        ),
+        (
+            "Text-content-md5: 900150983cd24fb0d6963f7d28e17f7\n",
+            BAD_MD5,
+        ),
+        (
+            "Text-content-md5: 900150983cd24fb0d6963f7d28e17f720\n",
+            BAD_MD5,
+        ),
+        (
+            "Text-content-md5: 900150983cd24fb0d6963f7d28e17f7x\n",
+            BAD_MD5,
+        ),
+        ("Text-content-md5: \n", BAD_MD5),
+        (
+            "Text-content-sha1: a9993e364706816aba3e25717850c26c9cd0d89d\n",
+            CHECKED,
+        ),
+        (
+            "Text-content-sha1: A9993E364706816ABA3E25717850C26C9CD0D89D\n",
+            CHECKED,
+        ),
+        (
+            "Text-content-sha1: a9993e364706816aba3e25717850c26c9cd0d89e\n",
+            BAD_SHA1,
+        ),
+        (
+            "Text-content-sha1: 900150983cd24fb0d6963f7d28e17f72\n",
+            BAD_SHA1,
+        ),
+    ];
+    for (digests, verdict) in rows {
+        assert_eq!(rt;
+            verdict_on_abc(rt.alloc(), "trunk/f", digests)?,
+            verdict,
+            "{digests}"
+        );
+        assert_eq!(rt;
+            verdict_on_abc(rt.alloc(), "other/f", digests)?,
+            OK,
+            "{digests}"
+        );
+    }
+    Ok(())
+}
+
+#[test]
+fn both_digests_are_told(rt: HostRuntime) -> Result<(), Fail> {
+    let wrong = "Text-content-sha1: a9993e364706816aba3e25717850c26c9cd0d89e\n\
+Text-content-md5: 900150983cd24fb0d6963f7d28e17f73\n";
+    let both = Verdict {
+        sha1_ok: false,
+        ..BAD_MD5
+    };
+    assert_eq!(rt; verdict_on_abc(rt.alloc(), "trunk/f", wrong)?, both);
+    Ok(())
+}
+
+#[test]
+fn texts_have_a_length(rt: HostRuntime) -> Result<(), Fail> {
+    let none = "Node-path: trunk/f\nNode-action: change\n\
+Text-content-md5: 900150983cd24fb0d6963f7d28e17f73\n\n\n";
+    assert_eq!(rt; verdict_on(rt.alloc(), none)?, OK);
+    let empty = "Node-path: trunk/f\nText-content-length: 0\n\
+Text-content-md5: d41d8cd98f00b204e9800998ecf8427e\nContent-length: 0\n\n\n\n";
+    assert_eq!(rt; verdict_on(rt.alloc(), empty)?, CHECKED);
+    let behind_properties = "Node-path: trunk/f\nProp-content-length: 10\nText-content-length: 3\n\
+Text-content-md5: 900150983cd24fb0d6963f7d28e17f72\nContent-length: 13\n\nPROPS-END\nabc\n\n";
+    assert_eq!(rt; verdict_on(rt.alloc(), behind_properties)?, CHECKED);
+    Ok(())
+}
+
+// The verdict on a record with two properties of the same length and this end of the block.
+fn verdict_on_values(
+    alloc: Global,
+    header: &str,
+    first: &str,
+    second: &str,
+    end: &str,
+) -> Result<Verdict, Fail> {
+    let text = format!(in alloc;
+        "{header}\nProp-content-length: 74\nContent-length: 74\n\n\
+K 13\nsvn:mergeinfo\nV 8\n{first}\nK 13\nsvn:mergeinfo\nV 8\n{second}\n{end}\n"
+    )?;
+    verdict_on(alloc, text.as_str())
+}
+
+#[test]
+fn mergeinfo_of_kept_nodes_is_checked(rt: HostRuntime) -> Result<(), Fail> {
+    let kept = "Node-path: trunk";
+    let rows = [
+        (kept, "/trunk:1", "/trunk:2", "PROPS-END\n", OK),
+        (kept, "/trunk:1", "/trunk:0", "PROPS-END\n", BAD_MERGEINFO),
+        (kept, "/trunk:0", "/trunk:1", "PROPS-END\n", BAD_MERGEINFO),
+        (kept, "/trunk:0", "/trunk:1", "PROPS-ENDX", BAD_PROPERTIES),
+        ("Node-path: tags", "/trunk:0", "/trunk:1", "PROPS-END\n", OK),
+        (
+            "Revision-number: 1",
+            "/trunk:0",
+            "/trunk:1",
+            "PROPS-END\n",
+            OK,
+        ),
+    ];
+    for (header, first, second, end, verdict) in rows {
+        let found = verdict_on_values(rt.alloc(), header, first, second, end)?;
+        assert_eq!(rt; found, verdict, "{header} {first} {second} {end}");
+    }
     Ok(())
 }

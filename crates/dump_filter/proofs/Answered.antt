@@ -1,5 +1,5 @@
 -- Each dump has an answer: from any records without a fault the filter goes on to one.
-use Rattle.std.proofs.Common.{◌≡◌, ◌⊎◌, ℕ, ◌+◌, true, false, List, [], ◌∷◌, ◌++◌, length, refl, sym, ap, ◌∙◌, subst, append_assoc, inl, inr, Option, None, IsTrue, Result, Ok, Err}
+use Rattle.std.proofs.Common.{◌≡◌, ◌⊎◌, ℕ, ◌+◌, Bool, true, false, List, [], ◌∷◌, ◌++◌, length, refl, sym, ap, ◌∙◌, subst, append_assoc, inl, inr, Option, None, IsTrue, Result, Ok, Err}
 use Rattle.std.specs.List.{last_or}
 use Rattle.std.proofs.lemmas.List.{append-nil}
 use Rattle.dump_text.specs.declared.fault.FaultKind.{FaultKind}
@@ -17,9 +17,10 @@ use Rattle.dump_filter.specs.Shape.{Stands}
 use Rattle.dump_filter.specs.Shape.Shape.{Fresh}
 use Rattle.dump_filter.proofs.KindLemmas.{alone}
 use Rattle.dump_filter.proofs.TurnLemmas.{role_is, ended_text, becomes_ended}
-use Rattle.dump_filter.proofs.JudgeLemmas.{IsTaken, IsAnswer, properties_choice, answered}
+use Rattle.dump_filter.proofs.JudgeLemmas.{IsTaken, IsAnswer, answered}
+use Rattle.dump_digest.proofs.VerdictChoice.{verdict_exists}
 use Rattle.dump_filter.proofs.StepLemmas.{waiting_readable, turned, turn_exists, end_exists, stands_written}
-use Rattle.dump_filter.proofs.FilterLemmas.{free_more}
+use Rattle.dump_filter.proofs.FilterLemmas.{free_more, list_of}
 
 -- each record's lines break no rule
 abbrev pub AllLawful : List DumpRecord → Type 0
@@ -84,12 +85,12 @@ module _ (settings : Settings) (before : List DumpRecord) (free : AreFaultFree s
     pub next : Reached settings (before ++ r ∷ [])
     pub text_is : next.text ≡ reached.text ++ more
 
-  next_of : (copy : NewCopy) → IsTaken settings before reached.kept reached.waiting reached.present r (role_of settings r) copy → Next
-  next_of copy taken =
+  next_of : (checked : Bool) (copy : NewCopy) → IsTaken settings before reached.kept reached.waiting reached.present r (role_of settings r) copy → Next
+  next_of checked copy taken =
       let role = role_of settings r in
       let is = role_is settings r (alone number r lawful) in
       let readable = waiting_readable settings before reached.waiting reached.kept.numbers reached.report.revisions_dropped reached.stands.shape free in
-      let turn = turn_exists settings before reached.present reached.kept reached.waiting r copy role readable is taken in
+      let turn = turn_exists settings before reached.present reached.kept reached.waiting r copy role reached.stands.numbers readable is taken in
       record {
         more = turn.0;
         still_free = free_more settings before r free taken.free;
@@ -97,24 +98,25 @@ module _ (settings : Settings) (before : List DumpRecord) (free : AreFaultFree s
           present = next_present reached.present r role;
           kept = next_kept settings reached.kept reached.waiting reached.present r role;
           waiting = next_waiting reached.waiting r role;
-          report = next_report settings reached.waiting reached.report role;
+          report = next_report settings reached.waiting reached.report role checked;
           text = reached.text ++ turn.0;
-          stands = turned settings before reached.kept reached.waiting reached.report reached.text r copy readable reached.present role turn.0 reached.stands is taken turn.1;
+          stands = turned settings before reached.kept reached.waiting reached.report reached.text r copy readable reached.present role checked turn.0 reached.stands is taken turn.1;
         };
         text_is = refl;
       }
 
   pub choice : Next ⊎ ((fault : FaultKind) × IsRecordFault settings before r fault)
   choice =
-      let ok = properties_choice settings r in
-      by_answer (judged settings reached.kept reached.waiting (last_or None before) reached.present r (role_of settings r) ok.0)
-      (answered settings before reached.present reached.kept reached.waiting reached.report.revisions_dropped reached.text reached.stands number r lawful (role_of settings r)
-      (role_is settings r (alone number r lawful)) ok.0 ok.1)
+      let (v, means) = verdict_exists settings r in
+      let is = role_is settings r (alone number r lawful) in
+      let (ps, asked) = list_of settings r (role_of settings r) is v means in
+      by_answer v.checked (judged settings reached.kept reached.waiting (last_or None before) reached.present r (role_of settings r) v ps)
+      (answered settings before reached.present reached.kept reached.waiting reached.report.revisions_dropped reached.text reached.stands number r lawful (role_of settings r) is v means ps asked)
     where
-      by_answer : (answer : Result NewCopy FaultKind) → IsAnswer settings before reached.kept reached.waiting reached.present r (role_of settings r) answer
+      by_answer : (checked : Bool) (answer : Result NewCopy FaultKind) → IsAnswer settings before reached.kept reached.waiting reached.present r (role_of settings r) answer
           → Next ⊎ ((fault : FaultKind) × IsRecordFault settings before r fault)
-      by_answer (Ok copy) taken = inl (next_of copy taken)
-      by_answer (Err fault) found = inr (fault, found)
+      by_answer checked (Ok copy) taken = inl (next_of checked copy taken)
+      by_answer checked (Err fault) found = inr (fault, found)
 
 -- records without a fault are reached
 pub reach : (settings : Settings) (done rest : List DumpRecord) → AllLawful rest → AreFaultFree settings (done ++ rest) → AreFaultFree settings done → Reached settings done

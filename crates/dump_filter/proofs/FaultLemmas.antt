@@ -6,7 +6,7 @@ use Rattle.dump_text.specs.declared.fault.FaultKind.{FaultKind}
 use Rattle.dump_text.specs.declared.fault.FaultKind.TheVariants as faults
 use Rattle.dump_text.specs.Number.{number_of, spelled_number}
 use Rattle.dump_text.specs.Names.{deciding_names, length_names, revision_name, copy_revision_name, copy_path_name}
-use Rattle.dump_text.specs.HeaderLine.{Header, is_named, has_header, header_value, with_header_value}
+use Rattle.dump_text.specs.HeaderLine.{has_header, with_header_value}
 use Rattle.dump_records.specs.HeaderRules.{header_number, is_one_alone, has_bad_kind, has_bad_number}
 use Rattle.dump_records.specs.RecordText.{DumpRecord, is_lawful}
 use Rattle.dump_records.specs.RecordViews.{part_of_node}
@@ -25,6 +25,7 @@ use Rattle.dump_filter.specs.RecordFaults.{ends_in_group, IsOutOfOrder}
 use Rattle.dump_filter.specs.Turns.{Waited, front_kept, rises, is_in_order, is_orphan, HasNoSource, imaged, source_of, copy_of}
 use Rattle.dump_filter.specs.Shape.{is_plain, kept_numbers, Shape}
 use Rattle.dump_filter.specs.Shape.Shape.{Fresh, Idle, Passed, Waits}
+use Rattle.dump_filter.proofs.HeaderLemmas.{no_value}
 use Rattle.dump_filter.proofs.BoolLemmas.{false_true, not_so, first_true, second_true, first_false, second_false, not_true, not_false, both_true, absurd_bool}
 use Rattle.dump_filter.proofs.GroupLemmas.{plain_node, plain_other, plain_more, any_more}
 use Rattle.dump_filter.proofs.NumberLemmas.{first_other, kept_group, passed_keeps}
@@ -105,12 +106,6 @@ not_both false false e = refl
 some_number : (n : Option ℕ) → is_none n ≡ false → (m : ℕ) × (n ≡ Some m)
 some_number None e = absurd (false_true (sym e))
 some_number (Some m) e = (m, refl)
-
-no_value : (name : List ℕ) (headers : List Header) → has_header name headers ≡ false → header_value name headers ≡ None
-no_value name [] none = refl
-no_value name (h ∷ headers) none =
-    let one = first_false (is_named name h) (has_header name headers) none in
-    rw one (no_value name headers (second_false (is_named name h) (has_header name headers) none))
 
 module _ (number : ℕ) (r : DumpRecord) (lawful : IsTrue (is_lawful number r.headers)) (node : is_node r ≡ true) where
   bad_kind : has_bad_kind r.headers ≡ false

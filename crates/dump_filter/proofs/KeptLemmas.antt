@@ -1,5 +1,5 @@
 -- The kept revisions so far, and those of the whole list.
-use Rattle.std.proofs.Common.{◌≡◌, ℕ, ◌+◌, ◌<◌, ◌≤◌, Bool, true, false, List, [], ◌∷◌, ◌++◌, length, refl, sym, ap, ◌∙◌, arith, append_assoc, Option, Some, None, All, if◌then◌else◌}
+use Rattle.std.proofs.Common.{◌≡◌, ℕ, ◌+◌, ◌<◌, ◌≤◌, Bool, true, false, List, [], ◌∷◌, ◌++◌, length, refl, sym, ap, ◌∙◌, subst, arith, append_assoc, Option, Some, None, unwrap_or, All, if◌then◌else◌}
 use Rattle.std.proofs.lemmas.List.{append-nil}
 use Rattle.std.proofs.lemmas.List.Elements.{All-append, All-cons, All-head, All-nil, All-tail}
 use Rattle.dump_records.specs.RecordText.{DumpRecord}
@@ -9,10 +9,10 @@ use Rattle.dump_rules.proofs.ReachLemmas.{new_number_above, new_number_pushed, i
 use Rattle.dump_filter.specs.Groups.{revision_number}
 use Rattle.dump_filter.specs.NewHeaders.{written_number}
 use Rattle.dump_filter.specs.Turns.{Waited, stays, next_number, with_kept, front_kept, end_kept}
-use Rattle.dump_filter.specs.Shape.{open_from, GoesOn, AreRising}
+use Rattle.dump_filter.specs.Shape.{open_from, GoesOn, AreRising, AreKept}
 
 -- the same claim of each number, weakened
-all_weaker : (P Q : ℕ → Type 0) (ns : List ℕ) → ((n : ℕ) → P n → Q n) → All P ns → All Q ns
+pub all_weaker : (P Q : ℕ → Type 0) (ns : List ℕ) → ((n : ℕ) → P n → Q n) → All P ns → All Q ns
 all_weaker P Q ns weaker all = λ k d low. weaker _ (all k d low)
 
 all_one : (P : ℕ → Type 0) (n : ℕ) → P n → All P (n ∷ [])
@@ -35,7 +35,7 @@ image_goes_on first numbers (n ∷ later) m all =
     ∙ image_goes_on first (numbers ++ n ∷ []) later m (All-tail (λ k. m < k) n later all)
     ∙ image_pushed (record { first = first; numbers = numbers }) n m (All-head (λ k. m < k) n later all)
 
-whole_is : (kept : KeptRevisions) (from : ℕ) (whole : KeptRevisions) (g : GoesOn kept from whole)
+pub whole_is : (kept : KeptRevisions) (from : ℕ) (whole : KeptRevisions) (g : GoesOn kept from whole)
     → whole ≡ record { first = kept.first; numbers = kept.numbers ++ g.later }
 whole_is kept from whole g = λ i. record { first = g.first_is i; numbers = g.numbers_are i }
 
@@ -147,3 +147,11 @@ pub below_waiting : (kept : KeptRevisions) (w : Waited) (present : ℕ) → AreR
 below_waiting kept w present up =
     let at = up.waits in
     all_weaker (λ n. n < present) (λ n. n < revision_number w.revision) kept.numbers (λ n under. omega (arith, under, at)) up.below
+
+-- no kept revision is above the present one, which a node's own is
+pub up_to_present : (kept : KeptRevisions) (present : Option ℕ) (waiting : Option Waited) → AreKept kept present waiting
+    → All (λ k. k ≤ unwrap_or present 0) (front_kept kept waiting).numbers
+up_to_present kept None waiting (none, free) =
+    subst (λ (k : KeptRevisions). All (λ n. n ≤ 0) k.numbers) (sym (ap (front_kept kept) free ∙ none)) (All-nil (λ n. n ≤ 0))
+up_to_present kept (Some p) waiting up =
+    all_weaker (λ n. n < p + 1) (λ n. n ≤ p) (front_kept kept waiting).numbers (λ n low. omega (arith, low)) (front_rising kept waiting p up).below

@@ -1,10 +1,12 @@
 pub mod BoolLemmas
+pub mod HeaderLemmas
 pub mod LineLemmas
 pub mod PropertyOutput
 pub mod OutputLemmas
 pub mod GroupLemmas
 pub mod KindLemmas
 pub mod KeptLemmas
+pub mod MergeLemmas
 pub mod OwnLemmas
 pub mod NumberLemmas
 pub mod TurnLemmas
@@ -14,4 +16,5 @@ pub mod OnceLemmas
 pub mod StepLemmas
 pub mod FilterLemmas
 pub mod Answered
+pub mod GrowthLaw
 pub mod CopyLemmas

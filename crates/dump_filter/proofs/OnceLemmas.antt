@@ -5,12 +5,14 @@ use Rattle.dump_text.specs.Names.{copy_revision_name}
 use Rattle.dump_text.specs.HeaderLine.{Header, with_header_value}
 use Rattle.dump_text.specs.HeaderBlock.{block_text}
 use Rattle.dump_text.specs.PropertyList.{Property}
-use Rattle.dump_text.proofs.PropertyLemmas.{property_block_once}
+use Rattle.dump_text.proofs.PropertyLemmas.{property-eq, property_block_once}
 use Rattle.dump_records.specs.HeaderRules.{header_number}
 use Rattle.dump_records.specs.RecordText.{DumpRecord}
 use Rattle.dump_rules.specs.Settings.{Settings}
 use Rattle.dump_rules.specs.Renumbering.{KeptRevisions, image}
-use Rattle.dump_digest.specs.RecordParts.{is_revision, is_node}
+use Rattle.dump_rules.specs.Rewriting.{IsNewMergeinfo}
+use Rattle.dump_rules.proofs.OneNewValue.{one_new_value}
+use Rattle.dump_digest.specs.RecordParts.{is_revision, is_node, is_mergeinfo}
 use Rattle.dump_filter.specs.Groups.{Group, group_of, is_padded}
 use Rattle.dump_filter.specs.NewHeaders.{is_copy, becomes_plain, without_copy_headers, IsWrittenCopyNumber, IsNewCopy}
 use Rattle.dump_filter.specs.NewContent.{new_block, AreNewProperties}
@@ -49,16 +51,25 @@ copy_once settings k r g h = by_plain (becomes_plain settings r)
     by_plain true a b = a ∙ sym b
     by_plain false a b = by_copy (is_copy r) a b
 
-new_properties : (settings : Settings) (k : KeptRevisions) (old new : List Property) → AreNewProperties settings k old new → new ≡ old
-new_properties settings k [] [] all = refl
-new_properties settings k [] (q ∷ qs) all = absurd all
-new_properties settings k (p ∷ ps) [] all = absurd all
-new_properties settings k (p ∷ ps) (q ∷ qs) (one, all) = ap₂ (λ (x : Property) (xs : List Property). x ∷ xs) one (new_properties settings k ps qs all)
+properties_once : (settings : Settings) (k : KeptRevisions) (old a b : List Property) → AreNewProperties settings k old a → AreNewProperties settings k old b → a ≡ b
+properties_once settings k [] [] [] x y = refl
+properties_once settings k [] [] (q ∷ b) x y = absurd y
+properties_once settings k [] (p ∷ a) b x y = absurd x
+properties_once settings k (o ∷ old) [] b x y = absurd x
+properties_once settings k (o ∷ old) (p ∷ a) [] x y = absurd y
+properties_once settings k (o ∷ old) (p ∷ a) (q ∷ b) ((name, value), all) ((name', value'), all') =
+    ap₂ (λ (x : Property) (xs : List Property). x ∷ xs) (property-eq p q (name ∙ sym name') (by_case (is_mergeinfo o) value value'))
+    (properties_once settings k old a b all all')
+  where
+    by_case : (c : Bool) → MatchBool c (IsNewMergeinfo settings k o.value p.value) (p.value ≡ o.value)
+        → MatchBool c (IsNewMergeinfo settings k o.value q.value) (q.value ≡ o.value) → p.value ≡ q.value
+    by_case true x y = one_new_value settings k o.value p.value q.value x y
+    by_case false x y = x ∙ sym y
 
 node_once : (settings : Settings) (k : KeptRevisions) (r : DumpRecord) (x y : List ℕ) → IsNodeOutput settings k r x → IsNodeOutput settings k r y → x ≡ y
 node_once settings k r x y (g, old, new, copy, block, props, is) (h, old', new', copy', block', props', is') =
-    let olds : old ≡ old' = property_block_once r.props old old' block block' in
-    let news : new ≡ new' = new_properties settings k old new props ∙ olds ∙ sym (new_properties settings k old' new' props') in
+    let olds : old' ≡ old = property_block_once r.props old' old block' block in
+    let news : new ≡ new' = properties_once settings k old new new' props (subst (λ (l : List Property). AreNewProperties settings k l new') olds props') in
     is ∙ ap₂ (λ (l : List Header) (ps : List Property). whole_text l (new_block false r ps) r.text ++ codes "\n\n") (copy_once settings k r g h copy copy') news ∙ sym is'
 
 revision_once : (settings : Settings) (k : KeptRevisions) (g : Group) (x y : List ℕ) → IsRevisionOutput settings k g x → IsRevisionOutput settings k g y → x ≡ y

@@ -1,6 +1,6 @@
 -- What is written of a record, from its parts.
 use Rattle.std.proofs.Common.{◌≡◌, ℕ, Bool, false, List, ◌++◌, ap, ◌∙◌, subst, append_assoc, codes, Some, None, Result, Ok, Err}
-use Rattle.std.specs.Result.{OnOk}
+use Rattle.std.specs.Result.{OnOk, IfOk}
 use Rattle.dump_text.specs.Number.{spelled_number}
 use Rattle.dump_text.specs.Names.{revision_name}
 use Rattle.dump_text.specs.HeaderLine.{Header, with_header_value}
@@ -20,6 +20,10 @@ use Rattle.dump_filter.proofs.LineLemmas.{revision_lines, node_lines}
 pub on_ok : {T E : Type 0} (r : Result T E) (P Q : Type 0) → (P → Q) → OnOk r P → OnOk r Q
 on_ok (Ok x) P Q f p = f p
 on_ok (Err e) P Q f p = tt
+
+pub if_ok : {T E : Type 0} (r : Result T E) (P Q : T → Type 0) → ((x : T) → P x → Q x) → IfOk r P → IfOk r Q
+if_ok (Ok x) P Q f p = f x p
+if_ok (Err e) P Q f p = tt
 
 -- four chunks, one behind the other
 pub chunks_out : (old lines props text end one two three new : List ℕ) → one ≡ old ++ lines → two ≡ one ++ props → three ≡ two ++ text

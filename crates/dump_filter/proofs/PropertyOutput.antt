@@ -1,11 +1,27 @@
 -- What is written of the properties of a record.
-use Rattle.std.proofs.Common.{◌≡◌, ℕ, ◌<◌, ◌^◌, Bool, true, false, List, [], ◌∷◌, ◌++◌, length, flat_map, refl, sym, ap, ◌∙◌, append_assoc, inr, codes, bytes_eq}
+use Rattle.std.proofs.Common.{◌≡◌, ℕ, ◌<◌, ◌^◌, suc, Bool, true, false, ◌||◌, List, [], ◌∷◌, ◌++◌, length, flat_map, refl, sym, ap, ◌∙◌, subst, arith, append_assoc, inl, inr, codes, bytes_eq, Option, Some, None, option_and_then, option_copied, unwrap_or, is_some, IsTrue}
+use Rattle.std.specs.List.{list_any}
+use denote.Bor.{Bor}
+use Rattle.std.proofs.lemmas.List.{append-nil}
+use Rattle.std.proofs.lemmas.Grind.{flat_map-append}
 use Rattle.std.proofs.lemmas.Slice.Eq.{bytes_eq-Decides}
-use Rattle.dump_text.specs.PropertyList.{Property, IsEntry, IsPropertyBlock, block_end, entry_text, property_block_text, property_value}
-use Rattle.dump_text.proofs.PropertyLemmas.{entry_parts, left_of, property_block_once}
+use Rattle.dump_text.specs.Number.{number_of}
+use Rattle.dump_text.specs.Names.{property_length_name}
+use Rattle.dump_text.specs.HeaderLine.{has_header}
+use Rattle.dump_text.specs.PropertyList.{Property, IsEntry, IsPropertyBlock, HasProperties, block_end, entry_text, property_block_text, property_value}
+use Rattle.dump_text.proofs.PropertyLemmas.{entry_parts, left_of, property_block_once, value_behind, value_here}
 use Rattle.dump_text.proofs.WrittenLemmas.{IsWritten, written_list}
-use Rattle.dump_filter.specs.NewContent.{padding_log, padding_properties}
+use Rattle.dump_records.specs.HeaderRules.{header_number, property_length}
+use Rattle.dump_records.specs.RecordText.{DumpRecord}
+use Rattle.dump_rules.specs.Settings.{Settings}
+use Rattle.dump_rules.specs.Renumbering.{KeptRevisions}
+use Rattle.dump_rules.specs.Mergeinfo.{HasMergeLines}
+use Rattle.dump_rules.specs.Rewriting.{IsNewMergeinfo}
+use Rattle.dump_digest.specs.RecordParts.{mergeinfo_name, is_mergeinfo}
+use Rattle.dump_filter.specs.NewContent.{padding_log, padding_properties, IsNewProperty, AreNewProperties, new_block}
 use Rattle.dump_filter.specs.NewProperties.{property_of, dated_padding}
+use Rattle.dump_filter.specs.MergeFaults.{HasLines}
+use Rattle.dump_filter.proofs.HeaderLemmas.{no_value}
 
 -- the rest of a list is written behind what stands already
 abbrev pub IsLeftOf : List ℕ → List ℕ → List ℕ → Type 0
@@ -47,3 +63,132 @@ padding_is (p ∷ ps) = cases (padding_is ps) (bytes_eq p.name (codes "svn:date"
         → padding_properties (p ∷ ps) ≡ dated_padding (property_value (codes "svn:date") (p ∷ ps))
     cases others true is = rw is (ap (λ n. property_of n p.value ∷ padding_log ∷ []) ((bytes_eq-Decides p.name (codes "svn:date")).0 is))
     cases others false is = rw is others
+
+-- the new property of one that isn't mergeinfo, and of one that is
+pub unchanged : (settings : Settings) (kept : KeptRevisions) (p : Property) → is_mergeinfo p ≡ false → IsNewProperty settings kept p p
+unchanged settings kept p other = (refl, rw other refl)
+
+pub with_new_value : (settings : Settings) (kept : KeptRevisions) (p : Property) (value : List ℕ) → is_mergeinfo p ≡ true → IsNewMergeinfo settings kept p.value value
+    → IsNewProperty settings kept p (property_of p.name value)
+with_new_value settings kept p value merge is = (refl, rw merge is)
+
+-- no property of the list is mergeinfo, so it is its own new list
+pub no_mergeinfo : (settings : Settings) (kept : KeptRevisions) (ps : List Property) → property_value mergeinfo_name ps ≡ None → AreNewProperties settings kept ps ps
+no_mergeinfo settings kept [] none = tt
+no_mergeinfo settings kept (p ∷ ps) none = by_case (bytes_eq p.name mergeinfo_name) refl (no_mergeinfo settings kept ps)
+  where
+    by_case : (b : Bool) → bytes_eq p.name mergeinfo_name ≡ b → (property_value mergeinfo_name ps ≡ None → AreNewProperties settings kept ps ps)
+        → AreNewProperties settings kept (p ∷ ps) (p ∷ ps)
+    by_case true is more = let bad : Some p.value ≡ None = sym (value_here mergeinfo_name p ps is) ∙ none in cc
+    by_case false is more = ((refl, rw is refl), more (sym (value_behind mergeinfo_name p ps is) ∙ none))
+
+-- the properties up to the rest of a block, with new values, are written behind what stands already
+abbrev pub AreRewritten : Settings → KeptRevisions → List ℕ → List ℕ → List ℕ → Type 0
+AreRewritten settings kept block out rest = (ps : List Property) → IsPropertyBlock block ps
+    → (qs done new : List Property) × IsPropertyBlock rest qs × (ps ≡ done ++ qs) × AreNewProperties settings kept done new
+    × (out ≡ flat_map entry_text new)
+
+pub none_rewritten : (settings : Settings) (kept : KeptRevisions) (block out rest : List ℕ) → out ≡ [] → rest ≡ block → AreRewritten settings kept block out rest
+none_rewritten settings kept block out rest empty same = λ ps is.
+    (ps, [], [], subst (λ (t : List ℕ). IsPropertyBlock t ps) (sym same) is, refl, tt, empty)
+
+one_more : (settings : Settings) (kept : KeptRevisions) (ps qs : List Property) (p q : Property) → AreNewProperties settings kept ps qs → IsNewProperty settings kept p q
+    → AreNewProperties settings kept (ps ++ p ∷ []) (qs ++ q ∷ [])
+one_more settings kept [] [] p q all one = (one, tt)
+one_more settings kept [] (y ∷ qs) p q all one = absurd all
+one_more settings kept (x ∷ ps) [] p q all one = absurd all
+one_more settings kept (x ∷ ps) (y ∷ qs) p q all one = (all.0, one_more settings kept ps qs p q all.1 one)
+
+pub next_rewritten : (settings : Settings) (kept : KeptRevisions) (block out text rest after : List ℕ) (p : Property) (front : List ℕ) → AreRewritten settings kept block out text
+    → text ≡ front ++ rest → IsEntry front p → (q : Property) → IsNewProperty settings kept p q → after ≡ out ++ entry_text q
+    → AreRewritten settings kept block after rest
+next_rewritten settings kept block out text rest after p front before cut one q is_new after_is = λ ps is.
+    let (qs, done, new, here, list, all, written) = before ps is in
+    let left = left_of text p rest qs (entry_parts text front rest p cut one) here in (
+      left.others,
+      done ++ p ∷ [],
+      new ++ q ∷ [],
+      inr left.entries,
+      list ∙ ap (λ (l : List Property). done ++ l) left.list ∙ sym (append_assoc done (p ∷ []) left.others),
+      one_more settings kept done new p q all is_new,
+      after_is ∙ ap (λ t. t ++ entry_text q) written ∙ ap (λ t. flat_map entry_text new ++ t) (sym (append-nil (entry_text q)))
+          ∙ sym (flat_map-append entry_text new (q ∷ [])),
+    )
+
+pub all_rewritten : (settings : Settings) (kept : KeptRevisions) (block out rest after : List ℕ) → AreRewritten settings kept block out rest → IsPropertyBlock rest []
+    → after ≡ out ++ block_end → (ps : List Property) → IsPropertyBlock block ps
+    → (new : List Property) × AreNewProperties settings kept ps new × (after ≡ property_block_text new)
+all_rewritten settings kept block out rest after before end after_is = λ ps is.
+    let (qs, done, new, here, list, all, written) = before ps is in
+    let none : qs ≡ [] = property_block_once rest qs [] here end in
+    let same : ps ≡ done = list ∙ ap (λ (l : List Property). done ++ l) none ∙ append-nil done in
+    (new, subst (λ (l : List Property). AreNewProperties settings kept l new) (sym same) all, after_is ∙ ap (λ t. t ++ block_end) written)
+
+-- the mergeinfo of what is left of a block is some lines
+pub left_lines : (block rest front : List ℕ) (p : Property) → HasLines block → block ≡ front ++ rest → IsEntry front p → HasLines rest
+left_lines block rest front p lines cut one ps is q (i, within, at) = elim is [
+  | inl (none, empty) ↦ absurd (let size : length ps ≡ 0 = ap length empty in omega arith)
+  | inr more ↦ lines (p ∷ ps) (inr (front, rest, cut, one, more)) q (suc i, omega arith, at)
+]
+
+pub entry_lines : (block rest front : List ℕ) (p : Property) → HasLines block → HasProperties block → block ≡ front ++ rest → IsEntry front p → IsTrue (is_mergeinfo p)
+    → ¬ ¬ HasMergeLines p.value
+entry_lines block rest front p lines (ps, is) cut one merge =
+    let left = left_of block p rest ps (entry_parts block front rest p cut one) is in
+    lines (p ∷ left.others) (inr (front, rest, cut, one, left.entries)) p (0, omega arith, refl) merge
+
+-- a value that isn't there
+pub none_copied : {T : Type 0} (found : Option (Bor T)) → is_some found ≡ false → option_copied found ≡ None
+none_copied None none = refl
+none_copied (Some x) none = absurd (some_false none)
+  where
+    some_false : true ≡ false → ⊥
+    some_false bad = cc
+
+-- the block of a record with a length for its properties, and without
+pub block_with : (r : DumpRecord) (ps : List Property) → has_header property_length_name r.headers ≡ true → property_block_text ps ≡ new_block false r ps
+block_with r ps has = rw has refl
+
+pub block_without : (r : DumpRecord) (ps : List Property) → has_header property_length_name r.headers ≡ false → [] ≡ new_block false r ps
+block_without r ps none = rw none refl
+
+-- a node without a length for its properties has none
+pub no_block : (settings : Settings) (kept : KeptRevisions) (r : DumpRecord) → has_header property_length_name r.headers ≡ false → length r.props ≡ property_length r.headers
+    → (ps : List Property) → IsPropertyBlock r.props ps → AreNewProperties settings kept ps []
+no_block settings kept r none size ps is =
+    let number : header_number property_length_name r.headers ≡ None = ap (option_and_then number_of) (no_value property_length_name r.headers none) in
+    let empty : r.props ≡ [] = no_bytes r.props (size ∙ ap (λ (n : Option ℕ). unwrap_or n 0) number) in
+    let same : ps ≡ [] = property_block_once [] ps [] (subst (λ (t : List ℕ). IsPropertyBlock t ps) empty is) (inl (refl, refl)) in
+    subst (λ (l : List Property). AreNewProperties settings kept l []) (sym same) tt
+  where
+    no_bytes : (bytes : List ℕ) → length bytes ≡ 0 → bytes ≡ []
+    no_bytes [] e = refl
+    no_bytes (b ∷ bytes) e = absurd (omega arith)
+
+-- a test passes some property of a block where it passes one that is left
+abbrev pub IsAnyLeft : (Property → Bool) → List ℕ → List ℕ → Type 0
+IsAnyLeft passes block rest = (ps : List Property) → IsPropertyBlock block ps
+    → (qs : List Property) × IsPropertyBlock rest qs × (list_any passes ps ≡ list_any passes qs)
+
+pub any_start : (passes : Property → Bool) (block : List ℕ) → IsAnyLeft passes block block
+any_start passes block ps is = (ps, is, refl)
+
+pub any_next : (passes : Property → Bool) (block text rest front : List ℕ) (p : Property) → IsAnyLeft passes block text → text ≡ front ++ rest → IsEntry front p
+    → passes p ≡ false → IsAnyLeft passes block rest
+any_next passes block text rest front p before cut one misses ps is =
+    let (qs, here, same) = before ps is in
+    let left = left_of text p rest qs (entry_parts text front rest p cut one) here in
+    (left.others, inr left.entries, same ∙ ap (list_any passes) left.list ∙ ap (λ b. b || list_any passes left.others) misses)
+
+pub any_here : (passes : Property → Bool) (block text rest front : List ℕ) (p : Property) → IsAnyLeft passes block text → text ≡ front ++ rest → IsEntry front p
+    → passes p ≡ true → (ps : List Property) → IsPropertyBlock block ps → true ≡ list_any passes ps
+any_here passes block text rest front p before cut one so ps is =
+    let (qs, here, same) = before ps is in
+    let left = left_of text p rest qs (entry_parts text front rest p cut one) here in
+    sym (same ∙ ap (list_any passes) left.list ∙ ap (λ b. b || list_any passes left.others) so)
+
+pub any_end : (passes : Property → Bool) (block rest : List ℕ) → IsAnyLeft passes block rest → IsPropertyBlock rest []
+    → (ps : List Property) → IsPropertyBlock block ps → false ≡ list_any passes ps
+any_end passes block rest before end ps is =
+    let (qs, here, same) = before ps is in
+    sym (same ∙ ap (list_any passes) (property_block_once rest qs [] here end))

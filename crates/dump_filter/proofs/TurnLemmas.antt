@@ -25,6 +25,7 @@ use Rattle.dump_filter.specs.Shape.Shape.{Fresh, Idle, Passed, Waits}
 use Rattle.dump_filter.proofs.BoolLemmas.{false_true}
 use Rattle.dump_filter.proofs.GroupLemmas.{plain_more, any_more, plain_other, passed_more, passed_end, waits_more, waits_on, waits_kept, waits_dropped, idle_end, revision_more, other_more, OwnOutput, unpadded}
 use Rattle.dump_filter.proofs.KeptLemmas.{lowered, front_reopened, end_reopened, front_rising, end_rising, next_rising, first_rising, below_waiting}
+use Rattle.dump_filter.proofs.MergeLemmas.{IsForeign}
 use Rattle.dump_filter.proofs.OwnLemmas.{revision_out, pads_is, node_out}
 use Rattle.dump_filter.proofs.NumberLemmas.{present_other, present_group, first_other, first_stays, first_begins, kept_group, kept_other, group_counts, other_counts, passed_keeps}
 
@@ -185,12 +186,13 @@ module _ (settings : Settings) (r : DumpRecord) (plain : is_plain r ≡ true) (p
       → IsText settings before (Some present) (kept_of first numbers) waiting text
       → HasProperties r.props → IsNewCopy settings (front_kept (kept_of first numbers) waiting) r (copied_headers copy r.headers)
       → ¬ HasNoSource settings (front_kept (kept_of first numbers) waiting) (Some present) r
-      → IsFrontText settings (kept_of first numbers) waiting front → IsOwnNode r copy own
+      → ¬ IsForeign settings (front_kept (kept_of first numbers) waiting) present r
+      → IsFrontText settings (kept_of first numbers) waiting front → IsOwnNode settings (front_kept (kept_of first numbers) waiting) r copy own
       → Stands settings (before ++ r ∷ []) (Some present) (front_kept (kept_of first numbers) waiting) None dropped (text ++ (front ++ own))
-  kept_turn before waiting numbers dropped copy front own Fresh keep ends is first_is up readable written props new good at_front at_own = absurd (false_true ends)
-  kept_turn before waiting numbers dropped copy front own (Idle closed y other no_rev) keep ends is first_is up readable written props new good at_front at_own =
+  kept_turn before waiting numbers dropped copy front own Fresh keep ends is first_is up readable written props new good known at_front at_own = absurd (false_true ends)
+  kept_turn before waiting numbers dropped copy front own (Idle closed y other no_rev) keep ends is first_is up readable written props new good known at_front at_own =
       absurd (no_follower y other no_rev (ap ends_in_group (sym (last_is None closed y)) ∙ ends))
-  kept_turn before waiting numbers dropped copy front own (Passed closed y ns other rev all some) keep ends is first_is up readable written props new good at_front at_own =
+  kept_turn before waiting numbers dropped copy front own (Passed closed y ns other rev all some) keep ends is first_is up readable written props new good known at_front at_own =
       let more : list_any (is_kept_node settings) (ns ++ r ∷ []) ≡ true = any_more settings ns r ∙ ap (λ b. b || is_kept_node settings r) some in
       record {
         present_is = is ∙ sym (present_other (closed ++ y ∷ ns) r (plain_other r plain));
@@ -199,12 +201,12 @@ module _ (settings : Settings) (r : DumpRecord) (plain : is_plain r ≡ true) (p
         numbers = up;
         written = λ whole may.
             let mine : OwnOutput settings whole r own = subst (λ (b : Bool). MatchBool b (IsNodeOutput settings whole r own) (own ≡ [])) (sym keep)
-            (node_out settings (kept_of first numbers) whole present r copy own may good props new at_own) in
+            (node_out settings (kept_of first numbers) whole present r copy own may keep good known props new at_own) in
             subst (λ (l : List DumpRecord). AreOutputs settings false whole l (text ++ (front ++ own))) (more_is closed ns y)
             (subst (AreOutputs settings false whole (closed ++ y ∷ (ns ++ r ∷ []))) (ap (λ f. text ++ (f ++ own)) (sym at_front))
             (passed_more settings whole closed ns y text other rev all (written whole may) r own plain some mine));
       }
-  kept_turn before waiting numbers dropped copy front own (Waits closed y ns other rev all none) keep ends is first_is up readable written props new good at_front at_own =
+  kept_turn before waiting numbers dropped copy front own (Waits closed y ns other rev all none) keep ends is first_is up readable written props new good known at_front at_own =
       let w : Waited = record { revision = y; bare = length ns == 0 } in
       let more : list_any (is_kept_node settings) (ns ++ r ∷ []) ≡ true = any_more settings ns r ∙ ap (λ b. b || is_kept_node settings r) none ∙ keep in
       record {
@@ -219,7 +221,7 @@ module _ (settings : Settings) (r : DumpRecord) (plain : is_plain r ≡ true) (p
             (waits_more settings whole closed ns y text other rev all (written whole g) r front own plain none keep
             (revision_out settings (kept_of first numbers) present whole y (ns ++ r ∷ []) false front g (omega (arith, at)) (below_waiting (kept_of first numbers) w present up) readable
             (unpadded settings whole y (ns ++ r ∷ []) more) at_front)
-            (node_out settings (with_kept (kept_of first numbers) y) whole present r copy own may good props new at_own));
+            (node_out settings (with_kept (kept_of first numbers) y) whole present r copy own may keep good known props new at_own));
       }
 
   pub dropped_turn : (before : List DumpRecord) (waiting : Option Waited) (numbers : List ℕ) (dropped : ℕ)

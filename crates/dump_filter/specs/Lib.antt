@@ -5,10 +5,12 @@ pub mod NewLines
 pub mod NewProperties
 pub mod RecordOutput
 pub mod OwnText
+pub mod MergeFaults
 pub mod Turns
 pub mod Written
 pub mod RecordFaults
 pub mod Counts
 pub mod FilterState
 pub mod WholeText
+pub mod FilterLaws
 pub mod Shape

@@ -7,7 +7,7 @@ use Rattle.dump_records.specs.RecordViews.{record_dump, record_number, record_it
 use Rattle.dump_records.specs.DumpText.{BeginsWithRecords}
 use Rattle.dump_rules.specs.Settings.{Settings}
 use Rattle.dump_rules.specs.Renumbering.{KeptRevisions, RiseFrom}
-use Rattle.dump_digest.specs.RecordParts.{is_revision, is_node, is_kept_node}
+use Rattle.dump_digest.specs.RecordParts.{is_revision, is_node, is_kept_node, is_checked_text}
 use Rattle.dump_filter.specs.declared.report.Report.{Report}
 use Rattle.dump_filter.specs.Groups.{groups, keeps_group, revision_number, present_revision, kept_revisions}
 use Rattle.dump_filter.specs.RecordFaults.{AreFaultFree}
@@ -99,4 +99,4 @@ pub record Knows (settings : Settings) (last : Option Record) (present : Option 
   pub room : report.revisions_kept + report.revisions_dropped + waiting_count waiting ≤ length before
   pub kept_is : report.nodes_kept ≡ count_by (is_kept_node settings) before
   pub dropped_is : report.nodes_dropped ≡ count_by (λ r. is_node r && not (is_kept_node settings r)) before
-  pub texts_is : report.texts_checked ≡ 0
+  pub texts_is : report.texts_checked ≡ count_by (is_checked_text settings) before

@@ -1,7 +1,7 @@
 -- What one record does to a filter: what it writes, what waits behind it, which revisions are kept, and what it counts.
 use Rattle.std.specs.Prelude.{◌≡◌, ◌⊎◌, ℕ, ◌+◌, ◌<◌, ◌==◌, Bool, true, false, not, ◌&&◌, ◌||◌, List, [], ◌∷◌, ◌++◌, length, Option, Some, None, option_map, unwrap_or, nat_lt, Result, Ok, Err, if◌then◌else◌, IsTrue, MatchBool}
 use Rattle.dump_text.specs.declared.fault.FaultKind.{FaultKind}
-use Rattle.dump_text.specs.declared.fault.FaultKind.TheVariants.{Order, Props, CopySource, CopyRevision}
+use Rattle.dump_text.specs.declared.fault.FaultKind.TheVariants.{Order, Props, Md5, Sha1, CopySource, CopyRevision}
 use Rattle.dump_text.specs.Names.{copy_revision_name}
 use Rattle.dump_text.specs.HeaderBlock.{block_text}
 use Rattle.dump_text.specs.PropertyList.{Property, IsPropertyBlock}
@@ -11,8 +11,11 @@ use Rattle.dump_records.specs.RecordViews.{record_item, part_of_node}
 use Rattle.dump_rules.specs.Settings.{Settings}
 use Rattle.dump_rules.specs.Renumbering.{KeptRevisions, image}
 use Rattle.dump_digest.specs.RecordParts.{is_revision, is_node, is_kept_node}
+use Rattle.dump_digest.specs.declared.verdict.Verdict.{Verdict}
 use Rattle.dump_filter.specs.Groups.{keeps_empty, is_pad, revision_number}
 use Rattle.dump_filter.specs.NewHeaders.{has_lost_source, is_whole_file, stays_copy}
+use Rattle.dump_filter.specs.NewContent.{AreNewProperties}
+use Rattle.dump_filter.specs.MergeFaults.{merge_fault}
 use Rattle.dump_filter.specs.RecordFaults.{ends_in_group}
 use Rattle.dump_filter.specs.OwnText.{revision_own, node_own}
 use Rattle.dump_filter.specs.declared.copies.NewCopy.{NewCopy}
@@ -53,9 +56,10 @@ abbrev pub IsOwnRevision : Settings → KeptRevisions → DumpRecord → Bool �
 IsOwnRevision settings kept r padded text = (ps : List Property) → IsPropertyBlock r.props ps
     → text ≡ revision_own r (next_number settings kept r) padded ps
 
--- the text is a node, of whatever properties it has
-abbrev pub IsOwnNode : DumpRecord → NewCopy → List ℕ → Type 0
-IsOwnNode r copy text = (ps : List Property) → IsPropertyBlock r.props ps → text ≡ node_own r copy ps
+-- the text is a node with new values of mergeinfo, of whatever properties it has
+abbrev pub IsOwnNode : Settings → KeptRevisions → DumpRecord → NewCopy → List ℕ → Type 0
+IsOwnNode settings kept r copy text = (ps : List Property) → IsPropertyBlock r.props ps
+    → (new : List Property) × AreNewProperties settings kept ps new × (text ≡ node_own r copy new)
 
 -- what is written where a group ends while its revision waits
 abbrev pub IsEndText : Settings → KeptRevisions → Option Waited → List ℕ → Type 0
@@ -68,10 +72,31 @@ abbrev pub IsFrontText : Settings → KeptRevisions → Option Waited → List �
 IsFrontText settings kept None text = text ≡ []
 IsFrontText settings kept (Some w) text = IsOwnRevision settings kept w.revision false text
 
+-- one more kept revision
+abbrev pub with_kept : KeptRevisions → DumpRecord → KeptRevisions
+with_kept kept r = record kept { numbers = kept.numbers ++ revision_number r ∷ [] }
+
+-- the kept revisions where a waiting one is kept for its node
+abbrev pub front_kept : KeptRevisions → Option Waited → KeptRevisions
+front_kept kept None = kept
+front_kept kept (Some w) = with_kept kept w.revision
+
+-- what is written of a waiting revision where a record of this role comes next
+abbrev pub IsOpening : Settings → KeptRevisions → Option Waited → Role → List ℕ → Type 0
+IsOpening settings kept waiting KeptNode text = IsFrontText settings kept waiting text
+IsOpening settings kept waiting DroppedNode text = text ≡ []
+IsOpening settings kept waiting _ text = IsEndText settings kept waiting text
+
+-- what is written of the record itself at once; a revision waits
+abbrev pub IsOwnText : Settings → KeptRevisions → DumpRecord → NewCopy → Role → List ℕ → Type 0
+IsOwnText settings kept r copy KeptNode text = IsOwnNode settings kept r copy text
+IsOwnText settings kept r copy Other text = text ≡ block_text r.headers
+IsOwnText settings kept r copy _ text = text ≡ []
+
 -- what is written where this record comes next
 abbrev pub IsTurnText : Settings → KeptRevisions → Option Waited → DumpRecord → NewCopy → Role → List ℕ → Type 0
 IsTurnText settings kept waiting r copy KeptNode text = (front own : List ℕ) × (text ≡ front ++ own)
-    × IsFrontText settings kept waiting front × IsOwnNode r copy own
+    × IsFrontText settings kept waiting front × IsOwnNode settings (front_kept kept waiting) r copy own
 IsTurnText settings kept waiting r copy DroppedNode text = text ≡ []
 IsTurnText settings kept waiting r copy Revision text = IsEndText settings kept waiting text
 IsTurnText settings kept waiting r copy Other text = (front : List ℕ) × (text ≡ front ++ block_text r.headers)
@@ -92,15 +117,6 @@ next_waiting waiting r Other = None
 abbrev pub next_present : Option ℕ → DumpRecord → Role → Option ℕ
 next_present present r Revision = Some (revision_number r)
 next_present present r _ = present
-
--- one more kept revision
-abbrev pub with_kept : KeptRevisions → DumpRecord → KeptRevisions
-with_kept kept r = record kept { numbers = kept.numbers ++ revision_number r ∷ [] }
-
--- the kept revisions where a waiting one is kept for its node
-abbrev pub front_kept : KeptRevisions → Option Waited → KeptRevisions
-front_kept kept None = kept
-front_kept kept (Some w) = with_kept kept w.revision
 
 -- the kept revisions where a group ends
 abbrev pub end_kept : Settings → KeptRevisions → Option Waited → KeptRevisions
@@ -131,12 +147,20 @@ abbrev pub front_report : Option Waited → Report → Report
 front_report None report = report
 front_report (Some w) report = record report { revisions_kept = report.revisions_kept + 1 }
 
--- the counts behind the record
-abbrev pub next_report : Settings → Option Waited → Report → Role → Report
-next_report settings waiting report KeptNode =
+-- the counts with one more text, if one was checked
+abbrev pub text_report : Bool → Report → Report
+text_report checked report = if checked then record report { texts_checked = report.texts_checked + 1 } else report
+
+-- the counts behind a record of this role
+abbrev pub role_report : Settings → Option Waited → Report → Role → Report
+role_report settings waiting report KeptNode =
     let counted = front_report waiting report in record counted { nodes_kept = counted.nodes_kept + 1 }
-next_report settings waiting report DroppedNode = record report { nodes_dropped = report.nodes_dropped + 1 }
-next_report settings waiting report _ = end_report settings waiting report
+role_report settings waiting report DroppedNode = record report { nodes_dropped = report.nodes_dropped + 1 }
+role_report settings waiting report _ = end_report settings waiting report
+
+-- the counts behind the record, whose text was checked or not
+abbrev pub next_report : Settings → Option Waited → Report → Role → Bool → Report
+next_report settings waiting report role checked = text_report checked (role_report settings waiting report role)
 
 -- whether a revision of this number may follow the present one
 abbrev pub rises : Option ℕ → ℕ → Bool
@@ -178,13 +202,34 @@ copy_of settings kept present r =
     if has_lost_source settings r then (if is_whole_file r then Ok Plain else Err CopySource)
     else source_of settings kept present (part_of_node r (header_number copy_revision_name r.headers))
 
--- the same for a record of any role: only a kept node's copy source is looked at
-abbrev pub role_copy : Settings → KeptRevisions → Option Waited → Option ℕ → DumpRecord → Role → Result NewCopy FaultKind
-role_copy settings kept waiting present r KeptNode = copy_of settings (front_kept kept waiting) present r
-role_copy settings kept waiting present r _ = Ok Same
+-- a new copy source, where there is no other fault
+abbrev pub unless : Option FaultKind → NewCopy → Result NewCopy FaultKind
+unless None copy = Ok copy
+unless (Some fault) copy = Err fault
 
--- the fault of the record that comes next, or its new copy source; its properties are ok or not
-abbrev pub judged : Settings → KeptRevisions → Option Waited → Option DumpRecord → Option ℕ → DumpRecord → Role → Bool → Result NewCopy FaultKind
-judged settings kept waiting last present r role props_ok =
-    if is_in_order last present r role then (if props_ok then role_copy settings kept waiting present r role else Err Props)
+-- the new copy source of a kept node, or the fault of it or of the node's mergeinfo
+abbrev pub with_fault : Result NewCopy FaultKind → Option FaultKind → Result NewCopy FaultKind
+with_fault (Ok copy) fault = unless fault copy
+with_fault (Err fault) other = Err fault
+
+-- the same for a record of any role: only of a kept node they are asked
+abbrev pub role_judged : Settings → KeptRevisions → Option Waited → Option ℕ → DumpRecord → Role → Bool → List Property → Result NewCopy FaultKind
+role_judged settings kept waiting present r KeptNode merge_ok ps =
+    with_fault (copy_of settings (front_kept kept waiting) present r) (merge_fault settings kept.first (unwrap_or present 0) merge_ok ps)
+role_judged settings kept waiting present r _ merge_ok ps = Ok Same
+
+-- the fault of the record that comes next, with this verdict and these properties, or its new copy source
+abbrev pub judged : Settings → KeptRevisions → Option Waited → Option DumpRecord → Option ℕ → DumpRecord → Role → Verdict → List Property → Result NewCopy FaultKind
+judged settings kept waiting last present r role v ps =
+    if is_in_order last present r role then
+    (if v.props_ok then
+    (if v.md5_ok then
+    (if v.sha1_ok then role_judged settings kept waiting present r role v.merge_ok ps
+    else Err Sha1)
+    else Err Md5)
+    else Err Props)
     else Err Order
+
+-- the properties are those of the record, where they are asked
+abbrev pub AreAsked : DumpRecord → Role → Verdict → List Property → Type 0
+AreAsked r role v ps = role ≡ KeptNode → v.props_ok ≡ true → IsPropertyBlock r.props ps

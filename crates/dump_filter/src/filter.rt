@@ -1,8 +1,8 @@
 //! The filter: it takes the records of a dump one after another, and gives what is written of each.
+use crate::counts::{report_at_end, report_behind};
+use crate::judge::judge;
 use crate::report::Report;
-use crate::turn::{
-    Held, advance, end_piece, find_role, judge, report_at_end, report_behind, turn_piece,
-};
+use crate::turn::{Held, end_piece, find_role, turn};
 use dump_digest::Done;
 use dump_rules::{Options, Reach};
 use dump_text::FaultKind;
@@ -114,20 +114,18 @@ impl<'o, 'a> Filter<'o, 'a> {
         }
         let record = done.item();
         let role = find_role(self.options, &record);
-        let props_ok = done.verdict().props_ok;
-        let copy = match judge(self.options, &self.held, &record, role, props_ok) {
+        let verdict = done.verdict();
+        let copy = match judge(self.options, &self.held, &record, role, verdict) {
             Ok(copy) => copy,
             Err(kind) => {
                 self.active = false;
                 return Err(StepFault::Rule(kind));
             }
         };
-        let Ok(piece) = turn_piece(alloc, self.options, &self.held, &record, copy, role) else {
-            self.active = false;
-            return Err(StepFault::Memory);
-        };
-        let report = report_behind(self.options, &self.held.waiting, self.report, role);
-        let Ok(()) = advance(&mut self.held, alloc, self.options, record, role) else {
+        let checked = verdict.checked;
+        let waiting = &self.held.waiting;
+        let report = report_behind(self.options, waiting, self.report, role, checked);
+        let Ok(piece) = turn(&mut self.held, alloc, self.options, record, copy, role) else {
             self.active = false;
             return Err(StepFault::Memory);
         };

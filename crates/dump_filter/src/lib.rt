@@ -14,12 +14,15 @@
 //! let (piece, report) = filter.finish(alloc)?;
 //! ```
 //!
-//! A piece lends bytes of the dump where they stay as they stand; only what is new is made. Mergeinfo
-//! and digests have no meaning here yet: the first is passed on as it stands, the second isn't asked.
+//! A piece lends bytes of the dump where they stay as they stand; only what is new is made.
 #![tactic(auto)]
 
 mod copies;
+mod counts;
 mod filter;
+mod judge;
+pub mod laws;
+mod mergeinfo;
 mod new_lines;
 mod output;
 mod props;

@@ -1,17 +1,19 @@
 //! What is written of a record, as chunks of a piece.
-ghost use Rattle.std.specs.Prelude.{◌≡◌, ℕ, ◌++◌, List, OnOk};
+ghost use Rattle.std.specs.Prelude.{◌≡◌, ℕ, ◌++◌, ◌≤◌, All, List, OnOk};
 ghost use Rattle.dump_text.specs.HeaderBlock.{block_text};
 ghost use Rattle.dump_text.specs.PropertyList.{Property, IsPropertyBlock};
 ghost use Rattle.dump_writer.specs.ChunkBytes.{chunk_bytes};
 ghost use Rattle.dump_records.specs.RecordViews.{record_item};
 ghost use Rattle.dump_filter.specs.OwnText.{revision_own};
 ghost use Rattle.dump_filter.specs.NewLines.{AreLengths, new_record};
+ghost use Rattle.dump_filter.specs.MergeFaults.{HasLines};
 ghost use Rattle.dump_filter.specs.Turns.{IsOwnNode};
 
 use crate::copies::NewCopy;
 use crate::new_lines::{Changes, new_lines};
-use crate::props::new_properties;
+use crate::props::{node_properties, revision_properties};
 use dump_records::Record;
+use dump_rules::{Options, Reach};
 use dump_writer::{Chunk, Memory, Piece};
 use std::alloc::Global;
 
@@ -73,21 +75,27 @@ pub(crate) fn push_revision<'a>(
     ensures { OnOk result ((ps : List Property) → IsPropertyBlock (record_item item.now).props ps
         → piece.new ≡ piece.old ++ revision_own (record_item item.now) number padded ps) }
 {
-    let props = new_properties(alloc, item, padded)?;
+    let props = revision_properties(alloc, item, padded)?;
     let changes = changes_of(&props, item.text_bytes(), Some(number), NewCopy::Same);
     push_record(piece, alloc, item, &changes, props, b"\n")
 }
 
-/// Adds a node with its new copy source.
+/// Adds a node with its new copy source and new values of mergeinfo, where these revisions are kept, up to the present
+/// one.
 pub(crate) fn push_node<'a>(
     piece: &mut Piece<'a>,
     alloc: Global,
+    options: &Options,
+    kept: &Reach,
+    present: u64,
     item: &Record<'a>,
     copy: NewCopy,
 ) -> Result<(), Memory>
-    ensures { OnOk result ((own : List ℕ) × (piece.new ≡ piece.old ++ own) × IsOwnNode (record_item item.now) copy own) }
+    requires present { All (λ k. k ≤ present) kept.now.numbers }
+    requires merged { HasLines (record_item item.now).props }
+    ensures { OnOk result ((own : List ℕ) × (piece.new ≡ piece.old ++ own) × IsOwnNode options.now kept.now (record_item item.now) copy own) }
 {
-    let props = new_properties(alloc, item, false)?;
+    let props = node_properties(alloc, options, kept, present, item)?;
     let changes = changes_of(&props, item.text_bytes(), None, copy);
     push_record(piece, alloc, item, &changes, props, b"\n\n")
 }

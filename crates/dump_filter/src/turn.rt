@@ -1,18 +1,16 @@
-//! What one record does: what it writes, what waits behind it, which revisions are kept, and what it counts.
-ghost use Rattle.std.specs.Prelude.{◌≡◌, ℕ, ◌<◌, ◌+◌, ◌^◌, ◌++◌, List, Some, length, IfOk, IfSome, OnOk, OnErr, option_map};
+//! What one record does: what it writes, what waits behind it, and which revisions are kept.
+ghost use Rattle.std.specs.Prelude.{◌≡◌, ℕ, ◌<◌, ◌≤◌, ◌+◌, ◌^◌, ◌++◌, All, List, Some, length, unwrap_or, IfOk, OnOk, OnErr, option_map};
 ghost use Rattle.dump_records.specs.RecordViews.{record_item};
 ghost use Rattle.dump_filter.specs.Groups.{keeps_empty, revision_number};
-ghost use Rattle.dump_filter.specs.RecordFaults.{ends_in_group};
-ghost use Rattle.dump_filter.specs.Turns.{waited, role_of, stays, pads, next_number, IsOwnRevision, IsOwnNode, IsEndText, IsFrontText, IsTurnText, next_waiting, next_present, with_kept, front_kept, end_kept, next_kept, end_report, next_report, is_in_order, judged};
+ghost use Rattle.dump_filter.specs.Turns.{waited, role_of, stays, pads, next_number, IsOwnRevision, IsEndText, IsFrontText, IsOpening, IsOwnText, IsTurnText, next_waiting, next_present, with_kept, front_kept, end_kept, next_kept};
+ghost use Rattle.dump_filter.specs.MergeFaults.{HasLines};
 ghost use Rattle.dump_filter.specs.Shape.{AreKept};
 
-use crate::copies::{NewCopy, find_copy};
+use crate::copies::NewCopy;
 use crate::output::{push_lines, push_node, push_revision};
-use crate::report::Report;
 use dump_digest::is_kept;
 use dump_records::{Record, RecordKind};
 use dump_rules::{Empty, Options, Reach};
-use dump_text::FaultKind;
 use dump_writer::{Memory, Piece};
 use std::alloc::Global;
 
@@ -78,37 +76,8 @@ pub(crate) fn find_role(options: &Options, item: &Record<'_>) -> Role
     }
 }
 
-/// Whether a node may follow the record.
-fn leads_node(last: &Option<Record<'_>>) -> bool
-    ensures { result ≡ ends_in_group (option_map record_item last.now) }
-{
-    match last {
-        Some(last) => matches!(last.kind(), RecordKind::Revision | RecordKind::Node),
-        None => false,
-    }
-}
-
-/// Whether the record may come next.
-pub(crate) fn in_order(
-    last: &Option<Record<'_>>,
-    present: Option<u64>,
-    item: &Record<'_>,
-    role: Role,
-) -> bool
-    ensures { result ≡ is_in_order (option_map record_item last.now) present (record_item item.now) role }
-{
-    match role {
-        Role::KeptNode | Role::DroppedNode => leads_node(last),
-        Role::Revision => match present {
-            Some(present) => present < number_of_revision(item),
-            None => true,
-        },
-        Role::Other => true,
-    }
-}
-
 /// Whether the options keep a waiting revision whose group ends.
-fn is_kept_at_end(options: &Options, waiting: &Waiting<'_>) -> bool
+pub(crate) fn is_kept_at_end(options: &Options, waiting: &Waiting<'_>) -> bool
     ensures { result ≡ stays options.now (waited waiting.now) }
 {
     number_of_revision(&waiting.revision) == 0 || keeps_when_empty(options.empty(), waiting.bare)
@@ -204,48 +173,45 @@ fn front_piece<'a>(
     }
 }
 
-/// What is written of a kept node, behind its revision where that waited.
-fn node_piece<'a>(
+/// What is written of a waiting revision where the record comes next.
+fn opening<'a>(
     alloc: Global,
     options: &Options,
-    kept: &Reach,
-    present: Option<u64>,
-    waiting: &Option<Waiting<'a>>,
-    item: &Record<'a>,
-    copy: NewCopy,
+    held: &Held<'a>,
+    role: Role,
 ) -> Result<Piece<'a>, Memory>
-    requires { AreKept kept.now present (option_map waited waiting.now) }
-    ensures { IfOk result (λ piece. (front own : List ℕ) × (piece ≡ front ++ own)
-        × IsFrontText options.now kept.now (option_map waited waiting.now) front
-        × IsOwnNode (record_item item.now) copy own) }
+    requires { AreKept held.now.kept held.now.present (option_map waited held.now.waiting) }
+    ensures { IfOk result (λ piece. IsOpening options.now held.now.kept (option_map waited held.now.waiting) role piece) }
 {
-    let mut piece = front_piece(alloc, options, kept, present, waiting)?;
-    push_node(&mut piece, alloc, item, copy)?;
-    Ok(piece)
+    let (kept, present, waiting) = (&held.kept, held.present, &held.waiting);
+    match role {
+        Role::KeptNode => front_piece(alloc, options, kept, present, waiting),
+        Role::DroppedNode => Ok(Piece::new(alloc)),
+        Role::Revision | Role::Other => end_piece(alloc, options, kept, present, waiting),
+    }
 }
 
-/// What is written where the record comes next.
-pub(crate) fn turn_piece<'a>(
+/// Adds what is written of the record itself at once: a revision waits.
+fn push_own<'a>(
+    piece: &mut Piece<'a>,
     alloc: Global,
     options: &Options,
     held: &Held<'a>,
     item: &Record<'a>,
     copy: NewCopy,
     role: Role,
-) -> Result<Piece<'a>, Memory>
-    requires { AreKept held.now.kept held.now.present (option_map waited held.now.waiting) }
-    ensures { IfOk result (λ piece. IsTurnText options.now held.now.kept (option_map waited held.now.waiting) (record_item item.now) copy role piece) }
+) -> Result<(), Memory>
+    requires kept { role ≡ Role.KeptNode → All (λ k. k ≤ unwrap_or held.now.present 0) held.now.kept.numbers }
+    requires merged { role ≡ Role.KeptNode → HasLines (record_item item.now).props }
+    ensures { OnOk result ((own : List ℕ) × (piece.new ≡ piece.old ++ own) × IsOwnText options.now held.now.kept (record_item item.now) copy role own) }
 {
-    let (kept, present, waiting) = (&held.kept, held.present, &held.waiting);
     match role {
-        Role::KeptNode => node_piece(alloc, options, kept, present, waiting, item, copy),
-        Role::DroppedNode => Ok(Piece::new(alloc)),
-        Role::Revision => end_piece(alloc, options, kept, present, waiting),
-        Role::Other => {
-            let mut piece = end_piece(alloc, options, kept, present, waiting)?;
-            push_lines(&mut piece, item)?;
-            Ok(piece)
+        Role::KeptNode => {
+            let present = held.present.unwrap_or(0);
+            push_node(piece, alloc, options, &held.kept, present, item, copy)
         }
+        Role::Other => push_lines(piece, item),
+        Role::DroppedNode | Role::Revision => Ok(()),
     }
 }
 
@@ -347,26 +313,6 @@ fn waiting_behind<'a>(
     }
 }
 
-/// The counts where a group ends.
-pub(crate) fn report_at_end(
-    options: &Options,
-    waiting: &Option<Waiting<'_>>,
-    report: Report,
-) -> Report
-    requires { IfSome waiting.now (λ w. report.revisions_kept + report.revisions_dropped + 1 < 2 ^ 64) }
-    ensures { result ≡ end_report options.now (option_map waited waiting.now) report }
-{
-    let mut counted = report;
-    if let Some(waiting) = waiting {
-        if is_kept_at_end(options, waiting) {
-            counted.revisions_kept += 1;
-        } else {
-            counted.revisions_dropped += 1;
-        }
-    }
-    counted
-}
-
 /// The number of the present revision behind the record.
 fn present_behind(present: Option<u64>, item: &Record<'_>, role: Role) -> Option<u64>
     ensures { result ≡ next_present present (record_item item.now) role }
@@ -377,70 +323,26 @@ fn present_behind(present: Option<u64>, item: &Record<'_>, role: Role) -> Option
     }
 }
 
-/// The counts behind a record.
-pub(crate) fn report_behind(
-    options: &Options,
-    waiting: &Option<Waiting<'_>>,
-    report: Report,
-    role: Role,
-) -> Report
-    requires revisions { report.revisions_kept + report.revisions_dropped + 1 < 2 ^ 64 }
-    requires nodes_kept { report.nodes_kept + 1 < 2 ^ 64 }
-    requires nodes_dropped { report.nodes_dropped + 1 < 2 ^ 64 }
-    ensures { result ≡ next_report options.now (option_map waited waiting.now) report role }
-{
-    let mut counted = report;
-    match role {
-        Role::KeptNode => {
-            counted.nodes_kept += 1;
-            if waiting.is_some() {
-                counted.revisions_kept += 1;
-            }
-        }
-        Role::DroppedNode => counted.nodes_dropped += 1,
-        Role::Revision | Role::Other => counted = report_at_end(options, waiting, report),
-    }
-    counted
-}
-
-/// The fault of the record that comes next, or its new copy source.
-pub(crate) fn judge(
-    options: &Options,
-    held: &Held<'_>,
-    item: &Record<'_>,
-    role: Role,
-    props_ok: bool,
-) -> Result<NewCopy, FaultKind>
-    requires { AreKept held.now.kept held.now.present (option_map waited held.now.waiting) }
-    ensures { result ≡ judged options.now held.now.kept (option_map waited held.now.waiting) (option_map record_item held.now.last) held.now.present (record_item item.now) role props_ok }
-{
-    if !in_order(&held.last, held.present, item, role) {
-        return Err(FaultKind::Order);
-    }
-    if !props_ok {
-        return Err(FaultKind::Props);
-    }
-    match role {
-        Role::KeptNode => find_copy(options, &held.kept, &held.waiting, held.present, item),
-        Role::DroppedNode | Role::Revision | Role::Other => Ok(NewCopy::Same),
-    }
-}
-
-/// Brings what is held to where it is behind the record.
-pub(crate) fn advance<'a>(
+/// What is written where the record comes next, and what is held behind it. The present revision is kept before its
+/// node is written, since its mergeinfo may name it.
+pub(crate) fn turn<'a>(
     held: &mut Held<'a>,
     alloc: Global,
     options: &Options,
     item: Record<'a>,
+    copy: NewCopy,
     role: Role,
-) -> Result<(), Memory>
-    requires { AreKept held.old.kept held.old.present (option_map waited held.old.waiting) }
+) -> Result<Piece<'a>, Memory>
+    requires kept { AreKept held.old.kept held.old.present (option_map waited held.old.waiting) }
+    requires merged { role ≡ Role.KeptNode → HasLines (record_item item).props }
+    ensures piece { IfOk result (λ piece. IsTurnText options.now held.old.kept (option_map waited held.old.waiting) (record_item item.entry) copy role piece) }
     ensures last { OnOk result (held.new.last ≡ Some item.entry) }
     ensures err { OnErr result (held.new.last ≡ held.old.last) }
     ensures present { OnOk result (held.new.present ≡ next_present held.old.present (record_item item.entry) role) }
     ensures kept { OnOk result (held.new.kept ≡ next_kept options.now held.old.kept (option_map waited held.old.waiting) held.old.present (record_item item.entry) role) }
     ensures waiting { OnOk result (option_map waited held.new.waiting ≡ next_waiting (option_map waited held.old.waiting) (record_item item.entry) role) }
 {
+    let mut piece = opening(alloc, options, held, role)?;
     keep_behind(
         &mut held.kept,
         alloc,
@@ -450,8 +352,9 @@ pub(crate) fn advance<'a>(
         &item,
         role,
     )?;
+    push_own(&mut piece, alloc, options, held, &item, copy, role)?;
     held.present = present_behind(held.present, &item, role);
     held.waiting = waiting_behind(held.waiting, item, role);
     held.last = Some(item);
-    Ok(())
+    Ok(piece)
 }

@@ -1,4 +1,6 @@
-//! Lanes of items between threads.
+//! What runs between threads: lanes, a pool of queues, a row of slots, and a word that says stop.
+//!
+//! # Lanes
 //!
 //! A lane carries items from one thread to another, in order, up to an end mark. `lane` makes its
 //! two ends. The sending end puts items and is then closed; the receiving end takes them. Where
@@ -16,14 +18,68 @@
 //! output.settle(sent);    // what was taken is what was put
 //! ```
 //!
-//! Nothing is promised of waiting: not that a put, a close or a take returns, nor how soon. No
-//! contract says when a put hands its item back or when a take answers `Lost`, only what the ends
-//! have then put and taken. The items that are left in a lane when both its ends go are dropped.
+//! # The pool
+//!
+//! A `Pool` has a queue of jobs from one cutter to many workers, a queue of dones from the workers
+//! to one sequencer, and a queue of credits from one writer back to the cutter. `ports` gives each of
+//! them its port. The cutter draws a credit for each item, so no more items are under way than there
+//! are credits; whoever finishes an item gives its credit back. The cutter closes its port, each worker
+//! then its own, and the sequencer is told when each has. Where all ports come together again,
+//! `settle` shows that each job was taken as often as it was put, each done as often as it was given,
+//! and that no more credits were drawn than there were at first and came back.
+//!
+//! ```text
+//! let Drawn::Credit(credit) = ports.cutter.draw(&rt, &word, &mut seat) else { return };
+//! ports.cutter.put(&rt, 7);
+//! ports.cutter.close(&rt);
+//! worker.take(&rt);                   // Some(7)
+//! worker.give(&rt, 8);
+//! worker.take(&rt);                   // None, now and from then on
+//! worker.close(&rt);
+//! ports.sequencer.take(&rt);          // Some(8)
+//! ports.writer.back(&rt, credit);
+//! ports.sequencer.take(&rt);          // None, now and from then on
+//! ports.settle();
+//! ```
+//!
+//! # The stop word
+//!
+//! A `StopWord` is raised and looked at from seats, one for each thread. A look that finds it up is
+//! right, and a seat that raised it, or saw it up before, finds it up. None of its calls waits.
+//!
+//! # Slots
+//!
+//! `Slots` is a row of places for items with rising numbers, each in the place of its number's remainder.
+//! An item whose place is taken comes back.
+//!
+//! ```text
+//! slots.place(3, item);   // Ok(()), or Err(item): then its place is taken
+//! slots.lift(3);          // Some(item); now the place is free
+//! ```
+//!
+//! # The laws of the pool
+//!
+//! [`laws`] says of the pool's events, without threads or queues, that whatever happens each item is in one
+//! place, in order, and no two share a slot; and that each queue is its own share of the events.
+//!
+//! # What is not promised
+//!
+//! Nothing is promised of waiting: not that a put, a close, a take or a draw returns, nor how soon,
+//! which worker takes what, or that a stop is ever seen. No contract says when a put on a lane hands its
+//! item back or when a take answers `Lost`, only what the ends have then put and taken. The items that
+//! are left when all ends or ports go are dropped.
 #![tactic(auto)]
 
 mod ends;
+pub mod laws;
+mod pool;
 mod protocol;
+mod slots;
+mod stop;
 #[cfg(test)]
 mod tests;
 
 pub use ends::{LaneIn, LaneOut, Memory, Sent, Taken, lane};
+pub use pool::{Credit, CreditPort, DonePort, Drawn, JobPort, Pool, Ports, WorkerPort};
+pub use slots::Slots;
+pub use stop::{StopSeat, StopWord};

@@ -1,6 +1,10 @@
 ghost use Rattle.std.specs.Prelude.{◌≡◌};
 ghost use Rattle.dump_lanes.specs.LaneViews.{sending, sent, receiving};
 
+mod pooling;
+mod running;
+mod stopping;
+
 use super::{LaneIn, LaneOut, Memory, Sent, Taken, lane};
 use std::alloc::AllocError;
 use std::sync::Wait;

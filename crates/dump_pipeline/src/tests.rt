@@ -1,5 +1,8 @@
 //! What no clause says: a worked dump, sinks that fail at each of its bytes, and memory that is refused.
 
+mod digests;
+mod merges;
+
 use crate::{Answer, Failure, run_plain};
 use dump_filter::Report;
 use dump_rules::{Empty, Options, Side};

@@ -128,13 +128,17 @@ decoded faults.MergeInfo = refl
 decoded faults.MergeSource = refl
 decoded faults.MergeRange = refl
 
+-- a number is that of one fault
+pub code_once : (a b : FaultKind) → fault_code a ≡ fault_code b → a ≡ b
+code_once a b code = sym (decoded a) ∙ ap kind_of_code code ∙ decoded b
+
 -- the least fault is one
 pub least_once : (Holds : FaultKind → Type 0) (a b : FaultKind) → IsLeastFault Holds a → IsLeastFault Holds b → a ≡ b
 least_once Holds a b x y =
     let not_below = x.least b in
     let not_above = y.least a in
     let code : fault_code a ≡ fault_code b = neither (fault_code a) (fault_code b) (λ lt. not_above lt x.holds) (λ lt. not_below lt y.holds) in
-    sym (decoded a) ∙ ap kind_of_code code ∙ decoded b
+    code_once a b code
   where
     neither : (m n : ℕ) → (m < n → ⊥) → (n < m → ⊥) → m ≡ n
     neither m n p q = grind arith

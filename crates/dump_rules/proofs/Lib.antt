@@ -13,3 +13,7 @@ pub mod RunsLemmas
 pub mod NewLineLemmas
 pub mod ValueLemmas
 pub mod FaultLemmas
+pub mod MergeFaults
+pub mod LaterRevisions
+pub mod OneNewValue
+pub mod BlockLemmas

@@ -25,7 +25,7 @@ up_to-cons n k numbers = sum_by-cons (λ j. cond (nat_le j n) 1 0) k numbers
 pub is_below : (k n : ℕ) → k < n → nat_lt k n ≡ true
 is_below k n h = grind (arith, nat_tests)
 
-is_not_below : (k n : ℕ) → n ≤ k → nat_lt k n ≡ false
+pub is_not_below : (k n : ℕ) → n ≤ k → nat_lt k n ≡ false
 is_not_below k n h = grind (arith, nat_tests)
 
 is_over : (k n : ℕ) → n < k → nat_le k n ≡ false

@@ -4,6 +4,7 @@ pub mod Renumbering
 pub mod RangeList
 pub mod Mergeinfo
 pub mod ReadRanges
+pub mod Blocks
 pub mod ReadMergeinfo
 pub mod Rewriting
 pub mod RangeLaws

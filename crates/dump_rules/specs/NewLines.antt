@@ -5,7 +5,7 @@ use Rattle.dump_rules.specs.Settings.{Settings, keeps_path}
 use Rattle.dump_rules.specs.Renumbering.{KeptRevisions}
 use Rattle.dump_rules.specs.RangeList.{Range, runs_text}
 use Rattle.dump_rules.specs.ReadRanges.{range_of, range_parts}
-use Rattle.dump_rules.specs.ReadMergeinfo.{colon_end}
+use Rattle.dump_rules.specs.ReadMergeinfo.{colon_end, without_lf}
 use Rattle.dump_rules.specs.Runs.{runs_of}
 use Rattle.dump_rules.specs.NewRanges.{list_new}
 
@@ -77,3 +77,11 @@ line_foreign settings first now line =
 abbrev pub text_foreign : Settings → ℕ → ℕ → List ℕ → Bool
 text_foreign settings first now text =
     settings.renumber && list_any (line_foreign settings first now) (text_lines text)
+
+-- whether the value has a line whose path isn't kept, and that may not be left out
+abbrev pub value_misses : Settings → List ℕ → Bool
+value_misses settings value = text_misses settings (without_lf value)
+
+-- whether, with renumbering, the value has a line that stays and has such a range
+abbrev pub value_foreign : Settings → ℕ → ℕ → List ℕ → Bool
+value_foreign settings first now value = text_foreign settings first now (without_lf value)

@@ -31,7 +31,10 @@
 //! of revisions, as `/trunk:1-4,6*`. In no line a revision may stand both with `*` and without.
 //!
 //! [`rewrite`] gives the new value: the lines whose paths are kept, each with the runs of its map,
-//! in new numbers if revisions are renumbered. [`laws`] says that a map has no other spelling.
+//! in new numbers if revisions are renumbered. [`laws`] says that a map has no other spelling. Two
+//! faults are told before: [`misses_source`], a line whose path isn't kept, and
+//! [`has_foreign_number`], a number that the dump can't have. Who has several values asks for the
+//! faults of all of them first.
 //!
 //! ```
 //! rewrite(alloc, b"/trunk:4,1-3", &options, &reach, 4)?;    // /trunk:1-4
@@ -44,8 +47,10 @@
 //! the filter, and a `Reach` renumbers whether or not one asks for it.
 #![tactic(auto)]
 
+mod blocks;
 pub mod laws;
 mod memory;
+mod merge_faults;
 mod mergeinfo;
 mod options;
 mod paths;
@@ -56,6 +61,7 @@ mod rewriting;
 mod runs;
 
 pub use memory::Memory;
+pub use merge_faults::{has_foreign_number, misses_source};
 pub use mergeinfo::merge_reads;
 pub use options::{Empty, Options, Side};
 pub use paths::keeps;

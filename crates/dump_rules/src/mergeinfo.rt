@@ -2,6 +2,7 @@
 ghost use Rattle.std.specs.Prelude.{◌≡◌, ◌↔◌, ◌==◌, IsTrue};
 ghost use Rattle.std.specs.List.{list_all, slice_split};
 ghost use Rattle.dump_rules.specs.Mergeinfo.{HasMergeLines};
+ghost use Rattle.dump_rules.specs.NewLines.{line_list, line_path};
 ghost use Rattle.dump_rules.specs.ReadMergeinfo.{colon_end, line_reads, lines_read, without_lf};
 
 use crate::ranges::list_reads;
@@ -15,6 +16,20 @@ pub(crate) fn colon_end(line: &[u8]) -> usize
         place -= 1;
     }
     place
+}
+
+/// The path of a line.
+pub(crate) fn path_of(line: &[u8]) -> &[u8]
+    ensures { result.now ≡ line_path line.now }
+{
+    &line[..colon_end(line).saturating_sub(1)]
+}
+
+/// The range list of a line.
+pub(crate) fn list_of(line: &[u8]) -> &[u8]
+    ensures { result.now ≡ line_list line.now }
+{
+    &line[colon_end(line)..]
 }
 
 /// Whether the text is a line of a path, a colon and a range list.
@@ -47,7 +62,8 @@ pub(crate) fn cut_lf(value: &[u8]) -> &[u8]
 }
 
 /// Whether the value of the property is mergeinfo. It takes no memory: lists whose ranges rise, or
-/// are all of one kind, are read in one pass, and in any other list each range is held against all.
+/// are all of one kind, are read in one pass, and in any other list each range is held against all,
+/// in one pass for each 64 of them.
 pub fn merge_reads(value: &[u8]) -> bool
     ensures { IsTrue result ↔ HasMergeLines value.now }
 {

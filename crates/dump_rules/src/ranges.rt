@@ -1,8 +1,9 @@
 //! The ranges of svn:mergeinfo, read where they lie.
 ghost use Rattle.std.specs.Prelude.{◌≡◌, ◌==◌, not, option_map, position};
-ghost use Rattle.std.specs.List.{list_all, list_any};
-ghost use Rattle.dump_rules.specs.ReadRanges.{contradicts, ends_in_star, climbed, ends_of, list_reads, part_agrees, part_contradicts, raised, raised_by, range_parts, range_of, span_range, without_star};
+ghost use Rattle.dump_rules.specs.Blocks.{parts_agree};
+ghost use Rattle.dump_rules.specs.ReadRanges.{contradicts, ends_in_star, climbed, ends_of, list_reads, raised, raised_by, range_parts, range_of, span_range, without_star};
 
+use crate::blocks::each_part_agrees;
 use dump_text::number;
 
 /// The revisions from one number to another, all inheritable or all not.
@@ -67,38 +68,10 @@ pub(crate) fn range(text: &[u8]) -> Option<Span>
 
 impl Span {
     /// Whether the ranges have a number in common, and are of unlike kinds.
-    fn contradicts(self, other: Span) -> bool
+    pub(crate) fn contradicts(self, other: Span) -> bool
         ensures { result ≡ contradicts (span_range self) (span_range other) }
     {
         self.inheritable != other.inheritable && self.from <= other.to && other.from <= self.to
-    }
-}
-
-/// Whether the text is a range that contradicts this one.
-fn part_contradicts(span: Span, part: &[u8]) -> bool
-    ensures { result ≡ part_contradicts (span_range span) (range_of part.now) }
-{
-    match range(part) {
-        Some(other) => span.contradicts(other),
-        None => false,
-    }
-}
-
-/// Whether a range of the list contradicts this one.
-fn some_contradicts(span: Span, list: &[u8]) -> bool
-    ensures { result ≡ list_any (λ part. part_contradicts (span_range span) (range_of part)) (range_parts list.now) }
-{
-    list.split(|b| *b == b',')
-        .any(|part| part_contradicts(span, part))
-}
-
-/// Whether the text is a range that none of the list contradicts.
-fn part_agrees(list: &[u8], part: &[u8]) -> bool
-    ensures { result ≡ part_agrees (range_parts list.now) (range_of part.now) }
-{
-    match range(part) {
-        Some(span) => !some_contradicts(span, list),
-        None => false,
     }
 }
 
@@ -163,19 +136,10 @@ fn climbed(list: &[u8]) -> Option<Tops>
     tops.raised_by(rest)
 }
 
-/// Whether all parts of the list are ranges of which none contradicts another, whatever their order.
-fn each_part_agrees(list: &[u8]) -> bool
-    ensures { result ≡ list_all (λ part. part_agrees (range_parts list.now) (range_of part)) (range_parts list.now) }
-{
-    list.split(|b| *b == b',')
-        .all(|part| part_agrees(list, part))
-}
-
 /// Whether all parts of the list are ranges that don't contradict each other. One pass tells it of
-/// ranges that rise, as Subversion writes them, and of ranges of one kind; no memory is taken for
-/// the others, so each of their ranges is held against all of them.
+/// ranges that rise, as Subversion writes them, and of ranges of one kind.
 fn parts_agree(list: &[u8]) -> bool
-    ensures { result ≡ list_all (λ part. part_agrees (range_parts list.now) (range_of part)) (range_parts list.now) }
+    ensures { result ≡ parts_agree (range_parts list.now) (range_parts list.now) }
 {
     climbed(list).is_some() || each_part_agrees(list)
 }

@@ -1,18 +1,18 @@
 //! New values of svn:mergeinfo.
-ghost use Rattle.std.specs.Prelude.{◌≡◌, ◌&&◌, ◌==◌, ◌≤◌, ◌↔◌, [], All, Err, IfOk, OnOk, map, not, true};
-ghost use Rattle.std.specs.List.{list_all, list_any, slice_split};
+ghost use Rattle.std.specs.Prelude.{◌≡◌, ◌==◌, ◌≤◌, ◌↔◌, [], All, Err, IfOk, OnOk, map, true};
+ghost use Rattle.std.specs.List.{list_all, slice_split};
 ghost use Rattle.dump_rules.specs.Mergeinfo.{HasMergeLines};
-ghost use Rattle.dump_rules.specs.NewLines.{line_foreign, line_list, line_misses, line_path, list_foreign, part_foreign, range_foreign, text_foreign, text_lines, text_misses, with_break, with_new_line, with_new_lines, with_runs};
+ghost use Rattle.dump_rules.specs.NewLines.{text_lines, with_break, with_new_line, with_new_lines, with_runs};
 ghost use Rattle.dump_rules.specs.RangeList.{IsConsistent};
 ghost use Rattle.dump_rules.specs.Renumbering.{RiseFrom};
 ghost use Rattle.dump_rules.specs.ReadMergeinfo.{line_reads, lines_read};
-ghost use Rattle.dump_rules.specs.ReadRanges.{range_of, range_parts, span_range};
+ghost use Rattle.dump_rules.specs.ReadRanges.{span_range};
 ghost use Rattle.dump_rules.specs.Rewriting.{IsNewMergeinfo, HasForeignNumber, HasMissingSource};
 ghost use Rattle.dump_rules.specs.Runs.{HaveNumbers, runs_of};
-ghost use Rattle.dump_rules.specs.Settings.{keeps_path};
 
 use crate::memory::Memory;
-use crate::mergeinfo::{colon_end, cut_lf};
+use crate::merge_faults::{has_foreign_number, misses_source};
+use crate::mergeinfo::{cut_lf, list_of, path_of};
 use crate::options::Options;
 use crate::paths::keeps;
 use crate::ranges::{Span, find, range};
@@ -29,20 +29,6 @@ pub enum RewriteFault {
     MergeRange,
     /// Memory ran out.
     Memory,
-}
-
-/// The path of a line.
-fn path_of(line: &[u8]) -> &[u8]
-    ensures { result.now ≡ line_path line.now }
-{
-    &line[..colon_end(line).saturating_sub(1)]
-}
-
-/// The range list of a line.
-fn list_of(line: &[u8]) -> &[u8]
-    ensures { result.now ≡ line_list line.now }
-{
-    &line[colon_end(line)..]
 }
 
 /// Adds an LF where something stands already.
@@ -127,75 +113,6 @@ fn new_text(alloc: Global, text: &[u8], options: &Options, reach: &Reach) -> Res
     Ok(out)
 }
 
-/// Whether the path of a line isn't kept.
-fn line_misses(line: &[u8], options: &Options) -> bool
-    ensures { result ≡ line_misses options.now line.now }
-{
-    !keeps(options, path_of(line))
-}
-
-/// Whether a line has a path that isn't kept.
-fn some_misses(text: &[u8], options: &Options) -> bool
-    ensures { result ≡ list_any (line_misses options.now) (slice_split (λ b. b == 10) text.now) }
-{
-    text.split(|b| *b == b'\n')
-        .any(|line| line_misses(line, options))
-}
-
-/// Whether a line has a path that isn't kept, and may not be left out.
-fn text_misses(text: &[u8], options: &Options) -> bool
-    ensures { result ≡ text_misses options.now text.now }
-{
-    !options.skip_missing() && !text.is_empty() && some_misses(text, options)
-}
-
-/// Whether a part is a range that the dump can't have.
-fn part_foreign(part: &[u8], options: &Options, first: u64, now: u64) -> bool
-    ensures { result ≡ part_foreign options.now first now (range_of part.now) }
-{
-    match range(part) {
-        Some(span) => span.to > now || !options.skip_missing() && span.from < first,
-        None => false,
-    }
-}
-
-/// Whether some part is such a range.
-fn some_foreign(list: &[u8], options: &Options, first: u64, now: u64) -> bool
-    ensures { result ≡ list_any (λ part. part_foreign options.now first now (range_of part)) (range_parts list.now) }
-{
-    list.split(|b| *b == b',')
-        .any(|part| part_foreign(part, options, first, now))
-}
-
-/// Whether a range list has such a range.
-fn list_foreign(list: &[u8], options: &Options, first: u64, now: u64) -> bool
-    ensures { result ≡ list_foreign options.now first now list.now }
-{
-    !list.is_empty() && some_foreign(list, options, first, now)
-}
-
-/// Whether a line that stays has such a range.
-fn line_foreign(line: &[u8], options: &Options, first: u64, now: u64) -> bool
-    ensures { result ≡ line_foreign options.now first now line.now }
-{
-    keeps(options, path_of(line)) && list_foreign(list_of(line), options, first, now)
-}
-
-/// Whether some line is such a line.
-fn some_line_foreign(text: &[u8], options: &Options, first: u64, now: u64) -> bool
-    ensures { result ≡ list_any (line_foreign options.now first now) (slice_split (λ b. b == 10) text.now) }
-{
-    text.split(|b| *b == b'\n')
-        .any(|line| line_foreign(line, options, first, now))
-}
-
-/// Whether revisions are renumbered and a line that stays has such a range.
-fn text_foreign(text: &[u8], options: &Options, first: u64, now: u64) -> bool
-    ensures { result ≡ text_foreign options.now first now text.now }
-{
-    options.renumber() && !text.is_empty() && some_line_foreign(text, options, first, now)
-}
-
 /// The new value: the lines whose paths are kept, in their order, each with the runs of its map,
 /// in new numbers if revisions are renumbered. A line whose map is empty goes. `now` is the present
 /// revision, and `reach` has those kept up to it.
@@ -216,15 +133,13 @@ pub fn rewrite(
     ensures range { (result ≡ Err RewriteFault.MergeRange)
         ↔ (¬ HasMissingSource options.now value.now × HasForeignNumber options.now reach.now now value.now) }
 {
-    let text = cut_lf(value);
-    let first = reach.first();
-    if text_misses(text, options) {
+    if misses_source(value, options) {
         return Err(RewriteFault::MergeSource);
     }
-    if text_foreign(text, options, first, now) {
+    if has_foreign_number(value, options, reach.first(), now) {
         return Err(RewriteFault::MergeRange);
     }
-    match new_text(alloc, text, options, reach) {
+    match new_text(alloc, cut_lf(value), options, reach) {
         Ok(new) => Ok(new),
         Err(_) => Err(RewriteFault::Memory),
     }

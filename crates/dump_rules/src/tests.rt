@@ -2,7 +2,10 @@
 ghost use Rattle.std.specs.Prelude.{◌≤◌, All};
 
 use crate::laws::each_map_has_one_spelling;
-use crate::{Empty, Memory, Options, Reach, RewriteFault, Side, keeps, merge_reads, rewrite};
+use crate::{
+    Empty, Memory, Options, Reach, RewriteFault, Side, has_foreign_number, keeps, merge_reads,
+    misses_source, rewrite,
+};
 use std::alloc::Global;
 use std::test::Fail;
 
@@ -173,6 +176,22 @@ fn no_revision_stands_with_a_star_and_without(rt: HostRuntime) {
     }
 }
 
+#[test]
+fn long_lists_of_both_kinds_in_any_order(rt: HostRuntime) -> Result<(), Fail> {
+    let mut text = String::from_str(rt.alloc(), "/a:1000")?;
+    for n in 1..200u64 {
+        let lower = 1000 - n;
+        let star = if n % 2 == 0 { "" } else { "*" };
+        text.push_str(&format!(in rt.alloc(); ",{lower}{star}")?)?;
+    }
+    assert!(rt; merge_reads(text.as_bytes()));
+    for more in ["1000*", "998-999", "0", "", "7-6*"] {
+        let worse = format!(in rt.alloc(); "{text},{more}")?;
+        assert!(rt; !merge_reads(worse.as_bytes()), "{more}");
+    }
+    Ok(())
+}
+
 fn rules(
     alloc: Global,
     prefix: &[u8],
@@ -302,6 +321,23 @@ fn numbers_that_the_dump_cannot_have_are_refused(rt: HostRuntime) -> Result<(), 
     let lenient = rules(rt.alloc(), b"/", true, true)?;
     let new = rewritten(rt.alloc(), b"/trunk:4-5", &lenient, &reach, 6)??;
     assert_eq!(rt; new.as_slice(), b"/trunk:5".as_slice());
+    Ok(())
+}
+
+#[test]
+fn faults_are_told_without_a_new_value(rt: HostRuntime) -> Result<(), Fail> {
+    let strict = rules(rt.alloc(), b"trunk", true, false)?;
+    assert!(rt; misses_source(b"/trunk:5\n/other:5", &strict));
+    assert!(rt; !misses_source(b"/trunk:5\n", &strict));
+    assert!(rt; has_foreign_number(b"/trunk:4-6", &strict, 5, 6));
+    assert!(rt; has_foreign_number(b"/trunk:5-7", &strict, 5, 6));
+    assert!(rt; !has_foreign_number(b"/trunk:5-6\n/other:4", &strict, 5, 6));
+    let lenient = rules(rt.alloc(), b"trunk", true, true)?;
+    assert!(rt; !misses_source(b"/trunk:5\n/other:5", &lenient));
+    assert!(rt; !has_foreign_number(b"/trunk:4-6", &lenient, 5, 6));
+    assert!(rt; has_foreign_number(b"/trunk:5-7", &lenient, 5, 6));
+    let old_numbers = rules(rt.alloc(), b"trunk", false, false)?;
+    assert!(rt; !has_foreign_number(b"/trunk:5-7", &old_numbers, 5, 6));
     Ok(())
 }
 

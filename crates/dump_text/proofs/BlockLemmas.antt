@@ -1,5 +1,5 @@
 -- A block, from the lines that a scan finds.
-use Rattle.std.proofs.Common.{◌≡◌, ℕ, zero, suc, ◌+◌, ◌-◌, ◌<◌, ◌≤◌, nat_lt, nat_le, Bool, true, false, not, ◌&&◌, ◌||◌, List, [], ◌∷◌, ◌++◌, take, drop, length, slice_range, refl, sym, ap, ◌∙◌, subst, arith, append_assoc, length-append, bytes_eq, if◌then◌else◌, codes}
+use Rattle.std.proofs.Common.{◌≡◌, ℕ, zero, suc, ◌+◌, ◌-◌, ◌<◌, ◌≤◌, nat_lt, nat_le, Bool, true, false, not, ◌&&◌, ◌||◌, List, [], ◌∷◌, ◌++◌, take, drop, length, slice_range, refl, sym, ap, ◌∙◌, subst, arith, append_assoc, length-append, bytes_eq, Some, is_some, slice_index, if◌then◌else◌, codes}
 use Rattle.std.specs.List.{list_all, list_any}
 use Rattle.std.proofs.lemmas.List.{take_at, drop_at, append-nil, length-drop, length-take, length-take-le, drop-drop, drop-take, take-take}
 use Rattle.std.proofs.lemmas.List.Sums.{sum_by-cons}
@@ -9,6 +9,7 @@ use Rattle.dump_text.specs.HeaderLine as line
 use Rattle.dump_text.specs.HeaderLine.{is_header, header_text, is_named, has_header, header_value, count_named}
 use Rattle.dump_text.specs.HeaderBlock.{is_block, lines_bytes, block_text, BeginsWithBlock, HasBlock}
 use Rattle.dump_text.specs.ReadHeaders.{headers_of, AreHeaderLines, IsBlockBetween, IsPartBetween}
+use Rattle.dump_text.specs.Starts.{known_place, AreStarts}
 use Rattle.dump_text.specs.Scanning.{IsLinesEnd, IsBlockEnd, HasLines, is_known, names_stand_once}
 use Rattle.dump_text.proofs.Unique.{lines_once, lawful_lines, first_true, second_true}
 use Rattle.dump_text.proofs.ScanLemmas.{headers_of-lines}
@@ -17,7 +18,7 @@ use Rattle.dump_text.proofs.ScanLemmas.{headers_of-lines}
 abbrev counts_once : List (List ℕ) → List line.Header → Bool
 counts_once names headers = list_all (λ name. nat_le (count_named name headers) 1) names
 
-count_cons : (name : List ℕ) (h : line.Header) (hs : List line.Header)
+pub count_cons : (name : List ℕ) (h : line.Header) (hs : List line.Header)
     → count_named name (h ∷ hs) ≡ (if is_named name h then 1 else 0) + count_named name hs
 count_cons name h hs = sum_by-cons (λ (x : line.Header). if is_named name x then 1 else 0) h hs
 
@@ -206,3 +207,75 @@ block_bytes dump place after stands =
     let behind = length-drop after dump in
     let count : length text ≡ after - place = omega arith in
     ap (take (after - place)) b.spelled ∙ take_at text (drop after dump) (after - place) count
+
+-- what is left of a block's lines from a place on
+pub part_from : (dump : List ℕ) (place after start : ℕ) → IsBlockBetween dump place after → start ≤ length (slice_range dump place (after - 1))
+    → IsPartBetween dump place after (drop start (slice_range dump place (after - 1)))
+part_from dump place after start stands inside =
+    let hs = headers_of (slice_range dump place after) in
+    let b = stands.block in
+    let sizes = ap length b.spelled ∙ length-append (block_text hs) (drop after dump) in
+    let size = length-append (lines_bytes hs) (10 ∷ []) in
+    let whole = length-drop place dump in
+    let behind = length-drop after dump in
+    let last = stands.inside in
+    let low : place < after = omega arith in
+    let count = length-take (after - 1 - place) (drop place dump) in
+    let most : start ≤ after - 1 - place = omega arith in
+    let sum : start + (after - 1 - place - start) ≡ after - 1 - place = omega arith in (
+      place + start,
+      after - 1,
+      omega arith,
+      omega arith,
+      omega arith,
+      ap (λ n. drop start (take n (drop place dump))) (sym sum) ∙ drop-take start (after - 1 - place - start) (drop place dump)
+          ∙ ap (take (after - 1 - place - start)) (drop-drop start place dump) ∙ ap (λ n. take n (drop (place + start) dump)) (omega arith),
+    )
+
+-- the lines of a name from its start on
+pub lines_of_name : (dump : List ℕ) (place after : ℕ) (starts : List ℕ) → IsBlockBetween dump place after → AreStarts (slice_range dump place (after - 1)) starts
+    → (name : List ℕ) (i : ℕ) → known_place name ≡ Some i
+    → header_value name (headers_of (drop (slice_index starts i) (slice_range dump place (after - 1)))) ≡ header_value name (headers_of (slice_range dump place after))
+lines_of_name dump place after starts stands found name i is =
+    (found name i is).value ∙ ap (header_value name) (lines_of dump place after stands).headers
+
+-- a name has a line where it has a value
+pub has_value : (name : List ℕ) (headers : List line.Header) → is_some (header_value name headers) ≡ has_header name headers
+has_value name [] = refl
+has_value name (h ∷ headers) = cases (is_named name h) refl (has_value name headers)
+  where
+    cases : (b : Bool) → is_named name h ≡ b → is_some (header_value name headers) ≡ has_header name headers
+        → is_some (header_value name (h ∷ headers)) ≡ has_header name (h ∷ headers)
+    cases true is more = rw is refl
+    cases false is more = rw is more
+
+pub same_names : (name : List ℕ) (some all : List line.Header) → header_value name some ≡ header_value name all → has_header name some ≡ has_header name all
+same_names name some all same = sym (has_value name some) ∙ ap is_some same ∙ has_value name all
+
+-- a block at a place, from one at the front of the text there
+pub block_there : (dump text : List ℕ) (place size : ℕ) → text ≡ drop place dump → place ≤ length dump → IsBlockEnd text size → IsBlockBetween dump place (place + size)
+block_there dump text place size is low found =
+    let inside = found.inside in
+    let room : length text ≡ length dump - place = ap length is ∙ length-drop place dump in
+    let count : place + size - place ≡ size = omega arith in
+    let cut : take (place + size - place) (drop place dump) ≡ take size text = ap (λ n. take n (drop place dump)) count ∙ ap (take size) (sym is) in
+    let rest : drop (place + size) dump ≡ drop size text = sym (drop-drop size place dump) ∙ ap (drop size) (sym is) in
+    record {
+      block = subst (λ t. BeginsWithBlock t (headers_of (take (place + size - place) (drop place dump))) (drop (place + size) dump)) is
+          (subst (λ t. BeginsWithBlock text (headers_of t) (drop (place + size) dump)) (sym cut)
+          (subst (λ t. BeginsWithBlock text (headers_of (take size text)) t) (sym rest) found.block));
+      inside = omega arith;
+    }
+
+pub starts_there : (dump text starts : List ℕ) (place size : ℕ) → text ≡ drop place dump → AreStarts (take (size - 1) text) starts
+    → AreStarts (slice_range dump place (place + size - 1)) starts
+starts_there dump text starts place size is found =
+    let count : place + size - 1 - place ≡ size - 1 = omega arith in
+    subst (λ t. AreStarts t starts) (ap (take (size - 1)) is ∙ ap (λ n. take n (drop place dump)) (sym count)) found
+
+-- all that is left from a place on
+pub all_left : (dump : List ℕ) (place : ℕ) → take (length dump - place) (drop place dump) ≡ drop place dump
+all_left dump place = ap (λ n. take n (drop place dump)) (sym (length-drop place dump)) ∙ take_all (drop place dump)
+  where
+    take_all : (text : List ℕ) → take (length text) text ≡ text
+    take_all text = ap (take (length text)) (sym (append-nil text)) ∙ take_at text [] (length text) refl

@@ -2,6 +2,7 @@ pub mod NumberLemmas
 pub mod Unique
 pub mod ScanLemmas
 pub mod BlockLemmas
+pub mod StartLemmas
 pub mod PartLemmas
 pub mod PropertyLemmas
 pub mod WrittenLemmas

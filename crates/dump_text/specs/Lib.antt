@@ -8,4 +8,5 @@ pub mod Scanning
 pub mod PropertyList
 pub mod PropertyScan
 pub mod Views
+pub mod Starts
 pub mod PropertyViews

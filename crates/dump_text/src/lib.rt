@@ -35,6 +35,7 @@ mod numbers;
 mod parts;
 mod props;
 mod scan;
+mod starts;
 
 pub use block::Block;
 pub use fault::FaultKind;

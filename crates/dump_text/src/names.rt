@@ -1,14 +1,16 @@
 //! The names that have a meaning, each at most once in a block.
-ghost use Rattle.std.specs.Prelude.{◌≡◌, bytes_eq};
-ghost use Rattle.std.specs.List.{list_any};
+ghost use Rattle.std.specs.Prelude.{◌≡◌, bytes_eq, position};
 ghost use Rattle.dump_text.specs.HeaderLine.{has_header};
-ghost use Rattle.dump_text.specs.Scanning.{is_known, names_stand_once};
+ghost use Rattle.dump_text.specs.Starts.{known_place};
 ghost use Rattle.dump_text.specs.Views.{lines_left};
 
 use crate::lines::Lines;
 
+/// How many names are known.
+pub(crate) const KNOWN: usize = 15;
+
 /// The names that stand at most once in a block (this project's own rule).
-const KNOWN_NAMES: [&[u8]; 15] = [
+const KNOWN_NAMES: [&[u8]; KNOWN] = [
     b"SVN-fs-dump-format-version",
     b"UUID",
     b"Revision-number",
@@ -26,18 +28,18 @@ const KNOWN_NAMES: [&[u8]; 15] = [
     b"Text-content-sha1",
 ];
 
-/// Whether the name is one of these.
-fn is_among(names: &[&[u8]], name: &[u8]) -> bool
-    ensures { result ≡ list_any (λ known. bytes_eq name.now known.now) names.now }
+/// The place of the name among these.
+fn place_among(names: &[&[u8]], name: &[u8]) -> Option<usize>
+    ensures { result ≡ position (λ known. bytes_eq name.now known.now) names.now }
 {
-    names.iter().any(|known| name == *known)
+    names.iter().position(|known| name == *known)
 }
 
-/// Whether the name is known.
-fn knows(name: &[u8]) -> bool
-    ensures { result ≡ is_known name.now }
+/// The place of the name among the known ones.
+pub(crate) fn place_of(name: &[u8]) -> Option<usize>
+    ensures { result ≡ known_place name.now }
 {
-    is_among(&KNOWN_NAMES, name)
+    place_among(&KNOWN_NAMES, name)
 }
 
 /// Whether a line has this name.
@@ -51,16 +53,4 @@ pub(crate) fn has_name(lines: &Lines<'_>, name: &[u8]) -> bool
         }
     }
     false
-}
-
-/// Whether each known name stands at most once in the lines.
-pub(crate) fn stand_once(mut lines: Lines<'_>) -> bool
-    ensures { result ≡ names_stand_once (lines_left lines.entry) }
-{
-    while let Some(line) = lines.next() {
-        if knows(line.name) && has_name(&lines, line.name) {
-            return false;
-        }
-    }
-    true
 }

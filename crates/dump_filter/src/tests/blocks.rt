@@ -108,3 +108,10 @@ pub(crate) const TAG_OF_TRUNK_7: &[u8] =
 
 pub(crate) const TAG_OF_OTHER_0: &[u8] =
     b"Node-path: trunk/tag\nNode-kind: dir\nNode-action: add\nNode-copyfrom-rev: 0\nNode-copyfrom-path: other\n\n\n\n";
+
+// The directory with its mergeinfo, before and behind the filter.
+pub(crate) const TRUNK_MERGED_1_TO_7: &[u8] =
+    b"Node-path: trunk\nNode-kind: dir\nNode-action: change\nProp-content-length: 49\nContent-length: 49\n\nK 13\nsvn:mergeinfo\nV 14\n/trunk:1-5,6-7\nPROPS-END\n\n\n";
+
+pub(crate) const TRUNK_MERGED_1: &[u8] =
+    b"Node-path: trunk\nNode-kind: dir\nNode-action: change\nProp-content-length: 42\nContent-length: 42\n\nK 13\nsvn:mergeinfo\nV 8\n/trunk:1\nPROPS-END\n\n\n";

@@ -3,9 +3,12 @@
 use crate::StepFault;
 use crate::tests::blocks::{
     OTHER, PADDING_1, RESPELLED_TRUNK, REVISION_0, REVISION_1, REVISION_2, REVISION_3, REVISION_7,
-    REVISION_9, SPELLED_TRUNK, TAG_OF_TRUNK_2, TAG_OF_TRUNK_7, TRUNK, VERSION,
+    REVISION_9, SPELLED_TRUNK, TAG_OF_TRUNK_2, TAG_OF_TRUNK_7, TRUNK, TRUNK_MERGED_1,
+    TRUNK_MERGED_1_TO_7, VERSION,
 };
-use crate::tests::{Asked, Worked, Written, include, joined, options, preserve, report, run};
+use crate::tests::{
+    Asked, Worked, Written, include, joined, options, preserve, renumber, report, run,
+};
 use std::alloc::Global;
 use std::process::Abort;
 
@@ -75,6 +78,25 @@ fn a_refused_allocation_closes_the_filter_that_pads(rt: HostRuntime) {
             TAG_OF_TRUNK_2,
         ],
         counts: (4, 0, 2, 1),
+    };
+    assert_whole_or_closed(&rt, rt.alloc(), &worked);
+}
+
+// The same, where mergeinfo gets new numbers.
+#[test]
+fn a_refused_allocation_closes_the_filter_of_mergeinfo(rt: HostRuntime) {
+    let worked = Worked {
+        asked: renumber(b"trunk"),
+        dump: &[
+            VERSION,
+            REVISION_0,
+            REVISION_1,
+            OTHER,
+            REVISION_7,
+            TRUNK_MERGED_1_TO_7,
+        ],
+        written: &[VERSION, REVISION_0, REVISION_1, TRUNK_MERGED_1],
+        counts: (2, 1, 1, 1),
     };
     assert_whole_or_closed(&rt, rt.alloc(), &worked);
 }

@@ -14,7 +14,10 @@ returns c =
       own,
       pushed,
       λ ps is.
-          node_is changes.result r c.args.copy _ _ ps changes.ensures.revision changes.ensures.copy
-          changes.ensures.lengths c.text_bytes.ensures (c.in_ok-props.ensures ps is),
+          let (new, properties, bytes) = c.in_ok-props.ensures ps is in (
+            new,
+            properties,
+            node_is changes.result r c.args.copy _ _ new changes.ensures.revision changes.ensures.copy changes.ensures.lengths c.text_bytes.ensures bytes,
+          ),
     ))
     c.push_record.ensures

@@ -11,5 +11,5 @@ returns-clause-piece c =
 pub returns-clause-report : goal.returns-clause-report
 returns-clause-report c = λ records accepted.
     let s = c.self.inside in
-    c.report_at_end-report.ensures
+    c.report_at_end-report.ensures.counted
     ∙ reports s.options.now s.active s.held.last s.held.present s.held.kept (option_map waited s.held.waiting) s.report (c.self.invariant c.if-not-self.false) c.args.self c.self.view_is records accepted

@@ -1,0 +1,122 @@
+-- Mergeinfo is bad where a property of its name has a value that isn't mergeinfo.
+use Rattle.std.proofs.Common.{◌≡◌, ◌↔◌, ℕ, zero, suc, Bool, true, false, not, List, [], ◌∷◌, refl, sym, ap, subst, ◌∙◌, arith, Contains, IsTrue, IsFalse}
+use Rattle.std.proofs.Math.Bool.{Bool-set}
+use Rattle.std.proofs.Math.Logic.{∥∥₁_elim}
+use Rattle.std.proofs.lemmas.Bool.{and_parts}
+use Rattle.dump_text.specs.PropertyList.{Property, IsPropertyBlock, HasProperties}
+use Rattle.dump_text.proofs.PropertyLemmas.{property_block_once}
+use Rattle.dump_records.specs.RecordText.{DumpRecord}
+use Rattle.dump_rules.specs.Settings.{Settings}
+use Rattle.dump_rules.specs.Mergeinfo.{HasMergeLines}
+use Rattle.dump_rules.specs.ReadMergeinfo.{value_reads}
+use Rattle.dump_rules.proofs.MergeinfoLemmas.{reads_exactly}
+use Rattle.dump_digest.specs.RecordParts.{is_kept_node, is_mergeinfo}
+use Rattle.dump_digest.specs.ContentFaults.{HasBadMergeinfo}
+use Rattle.dump_digest.specs.Checks.{property_reads, properties_read}
+use Rattle.dump_digest.proofs.DigestLemmas.{clash}
+
+-- one property
+
+pub read_is : (value : List ℕ) (reads : Bool) → (IsTrue reads ↔ HasMergeLines value) → reads ≡ value_reads value
+read_is value reads means = by_reads reads refl (value_reads value) refl
+  where
+    by_reads : (a : Bool) → reads ≡ a → (b : Bool) → value_reads value ≡ b → reads ≡ value_reads value
+    by_reads true e true f = e ∙ sym f
+    by_reads true e false f = absurd (clash ((reads_exactly value).1 (means.0 e)) f)
+    by_reads false e true f = absurd (clash (means.1 ((reads_exactly value).0 f)) e)
+    by_reads false e false f = e ∙ sym f
+
+pub record BadEntry (p : Property) : Type 0 where
+  pub named : IsTrue (is_mergeinfo p)
+  pub none : ¬ HasMergeLines p.value
+
+bad_entry : (p : Property) → property_reads p ≡ false → BadEntry p
+bad_entry p bad = by_name (is_mergeinfo p) refl
+  where
+    by_name : (b : Bool) → is_mergeinfo p ≡ b → BadEntry p
+    by_name true e = record {
+      named = e;
+      none = λ has. clash ((reads_exactly p.value).1 has) (let unread : value_reads p.value ≡ property_reads p = rw e refl in unread ∙ bad);
+    }
+    by_name false e = let read : true ≡ property_reads p = rw e refl in absurd (clash (sym read) bad)
+
+entry_bad : (p : Property) → BadEntry p → property_reads p ≡ false
+entry_bad p bad = by_value (value_reads p.value) refl
+  where
+    by_value : (b : Bool) → value_reads p.value ≡ b → property_reads p ≡ false
+    by_value true e = absurd (bad.none ((reads_exactly p.value).0 e))
+    by_value false e = let named = bad.named in rw (named, e) refl
+
+-- all properties
+
+abbrev pub HasBadEntry : List Property → Type 0
+HasBadEntry ps = (p : Property) × Contains ps p × BadEntry p
+
+pub bad_of : (ps : List Property) → properties_read ps ≡ false → HasBadEntry ps
+bad_of [] bad = cc
+bad_of (p ∷ ps) bad = by_first (property_reads p) refl (bad_of ps)
+  where
+    by_first : (b : Bool) → property_reads p ≡ b → (properties_read ps ≡ false → HasBadEntry ps) → HasBadEntry (p ∷ ps)
+    by_first false e later = (p, (0, omega arith, refl), bad_entry p e)
+    by_first true e later =
+        let rest : properties_read (p ∷ ps) ≡ properties_read ps = rw e refl in
+        let found = later (sym rest ∙ bad) in
+        let within = found.1.1 in
+        (found.0, (suc found.1.0, omega arith, found.1.2), found.2)
+
+read_none : (ps : List Property) (p : Property) → properties_read ps ≡ true → Contains ps p → property_reads p ≡ true
+read_none [] p read (i, within, is) = absurd (omega arith)
+read_none (q ∷ ps) p read (zero, within, is) =
+    ap property_reads (sym is) ∙ (and_parts (property_reads q) (properties_read ps) read).0
+read_none (q ∷ ps) p read (suc i, within, is) =
+    read_none ps p (and_parts (property_reads q) (properties_read ps) read).1 (i, omega arith, is)
+
+-- a kept node
+
+pub merge_means : (settings : Settings) (r : DumpRecord) (ok : Bool) (ps : List Property) → IsTrue (is_kept_node settings r) → IsPropertyBlock r.props ps
+    → ok ≡ properties_read ps → IsFalse ok ↔ ∥ HasBadMergeinfo settings r ∥₁
+merge_means settings r ok ps kept block is = (
+  λ e.
+      let (p, within, bad) = bad_of ps (sym is ∙ e) in
+      ∣ (p.value, (kept, ps, block, p, within, bad.named, refl), bad.none) ∣₁,
+  λ bad. ∥∥₁_elim bad (Bool-set ok false) found,
+)
+  where
+    found : HasBadMergeinfo settings r → IsFalse ok
+    found (value, (k, qs, other, p, within, named, same), none) = by_ok ok refl
+      where
+        by_ok : (b : Bool) → ok ≡ b → IsFalse ok
+        by_ok false e = e
+        by_ok true e =
+            let lists = property_block_once r.props qs ps other block in
+            let here = subst (λ (l : List Property). Contains l p) lists within in
+            let read = read_none ps p (sym is ∙ e) here in
+            let entry : BadEntry p = record { named = named; none = λ has. none (subst HasMergeLines same has) } in
+            absurd (clash read (entry_bad p entry))
+
+pub merge_unread : (settings : Settings) (r : DumpRecord) → ¬ HasProperties r.props → IsFalse true ↔ ∥ HasBadMergeinfo settings r ∥₁
+merge_unread settings r none = (
+  λ e. cc,
+  λ bad. ∥∥₁_elim bad (Bool-set true false) (λ (value, mine, lines). absurd (none (mine.1, mine.2))),
+)
+
+pub merge_other : (settings : Settings) (r : DumpRecord) → IsFalse (is_kept_node settings r) → IsFalse true ↔ ∥ HasBadMergeinfo settings r ∥₁
+merge_other settings r other = (
+  λ e. cc,
+  λ bad. ∥∥₁_elim bad (Bool-set true false) (λ (value, mine, lines). absurd (clash mine.0 other)),
+)
+
+-- one by one
+
+pub read_behind : (p : Property) (ps others : List Property) → ps ≡ p ∷ others → property_reads p ≡ true → properties_read ps ≡ properties_read others
+read_behind p ps others is reads = ap properties_read is ∙ rw reads refl
+
+pub not_read : (p : Property) (ps others : List Property) → ps ≡ p ∷ others → property_reads p ≡ false → properties_read ps ≡ false
+not_read p ps others is bad = ap properties_read is ∙ rw bad refl
+
+pub value_decides : (p : Property) → not (is_mergeinfo p) ≡ false → value_reads p.value ≡ property_reads p
+value_decides p named = by_name (is_mergeinfo p) refl
+  where
+    by_name : (b : Bool) → is_mergeinfo p ≡ b → value_reads p.value ≡ property_reads p
+    by_name true e = rw e refl
+    by_name false e = let bad : true ≡ false = sym (ap not e) ∙ named in cc

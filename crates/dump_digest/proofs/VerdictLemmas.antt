@@ -1,0 +1,79 @@
+-- What a verdict's parts mean together.
+use Rattle.std.proofs.Common.{◌≡◌, ◌↔◌, ℕ, Bool, true, false, not, ◌||◌, List, refl, sym, ap, subst, ◌∙◌, Option, is_some, IsTrue, IsFalse, IsSome}
+use Rattle.dump_text.specs.Names.{md5_name, sha1_name}
+use Rattle.dump_text.specs.PropertyList.{HasProperties}
+use Rattle.dump_records.specs.RecordText.{DumpRecord}
+use Rattle.dump_rules.specs.Settings.{Settings}
+use Rattle.dump_digest.specs.declared.verdict.Verdict.{Verdict}
+use Rattle.dump_digest.specs.RecordParts.{is_revision, is_kept_node}
+use Rattle.dump_digest.specs.ContentFaults.{HasBadMergeinfo}
+use Rattle.dump_digest.specs.Checks.{HasOtherDigest, is_told_text}
+use Rattle.dump_digest.specs.VerdictMeaning.{IsVerdict}
+use Rattle.dump_digest.proofs.DigestLemmas.{clash}
+use Rattle.dump_digest.proofs.MergeLemmas.{merge_other}
+use Rattle.md5.specs.Md5.{md5}
+use Rattle.sha1.specs.Sha1.{sha1}
+
+or_second : (a b : Bool) → b ≡ true → (a || b) ≡ true
+or_second true b e = refl
+or_second false b e = e
+
+or_none : (a b : Bool) → b ≡ false → (a || b) ≡ a
+or_none true b e = refl
+or_none false b e = e
+
+pub unread : (props : List ℕ) (found : Bool) → (IsTrue found ↔ HasProperties props) → IsFalse found ↔ (¬ HasProperties props)
+unread props found means = (λ none has. clash (means.1 has) none, λ none. by_found found refl none)
+  where
+    by_found : (b : Bool) → found ≡ b → ¬ HasProperties props → IsFalse found
+    by_found true e none = absurd (none (means.0 e))
+    by_found false e none = e
+
+-- properties that aren't asked, and properties that are
+
+pub not_asked : (r : DumpRecord) (revision : Bool) → revision ≡ false → IsFalse (is_revision r)
+    → IsFalse (not revision) ↔ (IsTrue (is_revision r) × ¬ HasProperties r.props)
+not_asked r revision is none = (λ e. let bad : true ≡ false = sym (ap not is) ∙ e in cc, λ bad. absurd (clash bad.0 none))
+
+pub found_properties : {T : Type 0} (props bytes : List ℕ) (found : Option T) (ok : Bool) → bytes ≡ props → ok ≡ is_some found
+    → (IsSome found ↔ HasProperties bytes) → IsFalse ok ↔ (¬ HasProperties props)
+found_properties props bytes found ok same is means = unread props ok (
+  λ e. subst HasProperties same (means.0 (sym is ∙ e)),
+  λ has. is ∙ means.1 (subst HasProperties (sym same) has),
+)
+
+pub asked : {T : Type 0} (r : DumpRecord) (bytes : List ℕ) (ok : Bool) (found : Option T) → IsTrue (is_revision r) → bytes ≡ r.props → ok ≡ is_some found
+    → (IsSome found ↔ HasProperties bytes) → IsFalse ok ↔ (IsTrue (is_revision r) × ¬ HasProperties r.props)
+asked r bytes ok found revision same is means =
+    let read = found_properties r.props bytes found ok same is means in
+    (λ e. (revision, read.0 e), λ bad. read.1 bad.1)
+
+-- a node that is kept
+pub kept_verdict : (settings : Settings) (r : DumpRecord) (v : Verdict) → IsTrue (is_kept_node settings r)
+    → (IsFalse v.props_ok ↔ (¬ HasProperties r.props))
+    → (IsFalse v.md5_ok ↔ HasOtherDigest md5_name r 16 (md5 r.text))
+    → (IsFalse v.sha1_ok ↔ HasOtherDigest sha1_name r 20 (sha1 r.text))
+    → (IsFalse v.merge_ok ↔ ∥ HasBadMergeinfo settings r ∥₁)
+    → v.checked ≡ is_told_text r
+    → IsVerdict settings r v
+kept_verdict settings r v kept props first second merge checked = record {
+  props = (λ e. (or_second (is_revision r) (is_kept_node settings r) kept, props.0 e), λ bad. props.1 bad.1);
+  md5 = (λ e. let other = first.0 e in (kept, other.0, other.1), λ bad. first.1 (bad.1, bad.2));
+  sha1 = (λ e. let other = second.0 e in (kept, other.0, other.1), λ bad. second.1 (bad.1, bad.2));
+  merge = merge;
+  checked = checked ∙ rw kept refl;
+}
+
+-- another record
+pub other_verdict : (settings : Settings) (r : DumpRecord) (props_ok : Bool) → IsFalse (is_kept_node settings r)
+    → (IsFalse props_ok ↔ (IsTrue (is_revision r) × ¬ HasProperties r.props))
+    → IsVerdict settings r (record { props_ok = props_ok; md5_ok = true; sha1_ok = true; merge_ok = true; checked = false })
+other_verdict settings r props_ok other props = record {
+  props =
+      let revision = or_none (is_revision r) (is_kept_node settings r) other in
+      (λ e. let bad = props.0 e in (revision ∙ bad.0, bad.1), λ bad. props.1 (sym revision ∙ bad.0, bad.1));
+  md5 = (λ e. cc, λ bad. absurd (clash bad.0 other));
+  sha1 = (λ e. cc, λ bad. absurd (clash bad.0 other));
+  merge = merge_other settings r other;
+  checked = rw other refl;
+}

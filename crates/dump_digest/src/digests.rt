@@ -1,0 +1,95 @@
+//! The digests of a record's text.
+ghost use Rattle.std.specs.Prelude.{◌≡◌, ◌↔◌, ◌||◌, IsFalse, IsTrue, Ok, is_some, option_copied};
+ghost use Rattle.dump_text.specs.Names.{md5_name, sha1_name};
+ghost use Rattle.dump_records.specs.RecordViews.{record_item};
+ghost use Rattle.dump_digest.specs.Checks.{HasOtherDigest, TellsOther, is_told_text};
+ghost use Rattle.md5.specs.Md5.{md5};
+ghost use Rattle.sha1.specs.Sha1.{sha1};
+ghost use Rattle.hex.specs.Hex.{decode_sized};
+
+use dump_records::Record;
+use hex::FromHex;
+use md5::{Digest, Md5};
+use sha1::Sha1;
+
+/// What the digest headers of a record tell of its text.
+#[derive(Clone, Copy)]
+pub(crate) struct TextCheck {
+    pub(crate) md5_ok: bool,
+    pub(crate) sha1_ok: bool,
+    /// Whether there is a text, and a digest of it.
+    pub(crate) checked: bool,
+}
+
+/// Whether the digits, of either case, are the MD5 digest of the text.
+fn is_md5(digits: &[u8], text: &[u8]) -> bool
+    ensures { IsTrue result ↔ (decode_sized digits.now 16 ≡ Ok (md5 text.now)) }
+{
+    match <[u8; 16] as FromHex>::from_hex(digits) {
+        Ok(digest) => digest == Md5::digest(text),
+        Err(_) => false,
+    }
+}
+
+/// Whether the digits, of either case, are the SHA-1 digest of the text.
+fn is_sha1(digits: &[u8], text: &[u8]) -> bool
+    ensures { IsTrue result ↔ (decode_sized digits.now 20 ≡ Ok (sha1 text.now)) }
+{
+    match <[u8; 20] as FromHex>::from_hex(digits) {
+        Ok(digest) => digest == Sha1::digest(text),
+        Err(_) => false,
+    }
+}
+
+/// Whether no digits are told, or they are the MD5 digest of the text.
+fn md5_ok(told: Option<&[u8]>, text: &[u8]) -> bool
+    ensures { IsFalse result ↔ TellsOther (option_copied told.entry) 16 (md5 text.now) }
+{
+    match told {
+        Some(digits) => is_md5(digits, text),
+        None => true,
+    }
+}
+
+/// Whether no digits are told, or they are the SHA-1 digest of the text.
+fn sha1_ok(told: Option<&[u8]>, text: &[u8]) -> bool
+    ensures { IsFalse result ↔ TellsOther (option_copied told.entry) 20 (sha1 text.now) }
+{
+    match told {
+        Some(digits) => is_sha1(digits, text),
+        None => true,
+    }
+}
+
+/// Whether some digits are told.
+fn is_told(md5: Option<&[u8]>, sha1: Option<&[u8]>) -> bool
+    ensures { result ≡ (is_some md5.entry || is_some sha1.entry) }
+{
+    md5.is_some() || sha1.is_some()
+}
+
+/// What the digest headers of the record tell. The text is read where it lies, once for each
+/// digest; where there is no text length, no header is read.
+pub(crate) fn text_check(item: &Record<'_>) -> TextCheck
+    ensures md5 { let r = record_item item.now in
+        IsFalse result.md5_ok ↔ HasOtherDigest md5_name r 16 (md5 r.text) }
+    ensures sha1 { let r = record_item item.now in
+        IsFalse result.sha1_ok ↔ HasOtherDigest sha1_name r 20 (sha1 r.text) }
+    ensures checked { result.checked ≡ is_told_text (record_item item.now) }
+{
+    let Some(text) = item.text() else {
+        return TextCheck {
+            md5_ok: true,
+            sha1_ok: true,
+            checked: false,
+        };
+    };
+    let block = item.block();
+    let md5 = block.get(b"Text-content-md5");
+    let sha1 = block.get(b"Text-content-sha1");
+    TextCheck {
+        md5_ok: md5_ok(md5, text),
+        sha1_ok: sha1_ok(sha1, text),
+        checked: is_told(md5, sha1),
+    }
+}

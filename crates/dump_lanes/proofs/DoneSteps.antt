@@ -1,0 +1,265 @@
+-- Each move on a pool's queue of dones keeps its rule.
+use Rattle.std.proofs.Common.{◌≡◌, ◌≢◌, ◌==◌, ◌+◌, ◌-◌, ◌<◌, ℕ, Bool, true, false, true≢false, List, [], ◌∷◌, ◌++◌, length, set, sum_by, cond, sym, refl, ap, ◌∙◌, subst, ⊎_elim, append_assoc, eq-eqb, ne_eqb, lt_of_not-le, arith}
+use Rattle.std.proofs.lemmas.List.{append-nil}
+use Rattle.std.proofs.lemmas.List.Elements.{filter-append}
+use Rattle.std.proofs.lemmas.List.Sums.{sum_by-append, sum_by_push}
+use mathlib.Core.Option.{Option, none, some, some-injective, some-ne-none}
+use mathlib.Core.Logic.{dite}
+use native.Mathlib.Decide.{dec_le}
+use lib.ListN.{get_elem?}
+use Rattle.crossbeam_queue.specs.Fifo.{Pushes, Pops, Forks, Merges, Learns}
+use Rattle.atomic_table.proofs.Lists.{at_snoc, set_else}
+use Rattle.dump_lanes.specs.declared.pool.dones.Desk.{Desk}
+use Rattle.dump_lanes.specs.declared.pool.dones.Note.{Note}
+use Rattle.dump_lanes.specs.PoolEvents.{Event}
+use Rattle.dump_lanes.specs.PoolParts.{dones_share, dones_allow}
+use Rattle.dump_lanes.specs.DoneRule.{notes_of, reader, sender, spent, IsGone, Fits, IsDoneQueue, IsWhole}
+use Rattle.dump_lanes.proofs.QueueShares as shares
+use Rattle.dump_lanes.proofs.Views.{AllViews, AllViews-set, AllViews-one, AllViews-more, sum_by-set, sum_by-alone}
+
+same_either_way : (b : Bool) (x : Option ℕ) → cond b x x ≡ x
+same_either_way true x = refl
+same_either_way false x = refl
+
+module _ {T : Type 0} where
+  abbrev parts_of : Desk T → ℕ
+  parts_of v = v.parts
+
+  abbrev put_by : (Note T → ℕ) → Desk T → ℕ
+  put_by weight v = sum_by weight v.put
+
+  notes_own : (worker : ℕ) (log : List (Note T)) (x : Note T) → x.from ≡ worker → notes_of worker (log ++ x ∷ []) ≡ notes_of worker log ++ x ∷ []
+  notes_own worker log x e =
+      filter-append (λ (n : Note T). n.from == worker) log (x ∷ []) ∙ ap (λ b. notes_of worker log ++ cond b (x ∷ []) []) (eq-eqb x.from worker e)
+
+  notes_other : (worker : ℕ) (log : List (Note T)) (x : Note T) → x.from ≢ worker → notes_of worker (log ++ x ∷ []) ≡ notes_of worker log
+  notes_other worker log x ne =
+      filter-append (λ (n : Note T). n.from == worker) log (x ∷ [])
+      ∙ (ap (λ b. notes_of worker log ++ cond b (x ∷ []) []) (ne_eqb x.from worker ne) ∙ append-nil (notes_of worker log))
+
+  -- a new queue
+  pub begins : IsDoneQueue {T = T} [] (reader 128 [] 0 [] [] ∷ [])
+  begins =
+      let free : (worker : ℕ) → IsGone (λ k. none) [] worker [] = λ worker. record { unseated = refl; put_is = refl } in
+      let first : Fits {T = T} (λ k. none) [] 0 [] 0 (reader 128 [] 0 [] []) = record {
+        sends = λ s. absurd (true≢false (sym s));
+        gets = λ g. record { seated = refl; got_is = refl; to_come = λ worker le. free worker; knows = λ i worker put a. absurd (some-ne-none (worker, put) (sym a)) };
+        spends = λ e. refl;
+      } in
+      record {
+        sequencer = 0;
+        seat = λ k. none;
+        log = [];
+        got = [];
+        in_order = refl;
+        shares = shares.begins dones_share dones_allow;
+        parts = refl;
+        put = λ weight. refl;
+        fits = AllViews-one (Fits (λ k. none) [] 0 []) (reader 128 [] 0 [] []) first;
+      }
+
+  -- a worker puts a note
+  pub puts : (n pass : ℕ) (v : Desk T) (x : Note T) → v.sends ≡ true → 0 < v.parts → x.from ≡ v.from
+      → Pushes IsDoneQueue n pass v x (λ w. w ≡ sender v.parts v.from (v.put ++ x ∷ []))
+  puts n pass v x may parted from items views room h at =
+      let w : Desk T = sender v.parts v.from (v.put ++ x ∷ []) in
+      let mine = (h.fits pass v at).sends may in
+      let log : List (Note T) = h.log ++ x ∷ [] in
+      let other_notes : (k : ℕ) → h.seat k ≢ some pass → notes_of k log ≡ notes_of k h.log =
+      λ k no. notes_other k h.log x (λ e. no (ap h.seat (sym e ∙ from) ∙ mine.seated)) in
+      let still_gone : (k : ℕ) (put : List (Note T)) → IsGone h.seat h.log k put → IsGone h.seat log k put =
+      λ k put g. record { unseated = g.unseated; put_is = g.put_is ∙ sym (other_notes k (λ t. some-ne-none pass (sym t ∙ g.unseated))) } in
+      let one : Fits h.seat log h.sequencer h.got pass w = record {
+        sends = λ s. record { seated = mine.seated; put = ap (λ l. l ++ x ∷ []) mine.put ∙ sym (notes_own v.from h.log x from) };
+        gets = λ g. absurd (true≢false (sym g));
+        spends = λ no. absurd (omega arith);
+      } in
+      let others : (j : ℕ) (u : Desk T) → j ≢ pass → get_elem? views j ≡ some u → Fits h.seat log h.sequencer h.got j u =
+      λ j u apart e.
+      let f = h.fits j u e in record {
+        sends = λ s.
+            let k = f.sends s in
+            record { seated = k.seated; put = k.put ∙ sym (other_notes u.from (λ t. apart (some-injective j pass (sym k.seated ∙ t)))) };
+        gets = λ g.
+            let r = f.gets g in record {
+              seated = r.seated;
+              got_is = r.got_is;
+              to_come = λ k le. still_gone k [] (r.to_come k le);
+              knows = λ i k put a. let z = r.knows i k put a in (z.0, still_gone k put z.1);
+            };
+        spends = f.spends;
+      } in
+      let after : IsDoneQueue (items ++ x ∷ []) (set views pass w) = record {
+        sequencer = h.sequencer;
+        seat = h.seat;
+        log = log;
+        got = h.got;
+        in_order = ap (λ l. l ++ x ∷ []) h.in_order ∙ append_assoc h.got items (x ∷ []);
+        shares = shares.joins dones_share dones_allow h.log items (Event.Put x.from) x (λ l. refl) (λ l. refl) h.shares;
+        parts = let s = sum_by-set parts_of views pass v w at in let p = h.parts in omega arith;
+        put = λ weight.
+            let s = sum_by-set (put_by weight) views pass v w at in
+            let t = h.put weight in
+            let a = sum_by_push weight v.put x in
+            let b = sum_by_push weight h.log x in omega arith;
+        fits = AllViews-set (Fits h.seat log h.sequencer h.got) views pass w one others;
+      } in (w, after, refl)
+
+  -- the sequencer takes a note
+  pub takes : (pass : ℕ) (v : Desk T) → v.gets ≡ true → 0 < v.parts
+      → Pops IsDoneQueue pass v (λ x w. w ≡ reader v.parts v.put v.made (v.got ++ x ∷ []) v.known)
+  takes pass v may parted x items views h at =
+      let w : Desk T = reader v.parts v.put v.made (v.got ++ x ∷ []) v.known in
+      let mine = (h.fits pass v at).gets may in
+      let got : List (Note T) = h.got ++ x ∷ [] in
+      let one : Fits h.seat h.log h.sequencer got pass w = record {
+        sends = λ s. absurd (true≢false (sym s));
+        gets = λ g. record { seated = mine.seated; got_is = ap (λ l. l ++ x ∷ []) mine.got_is; to_come = mine.to_come; knows = mine.knows };
+        spends = λ no. absurd (omega arith);
+      } in
+      let others : (j : ℕ) (u : Desk T) → j ≢ pass → get_elem? views j ≡ some u → Fits h.seat h.log h.sequencer got j u =
+      λ j u apart e.
+      let f = h.fits j u e in
+      record { sends = f.sends; gets = λ g. absurd (apart ((f.gets g).seated ∙ sym mine.seated)); spends = f.spends } in
+      let after : IsDoneQueue items (set views pass w) = record {
+        sequencer = h.sequencer;
+        seat = h.seat;
+        log = h.log;
+        got = got;
+        in_order = h.in_order ∙ sym (append_assoc h.got (x ∷ []) items);
+        shares = shares.leaves dones_share dones_allow h.log items Event.Arrive x (λ l. refl) (shares.is_some (length (x ∷ items)) (omega arith)) h.shares;
+        parts = let s = sum_by-set parts_of views pass v w at in let p = h.parts in omega arith;
+        put = λ weight. let s = sum_by-set (put_by weight) views pass v w at in let t = h.put weight in omega arith;
+        fits = AllViews-set (Fits h.seat h.log h.sequencer got) views pass w one others;
+      } in (w, after, refl)
+
+  -- a worker's pass is cut off
+  pub forks : (pass : ℕ) (v : Desk T) → v.gets ≡ true → 1 < v.parts
+      → Forks IsDoneQueue pass v (reader (v.parts - 1) v.put (v.made + 1) v.got v.known) (sender 1 v.made [])
+  forks pass v may parted items views h at =
+      let left : Desk T = reader (v.parts - 1) v.put (v.made + 1) v.got v.known in
+      let right : Desk T = sender 1 v.made [] in
+      let cut : List (Desk T) = set views pass left in
+      let mine = (h.fits pass v at).gets may in
+      let seat : ℕ → Option ℕ = λ k. cond (k == v.made) (some (length cut)) (h.seat k) in
+      let others_stay : (k : ℕ) → k ≢ v.made → seat k ≡ h.seat k = λ k ne. ap (λ b. cond b (some (length cut)) (h.seat k)) (ne_eqb k v.made ne) in
+      let new : seat v.made ≡ some (length cut) = ap (λ b. cond b (some (length cut)) (h.seat v.made)) (eq-eqb v.made v.made refl) in
+      let free = mine.to_come v.made (omega arith) in
+      let still_gone : (k : ℕ) (put : List (Note T)) → k ≢ v.made → IsGone h.seat h.log k put → IsGone seat h.log k put =
+      λ k put ne g. record { unseated = others_stay k ne ∙ g.unseated; put_is = g.put_is } in
+      let one : Fits seat h.log h.sequencer h.got pass left = record {
+        sends = λ s. absurd (true≢false (sym s));
+        gets = λ g. record {
+          seated = mine.seated;
+          got_is = mine.got_is;
+          to_come = λ k le. still_gone k [] (λ e. absurd (omega arith)) (mine.to_come k (omega arith));
+          knows = λ i k put a.
+              let z = mine.knows i k put a in
+              let lt : k < v.made = z.0 in (omega arith, still_gone k put (λ e. absurd (omega arith)) z.1);
+        };
+        spends = λ no. absurd (omega arith);
+      } in
+      let others : (j : ℕ) (u : Desk T) → j ≢ pass → get_elem? views j ≡ some u → Fits seat h.log h.sequencer h.got j u =
+      λ j u apart e.
+      let f = h.fits j u e in record {
+        sends = λ s.
+            let k = f.sends s in
+            let ne : u.from ≢ v.made = λ same. some-ne-none j (sym k.seated ∙ (ap h.seat same ∙ free.unseated)) in
+            record { seated = others_stay u.from ne ∙ k.seated; put = k.put };
+        gets = λ g. absurd (apart ((f.gets g).seated ∙ sym mine.seated));
+        spends = f.spends;
+      } in
+      let last : Fits seat h.log h.sequencer h.got (length cut) right = record {
+        sends = λ s. record { seated = new; put = free.put_is };
+        gets = λ g. absurd (true≢false (sym g));
+        spends = λ no. refl;
+      } in
+      let Now : ℕ → Desk T → Type 0 = Fits seat h.log h.sequencer h.got in
+      record {
+        sequencer = h.sequencer;
+        seat = seat;
+        log = h.log;
+        got = h.got;
+        in_order = h.in_order;
+        shares = h.shares;
+        parts = let s = sum_by-set parts_of views pass v left at in let p = h.parts in let a = sum_by_push parts_of cut right in omega arith;
+        put = λ weight.
+            let s = sum_by-set (put_by weight) views pass v left at in
+            let t = h.put weight in
+            let a = sum_by_push (put_by weight) cut right in omega arith;
+        fits = AllViews-more Now cut right (AllViews-set Now views pass left one others) last;
+      }
+
+  -- the sequencer's pass takes in a worker's
+  pub merges : (pass : ℕ) (v : Desk T) (other : ℕ) (u : Desk T) → v.gets ≡ true → 0 < v.parts → u.sends ≡ true
+      → Merges IsDoneQueue pass v other u (reader (v.parts + u.parts) (v.put ++ u.put) v.made v.got (v.known ++ (u.from, u.put) ∷ [])) spent
+  merges pass v other u may parted sent items views h at two at' =
+      let both : Desk T = reader (v.parts + u.parts) (v.put ++ u.put) v.made v.got (v.known ++ (u.from, u.put) ∷ []) in
+      let joined : List (Desk T) = set views pass both in
+      let was : get_elem? views other ≡ some u = sym (set_else views pass other both two) ∙ at' in
+      let mine = (h.fits pass v at).gets may in
+      let theirs = (h.fits other u was).sends sent in
+      let seat : ℕ → Option ℕ = λ k. cond (k == u.from) none (h.seat k) in
+      let none_stays : (k : ℕ) → h.seat k ≡ none → seat k ≡ none = λ k e. ap (cond (k == u.from) none) e ∙ same_either_way (k == u.from) none in
+      let others_stay : (k : ℕ) → k ≢ u.from → seat k ≡ h.seat k = λ k ne. ap (λ b. cond b none (h.seat k)) (ne_eqb k u.from ne) in
+      let left : seat u.from ≡ none = ap (λ b. cond b none (h.seat u.from)) (eq-eqb u.from u.from refl) in
+      let below : u.from < v.made =
+      dite (dec_le v.made u.from) (λ le. absurd (some-ne-none other (sym theirs.seated ∙ (mine.to_come u.from le).unseated))) (λ no. lt_of_not-le no) in
+      let still_gone : (k : ℕ) (put : List (Note T)) → IsGone h.seat h.log k put → IsGone seat h.log k put =
+      λ k put g. record { unseated = none_stays k g.unseated; put_is = g.put_is } in
+      let new : (u.from < v.made) × IsGone seat h.log u.from u.put = (below, record { unseated = left; put_is = theirs.put }) in
+      let Now : ℕ → Desk T → Type 0 = Fits seat h.log h.sequencer h.got in
+      let NowElse : ℕ → Desk T → Type 0 = λ j y. j ≢ other → Now j y in
+      let here : NowElse pass both = λ apart. record {
+        sends = λ s. absurd (true≢false (sym s));
+        gets = λ g. record {
+          seated = mine.seated;
+          got_is = mine.got_is;
+          to_come = λ k le. still_gone k [] (mine.to_come k le);
+          knows = λ i k put a. ⊎_elim (λ b. let z = mine.knows i k put b in (z.0, still_gone k put z.1))
+              (λ (b : (u.from, u.put) ≡ (k, put)). subst (λ (p : ℕ × List (Note T)). (p.0 < v.made) × IsGone seat h.log p.0 p.1) b new)
+              (at_snoc v.known (u.from, u.put) (k, put) i a);
+        };
+        spends = λ no. absurd (omega arith);
+      } in
+      let others : (j : ℕ) (y : Desk T) → j ≢ pass → get_elem? views j ≡ some y → NowElse j y =
+      λ j y apart e away.
+      let f = h.fits j y e in record {
+        sends = λ s.
+            let k = f.sends s in
+            let ne : y.from ≢ u.from = λ same. away (some-injective j other (sym k.seated ∙ (ap h.seat same ∙ theirs.seated))) in
+            record { seated = others_stay y.from ne ∙ k.seated; put = k.put };
+        gets = λ g. absurd (apart ((f.gets g).seated ∙ sym mine.seated));
+        spends = f.spends;
+      } in
+      let now : AllViews NowElse joined = AllViews-set NowElse views pass both here others in
+      let gone : Now other spent = record { sends = λ s. absurd (true≢false (sym s)); gets = λ s. absurd (true≢false (sym s)); spends = λ e. refl } in
+      record {
+        sequencer = h.sequencer;
+        seat = seat;
+        log = h.log;
+        got = h.got;
+        in_order = h.in_order;
+        shares = h.shares;
+        parts = let s = sum_by-set parts_of views pass v both at in let t = sum_by-set parts_of joined other u spent at' in let p = h.parts in omega arith;
+        put = λ weight.
+            let s = sum_by-set (put_by weight) views pass v both at in
+            let t = sum_by-set (put_by weight) joined other u spent at' in
+            let k = h.put weight in
+            let a = sum_by-append weight v.put u.put in omega arith;
+        fits = AllViews-set Now joined other spent gone (λ j y apart e. now j y e apart);
+      }
+
+  -- a pass that takes and has all parts learns what was put and what is left
+  pub learns : (pass : ℕ) (v : Desk T) → v.gets ≡ true → v.parts ≡ 128 → Learns IsDoneQueue pass v (λ items. IsWhole v items)
+  learns pass v may all items views h at =
+      let mine = (h.fits pass v at).gets may in
+      let idle : (weight : Note T → ℕ) → AllViews (λ pass u. u.parts ≡ 0 → put_by weight u ≡ 0) views =
+      λ weight j u e no. ap (λ l. sum_by weight l) ((h.fits j u e).spends no) in
+      record {
+        log = h.log;
+        in_order = h.in_order ∙ ap (λ l. l ++ items) (sym mine.got_is);
+        weighs = λ weight. sym (sum_by-alone parts_of (put_by weight) views pass v (idle weight) at (h.parts ∙ sym all)) ∙ h.put weight;
+        to_come = λ k le. sym (mine.to_come k le).put_is;
+        knows = λ i k put a. (mine.knows i k put a).1.put_is;
+      }

@@ -1,0 +1,47 @@
+-- The marks of a pool's queues, as they join a list.
+use Rattle.std.proofs.Common.{◌≡◌, ◌+◌, ℕ, zero, suc, false, List, [], ◌∷◌, ◌++◌, replicate, IsTrue, refl, ap, ◌∙◌, arith}
+use Rattle.std.proofs.lemmas.List.{append-nil, map-append}
+use Rattle.dump_lanes.specs.declared.pool.dones.Note.{Note}
+use Rattle.dump_lanes.specs.declared.protocol.Mark.{Mark}
+use Rattle.dump_lanes.specs.declared.protocol.Mark.TheVariants.{Item, End}
+use Rattle.dump_lanes.specs.LaneMarks.{items_of}
+use Rattle.dump_lanes.specs.PoolEvents.{Event}
+use Rattle.dump_lanes.specs.PoolParts.{jobs_share, jobs_allow}
+use Rattle.dump_lanes.specs.PoolPasses.{count_ends, marks_in}
+use Rattle.dump_lanes.proofs.MarkLists.{items_of-append}
+
+pub count_ends-replicate : (T : Type 0) (n : ℕ) → count_ends {T = T} (replicate n End) ≡ n
+count_ends-replicate T zero = refl
+count_ends-replicate T (suc n) = let t = count_ends-replicate T n in omega arith
+
+items_of-ends : (T : Type 0) (n : ℕ) → items_of {T = T} (replicate n End) ≡ []
+items_of-ends T zero = refl
+items_of-ends T (suc n) = items_of-ends T n
+
+module _ {T : Type 0} where
+  -- the event in which the cutter puts a mark; whether an item is its last changes no queue
+  abbrev pub cut_event : Mark T → Event
+  cut_event (Item x) = Event.Cut false
+  cut_event End = Event.CutMark
+
+  pub cut_joins : (x : Mark T) (l : List (Mark T)) → jobs_share l (x ∷ []) (cut_event x) ≡ l ++ x ∷ []
+  cut_joins (Item x) l = refl
+  cut_joins End l = refl
+
+  pub cut_may : (x : Mark T) (l : List (Mark T)) → IsTrue (jobs_allow l (cut_event x))
+  cut_may (Item x) l = refl
+  cut_may End l = refl
+
+  pub count_ends-append : (xs ys : List (Mark T)) → count_ends (xs ++ ys) ≡ count_ends xs + count_ends ys
+  count_ends-append [] ys = omega arith
+  count_ends-append (Item x ∷ xs) ys = count_ends-append xs ys
+  count_ends-append (End ∷ xs) ys = let t = count_ends-append xs ys in omega arith
+
+  -- end marks join
+  pub items_of-then_ends : (ms : List (Mark T)) (n : ℕ) → items_of (ms ++ replicate n End) ≡ items_of ms
+  items_of-then_ends ms n =
+      items_of-append ms (replicate n End) ∙ (ap (λ l. items_of ms ++ l) (items_of-ends T n) ∙ append-nil (items_of ms))
+
+  -- a note joins
+  pub marks_in-then : (notes : List (Note T)) (n : Note T) → marks_in (notes ++ n ∷ []) ≡ marks_in notes ++ n.mark ∷ []
+  marks_in-then notes n = map-append (λ (k : Note T). k.mark) notes (n ∷ [])

@@ -1,0 +1,273 @@
+-- What a pool's ports say together, once each is closed and has taken its last.
+use Rattle.std.proofs.Common.{◌≡◌, ◌+◌, ◌<◌, ◌==◌, ℕ, zero, suc, true, false, List, [], ◌∷◌, ◌++◌, length, map, replicate, flat_map, sum_by, All, Contains, slice_index_or, sym, refl, ap, ◌∙◌, subst, append_assoc, arith}
+use Rattle.std.specs.List.{range_with_len}
+use Rattle.std.proofs.lemmas.Bool.{eqb-true}
+use Rattle.std.proofs.lemmas.List.{append-nil, length-append}
+use mathlib.Core.Option.{some}
+use lib.ListN.{get_elem?}
+use Rattle.crossbeam_queue.specs.Passes.{view}
+use Rattle.dump_lanes.specs.declared.pool.dones.Desk.{Desk}
+use Rattle.dump_lanes.specs.declared.pool.dones.Note.{Note}
+use Rattle.dump_lanes.specs.declared.pool.jobs.Hand.{Hand}
+use Rattle.dump_lanes.specs.declared.pool.queues.Queues.{Queues}
+use Rattle.dump_lanes.specs.declared.pool.worker.WorkerPort.{WorkerPort}
+use Rattle.dump_lanes.specs.declared.protocol.Mark.{Mark}
+use Rattle.dump_lanes.specs.declared.protocol.Mark.TheVariants.{End}
+use Rattle.dump_lanes.specs.DoneRule as done_rule
+use Rattle.dump_lanes.specs.JobRule as job_rule
+use Rattle.dump_lanes.specs.LaneMarks.{items_of, AreItemsThen, mark_if}
+use Rattle.dump_lanes.specs.PoolNames.{name_of}
+use Rattle.dump_lanes.specs.PoolPasses.{count_ends, marks_in, IsCutting, IsSequencing}
+use Rattle.dump_lanes.specs.PortSides.{PoolName, PoolState, CutterSide, WorkerSide, new_cutter, new_worker, AreWorkersOf, IsDone, all_taken, all_given}
+use Rattle.dump_lanes.specs.PortViews.{worker_port, HasJobsOf, HasDonesOf}
+use Rattle.dump_lanes.proofs.MarkLists.{items_of-append}
+use Rattle.dump_lanes.proofs.PoolMarks.{count_ends-append}
+use Rattle.dump_lanes.proofs.Settling.{one_end, all_jobs, all_dones, HasEnded, marks_in-append, flat_map-then, map-then}
+
+module _ {X Y : Type 0} where
+  index_of_map : (f : X → Y) (xs : List X) (k : ℕ) (d : X) → slice_index_or (map f xs) k (f d) ≡ f (slice_index_or xs k d)
+  index_of_map f [] k d = refl
+  index_of_map f (x ∷ xs) zero d = refl
+  index_of_map f (x ∷ xs) (suc k) d = index_of_map f xs k d
+
+  pub length_of_map : (f : X → Y) (xs : List X) → length (map f xs) ≡ length xs
+  length_of_map f [] = refl
+  length_of_map f (x ∷ xs) = ap suc (length_of_map f xs)
+
+  -- what holds of each element of a list after a function
+  pub all_of_map : (P : Y → Type 0) (f : X → Y) (xs : List X) → All P (map f xs) → All (λ x. P (f x)) xs
+  all_of_map P f xs h k d lt = subst P (index_of_map f xs k d) (h k (f d) (subst (λ n. k < n) (sym (length_of_map f xs)) lt))
+
+length_range : (a n : ℕ) → length (range_with_len a n) ≡ n
+length_range a zero = refl
+length_range a (suc n) = ap suc (length_range (a + 1) n)
+
+map_twice : {X Y Z : Type 0} (f : X → Y) (h : Y → Z) (xs : List X) → map h (map f xs) ≡ map (λ x. h (f x)) xs
+map_twice f h [] = refl
+map_twice f h (x ∷ xs) = ap (λ l. h (f x) ∷ l) (map_twice f h xs)
+
+all_rest : {X : Type 0} (P : X → Type 0) (x : X) (xs : List X) → All P (x ∷ xs) → All P xs
+all_rest P x xs h k d lt = h (suc k) d (omega arith)
+
+-- what holds of each element after a function holds of a list after that function
+pub map_of_all : {X Y : Type 0} (P : Y → Type 0) (f : X → Y) (xs : List X) → All (λ x. P (f x)) xs → All P (map f xs)
+map_of_all P f [] h k d lt = absurd (omega arith)
+map_of_all P f (x ∷ xs) h zero d lt = h 0 x (omega arith)
+map_of_all P f (x ∷ xs) h (suc k) d lt = map_of_all P f xs (all_rest (λ y. P (f y)) x xs h) k d (omega arith)
+
+-- one more element of which a fact holds
+pub all_then : {X : Type 0} (P : X → Type 0) (xs : List X) (x : X) → All P xs → P x → All P (xs ++ x ∷ [])
+all_then P [] x h p zero d lt = p
+all_then P [] x h p (suc k) d lt = absurd (omega arith)
+all_then P (y ∷ xs) x h p zero d lt = h 0 d (omega arith)
+all_then P (y ∷ xs) x h p (suc k) d lt = all_then P xs x (all_rest P y xs h) p k d (omega arith)
+
+numbers_found : (J D : Type 0) (pool : PoolState) (a n k : ℕ) → k < n
+    → (i : ℕ) × (i < length (map (λ (w : WorkerSide J D). w.index) (map (new_worker {J = J} {D = D} pool) (range_with_len a n))))
+    × ((d : ℕ) → slice_index_or (map (λ (w : WorkerSide J D). w.index) (map (new_worker {J = J} {D = D} pool) (range_with_len a n))) i d ≡ a + k)
+numbers_found J D pool a zero k lt = absurd (omega arith)
+numbers_found J D pool a (suc n) zero lt = (0, omega arith, λ d. omega arith)
+numbers_found J D pool a (suc n) (suc k) lt =
+    let t = numbers_found J D pool (a + 1) n k (omega arith) in
+    (suc t.0, (let s = t.1 in omega arith), λ d. t.2 d ∙ omega arith)
+
+module _ {J D : Type 0} where
+  -- queues of one pool have as many workers
+  pub same_workers : (q r : Queues J D) → name_of q ≡ name_of r → q.workers ≡ r.workers
+  same_workers q r e =
+      let a = ap (λ (n : PoolName). n.dones.slots) e in
+      let b = ap (λ (n : PoolName). n.credits.slots) e in
+      let qd = q.dones.sized.1 in
+      let qc = q.credits.sized.1 in
+      let rd = r.dones.sized.1 in
+      let rc = r.credits.sized.1 in
+      let qp = q.places in
+      let qw = q.credit_places in
+      let rp = r.places in
+      let rw' = r.credit_places in omega arith
+
+  abbrev taken_of : WorkerPort J D → List (Mark J)
+  taken_of p = (view p.jobs).taken
+
+  abbrev put_of : WorkerPort J D → List (Note D)
+  put_of p = (view p.dones).put
+
+  abbrev known_of : WorkerPort J D → ℕ × List (Note D)
+  known_of p = ((view p.dones).from, (view p.dones).put)
+
+  abbrev AreDone : List (WorkerPort J D) → Type 0
+  AreDone ps = All (λ (p : WorkerPort J D). IsDone (worker_port p)) ps
+
+  first_done : (p : WorkerPort J D) (ps : List (WorkerPort J D)) → AreDone (p ∷ ps) → IsDone (worker_port p)
+  first_done p ps h = h 0 p (omega arith)
+
+  rest_done : (p : WorkerPort J D) (ps : List (WorkerPort J D)) → AreDone (p ∷ ps) → AreDone ps
+  rest_done p ps h = all_rest (λ (q : WorkerPort J D). IsDone (worker_port q)) p ps h
+
+  -- each worker took one end mark, and put one
+  one_taken : (p : WorkerPort J D) → IsDone (worker_port p) → count_ends (taken_of p) ≡ 1
+  one_taken p h = one_end (taken_of p) (subst (λ b. AreItemsThen (mark_if b) (taken_of p)) h.0 p.works.marks)
+
+  has_ended : (p : WorkerPort J D) → IsDone (worker_port p) → HasEnded (put_of p)
+  has_ended p h = subst (λ b. AreItemsThen (mark_if b) (marks_in (put_of p))) h.1 p.gives.marks
+
+  ends_taken : (ps : List (WorkerPort J D)) → AreDone ps → count_ends (flat_map taken_of ps) ≡ length ps
+  ends_taken [] h = refl
+  ends_taken (p ∷ ps) h =
+      let a = count_ends-append (taken_of p) (flat_map taken_of ps) in
+      let b = one_taken p (first_done p ps h) in
+      let t = ends_taken ps (rest_done p ps h) in omega arith
+
+  ends_put : (ps : List (WorkerPort J D)) → AreDone ps → count_ends (marks_in (flat_map put_of ps)) ≡ length ps
+  ends_put [] h = refl
+  ends_put (p ∷ ps) h =
+      let parts = ap count_ends (marks_in-append (put_of p) (flat_map put_of ps)) in
+      let a = count_ends-append (marks_in (put_of p)) (marks_in (flat_map put_of ps)) in
+      let b = one_end (marks_in (put_of p)) (has_ended p (first_done p ps h)) in
+      let t = ends_put ps (rest_done p ps h) in omega arith
+
+  items_taken : (ps : List (WorkerPort J D)) → items_of (flat_map taken_of ps) ≡ all_taken (map (λ (p : WorkerPort J D). worker_port p) ps)
+  items_taken [] = refl
+  items_taken (p ∷ ps) = items_of-append (taken_of p) (flat_map taken_of ps) ∙ ap (λ l. items_of (taken_of p) ++ l) (items_taken ps)
+
+  items_put : (ps : List (WorkerPort J D)) → items_of (marks_in (flat_map put_of ps)) ≡ all_given (map (λ (p : WorkerPort J D). worker_port p) ps)
+  items_put [] = refl
+  items_put (p ∷ ps) =
+      ap items_of (marks_in-append (put_of p) (flat_map put_of ps))
+      ∙ (items_of-append (marks_in (put_of p)) (marks_in (flat_map put_of ps)) ∙ ap (λ l. items_of (marks_in (put_of p)) ++ l) (items_put ps))
+
+  -- the port of a worker that has put its end mark
+  found : (ps : List (WorkerPort J D)) (k worker d : ℕ) → AreDone ps → k < length ps
+      → slice_index_or (map (λ (w : WorkerSide J D). w.index) (map (λ (p : WorkerPort J D). worker_port p) ps)) k d ≡ worker
+      → (put : List (Note D)) × (get_elem? (map known_of ps) k ≡ some (worker, put)) × HasEnded put
+  found [] k worker d h lt e = absurd (omega arith)
+  found (p ∷ ps) zero worker d h lt e =
+      (put_of p, ap (λ n. some (n, put_of p)) (p.gives.from ∙ e), has_ended p (first_done p ps h))
+  found (p ∷ ps) (suc k) worker d h lt e = found ps k worker d (rest_done p ps h) (omega arith) e
+
+  -- each job was taken as often as it was put
+  pub settles_jobs : (workers : ℕ) (cutter v : Hand J) (ps : List (WorkerPort J D)) (items : List (Mark J)) → 0 < workers
+      → IsCutting workers cutter → count_ends cutter.put ≡ workers → length ps ≡ workers → AreDone ps
+      → HasJobsOf ps cutter v → job_rule.IsWhole v.put v.taken items
+      → (weight : J → ℕ) → sum_by weight (all_taken (map (λ (p : WorkerPort J D). worker_port p) ps)) ≡ sum_by weight (items_of cutter.put)
+  settles_jobs workers cutter v ps items more h marks long done e whole weight =
+      let taken : List (Mark J) = flat_map taken_of ps in
+      let first : v.taken ≡ taken = e.taken ∙ ap (λ l. l ++ taken) h.nothing_taken in
+      let now : job_rule.IsWhole cutter.put taken items =
+      subst (λ l. job_rule.IsWhole cutter.put l items) first (subst (λ l. job_rule.IsWhole l v.taken items) e.put whole) in
+      let last : AreItemsThen (replicate workers End) cutter.put = subst (λ n. AreItemsThen (replicate n End) cutter.put) marks h.marks in
+      ap (sum_by weight) (sym (items_taken ps)) ∙ all_jobs workers cutter.put taken items more last marks (ends_taken ps done ∙ long) now weight
+
+  -- each item was taken as often as the workers put it
+  pub settles_dones : (pool : PoolName) (workers left : ℕ) (sequencer v : Desk D) (ps : List (WorkerPort J D)) (items : List (Note D))
+      → IsSequencing workers left sequencer → (left == 0) ≡ true → AreWorkersOf pool workers (map (λ (p : WorkerPort J D). worker_port p) ps) → AreDone ps
+      → HasDonesOf ps sequencer v → done_rule.IsWhole v items
+      → (weight : D → ℕ) → sum_by weight (items_of (marks_in sequencer.got)) ≡ sum_by weight (all_given (map (λ (p : WorkerPort J D). worker_port p) ps))
+  settles_dones pool workers left sequencer v ps items h none all done e whole weight =
+      let put : List (Note D) = flat_map put_of ps in
+      let long : length ps ≡ workers = sym (length_of_map (λ (p : WorkerPort J D). worker_port p) ps) ∙ all.as_many in
+      let got : v.got ≡ sequencer.got = e.got in
+      let put_is : v.put ≡ put = e.put ∙ ap (λ l. l ++ put) h.nothing_put in
+      let known : v.known ≡ map known_of ps = e.known ∙ ap (λ l. l ++ map known_of ps) h.nothing_known in
+      let no_left : left ≡ 0 = eqb-true left 0 none in
+      let of_got : count_ends (marks_in v.got) ≡ workers =
+      ap (λ l. count_ends (marks_in l)) got ∙ (let m = h.marks in omega arith) in
+      let of_put : count_ends (marks_in v.put) ≡ workers = ap (λ l. count_ends (marks_in l)) put_is ∙ (ends_put ps done ∙ long) in
+      let each : (worker : ℕ) → worker < workers → (i : ℕ) × (put : List (Note D)) × (get_elem? v.known i ≡ some (worker, put)) × HasEnded put =
+      λ worker lt.
+      let x = all.each worker lt in
+      let short : x.0 < length ps = subst (λ n. x.0 < n) (length_of_map (λ (w : WorkerSide J D). w.index) _ ∙ length_of_map (λ (p : WorkerPort J D). worker_port p) ps) x.1 in
+      let y = found ps x.0 worker worker done short x.2 in
+      (x.0, y.0, ap (λ l. get_elem? l x.0) known ∙ y.1, y.2) in
+      ap (λ l. sum_by weight (items_of (marks_in l))) (sym got)
+      ∙ (all_dones workers v items (e.made ∙ h.made) of_got of_put each whole weight
+      ∙ (ap (λ l. sum_by weight (items_of (marks_in l))) put_is ∙ ap (sum_by weight) (items_put ps)))
+
+  -- the cutter's pass takes in one worker's after another
+  pub no_jobs : (v : Hand J) → v.puts ≡ true → HasJobsOf {J = J} {D = D} [] v v
+  no_jobs v may = record { may_put = may; parts = omega arith; put = refl; taken = sym (append-nil v.taken) }
+
+  pub more_jobs : (ps : List (WorkerPort J D)) (p : WorkerPort J D) (old v w : Hand J) → HasJobsOf ps old v
+      → w ≡ job_rule.hand (v.parts + (view p.jobs).parts) v.puts v.put (v.taken ++ (view p.jobs).taken) → HasJobsOf (ps ++ p ∷ []) old w
+  more_jobs ps p old v w h e =
+      let one = p.works.parts in
+      let long = length-append ps (p ∷ []) in
+      let both : Hand J = job_rule.hand (v.parts + (view p.jobs).parts) v.puts v.put (v.taken ++ (view p.jobs).taken) in
+      let after : HasJobsOf (ps ++ p ∷ []) old both = record {
+        may_put = h.may_put;
+        parts = let k = h.parts in omega arith;
+        put = h.put;
+        taken = ap (λ l. l ++ taken_of p) h.taken ∙ (append_assoc old.taken (flat_map taken_of ps) (taken_of p) ∙ ap (λ l. old.taken ++ l) (sym (flat_map-then taken_of ps p)));
+      } in subst (HasJobsOf (ps ++ p ∷ []) old) (sym e) after
+
+  -- and so does the sequencer's
+  pub no_dones : (v : Desk D) → v.gets ≡ true → HasDonesOf {J = J} {D = D} [] v v
+  no_dones v may = record { may_take = may; parts = omega arith; put = sym (append-nil v.put); made = refl; got = refl; known = sym (append-nil v.known) }
+
+  pub more_dones : (ps : List (WorkerPort J D)) (p : WorkerPort J D) (old v w : Desk D) → HasDonesOf ps old v
+      → w ≡ done_rule.reader (v.parts + (view p.dones).parts) (v.put ++ (view p.dones).put) v.made v.got (v.known ++ ((view p.dones).from, (view p.dones).put) ∷ [])
+      → HasDonesOf (ps ++ p ∷ []) old w
+  more_dones ps p old v w h e =
+      let one = p.gives.parts in
+      let long = length-append ps (p ∷ []) in
+      let both : Desk D = done_rule.reader (v.parts + (view p.dones).parts) (v.put ++ (view p.dones).put) v.made v.got (v.known ++ ((view p.dones).from, (view p.dones).put) ∷ []) in
+      let after : HasDonesOf (ps ++ p ∷ []) old both = record {
+        may_take = refl;
+        parts = let k = h.parts in omega arith;
+        put = ap (λ l. l ++ put_of p) h.put ∙ (append_assoc old.put (flat_map put_of ps) (put_of p) ∙ ap (λ l. old.put ++ l) (sym (flat_map-then put_of ps p)));
+        made = h.made;
+        got = h.got;
+        known = ap (λ l. l ++ known_of p ∷ []) h.known ∙ (append_assoc old.known (map known_of ps) (known_of p ∷ []) ∙ ap (λ l. old.known ++ l) (sym (map-then known_of ps p)));
+      } in subst (HasDonesOf (ps ++ p ∷ []) old) (sym e) after
+
+  -- other ports of the same workers
+  pub same_ports : (pool : PoolName) (count : ℕ) (old new : List (WorkerPort J D))
+      → map (λ (p : WorkerPort J D). (worker_port p).pool) new ≡ map (λ (p : WorkerPort J D). (worker_port p).pool) old
+      → map (λ (p : WorkerPort J D). (worker_port p).index) new ≡ map (λ (p : WorkerPort J D). (worker_port p).index) old
+      → AreWorkersOf pool count (map (λ (p : WorkerPort J D). worker_port p) old) → AreWorkersOf pool count (map (λ (p : WorkerPort J D). worker_port p) new)
+  same_ports pool count old new pools indexes h =
+      let side : WorkerPort J D → WorkerSide J D = λ p. worker_port p in
+      let of_pool : WorkerSide J D → PoolName = λ w. w.pool in
+      let of_index : WorkerSide J D → ℕ = λ w. w.index in
+      let long : length new ≡ length old =
+      sym (length_of_map (λ (p : WorkerPort J D). (worker_port p).index) new) ∙ (ap length indexes ∙ length_of_map (λ (p : WorkerPort J D). (worker_port p).index) old) in
+      let all_pools : map of_pool (map side new) ≡ map of_pool (map side old) = map_twice side of_pool new ∙ (pools ∙ sym (map_twice side of_pool old)) in
+      let all_indexes : map of_index (map side new) ≡ map of_index (map side old) = map_twice side of_index new ∙ (indexes ∙ sym (map_twice side of_index old)) in
+      let as_long : length (map side new) ≡ length (map side old) = length_of_map side new ∙ (long ∙ sym (length_of_map side old)) in
+      record {
+        same_pool = λ k d lt.
+            sym (index_of_map of_pool (map side new) k d)
+            ∙ (ap (λ l. slice_index_or l k (of_pool d)) all_pools
+            ∙ (index_of_map of_pool (map side old) k d ∙ h.same_pool k d (subst (λ n. k < n) as_long lt)));
+        as_many = as_long ∙ h.as_many;
+        each = λ n lt. subst (λ l. Contains l n) (sym all_indexes) (h.each n lt);
+      }
+
+  -- the ports that a pool gives are those of its workers
+  all_new : (pool : PoolState) (a n : ℕ) → All (λ (w : WorkerSide J D). (w.pool ≡ pool.name) × (w.closed ≡ false)) (map (new_worker {J = J} {D = D} pool) (range_with_len a n))
+  all_new pool a zero k d lt = absurd (omega arith)
+  all_new pool a (suc n) zero d lt = (refl, refl)
+  all_new pool a (suc n) (suc k) d lt = all_new pool (a + 1) n k d (omega arith)
+
+  pub are_workers : (pool : PoolState) (sides : List (WorkerSide J D)) → sides ≡ map (new_worker pool) (range_with_len 0 pool.workers)
+      → AreWorkersOf pool.name pool.workers sides
+  are_workers pool sides e =
+      let new : List (WorkerSide J D) = map (new_worker pool) (range_with_len 0 pool.workers) in
+      let of_new : AreWorkersOf pool.name pool.workers new = record {
+        same_pool = λ k d lt. (all_new pool 0 pool.workers k d lt).0;
+        as_many = length_of_map (new_worker {J = J} {D = D} pool) (range_with_len 0 pool.workers) ∙ length_range 0 pool.workers;
+        each = λ n lt.
+            let t = numbers_found J D pool 0 pool.workers n lt in
+            (t.0, t.1, t.2 n ∙ omega arith);
+      } in subst (AreWorkersOf pool.name pool.workers) (sym e) of_new
+
+  pub none_closed : (pool : PoolState) (ports : List (WorkerPort J D)) → map (λ (p : WorkerPort J D). worker_port p) ports ≡ map (new_worker pool) (range_with_len 0 pool.workers)
+      → All (λ (p : WorkerPort J D). (worker_port p).closed ≡ false) ports
+  none_closed pool ports e =
+      all_of_map (λ (w : WorkerSide J D). w.closed ≡ false) (λ (p : WorkerPort J D). worker_port p) ports
+      (subst (All (λ (w : WorkerSide J D). w.closed ≡ false)) (sym e) (λ k d lt. (all_new pool 0 pool.workers k d lt).1))
+
+  pub fresh_workers : (pool : PoolState) (cutter : CutterSide J) (sides : List (WorkerSide J D)) → cutter ≡ new_cutter pool
+      → sides ≡ map (new_worker pool) (range_with_len 0 pool.workers) → AreWorkersOf cutter.pool cutter.workers sides
+  fresh_workers pool cutter sides e new =
+      subst (λ (x : CutterSide J). AreWorkersOf x.pool x.workers sides) (sym e) (are_workers pool sides new)

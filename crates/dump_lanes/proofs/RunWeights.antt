@@ -1,0 +1,188 @@
+-- What the items in a list weigh, where each number has a weight.
+use Rattle.std.proofs.Common.{◌≡◌, ℕ, zero, suc, ◌+◌, ◌<◌, ◌≤◌, ◌==◌, Bool, true, false, cond, not, List, [], ◌∷◌, ◌++◌, length, get_or, set, replicate, filter, count_by, sum_by, Option, None, option_to_list, sym, refl, ap, ◌∙◌, arith, map-id, add-one, ◌||◌, ◌⊎◌, inl, inr}
+use Rattle.std.specs.List.{concat, list_any, range_with_len}
+use Rattle.std.proofs.lemmas.Bool.{eqb-true, eq-eqb, ne_eqb, cases_eq}
+use Rattle.std.proofs.lemmas.List.FromFn.{map-range_with_len_more}
+use Rattle.std.proofs.lemmas.List.Sums.{sum_by-cons}
+use Rattle.dump_lanes.specs.PoolWorld.{Entry, items_of, items_in_hands}
+
+abbrev pub weigh : (ℕ → ℕ) → List ℕ → ℕ
+weigh f [] = 0
+weigh f (x ∷ xs) = f x + weigh f xs
+
+-- one number alone weighs something
+abbrev pub only : ℕ → ℕ → ℕ
+only n m = cond (m == n) 1 0
+
+-- each number weighs as much
+abbrev pub each : ℕ → ℕ
+each m = 1
+
+pub weigh-append : (f : ℕ → ℕ) (xs ys : List ℕ) → weigh f (xs ++ ys) ≡ weigh f xs + weigh f ys
+weigh-append f [] ys = omega arith
+weigh-append f (x ∷ xs) ys = let more = weigh-append f xs ys in omega arith
+
+weigh_is_sum : (f : ℕ → ℕ) (xs : List ℕ) → weigh f xs ≡ sum_by f xs
+weigh_is_sum f [] = refl
+weigh_is_sum f (x ∷ xs) = let more = weigh_is_sum f xs in omega (arith, sum_by-cons f x xs)
+
+-- how often a number stands in a list is what it weighs there alone
+pub times_is : (n : ℕ) (xs : List ℕ) → count_by (λ m. m == n) xs ≡ weigh (only n) xs
+times_is n xs = sym (weigh_is_sum (only n) xs)
+
+pub length_is : (xs : List ℕ) → length xs ≡ weigh each xs
+length_is [] = refl
+length_is (x ∷ xs) = let more = length_is xs in omega arith
+
+pub only_itself : (n : ℕ) → only n n ≡ 1
+only_itself n = ap (λ b. cond b 1 0) (eq-eqb n n refl)
+
+pub only_other : (n m : ℕ) → (m ≡ n → ⊥) → only n m ≡ 0
+only_other n m h = ap (λ b. cond b 1 0) (ne_eqb m n h)
+
+-- entries
+pub items_of-append : (es fs : List Entry) → items_of (es ++ fs) ≡ items_of es ++ items_of fs
+items_of-append [] fs = refl
+items_of-append (Entry.Item n ∷ es) fs = ap (λ l. n ∷ l) (items_of-append es fs)
+items_of-append (Entry.Mark ∷ es) fs = items_of-append es fs
+
+pub weigh_entries : (f : ℕ → ℕ) (es fs : List Entry) → weigh f (items_of (es ++ fs)) ≡ weigh f (items_of es) + weigh f (items_of fs)
+weigh_entries f es fs = ap (weigh f) (items_of-append es fs) ∙ weigh-append f (items_of es) (items_of fs)
+
+-- hands
+abbrev pub weigh_hand : (ℕ → ℕ) → Option Entry → ℕ
+weigh_hand f hand = weigh f (items_of (option_to_list hand))
+
+pub hands_set : (f : ℕ → ℕ) (hands : List (Option Entry)) (k : ℕ) (hand : Option Entry) → k < length hands
+    → weigh f (items_in_hands (set hands k hand)) + weigh_hand f (get_or hands k None) ≡ weigh f (items_in_hands hands) + weigh_hand f hand
+hands_set f [] k hand lt = absurd (omega arith)
+hands_set f (h ∷ hands) zero hand lt =
+    omega (arith, weigh-append f (items_of (option_to_list hand)) (items_in_hands hands), weigh-append f (items_of (option_to_list h)) (items_in_hands hands))
+hands_set f (h ∷ hands) (suc k) hand lt =
+    let more = hands_set f hands k hand (omega arith) in
+    omega (arith, weigh-append f (items_of (option_to_list h)) (items_in_hands hands), weigh-append f (items_of (option_to_list h)) (items_in_hands (set hands k hand)))
+
+pub no_hands : (n : ℕ) → items_in_hands (replicate n None) ≡ []
+no_hands zero = refl
+no_hands (suc n) = no_hands n
+
+-- slots
+pub slots_set : (f : ℕ → ℕ) (slots : List (List ℕ)) (k : ℕ) (slot : List ℕ) → k < length slots
+    → weigh f (concat (set slots k slot)) + weigh f (get_or slots k []) ≡ weigh f (concat slots) + weigh f slot
+slots_set f [] k slot lt = absurd (omega arith)
+slots_set f (s ∷ slots) zero slot lt =
+    omega (arith, weigh-append f slot (concat slots), weigh-append f s (concat slots))
+slots_set f (s ∷ slots) (suc k) slot lt =
+    let more = slots_set f slots k slot (omega arith) in
+    omega (arith, weigh-append f s (concat slots), weigh-append f s (concat (set slots k slot)))
+
+pub slot_le : (f : ℕ → ℕ) (slots : List (List ℕ)) (k : ℕ) → weigh f (get_or slots k []) ≤ weigh f (concat slots)
+slot_le f [] k = omega arith
+slot_le f (s ∷ slots) zero = omega (arith, weigh-append f s (concat slots))
+slot_le f (s ∷ slots) (suc k) = let more = slot_le f slots k in omega (arith, weigh-append f s (concat slots))
+
+pub no_slots : (n : ℕ) → concat (replicate n []) ≡ []
+no_slots zero = refl
+no_slots (suc n) = no_slots n
+
+-- a number that stands in a list weighs something there
+weighs_at : (n x : ℕ) (xs : List ℕ) (b : Bool) → (x == n) ≡ b → list_any (λ m. m == n) (x ∷ xs) ≡ true
+    → (list_any (λ m. m == n) xs ≡ true → 0 < weigh (only n) xs) → 0 < weigh (only n) (x ∷ xs)
+weighs_at n x xs true h e rest = let here : only n x ≡ 1 = ap (λ (b : Bool). cond b 1 0) h in omega arith
+weighs_at n x xs false h e rest =
+    let later : list_any (λ m. m == n) xs ≡ true = sym (ap (λ (b : Bool). b || list_any (λ m. m == n) xs) h) ∙ e in
+    let more : 0 < weigh (only n) xs = rest later in
+    omega arith
+
+pub weighs : (n : ℕ) (xs : List ℕ) → list_any (λ m. m == n) xs ≡ true → 0 < weigh (only n) xs
+weighs n [] e = cc
+weighs n (x ∷ xs) e = weighs_at n x xs (x == n) refl e (weighs n xs)
+
+-- a list without its numbers n
+abbrev pub without : ℕ → List ℕ → List ℕ
+without n xs = filter (λ m. not (m == n)) xs
+
+without_none_at : (f : ℕ → ℕ) (n x : ℕ) (xs : List ℕ) (b : Bool) → (x == n) ≡ b → weigh (only n) (x ∷ xs) ≡ 0
+    → (weigh (only n) xs ≡ 0 → weigh f (without n xs) ≡ weigh f xs) → weigh f (without n (x ∷ xs)) ≡ weigh f (x ∷ xs)
+without_none_at f n x xs true h e rest =
+    let here : only n x ≡ 1 = ap (λ (b : Bool). cond b 1 0) h in absurd (omega arith)
+without_none_at f n x xs false h e rest =
+    let kept : without n (x ∷ xs) ≡ x ∷ without n xs = ap (λ (b : Bool). cond (not b) (x ∷ without n xs) (without n xs)) h in
+    let more : weigh f (without n xs) ≡ weigh f xs = rest (omega arith) in
+    ap (weigh f) kept ∙ ap (λ (m : ℕ). f x + m) more
+
+without_none : (f : ℕ → ℕ) (n : ℕ) (xs : List ℕ) → weigh (only n) xs ≡ 0 → weigh f (without n xs) ≡ weigh f xs
+without_none f n [] e = refl
+without_none f n (x ∷ xs) e = without_none_at f n x xs (x == n) refl e (without_none f n xs)
+
+without_one_at : (f : ℕ → ℕ) (n x : ℕ) (xs : List ℕ) (b : Bool) → (x == n) ≡ b → weigh (only n) (x ∷ xs) ≡ 1
+    → (weigh (only n) xs ≡ 1 → weigh f (without n xs) + f n ≡ weigh f xs) → weigh f (without n (x ∷ xs)) + f n ≡ weigh f (x ∷ xs)
+without_one_at f n x xs true h e rest =
+    let here : only n x ≡ 1 = ap (λ (b : Bool). cond b 1 0) h in
+    let left : without n (x ∷ xs) ≡ without n xs = ap (λ (b : Bool). cond (not b) (x ∷ without n xs) (without n xs)) h in
+    let same : f x ≡ f n = ap f (eqb-true x n h) in
+    let more : weigh f (without n xs) ≡ weigh f xs = without_none f n xs (omega arith) in
+    omega (arith, ap (weigh f) left)
+without_one_at f n x xs false h e rest =
+    let here : only n x ≡ 0 = ap (λ (b : Bool). cond b 1 0) h in
+    let kept : without n (x ∷ xs) ≡ x ∷ without n xs = ap (λ (b : Bool). cond (not b) (x ∷ without n xs) (without n xs)) h in
+    let more : weigh f (without n xs) + f n ≡ weigh f xs = rest (omega arith) in
+    omega (arith, ap (weigh f) kept)
+
+-- where it stands there once, its own weight is lost
+pub without_one : (f : ℕ → ℕ) (n : ℕ) (xs : List ℕ) → weigh (only n) xs ≡ 1 → weigh f (without n xs) + f n ≡ weigh f xs
+without_one f n [] e = absurd (omega arith)
+without_one f n (x ∷ xs) e = without_one_at f n x xs (x == n) refl e (without_one f n xs)
+
+-- a list weighs no less than without some numbers
+without_le_at : (f : ℕ → ℕ) (n x : ℕ) (xs : List ℕ) (b : Bool) → (x == n) ≡ b
+    → weigh f (without n xs) ≤ weigh f xs → weigh f (without n (x ∷ xs)) ≤ weigh f (x ∷ xs)
+without_le_at f n x xs true h rest =
+    let left : without n (x ∷ xs) ≡ without n xs = ap (λ (b : Bool). cond (not b) (x ∷ without n xs) (without n xs)) h in
+    omega (arith, ap (weigh f) left)
+without_le_at f n x xs false h rest =
+    let kept : without n (x ∷ xs) ≡ x ∷ without n xs = ap (λ (b : Bool). cond (not b) (x ∷ without n xs) (without n xs)) h in
+    omega (arith, ap (weigh f) kept)
+
+pub without_le : (f : ℕ → ℕ) (n : ℕ) (xs : List ℕ) → weigh f (without n xs) ≤ weigh f xs
+without_le f n [] = omega arith
+without_le f n (x ∷ xs) = without_le_at f n x xs (x == n) refl (without_le f n xs)
+
+below_other : (n c : ℕ) → n < suc c → (c ≡ n → ⊥) → n < c
+below_other n c lt h = omega arith
+
+-- the numbers below n
+pub range_next : (n : ℕ) → range_with_len 0 (n + 1) ≡ range_with_len 0 n ++ n ∷ []
+range_next n =
+    let more = map-range_with_len_more (λ (x : ℕ). x) 0 n n (omega arith) in
+    sym (map-id (range_with_len 0 (n + 1))) ∙ (more ∙ ap (λ (l : List ℕ). l ++ n ∷ []) (map-id (range_with_len 0 n)))
+
+pub weigh_range : (f : ℕ → ℕ) (n : ℕ) → weigh f (range_with_len 0 (n + 1)) ≡ weigh f (range_with_len 0 n) + f n
+weigh_range f n = omega (arith, ap (weigh f) (range_next n), weigh-append f (range_with_len 0 n) (n ∷ []))
+
+weigh_range_at : (f : ℕ → ℕ) (n : ℕ) → weigh f (range_with_len 0 (suc n)) ≡ weigh f (range_with_len 0 n) + f n
+weigh_range_at f n = ap (λ (k : ℕ). weigh f (range_with_len 0 k)) (sym (add-one n)) ∙ weigh_range f n
+
+pub above_range : (n c : ℕ) → c ≤ n → weigh (only n) (range_with_len 0 c) ≡ 0
+above_range n zero le = refl
+above_range n (suc c) le =
+    let before : weigh (only n) (range_with_len 0 c) ≡ 0 = above_range n c (omega arith) in
+    let last : only n c ≡ 0 = only_other n c (λ e. omega arith) in
+    let more : weigh (only n) (range_with_len 0 (suc c)) ≡ weigh (only n) (range_with_len 0 c) + only n c = weigh_range_at (only n) c in
+    omega arith
+
+within_at : (n c : ℕ) → n < suc c → (n < c → weigh (only n) (range_with_len 0 c) ≡ 1) → (c ≡ n) ⊎ (c ≡ n → ⊥) → weigh (only n) (range_with_len 0 c) + only n c ≡ 1
+within_at n c lt rest (inl e) =
+    let before : weigh (only n) (range_with_len 0 c) ≡ 0 = above_range n c (omega arith) in
+    let last : only n c ≡ 1 = ap (only n) e ∙ only_itself n in
+    omega arith
+within_at n c lt rest (inr h) =
+    let before : weigh (only n) (range_with_len 0 c) ≡ 1 = rest (below_other n c lt h) in
+    let last : only n c ≡ 0 = only_other n c h in
+    omega arith
+
+pub within_range : (n c : ℕ) → n < c → weigh (only n) (range_with_len 0 c) ≡ 1
+within_range n zero lt = absurd (omega arith)
+within_range n (suc c) lt =
+    let more : weigh (only n) (range_with_len 0 (suc c)) ≡ weigh (only n) (range_with_len 0 c) + only n c = weigh_range_at (only n) c in
+    more ∙ within_at n c lt (within_range n c) (cases_eq c n)

@@ -1,0 +1,17 @@
+use Rattle.std.proofs.Common.{◌∙◌}
+use Rattle.crossbeam_queue.specs.Passes.{view}
+use Rattle.dump_lanes.proofs.PortSteps.{cut_ends, cut_ends_put, cut_ends_marks, cutter_is}
+use Rattle.dump_lanes.proofs.pool.cutter.JobPort.close.Goals as goal
+
+pub invariant_of-self : goal.invariant_of-self
+invariant_of-self g c =
+    let old = c.args.self.now in
+    record {
+      of_jobs = (c.put_ends.ensures.pass.0 ∙ old.of_jobs.0, c.put_ends.ensures.pass.2 ∙ old.of_jobs.1);
+      of_credits = old.of_credits;
+      cuts = cut_ends _ _ _ _ old.cuts c.requires c.put_ends.ensures.put;
+      draws = old.draws;
+    }
+
+pub returns : goal.returns
+returns g c = cutter_is _ _ _ (cut_ends_put _ (view c.args.self.now.jobs) _ c.put_ends.ensures.put) (cut_ends_marks _ (view c.args.self.now.jobs) _ c.requires c.put_ends.ensures.put)

@@ -1,0 +1,25 @@
+-- What the contracts see of a credit.
+use Rattle.std.specs.Prelude.{◌≡◌, ◌+◌, Bool, true, false}
+use Rattle.atomic_table.specs.Seated.{TableId}
+use Rattle.crossbeam_queue.specs.Passes.{Pass, view}
+use Rattle.dump_lanes.specs.declared.pool.credits.Purse.{Purse}
+use Rattle.dump_lanes.specs.declared.pool.credits.Token.{Token}
+use Rattle.dump_lanes.specs.declared.pool.drawing.Credit.{Credit}
+use Rattle.dump_lanes.specs.declared.pool.drawing.Drawn.{Drawn}
+use Rattle.dump_lanes.specs.declared.pool.drawing.Drawn.TheVariants as draws
+use Rattle.dump_lanes.specs.CreditRule.{purse}
+
+-- the queue of credits of the pool that a credit is of
+abbrev pub credit_pool : Credit → TableId
+credit_pool c = c.drawn_by.value.table_id
+
+-- whether the answer is the stop
+abbrev pub is_stop : Drawn → Bool
+is_stop (draws.Credit credit) = false
+is_stop draws.Stop = true
+
+-- one call for a credit, and the pass that draws it
+abbrev pub HasDrawn : Pass Token Purse → Drawn → Pass Token Purse → Type 0
+HasDrawn old (draws.Credit credit) new = (credit_pool credit ≡ old.table_id)
+    × (view new ≡ purse (view old).draws (view old).gives (view old).first ((view old).drawn + 1) (view old).back)
+HasDrawn old draws.Stop new = view new ≡ view old

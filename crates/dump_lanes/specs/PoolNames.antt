@@ -1,0 +1,31 @@
+-- The queues of a pool, and their first passes.
+use Rattle.std.specs.Prelude.{◌≡◌, true, false, []}
+use Rattle.crossbeam_queue.specs.Passes.{view, IsPassOf}
+use Rattle.dump_lanes.specs.declared.pool.queues.Queues.{Queues}
+use Rattle.dump_lanes.specs.declared.pool.queues.Passes.{Passes}
+use Rattle.dump_lanes.specs.CreditRule.{purse}
+use Rattle.dump_lanes.specs.DoneRule.{reader}
+use Rattle.dump_lanes.specs.JobRule.{hand}
+use Rattle.dump_lanes.specs.PortSides.{PoolName, PoolState}
+
+module _ {J D : Type 0} where
+  -- the pool that these queues are of
+  abbrev pub name_of : Queues J D → PoolName
+  name_of q = record {
+    jobs = q.jobs.table.shared.table_id;
+    dones = q.dones.table.shared.table_id;
+    credits = q.credits.table.shared.table_id;
+  }
+
+  -- a pool of these queues whose ports weren't given
+  abbrev pub state_of : Queues J D → PoolState
+  state_of q = record { name = name_of q; workers = q.workers; window = q.window; opened = false }
+
+  -- the first passes of the queues, with the credits put
+  pub record AreFirst (q : Queues J D) (p : Passes J D) : Type 0 where
+    pub of_jobs : IsPassOf q.jobs p.jobs
+    pub of_dones : IsPassOf q.dones p.dones
+    pub of_credits : IsPassOf q.credits p.credits
+    pub jobs : view p.jobs ≡ hand 128 true [] []
+    pub dones : view p.dones ≡ reader 128 [] 0 [] []
+    pub credits : view p.credits ≡ purse true true q.window 0 0

@@ -1,0 +1,55 @@
+-- The rule that each step on the stop word keeps.
+use Rattle.std.specs.Prelude.{◌≡◌, ℕ, ◌==◌, Bool, true, false, List, [], ◌∷◌, sum_by, IsTrue}
+use mathlib.Core.Option.{some}
+use lib.ListN.{get_elem?}
+use Rattle.atomic_table.specs.Table.{State, Me}
+use Rattle.dump_lanes.specs.declared.stop.protocol.Marks.{Marks}
+
+abbrev pub marks : ℕ → Bool → Bool → Marks
+marks share raised seen = record { share = share; raised = raised; seen = seen }
+
+-- what a seat knows that was joined to another
+abbrev pub spent : Marks
+spent = marks 0 false false
+
+-- the word's number: 1 where the stop is up
+abbrev pub word_of : Bool → ℕ
+word_of true = 1
+word_of false = 0
+
+-- the stop is up where a seat raised it or saw it up, and a seat without a share has raised nothing
+pub record Fits (up : Bool) (seat : ℕ) (v : Marks) : Type 0 where
+  pub raises : IsTrue v.raised → IsTrue up
+  pub sees : IsTrue v.seen → IsTrue up
+  pub spends : v.share ≡ 0 → v.raised ≡ false
+
+-- a seat that raised the stop
+pub record SomeRaised (views : List Marks) : Type 0 where
+  pub seat : ℕ
+  pub view : Marks
+  pub stands : get_elem? views seat ≡ some view
+  pub raised : IsTrue view.raised
+
+-- the one word is up exactly where some seat raised it, the shares add up to 4, and each seat fits this
+pub record IsStop (s : State (Unit {0}) Marks) : Type 0 where
+  pub up : Bool
+  pub word : s.words ≡ word_of up ∷ []
+  pub someone : IsTrue up → SomeRaised s.views
+  pub shares : sum_by (λ (v : Marks). v.share) s.views ≡ 4
+  pub fits : (seat : ℕ) (v : Marks) → get_elem? s.views seat ≡ some v → Fits up seat v
+
+-- with the whole share, what was seen was raised
+abbrev pub SeesOwn : Marks → Type 0
+SeesOwn v = v.share ≡ 4 → IsTrue v.seen → IsTrue v.raised
+
+-- a look that found the word at n: the seat notes whether the stop is up, and it is where this seat raised it or saw it before
+pub record HasLooked (old : Me (Unit {0}) Marks) (n : ℕ) (new : Me (Unit {0}) Marks) : Type 0 where
+  pub view : new ≡ (marks old.0.share old.0.raised (n == 1), old.1)
+  pub own : IsTrue old.0.raised → n ≡ 1
+  pub before : IsTrue old.0.seen → n ≡ 1
+  pub whole : SeesOwn new.0
+
+-- a look that changes nothing, and tells a seat with the whole share that what was seen was raised
+pub record HasChecked (old new : Me (Unit {0}) Marks) : Type 0 where
+  pub view : new ≡ old
+  pub whole : SeesOwn new.0

@@ -1,0 +1,25 @@
+//! The laws of the pool, for every list of events.
+//!
+//! A pool is a cutter, workers, a sequencer and a writer, with the queues between them. An event is one
+//! atomic step of one of them. A run is any list of events, each of which may happen in the state that
+//! those before it led to. No law says that an event comes: a pool that stands still is sound too.
+ghost use Rattle.std.specs.Prelude.{IsTrue};
+ghost use Rattle.dump_lanes.specs.PoolWorld.{PoolSize, World};
+ghost use Rattle.dump_lanes.specs.PoolEvents.{Event, is_enabled};
+ghost use Rattle.dump_lanes.specs.PoolFacts.{EveryRunIsSound};
+ghost use Rattle.dump_lanes.specs.PoolParts.{SharesEvent, LeavesOthers, PartsAllow};
+
+/// An event is the share that each shared part has in it, and a change of what the thread that steps
+/// owns. So a part's rule can be stated of that part alone.
+pub fn every_part_shares_each_event()
+    ensures shares { (size : PoolSize) (w : World) (event : Event) → SharesEvent size w event }
+    ensures own { (size : PoolSize) (w : World) (event : Event) → LeavesOthers size w event }
+    ensures allows { (size : PoolSize) (w : World) (event : Event) →
+        IsTrue (is_enabled size w event) → PartsAllow w event }
+{}
+
+/// Whatever the threads do, in whatever order, the state of a pool with at least one worker and room
+/// for at least one item is sound at each moment.
+pub fn every_run_is_sound()
+    ensures { EveryRunIsSound }
+{}

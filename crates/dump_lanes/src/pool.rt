@@ -1,0 +1,124 @@
+//! A pool of threads: the queues between them, and their ports.
+ghost use Rattle.std.specs.Option.{ForSome};
+ghost use Rattle.dump_lanes.specs.PoolNames.{AreFirst};
+
+use crate::ends::Memory;
+use bell::Bells;
+use credits::CreditQueue;
+use cutting::cut;
+use dones::DoneQueue;
+use drawing::put_first;
+use jobs::JobQueue;
+use queues::{Passes, Queues};
+use std::alloc::Global;
+use std::sync::Wait;
+
+mod bell;
+mod credits;
+mod cutter;
+mod cutting;
+mod dones;
+mod drawing;
+mod jobs;
+mod queues;
+mod sequencer;
+mod settling;
+mod waiting;
+mod worker;
+mod writer;
+
+pub use cutter::JobPort;
+pub use drawing::{Credit, Drawn};
+pub use sequencer::DonePort;
+pub use worker::WorkerPort;
+pub use writer::CreditPort;
+
+/// The queues between a cutter, some workers, a sequencer and a writer.
+#[derive(Drop)]
+pub struct Pool<J: Drop, D: Drop> {
+    queues: Queues<J, D>,
+    passes: Option<Passes<J, D>>,
+    ghost first: { ForSome passes (λ p. AreFirst queues p) },
+}
+
+/// The ports of a pool.
+#[derive(Drop)]
+pub struct Ports<'p, J: Drop, D: Drop> {
+    pub cutter: JobPort<'p, J, D>,
+    pub workers: Vec<WorkerPort<'p, J, D>>,
+    pub sequencer: DonePort<'p, J, D>,
+    pub writer: CreditPort<'p, J, D>,
+}
+
+impl<J: Drop, D: Drop> Pool<J, D> {
+    ghost use Rattle.std.specs.Prelude.{◌≡◌, ◌≤◌, false, map, IfOk};
+    ghost use Rattle.std.specs.List.{range_with_len};
+    ghost use Rattle.dump_lanes.specs.PortSides.{new_cutter, new_worker, new_sequencer, new_writer};
+    ghost use Rattle.dump_lanes.specs.PortViews.{pool_state, job_port, worker_ports, done_port, credit_port};
+
+    /// Makes the queues, and puts as many credits as the window is wide.
+    pub fn new<R: Wait>(
+        rt: &R,
+        alloc: Global,
+        workers: usize,
+        window: usize,
+    ) -> Result<Pool<J, D>, Memory>
+        requires some_workers { 1 ≤ workers }
+        requires most_workers { workers ≤ 64 }
+        requires some_window { 1 ≤ window }
+        requires most_window { window ≤ 4096 }
+        ensures workers { IfOk result (λ pool. (pool_state pool).workers ≡ workers) }
+        ensures window { IfOk result (λ pool. (pool_state pool).window ≡ window) }
+        ensures unopened { IfOk result (λ pool. (pool_state pool).opened ≡ false) }
+    {
+        let Ok((jobs, first_job)) = JobQueue::ruled(alloc, window + workers) else {
+            return Err(Memory);
+        };
+        let Ok((dones, first_done)) = DoneQueue::ruled(alloc, window + workers) else {
+            return Err(Memory);
+        };
+        let Ok((credits, mut first_credit)) = CreditQueue::ruled(alloc, window) else {
+            return Err(Memory);
+        };
+        let credit_bells = Bells::new();
+        put_first(rt, &credits, &credit_bells, &mut first_credit, window);
+        let queues = Queues {
+            jobs,
+            dones,
+            credits,
+            job_bells: Bells::new(),
+            done_bells: Bells::new(),
+            credit_bells,
+            workers,
+            window,
+        };
+        let passes = Passes {
+            jobs: first_job,
+            dones: first_done,
+            credits: first_credit,
+        };
+        Ok(Pool {
+            queues,
+            passes: Some(passes),
+        })
+    }
+
+    /// Makes the ports: one for the cutter, one for each worker, one for the sequencer and one for the
+    /// writer. Where memory is refused the pool is as before, and may be asked again.
+    pub fn ports(&mut self, alloc: Global) -> Result<Ports<'_, J, D>, Memory>
+        requires { (pool_state self.old).opened ≡ false }
+        ensures cutter { IfOk result (λ ports. job_port ports.cutter ≡ new_cutter (pool_state self.old)) }
+        ensures workers { let pool = pool_state self.old in
+            IfOk result (λ ports. worker_ports ports ≡ map (new_worker pool) (range_with_len 0 pool.workers)) }
+        ensures sequencer { IfOk result (λ ports. done_port ports.sequencer ≡ new_sequencer (pool_state self.old)) }
+        ensures writer { IfOk result (λ ports. credit_port ports.writer ≡ new_writer (pool_state self.old)) }
+    {
+        let Ok(room) = Vec::with_capacity(alloc, self.queues.workers) else {
+            return Err(Memory);
+        };
+        let Some(passes) = self.passes.take() else {
+            unreachable!()
+        };
+        Ok(cut(&self.queues, passes, room))
+    }
+}

@@ -1,0 +1,86 @@
+//! How the first passes of a pool's queues are cut into those of its ports.
+ghost use Rattle.std.specs.Prelude.{◌≡◌, ◌-◌, ◌≤◌, [], true, map, vec_capacity};
+ghost use Rattle.std.specs.List.{range_with_len};
+ghost use Rattle.crossbeam_queue.specs.Passes.{view, IsPassOf};
+ghost use Rattle.dump_lanes.specs.DoneRule.{reader};
+ghost use Rattle.dump_lanes.specs.JobRule.{hand};
+ghost use Rattle.dump_lanes.specs.PoolNames.{AreFirst, state_of};
+ghost use Rattle.dump_lanes.specs.PortSides.{new_cutter, new_worker, new_sequencer, new_writer};
+ghost use Rattle.dump_lanes.specs.PortViews.{job_port, worker_port, worker_ports, done_port, credit_port};
+
+use super::Ports;
+use super::credits::CreditRoles;
+use super::cutter::JobPort;
+use super::dones::{Desk, DoneRoles, Note};
+use super::jobs::{Hand, JobRoles};
+use super::queues::{Passes, Queues};
+use super::sequencer::DonePort;
+use super::worker::WorkerPort;
+use super::writer::CreditPort;
+use crate::protocol::Mark;
+use crossbeam_queue::Pass;
+
+/// Makes all ports. `room` is where the workers' go.
+pub fn cut<'p, J: Drop, D: Drop>(
+    queues: &'p Queues<J, D>,
+    passes: Passes<J, D>,
+    room: Vec<WorkerPort<'p, J, D>>,
+) -> Ports<'p, J, D>
+    requires passes { AreFirst queues.now passes }
+    requires room { (room.items ≡ []) × (queues.now.workers ≤ vec_capacity room) }
+    ensures cutter { job_port result.cutter ≡ new_cutter (state_of queues.now) }
+    ensures workers { worker_ports result ≡ map (new_worker (state_of queues.now)) (range_with_len 0 queues.now.workers) }
+    ensures sequencer { done_port result.sequencer ≡ new_sequencer (state_of queues.now) }
+    ensures writer { credit_port result.writer ≡ new_writer (state_of queues.now) }
+{
+    let Passes {
+        mut jobs,
+        mut dones,
+        mut credits,
+    } = passes;
+    let workers = cut_workers(queues, &mut jobs, &mut dones, room);
+    let back = queues.credits.another::<CreditRoles>(&mut credits);
+    Ports {
+        cutter: JobPort {
+            queues,
+            jobs,
+            credits,
+        },
+        workers,
+        sequencer: DonePort {
+            queues,
+            dones,
+            left: queues.workers,
+        },
+        writer: CreditPort {
+            queues,
+            credits: back,
+        },
+    }
+}
+
+fn cut_workers<'p, J: Drop, D: Drop>(
+    queues: &'p Queues<J, D>,
+    jobs: &mut Pass<Mark<J>, Hand<J>>,
+    dones: &mut Pass<Note<D>, Desk<D>>,
+    room: Vec<WorkerPort<'p, J, D>>,
+) -> Vec<WorkerPort<'p, J, D>>
+    requires of_jobs { IsPassOf queues.now.jobs jobs.old }
+    requires of_dones { IsPassOf queues.now.dones dones.old }
+    requires jobs { view jobs.old ≡ hand 128 true [] [] }
+    requires dones { view dones.old ≡ reader 128 [] 0 [] [] }
+    requires room { (room.items ≡ []) × (queues.now.workers ≤ vec_capacity room) }
+    ensures of_jobs { IsPassOf queues.now.jobs jobs.new }
+    ensures of_dones { IsPassOf queues.now.dones dones.new }
+    ensures jobs { view jobs.new ≡ hand (128 - queues.now.workers) true [] [] }
+    ensures dones { view dones.new ≡ reader (128 - queues.now.workers) [] queues.now.workers [] [] }
+    ensures workers { map (λ p. worker_port p) result.items ≡ map (new_worker (state_of queues.now)) (range_with_len 0 queues.now.workers) }
+{
+    let mut workers = room;
+    for index in 0..queues.workers {
+        let takes = queues.jobs.another::<JobRoles>(jobs);
+        let gives = queues.dones.another::<DoneRoles>(dones);
+        workers.push_reserved(WorkerPort::new(queues, index, takes, gives));
+    }
+    workers
+}

@@ -1,0 +1,103 @@
+//! The protocol of the queue of dones, from the workers to the sequencer.
+//!
+//! 1. The queue carries notes: a mark, which is an item or a worker's end mark, with that worker's index.
+//! 2. What was put is what was taken, in order, and then what the queue holds: its share of each event of the pool.
+//! 3. A worker has one pass, which knows what it put itself, in order; one pass alone takes, and knows all that was taken.
+//! 4. A pass has parts, 128 in all. A pass that takes in a worker's keeps that worker's list beside its index.
+//! 5. A pass with all parts learns that the workers together put each note as often as it was taken or is left.
+use crate::protocol::Mark;
+use crossbeam_queue::RuledArrayQueue;
+use crossbeam_queue::protocol::{Join, Lesson, Outcome, Protocol, Split};
+use std::collections::LinkedList;
+
+/// The queue of dones.
+pub type DoneQueue<D> = RuledArrayQueue<Note<D>, Desk<D>, DoneShares>;
+
+/// A mark, and the index of the worker that put it.
+#[derive(Drop)]
+pub struct Note<T> {
+    pub from: usize,
+    pub mark: Mark<T>,
+}
+
+/// What a pass may do and what it has seen. Only its type is used: no value of it is made.
+pub struct Desk<T> {
+    pub parts: u64,
+    pub sends: bool,
+    pub from: u64,
+    pub put: LinkedList<Note<T>>,
+    pub gets: bool,
+    pub made: u64,
+    pub got: LinkedList<Note<T>>,
+    pub known: LinkedList<(u64, LinkedList<Note<T>>)>,
+}
+
+/// The rule: the queue holds its share of the events.
+pub struct DoneShares;
+
+impl<T> Protocol<Note<T>, Desk<T>> for DoneShares {
+    ghost use Rattle.std.specs.Prelude.{[]};
+    ghost use Rattle.dump_lanes.specs.DoneRule.{reader, IsDoneQueue};
+
+    ghost holds = { IsDoneQueue };
+
+    ghost first = { reader 128 [] 0 [] [] };
+}
+
+/// A worker's pass is cut off the sequencer's.
+pub struct DoneRoles;
+
+impl<T> Split<Desk<T>> for DoneRoles {
+    ghost use Rattle.std.specs.Prelude.{◌+◌, ◌-◌, []};
+    ghost use Rattle.dump_lanes.specs.DoneRule.{reader, sender};
+
+    ghost left = { λ v. reader (v.parts - 1) v.put (v.made + 1) v.got v.known };
+
+    ghost right = { λ v. sender 1 v.made [] };
+}
+
+impl<T> Join<Desk<T>> for DoneRoles {
+    ghost use Rattle.std.specs.Prelude.{◌+◌, [], ◌∷◌, ◌++◌};
+    ghost use Rattle.dump_lanes.specs.DoneRule.{reader, spent};
+
+    ghost both = { λ v w. reader (v.parts + w.parts) (v.put ++ w.put) v.made v.got (v.known ++ (w.from, w.put) ∷ []) };
+
+    ghost spent = { spent };
+}
+
+/// A note joins those that were put.
+pub struct PutsNote;
+
+impl<T> Outcome<Note<T>, Desk<T>> for PutsNote {
+    ghost use Rattle.std.specs.Prelude.{◌≡◌, [], ◌∷◌, ◌++◌};
+    ghost use Rattle.dump_lanes.specs.DoneRule.{sender};
+
+    ghost then = { λ v x w. w ≡ sender v.parts v.from (v.put ++ x ∷ []) };
+}
+
+impl<T> Lesson<Note<T>, Desk<T>> for PutsNote {
+    ghost fact = { λ v items. Unit {0} };
+}
+
+/// A note joins those that were taken.
+pub struct TakesNote;
+
+impl<T> Outcome<Note<T>, Desk<T>> for TakesNote {
+    ghost use Rattle.std.specs.Prelude.{◌≡◌, [], ◌∷◌, ◌++◌};
+    ghost use Rattle.dump_lanes.specs.DoneRule.{reader};
+
+    ghost then = { λ v x w. w ≡ reader v.parts v.put v.made (v.got ++ x ∷ []) v.known };
+}
+
+impl<T> Lesson<Note<T>, Desk<T>> for TakesNote {
+    ghost fact = { λ v items. Unit {0} };
+}
+
+/// What a pass that takes and has all parts learns.
+pub struct AllNotes;
+
+impl<T> Lesson<Note<T>, Desk<T>> for AllNotes {
+    ghost use Rattle.dump_lanes.specs.DoneRule.{IsWhole};
+
+    ghost fact = { λ v items. IsWhole v items };
+}

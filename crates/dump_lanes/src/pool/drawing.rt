@@ -1,0 +1,89 @@
+//! Credits, and how they are drawn.
+ghost use Rattle.std.specs.Prelude.{◌≡◌, true};
+ghost use Rattle.crossbeam_queue.specs.Passes.{view, IsSamePass, IsPassOf};
+ghost use Rattle.dump_lanes.specs.CreditRule.{purse};
+ghost use Rattle.dump_lanes.specs.CreditViews.{HasDrawn, is_stop};
+ghost use Rattle.dump_lanes.specs.StopSeats.{SeesOnlyRaised};
+
+use super::bell::Bells;
+use super::credits::{AddsFirst, CreditQueue, Draws, Purse, Token};
+use super::waiting::push;
+use crate::stop::{StopSeat, StopWord};
+use crossbeam_queue::Pass;
+use std::snapshot::Snapshot;
+use std::sync::Wait;
+use std::time::Duration;
+
+/// How many milliseconds the cutter sleeps before it looks at the stop word again, which has no bell.
+const LOOK_AGAIN: u64 = 2;
+
+/// A place in the window, for one item. `JobPort::draw` alone makes one, and `CreditPort::back` takes it.
+#[derive(Drop)]
+pub struct Credit {
+    drawn_by: Snapshot<Pass<Token, Purse>>,
+}
+
+/// What the cutter is told when it asks for a credit.
+#[derive(Drop)]
+pub enum Drawn {
+    Credit(Credit),
+
+    /// The stop was seen, and no credit was drawn.
+    Stop,
+}
+
+/// Puts the credits that are there at first.
+pub fn put_first<R: Wait>(
+    rt: &R,
+    queue: &CreditQueue,
+    bells: &Bells,
+    pass: &mut Pass<Token, Purse>,
+    count: usize,
+)
+    requires pass { IsPassOf queue.now pass.old }
+    requires first { view pass.old ≡ purse true true 0 0 0 }
+    ensures pass { IsSamePass pass.old pass.new }
+    ensures put { view pass.new ≡ purse true true count 0 0 }
+{
+    for _ in 0..count {
+        push::<AddsFirst, _, _, _, R>(rt, queue, bells, pass, Token);
+    }
+}
+
+/// Draws a credit, unless the stop is seen first.
+pub fn draw_from<R: Wait>(
+    rt: &R,
+    queue: &CreditQueue,
+    bells: &Bells,
+    pass: &mut Pass<Token, Purse>,
+    word: &StopWord,
+    seat: &mut StopSeat,
+) -> Drawn
+    requires pass { IsPassOf queue.now pass.old }
+    requires draws { (view pass.old).draws ≡ true }
+    requires this_word { seat.old.word ≡ word.now }
+    ensures pass { IsSamePass pass.old pass.new }
+    ensures drawn { HasDrawn pass.old result pass.new }
+    ensures seen { seat.new ≡ record seat.old { seen = is_stop result } }
+    ensures whole { SeesOnlyRaised seat.new }
+{
+    let mut turns = 0;
+    for _ in rt.forever() {
+        let heard = bells.items.heard();
+        if word.look(seat) {
+            return Drawn::Stop;
+        }
+        match queue.pop_as::<Draws, R>(rt, pass) {
+            Some(_) => {
+                bells.places.ring();
+                return Drawn::Credit(Credit {
+                    drawn_by: Snapshot::of(pass),
+                });
+            }
+            None => turns = bells
+                .items
+                .wait(rt, heard, turns, Some(Duration::from_millis(LOOK_AGAIN))),
+        }
+    }
+    unreachable!()
+}

@@ -1,0 +1,65 @@
+//! The sequencer's port.
+ghost use Rattle.std.specs.Prelude.{◌≡◌, ◌+◌, ◌<◌, true, IfSome, IfNone, option_to_list};
+ghost use Rattle.crossbeam_queue.specs.Passes.{view, IsSamePass, IsPassOf};
+ghost use Rattle.dump_lanes.specs.PoolPasses.{IsSequencing, HasRead, count_ends, marks_in};
+
+use super::bell::Bells;
+use super::dones::{Desk, DoneQueue, Note, TakesNote};
+use super::queues::Queues;
+use super::waiting::pop;
+use crate::protocol::Mark;
+use crossbeam_queue::Pass;
+use std::sync::Wait;
+
+/// The sequencer's port: it takes what the workers gave.
+#[derive(Drop)]
+pub struct DonePort<'p, J: Drop, D: Drop> {
+    pub(super) queues: &'p Queues<J, D>,
+    pub(super) dones: Pass<Note<D>, Desk<D>>,
+    pub(super) left: usize,
+    ghost of_dones: { IsPassOf queues.now.dones dones },
+    ghost sequences: { IsSequencing queues.now.workers left (view dones) },
+}
+
+impl<'p, J: Drop, D: Drop> DonePort<'p, J, D> {
+    ghost use Rattle.dump_lanes.specs.PortViews.{done_port, DoneStep};
+
+    /// Takes the item at the front, and waits for one. `None`: each worker has closed its port, and the
+    /// answer stays.
+    pub fn take<R: Wait>(&mut self, rt: &R) -> Option<D>
+        ensures { DoneStep (done_port self.old) result (done_port self.new) }
+    {
+        take_from(
+            rt,
+            &self.queues.dones,
+            &self.queues.done_bells,
+            &mut self.dones,
+            &mut self.left,
+        )
+    }
+}
+
+fn take_from<D: Drop, R: Wait>(
+    rt: &R,
+    queue: &DoneQueue<D>,
+    bells: &Bells,
+    pass: &mut Pass<Note<D>, Desk<D>>,
+    left: &mut usize,
+) -> Option<D>
+    requires pass { IsPassOf queue.now pass.old }
+    requires takes { ((view pass.old).gets ≡ true) × (0 < (view pass.old).parts) }
+    ensures pass { IsSamePass pass.old pass.new }
+    ensures read { HasRead (option_to_list result) (view pass.old) (view pass.new) }
+    ensures ends { count_ends (marks_in (view pass.new).got) + left.new ≡ count_ends (marks_in (view pass.old).got) + left.old }
+    ensures some { IfSome result (λ _. (0 < left.old) × (0 < left.new)) }
+    ensures none { IfNone result (left.new ≡ 0) }
+{
+    while *left > 0 {
+        let Note { from: _, mark } = pop::<TakesNote, _, _, _, R>(rt, queue, bells, pass);
+        match mark {
+            Mark::Item(done) => return Some(done),
+            Mark::End => *left -= 1,
+        }
+    }
+    None
+}

@@ -1,0 +1,92 @@
+//! How the ports of a pool come together again.
+ghost use Rattle.std.specs.Prelude.{◌≡◌, ◌+◌, ◌<◌, ◌≤◌, true, All};
+ghost use Rattle.crossbeam_queue.specs.Passes.{view, IsPassOf};
+ghost use Rattle.dump_lanes.specs.PoolNames.{name_of};
+ghost use Rattle.dump_lanes.specs.PortSides.{AreWorkersOf, IsDone, WeighsSame, all_taken, all_given};
+ghost use Rattle.dump_lanes.specs.PortViews.{job_port, worker_port, worker_ports, done_port, credit_port, HasJobsOf, HasDonesOf};
+
+use super::Ports;
+use super::credits::{AllCredits, CreditRoles};
+use super::cutter::JobPort;
+use super::dones::{AllNotes, Desk, DoneRoles, Note};
+use super::jobs::{AllJobs, Hand, JobRoles};
+use super::queues::Queues;
+use super::sequencer::DonePort;
+use super::worker::WorkerPort;
+use super::writer::CreditPort;
+use crate::protocol::Mark;
+use crossbeam_queue::Pass;
+
+impl<'p, J: Drop, D: Drop> Ports<'p, J, D> {
+    /// Shows that what was taken is what was put, and drops all ports. The workers' may come in any
+    /// order.
+    pub fn settle(self)
+        requires workers { AreWorkersOf (job_port self.cutter).pool (job_port self.cutter).workers (worker_ports self) }
+        requires sequencer { (done_port self.sequencer).pool ≡ (job_port self.cutter).pool }
+        requires writer { (credit_port self.writer).pool ≡ (job_port self.cutter).pool }
+        requires closed { (job_port self.cutter).marks ≡ (job_port self.cutter).workers }
+        requires done { All (λ worker. IsDone worker) (worker_ports self) }
+        requires ended { (done_port self.sequencer).ended ≡ true }
+        ensures jobs { WeighsSame (all_taken (worker_ports self.entry)) (job_port self.entry.cutter).put }
+        ensures dones { WeighsSame (done_port self.entry.sequencer).taken (all_given (worker_ports self.entry)) }
+        ensures credits { let writer = credit_port self.entry.writer in
+            (job_port self.entry.cutter).drawn ≤ writer.window + writer.back }
+    {
+        let Ports {
+            cutter,
+            workers,
+            sequencer,
+            writer,
+        } = self;
+        let JobPort {
+            queues,
+            mut jobs,
+            mut credits,
+        } = cutter;
+        let DonePort {
+            queues: _,
+            mut dones,
+            left: _,
+        } = sequencer;
+        let CreditPort {
+            queues: _,
+            credits: back,
+        } = writer;
+        gather(queues, &mut jobs, &mut dones, workers);
+        queues.credits.absorb::<CreditRoles>(&mut credits, back);
+        queues.jobs.learn_as::<AllJobs>(&mut jobs);
+        queues.dones.learn_as::<AllNotes>(&mut dones);
+        queues.credits.learn_as::<AllCredits>(&mut credits);
+    }
+}
+
+// Takes in the passes of the workers.
+fn gather<'p, J: Drop, D: Drop>(
+    queues: &Queues<J, D>,
+    jobs: &mut Pass<Mark<J>, Hand<J>>,
+    dones: &mut Pass<Note<D>, Desk<D>>,
+    workers: Vec<WorkerPort<'p, J, D>>,
+)
+    requires of_jobs { IsPassOf queues.now.jobs jobs.old }
+    requires of_dones { IsPassOf queues.now.dones dones.old }
+    requires cutter { ((view jobs.old).puts ≡ true) × (0 < (view jobs.old).parts) }
+    requires sequencer { ((view dones.old).gets ≡ true) × (0 < (view dones.old).parts) }
+    requires workers { All (λ p. (worker_port p).pool ≡ name_of queues.now) workers.items }
+    ensures of_jobs { IsPassOf queues.now.jobs jobs.new }
+    ensures of_dones { IsPassOf queues.now.dones dones.new }
+    ensures jobs { HasJobsOf workers.entry.items (view jobs.old) (view jobs.new) }
+    ensures dones { HasDonesOf workers.entry.items (view dones.old) (view dones.new) }
+{
+    for worker in workers {
+        let WorkerPort {
+            queues: _,
+            index: _,
+            jobs: takes,
+            ended: _,
+            dones: gives,
+            closed: _,
+        } = worker;
+        queues.jobs.absorb::<JobRoles>(jobs, takes);
+        queues.dones.absorb::<DoneRoles>(dones, gives);
+    }
+}

@@ -1,0 +1,67 @@
+//! How a port waits for a queue that is full or empty.
+ghost use Rattle.crossbeam_queue.specs.Fifo.{Pushes, Pops, Learns};
+ghost use Rattle.crossbeam_queue.specs.Passes.{view, IsSamePass, IsPassOf, ruled_capacity};
+
+use super::bell::Bells;
+use crossbeam_queue::protocol::{Lesson, Outcome, Protocol};
+use crossbeam_queue::{Pass, RuledArrayQueue};
+use std::sync::Wait;
+
+/// Puts an item at the back, once there is a place.
+pub fn push<M: Outcome<T, V> + Lesson<T, V>, T, V, P: Protocol<T, V>, R: Wait>(
+    rt: &R,
+    queue: &RuledArrayQueue<T, V, P>,
+    bells: &Bells,
+    pass: &mut Pass<T, V>,
+    item: T,
+)
+    requires queue { IsPassOf queue.now pass.old }
+    requires rule { Pushes P.holds (ruled_capacity queue.now) pass.old.id (view pass.old) item (M.then (view pass.old) item) }
+    requires lesson { Learns P.holds pass.old.id (view pass.old) (M.fact (view pass.old)) }
+    ensures queue { IsSamePass pass.old pass.new }
+    ensures rule { M.then (view pass.old) item (view pass.new) }
+{
+    let mut waiting = item;
+    let mut turns = 0;
+    for _ in rt.forever() {
+        let heard = bells.places.heard();
+        match queue.push_as::<M, R>(rt, pass, waiting) {
+            Ok(()) => {
+                bells.items.ring();
+                return;
+            }
+            Err(back) => {
+                waiting = back;
+                turns = bells.places.wait(rt, heard, turns, None);
+            }
+        }
+    }
+    unreachable!()
+}
+
+/// Takes the item at the front, once there is one.
+pub fn pop<M: Outcome<T, V> + Lesson<T, V>, T, V, P: Protocol<T, V>, R: Wait>(
+    rt: &R,
+    queue: &RuledArrayQueue<T, V, P>,
+    bells: &Bells,
+    pass: &mut Pass<T, V>,
+) -> T
+    requires queue { IsPassOf queue.now pass.old }
+    requires rule { Pops P.holds pass.old.id (view pass.old) (M.then (view pass.old)) }
+    requires lesson { Learns P.holds pass.old.id (view pass.old) (M.fact (view pass.old)) }
+    ensures queue { IsSamePass pass.old pass.new }
+    ensures rule { M.then (view pass.old) result (view pass.new) }
+{
+    let mut turns = 0;
+    for _ in rt.forever() {
+        let heard = bells.items.heard();
+        match queue.pop_as::<M, R>(rt, pass) {
+            Some(item) => {
+                bells.places.ring();
+                return item;
+            }
+            None => turns = bells.items.wait(rt, heard, turns, None),
+        }
+    }
+    unreachable!()
+}

@@ -1,0 +1,117 @@
+//! A worker's port.
+ghost use Rattle.std.specs.Prelude.{◌≡◌, [], ◌∷◌, ◌++◌, true, false};
+ghost use Rattle.crossbeam_queue.specs.Passes.{view, IsPassOf};
+ghost use Rattle.dump_lanes.specs.DoneRule.{sender};
+ghost use Rattle.dump_lanes.specs.JobRule.{hand};
+ghost use Rattle.dump_lanes.specs.PoolPasses.{IsWorking, IsGiving};
+
+use super::dones::{Desk, Note, PutsNote};
+use super::jobs::{Hand, TakesJob};
+use super::queues::Queues;
+use super::waiting::{pop, push};
+use crate::protocol::Mark;
+use crossbeam_queue::Pass;
+use std::sync::Wait;
+
+/// A worker's port: it takes jobs, and gives what it made of them.
+#[derive(Drop)]
+pub struct WorkerPort<'p, J: Drop, D: Drop> {
+    pub(super) queues: &'p Queues<J, D>,
+    pub(super) index: usize,
+    pub(super) jobs: Pass<Mark<J>, Hand<J>>,
+    pub(super) ended: bool,
+    pub(super) dones: Pass<Note<D>, Desk<D>>,
+    pub(super) closed: bool,
+    ghost of_jobs: { IsPassOf queues.now.jobs jobs },
+    ghost of_dones: { IsPassOf queues.now.dones dones },
+    ghost works: { IsWorking ended (view jobs) },
+    ghost gives: { IsGiving index closed (view dones) },
+}
+
+impl<'p, J: Drop, D: Drop> WorkerPort<'p, J, D> {
+    ghost use Rattle.dump_lanes.specs.PoolNames.{state_of};
+    ghost use Rattle.dump_lanes.specs.PortSides.{new_worker};
+    ghost use Rattle.dump_lanes.specs.PortViews.{worker_port, JobStep};
+
+    pub(super) fn new(
+        queues: &'p Queues<J, D>,
+        index: usize,
+        jobs: Pass<Mark<J>, Hand<J>>,
+        dones: Pass<Note<D>, Desk<D>>,
+    ) -> WorkerPort<'p, J, D>
+        requires of_jobs { IsPassOf queues.now.jobs jobs }
+        requires of_dones { IsPassOf queues.now.dones dones }
+        requires jobs { view jobs ≡ hand 1 false [] [] }
+        requires dones { view dones ≡ sender 1 index [] }
+        ensures { worker_port result ≡ new_worker (state_of queues.now) index }
+    {
+        WorkerPort {
+            queues,
+            index,
+            jobs,
+            ended: false,
+            dones,
+            closed: false,
+        }
+    }
+
+    /// Takes the job at the front, and waits for one. `None`: the cutter has closed its port, and the
+    /// answer stays.
+    pub fn take<R: Wait>(&mut self, rt: &R) -> Option<J>
+        ensures { JobStep (worker_port self.old) result (worker_port self.new) }
+    {
+        if self.ended {
+            return None;
+        }
+        match pop::<TakesJob, _, _, _, R>(
+            rt,
+            &self.queues.jobs,
+            &self.queues.job_bells,
+            &mut self.jobs,
+        ) {
+            Mark::Item(job) => Some(job),
+            Mark::End => {
+                self.ended = true;
+                None
+            }
+        }
+    }
+
+    /// Puts an item at the back of the dones, and waits for a place.
+    pub fn give<R: Wait>(&mut self, rt: &R, done: D)
+        requires { (worker_port self.old).closed ≡ false }
+        ensures { worker_port self.new ≡ record (worker_port self.old) { given = (worker_port self.old).given ++ done ∷ [] } }
+    {
+        let note = Note {
+            from: self.index,
+            mark: Mark::Item(done),
+        };
+        push::<PutsNote, _, _, _, R>(
+            rt,
+            &self.queues.dones,
+            &self.queues.done_bells,
+            &mut self.dones,
+            note,
+        );
+    }
+
+    /// Puts this worker's end mark behind what it gave, and waits for a place.
+    pub fn close<R: Wait>(&mut self, rt: &R)
+        requires ended { (worker_port self.old).ended ≡ true }
+        requires once { (worker_port self.old).closed ≡ false }
+        ensures { worker_port self.new ≡ record (worker_port self.old) { closed = true } }
+    {
+        let note = Note {
+            from: self.index,
+            mark: Mark::End,
+        };
+        push::<PutsNote, _, _, _, R>(
+            rt,
+            &self.queues.dones,
+            &self.queues.done_bells,
+            &mut self.dones,
+            note,
+        );
+        self.closed = true;
+    }
+}

@@ -1,0 +1,91 @@
+//! A row of places for items that arrive out of order.
+ghost use Rattle.std.specs.Prelude.{◌≡◌, ◌<◌, ◌≤◌, ◌↔◌, ◌%◌, Some, None, length, replicate, IsOk, IsNone, IfSome, IfOk, IfErr, OnOk, OnErr};
+ghost use Rattle.dump_lanes.specs.SlotRow.{slot_item, with_slot_item};
+
+use crate::ends::Memory;
+use std::alloc::Global;
+
+#[cfg(test)]
+mod tests;
+
+/// A row of places, each shared by all numbers with one remainder.
+///
+/// ```text
+/// slots.place(0, 10);     // Ok(()), in a row of two places
+/// slots.place(2, 12);     // Err(12): 0 and 2 share a place
+/// slots.place(1, 11);     // Ok(())
+/// slots.lift(0);          // Some(10)
+/// slots.place(2, 12);     // Ok(())
+/// ```
+///
+/// Neither `place` nor `lift` takes or gives back memory of the row.
+#[derive(Drop)]
+pub struct Slots<T> {
+    places: Vec<Option<T>>,
+    ghost some_places: { 0 < length places.items },
+}
+
+impl<T: Drop> Slots<T> {
+    ghost use Rattle.dump_lanes.specs.SlotViews.{slot_places};
+
+    /// Makes the row, and takes all the memory that it ever has.
+    pub fn new(alloc: Global, window: usize) -> Result<Slots<T>, Memory>
+        requires some { 1 ≤ window }
+        requires most { window ≤ 4096 }
+        ensures { IfOk result (λ slots. slot_places slots ≡ replicate window None) }
+    {
+        let Some(places) = empty_places(alloc, window) else {
+            return Err(Memory);
+        };
+        Ok(Slots { places })
+    }
+
+    /// Puts an item in the place of its number. Where the place is taken the item comes back.
+    pub fn place(&mut self, number: u64, value: T) -> Result<(), T>
+        ensures free { IsOk result ↔ IsNone (slot_item (slot_places self.old) number) }
+        ensures placed { OnOk result
+            (slot_places self.new ≡ with_slot_item (slot_places self.old) number (Some value)) }
+        ensures back { IfErr result (λ v. v ≡ value) }
+        ensures unchanged { OnErr result (slot_places self.new ≡ slot_places self.old) }
+    {
+        let index = place_of(number, self.places.len());
+        if self.places[index].is_some() {
+            return Err(value);
+        }
+        self.places[index] = Some(value);
+        Ok(())
+    }
+
+    /// Takes what stands in the place of a number.
+    pub fn lift(&mut self, number: u64) -> Option<T>
+        ensures value { result ≡ slot_item (slot_places self.old) number }
+        ensures emptied { slot_places self.new ≡ with_slot_item (slot_places self.old) number None }
+    {
+        let index = place_of(number, self.places.len());
+        self.places[index].take()
+    }
+}
+
+// The place of a number in a row with this many places.
+fn place_of(number: u64, window: usize) -> usize
+    requires { 0 < window }
+    ensures place { result ≡ number % window }
+    ensures within { result < window }
+{
+    (number % window as u64) as usize
+}
+
+// A row with nothing in it, unless memory runs out.
+fn empty_places<T: Drop>(alloc: Global, window: usize) -> Option<Vec<Option<T>>>
+    ensures { IfSome result (λ places. places.items ≡ replicate window None) }
+{
+    let Ok(mut places) = Vec::<Option<T>>::with_capacity(alloc, window) else {
+        return None;
+    };
+    for _ in 0..window {
+        if places.push(None).is_err() {
+            return None;
+        }
+    }
+    Some(places)
+}

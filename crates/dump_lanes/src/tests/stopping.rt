@@ -1,0 +1,27 @@
+use crate::{Memory, StopWord};
+use std::alloc::AllocError;
+use std::test::*;
+
+#[test]
+fn one_seat_raises_and_the_other_sees(rt: HostRuntime) -> Result<(), Fail> {
+    let Ok((word, seat)) = StopWord::new(rt.alloc()) else {
+        return Err(AllocError.into());
+    };
+    let (mut one, mut other) = word.split(seat);
+    assert!(rt; !word.look(&mut one));
+    word.raise(&mut other);
+    assert!(rt; word.look(&mut one));
+    word.raise(&mut other);
+    let mut both = word.join(one, other);
+    assert!(rt; word.look(&mut both));
+    Ok(())
+}
+
+// Whichever allocation is refused, `new` answers `Memory`: run under `--fail-alloc 1` to `4`.
+#[test]
+fn a_word_or_no_memory(rt: HostRuntime) {
+    match StopWord::new(rt.alloc()) {
+        Ok((word, mut seat)) => assert!(rt; !word.look(&mut seat)),
+        Err(refused) => assert_eq!(rt; refused, Memory),
+    }
+}
