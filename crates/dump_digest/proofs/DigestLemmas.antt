@@ -1,40 +1,19 @@
 -- A header tells another digest than the text's exactly where it stands there, and isn't it.
-use Rattle.std.proofs.Common.{◌≡◌, ◌↔◌, ℕ, Bool, true, false, ◌||◌, List, refl, sym, ap, subst, ◌∙◌, Option, Some, None, is_some, option_copied, Ok, Bor, IsTrue, IsFalse}
+use Rattle.std.proofs.Common.{◌≡◌, ◌↔◌, ℕ, Bool, true, false, ◌||◌, List, refl, sym, ap, ◌∙◌, Option, Some, None, is_some, option_copied, Bor, IsFalse}
 use Rattle.dump_text.specs.Names.{text_length_name, md5_name, sha1_name}
 use Rattle.dump_text.specs.HeaderLine.{has_header, header_value}
 use Rattle.dump_records.specs.RecordText.{DumpRecord}
 use Rattle.dump_records.specs.RecordViews.{part_with}
-use Rattle.dump_records.proofs.HeaderLemmas.{has_value, some_copied}
+use Rattle.dump_text.proofs.BlockLemmas.{has_value}
+use Rattle.dump_records.proofs.HeaderLemmas.{some_copied}
 use Rattle.dump_digest.specs.RecordParts.{has_text}
 use Rattle.dump_digest.specs.Checks.{TellsOther, HasOtherDigest, is_told_text}
-use Rattle.hex.specs.Hex.{decode_sized}
 
 pub clash : {b : Bool} → b ≡ true → b ≡ false → ⊥
 clash e f = let bad : true ≡ false = sym e ∙ f in cc
 
 same_digits : (a b : List ℕ) → Some a ≡ Some b → a ≡ b
 same_digits a b e = cc
-
--- the digits that are told
-
-pub told_other : (ok : Bool) (told : Option (List ℕ)) (digits : List ℕ) (size : ℕ) (digest : List ℕ) → told ≡ Some digits
-    → (IsTrue ok ↔ (decode_sized digits size ≡ Ok digest)) → IsFalse ok ↔ TellsOther told size digest
-told_other ok told digits size digest is right = (
-  λ other. (
-    ap is_some is,
-    λ others e same.
-        let digits_same = same_digits others digits (sym e ∙ is) in
-        clash (right.1 (subst (λ (d : List ℕ). decode_sized d size ≡ Ok digest) digits_same same)) other,
-  ),
-  λ other. by_ok ok refl other,
-)
-  where
-    by_ok : (b : Bool) → ok ≡ b → TellsOther told size digest → IsFalse ok
-    by_ok true e other = absurd (other.1 digits is (right.0 e))
-    by_ok false e other = e
-
-pub told_none : (told : Option (List ℕ)) (size : ℕ) (digest : List ℕ) → told ≡ None → IsFalse true ↔ TellsOther told size digest
-told_none told size digest is = (λ e. cc, λ other. absurd (clash other.0 (ap is_some is)))
 
 -- the headers of a record
 
@@ -60,15 +39,9 @@ digest_told name r size digest ok told text is means =
       λ other. means.1 (there ∙ other.1.0, λ digits h. other.1.1 digits (sym is ∙ h)),
     )
 
-pub digest_untold : (name : List ℕ) (r : DumpRecord) (size : ℕ) (digest : List ℕ) → has_text r ≡ false → IsFalse true ↔ HasOtherDigest name r size digest
-digest_untold name r size digest none = (λ e. cc, λ other. absurd (clash other.0 none))
-
 pub text_told : (r : DumpRecord) (checked : Bool) (md5 sha1 : Option (Bor (List ℕ))) → has_text r ≡ true → option_copied md5 ≡ header_value md5_name r.headers
     → option_copied sha1 ≡ header_value sha1_name r.headers → checked ≡ (is_some md5 || is_some sha1) → checked ≡ is_told_text r
 text_told r checked md5 sha1 text first second is =
     let one : is_some md5 ≡ has_header md5_name r.headers = some_copied md5 ∙ ap is_some first ∙ has_value md5_name r.headers in
     let other : is_some sha1 ≡ has_header sha1_name r.headers = some_copied sha1 ∙ ap is_some second ∙ has_value sha1_name r.headers in
     is ∙ rw (one, other, text) refl
-
-pub text_untold : (r : DumpRecord) → has_text r ≡ false → false ≡ is_told_text r
-text_untold r none = rw none refl

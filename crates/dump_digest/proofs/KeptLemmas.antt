@@ -3,7 +3,7 @@ use Rattle.std.proofs.Common.{◌≡◌, List, ℕ, false, true, refl, sym, ap, 
 use Rattle.dump_text.specs.Names.{path_name}
 use Rattle.dump_text.specs.HeaderLine.{has_header, header_value}
 use Rattle.dump_records.specs.RecordText.{DumpRecord}
-use Rattle.dump_records.proofs.HeaderLemmas.{has_value}
+use Rattle.dump_text.proofs.BlockLemmas.{has_value}
 use Rattle.dump_rules.specs.Settings.{Settings, keeps_path}
 use Rattle.dump_digest.specs.RecordParts.{is_kept_node}
 

@@ -6,6 +6,7 @@ use Rattle.std.proofs.lemmas.Slice.Eq.{bytes_eq-Decides}
 use Rattle.dump_text.specs.Names.{md5_name, sha1_name}
 use Rattle.dump_text.specs.HeaderLine.{has_header, header_value}
 use Rattle.dump_text.specs.PropertyList.{Property, IsPropertyBlock, HasProperties}
+use Rattle.dump_text.proofs.BoolLemmas.{absurd_bool, false_true, not_so}
 use Rattle.dump_text.proofs.PropertyChoice.{properties_or_not}
 use Rattle.dump_records.specs.RecordText.{DumpRecord}
 use Rattle.dump_rules.specs.Settings.{Settings}
@@ -19,16 +20,6 @@ use Rattle.md5.specs.Md5.{md5}
 use Rattle.sha1.specs.Sha1.{sha1}
 use Rattle.hex.specs.Hex.{decode_sized}
 use Rattle.hex.specs.declared.error.FromHexError.{FromHexError}
-
-absurd_bool : (b : Bool) → b ≡ true → b ≡ false → ⊥
-absurd_bool b t f = let bad : true ≡ false = sym t ∙ f in cc
-
-false_true : false ≡ true → ⊥
-false_true bad = cc
-
-not_so : (b : Bool) → (b ≡ true → ⊥) → b ≡ false
-not_so true bad = absurd (bad refl)
-not_so false bad = refl
 
 -- where a kept node has bad mergeinfo, it can be found
 pub bad_choice : (settings : Settings) (r : DumpRecord) → IsTrue (is_kept_node settings r) → (ps : List Property) → IsPropertyBlock r.props ps

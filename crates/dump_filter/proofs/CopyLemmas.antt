@@ -3,7 +3,7 @@ use Rattle.std.proofs.Common.{◌≡◌, ℕ, ◌+◌, ◌<◌, ◌≤◌, true,
 use Rattle.dump_text.specs.Names.{copy_path_name}
 use Rattle.dump_text.specs.HeaderLine.{has_header, header_value}
 use Rattle.dump_records.specs.RecordText.{DumpRecord}
-use Rattle.dump_records.proofs.HeaderLemmas.{has_value}
+use Rattle.dump_text.proofs.BlockLemmas.{has_value}
 use Rattle.dump_rules.specs.Settings.{Settings, keeps_path}
 use Rattle.dump_rules.specs.Renumbering.{KeptRevisions, image}
 use Rattle.dump_rules.proofs.ReachLemmas.{image_pushed, image_at_pushed, length_fits}

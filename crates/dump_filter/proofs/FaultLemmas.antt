@@ -26,7 +26,7 @@ use Rattle.dump_filter.specs.Turns.{Waited, front_kept, rises, is_in_order, is_o
 use Rattle.dump_filter.specs.Shape.{is_plain, kept_numbers, Shape}
 use Rattle.dump_filter.specs.Shape.Shape.{Fresh, Idle, Passed, Waits}
 use Rattle.dump_filter.proofs.HeaderLemmas.{no_value}
-use Rattle.dump_filter.proofs.BoolLemmas.{false_true, not_so, first_true, second_true, first_false, second_false, not_true, not_false, both_true, absurd_bool}
+use Rattle.dump_text.proofs.BoolLemmas.{false_true, not_so, first_true, second_true, first_false, second_false, not_true, not_false, both_true, absurd_bool}
 use Rattle.dump_filter.proofs.GroupLemmas.{plain_node, plain_other, plain_more, any_more}
 use Rattle.dump_filter.proofs.NumberLemmas.{first_other, kept_group, passed_keeps}
 use Rattle.dump_filter.proofs.TurnLemmas.{IsRole, last_is, no_follower}

@@ -30,9 +30,9 @@ use Rattle.dump_filter.specs.Counts.{report_of}
 use Rattle.dump_filter.specs.MergeFaults.{HasLines}
 use Rattle.dump_filter.specs.FilterState.{Seen, FilterState, count_up_to, AreAccepted, IsOfSameDump, Accepts, Refuses, Finishes}
 use Rattle.dump_filter.specs.Turns.{Waited, stays, role_of, IsEndText, IsTurnText, next_waiting, next_present, next_kept, text_report, role_report, next_report, end_report, judged, AreAsked}
-use Rattle.dump_filter.specs.Shape.{waiting_count, AreKept, Stands, AreUpTo, Knows}
+use Rattle.dump_filter.specs.Shape.{waiting_count, Stands, AreUpTo, Knows}
 use Rattle.dump_filter.specs.Shape.Shape.{Fresh}
-use Rattle.dump_filter.proofs.BoolLemmas.{absurd_bool, either_second}
+use Rattle.dump_text.proofs.BoolLemmas.{absurd_bool, either_second}
 use Rattle.dump_filter.proofs.GroupLemmas.{plain_node}
 use Rattle.dump_filter.proofs.KindLemmas.{alone}
 use Rattle.dump_filter.proofs.NumberLemmas.{count_one}
@@ -293,9 +293,6 @@ module _ (settings : Settings) (active : Bool) (last : Option Record) (present :
 
   settings_is : settings ≡ state.settings
   settings_is = ap (λ (v : FilterState). v.settings) view_is
-
-  pub kept_are : AreKept kept present waiting
-  kept_are = knows.stands.numbers
 
   -- the text where the dump ends
   pub finishes : (end : List ℕ) → IsEndText settings kept waiting end → Finishes state end

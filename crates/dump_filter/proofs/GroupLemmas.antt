@@ -11,10 +11,10 @@ use Rattle.dump_digest.specs.RecordParts.{is_revision, is_node, is_kept_node}
 use Rattle.dump_filter.specs.Groups.{Group, group_of, groups, group_number, has_kept_node, is_bare, is_pad, is_padded, keeps_group, keeps_empty, revision_number}
 use Rattle.dump_filter.specs.RecordOutput.{revision_text, IsRevisionOutput, IsNodeOutput, IsOutput}
 use Rattle.dump_filter.specs.Shape.{is_plain}
-use Rattle.dump_filter.proofs.BoolLemmas.{first_true, second_true, first_false, second_false, not_true}
+use Rattle.dump_text.proofs.BoolLemmas.{first_true, second_true, first_false, second_false, not_true}
 use Rattle.dump_filter.specs.Written.{is_open, is_written, AreOutputs}
 
-take_cons : (n : ℕ) (x : DumpRecord) (xs : List DumpRecord) → take (1 + n) (x ∷ xs) ≡ x ∷ take n xs
+pub take_cons : (n : ℕ) (x : DumpRecord) (xs : List DumpRecord) → take (1 + n) (x ∷ xs) ≡ x ∷ take n xs
 take_cons n x xs = let e : 1 + n ≡ suc n = omega arith in ap (λ m. take m (x ∷ xs)) e
 
 -- the nodes at the front end before a record that is no node

@@ -1,7 +1,7 @@
 -- A name that no header line has.
 use Rattle.std.proofs.Common.{◌≡◌, ℕ, false, List, [], ◌∷◌, refl, None}
 use Rattle.dump_text.specs.HeaderLine.{Header, is_named, has_header, header_value}
-use Rattle.dump_filter.proofs.BoolLemmas.{first_false, second_false}
+use Rattle.dump_text.proofs.BoolLemmas.{first_false, second_false}
 
 pub no_value : (name : List ℕ) (headers : List Header) → has_header name headers ≡ false → header_value name headers ≡ None
 no_value name [] none = refl

@@ -27,7 +27,7 @@ use Rattle.dump_filter.specs.RecordFaults.{present_number, HasBadCopyRevision, H
 use Rattle.dump_filter.specs.MergeFaults.{merge_fault}
 use Rattle.dump_filter.specs.Turns.{Waited, front_kept, is_in_order, is_orphan, HasNoSource, copy_of, with_fault, role_judged, judged, AreAsked}
 use Rattle.dump_filter.specs.Shape.{Stands}
-use Rattle.dump_filter.proofs.BoolLemmas.{first_true, second_true, both_true, absurd_bool}
+use Rattle.dump_text.proofs.BoolLemmas.{first_true, second_true, both_true, absurd_bool}
 use Rattle.dump_filter.proofs.GroupLemmas.{plain_node}
 use Rattle.dump_filter.proofs.TurnLemmas.{IsRole}
 use Rattle.dump_filter.proofs.MergeLemmas.{Misses, IsForeign, MergeJudged, merge_judged}

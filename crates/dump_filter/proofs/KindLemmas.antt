@@ -8,7 +8,7 @@ use Rattle.dump_records.specs.declared.kind.RecordKind.TheVariants as kinds
 use Rattle.dump_records.specs.RecordText.{DumpRecord, is_lawful}
 use Rattle.dump_records.proofs.Unique.{keeps}
 use Rattle.dump_digest.specs.RecordParts.{is_revision, is_node}
-use Rattle.dump_filter.proofs.BoolLemmas.{not_so}
+use Rattle.dump_text.proofs.BoolLemmas.{not_so}
 
 -- a record is of this kind, and of no other
 abbrev pub IsOfKind : DumpRecord → RecordKind → Type 0

@@ -1,4 +1,3 @@
-pub mod BoolLemmas
 pub mod HeaderLemmas
 pub mod LineLemmas
 pub mod PropertyOutput
@@ -18,3 +17,13 @@ pub mod FilterLemmas
 pub mod Answered
 pub mod GrowthLaw
 pub mod CopyLemmas
+pub mod ReadAgain
+pub mod LineChanges
+pub mod AgainHeaders
+pub mod AgainRecord
+pub mod AgainOutput
+pub mod AgainOrder
+pub mod AgainNumbers
+pub mod AgainList
+pub mod AgainFree
+pub mod OwnTextLaw

@@ -6,7 +6,7 @@ use Rattle.std.proofs.lemmas.List.Folds.{list_any-append}
 use Rattle.dump_text.specs.Number.{spelled_number}
 use Rattle.dump_text.specs.Names.{revision_name, copy_revision_name, property_length_name, text_length_name, content_length_name}
 use Rattle.dump_text.specs.HeaderLine.{Header, is_named, has_header, with_header_value}
-use Rattle.dump_filter.proofs.BoolLemmas.{first_false, second_false, absurd_bool}
+use Rattle.dump_text.proofs.BoolLemmas.{first_false, second_false, absurd_bool}
 use Rattle.dump_filter.specs.declared.copies.NewCopy.{NewCopy}
 use Rattle.dump_filter.specs.declared.copies.NewCopy.TheVariants.{Same, Number, Plain}
 use Rattle.dump_filter.specs.declared.new_lines.Changes.{Changes}

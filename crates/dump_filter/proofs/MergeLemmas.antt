@@ -1,5 +1,5 @@
 -- The faults of the mergeinfo of a kept node.
-use Rattle.std.proofs.Common.{◌≡◌, ◌⊎◌, ◌↔◌, ℕ, zero, suc, Bool, true, false, ◌||◌, List, [], ◌∷◌, refl, sym, ap, ◌∙◌, subst, arith, inl, inr, Option, Some, None, Contains, IsFalse, if◌then◌else◌}
+use Rattle.std.proofs.Common.{◌≡◌, ◌⊎◌, ◌↔◌, ℕ, Bool, true, false, List, refl, sym, subst, inl, inr, Option, Some, None, Contains, IsFalse, if◌then◌else◌}
 use Rattle.std.specs.List.{list_any}
 use Rattle.std.proofs.Math.Logic.{∥∥₁_elim}
 use Rattle.dump_text.specs.declared.fault.FaultKind.{FaultKind}
@@ -12,35 +12,14 @@ use Rattle.dump_rules.specs.Renumbering.{KeptRevisions}
 use Rattle.dump_rules.specs.Mergeinfo.{HasMergeLines}
 use Rattle.dump_rules.specs.Rewriting.{HasMissingSource, HasForeignNumber}
 use Rattle.dump_rules.specs.NewLines.{value_misses, value_foreign}
-use Rattle.dump_rules.proofs.FaultLemmas.{missing_there, missing_back, foreign_there, foreign_back, has_lines}
+use Rattle.dump_rules.proofs.FaultLemmas.{found, finds, missing_there, missing_back, foreign_there, foreign_back, has_lines}
 use Rattle.dump_digest.specs.RecordParts.{is_kept_node, is_mergeinfo}
 use Rattle.dump_digest.specs.ContentFaults.{IsMergeinfoValueOf, HasBadMergeinfo}
 use Rattle.dump_digest.proofs.VerdictChoice.{bad_choice}
 use Rattle.dump_filter.specs.MergeFaults.{misses, is_foreign, merge_fault, HasLines}
-use Rattle.dump_filter.proofs.BoolLemmas.{first_true, second_true, both_true, false_true, absurd_bool}
+use Rattle.dump_text.proofs.BoolLemmas.{first_true, second_true, both_true, false_true, absurd_bool}
 
 -- some element that passes a test
-pub found : {X : Type 0} (passes : X → Bool) (xs : List X) → list_any passes xs ≡ true → (x : X) × Contains xs x × (passes x ≡ true)
-found passes [] some = absurd (false_true some)
-found {X} passes (x ∷ xs) some = by_case (passes x) refl some (λ more. later (found passes xs more))
-  where
-    later : ((y : X) × Contains xs y × (passes y ≡ true)) → (y : X) × Contains (x ∷ xs) y × (passes y ≡ true)
-    later (y, at, so) = let within = at.1 in (y, (suc at.0, omega arith, at.2), so)
-
-    by_case : (b : Bool) → passes x ≡ b → (b || list_any passes xs) ≡ true → (list_any passes xs ≡ true → (y : X) × Contains (x ∷ xs) y × (passes y ≡ true))
-        → (y : X) × Contains (x ∷ xs) y × (passes y ≡ true)
-    by_case true is so more = (x, (0, omega arith, refl), is)
-    by_case false is so more = more so
-
-pub finds : {X : Type 0} (passes : X → Bool) (xs : List X) (x : X) → Contains xs x → passes x ≡ true → list_any passes xs ≡ true
-finds passes [] x (i, within, is) so = absurd (omega arith)
-finds passes (y ∷ xs) x (zero, within, is) so = rw (ap passes is ∙ so) refl
-finds passes (y ∷ xs) x (suc i, within, is) so = by_case (passes y) (finds passes xs x (i, omega arith, is) so)
-  where
-    by_case : (b : Bool) → list_any passes xs ≡ true → (b || list_any passes xs) ≡ true
-    by_case true more = refl
-    by_case false more = more
-
 -- a kept node has mergeinfo that misses a source
 abbrev pub Misses : Settings → DumpRecord → Type 0
 Misses settings r = (value : List ℕ) × IsMergeinfoValueOf settings r value × HasMissingSource settings value

@@ -24,7 +24,7 @@ use Rattle.dump_filter.specs.RecordOutput.{IsRevisionOutput, IsNodeOutput}
 use Rattle.dump_filter.specs.OwnText.{copied_headers, revision_own}
 use Rattle.dump_filter.specs.Turns.{Waited, pads, IsOwnRevision, IsOwnNode, IsEndText, IsOpening, IsOwnText, IsTurnText, next_kept, HasNoSource}
 use Rattle.dump_filter.specs.Shape.{GoesOn}
-use Rattle.dump_filter.proofs.BoolLemmas.{both_true, not_false}
+use Rattle.dump_text.proofs.BoolLemmas.{both_true, not_false}
 use Rattle.dump_filter.proofs.KeptLemmas.{all_weaker, whole_is, next_written, image_kept}
 use Rattle.dump_filter.proofs.MergeLemmas.{IsForeign}
 

@@ -170,9 +170,6 @@ abbrev pub IsAnyLeft : (Property → Bool) → List ℕ → List ℕ → Type 0
 IsAnyLeft passes block rest = (ps : List Property) → IsPropertyBlock block ps
     → (qs : List Property) × IsPropertyBlock rest qs × (list_any passes ps ≡ list_any passes qs)
 
-pub any_start : (passes : Property → Bool) (block : List ℕ) → IsAnyLeft passes block block
-any_start passes block ps is = (ps, is, refl)
-
 pub any_next : (passes : Property → Bool) (block text rest front : List ℕ) (p : Property) → IsAnyLeft passes block text → text ≡ front ++ rest → IsEntry front p
     → passes p ≡ false → IsAnyLeft passes block rest
 any_next passes block text rest front p before cut one misses ps is =

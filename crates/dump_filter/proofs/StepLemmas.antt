@@ -28,7 +28,7 @@ use Rattle.dump_filter.specs.Written.{IsWritten}
 use Rattle.dump_filter.specs.Turns.{Waited, stays, pads, next_number, IsOwnRevision, IsOwnNode, IsEndText, IsFrontText, IsTurnText, next_waiting, next_present, with_kept, front_kept, end_kept, next_kept, front_report, end_report, text_report, role_report, next_report}
 use Rattle.dump_filter.specs.Shape.{Shape, AreKept, Stands}
 use Rattle.dump_filter.specs.Shape.Shape.{Fresh, Idle, Passed, Waits}
-use Rattle.dump_filter.proofs.BoolLemmas.{false_true, either_second}
+use Rattle.dump_text.proofs.BoolLemmas.{false_true, either_second}
 use Rattle.dump_filter.proofs.KeptLemmas.{front_rising}
 use Rattle.dump_filter.proofs.NumberLemmas.{present_group}
 use Rattle.dump_filter.proofs.TurnLemmas.{IsReadable, IsRole, last_is, no_follower, kept_turn, dropped_turn, revision_turn, other_turn, becomes}

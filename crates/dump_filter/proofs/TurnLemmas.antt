@@ -22,7 +22,7 @@ use Rattle.dump_filter.specs.Written.{AreOutputs}
 use Rattle.dump_filter.specs.Turns.{Waited, stays, pads, role_of, IsOwnRevision, IsOwnNode, IsEndText, IsFrontText, emptied, with_kept, front_kept, end_kept, started, HasNoSource, end_report}
 use Rattle.dump_filter.specs.Shape.{is_plain, kept_numbers, dropped_groups, Shape, open_from, GoesOn, MayBecome, AreRising, AreKept, Stands}
 use Rattle.dump_filter.specs.Shape.Shape.{Fresh, Idle, Passed, Waits}
-use Rattle.dump_filter.proofs.BoolLemmas.{false_true}
+use Rattle.dump_text.proofs.BoolLemmas.{false_true}
 use Rattle.dump_filter.proofs.GroupLemmas.{plain_more, any_more, plain_other, passed_more, passed_end, waits_more, waits_on, waits_kept, waits_dropped, idle_end, revision_more, other_more, OwnOutput, unpadded}
 use Rattle.dump_filter.proofs.KeptLemmas.{lowered, front_reopened, end_reopened, front_rising, end_rising, next_rising, first_rising, below_waiting}
 use Rattle.dump_filter.proofs.MergeLemmas.{IsForeign}
@@ -37,9 +37,6 @@ IsReadable (Some w) = HasProperties w.revision.props
 -- the kept revisions of these numbers
 abbrev kept_of : ℕ → List ℕ → KeptRevisions
 kept_of first numbers = record { first = first; numbers = numbers }
-
-none_some : (p : ℕ) → None ≡ Some p → ⊥
-none_some p e = cc
 
 some_none : (w : Waited) → Some w ≡ None → ⊥
 some_none w e = cc

@@ -1,11 +1,16 @@
 -- Laws of what the filter writes.
-use Rattle.std.specs.Prelude.{ℕ, Bool, false, List, ◌++◌}
+use Rattle.std.specs.Prelude.{◌≡◌, ℕ, ◌+◌, ◌<◌, ◌^◌, Bool, true, false, List, [], ◌∷◌, ◌++◌, length, IsTrue}
 use Rattle.dump_writer.specs.SinkWords.{IsPrefixOf}
 use Rattle.dump_records.specs.RecordText.{DumpRecord}
 use Rattle.dump_records.specs.DumpText.{BeginsWithRecords}
+use Rattle.dump_rules.specs.declared.options.Side.TheVariants.{Include}
+use Rattle.dump_rules.specs.declared.options.Empty.TheVariants.{Pad}
 use Rattle.dump_rules.specs.Settings.{Settings}
+use Rattle.dump_filter.specs.Groups.{kept_revisions}
 use Rattle.dump_filter.specs.RecordFaults.{AreFaultFree}
-use Rattle.dump_filter.specs.Written.{IsWritten}
+use Rattle.dump_filter.specs.RecordOutput.{IsWrittenBlock}
+use Rattle.dump_filter.specs.Written.{is_written, IsWritten}
+use Rattle.dump_filter.specs.WholeText.{IsCleanText}
 
 -- what is written of the first records of a dump, while more may follow, begins what is written of them and more, where
 -- none of them has a fault
@@ -16,3 +21,29 @@ WrittenOnlyGrows = (settings : Settings) (ended : Bool) (dump : List ℕ) (recor
     → IsWritten settings false records old
     → IsWritten settings ended (records ++ more) new
     → IsPrefixOf old new
+
+-- each length that is written can be read again
+abbrev pub LengthsFit : Settings → List DumpRecord → Type 0
+LengthsFit settings records = (before after : List DumpRecord) (r : DumpRecord) (block : List ℕ) →
+    records ≡ before ++ r ∷ after
+    → IsTrue (is_written settings true r after)
+    → IsWrittenBlock settings (kept_revisions settings records) r after block
+    → length block + length r.text < 10 ^ 18
+
+-- the options that keep everything: include the root
+abbrev pub keep_all : Settings
+keep_all = record {
+  side = Include;
+  prefixes = (47 ∷ []) ∷ [];
+  empty = Pad;
+  renumber = false;
+  preserve = false;
+  skip_missing = false;
+}
+
+-- what the filter writes of a clean dump is a clean dump, which it leaves as it is where it keeps everything
+abbrev pub KeepsItsOwnText : Type 0
+KeepsItsOwnText = (settings : Settings) (dump text : List ℕ) (records : List DumpRecord) →
+    IsCleanText settings dump records text
+    → LengthsFit settings records
+    → (again : List DumpRecord) × IsCleanText keep_all text again text

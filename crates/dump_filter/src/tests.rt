@@ -8,6 +8,7 @@ mod dumps;
 mod faults;
 mod memory;
 
+use crate::laws::{keeps_its_own_text, written_only_grows};
 use crate::{Filter, Report, StepFault};
 use dump_digest::Done;
 use dump_records::{Cut, Cutter};
@@ -231,4 +232,10 @@ fn assert_refused(rt: &impl Abort, alloc: Global, refused: &Refused<'_>) -> Resu
     assert_eq!(rt; out.lengths.as_slice(), refused.lengths);
     assert_eq!(rt; out.text.as_slice(), written.as_slice());
     Ok(())
+}
+
+#[test]
+fn the_laws_can_be_called() {
+    written_only_grows();
+    keeps_its_own_text();
 }

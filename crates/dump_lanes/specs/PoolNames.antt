@@ -1,8 +1,10 @@
 -- The queues of a pool, and their first passes.
-use Rattle.std.specs.Prelude.{◌≡◌, true, false, []}
+use Rattle.std.specs.Prelude.{◌≡◌, true, false, [], length, All}
+use Rattle.std.specs.Arc.{arc_value}
 use Rattle.crossbeam_queue.specs.Passes.{view, IsPassOf}
 use Rattle.dump_lanes.specs.declared.pool.queues.Queues.{Queues}
 use Rattle.dump_lanes.specs.declared.pool.queues.Passes.{Passes}
+use Rattle.dump_lanes.specs.declared.pool.shares.Shares.{Shares}
 use Rattle.dump_lanes.specs.CreditRule.{purse}
 use Rattle.dump_lanes.specs.DoneRule.{reader}
 use Rattle.dump_lanes.specs.JobRule.{hand}
@@ -29,3 +31,11 @@ module _ {J D : Type 0} where
     pub jobs : view p.jobs ≡ hand 128 true [] []
     pub dones : view p.dones ≡ reader 128 [] 0 [] []
     pub credits : view p.credits ≡ purse true true q.window 0 0
+
+  -- the queues, once for each port
+  pub record AreShares (q : Queues J D) (s : Shares J D) : Type 0 where
+    pub cutter : arc_value s.cutter ≡ q
+    pub workers : All (λ a. arc_value a ≡ q) s.workers.items
+    pub as_many : length s.workers.items ≡ q.workers
+    pub sequencer : arc_value s.sequencer ≡ q
+    pub writer : arc_value s.writer ≡ q

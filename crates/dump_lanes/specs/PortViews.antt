@@ -1,5 +1,6 @@
 -- What the contracts see of a pool and its ports.
 use Rattle.std.specs.Prelude.{◌≡◌, ◌+◌, ◌==◌, true, false, List, [], ◌∷◌, ◌++◌, map, flat_map, length, Option, Some, None, is_none}
+use Rattle.std.specs.Arc.{arc_value}
 use Rattle.crossbeam_queue.specs.Passes.{view}
 use Rattle.dump_lanes.specs.declared.pool.Pool.{Pool}
 use Rattle.dump_lanes.specs.declared.pool.Ports.{Ports}
@@ -20,13 +21,13 @@ use Rattle.dump_lanes.specs.PortSides.{PoolState, CutterSide, WorkerSide, Sequen
 module _ {J D : Type 0} where
   -- the pool
   abbrev pub pool_state : Pool J D → PoolState
-  pool_state p = record (state_of p.queues) { opened = is_none p.passes }
+  pool_state p = record (state_of (arc_value p.queues)) { opened = is_none p.passes }
 
   -- the cutter's port
   abbrev pub job_port : JobPort J D → CutterSide J
   job_port p = record {
-    pool = name_of p.queues.now;
-    workers = p.queues.now.workers;
+    pool = name_of (arc_value p.queues);
+    workers = (arc_value p.queues).workers;
     put = items_of (view p.jobs).put;
     marks = count_ends (view p.jobs).put;
     drawn = (view p.credits).drawn;
@@ -35,7 +36,7 @@ module _ {J D : Type 0} where
   -- a worker's port
   abbrev pub worker_port : WorkerPort J D → WorkerSide J D
   worker_port p = record {
-    pool = name_of p.queues.now;
+    pool = name_of (arc_value p.queues);
     index = p.index;
     taken = items_of (view p.jobs).taken;
     ended = p.ended;
@@ -45,11 +46,11 @@ module _ {J D : Type 0} where
 
   -- the sequencer's port
   abbrev pub done_port : DonePort J D → SequencerSide D
-  done_port p = record { pool = name_of p.queues.now; taken = items_of (marks_in (view p.dones).got); ended = p.left == 0 }
+  done_port p = record { pool = name_of (arc_value p.queues); taken = items_of (marks_in (view p.dones).got); ended = p.left == 0 }
 
   -- the writer's port
   abbrev pub credit_port : CreditPort J D → WriterSide
-  credit_port p = record { pool = name_of p.queues.now; window = p.queues.now.window; back = (view p.credits).back }
+  credit_port p = record { pool = name_of (arc_value p.queues); window = (arc_value p.queues).window; back = (view p.credits).back }
 
   -- the workers' ports, in order
   abbrev pub worker_ports : Ports J D → List (WorkerSide J D)

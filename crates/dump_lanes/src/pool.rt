@@ -1,5 +1,6 @@
 //! A pool of threads: the queues between them, and their ports.
 ghost use Rattle.std.specs.Option.{ForSome};
+ghost use Rattle.std.specs.Arc.{arc_value};
 ghost use Rattle.dump_lanes.specs.PoolNames.{AreFirst};
 
 use crate::ends::Memory;
@@ -10,8 +11,9 @@ use dones::DoneQueue;
 use drawing::put_first;
 use jobs::JobQueue;
 use queues::{Passes, Queues};
+use shares::share;
 use std::alloc::Global;
-use std::sync::Wait;
+use std::sync::{Arc, Wait};
 
 mod bell;
 mod credits;
@@ -23,6 +25,7 @@ mod jobs;
 mod queues;
 mod sequencer;
 mod settling;
+mod shares;
 mod waiting;
 mod worker;
 mod writer;
@@ -36,22 +39,22 @@ pub use writer::CreditPort;
 /// The queues between a cutter, some workers, a sequencer and a writer.
 #[derive(Drop)]
 pub struct Pool<J: Drop, D: Drop> {
-    queues: Queues<J, D>,
+    queues: Arc<Queues<J, D>>,
     passes: Option<Passes<J, D>>,
-    ghost first: { ForSome passes (λ p. AreFirst queues p) },
+    ghost first: { ForSome passes (λ p. AreFirst (arc_value queues) p) },
 }
 
-/// The ports of a pool.
+/// The ports of a pool. They share its queues, and may outlive it.
 #[derive(Drop)]
-pub struct Ports<'p, J: Drop, D: Drop> {
-    pub cutter: JobPort<'p, J, D>,
-    pub workers: Vec<WorkerPort<'p, J, D>>,
-    pub sequencer: DonePort<'p, J, D>,
-    pub writer: CreditPort<'p, J, D>,
+pub struct Ports<J: Drop, D: Drop> {
+    pub cutter: JobPort<J, D>,
+    pub workers: Vec<WorkerPort<J, D>>,
+    pub sequencer: DonePort<J, D>,
+    pub writer: CreditPort<J, D>,
 }
 
 impl<J: Drop, D: Drop> Pool<J, D> {
-    ghost use Rattle.std.specs.Prelude.{◌≡◌, ◌≤◌, false, map, IfOk};
+    ghost use Rattle.std.specs.Prelude.{◌≡◌, ◌≤◌, true, false, map, IfOk, OnOk, OnErr};
     ghost use Rattle.std.specs.List.{range_with_len};
     ghost use Rattle.dump_lanes.specs.PortSides.{new_cutter, new_worker, new_sequencer, new_writer};
     ghost use Rattle.dump_lanes.specs.PortViews.{pool_state, job_port, worker_ports, done_port, credit_port};
@@ -97,6 +100,9 @@ impl<J: Drop, D: Drop> Pool<J, D> {
             dones: first_done,
             credits: first_credit,
         };
+        let Ok(queues) = Arc::new(alloc, queues) else {
+            return Err(Memory);
+        };
         Ok(Pool {
             queues,
             passes: Some(passes),
@@ -105,20 +111,25 @@ impl<J: Drop, D: Drop> Pool<J, D> {
 
     /// Makes the ports: one for the cutter, one for each worker, one for the sequencer and one for the
     /// writer. Where memory is refused the pool is as before, and may be asked again.
-    pub fn ports(&mut self, alloc: Global) -> Result<Ports<'_, J, D>, Memory>
+    pub fn ports(&mut self, alloc: Global) -> Result<Ports<J, D>, Memory>
         requires { (pool_state self.old).opened ≡ false }
         ensures cutter { IfOk result (λ ports. job_port ports.cutter ≡ new_cutter (pool_state self.old)) }
         ensures workers { let pool = pool_state self.old in
             IfOk result (λ ports. worker_ports ports ≡ map (new_worker pool) (range_with_len 0 pool.workers)) }
         ensures sequencer { IfOk result (λ ports. done_port ports.sequencer ≡ new_sequencer (pool_state self.old)) }
         ensures writer { IfOk result (λ ports. credit_port ports.writer ≡ new_writer (pool_state self.old)) }
+        ensures opened { OnOk result (pool_state self.new ≡ record (pool_state self.old) { opened = true }) }
+        ensures unchanged { OnErr result (pool_state self.new ≡ pool_state self.old) }
     {
         let Ok(room) = Vec::with_capacity(alloc, self.queues.workers) else {
+            return Err(Memory);
+        };
+        let Some(shares) = share(alloc, &self.queues) else {
             return Err(Memory);
         };
         let Some(passes) = self.passes.take() else {
             unreachable!()
         };
-        Ok(cut(&self.queues, passes, room))
+        Ok(cut(&self.queues, passes, shares, room))
     }
 }

@@ -1,4 +1,9 @@
 //! A row of places for items that arrive out of order.
+//!
+//! 1. There are as many places as the window is wide, and a number's place is its remainder by that.
+//! 2. Numbers less than a window apart have different places, so the items of one window all find room.
+//! 3. An item whose place is taken comes back: nothing in the row is overwritten.
+//! 4. A lift gives what stands in the place of its number, and leaves the place free.
 ghost use Rattle.std.specs.Prelude.{◌≡◌, ◌<◌, ◌≤◌, ◌↔◌, ◌%◌, Some, None, length, replicate, IsOk, IsNone, IfSome, IfOk, IfErr, OnOk, OnErr};
 ghost use Rattle.dump_lanes.specs.SlotRow.{slot_item, with_slot_item};
 

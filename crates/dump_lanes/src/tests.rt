@@ -3,7 +3,9 @@ ghost use Rattle.dump_lanes.specs.LaneViews.{sending, sent, receiving};
 
 mod pooling;
 mod running;
+mod starting;
 mod stopping;
+mod threads;
 
 use super::{LaneIn, LaneOut, Memory, Sent, Taken, lane};
 use std::alloc::AllocError;

@@ -1,5 +1,6 @@
 -- A dump has at most one list of records.
 use Rattle.std.proofs.Common.{◌≡◌, ◌≢◌, ◌⊎◌, ℕ, ◌+◌, ◌<◌, refl, sym, ◌∙◌, ap, subst, Bool, true, false, ◌&&◌, not, List, [], ◌∷◌, ◌++◌, length, arith, append_assoc, length-append, inl, inr, ◌==◌, if◌then◌else◌}
+use Rattle.dump_text.proofs.BoolLemmas.{first_true, second_true}
 use Rattle.dump_text.specs.declared.fault.FaultKind.{FaultKind}
 use Rattle.dump_text.specs.declared.fault.FaultKind.TheVariants as faults
 use Rattle.dump_text.specs.FaultTable.{fault_code, IsLeastFault}
@@ -10,14 +11,6 @@ use Rattle.dump_records.specs.HeaderRules.{property_length, text_length, has_bad
 use Rattle.dump_records.specs.RecordText.{DumpRecord, record_text, BeginsWithRecord, is_lawful, HoldsOfText, IsCutFault}
 use Rattle.dump_records.specs.DumpText.{Ending, IsCutInto, HasEnding, HasRecords}
 use Rattle.dump_records.specs.RecordLaws.{NoRecordBeginsAnother}
-
-pub first_true : (a b : Bool) → (a && b) ≡ true → a ≡ true
-first_true true b h = refl
-first_true false b h = cc
-
-pub second_true : (a b : Bool) → (a && b) ≡ true → b ≡ true
-second_true true b h = h
-second_true false b h = cc
 
 pub clash : (a : Bool) → not a ≡ true → a ≡ true → ⊥
 clash true n y = cc

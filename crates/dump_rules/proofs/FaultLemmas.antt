@@ -3,6 +3,7 @@ use Rattle.std.proofs.Common.{◌≡◌, ◌⊎◌, ℕ, ◌<◌, zero, suc, Boo
 use Rattle.std.specs.List.{list_any, AllZip}
 use Rattle.std.proofs.lemmas.Bool.Decides.{nat_tests}
 use Rattle.std.proofs.lemmas.Bool.{and_parts}
+use Rattle.dump_text.proofs.BoolLemmas.{either_second, both_true as both, not_true, not_false}
 use Rattle.dump_rules.specs.Settings.{Settings, keeps_path}
 use Rattle.dump_rules.specs.Renumbering.{KeptRevisions}
 use Rattle.dump_rules.specs.RangeList.{Range, HasNumber}
@@ -25,20 +26,6 @@ or_parts false b e = inr e
 or_first : (a b : Bool) → a ≡ true → (a || b) ≡ true
 or_first a b e = rw e refl
 
-or_second : (a b : Bool) → b ≡ true → (a || b) ≡ true
-or_second true b e = refl
-or_second false b e = e
-
-both : (a b : Bool) → a ≡ true → b ≡ true → (a && b) ≡ true
-both a b e f = rw (e, f) refl
-
-not_true : (a : Bool) → not a ≡ true → a ≡ false
-not_true true e = let bad : false ≡ true = e in cc
-not_true false e = refl
-
-not_false : (a : Bool) → a ≡ false → not a ≡ true
-not_false a e = rw e refl
-
 any_line : (test : List ℕ → Bool) (passes : MergeLine → Bool) (texts : List (List ℕ)) (lines : List MergeLine) → AllZip IsMergeLine texts lines
     → ((text : List ℕ) (line : MergeLine) → IsMergeLine text line → test text ≡ passes line) → list_any test texts ≡ list_any passes lines
 any_line test passes [] [] all same = refl
@@ -47,17 +34,17 @@ any_line test passes (text ∷ texts) [] all same = absurd all
 any_line test passes (text ∷ texts) (line ∷ lines) all same =
     rw (same text line all.0, any_line test passes texts lines all.1 same) refl
 
-found : {X : Type 0} (passes : X → Bool) (xs : List X) → list_any passes xs ≡ true → (x : X) × Contains xs x × (passes x ≡ true)
+pub found : {X : Type 0} (passes : X → Bool) (xs : List X) → list_any passes xs ≡ true → (x : X) × Contains xs x × (passes x ≡ true)
 found passes [] some = let bad : false ≡ true = some in cc
 found passes (x ∷ xs) some = elim (or_parts (passes x) (list_any passes xs) some) [
   | inl here ↦ (x, (0, omega arith, refl), here)
   | inr later ↦ (let more = found passes xs later in let within = more.1.1 in (more.0, (suc more.1.0, omega arith, more.1.2), more.2))
 ]
 
-finds : {X : Type 0} (passes : X → Bool) (xs : List X) (x : X) → Contains xs x → passes x ≡ true → list_any passes xs ≡ true
+pub finds : {X : Type 0} (passes : X → Bool) (xs : List X) (x : X) → Contains xs x → passes x ≡ true → list_any passes xs ≡ true
 finds passes [] x (i, within, is) so = absurd (omega arith)
 finds passes (y ∷ xs) x (zero, within, is) so = or_first (passes y) (list_any passes xs) (ap passes is ∙ so)
-finds passes (y ∷ xs) x (suc i, within, is) so = or_second (passes y) (list_any passes xs) (finds passes xs x (i, omega arith, is) so)
+finds passes (y ∷ xs) x (suc i, within, is) so = either_second (passes y) (list_any passes xs) (finds passes xs x (i, omega arith, is) so)
 
 -- sources that are missing
 
@@ -144,7 +131,7 @@ number_back : (settings : Settings) (first now : ℕ) (ranges : List Range) (kin
     → list_any (range_foreign settings first now) ranges ≡ true
 number_back settings first now [] kind number has foreign = absurd has
 number_back settings first now (r ∷ rest) kind number (inr has) foreign =
-    or_second (range_foreign settings first now r) (list_any (range_foreign settings first now) rest) (number_back settings first now rest kind number has foreign)
+    either_second (range_foreign settings first now r) (list_any (range_foreign settings first now) rest) (number_back settings first now rest kind number has foreign)
 number_back settings first now (r ∷ rest) kind number (inl has) (inl over) =
     let high = has.2 in
     or_first (range_foreign settings first now r) (list_any (range_foreign settings first now) rest)
@@ -153,7 +140,7 @@ number_back settings first now (r ∷ rest) kind number (inl has) (inr under) =
     let low = has.1 in
     let lower = under.1 in
     or_first (range_foreign settings first now r) (list_any (range_foreign settings first now) rest)
-    (or_second (nat_lt now r.to) (not settings.skip_missing && nat_lt r.from first)
+    (either_second (nat_lt now r.to) (not settings.skip_missing && nat_lt r.from first)
     (both (not settings.skip_missing) (nat_lt r.from first) (not_false settings.skip_missing under.0) (lt_true r.from first (omega arith))))
 
 -- lines that stay
@@ -216,13 +203,6 @@ foreign_back settings kept now value (renumber, lines, is, line, within, k, numb
     (number_back settings kept.first now line.ranges k number has foreign)))
 
 -- values that aren't refused
-
-pub not_missing : (settings : Settings) (value : List ℕ) → text_misses settings (without_lf value) ≡ false → ¬ HasMissingSource settings value
-not_missing settings value e missing = let bad : true ≡ false = sym (missing_back settings value missing) ∙ e in cc
-
-pub not_foreign : (settings : Settings) (kept : KeptRevisions) (now : ℕ) (value : List ℕ) → text_foreign settings kept.first now (without_lf value) ≡ false
-    → ¬ HasForeignNumber settings kept now value
-not_foreign settings kept now value e foreign = let bad : true ≡ false = sym (foreign_back settings kept now value foreign) ∙ e in cc
 
 -- a value that can't be anything but mergeinfo is mergeinfo
 pub has_lines : (value : List ℕ) → ¬ ¬ HasMergeLines value → HasMergeLines value

@@ -17,3 +17,4 @@ pub mod MergeFaults
 pub mod LaterRevisions
 pub mod OneNewValue
 pub mod BlockLemmas
+pub mod OwnValue

@@ -18,9 +18,6 @@ use Rattle.dump_rules.proofs.RangeListLemmas.{AllLack, none_all, split_joined, p
 
 -- colons
 
-same : (n : ℕ) → (n == n) ≡ true
-same n = grind arith
-
 pub colon_end_is : (path list : List ℕ) → has_byte 58 list ≡ false → colon_end ((path ++ 58 ∷ []) ++ list) ≡ length path + 1
 colon_end_is path list none =
     let front = length-append path (58 ∷ []) in

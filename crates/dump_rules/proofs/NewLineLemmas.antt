@@ -32,10 +32,6 @@ some_runs r rest =
     let join = some_joined order.0 order.1 in
     (join.0, join.1, ap joined order.2 ∙ join.2)
 
-pub with_runs_none : (out path : List ℕ) (ranges : List Range) → length ranges ≡ 0 → out ≡ with_runs out path (runs_of ranges)
-with_runs_none out path [] none = refl
-with_runs_none out path (r ∷ rest) none = absurd (omega arith)
-
 pub with_runs_some : (out path : List ℕ) (ranges : List Range) → 0 < length ranges
     → with_break out ++ path ++ codes ":" ++ runs_text (runs_of ranges) ≡ with_runs out path (runs_of ranges)
 with_runs_some out path [] some = absurd (omega arith)

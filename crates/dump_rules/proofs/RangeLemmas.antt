@@ -8,9 +8,10 @@ use Rattle.std.proofs.lemmas.List.{take-append-drop, drop_more, take_at, drop_at
 use Rattle.std.proofs.lemmas.List.Splits.{slice_split_first, slice_split_none}
 use Rattle.std.proofs.lemmas.List.Sums.{passes_at_first, fails_before_first}
 use Rattle.std.proofs.lemmas.Slice.Eq.{bytes_eq-Decides}
+use Rattle.dump_text.proofs.BoolLemmas.{equals_itself as same, first_false, second_false}
 use Rattle.dump_text.specs.Number.{is_number, number_of}
 use Rattle.dump_text.specs.HeaderLine.{has_byte}
-use Rattle.dump_text.proofs.Unique.{has_byte-append, first_false, second_false}
+use Rattle.dump_text.proofs.Unique.{has_byte-append}
 use Rattle.dump_text.proofs.ScanLemmas.{has_at, back_lacks}
 use Rattle.dump_rules.specs.RangeList.{Range, star, IsSingle, IsSpan, IsRangeText}
 use Rattle.dump_rules.specs.ReadRanges.{ends_in_star, without_star, both, ends_at, ends_of, range_between, range_of}
@@ -95,9 +96,6 @@ star_parts text = go (ends_in_star text) refl
     go false e = rw e (sym (append-nil text))
 
 -- dashes
-
-same : (n : ℕ) → (n == n) ≡ true
-same n = grind arith
 
 place_none : (b : ℕ) (text : List ℕ) → has_byte b text ≡ false → position_or_len (λ c. c == b) text ≡ length text
 place_none b [] none = refl

@@ -6,8 +6,9 @@ use Rattle.std.proofs.lemmas.Bool.Decides.{nat_tests}
 use Rattle.std.proofs.lemmas.Bool.{and_parts}
 use Rattle.std.proofs.lemmas.List.Elements.{All-cons}
 use Rattle.std.proofs.lemmas.List.Splits.{slice_split_at, slice_split_none, join_with_byte-slice_split}
+use Rattle.dump_text.proofs.BoolLemmas.{equals_itself as same, first_false, second_false}
 use Rattle.dump_text.specs.HeaderLine.{has_byte}
-use Rattle.dump_text.proofs.Unique.{has_byte-append, first_false, second_false}
+use Rattle.dump_text.proofs.Unique.{has_byte-append}
 use Rattle.dump_rules.specs.RangeList.{Range, HasNumber, IsConsistent, star, IsRangeText, IsRangeList}
 use Rattle.dump_rules.specs.ReadRanges.{range_of, range_parts, is_other, contradicts, part_contradicts, part_agrees, list_reads}
 use Rattle.dump_rules.proofs.RangeLemmas.{number_lacks, range_of_text, text_of_range}
@@ -23,9 +24,6 @@ none_all b (c ∷ text) none =
 abbrev pub AllLack : ℕ → List (List ℕ) → Type 0
 AllLack b [] = Unit {0}
 AllLack b (part ∷ parts) = (has_byte b part ≡ false) × AllLack b parts
-
-same : (n : ℕ) → (n == n) ≡ true
-same n = grind arith
 
 pub split_joined : (b : ℕ) (part : List ℕ) (parts : List (List ℕ)) → AllLack b (part ∷ parts)
     → slice_split (λ c. c == b) (join_with_byte b (part ∷ parts)) ≡ part ∷ parts

@@ -22,7 +22,7 @@ use Rattle.dump_rules.proofs.Unique.{runs_once}
 own : IsNumeralModel (λ (ds : List ℕ). list_all is_ascii_digit ds ≡ true) (digits_value 10)
 own = numerals_by_value (λ (ds : List ℕ). list_all is_ascii_digit ds ≡ true) (search rules)
 
-number_small : (digits : List ℕ) (n : ℕ) → number_of digits ≡ Some n → n < 10 ^ 18
+pub number_small : (digits : List ℕ) (n : ℕ) → number_of digits ≡ Some n → n < 10 ^ 18
 number_small digits n is =
     let value = (number_spells digits n is).value in
     let parts = and_parts (nat_lt 0 (length digits) && nat_le (length digits) 18) (list_all is_ascii_digit digits) (number_parts digits n is) in
@@ -46,10 +46,10 @@ have_numbers (part ∷ parts) [] all = absurd all
 have_numbers (part ∷ parts) (r ∷ ranges) all = (all.0.order, have_numbers parts ranges all.1)
 
 -- each number of a range list is small
-abbrev AreSmall : List Range → Type 0
+abbrev pub AreSmall : List Range → Type 0
 AreSmall ranges = (kind : Bool) (n : ℕ) → HasNumber ranges kind n → (1 ≤ n) × (n < 10 ^ 18)
 
-are_small : (parts : List (List ℕ)) (ranges : List Range) → AllZip IsRangeText parts ranges → AreSmall ranges
+pub are_small : (parts : List (List ℕ)) (ranges : List Range) → AllZip IsRangeText parts ranges → AreSmall ranges
 are_small [] [] all kind n has = absurd has
 are_small [] (r ∷ ranges) all kind n has = absurd all
 are_small (part ∷ parts) [] all kind n has = absurd all
@@ -100,7 +100,7 @@ later_of : (r : Range) (rest : List Range) → AreRuns (r ∷ rest) → AreRuns 
 later_of r [] are = tt
 later_of r (s ∷ rest) are = are.3
 
-runs_spelled : (runs : List Range) → AreRuns runs → AreSmall runs → AllZip IsRangeText (map run_text runs) runs
+pub runs_spelled : (runs : List Range) → AreRuns runs → AreSmall runs → AllZip IsRangeText (map run_text runs) runs
 runs_spelled [] are small = tt
 runs_spelled (r ∷ rest) are small =
     let order = order_of r rest are in

@@ -11,7 +11,8 @@ use Rattle.dump_text.specs.HeaderBlock.{is_block, lines_bytes, block_text, Begin
 use Rattle.dump_text.specs.ReadHeaders.{headers_of, AreHeaderLines, IsBlockBetween, IsPartBetween}
 use Rattle.dump_text.specs.Starts.{known_place, AreStarts}
 use Rattle.dump_text.specs.Scanning.{IsLinesEnd, IsBlockEnd, HasLines, is_known, names_stand_once}
-use Rattle.dump_text.proofs.Unique.{lines_once, lawful_lines, first_true, second_true}
+use Rattle.dump_text.proofs.Unique.{lines_once, lawful_lines}
+use Rattle.dump_text.proofs.BoolLemmas.{first_true, second_true}
 use Rattle.dump_text.proofs.ScanLemmas.{headers_of-lines}
 
 -- whether each known name stands at most once, by counting and by looking ahead

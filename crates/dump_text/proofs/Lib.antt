@@ -1,3 +1,4 @@
+pub mod BoolLemmas
 pub mod NumberLemmas
 pub mod Unique
 pub mod ScanLemmas

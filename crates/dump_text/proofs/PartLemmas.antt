@@ -11,7 +11,8 @@ use Rattle.dump_text.specs.Number.{is_number, number_of, spelled_number}
 use Rattle.dump_text.specs.PropertyList.{sized_text}
 use Rattle.dump_text.specs.Scanning.{IsFirstLine}
 use Rattle.dump_text.specs.PropertyScan.{IsSized, HasSized, IsLetter}
-use Rattle.dump_text.proofs.Unique.{first_true, second_true, tail-eq, split_once, split_by_length}
+use Rattle.dump_text.proofs.Unique.{tail-eq, split_once, split_by_length}
+use Rattle.dump_text.proofs.BoolLemmas.{first_true, second_true}
 
 -- the digits spell a number, and none of them is LF
 pub record Spells (digits : List ℕ) (n : ℕ) : Type 0 where

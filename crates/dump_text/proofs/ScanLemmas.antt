@@ -7,12 +7,13 @@ use Rattle.std.proofs.lemmas.List.Splits.{slice_split_at}
 use Rattle.std.proofs.lemmas.Bool.{eqb-true}
 use Rattle.std.proofs.lemmas.List.Folds.{list_all-append}
 use Rattle.memchr.specs.Find.{IsFirstByte, is_byte}
+use Rattle.dump_text.proofs.BoolLemmas.{equals_itself as same, first_true, first_false, second_false}
 use Rattle.dump_text.specs.HeaderLine as line
 use Rattle.dump_text.specs.HeaderLine.{has_byte, header_text, is_header}
 use Rattle.dump_text.specs.HeaderBlock.{lines_bytes, starts_with_lf, has_empty_line}
 use Rattle.dump_text.specs.ReadHeaders.{header_of, headers_of, AreHeaderLines}
 use Rattle.dump_text.specs.Scanning.{IsFirstAt, IsFirstLine, IsCutAtColon, IsNoHeader, IsLinesEnd}
-use Rattle.dump_text.proofs.Unique.{split_once, Lawful, lawful, text_no_lf, regroup, all_first, all_rest, not_empty, first_true, first_false, second_false, or_right, ended}
+use Rattle.dump_text.proofs.Unique.{split_once, Lawful, lawful, text_no_lf, regroup, all_first, all_rest, not_empty, or_right, ended}
 
 -- a byte that stands at no place of a text isn't in it
 pub lacks : (b : ℕ) (text : List ℕ) → ((k : ℕ) → k < length text → (slice_index text k == b) ≡ true → ⊥) → has_byte b text ≡ false
@@ -24,9 +25,6 @@ lacks b (c ∷ text) none = lacks_cons b c text (none 0 (omega arith)) (lacks b 
       | true ↦ λ bad. absurd (bad refl)
       | false ↦ λ bad. tail
     ] head
-
-same : (n : ℕ) → (n == n) ≡ true
-same n = grind arith
 
 pub has_at : (b : ℕ) (front rest : List ℕ) → has_byte b (front ++ b ∷ rest) ≡ true
 has_at b [] rest = rw (same b) refl

@@ -2,26 +2,11 @@
 use Rattle.std.proofs.Common.{◌≡◌, ℕ, zero, suc, nat_lt, refl, sym, ◌∙◌, ap, subst, Bool, true, false, ◌||◌, ◌&&◌, not, ◌==◌, List, [], ◌∷◌, ◌++◌, length, codes, arith, append_assoc, length-append, flat_map, nat_le, replicate}
 use Rattle.std.proofs.lemmas.Bool.{not-true}
 use Rattle.std.specs.List.{list_all}
+use Rattle.dump_text.proofs.BoolLemmas.{first_true, second_true, first_false, second_false}
 use Rattle.dump_text.specs.Names.{known_names}
 use Rattle.dump_text.specs.HeaderLine as line
 use Rattle.dump_text.specs.HeaderLine.{has_byte, header_text, is_header}
 use Rattle.dump_text.specs.HeaderBlock.{is_block, block_text, starts_with_lf, has_empty_line, BeginsWithBlock}
-
-pub first_true : (a b : Bool) → (a && b) ≡ true → a ≡ true
-first_true true b h = refl
-first_true false b h = cc
-
-pub second_true : (a b : Bool) → (a && b) ≡ true → b ≡ true
-second_true true b h = h
-second_true false b h = cc
-
-pub first_false : (a b : Bool) → (a || b) ≡ false → a ≡ false
-first_false false b h = refl
-first_false true b h = cc
-
-pub second_false : (a b : Bool) → (a || b) ≡ false → b ≡ false
-second_false false b h = h
-second_false true b h = cc
 
 same_number : (n : ℕ) → (n == n) ≡ false → ⊥
 same_number n h = grind arith

@@ -1,5 +1,6 @@
 //! The cutter's port.
 ghost use Rattle.std.specs.Prelude.{◌≡◌, ◌+◌, [], ◌∷◌, ◌++◌, true, replicate};
+ghost use Rattle.std.specs.Arc.{arc_value};
 ghost use Rattle.crossbeam_queue.specs.Passes.{view, IsSamePass, IsPassOf};
 ghost use Rattle.dump_lanes.specs.JobRule.{hand};
 ghost use Rattle.dump_lanes.specs.PoolPasses.{IsCutting};
@@ -15,21 +16,21 @@ use super::waiting::push;
 use crate::protocol::Mark;
 use crate::stop::{StopSeat, StopWord};
 use crossbeam_queue::Pass;
-use std::sync::Wait;
+use std::sync::{Arc, Wait};
 
 /// The cutter's port: it draws credits, and puts jobs.
 #[derive(Drop)]
-pub struct JobPort<'p, J: Drop, D: Drop> {
-    pub(super) queues: &'p Queues<J, D>,
+pub struct JobPort<J: Drop, D: Drop> {
+    pub(super) queues: Arc<Queues<J, D>>,
     pub(super) jobs: Pass<Mark<J>, Hand<J>>,
     pub(super) credits: Pass<Token, Purse>,
-    ghost of_jobs: { IsPassOf queues.now.jobs jobs },
-    ghost of_credits: { IsPassOf queues.now.credits credits },
-    ghost cuts: { IsCutting queues.now.workers (view jobs) },
+    ghost of_jobs: { IsPassOf (arc_value queues).jobs jobs },
+    ghost of_credits: { IsPassOf (arc_value queues).credits credits },
+    ghost cuts: { IsCutting (arc_value queues).workers (view jobs) },
     ghost draws: { (view credits).draws ≡ true },
 }
 
-impl<'p, J: Drop, D: Drop> JobPort<'p, J, D> {
+impl<J: Drop, D: Drop> JobPort<J, D> {
     ghost use Rattle.dump_lanes.specs.CreditViews.{is_stop};
     ghost use Rattle.dump_lanes.specs.PortViews.{job_port, DrawStep};
 

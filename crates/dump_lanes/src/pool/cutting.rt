@@ -1,10 +1,11 @@
 //! How the first passes of a pool's queues are cut into those of its ports.
-ghost use Rattle.std.specs.Prelude.{◌≡◌, ◌-◌, ◌≤◌, [], true, map, vec_capacity};
+ghost use Rattle.std.specs.Prelude.{◌≡◌, ◌-◌, ◌≤◌, [], true, length, map, All, vec_capacity};
 ghost use Rattle.std.specs.List.{range_with_len};
+ghost use Rattle.std.specs.Arc.{arc_value};
 ghost use Rattle.crossbeam_queue.specs.Passes.{view, IsPassOf};
 ghost use Rattle.dump_lanes.specs.DoneRule.{reader};
 ghost use Rattle.dump_lanes.specs.JobRule.{hand};
-ghost use Rattle.dump_lanes.specs.PoolNames.{AreFirst, state_of};
+ghost use Rattle.dump_lanes.specs.PoolNames.{AreFirst, AreShares, state_of};
 ghost use Rattle.dump_lanes.specs.PortSides.{new_cutter, new_worker, new_sequencer, new_writer};
 ghost use Rattle.dump_lanes.specs.PortViews.{job_port, worker_port, worker_ports, done_port, credit_port};
 
@@ -15,18 +16,22 @@ use super::dones::{Desk, DoneRoles, Note};
 use super::jobs::{Hand, JobRoles};
 use super::queues::{Passes, Queues};
 use super::sequencer::DonePort;
+use super::shares::Shares;
 use super::worker::WorkerPort;
 use super::writer::CreditPort;
 use crate::protocol::Mark;
 use crossbeam_queue::Pass;
+use std::sync::Arc;
 
 /// Makes all ports. `room` is where the workers' go.
-pub fn cut<'p, J: Drop, D: Drop>(
-    queues: &'p Queues<J, D>,
+pub fn cut<J: Drop, D: Drop>(
+    queues: &Queues<J, D>,
     passes: Passes<J, D>,
-    room: Vec<WorkerPort<'p, J, D>>,
-) -> Ports<'p, J, D>
+    shares: Shares<J, D>,
+    room: Vec<WorkerPort<J, D>>,
+) -> Ports<J, D>
     requires passes { AreFirst queues.now passes }
+    requires shares { AreShares queues.now shares }
     requires room { (room.items ≡ []) × (queues.now.workers ≤ vec_capacity room) }
     ensures cutter { job_port result.cutter ≡ new_cutter (state_of queues.now) }
     ensures workers { worker_ports result ≡ map (new_worker (state_of queues.now)) (range_with_len 0 queues.now.workers) }
@@ -38,37 +43,46 @@ pub fn cut<'p, J: Drop, D: Drop>(
         mut dones,
         mut credits,
     } = passes;
-    let workers = cut_workers(queues, &mut jobs, &mut dones, room);
+    let Shares {
+        cutter,
+        workers,
+        sequencer,
+        writer,
+    } = shares;
+    let workers = cut_workers(queues, &mut jobs, &mut dones, workers, room);
     let back = queues.credits.another::<CreditRoles>(&mut credits);
     Ports {
         cutter: JobPort {
-            queues,
+            queues: cutter,
             jobs,
             credits,
         },
         workers,
         sequencer: DonePort {
-            queues,
+            queues: sequencer,
             dones,
             left: queues.workers,
         },
         writer: CreditPort {
-            queues,
+            queues: writer,
             credits: back,
         },
     }
 }
 
-fn cut_workers<'p, J: Drop, D: Drop>(
-    queues: &'p Queues<J, D>,
+fn cut_workers<J: Drop, D: Drop>(
+    queues: &Queues<J, D>,
     jobs: &mut Pass<Mark<J>, Hand<J>>,
     dones: &mut Pass<Note<D>, Desk<D>>,
-    room: Vec<WorkerPort<'p, J, D>>,
-) -> Vec<WorkerPort<'p, J, D>>
+    shares: Vec<Arc<Queues<J, D>>>,
+    room: Vec<WorkerPort<J, D>>,
+) -> Vec<WorkerPort<J, D>>
     requires of_jobs { IsPassOf queues.now.jobs jobs.old }
     requires of_dones { IsPassOf queues.now.dones dones.old }
     requires jobs { view jobs.old ≡ hand 128 true [] [] }
     requires dones { view dones.old ≡ reader 128 [] 0 [] [] }
+    requires shares { All (λ a. arc_value a ≡ queues.now) shares.items }
+    requires as_many { length shares.items ≡ queues.now.workers }
     requires room { (room.items ≡ []) × (queues.now.workers ≤ vec_capacity room) }
     ensures of_jobs { IsPassOf queues.now.jobs jobs.new }
     ensures of_dones { IsPassOf queues.now.dones dones.new }
@@ -77,10 +91,11 @@ fn cut_workers<'p, J: Drop, D: Drop>(
     ensures workers { map (λ p. worker_port p) result.items ≡ map (new_worker (state_of queues.now)) (range_with_len 0 queues.now.workers) }
 {
     let mut workers = room;
-    for index in 0..queues.workers {
+    for share in shares {
+        let index = workers.len();
         let takes = queues.jobs.another::<JobRoles>(jobs);
         let gives = queues.dones.another::<DoneRoles>(dones);
-        workers.push_reserved(WorkerPort::new(queues, index, takes, gives));
+        workers.push_reserved(WorkerPort::new(share, index, takes, gives));
     }
     workers
 }

@@ -1,5 +1,6 @@
 //! The sequencer's port.
 ghost use Rattle.std.specs.Prelude.{◌≡◌, ◌+◌, ◌<◌, true, IfSome, IfNone, option_to_list};
+ghost use Rattle.std.specs.Arc.{arc_value};
 ghost use Rattle.crossbeam_queue.specs.Passes.{view, IsSamePass, IsPassOf};
 ghost use Rattle.dump_lanes.specs.PoolPasses.{IsSequencing, HasRead, count_ends, marks_in};
 
@@ -9,19 +10,19 @@ use super::queues::Queues;
 use super::waiting::pop;
 use crate::protocol::Mark;
 use crossbeam_queue::Pass;
-use std::sync::Wait;
+use std::sync::{Arc, Wait};
 
 /// The sequencer's port: it takes what the workers gave.
 #[derive(Drop)]
-pub struct DonePort<'p, J: Drop, D: Drop> {
-    pub(super) queues: &'p Queues<J, D>,
+pub struct DonePort<J: Drop, D: Drop> {
+    pub(super) queues: Arc<Queues<J, D>>,
     pub(super) dones: Pass<Note<D>, Desk<D>>,
     pub(super) left: usize,
-    ghost of_dones: { IsPassOf queues.now.dones dones },
-    ghost sequences: { IsSequencing queues.now.workers left (view dones) },
+    ghost of_dones: { IsPassOf (arc_value queues).dones dones },
+    ghost sequences: { IsSequencing (arc_value queues).workers left (view dones) },
 }
 
-impl<'p, J: Drop, D: Drop> DonePort<'p, J, D> {
+impl<J: Drop, D: Drop> DonePort<J, D> {
     ghost use Rattle.dump_lanes.specs.PortViews.{done_port, DoneStep};
 
     /// Takes the item at the front, and waits for one. `None`: each worker has closed its port, and the

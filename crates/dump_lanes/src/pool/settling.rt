@@ -17,7 +17,7 @@ use super::writer::CreditPort;
 use crate::protocol::Mark;
 use crossbeam_queue::Pass;
 
-impl<'p, J: Drop, D: Drop> Ports<'p, J, D> {
+impl<J: Drop, D: Drop> Ports<J, D> {
     /// Shows that what was taken is what was put, and drops all ports. The workers' may come in any
     /// order.
     pub fn settle(self)
@@ -27,10 +27,10 @@ impl<'p, J: Drop, D: Drop> Ports<'p, J, D> {
         requires closed { (job_port self.cutter).marks ≡ (job_port self.cutter).workers }
         requires done { All (λ worker. IsDone worker) (worker_ports self) }
         requires ended { (done_port self.sequencer).ended ≡ true }
-        ensures jobs { WeighsSame (all_taken (worker_ports self.entry)) (job_port self.entry.cutter).put }
-        ensures dones { WeighsSame (done_port self.entry.sequencer).taken (all_given (worker_ports self.entry)) }
-        ensures credits { let writer = credit_port self.entry.writer in
-            (job_port self.entry.cutter).drawn ≤ writer.window + writer.back }
+        ensures jobs { WeighsSame (all_taken (worker_ports self)) (job_port self.cutter).put }
+        ensures dones { WeighsSame (done_port self.sequencer).taken (all_given (worker_ports self)) }
+        ensures credits { let writer = credit_port self.writer in
+            (job_port self.cutter).drawn ≤ writer.window + writer.back }
     {
         let Ports {
             cutter,
@@ -52,7 +52,7 @@ impl<'p, J: Drop, D: Drop> Ports<'p, J, D> {
             queues: _,
             credits: back,
         } = writer;
-        gather(queues, &mut jobs, &mut dones, workers);
+        gather(&queues, &mut jobs, &mut dones, workers);
         queues.credits.absorb::<CreditRoles>(&mut credits, back);
         queues.jobs.learn_as::<AllJobs>(&mut jobs);
         queues.dones.learn_as::<AllNotes>(&mut dones);
@@ -61,11 +61,11 @@ impl<'p, J: Drop, D: Drop> Ports<'p, J, D> {
 }
 
 // Takes in the passes of the workers.
-fn gather<'p, J: Drop, D: Drop>(
+fn gather<J: Drop, D: Drop>(
     queues: &Queues<J, D>,
     jobs: &mut Pass<Mark<J>, Hand<J>>,
     dones: &mut Pass<Note<D>, Desk<D>>,
-    workers: Vec<WorkerPort<'p, J, D>>,
+    workers: Vec<WorkerPort<J, D>>,
 )
     requires of_jobs { IsPassOf queues.now.jobs jobs.old }
     requires of_dones { IsPassOf queues.now.dones dones.old }
@@ -74,8 +74,8 @@ fn gather<'p, J: Drop, D: Drop>(
     requires workers { All (λ p. (worker_port p).pool ≡ name_of queues.now) workers.items }
     ensures of_jobs { IsPassOf queues.now.jobs jobs.new }
     ensures of_dones { IsPassOf queues.now.dones dones.new }
-    ensures jobs { HasJobsOf workers.entry.items (view jobs.old) (view jobs.new) }
-    ensures dones { HasDonesOf workers.entry.items (view dones.old) (view dones.new) }
+    ensures jobs { HasJobsOf workers.items (view jobs.old) (view jobs.new) }
+    ensures dones { HasDonesOf workers.items (view dones.old) (view dones.new) }
 {
     for worker in workers {
         let WorkerPort {

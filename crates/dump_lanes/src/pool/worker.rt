@@ -1,5 +1,6 @@
 //! A worker's port.
 ghost use Rattle.std.specs.Prelude.{◌≡◌, [], ◌∷◌, ◌++◌, true, false};
+ghost use Rattle.std.specs.Arc.{arc_value};
 ghost use Rattle.crossbeam_queue.specs.Passes.{view, IsPassOf};
 ghost use Rattle.dump_lanes.specs.DoneRule.{sender};
 ghost use Rattle.dump_lanes.specs.JobRule.{hand};
@@ -11,39 +12,39 @@ use super::queues::Queues;
 use super::waiting::{pop, push};
 use crate::protocol::Mark;
 use crossbeam_queue::Pass;
-use std::sync::Wait;
+use std::sync::{Arc, Wait};
 
 /// A worker's port: it takes jobs, and gives what it made of them.
 #[derive(Drop)]
-pub struct WorkerPort<'p, J: Drop, D: Drop> {
-    pub(super) queues: &'p Queues<J, D>,
+pub struct WorkerPort<J: Drop, D: Drop> {
+    pub(super) queues: Arc<Queues<J, D>>,
     pub(super) index: usize,
     pub(super) jobs: Pass<Mark<J>, Hand<J>>,
     pub(super) ended: bool,
     pub(super) dones: Pass<Note<D>, Desk<D>>,
     pub(super) closed: bool,
-    ghost of_jobs: { IsPassOf queues.now.jobs jobs },
-    ghost of_dones: { IsPassOf queues.now.dones dones },
+    ghost of_jobs: { IsPassOf (arc_value queues).jobs jobs },
+    ghost of_dones: { IsPassOf (arc_value queues).dones dones },
     ghost works: { IsWorking ended (view jobs) },
     ghost gives: { IsGiving index closed (view dones) },
 }
 
-impl<'p, J: Drop, D: Drop> WorkerPort<'p, J, D> {
+impl<J: Drop, D: Drop> WorkerPort<J, D> {
     ghost use Rattle.dump_lanes.specs.PoolNames.{state_of};
     ghost use Rattle.dump_lanes.specs.PortSides.{new_worker};
     ghost use Rattle.dump_lanes.specs.PortViews.{worker_port, JobStep};
 
     pub(super) fn new(
-        queues: &'p Queues<J, D>,
+        queues: Arc<Queues<J, D>>,
         index: usize,
         jobs: Pass<Mark<J>, Hand<J>>,
         dones: Pass<Note<D>, Desk<D>>,
-    ) -> WorkerPort<'p, J, D>
-        requires of_jobs { IsPassOf queues.now.jobs jobs }
-        requires of_dones { IsPassOf queues.now.dones dones }
+    ) -> WorkerPort<J, D>
+        requires of_jobs { IsPassOf (arc_value queues).jobs jobs }
+        requires of_dones { IsPassOf (arc_value queues).dones dones }
         requires jobs { view jobs ≡ hand 1 false [] [] }
         requires dones { view dones ≡ sender 1 index [] }
-        ensures { worker_port result ≡ new_worker (state_of queues.now) index }
+        ensures { worker_port result ≡ new_worker (state_of (arc_value queues)) index }
     {
         WorkerPort {
             queues,

@@ -1,5 +1,6 @@
 //! The writer's port.
 ghost use Rattle.std.specs.Prelude.{◌≡◌, ◌+◌};
+ghost use Rattle.std.specs.Arc.{arc_value};
 ghost use Rattle.crossbeam_queue.specs.Passes.{view, IsPassOf};
 ghost use Rattle.dump_lanes.specs.PoolPasses.{IsGivingBack};
 
@@ -8,18 +9,18 @@ use super::drawing::Credit;
 use super::queues::Queues;
 use super::waiting::push;
 use crossbeam_queue::Pass;
-use std::sync::Wait;
+use std::sync::{Arc, Wait};
 
 /// The writer's port: it gives credits back.
 #[derive(Drop)]
-pub struct CreditPort<'p, J: Drop, D: Drop> {
-    pub(super) queues: &'p Queues<J, D>,
+pub struct CreditPort<J: Drop, D: Drop> {
+    pub(super) queues: Arc<Queues<J, D>>,
     pub(super) credits: Pass<Token, Purse>,
-    ghost of_credits: { IsPassOf queues.now.credits credits },
-    ghost gives: { IsGivingBack queues.now.window (view credits) },
+    ghost of_credits: { IsPassOf (arc_value queues).credits credits },
+    ghost gives: { IsGivingBack (arc_value queues).window (view credits) },
 }
 
-impl<'p, J: Drop, D: Drop> CreditPort<'p, J, D> {
+impl<J: Drop, D: Drop> CreditPort<J, D> {
     ghost use Rattle.dump_lanes.specs.PortViews.{credit_port};
 
     /// Gives a credit of this pool back, so that the cutter can draw it again. (One of another pool counts

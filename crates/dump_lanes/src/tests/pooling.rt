@@ -9,13 +9,10 @@ use std::sync::Wait;
 use std::test::*;
 
 // Takes 7, gives 8, and ends.
-fn answer<'p, R: Wait>(
-    rt: &R,
-    mut port: WorkerPort<'p, u32, u32>,
-) -> Option<WorkerPort<'p, u32, u32>>
+fn answer<R: Wait>(rt: &R, mut port: WorkerPort<u32, u32>) -> Option<WorkerPort<u32, u32>>
     requires { (worker_port port).closed ≡ false }
-    ensures pool { IfSome result (λ p. (worker_port p).pool ≡ (worker_port port.entry).pool) }
-    ensures index { IfSome result (λ p. (worker_port p).index ≡ (worker_port port.entry).index) }
+    ensures pool { IfSome result (λ p. (worker_port p).pool ≡ (worker_port port).pool) }
+    ensures index { IfSome result (λ p. (worker_port p).index ≡ (worker_port port).index) }
     ensures done { IfSome result (λ p. IsDone (worker_port p)) }
 {
     if port.take(rt) != Some(7) {
@@ -29,14 +26,14 @@ fn answer<'p, R: Wait>(
     Some(port)
 }
 
-fn answer_all<'p, R: Wait>(
+fn answer_all<R: Wait>(
     rt: &R,
     alloc: Global,
-    ports: Vec<WorkerPort<'p, u32, u32>>,
-) -> Option<Vec<WorkerPort<'p, u32, u32>>>
+    ports: Vec<WorkerPort<u32, u32>>,
+) -> Option<Vec<WorkerPort<u32, u32>>>
     requires { All (λ p. (worker_port p).closed ≡ false) ports.items }
-    ensures pool { IfSome result (λ v. map (λ p. (worker_port p).pool) v.items ≡ map (λ p. (worker_port p).pool) ports.entry.items) }
-    ensures index { IfSome result (λ v. map (λ p. (worker_port p).index) v.items ≡ map (λ p. (worker_port p).index) ports.entry.items) }
+    ensures pool { IfSome result (λ v. map (λ p. (worker_port p).pool) v.items ≡ map (λ p. (worker_port p).pool) ports.items) }
+    ensures index { IfSome result (λ v. map (λ p. (worker_port p).index) v.items ≡ map (λ p. (worker_port p).index) ports.items) }
     ensures done { IfSome result (λ v. All (λ p. IsDone (worker_port p)) v.items) }
 {
     let mut all = Vec::new(alloc);
@@ -46,10 +43,10 @@ fn answer_all<'p, R: Wait>(
     Some(all)
 }
 
-fn pass_one<'p, R: Wait>(
+fn pass_one<R: Wait>(
     rt: &R,
     alloc: Global,
-    ports: Ports<'p, u32, u32>,
+    ports: Ports<u32, u32>,
     word: &StopWord,
     mut seat: StopSeat,
 ) -> Option<bool>
@@ -102,14 +99,15 @@ fn one_item_through_a_pool(rt: HostRuntime) -> Result<(), Fail> {
     Ok(())
 }
 
-// Whichever allocation is refused, `new` or `ports` answers `Memory`: run under `--fail-alloc 1` to
-// `12`.
+// Whichever allocation is refused, `new` answers `Memory`, or `ports` does and gives the ports when it is
+// asked again: run under `--fail-alloc 1` to `32`.
 #[test]
 fn a_pool_or_no_memory(rt: HostRuntime) {
     match Pool::<u32, u32>::new(&rt, rt.alloc(), 2, 4) {
         Ok(mut pool) => {
             if let Err(refused) = pool.ports(rt.alloc()) {
                 assert_eq!(rt; refused, Memory);
+                assert!(rt; pool.ports(rt.alloc()).is_ok());
             }
         }
         Err(refused) => assert_eq!(rt; refused, Memory),

@@ -1,6 +1,7 @@
 use Rattle.std.proofs.Common.{ap, ◌∙◌, is_some}
 use Rattle.dump_text.specs.Views.{block_headers}
-use Rattle.dump_records.proofs.HeaderLemmas.{some_copied, has_value}
+use Rattle.dump_text.proofs.BlockLemmas.{has_value}
+use Rattle.dump_records.proofs.HeaderLemmas.{some_copied}
 use Rattle.dump_records.proofs.headers.has.Goals as goal
 
 pub returns : goal.returns

@@ -1,7 +1,10 @@
-use Rattle.std.proofs.Common.{ap, sym, subst, ◌∙◌, ◌≡◌, arith}
+use Rattle.std.proofs.Common.{ap, sym, subst, ◌∙◌, ◌≡◌, All, arith}
+use Rattle.std.specs.Arc.{arc_value}
 use Rattle.crossbeam_queue.specs.Passes.{view}
 use Rattle.dump_lanes.specs.declared.pool.credits.Purse.{Purse}
+use Rattle.dump_lanes.specs.declared.pool.queues.Queues.{Queues}
 use Rattle.dump_lanes.specs.declared.pool.worker.WorkerPort.{WorkerPort}
+use Rattle.dump_lanes.specs.PoolNames.{name_of}
 use Rattle.dump_lanes.specs.PoolPasses.{IsSequencing}
 use Rattle.dump_lanes.specs.PortSides.{WorkerSide, IsDone}
 use Rattle.dump_lanes.specs.PortViews.{worker_port, job_port}
@@ -13,7 +16,8 @@ use Rattle.dump_lanes.proofs.pool.Ports.settle.Goals as goal
 
 pub gather-requires-clause-workers : goal.gather-requires-clause-workers
 gather-requires-clause-workers g c =
-    all_of_map (λ (w : WorkerSide g.row.J.Denot g.row.D.Denot). w.pool ≡ (job_port c.args.self.cutter).pool) (λ (p : WorkerPort g.row.J.Denot g.row.D.Denot). worker_port p) c.args.self.workers.items c.requires.workers.same_pool
+    let all = all_of_map (λ (w : WorkerSide g.row.J.Denot g.row.D.Denot). w.pool ≡ (job_port c.args.self.cutter).pool) (λ (p : WorkerPort g.row.J.Denot g.row.D.Denot). worker_port p) c.args.self.workers.items c.requires.workers.same_pool in
+    subst (λ (q : Queues g.row.J.Denot g.row.D.Denot). All (λ (p : WorkerPort g.row.J.Denot g.row.D.Denot). (worker_port p).pool ≡ name_of q) c.args.self.workers.items) (sym c.deref.ensures) all
 
 pub absorb-requires-clause-rule : goal.absorb-requires-clause-rule
 absorb-requires-clause-rule g c = credits.merges _ _ _ _ c.args.self.cutter.draws c.args.self.writer.gives.may_give
@@ -30,7 +34,7 @@ pub learn_as-requires-2-clause-rule : goal.learn_as-requires-2-clause-rule
 learn_as-requires-2-clause-rule g c =
     let v = c.gather.ensures.dones in
     let parts = v.parts in
-    let same = same_workers c.args.self.sequencer.queues.now c.args.self.cutter.queues.now c.requires.sequencer in
+    let same = same_workers (arc_value c.args.self.sequencer.queues) (arc_value c.args.self.cutter.queues) c.requires.sequencer in
     let all = c.args.self.sequencer.sequences.parts in
     let long = sym (length_of_map (λ (p : WorkerPort g.row.J.Denot g.row.D.Denot). worker_port p) c.args.self.workers.items) ∙ c.requires.workers.as_many in
     dones.learns _ _ v.may_take (omega arith)
@@ -44,12 +48,12 @@ returns-clause-jobs g c =
     let cutter = c.args.self.cutter in
     let done = all_of_map (λ (w : WorkerSide g.row.J.Denot g.row.D.Denot). IsDone w) (λ (p : WorkerPort g.row.J.Denot g.row.D.Denot). worker_port p) c.args.self.workers.items c.requires.done in
     let long = sym (length_of_map (λ (p : WorkerPort g.row.J.Denot g.row.D.Denot). worker_port p) c.args.self.workers.items) ∙ c.requires.workers.as_many in
-    settles_jobs cutter.queues.now.workers (view cutter.jobs) (view c.gather.new.jobs) c.args.self.workers.items c.learn_as.ensures.rule.0 cutter.queues.now.some_workers cutter.cuts c.requires.closed long done c.gather.ensures.jobs c.learn_as.ensures.rule.1
+    settles_jobs (arc_value cutter.queues).workers (view cutter.jobs) (view c.gather.new.jobs) c.args.self.workers.items c.learn_as.ensures.rule.0 (arc_value cutter.queues).some_workers cutter.cuts c.requires.closed long done c.gather.ensures.jobs c.learn_as.ensures.rule.1
 
 pub returns-clause-dones : goal.returns-clause-dones
 returns-clause-dones g c =
     let sequencer = c.args.self.sequencer in
-    let same = same_workers sequencer.queues.now c.args.self.cutter.queues.now c.requires.sequencer in
+    let same = same_workers (arc_value sequencer.queues) (arc_value c.args.self.cutter.queues) c.requires.sequencer in
     let done = all_of_map (λ (w : WorkerSide g.row.J.Denot g.row.D.Denot). IsDone w) (λ (p : WorkerPort g.row.J.Denot g.row.D.Denot). worker_port p) c.args.self.workers.items c.requires.done in
     let sequences = subst (λ n. IsSequencing n sequencer.left (view sequencer.dones)) same sequencer.sequences in
     settles_dones _ _ sequencer.left (view sequencer.dones) (view c.gather.new.dones) c.args.self.workers.items c.learn_as-2.ensures.rule.0 sequences c.requires.ended c.requires.workers done c.gather.ensures.dones c.learn_as-2.ensures.rule.1

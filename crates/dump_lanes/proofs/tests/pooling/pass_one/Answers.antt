@@ -1,4 +1,4 @@
-use Rattle.std.proofs.Common.{◌≡◌, ◌∙◌, ℕ, ap, sym, subst, map}
+use Rattle.std.proofs.Common.{◌∙◌, ℕ, ap, sym, subst, map}
 use Rattle.dump_lanes.specs.declared.pool.worker.WorkerPort.{WorkerPort}
 use Rattle.dump_lanes.specs.PortSides.{PoolName, CutterSide, WorkerSide, AreWorkersOf, IsDone}
 use Rattle.dump_lanes.specs.PortViews.{worker_port}

@@ -1,5 +1,7 @@
-use Rattle.std.proofs.Common.{◌∙◌}
+use Rattle.std.proofs.Common.{ℕ, ap, ◌∙◌}
 use Rattle.crossbeam_queue.specs.Passes.{view}
+use Rattle.dump_lanes.specs.declared.pool.queues.Queues.{Queues}
+use Rattle.dump_lanes.specs.PortViews.{job_port}
 use Rattle.dump_lanes.proofs.PortSteps.{cut_ends, cut_ends_put, cut_ends_marks, cutter_is}
 use Rattle.dump_lanes.proofs.pool.cutter.JobPort.close.Goals as goal
 
@@ -14,4 +16,7 @@ invariant_of-self g c =
     }
 
 pub returns : goal.returns
-returns g c = cutter_is _ _ _ (cut_ends_put _ (view c.args.self.now.jobs) _ c.put_ends.ensures.put) (cut_ends_marks _ (view c.args.self.now.jobs) _ c.requires c.put_ends.ensures.put)
+returns g c =
+    let side = λ (n : ℕ). record (job_port c.args.self.now) { marks = n } in
+    cutter_is _ _ _ (cut_ends_put _ (view c.args.self.now.jobs) _ c.put_ends.ensures.put) (cut_ends_marks _ (view c.args.self.now.jobs) _ c.requires c.put_ends.ensures.put)
+    ∙ ap side (ap (λ (q : Queues g.row.J.Denot g.row.D.Denot). q.workers) c.deref-3.ensures)

@@ -1,5 +1,5 @@
 -- Both, either and not.
-use Rattle.std.proofs.Common.{◌≡◌, Bool, true, false, not, ◌&&◌, ◌||◌, refl}
+use Rattle.std.proofs.Common.{◌≡◌, ℕ, ◌==◌, arith, Bool, true, false, not, ◌&&◌, ◌||◌, refl}
 
 pub first_true : (a b : Bool) → (a && b) ≡ true → a ≡ true
 first_true true b h = refl
@@ -44,3 +44,6 @@ either_second false b e = e
 pub not_so : (b : Bool) → (b ≡ true → ⊥) → b ≡ false
 not_so true bad = absurd (bad refl)
 not_so false bad = refl
+
+pub equals_itself : (n : ℕ) → (n == n) ≡ true
+equals_itself n = grind arith
