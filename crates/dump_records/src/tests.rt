@@ -3,6 +3,7 @@ use crate::laws::{each_dump_has_one_list, no_record_begins_another};
 use crate::{Cut, Cutter, Record, RecordKind};
 use dump_text::FaultKind;
 use std::alloc::Global;
+use std::process::Abort;
 use std::test::Fail;
 
 const VERSION: &[u8] = b"SVN-fs-dump-format-version: 2\n\n";
@@ -122,50 +123,69 @@ fn header_lines_that_break_a_rule_are_a_fault(rt: HostRuntime) -> Result<(), Fai
     Ok(())
 }
 
-#[test]
-fn records_are_read(rt: HostRuntime) -> Result<(), Fail> {
-    let dump = joined(rt.alloc(), &[VERSION, UUID, COPYING_REVISION, NODE])?;
-    let mut cutter = Cutter::new(&dump);
+// Its kind, its number, its place and the place behind it.
+fn assert_placed(
+    rt: &impl Abort,
+    item: &Record<'_>,
+    kind: RecordKind,
+    places: (u64, usize, usize),
+) {
+    assert_eq!(rt; item.kind(), kind);
+    assert_eq!(rt; (item.number(), item.place(), item.after()), places);
+}
 
-    let version = next_record(&mut cutter)?;
-    assert_eq!(rt; version.kind(), RecordKind::Version);
-    assert_eq!(rt;
-        (version.number(), version.place(), version.after()),
-        (0, 0, 31)
-    );
+fn assert_has_no_copy(rt: &impl Abort, revision: &Record<'_>) {
+    assert_eq!(rt; revision.path(), None);
+    assert_eq!(rt; revision.copy_path(), None);
+    assert_eq!(rt; revision.copy_revision(), None);
+}
 
-    let uuid = next_record(&mut cutter)?;
-    assert_eq!(rt; uuid.kind(), RecordKind::Uuid);
-    assert_eq!(rt; (uuid.number(), uuid.place(), uuid.after()), (1, 31, 75));
-
-    let revision = next_record(&mut cutter)?;
-    assert_eq!(rt; revision.kind(), RecordKind::Revision);
-    assert_eq!(rt;
-        (revision.number(), revision.place(), revision.after()),
-        (2, 75, 176)
-    );
-    assert_eq!(rt; revision.revision(), Some(4));
+fn assert_has_only_properties(rt: &impl Abort, revision: &Record<'_>) {
     assert_eq!(rt; revision.props(), Some(b"PROPS-END\n".as_slice()));
     assert_eq!(rt; revision.text(), None);
     assert_eq!(rt; revision.property_bytes(), b"PROPS-END\n".as_slice());
     assert_eq!(rt; revision.text_bytes(), b"".as_slice());
-    assert_eq!(rt; revision.path(), None);
-    assert_eq!(rt; revision.copy_path(), None);
-    assert_eq!(rt; revision.copy_revision(), None);
+}
 
-    let node = next_record(&mut cutter)?;
-    assert_eq!(rt; node.kind(), RecordKind::Node);
-    assert_eq!(rt; (node.number(), node.place(), node.after()), (3, 176, 322));
-    assert_eq!(rt; (node.block().place(), node.block().after()), (176, 319));
-    assert_eq!(rt; node.block().get(b"Node-kind"), Some(b"file".as_slice()));
+fn assert_is_copied(rt: &impl Abort, node: &Record<'_>) {
     assert_eq!(rt; node.path(), Some(b"trunk/f".as_slice()));
     assert_eq!(rt; node.copy_path(), Some(b"other/f".as_slice()));
     assert_eq!(rt; node.copy_revision(), Some(3));
     assert_eq!(rt; node.revision(), None);
+}
+
+fn assert_has_only_text(rt: &impl Abort, node: &Record<'_>) {
     assert_eq!(rt; node.props(), None);
     assert_eq!(rt; node.text(), Some(b"abc".as_slice()));
     assert_eq!(rt; node.property_bytes(), b"".as_slice());
     assert_eq!(rt; node.text_bytes(), b"abc".as_slice());
+}
+
+fn assert_has_block(rt: &impl Abort, node: &Record<'_>) {
+    assert_eq!(rt; (node.block().place(), node.block().after()), (176, 319));
+    assert_eq!(rt; node.block().get(b"Node-kind"), Some(b"file".as_slice()));
+}
+
+#[test]
+fn records_are_read(rt: HostRuntime) -> Result<(), Fail> {
+    let dump = joined(rt.alloc(), &[VERSION, UUID, COPYING_REVISION, NODE])?;
+    let mut cutter = Cutter::new(&dump);
+    let version = next_record(&mut cutter)?;
+    assert_placed(&rt, &version, RecordKind::Version, (0, 0, 31));
+    let uuid = next_record(&mut cutter)?;
+    assert_placed(&rt, &uuid, RecordKind::Uuid, (1, 31, 75));
+
+    let revision = next_record(&mut cutter)?;
+    assert_placed(&rt, &revision, RecordKind::Revision, (2, 75, 176));
+    assert_eq!(rt; revision.revision(), Some(4));
+    assert_has_only_properties(&rt, &revision);
+    assert_has_no_copy(&rt, &revision);
+
+    let node = next_record(&mut cutter)?;
+    assert_placed(&rt, &node, RecordKind::Node, (3, 176, 322));
+    assert_has_block(&rt, &node);
+    assert_is_copied(&rt, &node);
+    assert_has_only_text(&rt, &node);
     assert_eq!(rt; seen_in(cutter.next()), Seen::Finished);
     Ok(())
 }
