@@ -1,8 +1,10 @@
+pub mod Arrivals
 pub mod CreditSteps
 pub mod DoneSteps
 pub mod EventParts
 pub mod EventShares
 pub mod JobSteps
+pub mod FreshPorts
 pub mod LaneSteps
 pub mod MarkLists
 pub mod Moves

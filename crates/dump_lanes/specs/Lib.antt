@@ -1,3 +1,4 @@
+pub mod Arrivals
 pub mod CreditRule
 pub mod CreditViews
 pub mod DoneRule

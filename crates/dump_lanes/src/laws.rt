@@ -4,6 +4,7 @@
 //! atomic step of one of them. A run is any list of events, each of which may happen in the state that
 //! those before it led to. No law says that an event comes: a pool that stands still is sound too.
 ghost use Rattle.std.specs.Prelude.{IsTrue};
+ghost use Rattle.dump_lanes.specs.Arrivals.{NoneClash, AllReleased};
 ghost use Rattle.dump_lanes.specs.PoolWorld.{PoolSize, World};
 ghost use Rattle.dump_lanes.specs.PoolEvents.{Event, is_enabled};
 ghost use Rattle.dump_lanes.specs.PoolFacts.{EveryRunIsSound};
@@ -22,4 +23,11 @@ pub fn every_part_shares_each_event()
 /// for at least one item is sound at each moment.
 pub fn every_run_is_sound()
     ensures { EveryRunIsSound }
+{}
+
+/// Numbered items that arrive in any order, each once, find their slots free as long as no more than a
+/// window of them wait; and where the next of them isn't there, all were released.
+pub fn items_come_in_order()
+    ensures apart { NoneClash }
+    ensures all { AllReleased }
 {}
