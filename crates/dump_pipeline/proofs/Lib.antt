@@ -1,1 +1,4 @@
+pub mod Ends
+pub mod Released
 pub mod RunLemmas
+pub mod Steps

@@ -29,6 +29,7 @@ use Rattle.dump_filter.proofs.Answered.Outcome.{Stops, Ends}
 use Rattle.dump_pipeline.specs.declared.answer.Answer.{Answer}
 use Rattle.dump_pipeline.specs.declared.answer.Answer.TheVariants as answers
 use Rattle.dump_pipeline.specs.declared.answer.Failure.TheVariants as failures
+use Rattle.dump_pipeline.specs.Progress.{Progress}
 use Rattle.dump_pipeline.specs.RunAnswer.{IsFilterPrefix, RunLeaves}
 use Rattle.dump_pipeline.specs.Sending.{Sends, StopsShort, EndsRun}
 
@@ -90,23 +91,6 @@ goes_on settings dump before text begins free written = by_law (each_dump_has_on
               (before ++ rest, (free', inr (subst (λ (l : List DumpRecord). HasRecords dump l (Ending.Broken fault place)) split h)), out, refl),
               prefix (reached.text ++ more) more refl,
             )
-
--- what a run has done so far: it has taken these records, found no fault in them, and written their text
-pub record Progress (settings : Settings) (dump : List ℕ) (cutter : CutterState) (filter : FilterState) (old new : Option (List ℕ)) (written : ℕ) : Type 0 where
-  pub before : List DumpRecord
-  pub begins : BeginsWithRecords dump before
-  pub count : length before ≡ cutter.number
-  pub cut : cutter.dump ≡ dump
-  pub settings_is : filter.settings ≡ settings
-  pub active : filter.active ≡ true
-  pub accepted : AreAccepted filter before
-  pub same_dump : IsOfSameDump filter dump
-  pub next : count_up_to filter.last ≡ cutter.number
-  pub free : AreFaultFree settings before
-  pub text : List ℕ
-  pub out : IsWritten settings false before text
-  pub appended : Appends old new text
-  pub sized : written ≡ capped (length text)
 
 pub begun : (settings : Settings) (dump : List ℕ) (cutter : CutterState) (filter : FilterState) (old : Option (List ℕ))
     → cutter ≡ record { dump = dump; number = 0 } → filter ≡ first_state settings → Progress settings dump cutter filter old old 0

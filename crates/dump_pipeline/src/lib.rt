@@ -15,9 +15,16 @@
 
 mod answer;
 mod count;
+mod cut;
+mod gate;
+mod message;
 mod plain;
+mod sequence;
+mod stage;
+mod work;
 
 pub use answer::{Answer, Failure};
+pub use gate::{FreeGate, Gate};
 pub use plain::run_plain;
 
 #[cfg(test)]

@@ -1,0 +1,58 @@
+-- Which record has a number, and how the list of records ends, is known as soon as it is known that it is known: a dump has one list.
+use Rattle.std.proofs.Common.{◌≡◌, ℕ, List, length, sym, ap, ◌∙◌, subst, Result, Ok, Err, ◌++◌, ◌∷◌, [], take, drop, arith}
+use Rattle.std.specs.Result.{ForErr}
+use Rattle.std.proofs.Math.Logic.{∥∥₁_elim}
+use Rattle.std.proofs.Props.{props}
+use Rattle.std.specs.Coded.{Coded-set, coded_ℕ}
+use Rattle.dump_records.specs.RecordText.{DumpRecord}
+use Rattle.std.proofs.lemmas.List.{take-append-drop, length-take-le, length-append}
+use Rattle.dump_records.specs.DumpText.{Ending, IsCutInto, HasRecords, BeginsWithRecords, EndsAfter, IsRecordOf}
+use Rattle.dump_records.proofs.Prefixes.{begins_prefix, one_more, within}
+use Rattle.dump_records.proofs.ListLaw.{each_dump_has_one_list}
+
+same_count : (m n : ℕ) → IsProp (m ≡ n)
+same_count m n = Coded-set coded_ℕ m n
+
+same_ending : (a b : Ending) → IsProp (a ≡ b)
+same_ending a b = hlevel props
+
+pub ends_once : (dump : List ℕ) (count : ℕ) (ending : Ending) → ∥ EndsAfter dump count ending ∥₁ → EndsAfter dump count ending
+ends_once dump count ending t = by (each_dump_has_one_list dump)
+  where
+    by : ((all : List DumpRecord) × (end : Ending) × HasRecords dump all end
+        × ((others : List DumpRecord) (e : Ending) → HasRecords dump others e → (others ≡ all) × (e ≡ end))) → EndsAfter dump count ending
+    by (all, end, has, once) =
+        let is : end ≡ ending = ∥∥₁_elim t (same_ending end ending) (λ c. sym (once c.0 ending c.1).1) in
+        let long : length all ≡ count = ∥∥₁_elim t (same_count (length all) count) (λ c. ap (λ (l : List DumpRecord). length l) (sym (once c.0 ending c.1).0) ∙ c.2) in
+        (all, subst (HasRecords dump all) is has, long)
+
+from_err : {T E : Type 0} → E → Result T E → E
+from_err d (Ok x) = d
+from_err d (Err e) = e
+
+-- what holds of the error
+pub for_err : {T E : Type 0} (P : E → Type 0) (e : E) → P e → ForErr {T = T} (Err e) P
+unfolding from_err
+for_err {T} {E} P e p x is = subst P (ap (from_err {T = T} e) is) p
+
+-- which record has a number needs no witness
+pub record_once : (dump : List ℕ) (number : ℕ) (r : DumpRecord) → ∥ IsRecordOf dump number r ∥₁ → IsRecordOf dump number r
+record_once dump number r t = by (each_dump_has_one_list dump)
+  where
+    by : ((all : List DumpRecord) × (end : Ending) × HasRecords dump all end
+        × ((others : List DumpRecord) (e : Ending) → HasRecords dump others e → (others ≡ all) × (e ≡ end))) → IsRecordOf dump number r
+    by (all, end, has, once) = (front, one_more dump front r begins (subst (λ (n : ℕ). ∥ IsRecordOf dump n r ∥₁) (sym long) t), long)
+      where
+        front : List DumpRecord
+        front = take number all
+
+        begins : BeginsWithRecords dump front
+        begins = begins_prefix dump front (drop number all)
+            (has.0, subst (λ (rs : List DumpRecord). IsCutInto 0 0 dump rs has.0) (sym (take-append-drop number all)) has.1)
+
+        long : length front ≡ number
+        long = ∥∥₁_elim t (same_count (length front) number) (λ (c : IsRecordOf dump number r).
+            let most = within dump all end has (c.0 ++ r ∷ []) c.1 in
+            let size = length-append c.0 (r ∷ []) in
+            let count = c.2 in
+            length-take-le number all (omega arith))

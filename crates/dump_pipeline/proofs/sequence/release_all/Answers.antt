@@ -1,0 +1,95 @@
+use Rattle.std.proofs.Common.{rules, refl, sym, ap, subst, ◌≡◌, ◌∙◌, ℕ, List, length, true, false}
+use Rattle.std.proofs.lemmas.Bool.{false≢true}
+use Rattle.dump_lanes.specs.Arrivals.{IsWaiting, Row}
+use Rattle.dump_lanes.specs.LaneEnds.{Sending}
+use Rattle.dump_lanes.specs.LaneViews.{sending}
+use Rattle.dump_lanes.specs.PortSides.{SequencerSide}
+use Rattle.dump_lanes.specs.PortViews.{done_port}
+use Rattle.dump_lanes.specs.SlotViews.{slot_places}
+use Rattle.dump_pipeline.specs.declared.message.Checked.{Checked}
+use Rattle.dump_pipeline.specs.declared.message.NumberedPiece.{NumberedPiece}
+use Rattle.dump_pipeline.specs.Messages.{checked_number, checked_numbers, text_of}
+use Rattle.dump_pipeline.specs.Parts.{HasReleased}
+use Rattle.dump_pipeline.proofs.Released.{begins_with}
+use Rattle.dump_pipeline.proofs.Steps.{row_first, row_unlifted, row_lifted, lifted_wrong, row_placed, place_clash, none_lifted, sequenced_so, text_released, count_released, numbers_released, ended_so, numbers_at_first}
+use Rattle.dump_pipeline.proofs.sequence.release_all.Goals as goal
+
+pub loop-init : goal.loop-init
+loop-init g c = record {
+  pool = refl;
+  lane = refl;
+  seat = search rules;
+  text = begins_with g.D.Run.settings c.args.options.now g.D.Run.dump c.new.result (sending c.args.to.now).put c.requires.options c.new.ensures c.requires.nothing_put;
+  numbered = numbers_at_first (sending c.args.to.now).put c.requires.nothing_put;
+  count = ap (λ (l : List NumberedPiece). length l) c.requires.nothing_put;
+  row = row_first (done_port c.args.port.now).taken (slot_places c.args.slots.now) c.requires.nothing_taken c.requires.empty;
+}
+
+pub returns-then-number-next-clause-sequenced : goal.returns-then-number-next-clause-sequenced
+returns-then-number-next-clause-sequenced g c =
+    sequenced_so g.D.Run.settings g.D.Run.dump (length (slot_places c.args.slots.now)) c.loop.next (done_port c.loop.port).taken (sending c.loop.to).put c.end.result true
+    (ended_so g.D.Run.settings g.D.Run.dump c.loop.stage c.end.result c.loop.next (text_of (sending c.loop.to).put) c.end.ensures c.loop.invariant.text)
+    c.loop.invariant.numbered c.loop.invariant.count
+    (lifted_wrong (length (slot_places c.args.slots.now)) c.loop.next (checked_numbers (done_port c.loop.port).taken) (slot_places c.loop.slots) c.lift.result c.in-Some-lift.checked
+    c.loop.slots.some_places c.loop.invariant.row c.lift.ensures.value c.in-Some-lift.is c.if-number-next.true)
+
+pub loop-preserved-in-Some-lift : goal.loop-preserved-in-Some-lift
+loop-preserved-in-Some-lift g c =
+    let checked = c.in-Some-lift.checked in
+    let piece : NumberedPiece = record { number = checked.number; piece = c.step-behind.result.1; credit = checked.credit } in
+    record {
+      pool = c.loop.invariant.pool;
+      lane = ap (λ (x : Sending NumberedPiece). x.lane) c.release.ensures ∙ c.loop.invariant.lane;
+      seat = search rules;
+      text = text_released g.D.Run.settings g.D.Run.dump c.step-behind.result.0 c.loop.next checked.number (sending c.loop.to) (sending c.release.new.to) piece c.release.ensures
+          c.if-number-next.false
+          (c.step-behind.ensures.text (text_of (sending c.loop.to).put)
+          (subst (λ (n : ℕ). HasReleased g.D.Run.settings g.D.Run.dump c.loop.stage n (text_of (sending c.loop.to).put)) (sym c.if-number-next.false) c.loop.invariant.text));
+      numbered = numbers_released c.loop.next (sending c.loop.to) (sending c.release.new.to) piece c.release.ensures c.if-number-next.false c.loop.invariant.numbered;
+      count = count_released c.loop.next (sending c.loop.to) (sending c.release.new.to) piece c.release.ensures c.loop.invariant.count;
+      row = row_lifted (length (slot_places c.args.slots.now)) c.loop.next (checked_numbers (done_port c.loop.port).taken) (slot_places c.loop.slots) (slot_places c.lift.new.self)
+          c.lift.result checked c.loop.slots.some_places c.loop.invariant.row c.lift.ensures.value c.in-Some-lift.is c.if-number-next.false c.lift.ensures.emptied;
+    }
+
+pub loop-preserved : goal.loop-preserved
+loop-preserved g c =
+    let w : ℕ = length (slot_places c.args.slots.now) in
+    let took = c.in-Some-take.ensures.1 in
+    record {
+      pool = ap (λ (x : SequencerSide (Checked g.row.D.Denot g.D.Run)). x.pool) took ∙ c.loop.invariant.pool;
+      lane = c.loop.invariant.lane;
+      seat = c.loop.invariant.seat;
+      text = c.loop.invariant.text;
+      numbered = c.loop.invariant.numbered;
+      count = c.loop.invariant.count;
+      row = row_placed w c.loop.next (done_port c.loop.port).taken (done_port c.take.new.self).taken (slot_places c.lift.new.self) (slot_places c.place.new.self) c.in-Some-take.checked
+          c.lift.new.self.some_places
+          (row_unlifted w c.loop.next (checked_numbers (done_port c.loop.port).taken) (slot_places c.loop.slots) (slot_places c.lift.new.self) c.lift.result c.loop.invariant.row
+          c.lift.ensures.value c.in-None-lift.is c.lift.ensures.emptied)
+          (ap (λ (x : SequencerSide (Checked g.row.D.Denot g.D.Run)). x.taken) took)
+          (c.in-Ok.ensures.free.0 refl) c.in-Ok.ensures.placed;
+    }
+
+pub returns-in-Err-clause-sequenced : goal.returns-in-Err-clause-sequenced
+returns-in-Err-clause-sequenced g c =
+    let w : ℕ = length (slot_places c.args.slots.now) in
+    let took = c.in-Some-take.ensures.1 in
+    sequenced_so g.D.Run.settings g.D.Run.dump w c.loop.next (done_port c.take.new.self).taken (sending c.loop.to).put c.end-in-Err.result true
+    (ended_so g.D.Run.settings g.D.Run.dump c.loop.stage c.end-in-Err.result c.loop.next (text_of (sending c.loop.to).put) c.end-in-Err.ensures c.loop.invariant.text)
+    c.loop.invariant.numbered c.loop.invariant.count
+    (place_clash w c.loop.next (done_port c.loop.port).taken (done_port c.take.new.self).taken (slot_places c.lift.new.self) c.in-Some-take.checked
+    c.lift.new.self.some_places
+    (row_unlifted w c.loop.next (checked_numbers (done_port c.loop.port).taken) (slot_places c.loop.slots) (slot_places c.lift.new.self) c.lift.result c.loop.invariant.row
+    c.lift.ensures.value c.in-None-lift.is c.lift.ensures.emptied)
+    (ap (λ (x : SequencerSide (Checked g.row.D.Denot g.D.Run)). x.taken) took)
+    (λ h. false≢true (c.in-Err.ensures.free.1 h)))
+
+pub returns-in-None-take-clause-sequenced : goal.returns-in-None-take-clause-sequenced
+returns-in-None-take-clause-sequenced g c =
+    let w : ℕ = length (slot_places c.args.slots.now) in
+    let same : (done_port c.take.new.self).taken ≡ (done_port c.loop.port).taken = ap (λ (x : SequencerSide (Checked g.row.D.Denot g.D.Run)). x.taken) c.in-None-take.ensures in
+    sequenced_so g.D.Run.settings g.D.Run.dump w c.loop.next (done_port c.take.new.self).taken (sending c.loop.to).put c.end-in-None-take.result false
+    (ended_so g.D.Run.settings g.D.Run.dump c.loop.stage c.end-in-None-take.result c.loop.next (text_of (sending c.loop.to).put) c.end-in-None-take.ensures c.loop.invariant.text)
+    c.loop.invariant.numbered c.loop.invariant.count
+    (subst (λ (l : List (Checked g.row.D.Denot g.D.Run)). IsWaiting c.loop.next (checked_numbers l)) (sym same)
+    (none_lifted w c.loop.next (checked_numbers (done_port c.loop.port).taken) (slot_places c.loop.slots) c.lift.result c.loop.invariant.row c.lift.ensures.value c.in-None-lift.is))

@@ -1,0 +1,126 @@
+//! The cutter.
+ghost use Rattle.std.specs.Prelude.{◌≡◌, ◌<◌, ◌≤◌, ◌^◌, [], length, false, is_none, IfSome};
+ghost use Rattle.dump_lanes.specs.PortViews.{job_port};
+ghost use Rattle.dump_pipeline.specs.Parts.{HasCut};
+
+use crate::message::{Checked, Job, Run};
+use dump_lanes::{Credit, Drawn, JobPort, StopSeat, StopWord};
+use dump_records::{Cut, Cutter};
+use std::sync::Wait;
+
+/// The cutter's port.
+pub type CutterPort<'a, D> = JobPort<Job<'a, D>, Checked<'a, D>>;
+
+/// What the cutter gives back.
+#[derive(Drop)]
+pub struct CutterEnd<J: Drop, D: Drop> {
+    pub port: JobPort<J, D>,
+    pub seat: StopSeat,
+    pub shut: StopSeat,
+}
+
+// A credit, unless the stop is seen.
+fn draw<'a, D: Run, R: Wait>(
+    rt: &R,
+    port: &mut CutterPort<'a, D>,
+    word: &StopWord,
+    seat: &mut StopSeat,
+) -> Option<Credit>
+    requires open { (job_port port.old).marks ≡ 0 }
+    requires this_word { seat.old.word ≡ word.now }
+    ensures port { job_port port.new ≡ record (job_port port.old) { drawn = (job_port port.new).drawn } }
+    ensures drawn { IfSome result (λ _. (job_port port.old).drawn < (job_port port.new).drawn) }
+    ensures no_fewer { (job_port port.old).drawn ≤ (job_port port.new).drawn }
+    ensures seen { seat.new ≡ record seat.old { seen = is_none result } }
+{
+    match port.draw(rt, word, seat) {
+        Drawn::Credit(credit) => {
+            if word.look(seat) {
+                None
+            } else {
+                Some(credit)
+            }
+        }
+        Drawn::Stop => None,
+    }
+}
+
+// How many bytes there are: fewer than a count of 64 bits can tell.
+fn count_bytes(dump: &[u8]) -> usize
+    ensures { (result ≡ length dump.now) × (result < 2 ^ 63) }
+{
+    dump.len()
+}
+
+// Puts a job for each record, and one for the end of the records, unless the stop is seen.
+fn cut_all<'a, D: Run, R: Wait>(
+    rt: &R,
+    dump: &'a [u8],
+    port: &mut CutterPort<'a, D>,
+    word: &StopWord,
+    seat: &mut StopSeat,
+)
+    requires dump { dump.now ≡ D.dump }
+    requires open { (job_port port.old).marks ≡ 0 }
+    requires fresh { (job_port port.old).put ≡ [] }
+    requires this_word { seat.old.word ≡ word.now }
+    ensures pool { (job_port port.new).pool ≡ (job_port port.old).pool }
+    ensures workers { (job_port port.new).workers ≡ (job_port port.old).workers }
+    ensures open { (job_port port.new).marks ≡ 0 }
+    ensures cut { HasCut D.dump (job_port port.new) seat.new.seen }
+    ensures seat { seat.new ≡ record seat.old { seen = seat.new.seen } }
+{
+    // a dump has no more records than bytes, so the count of records has room
+    count_bytes(dump);
+    let mut cutter = Cutter::new(dump);
+    let mut number = 0u64;
+    for _ in rt.forever() {
+        let Some(credit) = draw(rt, port, word, seat) else {
+            return;
+        };
+        match cutter.next() {
+            Cut::Item(record) => {
+                number = record.number() + 1;
+                port.put(rt, Job::item(record, credit));
+            }
+            Cut::Finished => {
+                port.put(rt, Job::last(number, None, credit));
+                return;
+            }
+            Cut::Fault { kind, place } => {
+                port.put(rt, Job::last(number, Some((kind, place)), credit));
+                return;
+            }
+        }
+    }
+    unreachable!()
+}
+
+/// Puts the jobs of the dump, and the end marks; only the end marks where it was shut before it began.
+pub fn cut<'a, D: Run, R: Wait>(
+    rt: &R,
+    dump: &'a [u8],
+    mut port: CutterPort<'a, D>,
+    word: &StopWord,
+    mut seat: StopSeat,
+    shut_word: &StopWord,
+    mut shut: StopSeat,
+) -> CutterEnd<Job<'a, D>, Checked<'a, D>>
+    requires dump { dump.now ≡ D.dump }
+    requires open { (job_port port).marks ≡ 0 }
+    requires fresh { (job_port port).put ≡ [] }
+    requires this_word { seat.word ≡ word.now }
+    requires this_shut { shut.word ≡ shut_word.now }
+    ensures pool { (job_port result.port).pool ≡ (job_port port.entry).pool }
+    ensures workers { (job_port result.port).workers ≡ (job_port port.entry).workers }
+    ensures closed { (job_port result.port).marks ≡ (job_port port.entry).workers }
+    ensures cut { result.shut.seen ≡ false → HasCut D.dump (job_port result.port) result.seat.seen }
+    ensures seat { result.seat ≡ record seat { seen = result.seat.seen } }
+    ensures shut { result.shut ≡ record shut { seen = result.shut.seen } }
+{
+    if !shut_word.look(&mut shut) {
+        cut_all(rt, dump, &mut port, word, &mut seat);
+    }
+    port.close(rt);
+    CutterEnd { port, seat, shut }
+}

@@ -1,0 +1,314 @@
+//! The sequencer.
+ghost use Rattle.std.specs.Prelude.{◌≡◌, ◌+◌, ◌++◌, ◌∷◌, [], ℕ, List, Option, length, replicate, true, false, None, Some, Ok, Err};
+ghost use Rattle.std.specs.Result.{ForOk, ForErr};
+ghost use Rattle.dump_records.specs.DumpText.{EndsAfter};
+ghost use Rattle.dump_records.specs.RecordViews.{record_dump, record_number};
+ghost use Rattle.dump_digest.specs.DoneViews.{done_record, done_settings};
+ghost use Rattle.dump_lanes.specs.LaneViews.{sending, sent};
+ghost use Rattle.dump_lanes.specs.PortViews.{done_port};
+ghost use Rattle.dump_lanes.specs.SlotViews.{slot_places};
+ghost use Rattle.dump_pipeline.specs.Endings.{ending_of};
+ghost use Rattle.dump_pipeline.specs.Messages.{checked_numbers, text_of};
+ghost use Rattle.dump_pipeline.specs.declared.stage.Stage.{Stage as Stages};
+ghost use Rattle.dump_pipeline.specs.Parts.{HasFiltered, HasReleased, HasSequenced, is_failure, stage_end};
+
+use crate::message::{Checked, Job, Last, NumberedPiece, Run};
+use crate::stage::{End, Stage};
+use dump_digest::Done;
+use dump_filter::{Filter, StepFault};
+use dump_lanes::{DonePort, LaneIn, Sent, Slots, StopSeat, StopWord};
+use dump_rules::Options;
+use dump_writer::Piece;
+use std::alloc::Global;
+use std::sync::Wait;
+
+/// The sequencer's port.
+pub type SequencerPort<'a, D> = DonePort<Job<'a, D>, Checked<'a, D>>;
+
+/// What the sequencer gives back.
+#[derive(Drop)]
+pub struct Sequenced<J: Drop, D: Drop, T: Drop> {
+    pub port: DonePort<J, D>,
+    pub sent: Sent<T>,
+    pub seat: StopSeat,
+    pub end: Option<End>,
+    /// A slot was taken, or had another item than the next.
+    pub stray: bool,
+}
+
+// What the filter makes of the next record.
+fn filter_record<'o, 'a, D: Run>(
+    alloc: Global,
+    mut filter: Filter<'o, 'a>,
+    done: Done<'a>,
+) -> (Stage<'o, 'a>, Piece<'a>)
+    requires dump { record_dump (done_record done) ≡ D.dump }
+    requires settings { done_settings done ≡ D.settings }
+    requires going { (text : List ℕ) × HasFiltered D.settings D.dump filter (record_number (done_record done)) text }
+    ensures text { (text : List ℕ) → HasFiltered D.settings D.dump filter.entry (record_number (done_record done.entry)) text
+        → HasReleased D.settings D.dump result.0 (record_number (done_record done.entry) + 1) (text ++ result.1) }
+{
+    let record = done.item();
+    match filter.step(alloc, done) {
+        Ok(piece) => (Stage::Going(filter), piece),
+        Err(StepFault::Rule(kind)) => {
+            let fault = End::Fault {
+                kind,
+                number: record.number(),
+                place: record.place(),
+            };
+            (Stage::Ended(fault), Piece::new(alloc))
+        }
+        Err(StepFault::Memory) => (Stage::Ended(End::Memory), Piece::new(alloc)),
+        Err(StepFault::Closed) => unreachable!(),
+    }
+}
+
+// What the filter makes of the end of the records.
+fn filter_end<'o, 'a, D: Run>(
+    alloc: Global,
+    filter: Filter<'o, 'a>,
+    number: u64,
+    last: Last,
+) -> (End, Piece<'a>)
+    requires ends { ∥ EndsAfter D.dump number (ending_of last) ∥₁ }
+    requires going { (text : List ℕ) × HasFiltered D.settings D.dump filter number text }
+    ensures text { (text : List ℕ) → HasFiltered D.settings D.dump filter.entry number text
+        → HasReleased D.settings D.dump (Stages.Ended result.0) (number + 1) (text ++ result.1) }
+{
+    if let Some((kind, place)) = last {
+        let fault = End::Fault {
+            kind,
+            number,
+            place,
+        };
+        return (fault, Piece::new(alloc));
+    }
+    match filter.finish(alloc) {
+        Ok((piece, report)) => (End::Clean(report), piece),
+        Err(_) => (End::Memory, Piece::new(alloc)),
+    }
+}
+
+// What the filter makes of the next item.
+fn filter_item<'o, 'a, D: Run>(
+    alloc: Global,
+    filter: Filter<'o, 'a>,
+    number: u64,
+    what: Result<Done<'a>, Last>,
+) -> (Stage<'o, 'a>, Piece<'a>)
+    requires item { ForOk what (λ d. (record_dump (done_record d) ≡ D.dump)
+        × (record_number (done_record d) ≡ number)
+        × (done_settings d ≡ D.settings)) }
+    requires last { ForErr what (λ end. ∥ EndsAfter D.dump number (ending_of end) ∥₁) }
+    requires going { (text : List ℕ) × HasFiltered D.settings D.dump filter number text }
+    ensures text { (text : List ℕ) → HasFiltered D.settings D.dump filter.entry number text
+        → HasReleased D.settings D.dump result.0 (number + 1) (text ++ result.1) }
+{
+    match what {
+        Ok(done) => filter_record::<D>(alloc, filter, done),
+        Err(last) => {
+            let (end, piece) = filter_end::<D>(alloc, filter, number, last);
+            (Stage::Ended(end), piece)
+        }
+    }
+}
+
+// Raises the stop where the sequencer ended with a fault or a failure of its own.
+fn raise_at_failure(stage: &Stage<'_, '_>, word: &StopWord, seat: &mut StopSeat)
+    requires this_word { seat.old.word ≡ word.now }
+    requires unraised { seat.old.raised ≡ false }
+    ensures { seat.new ≡ record seat.old { raised = is_failure (stage_end stage.now) } }
+{
+    match stage {
+        Stage::Ended(End::Fault { .. } | End::Memory) => word.raise(seat),
+        Stage::Going(_) | Stage::Ended(End::Clean(_)) => {}
+    }
+}
+
+// How far the sequencer has come behind the next item, and what is written of it: nothing once it has ended.
+fn step<'o, 'a, D: Run>(
+    alloc: Global,
+    stage: Stage<'o, 'a>,
+    number: u64,
+    what: Result<Done<'a>, Last>,
+    word: &StopWord,
+    seat: &mut StopSeat,
+) -> (Stage<'o, 'a>, Piece<'a>)
+    requires item { ForOk what (λ d. (record_dump (done_record d) ≡ D.dump)
+        × (record_number (done_record d) ≡ number)
+        × (done_settings d ≡ D.settings)) }
+    requires last { ForErr what (λ end. ∥ EndsAfter D.dump number (ending_of end) ∥₁) }
+    requires released { (text : List ℕ) × HasReleased D.settings D.dump stage number text }
+    requires this_word { seat.old.word ≡ word.now }
+    requires raised { seat.old.raised ≡ is_failure (stage_end stage) }
+    ensures seat { seat.new ≡ record seat.old { raised = is_failure (stage_end result.0) } }
+    ensures text { (text : List ℕ) → HasReleased D.settings D.dump stage.entry number text
+        → HasReleased D.settings D.dump result.0 (number + 1) (text ++ result.1) }
+{
+    match stage {
+        Stage::Going(filter) => {
+            let (stage, piece) = filter_item::<D>(alloc, filter, number, what);
+            raise_at_failure(&stage, word, seat);
+            (stage, piece)
+        }
+        Stage::Ended(end) => (Stage::Ended(end), Piece::new(alloc)),
+    }
+}
+
+// Puts a piece. One that comes back is put again.
+fn release<'a, R: Wait>(rt: &R, to: &mut LaneIn<NumberedPiece<'a>>, piece: NumberedPiece<'a>)
+    ensures { sending to.new ≡ record (sending to.old) { put = (sending to.old).put ++ piece.entry ∷ [] } }
+{
+    let mut waiting = piece;
+    for _ in rt.forever() {
+        match to.put(rt, waiting) {
+            Ok(()) => return,
+            Err(back) => waiting = back,
+        }
+    }
+    unreachable!()
+}
+
+// Takes and drops what still comes.
+fn drain<'a, D: Run, R: Wait>(rt: &R, port: &mut SequencerPort<'a, D>)
+    ensures pool { (done_port port.new).pool ≡ (done_port port.old).pool }
+    ensures ended { (done_port port.new).ended ≡ true }
+    ensures more { (more : List ℕ) × (checked_numbers (done_port port.new).taken ≡ checked_numbers (done_port port.old).taken ++ more) }
+{
+    for _ in rt.forever() {
+        match port.take(rt) {
+            Some(_) => {}
+            None => return,
+        }
+    }
+    unreachable!()
+}
+
+// Releases the items in order, until no more come or one is astray.
+fn release_all<'a, D: Run, R: Wait>(
+    rt: &R,
+    alloc: Global,
+    options: &'a Options,
+    port: &mut SequencerPort<'a, D>,
+    slots: &mut Slots<Checked<'a, D>>,
+    to: &mut LaneIn<NumberedPiece<'a>>,
+    word: &StopWord,
+    seat: &mut StopSeat,
+) -> (Option<End>, bool)
+    requires options { options.now ≡ D.settings }
+    requires nothing_taken { (done_port port.old).taken ≡ [] }
+    requires nothing_put { (sending to.old).put ≡ [] }
+    requires empty { slot_places slots.old ≡ replicate (length (slot_places slots.old)) None }
+    requires this_word { seat.old.word ≡ word.now }
+    requires unraised { seat.old.raised ≡ false }
+    ensures pool { (done_port port.new).pool ≡ (done_port port.old).pool }
+    ensures lane { (sending to.new).lane ≡ (sending to.old).lane }
+    ensures seat { seat.new ≡ record seat.old { raised = is_failure result.0 } }
+    ensures sequenced { HasSequenced D.settings D.dump (length (slot_places slots.old)) (done_port port.new).taken (sending to.new).put result.0 result.1 }
+    ensures ended { result.1 ≡ false → (done_port port.new).ended ≡ true }
+{
+    let mut next = 0u64;
+    let mut stage = Stage::Going(Filter::new(alloc, options));
+    for _ in rt.forever() {
+        match slots.lift(next) {
+            Some(checked) => {
+                let Checked {
+                    number,
+                    what,
+                    credit,
+                    ..
+                } = checked;
+                if number != next {
+                    return (stage.end(), true);
+                }
+                let (behind, piece) = step::<D>(alloc, stage, number, what, word, seat);
+                stage = behind;
+                release(
+                    rt,
+                    to,
+                    NumberedPiece {
+                        number,
+                        piece,
+                        credit,
+                    },
+                );
+                next += 1;
+            }
+            None => match port.take(rt) {
+                Some(checked) => match slots.place(checked.number, checked) {
+                    Ok(()) => {}
+                    Err(_) => return (stage.end(), true),
+                },
+                None => return (stage.end(), false),
+            },
+        }
+    }
+    unreachable!()
+}
+
+// Releases the items in order, and takes all that come.
+fn take_all<'a, D: Run, R: Wait>(
+    rt: &R,
+    alloc: Global,
+    options: &'a Options,
+    port: &mut SequencerPort<'a, D>,
+    slots: &mut Slots<Checked<'a, D>>,
+    to: &mut LaneIn<NumberedPiece<'a>>,
+    word: &StopWord,
+    seat: &mut StopSeat,
+) -> (Option<End>, bool)
+    requires options { options.now ≡ D.settings }
+    requires nothing_taken { (done_port port.old).taken ≡ [] }
+    requires nothing_put { (sending to.old).put ≡ [] }
+    requires empty { slot_places slots.old ≡ replicate (length (slot_places slots.old)) None }
+    requires this_word { seat.old.word ≡ word.now }
+    requires unraised { seat.old.raised ≡ false }
+    ensures pool { (done_port port.new).pool ≡ (done_port port.old).pool }
+    ensures lane { (sending to.new).lane ≡ (sending to.old).lane }
+    ensures seat { seat.new ≡ record seat.old { raised = is_failure result.0 } }
+    ensures sequenced { HasSequenced D.settings D.dump (length (slot_places slots.old)) (done_port port.new).taken (sending to.new).put result.0 result.1 }
+    ensures ended { (done_port port.new).ended ≡ true }
+{
+    let (end, stray) = release_all(rt, alloc, options, port, slots, to, word, seat);
+    if !stray {
+        return (end, false);
+    }
+    drain(rt, port);
+    (end, true)
+}
+
+/// Filters all items in order, and releases what is written of them.
+pub fn sequence<'a, D: Run, R: Wait>(
+    rt: &R,
+    alloc: Global,
+    options: &'a Options,
+    mut port: SequencerPort<'a, D>,
+    mut slots: Slots<Checked<'a, D>>,
+    mut to: LaneIn<NumberedPiece<'a>>,
+    word: &StopWord,
+    mut seat: StopSeat,
+) -> Sequenced<Job<'a, D>, Checked<'a, D>, NumberedPiece<'a>>
+    requires options { options.now ≡ D.settings }
+    requires nothing_taken { (done_port port).taken ≡ [] }
+    requires nothing_put { (sending to).put ≡ [] }
+    requires empty { slot_places slots ≡ replicate (length (slot_places slots)) None }
+    requires this_word { seat.word ≡ word.now }
+    requires unraised { seat.raised ≡ false }
+    ensures pool { (done_port result.port).pool ≡ (done_port port.entry).pool }
+    ensures ended { (done_port result.port).ended ≡ true }
+    ensures lane { (sent result.sent).lane ≡ (sending to.entry).lane }
+    ensures seat { result.seat ≡ record seat { raised = is_failure result.end } }
+    ensures sequenced { HasSequenced D.settings D.dump (length (slot_places slots.entry)) (done_port result.port).taken (sent result.sent).put result.end result.stray }
+{
+    let (end, stray) = take_all(
+        rt, alloc, options, &mut port, &mut slots, &mut to, word, &mut seat,
+    );
+    Sequenced {
+        port,
+        sent: to.close(rt),
+        seat,
+        end,
+        stray,
+    }
+}

@@ -1,0 +1,38 @@
+//! A worker.
+ghost use Rattle.std.specs.Prelude.{◌≡◌, [], false};
+ghost use Rattle.dump_lanes.specs.PortViews.{worker_port};
+ghost use Rattle.dump_pipeline.specs.Parts.{HasWorked};
+
+use crate::gate::Gate;
+use crate::message::{Checked, Job, Run};
+use dump_lanes::WorkerPort;
+use dump_rules::Options;
+use std::sync::Wait;
+
+/// A worker's port.
+pub type CheckerPort<'a, D> = WorkerPort<Job<'a, D>, Checked<'a, D>>;
+
+/// Checks each item that it takes.
+pub fn work<'a, D: Run, G: Gate, R: Wait>(
+    rt: &R,
+    options: &'a Options,
+    gate: &G,
+    mut port: CheckerPort<'a, D>,
+) -> CheckerPort<'a, D>
+    requires options { options.now ≡ D.settings }
+    requires open { (worker_port port).closed ≡ false }
+    requires untaken { (worker_port port).taken ≡ [] }
+    requires ungiven { (worker_port port).given ≡ [] }
+    ensures pool { (worker_port result).pool ≡ (worker_port port.entry).pool }
+    ensures index { (worker_port result).index ≡ (worker_port port.entry).index }
+    ensures worked { HasWorked (worker_port result) }
+{
+    for _ in rt.forever() {
+        match port.take(rt) {
+            Some(job) => port.give(rt, Checked::of(job, options, gate)),
+            None => break,
+        }
+    }
+    port.close(rt);
+    port
+}
