@@ -22,6 +22,7 @@ mod plain;
 mod sequence;
 mod stage;
 mod work;
+mod write;
 
 pub use answer::{Answer, Failure};
 pub use gate::{FreeGate, Gate};

@@ -14,7 +14,7 @@ use dump_writer::{Piece, Sink, write_piece};
 use std::alloc::Global;
 
 /// Writes a piece behind so many bytes; gives the new count of bytes, also where the sink fails.
-fn send<S: Sink>(sink: &mut S, piece: &Piece<'_>, written: u64) -> Result<u64, u64>
+pub fn send<S: Sink>(sink: &mut S, piece: &Piece<'_>, written: u64) -> Result<u64, u64>
     ensures sent { IfOk result (λ count. Sends (S.taken sink.old) (S.taken sink.new) piece.now written count) }
     ensures cut { IfErr result (λ count. StopsShort (S.taken sink.old) (S.taken sink.new) piece.now written count) }
     ensures no_failure { OnOk result (S.failure_count sink.new ≡ S.failure_count sink.old) }

@@ -1,0 +1,105 @@
+//! The writer.
+ghost use Rattle.std.specs.Prelude.{◌≡◌, [], ◌++◌, ℕ, List, Option, length, false};
+ghost use Rattle.dump_lanes.specs.LaneEnds.{LaneEnd};
+ghost use Rattle.dump_lanes.specs.LaneViews.{receiving};
+ghost use Rattle.dump_lanes.specs.PortViews.{credit_port};
+ghost use Rattle.dump_pipeline.specs.Messages.{text_of};
+ghost use Rattle.dump_pipeline.specs.Parts.{HasReceived, CountsFailed};
+
+use crate::message::{Checked, Job, NumberedPiece, Run};
+use crate::plain::send;
+use dump_lanes::{CreditPort, LaneOut, StopSeat, StopWord, Taken};
+use dump_writer::{Piece, Sink};
+use std::sync::Wait;
+
+/// The writer's port.
+pub type WriterPort<'a, D> = CreditPort<Job<'a, D>, Checked<'a, D>>;
+
+/// What the writer gives back.
+#[derive(Drop)]
+pub struct Written<J: Drop, D: Drop, T: Drop> {
+    pub port: CreditPort<J, D>,
+    pub from: LaneOut<T>,
+    pub seat: StopSeat,
+    /// The sink failed.
+    pub failed: bool,
+    /// How many bytes it took; the count stays at `u64::MAX`.
+    pub count: u64,
+}
+
+// Writes a piece, unless the sink has failed. It raises the stop where the sink fails.
+fn write_one<S: Sink>(
+    failed: bool,
+    piece: &Piece<'_>,
+    count: u64,
+    word: &StopWord,
+    seat: &mut StopSeat,
+    sink: &mut S,
+) -> (bool, u64)
+    requires this_word { seat.old.word ≡ word.now }
+    requires raised { seat.old.raised ≡ failed }
+    ensures seat { seat.new ≡ record seat.old { raised = result.0 } }
+    ensures text { (text : List ℕ) (first : Option (List ℕ)) → HasReceived failed text first (S.taken sink.old) count
+        → HasReceived result.0 (text ++ piece.now) first (S.taken sink.new) result.1 }
+    ensures failures { (first : ℕ) → CountsFailed failed first (S.failure_count sink.old)
+        → CountsFailed result.0 first (S.failure_count sink.new) }
+    ensures through { S.through sink.new ≡ S.through sink.old }
+{
+    if failed {
+        return (true, count);
+    }
+    match send(sink, piece, count) {
+        Ok(count) => (false, count),
+        Err(count) => {
+            word.raise(seat);
+            (true, count)
+        }
+    }
+}
+
+/// Writes the pieces, up to the first that isn't taken whole, and gives back each credit.
+pub fn write<'a, D: Run, S: Sink, R: Wait>(
+    rt: &R,
+    mut port: WriterPort<'a, D>,
+    mut from: LaneOut<NumberedPiece<'a>>,
+    word: &StopWord,
+    mut seat: StopSeat,
+    sink: &mut S,
+) -> Written<Job<'a, D>, Checked<'a, D>, NumberedPiece<'a>>
+    requires nothing_back { (credit_port port).back ≡ 0 }
+    requires nothing_taken { (receiving from).taken ≡ [] }
+    requires this_word { seat.word ≡ word.now }
+    requires unraised { seat.raised ≡ false }
+    ensures pool { (credit_port result.port).pool ≡ (credit_port port.entry).pool }
+    ensures window { (credit_port result.port).window ≡ (credit_port port.entry).window }
+    ensures back { (credit_port result.port).back ≡ length (receiving result.from).taken }
+    ensures lane { (receiving result.from).lane ≡ (receiving from.entry).lane }
+    ensures told { (receiving result.from).told ≡ LaneEnd.Ended }
+    ensures seat { result.seat ≡ record seat { raised = result.failed } }
+    ensures text { HasReceived result.failed (text_of (receiving result.from).taken) (S.taken sink.old) (S.taken sink.new) result.count }
+    ensures failures { CountsFailed result.failed (S.failure_count sink.old) (S.failure_count sink.new) }
+    ensures through { S.through sink.new ≡ S.through sink.old }
+{
+    let mut failed = false;
+    let mut count = 0u64;
+    for _ in rt.forever() {
+        match from.take(rt) {
+            Taken::Item(next) => {
+                let NumberedPiece { piece, credit, .. } = next;
+                (failed, count) = write_one(failed, &piece, count, word, &mut seat, sink);
+                port.back(rt, credit);
+            }
+            Taken::Closed => {
+                return Written {
+                    port,
+                    from,
+                    seat,
+                    failed,
+                    count,
+                };
+            }
+            Taken::Lost => {}
+        }
+    }
+    unreachable!()
+}
