@@ -21,6 +21,8 @@ mod message;
 mod plain;
 mod sequence;
 mod stage;
+mod threads;
+mod words;
 mod work;
 mod write;
 
