@@ -17,8 +17,11 @@ mod answer;
 mod count;
 mod cut;
 mod gate;
+mod join;
+mod make;
 mod message;
 mod plain;
+mod plan;
 mod sequence;
 mod stage;
 mod threads;
@@ -29,6 +32,7 @@ mod write;
 pub use answer::{Answer, Failure};
 pub use gate::{FreeGate, Gate};
 pub use plain::run_plain;
+pub use plan::Plan;
 
 #[cfg(test)]
 mod tests;
