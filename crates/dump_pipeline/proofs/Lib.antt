@@ -1,4 +1,5 @@
 pub mod Ends
+pub mod Joined
 pub mod Receiving
 pub mod Released
 pub mod RunLemmas

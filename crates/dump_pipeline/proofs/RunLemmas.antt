@@ -33,7 +33,7 @@ use Rattle.dump_pipeline.specs.Progress.{Progress}
 use Rattle.dump_pipeline.specs.RunAnswer.{IsFilterPrefix, RunLeaves}
 use Rattle.dump_pipeline.specs.Sending.{Sends, StopsShort, EndsRun}
 
-prefix_trans : (a b c : List ℕ) → IsPrefixOf a b → IsPrefixOf b c → IsPrefixOf a c
+pub prefix_trans : (a b c : List ℕ) → IsPrefixOf a b → IsPrefixOf b c → IsPrefixOf a c
 prefix_trans a b c (x, is) (y, at) = (x ++ y, at ∙ ap (λ t. t ++ y) is ∙ append_assoc a x y)
 
 -- what was written of records without a fault begins the filter's text of the dump

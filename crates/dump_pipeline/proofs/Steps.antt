@@ -199,3 +199,8 @@ len_push old new ys y more same = more ∙ (ap (λ (n : ℕ). n + 1) same ∙ sy
 
 pub numbers_at_first : (put : List NumberedPiece) → put ≡ [] → piece_numbers put ≡ first_numbers 0
 numbers_at_first put none = ap (λ (l : List NumberedPiece). piece_numbers l) none
+
+-- the same list
+pub map_same : {X : Type 0} (xs : List X) → map (λ (x : X). x) xs ≡ xs
+map_same [] = refl
+map_same {X} (x ∷ xs) = ap (λ (l : List X). x ∷ l) (map_same xs)

@@ -7,7 +7,9 @@ use Rattle.dump_writer.specs.SinkWords.{capped, IsPrefixOf, HasFailedSince}
 use Rattle.dump_filter.specs.FilterState.{FilterState}
 use Rattle.dump_lanes.specs.Arrivals.{first_numbers, Clash, IsWaiting}
 use Rattle.dump_lanes.specs.PortSides.{CutterSide, WorkerSide, IsDone}
+use Rattle.dump_pipeline.specs.declared.answer.Answer.{Answer}
 use Rattle.dump_pipeline.specs.declared.answer.Answer.TheVariants as answers
+use Rattle.dump_pipeline.specs.declared.answer.Failure.TheVariants as failures
 use Rattle.dump_pipeline.specs.declared.message.Run.{Ghosts}
 use Rattle.dump_pipeline.specs.declared.message.Job.{Job}
 use Rattle.dump_pipeline.specs.declared.message.Checked.{Checked}
@@ -53,6 +55,12 @@ is_failure None = false
 is_failure (Some (ends.Clean report)) = false
 is_failure (Some (ends.Fault which number place)) = true
 is_failure (Some ends.Memory) = true
+
+-- the answer of a run whose sequencer ended so, where the sink took all
+abbrev pub end_answer : End → ℕ → Answer
+end_answer (ends.Clean report) count = answers.Clean report
+end_answer (ends.Fault which number place) count = answers.Fault which number place
+end_answer ends.Memory count = answers.Failed failures.Memory count
 
 -- the text that was released, where the sequencer ended so
 abbrev pub IsEndOf : Settings → List ℕ → End → List ℕ → Type 0

@@ -179,20 +179,7 @@ pub fn conclude<'a, D: Run>(words: &Words, joined: Joined<'a, D>, shuts: StopSea
         };
     }
     match end {
-        Some(End::Clean(report)) => Answer::Clean(report),
-        Some(End::Fault {
-            kind,
-            number,
-            place,
-        }) => Answer::Fault {
-            kind,
-            number,
-            place,
-        },
-        Some(End::Memory) => Answer::Failed {
-            failure: Failure::Memory,
-            written: count,
-        },
+        Some(end) => end.answer(count),
         None => unreachable!(),
     }
 }

@@ -20,6 +20,7 @@ mod gate;
 mod join;
 mod make;
 mod message;
+mod pipeline;
 mod plain;
 mod plan;
 mod sequence;
@@ -31,6 +32,7 @@ mod write;
 
 pub use answer::{Answer, Failure};
 pub use gate::{FreeGate, Gate};
+pub use pipeline::run;
 pub use plain::run_plain;
 pub use plan::Plan;
 

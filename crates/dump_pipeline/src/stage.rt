@@ -1,7 +1,8 @@
 //! How far the sequencer has come.
 ghost use Rattle.std.specs.Prelude.{◌≡◌};
-ghost use Rattle.dump_pipeline.specs.Parts.{stage_end};
+ghost use Rattle.dump_pipeline.specs.Parts.{end_answer, stage_end};
 
+use crate::answer::{Answer, Failure};
 use dump_filter::{Filter, Report};
 use dump_text::FaultKind;
 
@@ -18,6 +19,30 @@ pub enum End {
     },
     /// Memory ran out.
     Memory,
+}
+
+impl End {
+    /// The answer of a run that ended so, where the sink took all of its bytes.
+    pub fn answer(self, written: u64) -> Answer
+        ensures { result ≡ end_answer self written }
+    {
+        match self {
+            End::Clean(report) => Answer::Clean(report),
+            End::Fault {
+                kind,
+                number,
+                place,
+            } => Answer::Fault {
+                kind,
+                number,
+                place,
+            },
+            End::Memory => Answer::Failed {
+                failure: Failure::Memory,
+                written,
+            },
+        }
+    }
 }
 
 /// How far the sequencer has come.

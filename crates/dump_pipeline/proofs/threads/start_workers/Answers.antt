@@ -1,9 +1,11 @@
-use Rattle.std.proofs.Common.{rules, ap, sym, ◌∙◌, [], ◌∷◌, arith, length-append}
+use Rattle.std.proofs.Common.{rules, ap, sym, ◌∙◌, List, [], ◌∷◌, map, arith, length-append}
+use Rattle.std.proofs.lemmas.Iterator.Adapters.{YieldsList-from_vec}
+use Rattle.std.proofs.lemmas.Iterator.Consumers.{YieldsList-end}
 use Rattle.dump_lanes.specs.declared.pool.worker.WorkerPort.{WorkerPort}
 use Rattle.dump_lanes.specs.PortViews.{worker_port}
 use Rattle.dump_pipeline.specs.declared.message.Job.{Job}
 use Rattle.dump_pipeline.specs.declared.message.Checked.{Checked}
-use Rattle.dump_pipeline.proofs.Steps.{map_push}
+use Rattle.dump_pipeline.proofs.Steps.{map_push, map_same}
 use Rattle.dump_pipeline.proofs.threads.start_workers.Goals as goal
 
 pub loop-port-preserved-in-Some-start_worker : goal.loop-port-preserved-in-Some-start_worker
@@ -32,8 +34,9 @@ loop-port-preserved-in-Some-start_worker g c =
 
 pub returns-clause-index : goal.returns-clause-index
 returns-clause-index g c =
-    let a = c.in-None.ensures.goes in
-    let b = c.loop-port.yielded_by in
-    let e = c.into_iter-port-iterator.ensures.into_iter_gives in
-    let s = c.in-None.ensures.steps in
-    let h = c.loop-port.invariant.0 c.in_ok-cutter.cutter c.in_ok-cutter.was in ?
+    let J : Type 0 = Job g.row.D.Denot g.D.Run in
+    let E : Type 0 = Checked g.row.D.Denot g.D.Run in
+    let held = c.loop-port.invariant.0 c.in_ok-cutter.cutter c.in_ok-cutter.was in
+    let all = YieldsList-end (YieldsList-from_vec {s = c.into_iter-port-iterator.result} c.args.ports.items (search rules) (search rules)) c.loop-port.yielded c.loop-port.port-iterator
+    c.loop-port.yielded_by c.next.result c.next.new.self c.in-None.is c.next.ensures.steps in
+    held.2 ∙ ap (λ (l : List (WorkerPort J E)). map (λ (q : WorkerPort J E). (worker_port q).index) l) (sym (map_same c.loop-port.yielded) ∙ all.0)

@@ -1,0 +1,201 @@
+//! A run over threads: a cutter, workers, a sequencer, and the caller as writer.
+//!
+//! 1. The cutter draws a credit for each item, and puts its job. A worker checks it. The sequencer filters the
+//!    items in the dump's order, and the writer hands their pieces to the sink and gives each credit back.
+//! 2. There are as many slots as credits: so the sequencer finds the slot of each arrival free, and in the slot of
+//!    the next number that item and no other.
+//! 3. A fault, a failure or a broken sink raises the stop. The cutter then cuts no more, and what is under way ends.
+//! 4. When all have ended, what they brought back is put together, and the answer follows.
+ghost use Rattle.std.specs.Prelude.{◌≡◌};
+ghost use Rattle.dump_pipeline.specs.RunAnswer.{RunLeaves, SinkFailsOnly, ThreadsFailFirst};
+
+use crate::answer::{Answer, Failure};
+use crate::gate::Gate;
+use crate::join::{Started, conclude, join_threads};
+use crate::make::{Ends, Given, make};
+use crate::message::Run;
+use crate::plan::Plan;
+use crate::threads::{Crew, start_cutter, start_sequencer, start_workers};
+use crate::words::Words;
+use crate::write::write;
+use dump_lanes::Ports;
+use dump_rules::Options;
+use dump_writer::Sink;
+use std::alloc::Global;
+use std::marker::Brand;
+use std::sync::Wait;
+use std::thread;
+use std::thread::{Scope, Threads};
+
+// What a run writes into, and its answer. (A reference that a scope's closure borrows has no value for its caller: it
+// is moved in, and given back.)
+#[derive(Drop)]
+struct Held<'b, S: Sink> {
+    sink: &'b mut S,
+    answer: Answer,
+}
+
+// The answer where a thread wasn't started.
+const REFUSED: Answer = Answer::Failed {
+    failure: Failure::Threads,
+    written: 0,
+};
+
+// Runs all threads to their ends.
+fn run_in<'s, 'a: 's, 'b, E: 's, D: Run + Send + Sync + 's, S: Sink, G: Gate + 's, R: Threads + Wait + Sync + 's>(
+    scope: &'s Scope<'s, E>,
+    rt: &'s R,
+    alloc: Global,
+    dump: &'a [u8],
+    options: &'a Options,
+    gate: &'s G,
+    words: &'s Words,
+    ends: Ends<'a, D>,
+    held: Held<'b, S>,
+) -> Held<'b, S>
+    requires dump { dump.now ≡ D.dump }
+    requires options { options.now ≡ D.settings }
+    requires this_stop { ends.cuts.word ≡ words.now.stop }
+    requires this_shut { ends.shut.word ≡ words.now.shut }
+    ensures same { result.sink.ghost_name ≡ held.entry.sink.ghost_name }
+    ensures leaves { RunLeaves D.settings D.dump (S.taken held.entry.sink.now) (S.taken result.sink.now) result.answer }
+    ensures through { S.through result.sink.now ≡ S.through held.entry.sink.now }
+    ensures failures { SinkFailsOnly (S.failure_count held.entry.sink.now) (S.failure_count result.sink.now) result.answer }
+    ensures threads { ThreadsFailFirst result.answer }
+{
+    let Held { sink, answer: _ } = held;
+    let Ends {
+        pool: _,
+        ports,
+        slots,
+        to,
+        from,
+        cuts,
+        sequences,
+        writes,
+        shut,
+        mut shuts,
+        workers: room,
+        ended,
+    } = ends;
+    let Ports {
+        cutter,
+        workers,
+        sequencer,
+        writer,
+    } = ports;
+    let answer = REFUSED;
+    let Some(sequencer) = start_sequencer(
+        scope, rt, alloc, options, &words.stop, sequencer, slots, to, sequences,
+    ) else {
+        return Held { sink, answer };
+    };
+    let Some(Crew { workers, cutter }) =
+        start_workers(scope, rt, options, gate, workers, room, cutter)
+    else {
+        return Held { sink, answer };
+    };
+    let Some(cutter) = start_cutter(scope, rt, dump, cutter, words, cuts, shut, &mut shuts) else {
+        return Held { sink, answer };
+    };
+    let written = write(rt, writer, from, &words.stop, writes, sink);
+    let started = Started {
+        sequencer,
+        workers,
+        cutter,
+        room: ended,
+    };
+    let joined = join_threads(rt, started, written);
+    let answer = conclude(words, joined, shuts);
+    Held { sink, answer }
+}
+
+// The scope of a run's threads.
+fn run_scoped<'a, 'b, D: Run + Send + Sync, S: Sink, G: Gate, R: Threads + Wait + Sync>(
+    rt: &R,
+    alloc: Global,
+    dump: &'a [u8],
+    options: &'a Options,
+    gate: &G,
+    words: &Words,
+    ends: Ends<'a, D>,
+    held: Held<'b, S>,
+) -> Held<'b, S>
+    requires dump { dump.now ≡ D.dump }
+    requires options { options.now ≡ D.settings }
+    requires this_stop { ends.cuts.word ≡ words.now.stop }
+    requires this_shut { ends.shut.word ≡ words.now.shut }
+    ensures same { result.sink.ghost_name ≡ held.entry.sink.ghost_name }
+    ensures leaves { RunLeaves D.settings D.dump (S.taken held.entry.sink.now) (S.taken result.sink.now) result.answer }
+    ensures through { S.through result.sink.now ≡ S.through held.entry.sink.now }
+    ensures failures { SinkFailsOnly (S.failure_count held.entry.sink.now) (S.failure_count result.sink.now) result.answer }
+    ensures threads { ThreadsFailFirst result.answer }
+{
+    thread::scope(
+        thread::scope_env(),
+        rt,
+        move |scope| -> Held<S>
+            requires dump { dump.now ≡ D.dump }
+            requires options { options.now ≡ D.settings }
+            requires this_stop { ends.cuts.word ≡ words.now.stop }
+            requires this_shut { ends.shut.word ≡ words.now.shut }
+            ensures same { result.sink.ghost_name ≡ held.entry.sink.ghost_name }
+            ensures leaves { RunLeaves D.settings D.dump (S.taken held.entry.sink.now) (S.taken result.sink.now) result.answer }
+            ensures through { S.through result.sink.now ≡ S.through held.entry.sink.now }
+            ensures failures { SinkFailsOnly (S.failure_count held.entry.sink.now) (S.failure_count result.sink.now) result.answer }
+            ensures threads { ThreadsFailFirst result.answer }
+        { run_in(scope, rt, alloc, dump, options, gate, words, ends, held) },
+    )
+}
+
+fn run_of<'a, D: Run + Send + Sync, S: Sink, G: Gate, R: Threads + Wait + Sync>(
+    rt: &R,
+    alloc: Global,
+    dump: &'a [u8],
+    options: &'a Options,
+    plan: Plan,
+    gate: &G,
+    sink: &mut S,
+) -> Answer
+    requires dump { dump.now ≡ D.dump }
+    requires options { options.now ≡ D.settings }
+    ensures answer { RunLeaves D.settings D.dump (S.taken sink.old) (S.taken sink.new) result }
+    ensures through { S.through sink.new ≡ S.through sink.old }
+    ensures sink { SinkFailsOnly (S.failure_count sink.old) (S.failure_count sink.new) result }
+    ensures threads { ThreadsFailFirst result }
+{
+    let Ok(given) = make::<D, R>(rt, alloc, plan) else {
+        return Answer::Failed {
+            failure: Failure::Memory,
+            written: 0,
+        };
+    };
+    let Given { words, ends } = given;
+    let held = Held {
+        sink,
+        answer: REFUSED,
+    };
+    let held = run_scoped(rt, alloc, dump, options, gate, &words, ends, held);
+    held.answer
+}
+
+/// Filters a dump into a sink, over threads: a cutter, the plan's workers, a sequencer, and the caller as writer.
+///
+/// Each worker passes the gate with a record's number before it checks it. The queues are made first, and then the
+/// threads are started. All have ended when it returns; whether it returns is not promised.
+pub fn run<'a, S: Sink, G: Gate, R: Threads + Wait + Sync>(
+    rt: &R,
+    alloc: Global,
+    dump: &'a [u8],
+    options: &'a Options,
+    plan: Plan,
+    gate: &G,
+    sink: &mut S,
+) -> Answer
+    ensures answer { RunLeaves options.now dump.now (S.taken sink.old) (S.taken sink.new) result }
+    ensures through { S.through sink.new ≡ S.through sink.old }
+    ensures sink { SinkFailsOnly (S.failure_count sink.old) (S.failure_count sink.new) result }
+    ensures threads { ThreadsFailFirst result }
+{
+    run_of::<Brand, S, G, R>(rt, alloc, dump, options, plan, gate, sink)
+}
