@@ -1,5 +1,5 @@
 -- What the threads brought back, put together.
-use Rattle.std.proofs.Common.{◌≡◌, ◌≢◌, ◌∙◌, ℕ, suc, ◌+◌, ◌≤◌, Bool, true, false, ◌||◌, List, [], ◌∷◌, ◌++◌, length, Option, Some, None, refl, sym, ap, subst, arith, map, sum_by, All, MatchBool, append_assoc}
+use Rattle.std.proofs.Common.{◌≡◌, ◌≢◌, ◌∙◌, ℕ, suc, ◌+◌, ◌≤◌, Bool, true, false, ◌||◌, List, [], ◌∷◌, ◌++◌, length, Option, Some, None, refl, sym, ap, subst, arith, map, sum_by, All, MatchBool}
 use Rattle.std.proofs.lemmas.Bool.{false≢true}
 use Rattle.std.proofs.lemmas.List.{map-append}
 use Rattle.std.proofs.lemmas.List.Sums.{sum_by-cons}
@@ -8,12 +8,10 @@ use Rattle.dump_lanes.specs.Arrivals.{first_numbers, Clash, IsWaiting}
 use Rattle.dump_lanes.specs.PortSides.{CutterSide, WorkerSide, WeighsSame, all_taken, all_given}
 use Rattle.dump_lanes.specs.StopSeats.{Seat, joined_seat, SeesOnlyRaised}
 use Rattle.dump_lanes.proofs.Arrivals.{no_clash, none_waits}
-use Rattle.dump_records.specs.RecordText.{DumpRecord}
-use Rattle.dump_records.specs.DumpText.{Ending, HasRecords}
 use Rattle.dump_records.proofs.Prefixes.{within}
 use Rattle.dump_rules.specs.Settings.{Settings}
-use Rattle.dump_writer.specs.SinkWords.{IsPrefixOf, HasFailedSince}
-use Rattle.dump_filter.specs.FilterState.{FilterState, first_state}
+use Rattle.dump_writer.specs.SinkWords.{IsPrefixOf}
+use Rattle.dump_filter.specs.FilterState.{first_state}
 use Rattle.dump_pipeline.specs.declared.answer.Answer.{Answer}
 use Rattle.dump_pipeline.specs.declared.answer.Answer.TheVariants as answers
 use Rattle.dump_pipeline.specs.declared.answer.Failure.{Failure}

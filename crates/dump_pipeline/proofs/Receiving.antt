@@ -1,12 +1,12 @@
 -- What the sink received of the pieces so far.
-use Rattle.std.proofs.Common.{◌≡◌, ◌∙◌, ℕ, ◌+◌, ◌<◌, Bool, true, false, List, [], ◌∷◌, ◌++◌, take, drop, length, Option, refl, sym, ap, subst, arith, append_assoc, length-append, MatchBool}
-use Rattle.std.proofs.lemmas.List.{append-nil, take-append-drop, length-take}
+use Rattle.std.proofs.Common.{◌≡◌, ◌∙◌, ℕ, ◌+◌, Bool, true, false, List, [], ◌∷◌, ◌++◌, take, drop, length, Option, refl, sym, ap, subst, arith, append_assoc, length-append, MatchBool}
+use Rattle.std.proofs.lemmas.List.{take-append-drop, length-take}
 use Rattle.std.proofs.KnownBytes.{Appends-nil, Appends-trans}
 use Rattle.dump_lanes.specs.LaneEnds.{Receiving}
-use Rattle.dump_writer.specs.SinkWords.{capped, IsPrefixOf, HasFailedSince}
+use Rattle.dump_writer.specs.SinkWords.{IsPrefixOf}
 use Rattle.dump_pipeline.specs.declared.message.NumberedPiece.{NumberedPiece}
 use Rattle.dump_pipeline.specs.Messages.{text_of}
-use Rattle.dump_pipeline.specs.Parts.{HasReceived, CountsFailed}
+use Rattle.dump_pipeline.specs.Parts.{HasReceived}
 use Rattle.dump_pipeline.specs.Sending.{Sends, StopsShort}
 use Rattle.dump_pipeline.proofs.Steps.{text_more}
 

@@ -17,7 +17,7 @@ use Rattle.dump_records.proofs.Prefixes.{is_front, one_more, whole_list, begins_
 use Rattle.dump_rules.specs.Settings.{Settings}
 use Rattle.dump_writer.specs.SinkWords.{capped, IsPrefixOf}
 use Rattle.dump_filter.specs.Counts.{report_of}
-use Rattle.dump_filter.specs.FilterState.{Seen, FilterState, first_state, count_up_to, AreAccepted, IsOfSameDump, Accepts, Refuses, Finishes}
+use Rattle.dump_filter.specs.FilterState.{Seen, FilterState, first_state, count_up_to, AreAccepted, Accepts, Refuses, Finishes}
 use Rattle.dump_filter.specs.RecordFaults.{AreFaultFree, HoldsOfRecord, IsRecordFault}
 use Rattle.dump_filter.specs.WholeText.{IsCleanText}
 use Rattle.dump_filter.specs.Groups.{kept_revisions}

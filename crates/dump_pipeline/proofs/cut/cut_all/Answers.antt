@@ -1,7 +1,6 @@
-use Rattle.std.proofs.Common.{rules, ◌≡◌, ◌∙◌, ◌+◌, ◌≤◌, ℕ, refl, sym, ap, subst, length, arith}
+use Rattle.std.proofs.Common.{rules, ◌≡◌, ◌∙◌, ◌+◌, ◌≤◌, ℕ, sym, ap, subst, length, arith}
 use Rattle.dump_lanes.specs.PortViews.{job_port}
-use Rattle.dump_records.specs.CutterState.{CutterState}
-use Rattle.dump_records.specs.DumpText.{Ending, EndsAfter}
+use Rattle.dump_records.specs.DumpText.{Ending}
 use Rattle.dump_records.specs.RecordViews.{record_number, CutStep}
 use Rattle.dump_records.specs.declared.cutter.Cut.{Cut}
 use Rattle.dump_pipeline.specs.Parts.{HasPut}

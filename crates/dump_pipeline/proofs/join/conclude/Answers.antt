@@ -1,4 +1,4 @@
-use Rattle.std.proofs.Common.{◌≡◌, ◌∙◌, List, Some, length, map, All, ap, sym, subst}
+use Rattle.std.proofs.Common.{◌≡◌, ◌∙◌, List, length, map, All, ap, sym, subst}
 use Rattle.dump_lanes.specs.declared.pool.worker.WorkerPort.{WorkerPort}
 use Rattle.dump_lanes.specs.LaneViews.{sent, receiving}
 use Rattle.dump_lanes.specs.PortSides.{WorkerSide, IsDone}

@@ -1,4 +1,3 @@
-use Rattle.std.proofs.Common.{◌∙◌}
 use Rattle.dump_pipeline.specs.declared.stage.End.TheVariants as ends
 use Rattle.dump_pipeline.proofs.Released.{memory, ended_with_nothing, last_fault, last_end}
 use Rattle.dump_pipeline.proofs.sequence.filter_end.Goals as goal

@@ -1,10 +1,9 @@
-use Rattle.std.proofs.Common.{◌≡◌, ◌∙◌, ◌+◌, ◌++◌, ap, sym, subst, refl, Some, Err}
+use Rattle.std.proofs.Common.{◌∙◌, ◌+◌, ◌++◌, ap, sym, subst, refl, Err}
 use Rattle.dump_text.specs.declared.fault.FaultKind.{FaultKind}
 use Rattle.dump_records.specs.declared.record.Record.{Record}
-use Rattle.dump_records.specs.RecordViews.{record_dump, record_number, record_item}
+use Rattle.dump_records.specs.RecordViews.{record_number}
 use Rattle.dump_digest.specs.DoneViews.{done_record}
 use Rattle.dump_filter.specs.FilterState.{FilterState}
-use Rattle.dump_pipeline.specs.declared.stage.End.{End}
 use Rattle.dump_pipeline.specs.declared.stage.End.TheVariants as ends
 use Rattle.dump_pipeline.specs.Parts.{HasFiltered, IsEndOf}
 use Rattle.dump_pipeline.proofs.Released.{steps, record_fault, memory, ended_with_nothing, record_is}
