@@ -1,8 +1,11 @@
 //! What no clause says: a worked dump, sinks that fail at each of its bytes, and memory that is refused.
 
 mod digests;
+mod gates;
 mod merges;
 mod plans;
+mod running;
+mod soaking;
 
 use crate::{Answer, Failure, run_plain};
 use dump_filter::Report;
