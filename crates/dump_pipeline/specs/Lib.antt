@@ -1,3 +1,4 @@
 pub mod FilterAnswer
+pub mod PlanViews
 pub mod RunAnswer
 pub mod Sending

@@ -16,9 +16,11 @@
 mod answer;
 mod count;
 mod plain;
+mod plan;
 
 pub use answer::{Answer, Failure};
 pub use plain::run_plain;
+pub use plan::Plan;
 
 #[cfg(test)]
 mod tests;

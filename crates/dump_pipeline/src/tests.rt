@@ -2,6 +2,7 @@
 
 mod digests;
 mod merges;
+mod plans;
 
 use crate::{Answer, Failure, run_plain};
 use dump_filter::Report;

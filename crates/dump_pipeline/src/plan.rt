@@ -1,0 +1,41 @@
+//! How a run is spread over threads.
+ghost use Rattle.std.specs.Prelude.{◌≡◌, ◌↔◌, ◌≤◌, IsSome, IfSome};
+
+/// How many workers there are, and how many records are in flight at most.
+#[derive(Clone, Copy, Debug, PartialEq, Eq)]
+pub struct Plan {
+    workers: usize,
+    window: usize,
+    pub ghost some_workers: { 1 ≤ workers },
+    pub ghost most_workers: { workers ≤ 64 },
+    pub ghost some_window: { 1 ≤ window },
+    pub ghost most_window: { window ≤ 4096 },
+}
+
+impl Plan {
+    ghost use Rattle.dump_pipeline.specs.PlanViews.{worker_count, window_size, IsInRange};
+
+    /// A plan of 1 to 64 workers and a window of 1 to 4096 records.
+    pub fn new(workers: usize, window: usize) -> Option<Plan>
+        ensures range { IsSome result ↔ IsInRange workers window }
+        ensures workers { IfSome result (λ plan. worker_count plan ≡ workers) }
+        ensures window { IfSome result (λ plan. window_size plan ≡ window) }
+    {
+        if workers < 1 || workers > 64 || window < 1 || window > 4096 {
+            return None;
+        }
+        Some(Plan { workers, window })
+    }
+
+    pub fn workers(&self) -> usize
+        ensures { result ≡ worker_count self.now }
+    {
+        self.workers
+    }
+
+    pub fn window(&self) -> usize
+        ensures { result ≡ window_size self.now }
+    {
+        self.window
+    }
+}
