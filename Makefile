@@ -1,26 +1,29 @@
-# make         proves and builds the program, build/svndumpfilter
-# make test    proves every crate from nothing, runs their tests, and then tests/run on the program that was so proved
-# make bench   measures the program on made dumps, beside md5sum, sha1sum, cat and, where it is installed, the stock svndumpfilter
-# make clean   removes build/; what the checks keep in crates/*/out stays
+# make            proves and builds the program, build/svndumpfilter
+# make test       proves every crate from nothing, runs their tests, and then tests/ on the program that was so proved
+# make bench      measures the program on made dumps, beside md5sum, sha1sum, cat and, where it is installed, the stock svndumpfilter
+# make install    puts the program and its manual page under $(DESTDIR)$(PREFIX), by the name $(NAME)
+# make uninstall  takes both away again
+# make deb        makes a Debian package of the same, build/svndumpfilter-proved_VERSION_ARCHITECTURE.deb
+# make clean      removes build/; what the checks keep in crates/*/out stays
+
+PREFIX ?= /usr/local
+DESTDIR ?=
+NAME ?= svndumpfilter
 
 PROGRAM := build/svndumpfilter
 # where the toolchain leaves the program, after rt run and after rt ci
 BUILT := crates/dump_cli/out/dump_cli
-FIRST := tests/cases/include_with_preserve_revprops
-SOURCES := crates.txt HANDLES $(shell find crates -name out -prune -o -type f \( -name '*.rt' -o -name '*.antt' \) -print)
+PAGE := docs/svndumpfilter.1
+SOURCES := $(shell tools/sources)
 
-.PHONY: all test bench clean
+.PHONY: all test bench install uninstall deb clean
 .DELETE_ON_ERROR:
 
 all: $(PROGRAM)
 
-# The toolchain builds a program in order to run it, so the build ends with a first run.
 $(PROGRAM): $(SOURCES)
-	@echo "make: proving and building $@; from nothing this takes some ten minutes"
-	@mkdir -p build
-	cd crates/dump_cli && rt run -- $$(cat ../../$(FIRST)/args) < ../../$(FIRST)/stdin > ../../build/first_run
-	cmp build/first_run $(FIRST)/stdout
-	cp $(BUILT) $@
+	@echo "make: proving and building $@; from nothing this takes some nine minutes on four cores"
+	@tools/build
 	@echo "make: $@ is built"
 
 test:
@@ -30,9 +33,24 @@ test:
 	cp $(BUILT) $(PROGRAM)
 	@echo "make: running tests/cases on $(PROGRAM)"
 	tests/run $(PROGRAM)
+	@echo "make: installing $(PROGRAM) into an empty root"
+	tests/install
+	@echo "make: comparing $(PROGRAM) with the stock svndumpfilter"
+	tests/stock $(PROGRAM)
 
 bench: $(PROGRAM)
 	bench/measure $(PROGRAM)
+
+install: $(PROGRAM)
+	install -d "$(DESTDIR)$(PREFIX)/bin" "$(DESTDIR)$(PREFIX)/share/man/man1"
+	install -m 755 $(PROGRAM) "$(DESTDIR)$(PREFIX)/bin/$(NAME)"
+	install -m 644 $(PAGE) "$(DESTDIR)$(PREFIX)/share/man/man1/$(NAME).1"
+
+uninstall:
+	rm -f "$(DESTDIR)$(PREFIX)/bin/$(NAME)" "$(DESTDIR)$(PREFIX)/share/man/man1/$(NAME).1"
+
+deb: $(PROGRAM)
+	tools/deb
 
 clean:
 	@echo "make: removing build/"

@@ -1,18 +1,27 @@
 -- What the program does with its words and its input.
-use Rattle.std.specs.Prelude.{◌≡◌, ℕ, ◌⊎◌, List, Option, Result, Ok, Err, IfSome}
+use Rattle.std.specs.Prelude.{◌≡◌, ℕ, Bool, true, ◌⊎◌, List, [], Option, Result, Ok, Err, IfSome}
 use Rattle.std.specs.Io.KnownBytes.{Keeps, Appends, GrowsBy}
 use Rattle.dump_rules.specs.Settings.{Settings}
-use Rattle.dump_writer.specs.SinkWords.{IsPrefixOf}
+use Rattle.dump_writer.specs.SinkStates.{LentState}
+use Rattle.dump_writer.specs.SinkWords.{HasFailedSince, IsPrefixOf}
 use Rattle.dump_pipeline.specs.declared.answer.Answer.{Answer}
 use Rattle.dump_pipeline.specs.declared.answer.Answer.TheVariants.{Clean, Fault, Failed}
 use Rattle.dump_pipeline.specs.declared.answer.Failure.TheVariants as failures
 use Rattle.dump_pipeline.specs.RunAnswer.{IsRunAnswer}
+use Rattle.dump_cli.specs.Words.{AnswersTo, Meaning}
+use Rattle.dump_cli.specs.declared.words.Order.{Order}
 use Rattle.dump_cli.specs.declared.words.Usage.{Usage}
+use Rattle.dump_cli.specs.declared.words.Usage.TheVariants.{Words, BothDrops, Memory}
 
 abbrev pub status_of : Answer → ℕ
 status_of (Clean _) = 0
 status_of (Fault _ _ _) = 1
 status_of (Failed _ _) = 1
+
+-- nothing is said of a clean run that is to be quiet
+abbrev pub IsSilent : Answer → Bool → Type 0
+IsSilent (Clean report) quiet = quiet ≡ true
+IsSilent answer quiet = ⊥
 
 -- the output broke off: the writer took only the first of the bytes, and the answer is the failure with their count
 pub record BreaksOff (old new : Option (List ℕ)) (sent : List ℕ) (told : Answer) : Type 0 where
@@ -31,9 +40,33 @@ pub record Ran (settings : Settings) (input : List ℕ) (old new : Option (List 
   pub answered : IsRunAnswer settings input sent answer
   pub arrived : (Appends old new sent × (told ≡ answer)) ⊎ BreaksOff old new sent told
 
--- other words write nothing; an order is run on the whole input, or writes nothing for want of memory or input
-abbrev pub Drives : Result Settings Usage → Option (List ℕ) → Option (List ℕ) → Option (List ℕ) → ℕ → Type 0
-Drives (Err usage) input old new status = Keeps old new × (status ≡ 2)
-Drives (Ok settings) input old new status =
+-- what is told behind a run: its answer, where nothing waits any more; or the failure of the sink, with the bytes that the
+-- writer took
+abbrev pub TellsBehind : LentState → Answer → Answer → Type 0
+TellsBehind sink ran told = ((told ≡ ran) × (sink.waiting ≡ []))
+    ⊎ ((told ≡ Failed failures.Sink sink.out.written) × GrowsBy sink.out.start sink.out.taken sink.out.written)
+
+-- and the failure of the sink only where the run failed so, or the sink failed since
+abbrev pub FailsOnlyBehind : ℕ → ℕ → Answer → Answer → Type 0
+FailsOnlyBehind old new ran (Failed failures.Sink written) = ((count : ℕ) × (ran ≡ Failed failures.Sink count)) ⊎ HasFailedSince old new
+FailsOnlyBehind old new ran told = told ≡ ran
+
+-- an order is run on the whole input, or writes nothing for want of memory or input
+abbrev pub CarriesOut : Settings → Option (List ℕ) → Option (List ℕ) → Option (List ℕ) → ℕ → Type 0
+CarriesOut settings input old new status =
     IfSome input (λ bytes. (told : Answer) × Ran settings bytes old new told × (status ≡ status_of told))
     ⊎ (Keeps old new × (status ≡ 1))
+
+-- words that are no order are refused by 2, and want of memory for an order by 1
+abbrev pub refusal_status : Usage → ℕ
+refusal_status Words = 2
+refusal_status BothDrops = 2
+refusal_status Memory = 1
+
+abbrev pub Obeys : Result Order Usage → Option (List ℕ) → Option (List ℕ) → Option (List ℕ) → ℕ → Type 0
+Obeys (Err usage) input old new status = Keeps old new × (status ≡ refusal_status usage)
+Obeys (Ok order) input old new status = CarriesOut order.options input old new status
+
+-- words of this meaning have an answer, and it is obeyed
+abbrev pub Drives : Result Meaning Usage → Option (List ℕ) → Option (List ℕ) → Option (List ℕ) → ℕ → Type 0
+Drives meaning input old new status = (answer : Result Order Usage) × AnswersTo meaning answer × Obeys answer input old new status

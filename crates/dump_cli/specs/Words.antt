@@ -1,43 +1,36 @@
--- What the program's words mean (svndumpfilter in "Version Control with Subversion"; drop-all: this project's own flag).
--- Words come as texts or as references to texts, and `text` gives a word's bytes.
-use Rattle.std.specs.Prelude.{◌≡◌, ℕ, Bool, true, false, not, ◌&&◌, ◌||◌, ◌==◌, nat_le, List, [], ◌∷◌, Option, Some, None, Result, Ok, Err, IsOk, codes, bytes_eq, count_by, map, take, drop, length, if◌then◌else◌}
-use Rattle.std.specs.List.{list_any, list_all, prefix_len}
+-- What the program's words mean, by what clap finds in them.
+use Rattle.std.specs.Prelude.{◌≡◌, ◌⊎◌, ℕ, Bool, true, false, List, [], Option, Some, None, Result, Ok, Err, ⊤, codes, unwrap_or, if◌then◌else◌}
+use Rattle.std.specs.Option.{option_map_or}
+use Rattle.std.specs.Str.{bytes_eq}
+use Rattle.std.specs.Str.Parse.{digits_value, without_leading_plus}
+use Rattle.clap.specs.Walk.{is_empty}
+use Rattle.clap.specs.Words.{Row, Text, IsUnsignedIn, all_of, fault_of, one_of, subcommand_of}
 use Rattle.dump_rules.specs.Settings.{Settings}
 use Rattle.dump_rules.specs.declared.options.Side.{Side}
 use Rattle.dump_rules.specs.declared.options.Side.TheVariants.{Include, Exclude}
 use Rattle.dump_rules.specs.declared.options.Empty.{Empty}
 use Rattle.dump_rules.specs.declared.options.Empty.TheVariants.{Pad, DropEmptied, DropAll}
+use Rattle.dump_pipeline.specs.PlanViews.{worker_count, window_size}
+use Rattle.dump_cli.specs.CommandLine.{program}
+use Rattle.dump_cli.specs.declared.words.Order.{Order}
 use Rattle.dump_cli.specs.declared.words.Usage.{Usage}
 use Rattle.dump_cli.specs.declared.words.Usage.TheVariants.{Words, BothDrops, Memory}
 
--- the five flags
-abbrev pub drop_empty_flag : List ℕ
-drop_empty_flag = codes "--drop-empty-revs"
+-- the words are a line that the command takes
+abbrev pub is_lawful : List Text → Bool
+is_lawful words = is_empty (fault_of program words)
 
-abbrev pub drop_all_flag : List ℕ
-drop_all_flag = codes "--drop-all-empty-revs"
+-- whether a switch is set
+abbrev pub is_set : Text → List Row → Bool
+is_set name rows = option_map_or (λ text. bytes_eq text (codes "true")) (one_of name rows) false
 
-abbrev pub renumber_flag : List ℕ
-renumber_flag = codes "--renumber-revs"
+-- the number of a flag; without it its default stands in the rows
+abbrev pub number_of : Text → List Row → ℕ
+number_of name rows = digits_value 10 (without_leading_plus (unwrap_or (one_of name rows) []))
 
-abbrev pub preserve_flag : List ℕ
-preserve_flag = codes "--preserve-revprops"
-
-abbrev pub skip_flag : List ℕ
-skip_flag = codes "--skip-missing-merge-sources"
-
-abbrev pub is_flag : List ℕ → Bool
-is_flag word =
-    bytes_eq word drop_empty_flag || bytes_eq word drop_all_flag || bytes_eq word renumber_flag || bytes_eq word preserve_flag
-    || bytes_eq word skip_flag
-
--- whether a minus sign stands first; flags begin so, and no prefix does
-abbrev pub has_minus_first : List ℕ → Bool
-has_minus_first [] = false
-has_minus_first (b ∷ word) = b == 45
-
-abbrev pub side_of : List ℕ → Option Side
-side_of word = if bytes_eq word (codes "include") then Some Include else (if bytes_eq word (codes "exclude") then Some Exclude else None)
+-- the command has no third side
+abbrev pub side_of : Text → Side
+side_of name = if bytes_eq name (codes "include") then Include else Exclude
 
 -- what becomes of empty revisions: by the first drop flag, by the second, and not by both
 abbrev pub empty_of : Bool → Bool → Option Empty
@@ -46,56 +39,71 @@ empty_of true false = Some DropEmptied
 empty_of false true = Some DropAll
 empty_of true true = None
 
-abbrev pub settings_of : Side → List (List ℕ) → Bool → Bool → Bool → Option Empty → Result Settings Usage
-settings_of side prefixes renumber preserve skip None = Err BothDrops
-settings_of side prefixes renumber preserve skip (Some empty) = Ok (record {
-  side = side;
-  prefixes = prefixes;
-  empty = empty;
-  renumber = renumber;
-  preserve = preserve;
-  skip_missing = skip;
+-- an order: the filter's settings, how many workers, how wide a window, and whether a clean run is silent
+pub record Meaning : Type 0 where
+  pub settings : Settings
+  pub workers : ℕ
+  pub window : ℕ
+  pub quiet : Bool
+
+abbrev pub shown : Order → Meaning
+shown order = record {
+  settings = order.options;
+  workers = worker_count order.plan;
+  window = window_size order.plan;
+  quiet = order.quiet;
+}
+
+abbrev pub meaning_with : Option Empty → Side → List Row → Result Meaning Usage
+meaning_with None side rows = Err BothDrops
+meaning_with (Some empty) side rows = Ok (record {
+  settings = record {
+    side = side;
+    prefixes = unwrap_or (all_of (codes "PREFIX") rows) [];
+    empty = empty;
+    renumber = is_set (codes "renumber-revs") rows;
+    preserve = is_set (codes "preserve-revprops") rows;
+    skip_missing = is_set (codes "skip-missing-merge-sources") rows;
+  };
+  workers = number_of (codes "workers") rows;
+  window = number_of (codes "window") rows;
+  quiet = is_set (codes "quiet") rows;
 })
 
-module _ {Word : Type 0} (text : Word → List ℕ) where
-  -- whether the word stands among the words, and how often
-  abbrev pub has : List ℕ → List Word → Bool
-  has word words = list_any (λ other. bytes_eq (text other) word) words
+-- what becomes of empty revisions, by the rows of a side
+abbrev pub empty_in : List Row → Option Empty
+empty_in rows = empty_of (is_set (codes "drop-empty-revs") rows) (is_set (codes "drop-all-empty-revs") rows)
 
-  abbrev pub times : List ℕ → List Word → ℕ
-  times word words = count_by (λ other. bytes_eq (text other) word) words
+-- the order that a side and its rows give
+abbrev pub order_of : Text × List Row → Result Meaning Usage
+order_of (name, rows) = meaning_with (empty_in rows) (side_of name) rows
 
-  -- how many words stand in front of the first that doesn't begin with a minus sign
-  abbrev pub flags_before : List Word → ℕ
-  flags_before words = prefix_len (λ word. has_minus_first (text word)) words
+-- the order that the words give: only a lawful line is one, unless it asks for both ways to drop revisions
+abbrev pub meaning_of : List Text → Result Meaning Usage
+meaning_of words = if is_lawful words then option_map_or order_of (subcommand_of program words) (Err Words) else Err Words
 
-  -- flags alone, each at most once
-  abbrev pub are_flags : List Word → Bool
-  are_flags words = list_all (λ word. is_flag (text word)) words && nat_le (times drop_empty_flag words) 1
-      && nat_le (times drop_all_flag words) 1 && nat_le (times renumber_flag words) 1 && nat_le (times preserve_flag words) 1
-      && nat_le (times skip_flag words) 1
-
-  -- one or more words, none of which begins with a minus sign
-  abbrev pub are_prefixes : List Word → Bool
-  are_prefixes words = not (length words == 0) && not (list_any (λ word. has_minus_first (text word)) words)
-
-  -- the order that a side, flags and prefixes give
-  abbrev pub order_of : Option Side → List Word → List Word → Result Settings Usage
-  order_of None flags prefixes = Err Words
-  order_of (Some side) flags prefixes = if are_flags flags && are_prefixes prefixes
-      then settings_of side (map text prefixes) (has renumber_flag flags) (has preserve_flag flags) (has skip_flag flags)
-      (empty_of (has drop_empty_flag flags) (has drop_all_flag flags))
-      else Err Words
-
-  -- the order that the words give: the program's name, a side, flags in any order, prefixes
-  abbrev pub meaning_of : List Word → Result Settings Usage
-  meaning_of [] = Err Words
-  meaning_of (name ∷ []) = Err Words
-  meaning_of (name ∷ side ∷ words) = order_of (side_of (text side)) (take (flags_before words) words) (drop (flags_before words) words)
-
--- the answer to words of this meaning: want of memory hides an order, and nothing else
-abbrev pub AnswersTo : Result Settings Usage → Result Settings Usage → Type 0
-AnswersTo meaning (Ok settings) = meaning ≡ Ok settings
+-- the answer to words of this meaning: want of memory may hide it, and nothing else
+abbrev pub AnswersTo : Result Meaning Usage → Result Order Usage → Type 0
+AnswersTo meaning (Ok order) = meaning ≡ Ok (shown order)
 AnswersTo meaning (Err Words) = meaning ≡ Err Words
 AnswersTo meaning (Err BothDrops) = meaning ≡ Err BothDrops
-AnswersTo meaning (Err Memory) = IsOk meaning
+AnswersTo meaning (Err Memory) = ⊤
+
+-- a switch is set or it isn't, and a number stands in its range
+abbrev pub IsSwitch : Text → List Row → Type 0
+IsSwitch name rows = (text : Text) × (one_of name rows ≡ Some text)
+    × ((bytes_eq text (codes "true") ≡ true) ⊎ (bytes_eq text (codes "false") ≡ true))
+
+abbrev pub IsNumber : Text → ℕ → List Row → Type 0
+IsNumber name most rows = (text : Text) × (one_of name rows ≡ Some text) × IsUnsignedIn 1 most text
+
+-- what a lawful line gives of each flag
+pub record AreFilled (rows : List Row) : Type 0 where
+  pub drop_empty : IsSwitch (codes "drop-empty-revs") rows
+  pub drop_all : IsSwitch (codes "drop-all-empty-revs") rows
+  pub renumber : IsSwitch (codes "renumber-revs") rows
+  pub preserve : IsSwitch (codes "preserve-revprops") rows
+  pub skip_missing : IsSwitch (codes "skip-missing-merge-sources") rows
+  pub quiet : IsSwitch (codes "quiet") rows
+  pub workers : IsNumber (codes "workers") 64 rows
+  pub window : IsNumber (codes "window") 4096 rows

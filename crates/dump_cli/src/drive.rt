@@ -1,14 +1,14 @@
 //! The whole program, over any reader and writers.
-ghost use Rattle.std.specs.Prelude.{◌≡◌, [], OnOk};
-ghost use Rattle.std.specs.Io.KnownBytes.{Keeps};
+ghost use Rattle.std.specs.Prelude.{◌≡◌, [], map};
+ghost use Rattle.std.specs.Io.KnownBytes.{GrowsBy, Keeps};
 ghost use Rattle.dump_writer.specs.SinkStates.{lent_taken, loan_of};
 ghost use Rattle.dump_cli.specs.Words.{meaning_of};
-ghost use Rattle.dump_cli.specs.Drive.{Drives, Ran, status_of};
+ghost use Rattle.dump_cli.specs.Drive.{CarriesOut, Drives, FailsOnlyBehind, IsSilent, Ran, TellsBehind, refusal_status, status_of};
 
 use crate::input::{Unread, read_all};
-use crate::lines::{write_failure, write_fault, write_unread, write_usage};
-use crate::words::{Usage, options_of};
-use dump_pipeline::{Answer, Failure, run_plain};
+use crate::lines::{write_failure, write_fault, write_report, write_unread, write_usage};
+use crate::words::{Order, Usage, options_of};
+use dump_pipeline::{Answer, Failure, Plan, run_plain};
 use dump_rules::Options;
 use dump_writer::{OutMut, SinkDown};
 use std::alloc::Global;
@@ -18,27 +18,44 @@ use std::io::{Read, Write};
 const BUFFER: usize = 1 << 16;
 
 /// The whole program, with its exit status.
-pub fn drive<R: Read, W: Write, E: Write>(
+pub fn drive<'a, R: Read, W: Write, E: Write>(
     alloc: Global,
-    words: &[&str],
+    words: &'a [&'a str],
     reader: &mut R,
     writer: &mut W,
     errors: &mut E,
 ) -> u8
-    ensures { Drives (meaning_of (λ word. word.now) words.now) (R.remaining reader.old) (W.contents writer.old) (W.contents writer.new) result }
+    ensures { Drives (meaning_of (map (λ word. word.now) words.now)) (R.remaining reader.old) (W.contents writer.old) (W.contents writer.new) result }
 {
-    let options = match options_of(alloc, words) {
-        Ok(options) => options,
-        Err(Usage::Memory) => return tell_want_of_memory(errors),
-        Err(Usage::Words) => {
+    match options_of(alloc, words) {
+        Ok(order) => carry_out(alloc, &order, reader, writer, errors),
+        Err(usage) => refuse(errors, usage),
+    }
+}
+
+/// The line and the status of words that are no order.
+pub fn refuse<E: Write>(errors: &mut E, usage: Usage) -> u8
+    ensures { result ≡ refusal_status usage }
+{
+    match usage {
+        Usage::Words | Usage::BothDrops => {
             write_usage(errors);
-            return 2;
+            2
         }
-        Err(Usage::BothDrops) => {
-            write_usage(errors);
-            return 2;
-        }
-    };
+        Usage::Memory => tell_want_of_memory(errors),
+    }
+}
+
+// Runs an order on the whole input.
+fn carry_out<R: Read, W: Write, E: Write>(
+    alloc: Global,
+    order: &Order,
+    reader: &mut R,
+    writer: &mut W,
+    errors: &mut E,
+) -> u8
+    ensures { CarriesOut order.now.options (R.remaining reader.old) (W.contents writer.old) (W.contents writer.new) result }
+{
     let input = match read_all(alloc, reader) {
         Ok(input) => input,
         Err(Unread::Memory) => return tell_want_of_memory(errors),
@@ -50,38 +67,40 @@ pub fn drive<R: Read, W: Write, E: Write>(
     let Ok(buffer) = Vec::with_capacity(alloc, BUFFER) else {
         return tell_want_of_memory(errors);
     };
-    let answer = filter_into(alloc, input.as_slice(), &options, writer, buffer);
-    tell(errors, answer)
+    let mut sink = OutMut::new(writer, buffer);
+    let answer = run_and_flush(
+        alloc,
+        input.as_slice(),
+        &order.options,
+        order.plan,
+        &mut sink,
+    );
+    let _ = sink.into_inner();
+    tell(errors, answer, order.quiet)
 }
 
-// Filters into a writer that is lent, and hands on all that waits for it.
-fn filter_into<W: Write>(
+// Runs, and hands on all that waits behind the run.
+fn run_and_flush<W: Write>(
     alloc: Global,
     dump: &[u8],
     options: &Options,
-    writer: &mut W,
-    buffer: Vec<u8>,
+    _plan: Plan,
+    sink: &mut OutMut<'_, W>,
 ) -> Answer
-    ensures { Ran options.now dump.now (W.contents writer.old) (W.contents writer.new) result }
+    requires waiting { sink.old.waiting ≡ [] }
+    requires start { sink.old.out.start ≡ sink.old.out.taken }
+    ensures ran { Ran options.now dump.now sink.old.out.taken sink.new.out.taken result }
+    ensures loan { loan_of sink.new ≡ loan_of sink.old }
 {
-    let mut sink = OutMut::new(writer, buffer);
-    let answer = run_plain(alloc, dump, options, &mut sink);
-    let flushed = flush_behind(&mut sink, answer);
-    let written = sink.written();
-    let _ = sink.into_inner();
-    match flushed {
-        Ok(()) => answer,
-        Err(SinkDown) => Answer::Failed {
-            failure: Failure::Sink,
-            written,
-        },
-    }
+    let answer = run_plain(alloc, dump, options, sink);
+    flush_behind(sink, answer)
 }
 
-// Hands on all that waits and flushes the writer, unless the run's sink failed: then no more is tried.
-fn flush_behind<W: Write>(sink: &mut OutMut<'_, W>, answer: Answer) -> Result<(), SinkDown>
+// Hands on all that waits behind a run, unless the run's sink failed: then no more is tried.
+fn flush_behind<W: Write>(sink: &mut OutMut<'_, W>, answer: Answer) -> Answer
     ensures taken { Keeps (lent_taken sink.old) (lent_taken sink.new) }
-    ensures empty { OnOk result (sink.new.waiting ≡ []) }
+    ensures told { TellsBehind sink.new answer result }
+    ensures sink { FailsOnlyBehind sink.old.out.failures sink.new.out.failures answer result }
     ensures loan { loan_of sink.new ≡ loan_of sink.old }
 {
     if let Answer::Failed {
@@ -89,17 +108,37 @@ fn flush_behind<W: Write>(sink: &mut OutMut<'_, W>, answer: Answer) -> Result<()
         ..
     } = answer
     {
-        return Err(SinkDown);
+        return sink_down(sink);
     }
-    sink.flush()
+    match sink.flush() {
+        Ok(()) => answer,
+        Err(SinkDown) => sink_down(sink),
+    }
+}
+
+// The failure of a sink, with the bytes that its writer took.
+fn sink_down<W: Write>(sink: &OutMut<'_, W>) -> Answer
+    ensures count { result ≡ Answer.Failed Failure.Sink sink.now.out.written }
+    ensures grown { GrowsBy sink.now.out.start sink.now.out.taken sink.now.out.written }
+{
+    Answer::Failed {
+        failure: Failure::Sink,
+        written: sink.written(),
+    }
 }
 
 // The line of an answer, and the status.
-fn tell<E: Write>(errors: &mut E, answer: Answer) -> u8
-    ensures { result ≡ status_of answer }
+fn tell<E: Write>(errors: &mut E, answer: Answer, quiet: bool) -> u8
+    ensures status { result ≡ status_of answer }
+    ensures quiet { IsSilent answer quiet → Keeps (E.contents errors.old) (E.contents errors.new) }
 {
     match answer {
-        Answer::Clean(_) => 0,
+        Answer::Clean(report) => {
+            if !quiet {
+                let _ = write_report(errors, report);
+            }
+            0
+        }
         Answer::Fault {
             kind,
             number,

@@ -1,9 +1,13 @@
 //! The lines on standard error. What goes wrong in writing them is ignored: there is nowhere left to
 //! say so.
+ghost use Rattle.std.specs.Prelude.{OnOk};
+ghost use Rattle.std.specs.Io.KnownBytes.{Appends};
+ghost use Rattle.dump_cli.specs.Lines.{report_line};
 
+use dump_filter::Report;
 use dump_pipeline::Failure;
 use dump_text::FaultKind;
-use std::io::Write;
+use std::io::{self, Write};
 
 /// The failure's number, as users see it.
 fn code(failure: Failure) -> u8 {
@@ -17,6 +21,23 @@ fn code(failure: Failure) -> u8 {
 /// How the program is called.
 pub fn write_usage<E: Write>(errors: &mut E) {
     let _ = errors.write_all(b"usage: svndumpfilter include|exclude [OPTIONS] PREFIX...\n");
+}
+
+/// The counts of a clean run.
+pub fn write_report<E: Write>(errors: &mut E, report: Report) -> io::Result<()>
+    ensures { OnOk result (Appends (E.contents errors.old) (E.contents errors.new) (report_line report)) }
+{
+    let Report {
+        revisions_kept,
+        revisions_dropped,
+        nodes_kept,
+        nodes_dropped,
+        texts_checked,
+    } = report;
+    writeln!(
+        errors,
+        "revisions kept {revisions_kept}, dropped {revisions_dropped}; nodes kept {nodes_kept}, dropped {nodes_dropped}; texts checked {texts_checked}"
+    )
 }
 
 /// The fault of the record with this number, whose block begins at this place.

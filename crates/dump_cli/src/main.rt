@@ -1,6 +1,7 @@
 //! A filter for Subversion dump files, run over standard input and output.
 #![tactic(auto)]
 
+mod command;
 mod drive;
 mod input;
 mod lines;
@@ -8,23 +9,44 @@ mod lines;
 mod tests;
 mod words;
 
-use drive::drive;
+use drive::{drive, refuse};
+use std::env;
+use std::io::ErrorKind;
 use std::process::ExitCode;
-use std::{env, io};
+use words::Usage;
 
-fn main(rt: HostRuntime) -> io::Result<ExitCode> {
+fn main(rt: HostRuntime) -> ExitCode {
+    let status = match run_words(&rt) {
+        Ok(status) => status,
+        Err(usage) => refuse(&mut rt.stderr(), usage),
+    };
+    ExitCode::from(status)
+}
+
+// The whole program on the words and the streams of the process.
+fn run_words(rt: &HostRuntime) -> Result<u8, Usage> {
     let alloc = rt.alloc();
-    let words: Vec<String> = env::args(&rt)?.collect(alloc)?;
+    let words = read_words(rt)?;
     let mut texts = Vec::new(alloc);
     for word in &words {
-        texts.push(word.as_str())?;
+        if texts.push(word.as_str()).is_err() {
+            return Err(Usage::Memory);
+        }
     }
-    let status = drive(
+    Ok(drive(
         alloc,
         texts.as_slice(),
         &mut rt.reader(),
         &mut rt.stdout(),
         &mut rt.stderr(),
-    );
-    Ok(ExitCode::from(status))
+    ))
+}
+
+// The words of the process, where each is UTF-8.
+fn read_words(rt: &HostRuntime) -> Result<Vec<String>, Usage> {
+    match env::args(rt) {
+        Ok(words) => words.collect(rt.alloc()).map_err(|_| Usage::Memory),
+        Err(error) if error.kind() == ErrorKind::InvalidData => Err(Usage::Words),
+        Err(_) => Err(Usage::Memory),
+    }
 }

@@ -1,173 +1,162 @@
 //! The words on the command line.
-ghost use Rattle.std.specs.Prelude.{◌≡◌, ◌==◌, not, IfOk, OnErr, Err, map, nat_le};
-ghost use Rattle.std.specs.List.{list_any, list_all};
-ghost use Rattle.dump_cli.specs.Words.{AnswersTo, are_flags, are_prefixes, drop_all_flag, drop_empty_flag, empty_of, flags_before, has, has_minus_first, is_flag, meaning_of, order_of, side_of, times};
+ghost use Rattle.std.specs.Prelude.{◌≡◌, ◌≢◌, ◌≤◌, ◌⊎◌, ℕ, [], IfOk, Err, map, true, codes, unwrap_or};
+ghost use Rattle.clap.specs.Words.{all_of, found_of, kind_of, rows_of};
+ghost use Rattle.dump_pipeline.specs.PlanViews.{worker_count, window_size};
+ghost use Rattle.dump_cli.specs.Words.{AnswersTo, AreFilled, IsNumber, IsSwitch, empty_in, is_lawful, is_set, meaning_of, number_of, order_of, side_of};
 
+use crate::command::program;
+use clap::error::ErrorKind;
+use clap::{ArgMatches, Error};
+use dump_pipeline::Plan;
 use dump_rules::{Empty, Options, Side};
 use std::alloc::Global;
 
-const DROP_EMPTY: &str = "--drop-empty-revs";
-
-const DROP_ALL: &str = "--drop-all-empty-revs";
-
-const RENUMBER: &str = "--renumber-revs";
-
-const PRESERVE: &str = "--preserve-revprops";
-
-const SKIP_MISSING: &str = "--skip-missing-merge-sources";
-
-/// Why words give no options.
-#[derive(Clone, Copy, Debug, PartialEq, Eq)]
+/// Why words give no order.
+#[derive(Clone, Copy, Debug, PartialEq, Eq, thiserror::Error)]
 pub enum Usage {
-    /// They aren't the program's name, a side, flags and one or more prefixes.
+    /// They are no line that the command takes.
+    #[error("the words are no call of svndumpfilter")]
     Words,
     /// They ask for both ways to drop revisions.
+    #[error("both ways to drop revisions are asked for")]
     BothDrops,
-    /// No memory was left for the options.
+    /// No memory was left for the order.
+    #[error("no memory is left to read the words")]
     Memory,
 }
 
-/// The options that the words give. `words[0]` is the program's name; then come the side, the flags
-/// in any order, and the prefixes.
-pub fn options_of(alloc: Global, words: &[&str]) -> Result<Options, Usage>
-    ensures { AnswersTo (meaning_of (λ word. word.now) words.now) result }
+/// What the words ask for.
+#[derive(Drop)]
+pub struct Order {
+    pub options: Options,
+    pub plan: Plan,
+    /// Whether a clean run says nothing.
+    pub quiet: bool,
+}
+
+/// The order that the words give. `words[0]` is the program's name.
+pub fn options_of<'a>(alloc: Global, words: &'a [&'a str]) -> Result<Order, Usage>
+    ensures meaning { AnswersTo (meaning_of (map (λ word. word.now) words.now)) result }
+
+    // No lawful line is refused as other words.
+    ensures lawful { is_lawful (map (λ word. word.now) words.now) ≡ true → result ≢ Err Usage.Words }
 {
-    match words {
-        [_, side, rest @ ..] => {
-            let (flags, prefixes) = rest.split_at(minus_count(rest));
-            order(alloc, side, flags, prefixes)
-        }
-        _ => Err(Usage::Words),
+    let Ok(command) = program(alloc) else {
+        return Err(Usage::Memory);
+    };
+    let matches = match command.try_get_matches_from(words) {
+        Ok(matches) => matches,
+        Err(error) => return Err(refusal(&error)),
+    };
+    match matches.subcommand() {
+        Some((name, inner)) => read_order(alloc, name, inner),
+        None => Err(Usage::Words),
     }
 }
 
-fn order(alloc: Global, side: &str, flags: &[&str], prefixes: &[&str]) -> Result<Options, Usage>
-    ensures { AnswersTo (order_of (λ word. word.now) (side_of side.now) flags.now prefixes.now) result }
+// Why clap refuses the words.
+fn refusal(error: &Error) -> Usage
+    ensures memory { kind_of error.now ≡ ErrorKind.OutOfMemory → result ≡ Usage.Memory }
+    ensures either { (result ≡ Usage.Words) ⊎ (result ≡ Usage.Memory) }
 {
-    let Some(side) = side_named(side) else {
-        return Err(Usage::Words);
-    };
-    if !all_flags(flags) || !all_prefixes(prefixes) {
-        return Err(Usage::Words);
+    match error.kind() {
+        ErrorKind::OutOfMemory => Usage::Memory,
+        _ => Usage::Words,
     }
-    let Some(empty) = empty(flags) else {
+}
+
+// The order that a side and what stands behind it give.
+fn read_order(alloc: Global, name: &str, inner: &ArgMatches<'_>) -> Result<Order, Usage>
+    requires { AreFilled (rows_of (found_of inner.now)) }
+    ensures { AnswersTo (order_of (name.now, rows_of (found_of inner.now))) result }
+{
+    let Some(empty) = read_empty(inner) else {
         return Err(Usage::BothDrops);
     };
-    let renumber = contains(flags, RENUMBER);
-    let preserve = contains(flags, PRESERVE);
-    let skip_missing = contains(flags, SKIP_MISSING);
-    let Ok(texts) = as_bytes(alloc, prefixes) else {
+    let Ok(prefixes) = read_prefixes(alloc, inner) else {
         return Err(Usage::Memory);
     };
-    match Options::new(
+    let options = Options::new(
         alloc,
-        side,
-        texts.as_slice(),
+        side_named(name),
+        prefixes.as_slice(),
         empty,
-        renumber,
-        preserve,
-        skip_missing,
-    ) {
-        Ok(options) => Ok(options),
+        is_set(inner, "renumber-revs"),
+        is_set(inner, "preserve-revprops"),
+        is_set(inner, "skip-missing-merge-sources"),
+    );
+    match options {
+        Ok(options) => Ok(Order {
+            options,
+            plan: read_plan(inner),
+            quiet: is_set(inner, "quiet"),
+        }),
         Err(_) => Err(Usage::Memory),
     }
 }
 
-fn side_named(word: &str) -> Option<Side>
-    ensures { result ≡ side_of word.now }
+fn side_named(name: &str) -> Side
+    ensures { result ≡ side_of name.now }
 {
-    match word {
-        "include" => Some(Side::Include),
-        "exclude" => Some(Side::Exclude),
-        _ => None,
+    match name {
+        "include" => Side::Include,
+        _ => Side::Exclude,
     }
 }
 
-// Whether a minus sign stands first.
-fn begins_with_minus(word: &str) -> bool
-    ensures { result ≡ has_minus_first word.now }
+fn is_set(inner: &ArgMatches<'_>, name: &str) -> bool
+    requires { IsSwitch name.now (rows_of (found_of inner.now)) }
+    ensures { result ≡ is_set name.now (rows_of (found_of inner.now)) }
 {
-    matches!(word.as_bytes(), [b'-', ..])
-}
-
-// How many words begin with a minus sign, up to the first that doesn't.
-fn minus_count(words: &[&str]) -> usize
-    ensures { result ≡ flags_before (λ word. word.now) words.now }
-{
-    words
-        .iter()
-        .take_while(|word| begins_with_minus(word))
-        .count()
-}
-
-fn contains(words: &[&str], word: &str) -> bool
-    ensures { result ≡ has (λ word. word.now) word.now words.now }
-{
-    words.iter().any(|other| *other == word)
-}
-
-fn count(words: &[&str], word: &str) -> usize
-    ensures { result ≡ times (λ word. word.now) word.now words.now }
-{
-    words.iter().filter(|other| **other == word).count()
-}
-
-fn stands_once(words: &[&str], word: &str) -> bool
-    ensures { result ≡ nat_le (times (λ word. word.now) word.now words.now) 1 }
-{
-    count(words, word) <= 1
-}
-
-fn is_known(word: &str) -> bool
-    ensures { result ≡ is_flag word.now }
-{
-    word == DROP_EMPTY
-        || word == DROP_ALL
-        || word == RENUMBER
-        || word == PRESERVE
-        || word == SKIP_MISSING
-}
-
-fn all_known(words: &[&str]) -> bool
-    ensures { result ≡ list_all (λ word. is_flag word.now) words.now }
-{
-    words.iter().all(|word| is_known(word))
-}
-
-// Whether the words are flags, each at most once.
-fn all_flags(words: &[&str]) -> bool
-    ensures { result ≡ are_flags (λ word. word.now) words.now }
-{
-    all_known(words)
-        && stands_once(words, DROP_EMPTY)
-        && stands_once(words, DROP_ALL)
-        && stands_once(words, RENUMBER)
-        && stands_once(words, PRESERVE)
-        && stands_once(words, SKIP_MISSING)
-}
-
-fn any_minus(words: &[&str]) -> bool
-    ensures { result ≡ list_any (λ word. has_minus_first word.now) words.now }
-{
-    words.iter().any(|word| begins_with_minus(word))
-}
-
-// Whether the words are prefixes, and there is one.
-fn all_prefixes(words: &[&str]) -> bool
-    ensures { result ≡ are_prefixes (λ word. word.now) words.now }
-{
-    !words.is_empty() && !any_minus(words)
+    inner.get_flag(name)
 }
 
 // What the flags make of empty revisions, where they don't contradict each other.
-fn empty(flags: &[&str]) -> Option<Empty>
-    ensures { result ≡ empty_of (has (λ word. word.now) drop_empty_flag flags.now) (has (λ word. word.now) drop_all_flag flags.now) }
+fn read_empty(inner: &ArgMatches<'_>) -> Option<Empty>
+    requires drop_empty { IsSwitch (codes "drop-empty-revs") (rows_of (found_of inner.now)) }
+    requires drop_all { IsSwitch (codes "drop-all-empty-revs") (rows_of (found_of inner.now)) }
+    ensures { result ≡ empty_in (rows_of (found_of inner.now)) }
 {
-    match (contains(flags, DROP_EMPTY), contains(flags, DROP_ALL)) {
+    match (
+        is_set(inner, "drop-empty-revs"),
+        is_set(inner, "drop-all-empty-revs"),
+    ) {
         (false, false) => Some(Empty::Pad),
         (true, false) => Some(Empty::DropEmptied),
         (false, true) => Some(Empty::DropAll),
         (true, true) => None,
+    }
+}
+
+fn read_plan(inner: &ArgMatches<'_>) -> Plan
+    requires workers { IsNumber (codes "workers") 64 (rows_of (found_of inner.now)) }
+    requires window { IsNumber (codes "window") 4096 (rows_of (found_of inner.now)) }
+    ensures workers { worker_count result ≡ number_of (codes "workers") (rows_of (found_of inner.now)) }
+    ensures window { window_size result ≡ number_of (codes "window") (rows_of (found_of inner.now)) }
+{
+    let Some(plan) = Plan::new(read_number(inner, "workers"), read_number(inner, "window")) else {
+        unreachable!()
+    };
+    plan
+}
+
+fn read_number(inner: &ArgMatches<'_>, name: &str) -> usize
+    requires { (most : ℕ) × IsNumber name.now most (rows_of (found_of inner.now)) }
+    ensures value { result ≡ number_of name.now (rows_of (found_of inner.now)) }
+    ensures range { (most : ℕ) → IsNumber name.now most (rows_of (found_of inner.now)) → (1 ≤ result) × (result ≤ most) }
+{
+    let Some(number) = inner.get_one(name) else {
+        unreachable!()
+    };
+    number
+}
+
+fn read_prefixes<'a>(alloc: Global, inner: &ArgMatches<'a>) -> Result<Vec<&'a [u8]>, Usage>
+    ensures { IfOk result (λ texts. map (λ text. text.now) texts.items ≡ unwrap_or (all_of (codes "PREFIX") (rows_of (found_of inner.now))) []) }
+{
+    match inner.get_strs("PREFIX") {
+        Some(words) => as_bytes(alloc, words),
+        None => Ok(Vec::new(alloc)),
     }
 }
 

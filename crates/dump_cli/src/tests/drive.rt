@@ -70,6 +70,27 @@ fn a_dump_is_filtered(rt: HostRuntime) -> Result<(), Fail> {
     );
     assert_eq!(rt; status, 0);
     assert_eq!(rt; output.as_slice(), KEPT);
+    let line = "revisions kept 1, dropped 0; nodes kept 1, dropped 1; texts checked 0\n";
+    assert_line(&rt, errors.as_slice(), line);
+    Ok(())
+}
+
+#[test]
+fn a_quiet_run_says_nothing(rt: HostRuntime) -> Result<(), Fail> {
+    let alloc = rt.alloc();
+    let dump = dump(alloc)?;
+    let mut output = Vec::new(alloc);
+    let mut errors = Vec::new(alloc);
+    let words = ["svndumpfilter", "include", "a", "--quiet"];
+    let status = drive(
+        alloc,
+        &words,
+        &mut dump.as_slice(),
+        &mut output,
+        &mut errors,
+    );
+    assert_eq!(rt; status, 0);
+    assert_eq!(rt; output.as_slice(), KEPT);
     assert_line(&rt, errors.as_slice(), "");
     Ok(())
 }
@@ -78,13 +99,20 @@ fn a_dump_is_filtered(rt: HostRuntime) -> Result<(), Fail> {
 fn words_that_are_no_order_write_nothing(rt: HostRuntime) -> Result<(), Fail> {
     let alloc = rt.alloc();
     let both = [
-        "p",
+        "svndumpfilter",
         "include",
         "--drop-empty-revs",
         "--drop-all-empty-revs",
-        "a",
+        "/",
     ];
-    for words in [[].as_slice(), &["svndumpfilter"], &both] {
+    let window = ["svndumpfilter", "include", "--window", "0", "trunk"];
+    for words in [
+        [].as_slice(),
+        &["svndumpfilter"],
+        &["svndumpfilter", "include"],
+        &window,
+        &both,
+    ] {
         let mut output = Vec::new(alloc);
         let mut errors = Vec::new(alloc);
         let status = drive(alloc, words, &mut KEPT, &mut output, &mut errors);

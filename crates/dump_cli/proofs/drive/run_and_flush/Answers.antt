@@ -1,0 +1,17 @@
+use Rattle.std.proofs.Common.{◌≡◌, List, [], ℕ, rules, subst}
+use Rattle.std.specs.Io.KnownBytes.{append_known}
+use Rattle.dump_writer.specs.SinkStates.{lent_taken}
+use Rattle.dump_pipeline.specs.RunAnswer.{RunLeaves}
+use Rattle.dump_cli.proofs.DriveLemmas.{ran_and_told}
+use Rattle.dump_cli.proofs.drive.run_and_flush.Goals as goal
+
+pub returns-clause-ran : goal.returns-clause-ran
+returns-clause-ran g c =
+    let first = c.args.sink.now in
+    let behind = c.run_plain-answer.new.sink in
+    let last = c.flush_behind.new.sink in
+    let ran : RunLeaves c.args.options.now c.args.dump.now (append_known first.out.taken []) (lent_taken behind) c.run_plain-answer.result =
+    subst (λ (w : List ℕ). RunLeaves c.args.options.now c.args.dump.now (append_known first.out.taken w) (lent_taken behind) c.run_plain-answer.result)
+    c.requires.waiting c.run_plain-answer.ensures.answer in
+    let start : last.out.start ≡ first.out.taken = search rules in
+    ran_and_told c.args.options.now c.args.dump.now c.run_plain-answer.result c.flush_behind.result first.out.taken (lent_taken behind) last ran c.flush_behind.ensures.taken start c.flush_behind.ensures.told

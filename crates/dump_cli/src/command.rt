@@ -1,0 +1,75 @@
+//! The command that the words are read by.
+ghost use Rattle.std.specs.Prelude.{◌≡◌, IfOk, false, codes};
+ghost use Rattle.clap.specs.Words.{app_of, rule_of};
+ghost use Rattle.clap.specs.declared.builder.command.Command.TheViews.{out-Command as fields_of};
+ghost use Rattle.dump_cli.specs.CommandLine.{number, prefixes, program, side_app, switch};
+
+use clap::{Arg, ArgAction, Command, value_parser};
+use std::alloc::{AllocError, Global};
+
+// A flag without a value.
+fn switch<'a>(alloc: Global, name: &'a str) -> Arg<'a>
+    ensures rule { rule_of result ≡ switch name.entry.now }
+    ensures local { result.global ≡ false }
+{
+    Arg::new(alloc, name).long(name).action(ArgAction::SetTrue)
+}
+
+// A flag with a number, and the number that stands for none.
+fn workers<'a>(alloc: Global) -> Arg<'a>
+    ensures rule { rule_of result ≡ number (codes "workers") 64 (codes "4") }
+    ensures local { result.global ≡ false }
+{
+    Arg::new(alloc, "workers")
+        .long("workers")
+        .value_parser(value_parser!(usize).range(1..=64))
+        .default_value("4")
+}
+
+fn window<'a>(alloc: Global) -> Arg<'a>
+    ensures rule { rule_of result ≡ number (codes "window") 4096 (codes "64") }
+    ensures local { result.global ≡ false }
+{
+    Arg::new(alloc, "window")
+        .long("window")
+        .value_parser(value_parser!(usize).range(1..=4096))
+        .default_value("64")
+}
+
+fn prefixes<'a>(alloc: Global) -> Arg<'a>
+    ensures rule { rule_of result ≡ prefixes }
+    ensures local { result.global ≡ false }
+{
+    Arg::new(alloc, "PREFIX").required(true).num_args(1..)
+}
+
+// One side of the filter.
+fn side<'a>(alloc: Global, name: &'a str) -> Result<Command<'a>, AllocError>
+    ensures app { IfOk result (λ c. app_of c ≡ side_app name.entry.now) }
+    ensures local { IfOk result (λ c. (fields_of c).has_globals ≡ false) }
+{
+    Command::new(alloc, name)
+        .arg(switch(alloc, "drop-empty-revs"))?
+        .arg(switch(alloc, "drop-all-empty-revs"))?
+        .arg(switch(alloc, "renumber-revs"))?
+        .arg(switch(alloc, "preserve-revprops"))?
+        .arg(switch(alloc, "skip-missing-merge-sources"))?
+        .arg(switch(alloc, "quiet"))?
+        .arg(workers(alloc))?
+        .arg(window(alloc))?
+        .arg(prefixes(alloc))
+}
+
+/// The program's command.
+pub fn program<'a>(alloc: Global) -> Result<Command<'a>, AllocError>
+    ensures { IfOk result (λ c. app_of c ≡ program) }
+{
+    let include = side(alloc, "include")?;
+    let exclude = side(alloc, "exclude")?;
+    Command::new(alloc, "svndumpfilter")
+        .disable_help_flag(true)
+        .disable_help_subcommand(true)
+        .subcommand_required(true)
+        .subcommand(include)?
+        .subcommand(exclude)
+}
