@@ -6,6 +6,8 @@ pub mod JobSteps
 pub mod LaneSteps
 pub mod MarkLists
 pub mod Moves
+pub mod PartMoves
+pub mod PartTeeth
 pub mod PoolMarks
 pub mod PortSteps
 pub mod PortsTogether

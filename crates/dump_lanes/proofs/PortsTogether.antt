@@ -184,17 +184,18 @@ module _ {J D : Type 0} where
       ∙ (ap (λ l. sum_by weight (items_of (marks_in l))) put_is ∙ ap (sum_by weight) (items_put ps)))
 
   -- the cutter's pass takes in one worker's after another
-  pub no_jobs : (v : Hand J) → v.puts ≡ true → HasJobsOf {J = J} {D = D} [] v v
-  no_jobs v may = record { may_put = may; parts = omega arith; put = refl; taken = sym (append-nil v.taken) }
+  pub no_jobs : (v : Hand J) → v.puts ≡ true → v.takes ≡ false → HasJobsOf {J = J} {D = D} [] v v
+  no_jobs v may idle = record { may_put = may; takes_none = idle; parts = omega arith; put = refl; taken = sym (append-nil v.taken) }
 
   pub more_jobs : (ps : List (WorkerPort J D)) (p : WorkerPort J D) (old v w : Hand J) → HasJobsOf ps old v
-      → w ≡ job_rule.hand (v.parts + (view p.jobs).parts) v.puts v.put (v.taken ++ (view p.jobs).taken) → HasJobsOf (ps ++ p ∷ []) old w
+      → w ≡ job_rule.after_join v (view p.jobs) → HasJobsOf (ps ++ p ∷ []) old w
   more_jobs ps p old v w h e =
       let one = p.works.parts in
       let long = length-append ps (p ∷ []) in
-      let both : Hand J = job_rule.hand (v.parts + (view p.jobs).parts) v.puts v.put (v.taken ++ (view p.jobs).taken) in
+      let both : Hand J = job_rule.after_join v (view p.jobs) in
       let after : HasJobsOf (ps ++ p ∷ []) old both = record {
         may_put = h.may_put;
+        takes_none = h.takes_none;
         parts = let k = h.parts in omega arith;
         put = h.put;
         taken = ap (λ l. l ++ taken_of p) h.taken ∙ (append_assoc old.taken (flat_map taken_of ps) (taken_of p) ∙ ap (λ l. old.taken ++ l) (sym (flat_map-then taken_of ps p)));
@@ -205,12 +206,12 @@ module _ {J D : Type 0} where
   no_dones v may = record { may_take = may; parts = omega arith; put = sym (append-nil v.put); made = refl; got = refl; known = sym (append-nil v.known) }
 
   pub more_dones : (ps : List (WorkerPort J D)) (p : WorkerPort J D) (old v w : Desk D) → HasDonesOf ps old v
-      → w ≡ done_rule.reader (v.parts + (view p.dones).parts) (v.put ++ (view p.dones).put) v.made v.got (v.known ++ ((view p.dones).from, (view p.dones).put) ∷ [])
+      → w ≡ done_rule.after_join v (view p.dones)
       → HasDonesOf (ps ++ p ∷ []) old w
   more_dones ps p old v w h e =
       let one = p.gives.parts in
       let long = length-append ps (p ∷ []) in
-      let both : Desk D = done_rule.reader (v.parts + (view p.dones).parts) (v.put ++ (view p.dones).put) v.made v.got (v.known ++ ((view p.dones).from, (view p.dones).put) ∷ []) in
+      let both : Desk D = done_rule.after_join v (view p.dones) in
       let after : HasDonesOf (ps ++ p ∷ []) old both = record {
         may_take = refl;
         parts = let k = h.parts in omega arith;

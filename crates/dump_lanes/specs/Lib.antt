@@ -6,6 +6,7 @@ pub mod LaneEnds
 pub mod LaneMarks
 pub mod LaneRule
 pub mod LaneViews
+pub mod PartSteps
 pub mod PoolEvents
 pub mod PoolFacts
 pub mod PoolNames

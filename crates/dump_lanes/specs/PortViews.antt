@@ -60,6 +60,7 @@ module _ {J D : Type 0} where
   -- the cutter's pass for the jobs, after it has taken in these workers'
   pub record HasJobsOf (ports : List (WorkerPort J D)) (old new : Hand J) : Type 0 where
     pub may_put : new.puts ≡ true
+    pub takes_none : new.takes ≡ false
     pub parts : new.parts ≡ old.parts + length ports
     pub put : new.put ≡ old.put
     pub taken : new.taken ≡ old.taken ++ flat_map (λ (p : WorkerPort J D). (view p.jobs).taken) ports

@@ -3,11 +3,13 @@
 //! A pool is a cutter, workers, a sequencer and a writer, with the queues between them. An event is one
 //! atomic step of one of them. A run is any list of events, each of which may happen in the state that
 //! those before it led to. No law says that an event comes: a pool that stands still is sound too.
-ghost use Rattle.std.specs.Prelude.{IsTrue};
+ghost use Rattle.std.specs.Prelude.{◌≡◌, ◌+◌, List, ◌++◌, length, IsTrue};
 ghost use Rattle.dump_lanes.specs.PoolWorld.{PoolSize, World};
 ghost use Rattle.dump_lanes.specs.PoolEvents.{Event, is_enabled};
 ghost use Rattle.dump_lanes.specs.PoolFacts.{EveryRunIsSound};
 ghost use Rattle.dump_lanes.specs.PoolParts.{SharesEvent, LeavesOthers, PartsAllow};
+ghost use Rattle.dump_lanes.specs.PartSteps.{Part, AreSteps, all_put, all_taken};
+ghost use Rattle.dump_lanes.specs.declared.pool.steps.Step.{Step};
 
 /// An event is the share that each shared part has in it, and a change of what the thread that steps
 /// owns. So a part's rule can be stated of that part alone.
@@ -16,6 +18,16 @@ pub fn every_part_shares_each_event()
     ensures own { (size : PoolSize) (w : World) (event : Event) → LeavesOthers size w event }
     ensures allows { (size : PoolSize) (w : World) (event : Event) →
         IsTrue (is_enabled size w event) → PartsAllow w event }
+{}
+
+/// A queue whose steps are its part's shares of their events holds what was put less what was taken, in
+/// order, and each step moved one entry.
+pub fn every_queue_keeps_order<E>()
+    ensures order { (part : Part E) (happened : List (Step E)) (items : List E) →
+        AreSteps part happened items → all_put part happened ≡ all_taken part happened ++ items }
+    ensures one_each { (part : Part E) (happened : List (Step E)) (items : List E) →
+        AreSteps part happened items →
+        length happened ≡ length (all_put part happened) + length (all_taken part happened) }
 {}
 
 /// Whatever the threads do, in whatever order, the state of a pool with at least one worker and room

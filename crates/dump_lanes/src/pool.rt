@@ -26,6 +26,7 @@ mod queues;
 mod sequencer;
 mod settling;
 mod shares;
+mod steps;
 mod waiting;
 mod worker;
 mod writer;

@@ -1,5 +1,5 @@
 //! How the ports of a pool come together again.
-ghost use Rattle.std.specs.Prelude.{◌≡◌, ◌+◌, ◌<◌, ◌≤◌, true, All};
+ghost use Rattle.std.specs.Prelude.{◌≡◌, ◌+◌, ◌<◌, ◌≤◌, true, false, All};
 ghost use Rattle.crossbeam_queue.specs.Passes.{view, IsPassOf};
 ghost use Rattle.dump_lanes.specs.PoolNames.{name_of};
 ghost use Rattle.dump_lanes.specs.PortSides.{AreWorkersOf, IsDone, WeighsSame, all_taken, all_given};
@@ -69,7 +69,7 @@ fn gather<J: Drop, D: Drop>(
 )
     requires of_jobs { IsPassOf queues.now.jobs jobs.old }
     requires of_dones { IsPassOf queues.now.dones dones.old }
-    requires cutter { ((view jobs.old).puts ≡ true) × (0 < (view jobs.old).parts) }
+    requires cutter { ((view jobs.old).puts ≡ true) × ((view jobs.old).takes ≡ false) × (0 < (view jobs.old).parts) }
     requires sequencer { ((view dones.old).gets ≡ true) × (0 < (view dones.old).parts) }
     requires workers { All (λ p. (worker_port p).pool ≡ name_of queues.now) workers.items }
     ensures of_jobs { IsPassOf queues.now.jobs jobs.new }

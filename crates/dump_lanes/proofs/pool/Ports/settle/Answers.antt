@@ -48,7 +48,7 @@ returns-clause-jobs g c =
     let cutter = c.args.self.cutter in
     let done = all_of_map (λ (w : WorkerSide g.row.J.Denot g.row.D.Denot). IsDone w) (λ (p : WorkerPort g.row.J.Denot g.row.D.Denot). worker_port p) c.args.self.workers.items c.requires.done in
     let long = sym (length_of_map (λ (p : WorkerPort g.row.J.Denot g.row.D.Denot). worker_port p) c.args.self.workers.items) ∙ c.requires.workers.as_many in
-    settles_jobs (arc_value cutter.queues).workers (view cutter.jobs) (view c.gather.new.jobs) c.args.self.workers.items c.learn_as.ensures.rule.0 (arc_value cutter.queues).some_workers cutter.cuts c.requires.closed long done c.gather.ensures.jobs c.learn_as.ensures.rule.1
+    settles_jobs (arc_value cutter.queues).workers (view cutter.jobs) (view c.gather.new.jobs) c.args.self.workers.items c.learn_as.ensures.rule.0 (arc_value cutter.queues).some_workers cutter.cuts c.requires.closed long done c.gather.ensures.jobs c.learn_as.ensures.rule.1.0
 
 pub returns-clause-dones : goal.returns-clause-dones
 returns-clause-dones g c =

@@ -1,0 +1,16 @@
+//! The steps on a pool's queues, as the passes note them. Only the types are used: no value of them is made.
+
+/// The event of a step.
+pub enum Move {
+    Cut,
+    CutMark,
+    Take(u64),
+    Put(u64),
+    Arrive,
+}
+
+/// A step: its event, and the entry that joins or leaves the queue.
+pub struct Step<E> {
+    pub event: Move,
+    pub entry: E,
+}
