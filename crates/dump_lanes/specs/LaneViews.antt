@@ -1,6 +1,8 @@
 -- What the contracts see of a lane's ends.
-use Rattle.std.specs.Prelude.{◌≡◌, ◌≢◌, [], ◌∷◌, ◌++◌}
+use Rattle.std.specs.Prelude.{◌≡◌, ◌≢◌, ℕ, Bool, [], ◌∷◌, ◌++◌}
+use Rattle.std.specs.Result.{is_ok}
 use Rattle.crossbeam_channel.specs.Claims.{Pass, view}
+use Rattle.crossbeam_channel.specs.Ends.{sends_on, ruled_capacity}
 use Rattle.dump_lanes.specs.declared.ends.LaneIn.{LaneIn}
 use Rattle.dump_lanes.specs.declared.ends.Sent.{Sent}
 use Rattle.dump_lanes.specs.declared.ends.LaneOut.{LaneOut}
@@ -39,6 +41,14 @@ module _ {T : Type 0} where
   -- a sending end after its close
   abbrev pub sent : Sent T → Sending T
   sent l = sending_of l.pass
+
+  -- how many marks the lane has room for
+  abbrev pub places : LaneIn T → ℕ
+  places l = ruled_capacity (sends_on l.sender)
+
+  -- whether a sending end put its mark at its close
+  abbrev pub is_marked : Sent T → Bool
+  is_marked l = is_ok l.marked
 
   -- the receiving end
   abbrev pub receiving : LaneOut T → Receiving T

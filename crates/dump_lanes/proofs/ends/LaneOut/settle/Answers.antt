@@ -1,8 +1,9 @@
 use Rattle.std.proofs.Common.{◌++◌, sym, ap, ◌∙◌, ◌≡◌}
+use Rattle.std.specs.Result.{is_ok}
 use Rattle.crossbeam_channel.specs.Claims.{view}
 use Rattle.dump_lanes.specs.declared.protocol.Log.{Log}
 use Rattle.dump_lanes.specs.LaneMarks.{items_of}
-use Rattle.dump_lanes.proofs.LaneSteps.{whole_at_end}
+use Rattle.dump_lanes.proofs.LaneSteps.{whole_at_end, marked_at_end}
 use Rattle.dump_lanes.proofs.MarkLists.{is_prefix}
 use Rattle.dump_lanes.proofs.Moves.{merges, totals}
 use Rattle.dump_lanes.proofs.ends.LaneOut.settle.Goals as goal
@@ -23,5 +24,6 @@ returns g c =
     let both : put ≡ taken ++ left = ap (λ (l : Log g.row.T.Denot). l.put) (sym joined) ∙ (c.learn_as.ensures.rule.1 ∙ ap (λ (l : Log g.row.T.Denot). l.taken ++ left) joined) in
     record {
       in_order = (items_of left, is_prefix put taken left both);
-      whole = whole_at_end put taken left c.args.other.marked c.args.self.told c.args.other.puts.marks c.args.self.takes.marks both;
+      whole = whole_at_end put taken left (is_ok c.args.other.marked) c.args.self.told c.args.other.puts.marks c.args.self.takes.marks both;
+      told = marked_at_end put taken left (is_ok c.args.other.marked) c.args.self.told c.args.other.puts.marks c.args.self.takes.marks both;
     }
