@@ -11,7 +11,6 @@ pub mod PartTeeth
 pub mod PoolMarks
 pub mod PortSteps
 pub mod PortsTogether
-pub mod QueueShares
 pub mod RunCredits
 pub mod RunEnds
 pub mod RunMarks
@@ -23,4 +22,5 @@ pub mod RunWeights
 pub mod Runs
 pub mod Settling
 pub mod StopSteps
+pub mod TwoMoves
 pub mod Views

@@ -15,7 +15,6 @@ pub mod PoolPasses
 pub mod PoolWorld
 pub mod PortSides
 pub mod PortViews
-pub mod QueueShares
 pub mod SlotRow
 pub mod SlotViews
 pub mod StopRule

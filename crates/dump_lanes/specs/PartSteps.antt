@@ -13,6 +13,8 @@ event_of move.CutMark = Event.CutMark
 event_of (move.Take worker) = Event.Take worker
 event_of (move.Put worker) = Event.Put worker
 event_of move.Arrive = Event.Arrive
+event_of move.Draw = Event.Draw
+event_of move.Give = Event.Give
 
 -- a part that is a queue: what joins it in a step, what leaves it, and its share of each event
 pub record Part (E : Type 0) : Type 0 where
@@ -28,6 +30,13 @@ is_thread (Thread.Worker j) (Thread.Worker k) = j == k
 is_thread Thread.Sequencer Thread.Sequencer = true
 is_thread Thread.Writer Thread.Writer = true
 is_thread other thread = false
+
+-- whose steps are whose, where one pass is the writer's and another everyone else's
+abbrev pub two_owners : ℕ → ℕ → Thread → ℕ
+two_owners other writer Thread.Cutter = other
+two_owners other writer (Thread.Worker k) = other
+two_owners other writer Thread.Sequencer = other
+two_owners other writer Thread.Writer = writer
 
 module _ {E : Type 0} where
   -- a step turns what the queue held into what it holds: by the part's share of its event, which it allows, and with that one entry

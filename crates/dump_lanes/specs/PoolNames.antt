@@ -30,7 +30,7 @@ module _ {J D : Type 0} where
     pub of_credits : IsPassOf q.credits p.credits
     pub jobs : view p.jobs ≡ cutter_hand 128 0
     pub dones : view p.dones ≡ reader 128 [] 0 [] [] []
-    pub credits : view p.credits ≡ purse true true q.window 0 0
+    pub credits : view p.credits ≡ purse true true q.window 0 0 []
 
   -- the queues, once for each port
   pub record AreShares (q : Queues J D) (s : Shares J D) : Type 0 where

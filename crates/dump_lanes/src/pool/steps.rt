@@ -7,6 +7,8 @@ pub enum Move {
     Take(u64),
     Put(u64),
     Arrive,
+    Draw,
+    Give,
 }
 
 /// A step: its event, and the entry that joins or leaves the queue.
