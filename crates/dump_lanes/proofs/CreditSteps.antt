@@ -7,8 +7,8 @@ use lib.ListN.{get_elem?}
 use Rattle.atomic_table.proofs.Lists.{set_else}
 use Rattle.crossbeam_queue.specs.Fifo.{Pushes, Pops, Forks, Merges, Learns}
 use Rattle.dump_lanes.specs.declared.pool.credits.Purse.{Purse}
-use Rattle.dump_lanes.specs.declared.pool.steps.Move.{Move}
-use Rattle.dump_lanes.specs.declared.pool.steps.Move.TheVariants as move
+use Rattle.dump_lanes.specs.declared.steps.Move.{Move}
+use Rattle.dump_lanes.specs.declared.steps.Move.TheVariants as move
 use Rattle.dump_lanes.specs.PoolParts.{Thread, credits_share, credits_allow}
 use Rattle.dump_lanes.specs.PartSteps.{event_of, steps_of, two_owners, Knows}
 use Rattle.dump_lanes.specs.CreditRule.{put_by, taken_by, CreditStep, draw_step, back_step, IsStep, AreSteps, drawn_in, back_in, purse, after_first, after_draw, after_back, cutter_purse, writer_purse, joined_purse, spent_purse, Fits, IsCreditQueue, KnowsSteps}
@@ -31,6 +31,8 @@ one_balance old new move.CutMark one may e = absurd (omega arith)
 one_balance old new (move.Take k) one may e = absurd (omega arith)
 one_balance old new (move.Put k) one may e = absurd (omega arith)
 one_balance old new move.Arrive one may e = absurd (omega arith)
+one_balance old new move.Release one may e = absurd (omega arith)
+one_balance old new move.Write one may e = absurd (omega arith)
 one_balance old new move.Draw one may e = let a = ltb-true 0 old may in omega arith
 one_balance old new move.Give one may e = omega arith
 

@@ -12,7 +12,7 @@ use Rattle.crossbeam_queue.specs.Fifo.{Pushes, Pops, Forks, Merges, Learns}
 use Rattle.atomic_table.proofs.Lists.{at_snoc, set_else}
 use Rattle.dump_lanes.specs.declared.pool.dones.Desk.{Desk}
 use Rattle.dump_lanes.specs.declared.pool.dones.Note.{Note}
-use Rattle.dump_lanes.specs.declared.pool.steps.Step.{Step}
+use Rattle.dump_lanes.specs.declared.steps.Step.{Step}
 use Rattle.dump_lanes.specs.PoolParts.{Thread, thread_of}
 use Rattle.dump_lanes.specs.PartSteps.{event_of, is_thread, IsStep, all_put, all_taken, steps_of}
 use Rattle.dump_lanes.specs.DoneRule.{notes_of, dones_part, give_step, arrive_step, reader, sender, spent, after_give, after_arrive, after_fork, after_join, Owns, IsGone, Fits, IsDoneQueue, IsWhole}

@@ -13,7 +13,7 @@ use Rattle.atomic_table.proofs.Lists.{set_else}
 use Rattle.dump_lanes.specs.declared.pool.jobs.Hand.{Hand}
 use Rattle.dump_lanes.specs.declared.protocol.Mark.{Mark}
 use Rattle.dump_lanes.specs.declared.protocol.Mark.TheVariants.{Item, End}
-use Rattle.dump_lanes.specs.declared.pool.steps.Step.{Step}
+use Rattle.dump_lanes.specs.declared.steps.Step.{Step}
 use Rattle.dump_lanes.specs.PoolParts.{Thread, thread_of}
 use Rattle.dump_lanes.specs.PartSteps.{event_of, IsStep, is_thread, all_put, all_taken, steps_of}
 use Rattle.dump_lanes.specs.JobRule.{cut_event, jobs_part, put_step, take_step, cutter_hand, worker_hand, spent_hand, after_put, after_ends, after_take, after_fork, after_join, Fits, IsJobQueue, IsWhole, KnowsSteps}

@@ -12,7 +12,7 @@ use Rattle.dump_lanes.specs.declared.protocol.Mark.{Mark}
 use Rattle.dump_lanes.specs.declared.protocol.Mark.TheVariants.{Item, End}
 use Rattle.dump_lanes.specs.LaneEnds.{LaneEnd, IsWholeAtEnd}
 use Rattle.dump_lanes.specs.LaneMarks.{items_of, AreItemsThen, IsPutting, IsTaking, mark_if, mark_of}
-use Rattle.dump_lanes.specs.LaneRule.{log}
+use Rattle.dump_lanes.specs.LaneRule.{after_put, after_take}
 use Rattle.dump_lanes.specs.LaneViews.{lane_of, sending_of, receiving_of, told, ComesAgain}
 use Rattle.dump_lanes.proofs.MarkLists.{items_of-then_item, items_of-then_end, then_item, then_end, is_whole, is_marked}
 
@@ -40,14 +40,6 @@ module _ {T : Type 0} where
   pub ends_as : (pass : Pass (Mark T) (Log T)) (end : Told) (next : LaneEnd)
       → told end ≡ next → receiving_of pass end ≡ record (receiving_of pass end) { told = next }
   ends_as pass end next e i = record { lane = lane_of pass; taken = items_of (view pass).taken; told = e i }
-
-  -- the log after a mark was put
-  abbrev pub after_put : Log T → Mark T → Log T
-  after_put v m = log v.puts v.takes (v.put ++ m ∷ []) v.taken
-
-  -- the log after a mark was taken
-  abbrev pub after_take : Log T → Mark T → Log T
-  after_take v m = log v.puts v.takes v.put (v.taken ++ m ∷ [])
 
   pub put_item : (v w : Log T) (x : T) → w ≡ after_put v (Item x) → items_of w.put ≡ items_of v.put ++ x ∷ []
   put_item v w x e = ap (λ (l : Log T). items_of l.put) e ∙ items_of-then_item v.put x

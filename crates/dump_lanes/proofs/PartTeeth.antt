@@ -3,8 +3,8 @@ use Rattle.std.proofs.Common.{◌≡◌, ◌≢◌, ◌+◌, ℕ, true, List, []
 use Rattle.std.proofs.lemmas.List.{length-append}
 use Rattle.crossbeam_queue.specs.Fifo.{Pushes}
 use Rattle.dump_lanes.specs.declared.pool.jobs.Hand.{Hand}
-use Rattle.dump_lanes.specs.declared.pool.steps.Move.TheVariants as move
-use Rattle.dump_lanes.specs.declared.pool.steps.Step.{Step}
+use Rattle.dump_lanes.specs.declared.steps.Move.TheVariants as move
+use Rattle.dump_lanes.specs.declared.steps.Step.{Step}
 use Rattle.dump_lanes.specs.declared.protocol.Mark.{Mark}
 use Rattle.dump_lanes.specs.declared.protocol.Mark.TheVariants.{Item}
 use Rattle.dump_lanes.specs.PoolParts.{Thread, thread_of}

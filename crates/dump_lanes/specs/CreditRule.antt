@@ -3,8 +3,8 @@ use Rattle.std.specs.Prelude.{◌≡◌, ℕ, ◌+◌, Bool, true, false, List, 
 use mathlib.Core.Option.{some}
 use lib.ListN.{get_elem?}
 use Rattle.dump_lanes.specs.declared.pool.credits.Purse.{Purse}
-use Rattle.dump_lanes.specs.declared.pool.steps.Move.TheVariants as move
-use Rattle.dump_lanes.specs.declared.pool.steps.Step.{Step}
+use Rattle.dump_lanes.specs.declared.steps.Move.TheVariants as move
+use Rattle.dump_lanes.specs.declared.steps.Step.{Step}
 use Rattle.dump_lanes.specs.PoolEvents.{Event}
 use Rattle.dump_lanes.specs.PoolParts.{Thread, credits_share, credits_allow}
 use Rattle.dump_lanes.specs.PartSteps.{event_of, steps_of, two_owners, Knows}

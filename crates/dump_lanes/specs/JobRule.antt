@@ -5,9 +5,9 @@ use lib.ListN.{get_elem?}
 use Rattle.dump_lanes.specs.declared.pool.jobs.Hand.{Hand}
 use Rattle.dump_lanes.specs.declared.protocol.Mark.{Mark}
 use Rattle.dump_lanes.specs.declared.protocol.Mark.TheVariants.{Item, End}
-use Rattle.dump_lanes.specs.declared.pool.steps.Move.{Move}
-use Rattle.dump_lanes.specs.declared.pool.steps.Move.TheVariants as move
-use Rattle.dump_lanes.specs.declared.pool.steps.Step.{Step}
+use Rattle.dump_lanes.specs.declared.steps.Move.{Move}
+use Rattle.dump_lanes.specs.declared.steps.Move.TheVariants as move
+use Rattle.dump_lanes.specs.declared.steps.Step.{Step}
 use Rattle.dump_lanes.specs.PoolEvents.{Event}
 use Rattle.dump_lanes.specs.PoolParts.{Thread, jobs_share, jobs_allow}
 use Rattle.dump_lanes.specs.PartSteps.{event_of, Part, AreSteps, all_put, all_taken, steps_of}

@@ -1,8 +1,8 @@
 -- How a queue of a pool comes to hold what it holds: each step on it is its part's share of one event.
 use Rattle.std.specs.Prelude.{◌≡◌, ◌≢◌, ℕ, ◌==◌, Bool, true, false, List, [], ◌∷◌, ◌++◌, filter, IsTrue}
-use Rattle.dump_lanes.specs.declared.pool.steps.Move.{Move}
-use Rattle.dump_lanes.specs.declared.pool.steps.Move.TheVariants as move
-use Rattle.dump_lanes.specs.declared.pool.steps.Step.{Step}
+use Rattle.dump_lanes.specs.declared.steps.Move.{Move}
+use Rattle.dump_lanes.specs.declared.steps.Move.TheVariants as move
+use Rattle.dump_lanes.specs.declared.steps.Step.{Step}
 use Rattle.dump_lanes.specs.PoolEvents.{Event}
 use Rattle.dump_lanes.specs.PoolParts.{Thread, thread_of}
 
@@ -15,6 +15,8 @@ event_of (move.Put worker) = Event.Put worker
 event_of move.Arrive = Event.Arrive
 event_of move.Draw = Event.Draw
 event_of move.Give = Event.Give
+event_of move.Release = Event.Release
+event_of move.Write = Event.Write
 
 -- a part that is a queue: what joins it in a step, what leaves it, and its share of each event
 pub record Part (E : Type 0) : Type 0 where

@@ -9,7 +9,7 @@ ghost use Rattle.dump_lanes.specs.PoolEvents.{Event, is_enabled};
 ghost use Rattle.dump_lanes.specs.PoolFacts.{EveryRunIsSound};
 ghost use Rattle.dump_lanes.specs.PoolParts.{SharesEvent, LeavesOthers, PartsAllow};
 ghost use Rattle.dump_lanes.specs.PartSteps.{Part, AreSteps, all_put, all_taken};
-ghost use Rattle.dump_lanes.specs.declared.pool.steps.Step.{Step};
+ghost use Rattle.dump_lanes.specs.declared.steps.Step.{Step};
 
 /// An event is the share that each shared part has in it, and a change of what the thread that steps
 /// owns. So a part's rule can be stated of that part alone.

@@ -75,6 +75,7 @@ pub mod laws;
 mod pool;
 mod protocol;
 mod slots;
+mod steps;
 mod stop;
 #[cfg(test)]
 mod tests;

@@ -26,7 +26,6 @@ mod queues;
 mod sequencer;
 mod settling;
 mod shares;
-mod steps;
 mod waiting;
 mod worker;
 mod writer;

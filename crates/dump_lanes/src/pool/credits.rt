@@ -6,7 +6,7 @@
 //! 3. The cutter's pass knows the draws, of which the history has just those; the writer's those that it gave back.
 //! 4. So those that were there at first and came back are those that were drawn and those that are free.
 //! 5. Where the two passes meet again, they know all steps, and no more were drawn than were there and came back.
-use super::steps::Step;
+use crate::steps::Step;
 use crossbeam_queue::RuledArrayQueue;
 use crossbeam_queue::protocol::{Join, Lesson, Outcome, Protocol, Split};
 use std::collections::LinkedList;

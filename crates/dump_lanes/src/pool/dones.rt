@@ -6,8 +6,8 @@
 //! 3. A worker has one pass, which knows what it put itself, in order; one pass alone takes, and knows all that was taken.
 //! 4. A pass has parts, 128 in all. A pass that takes in a worker's keeps that worker's list beside its index.
 //! 5. A pass with all parts learns that the workers together put each note as often as it was taken or is left.
-use super::steps::Step;
 use crate::protocol::Mark;
+use crate::steps::Step;
 use crossbeam_queue::RuledArrayQueue;
 use crossbeam_queue::protocol::{Join, Lesson, Outcome, Protocol, Split};
 use std::collections::LinkedList;

@@ -7,8 +7,8 @@
 //! 4. A pass has parts, 128 in all. A joined pass has the parts of both, and the steps of both.
 //! 5. A pass with all parts learns that the passes together took each mark as often as it was put and is not left, and
 //!    that it knows each thread's steps in the history.
-use super::steps::Step;
 use crate::protocol::Mark;
+use crate::steps::Step;
 use crossbeam_queue::RuledArrayQueue;
 use crossbeam_queue::protocol::{Join, Lesson, Outcome, Protocol, Split};
 use std::collections::LinkedList;

@@ -21,7 +21,7 @@ returns g c =
     let joined = c.absorb.ensures.rule in
     let put = (view c.args.other.pass).put in
     let taken = (view c.args.self.pass).taken in
-    let both : put ≡ taken ++ left = ap (λ (l : Log g.row.T.Denot). l.put) (sym joined) ∙ (c.learn_as.ensures.rule.1 ∙ ap (λ (l : Log g.row.T.Denot). l.taken ++ left) joined) in
+    let both : put ≡ taken ++ left = ap (λ (l : Log g.row.T.Denot). l.put) (sym joined) ∙ (c.learn_as.ensures.rule.1.0 ∙ ap (λ (l : Log g.row.T.Denot). l.taken ++ left) joined) in
     record {
       in_order = (items_of left, is_prefix put taken left both);
       whole = whole_at_end put taken left (is_ok c.args.other.marked) c.args.self.told c.args.other.puts.marks c.args.self.takes.marks both;

@@ -1,4 +1,4 @@
-//! The steps on a pool's queues, as the passes note them. Only the types are used: no value of them is made.
+//! The steps on what the threads of a pool share, as their passes note them. Only the types are used: no value of them is made.
 
 /// The event of a step.
 pub enum Move {
@@ -9,6 +9,8 @@ pub enum Move {
     Arrive,
     Draw,
     Give,
+    Release,
+    Write,
 }
 
 /// A step: its event, and the entry that joins or leaves the queue.
