@@ -24,7 +24,7 @@ back_is_step : (free : ℕ) → IsStep free back_step (free + 1)
 back_is_step free = record { one_credit = refl; allowed = refl; share = refl }
 
 -- one step: the credits that were free and came are those that went and are free
-one_balance : (old new : ℕ) (m : Move) → put_by (event_of m) + taken_by (event_of m) ≡ 1 → IsTrue (credits_allow old (event_of m))
+pub one_balance : (old new : ℕ) (m : Move) → put_by (event_of m) + taken_by (event_of m) ≡ 1 → IsTrue (credits_allow old (event_of m))
     → new ≡ credits_share old (event_of m) → old + put_by (event_of m) ≡ taken_by (event_of m) + new
 one_balance old new move.Cut one may e = absurd (omega arith)
 one_balance old new move.CutMark one may e = absurd (omega arith)

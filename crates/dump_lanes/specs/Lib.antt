@@ -17,5 +17,6 @@ pub mod PortSides
 pub mod PortViews
 pub mod SlotRow
 pub mod SlotViews
+pub mod StepMoves
 pub mod StopRule
 pub mod StopSeats

@@ -9,6 +9,7 @@ ghost use Rattle.dump_lanes.specs.PoolEvents.{Event, is_enabled};
 ghost use Rattle.dump_lanes.specs.PoolFacts.{EveryRunIsSound};
 ghost use Rattle.dump_lanes.specs.PoolParts.{SharesEvent, LeavesOthers, PartsAllow};
 ghost use Rattle.dump_lanes.specs.PartSteps.{Part, AreSteps, all_put, all_taken};
+ghost use Rattle.dump_lanes.specs.StepMoves.{CreditsMoveOne, JobsMoveOne, DonesMoveOne, PiecesMoveOne, WordOnlyRises, NoCutIsUnnoted};
 ghost use Rattle.dump_lanes.specs.declared.steps.Step.{Step};
 
 /// An event is the share that each shared part has in it, and a change of what the thread that steps
@@ -28,6 +29,17 @@ pub fn every_queue_keeps_order<E>()
     ensures one_each { (part : Part E) (happened : List (Step E)) (items : List E) →
         AreSteps part happened items →
         length happened ≡ length (all_put part happened) + length (all_taken part happened) }
+{}
+
+/// A step on a shared part is one of two threads' own, and moves one entry: in at the back, or out at the front.
+/// A raise puts the stop word up, and nothing takes it down. And no step goes unnoted.
+pub fn every_step_moves_one_entry<T>()
+    ensures credits { CreditsMoveOne }
+    ensures jobs { JobsMoveOne T }
+    ensures dones { DonesMoveOne T }
+    ensures pieces { PiecesMoveOne T }
+    ensures word { WordOnlyRises }
+    ensures noted { NoCutIsUnnoted T }
 {}
 
 /// Whatever the threads do, in whatever order, the state of a pool with at least one worker and room
