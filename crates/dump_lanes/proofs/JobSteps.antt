@@ -31,11 +31,11 @@ module _ {T : Type 0} where
   taken_weight weight v = sum_by weight v.taken
 
   -- the cutter's step, and a worker's, is the jobs' share of its event
-  cut_is_step : (x : Mark T) (items : List (Mark T)) → IsStep jobs_part items (put_step x) (items ++ x ∷ [])
+  pub cut_is_step : (x : Mark T) (items : List (Mark T)) → IsStep jobs_part items (put_step x) (items ++ x ∷ [])
   cut_is_step (Item x) items = record { one_entry = refl; allowed = refl; share = refl; in_turn = refl }
   cut_is_step End items = record { one_entry = refl; allowed = refl; share = refl; in_turn = refl }
 
-  take_is_step : (k : ℕ) (x : Mark T) (items : List (Mark T)) → IsStep jobs_part (x ∷ items) (take_step k x) items
+  pub take_is_step : (k : ℕ) (x : Mark T) (items : List (Mark T)) → IsStep jobs_part (x ∷ items) (take_step k x) items
   take_is_step k x items = record {
     one_entry = refl;
     allowed = lt-ltb 0 (length (x ∷ items)) (omega arith);

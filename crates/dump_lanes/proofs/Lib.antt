@@ -17,6 +17,7 @@ pub mod RunMarks
 pub mod RunOrder
 pub mod RunPlaces
 pub mod RunSlots
+pub mod RunSteps
 pub mod RunStop
 pub mod RunWeights
 pub mod Runs

@@ -21,17 +21,17 @@ use Rattle.dump_lanes.proofs.TwoMoves.{all_own, fork_left, fork_right, fork_else
 use Rattle.dump_lanes.proofs.Views.{AllViews, AllViews-set, AllViews-one, AllViews-more, within, set_long}
 
 module _ {T : Type 0} where
-  abbrev release : T → Step T
+  abbrev pub release : T → Step T
   release x = record { event = move.Release; entry = x }
 
-  abbrev write : T → Step T
+  abbrev pub write : T → Step T
   write x = record { event = move.Write; entry = x }
 
   -- the sender's step, and the receiver's, is the lane's share of its event
-  release_is_step : (x : T) (items : List T) → IsStep lane_part items (release x) (items ++ x ∷ [])
+  pub release_is_step : (x : T) (items : List T) → IsStep lane_part items (release x) (items ++ x ∷ [])
   release_is_step x items = record { one_entry = refl; allowed = refl; share = refl; in_turn = refl }
 
-  write_is_step : (x : T) (items : List T) → IsStep lane_part (x ∷ items) (write x) items
+  pub write_is_step : (x : T) (items : List T) → IsStep lane_part (x ∷ items) (write x) items
   write_is_step x items = record {
     one_entry = refl;
     allowed = lt-ltb 0 (length (x ∷ items)) (omega arith);

@@ -59,10 +59,10 @@ look_share up Event.Write e = refl
 look_share up Event.Give e = refl
 look_share up Event.Shut e = refl
 
-raise_is_step : (was : Bool) → IsStep was deed.Raise true
+pub raise_is_step : (was : Bool) → IsStep was deed.Raise true
 raise_is_step was = record { event = Event.WriterRaises; named = refl; share = raise_share was; says = refl }
 
-look_is_step : (up found : Bool) → found ≡ up → IsStep up (deed.Look found) up
+pub look_is_step : (up found : Bool) → found ≡ up → IsStep up (deed.Look found) up
 look_is_step up found e = record {
   event = Event.Look;
   named = refl;

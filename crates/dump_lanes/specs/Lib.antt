@@ -15,6 +15,7 @@ pub mod PoolPasses
 pub mod PoolWorld
 pub mod PortSides
 pub mod PortViews
+pub mod RunSteps
 pub mod SlotRow
 pub mod SlotViews
 pub mod StepMoves

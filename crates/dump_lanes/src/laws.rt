@@ -9,6 +9,7 @@ ghost use Rattle.dump_lanes.specs.PoolEvents.{Event, is_enabled};
 ghost use Rattle.dump_lanes.specs.PoolFacts.{EveryRunIsSound};
 ghost use Rattle.dump_lanes.specs.PoolParts.{SharesEvent, LeavesOthers, PartsAllow};
 ghost use Rattle.dump_lanes.specs.PartSteps.{Part, AreSteps, all_put, all_taken};
+ghost use Rattle.dump_lanes.specs.RunSteps.{EveryRunMakesSteps};
 ghost use Rattle.dump_lanes.specs.StepMoves.{CreditsMoveOne, JobsMoveOne, DonesMoveOne, PiecesMoveOne, WordOnlyRises, NoCutIsUnnoted};
 ghost use Rattle.dump_lanes.specs.declared.steps.Step.{Step};
 
@@ -40,6 +41,12 @@ pub fn every_step_moves_one_entry<T>()
     ensures pieces { PiecesMoveOne T }
     ensures word { WordOnlyRises }
     ensures noted { NoCutIsUnnoted T }
+{}
+
+/// Every run makes on each shared part, one by one, steps that the part's rule allows: a history with a step for
+/// each event of the run on that part, which leads to what the part is after the run.
+pub fn every_run_makes_steps()
+    ensures { EveryRunMakesSteps }
 {}
 
 /// Whatever the threads do, in whatever order, the state of a pool with at least one worker and room
