@@ -15,9 +15,9 @@ use Rattle.dump_lanes.specs.declared.pool.dones.Note.{Note}
 use Rattle.dump_lanes.specs.declared.steps.Step.{Step}
 use Rattle.dump_lanes.specs.PoolParts.{Thread, thread_of}
 use Rattle.dump_lanes.specs.PartSteps.{event_of, is_thread, IsStep, all_put, all_taken, steps_of}
-use Rattle.dump_lanes.specs.DoneRule.{notes_of, dones_part, give_step, arrive_step, reader, sender, spent, after_give, after_arrive, after_fork, after_join, Owns, IsGone, Fits, IsDoneQueue, IsWhole}
+use Rattle.dump_lanes.specs.DoneRule.{notes_of, dones_part, give_step, arrive_step, reader, sender, spent, after_give, after_arrive, after_fork, after_join, Owns, IsGone, Fits, IsDoneQueue, IsWhole, KnowsSteps}
 use Rattle.dump_lanes.proofs.PartMoves.{step_other, forked, forked_goes, forked_stays, forked_to, forked_had, forked_kept, joined as joined_owner, joined_is, joined_kept, joined_had, joined_left, joined_stays, joined_comes, worker_or_other, knows_step, knows_else, knows_fork_left, knows_fork_else, knows_fork_new, knows_join_both, knows_join_else, knows_join_spent}
-use Rattle.dump_lanes.proofs.Views.{AllViews, AllViews-set, AllViews-one, AllViews-more, within, set_long, sum_by-set, sum_by-alone}
+use Rattle.dump_lanes.proofs.Views.{AllViews, AllViews-set, AllViews-one, AllViews-more, within, set_long, at_some, sum_by-set, sum_by-least, sum_by-alone}
 
 same_either_way : (b : Bool) (x : Option ℕ) → cond b x x ≡ x
 same_either_way true x = refl
@@ -415,16 +415,34 @@ module _ {T : Type 0} where
         fits = AllViews-set Now joined other spent gone (λ j y apart e. now j y e apart);
       }
 
-  -- a pass that takes and has all parts learns what was put and what is left
-  pub learns : (pass : ℕ) (v : Desk T) → v.gets ≡ true → v.parts ≡ 128 → Learns IsDoneQueue pass v (λ items. IsWhole v items)
+  -- where a pass has all parts, the others have none
+  alone : (views : List (Desk T)) (pass j : ℕ) (v u : Desk T) → get_elem? views pass ≡ some v → get_elem? views j ≡ some u → j ≢ pass
+      → sum_by parts_of views ≡ v.parts → u.parts ≡ 0
+  alone views pass j v u at e ne all =
+      let s = sum_by-set parts_of views pass v spent at in
+      let l = sum_by-least parts_of (set views pass spent) j u (set_else views pass j spent ne ∙ e) in omega arith
+
+  -- a pass that takes and has all parts learns what was put and what is left, and of each thread it knows all steps
+  pub learns : (pass : ℕ) (v : Desk T) → v.gets ≡ true → v.parts ≡ 128 → Learns IsDoneQueue pass v (λ items. IsWhole v items × KnowsSteps v items)
   learns pass v may all items views h at =
       let mine = (h.fits pass v at).gets may in
       let idle : (weight : Note T → ℕ) → AllViews (λ pass u. u.parts ≡ 0 → put_by weight u ≡ 0) views =
       λ weight j u e no. ap (λ l. sum_by weight l) ((h.fits j u e).spends no) in
-      record {
+      let owns : (t : Thread) → h.owner t ≡ pass = λ t.
+      dite (ℕ_discrete (h.owner t) pass) (λ e. e) (λ ne.
+      let there = at_some views (h.owner t) (h.owned t) in
+      let none = alone views pass (h.owner t) v there.0 at there.1 ne (h.parts ∙ sym all) in
+      absurd ((h.owns (h.owner t) there.0 there.1).spends none t refl)) in
+      let knows : KnowsSteps v items = record {
+        happened = h.happened;
+        steps = h.steps;
+        each = λ t. (h.owns pass v at).knows.own t (owns t);
+        got_is = mine.got_is ∙ h.got_is;
+      } in
+      let whole : IsWhole v items = record {
         log = h.log;
         in_order = h.in_order ∙ ap (λ l. l ++ items) (sym mine.got_is);
         weighs = λ weight. sym (sum_by-alone parts_of (put_by weight) views pass v (idle weight) at (h.parts ∙ sym all)) ∙ h.put weight;
         to_come = λ k le. sym (mine.to_come k le).put_is;
         knows = λ i k put a. (mine.knows i k put a).1.put_is;
-      }
+      } in (whole, knows)

@@ -117,3 +117,10 @@ module _ {T : Type 0} where
     pub weighs : (weight : Note T → ℕ) → sum_by weight v.put ≡ sum_by weight log
     pub to_come : (worker : ℕ) → v.made ≤ worker → notes_of worker log ≡ []
     pub knows : (i worker : ℕ) (put : List (Note T)) → get_elem? v.known i ≡ some (worker, put) → put ≡ notes_of worker log
+
+  -- and of each thread it knows all steps
+  pub record KnowsSteps (v : Desk T) (items : List (Note T)) : Type 0 where
+    pub happened : List (Step (Note T))
+    pub steps : AreSteps dones_part happened items
+    pub each : (thread : Thread) → steps_of thread v.steps ≡ steps_of thread happened
+    pub got_is : v.got ≡ all_taken dones_part happened

@@ -14,6 +14,7 @@ pub mod PoolParts
 pub mod PoolPasses
 pub mod PoolWorld
 pub mod PortSides
+pub mod PortSteps
 pub mod PortViews
 pub mod RunSteps
 pub mod SlotRow

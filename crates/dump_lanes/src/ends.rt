@@ -3,7 +3,6 @@ ghost use Rattle.std.specs.Prelude.{◌≡◌, [], ◌∷◌, ◌++◌, IfErr, O
 ghost use Rattle.std.specs.Result.{is_ok};
 ghost use Rattle.crossbeam_channel.specs.Claims.{IsSeatAt, view};
 ghost use Rattle.crossbeam_channel.specs.Ends.{sends_on, receives_on};
-ghost use Rattle.dump_lanes.specs.LaneEnds.{Settles};
 ghost use Rattle.dump_lanes.specs.LaneMarks.{IsPutting, IsTaking, mark_if, mark_of};
 
 use crate::protocol::{InOrder, Log, Mark, Puts, Roles, Takes, Total};
@@ -102,7 +101,7 @@ impl<T: Drop> LaneIn<T> {
 }
 
 impl<T: Drop> LaneOut<T> {
-    ghost use Rattle.dump_lanes.specs.LaneViews.{receiving, sent, is_marked, TakeStep};
+    ghost use Rattle.dump_lanes.specs.LaneViews.{receiving, sent, Settles, TakeStep};
 
     /// Takes the item at the front, and waits for one. After `Closed` or `Lost` the answer stays.
     pub fn take<R: Wait>(&mut self, rt: &R) -> Taken<T>
@@ -126,11 +125,11 @@ impl<T: Drop> LaneOut<T> {
         }
     }
 
-    /// Shows that what was taken is what was put, and that the end was told only where its mark was put,
-    /// and drops both ends.
+    /// Shows that what was taken is what was put, that the end was told only where its mark was put, and that
+    /// the ends together made just the steps of one history, and drops both ends.
     pub fn settle(self, other: Sent<T>)
         requires { (receiving self).lane ≡ (sent other).lane }
-        ensures { Settles (receiving self) (sent other) (is_marked other) }
+        ensures { Settles self other }
     {
         let LaneOut {
             receiver,

@@ -5,7 +5,8 @@
 //!    from the empty queue to what the queue holds, and has of each thread just the steps that its pass made.
 //! 3. A worker has one pass, which knows what it put itself, in order; one pass alone takes, and knows all that was taken.
 //! 4. A pass has parts, 128 in all. A pass that takes in a worker's keeps that worker's list beside its index.
-//! 5. A pass with all parts learns that the workers together put each note as often as it was taken or is left.
+//! 5. A pass with all parts learns that the workers together put each note as often as it was taken or is left, and that
+//!    it knows each thread's steps in the history.
 use crate::protocol::Mark;
 use crate::steps::Step;
 use crossbeam_queue::RuledArrayQueue;
@@ -99,7 +100,7 @@ impl<T> Lesson<Note<T>, Desk<T>> for TakesNote {
 pub struct AllNotes;
 
 impl<T> Lesson<Note<T>, Desk<T>> for AllNotes {
-    ghost use Rattle.dump_lanes.specs.DoneRule.{IsWhole};
+    ghost use Rattle.dump_lanes.specs.DoneRule.{IsWhole, KnowsSteps};
 
-    ghost fact = { λ v items. IsWhole v items };
+    ghost fact = { λ v items. IsWhole v items × KnowsSteps v items };
 }
