@@ -7,7 +7,6 @@ pub mod LaneSteps
 pub mod MarkLists
 pub mod Moves
 pub mod PartMoves
-pub mod PartTeeth
 pub mod PoolMarks
 pub mod PortSteps
 pub mod PortsTogether
@@ -22,6 +21,7 @@ pub mod RunStop
 pub mod RunWeights
 pub mod Runs
 pub mod Settling
+pub mod StepMoves
 pub mod StopSteps
 pub mod TwoMoves
 pub mod Views

@@ -5,7 +5,7 @@ use Rattle.dump_lanes.specs.declared.pool.dones.Note.{Note}
 use Rattle.dump_lanes.specs.declared.protocol.Mark.{Mark}
 use Rattle.dump_lanes.specs.declared.protocol.Mark.TheVariants.{Item, End}
 use Rattle.dump_lanes.specs.declared.steps.Step.{Step}
-use Rattle.dump_lanes.specs.declared.stop.protocol.Deed.TheVariants as deed
+use Rattle.dump_lanes.specs.declared.stop.protocol.WordStep.TheVariants as kind
 use Rattle.dump_lanes.specs.PoolEvents.{Event, is_enabled, after_event, IsRun}
 use Rattle.dump_lanes.specs.PoolParts.{credits_share, credits_allow, jobs_share, jobs_allow, dones_share, lane_share, lane_allow, stop_share, cutter_puts, worker_puts, sequencer_puts}
 use Rattle.dump_lanes.specs.PoolWorld.{PoolSize, Entry, World, opening, hand_of}
@@ -142,9 +142,9 @@ word_step up Event.WriterNotes before h = h
 word_step up Event.Release before h = h
 word_step up Event.Write before h = h
 word_step up Event.Give before h = h
-word_step up Event.SequencerRaises before h = (deed.Raise ∷ h.0, (up, raise_is_step up, h.1), (refl, h.2))
-word_step up Event.WriterRaises before h = (deed.Raise ∷ h.0, (up, raise_is_step up, h.1), (refl, h.2))
-word_step up Event.Look before h = (deed.Look up ∷ h.0, (up, look_is_step up up refl, h.1), (refl, h.2))
+word_step up Event.SequencerRaises before h = (kind.Raise ∷ h.0, (up, raise_is_step up, h.1), (refl, h.2))
+word_step up Event.WriterRaises before h = (kind.Raise ∷ h.0, (up, raise_is_step up, h.1), (refl, h.2))
+word_step up Event.Look before h = (kind.Look up ∷ h.0, (up, look_is_step up up refl, h.1), (refl, h.2))
 word_step up Event.Shut before h = h
 
 step_makes : (size : PoolSize) (w : World) (event : Event) (before : List Event) → IsTrue (is_enabled size w event)

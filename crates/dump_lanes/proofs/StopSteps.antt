@@ -7,8 +7,8 @@ use mathlib.Core.Logic.{dite}
 use native.Mathlib.Decide.{ℕ_discrete}
 use Rattle.atomic_table.specs.Table.{State, Me, Allows, Splits, Joins, opening, keeps}
 use Rattle.atomic_table.proofs.Lists.{set_here, set_else, at_longer}
-use Rattle.dump_lanes.specs.declared.stop.protocol.Deed.{Deed}
-use Rattle.dump_lanes.specs.declared.stop.protocol.Deed.TheVariants as deed
+use Rattle.dump_lanes.specs.declared.stop.protocol.WordStep.{WordStep}
+use Rattle.dump_lanes.specs.declared.stop.protocol.WordStep.TheVariants as kind
 use Rattle.dump_lanes.specs.declared.stop.protocol.Marks.{Marks}
 use Rattle.dump_lanes.specs.PoolEvents.{Event}
 use Rattle.dump_lanes.specs.PoolParts.{stop_share}
@@ -21,11 +21,11 @@ share_of v = v.share
 abbrev raised_by : Marks → ℕ
 raised_by v = word_of v.raised
 
-abbrev made_by : (Deed → ℕ) → Marks → ℕ
+abbrev made_by : (WordStep → ℕ) → Marks → ℕ
 made_by weight v = sum_by weight v.steps
 
 -- a raise, and a look, is the word's share of its event
-raise_share : (was : Bool) (event : Event) → IsTrue (is_event deed.Raise event) → true ≡ stop_share was event
+raise_share : (was : Bool) (event : Event) → IsTrue (is_event kind.Raise event) → true ≡ stop_share was event
 raise_share was Event.SequencerRaises e = refl
 raise_share was Event.WriterRaises e = refl
 raise_share was Event.Draw e = absurd (true≢false (sym e))
@@ -42,7 +42,7 @@ raise_share was Event.Give e = absurd (true≢false (sym e))
 raise_share was Event.Look e = absurd (true≢false (sym e))
 raise_share was Event.Shut e = absurd (true≢false (sym e))
 
-look_share : (up : Bool) (event : Event) → IsTrue (is_event (deed.Look up) event) → up ≡ stop_share up event
+look_share : (up : Bool) (event : Event) → IsTrue (is_event (kind.Look up) event) → up ≡ stop_share up event
 look_share up Event.Look e = refl
 look_share up Event.SequencerRaises e = absurd (true≢false (sym e))
 look_share up Event.WriterRaises e = absurd (true≢false (sym e))
@@ -59,14 +59,14 @@ look_share up Event.Write e = refl
 look_share up Event.Give e = refl
 look_share up Event.Shut e = refl
 
-pub raise_is_step : (was : Bool) → IsStep was deed.Raise true
+pub raise_is_step : (was : Bool) → IsStep was kind.Raise true
 raise_is_step was = record { event = Event.WriterRaises; named = refl; share = raise_share was; says = refl }
 
-pub look_is_step : (up found : Bool) → found ≡ up → IsStep up (deed.Look found) up
+pub look_is_step : (up found : Bool) → found ≡ up → IsStep up (kind.Look found) up
 look_is_step up found e = record {
   event = Event.Look;
   named = refl;
-  share = λ event is. look_share up event (subst (λ b. IsTrue (is_event (deed.Look b) event)) e is);
+  share = λ event is. look_share up event (subst (λ b. IsTrue (is_event (kind.Look b) event)) e is);
   says = e;
 }
 
@@ -130,7 +130,7 @@ looks slots id me shared s h long at small =
     let w : Marks = after_look me.0 (n == 1) in
     let e : n ≡ word_of h.up = ap (λ l. slice_index l 0) h.word in
     let mine = h.fits id me.0 at in
-    let step : Deed = deed.Look (n == 1) in
+    let step : WordStep = kind.Look (n == 1) in
     let whole : SeesOwn w = λ share seen. own s.views id me.0 h.up at (h.shares ∙ sym share) h.fits (h.someone (seen_up h.up n e seen)) in
     let told : HasLooked me n (w, me.1) = record {
       view = refl;
@@ -189,13 +189,13 @@ raises slots id me shared s h long at small =
     let after : IsStop record { words = set s.words 0 1; homes = s.homes; views = set s.views id w } = record {
       up = true;
       word = ap (λ l. set l 0 1) h.word;
-      happened = deed.Raise ∷ h.happened;
+      happened = kind.Raise ∷ h.happened;
       steps = (h.up, raise_is_step h.up, h.steps);
       made = λ weight.
           let k = sum_by-set (made_by weight) s.views id me.0 w at in
           let all = h.made weight in
-          let a = sum_by-cons weight deed.Raise me.0.steps in
-          let b = sum_by-cons weight deed.Raise h.happened in omega arith;
+          let a = sum_by-cons weight kind.Raise me.0.steps in
+          let b = sum_by-cons weight kind.Raise h.happened in omega arith;
       someone = λ up. record { seat = id; view = w; stands = set_here s.views id w (within s.views id me.0 at); raised = refl };
       shares = let k = sum_by-set share_of s.views id me.0 w at in let all = h.shares in omega arith;
       fits = AllViews-set (Fits true) s.views id w mine (λ j u other e. record { raises = λ r. refl; sees = λ r. refl; spends = (h.fits j u e).spends });

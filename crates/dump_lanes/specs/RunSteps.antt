@@ -4,7 +4,7 @@ use Rattle.dump_lanes.specs.declared.pool.dones.Note.{Note}
 use Rattle.dump_lanes.specs.declared.protocol.Mark.{Mark}
 use Rattle.dump_lanes.specs.declared.protocol.Mark.TheVariants.{Item, End}
 use Rattle.dump_lanes.specs.declared.steps.Step.{Step}
-use Rattle.dump_lanes.specs.declared.stop.protocol.Deed.{Deed}
+use Rattle.dump_lanes.specs.declared.stop.protocol.WordStep.{WordStep}
 use Rattle.dump_lanes.specs.PoolEvents.{Event, IsRun}
 use Rattle.dump_lanes.specs.PoolWorld.{PoolSize, Entry, World, opening}
 use Rattle.dump_lanes.specs.PartSteps.{event_of, AreSteps}
@@ -62,7 +62,7 @@ events_of [] = []
 events_of (s ∷ before) = event_of s.event ∷ events_of before
 
 -- steps on the stop word, and their events
-abbrev pub AreEventsOf : List Deed → List Event → Type 0
+abbrev pub AreEventsOf : List WordStep → List Event → Type 0
 AreEventsOf [] [] = ⊤
 AreEventsOf [] (event ∷ events) = ⊥
 AreEventsOf (step ∷ steps) [] = ⊥
@@ -89,7 +89,7 @@ LaneAt before lane =
 
 abbrev pub WordAt : List Event → Bool → Type 0
 WordAt before up =
-    (happened : List Deed) × AreWordSteps happened up × AreEventsOf happened (events_on on_word before)
+    (happened : List WordStep) × AreWordSteps happened up × AreEventsOf happened (events_on on_word before)
 
 -- what a run with these events, the last one first, has made of each part
 pub record MakesSteps (size : PoolSize) (before : List Event) (w : World) : Type 0 where

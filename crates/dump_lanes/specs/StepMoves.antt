@@ -5,8 +5,8 @@ use Rattle.dump_lanes.specs.declared.pool.dones.Note.{Note}
 use Rattle.dump_lanes.specs.declared.pool.jobs.Hand.{Hand}
 use Rattle.dump_lanes.specs.declared.protocol.Mark.{Mark}
 use Rattle.dump_lanes.specs.declared.steps.Step.{Step}
-use Rattle.dump_lanes.specs.declared.stop.protocol.Deed.{Deed}
-use Rattle.dump_lanes.specs.declared.stop.protocol.Deed.TheVariants as deed
+use Rattle.dump_lanes.specs.declared.stop.protocol.WordStep.{WordStep}
+use Rattle.dump_lanes.specs.declared.stop.protocol.WordStep.TheVariants as kind
 use Rattle.dump_lanes.specs.PoolParts.{Thread, thread_of}
 use Rattle.dump_lanes.specs.PartSteps.{event_of, IsStep}
 use Rattle.dump_lanes.specs.CreditRule.{CreditStep, IsStep as IsCreditStep}
@@ -50,8 +50,8 @@ CreditsMoveOne = (old new : ℕ) (s : CreditStep) → IsCreditStep old s new →
 
 -- a raise puts the word up, and a look finds what it is and leaves it
 abbrev pub WordOnlyRises : Type 0
-WordOnlyRises = (was up : Bool) (step : Deed) → IsWordStep was step up →
-    ((step ≡ deed.Raise) × (up ≡ true)) ⊎ ((step ≡ deed.Look up) × (up ≡ was))
+WordOnlyRises = (was up : Bool) (step : WordStep) → IsWordStep was step up →
+    ((step ≡ kind.Raise) × (up ≡ true)) ⊎ ((step ≡ kind.Look up) × (up ≡ was))
 
 -- no rule lets the cutter put a mark and note no step
 abbrev pub NoCutIsUnnoted : Type 0 → Type 0

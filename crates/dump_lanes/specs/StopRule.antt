@@ -3,37 +3,37 @@ use Rattle.std.specs.Prelude.{◌≡◌, ℕ, ◌==◌, ◌+◌, ◌/◌, ◌||�
 use mathlib.Core.Option.{some}
 use lib.ListN.{get_elem?}
 use Rattle.atomic_table.specs.Table.{State, Me}
-use Rattle.dump_lanes.specs.declared.stop.protocol.Deed.{Deed}
-use Rattle.dump_lanes.specs.declared.stop.protocol.Deed.TheVariants as deed
+use Rattle.dump_lanes.specs.declared.stop.protocol.WordStep.{WordStep}
+use Rattle.dump_lanes.specs.declared.stop.protocol.WordStep.TheVariants as kind
 use Rattle.dump_lanes.specs.declared.stop.protocol.Marks.{Marks}
 use Rattle.dump_lanes.specs.PoolEvents.{Event}
 use Rattle.dump_lanes.specs.PoolParts.{stop_share}
 
 -- the events that a step may be: a raise is the sequencer's or the writer's, and the word isn't told whose
-abbrev pub is_event : Deed → Event → Bool
-is_event deed.Raise Event.SequencerRaises = true
-is_event deed.Raise Event.WriterRaises = true
-is_event (deed.Look found) Event.Look = true
+abbrev pub is_event : WordStep → Event → Bool
+is_event kind.Raise Event.SequencerRaises = true
+is_event kind.Raise Event.WriterRaises = true
+is_event (kind.Look found) Event.Look = true
 is_event step event = false
 
 -- what a step says of the word after it
-abbrev pub says_of : Deed → Bool
-says_of deed.Raise = true
-says_of (deed.Look found) = found
+abbrev pub says_of : WordStep → Bool
+says_of kind.Raise = true
+says_of (kind.Look found) = found
 
 -- a step turns the word into what it is: by the word's share of its event, whichever that is, and it says what the word is
-pub record IsStep (old : Bool) (step : Deed) (new : Bool) : Type 0 where
+pub record IsStep (old : Bool) (step : WordStep) (new : Bool) : Type 0 where
   pub event : Event
   pub named : IsTrue (is_event step event)
   pub share : (event : Event) → IsTrue (is_event step event) → new ≡ stop_share old event
   pub says : says_of step ≡ new
 
 -- these steps, the last of which comes first, lead from a word that is not up to this one
-abbrev pub AreSteps : List Deed → Bool → Type 0
+abbrev pub AreSteps : List WordStep → Bool → Type 0
 AreSteps [] up = up ≡ false
 AreSteps (step ∷ before) up = (was : Bool) × IsStep was step up × AreSteps before was
 
-abbrev pub marks : ℕ → Bool → Bool → List Deed → Marks
+abbrev pub marks : ℕ → Bool → Bool → List WordStep → Marks
 marks share raised seen steps = record { share = share; raised = raised; seen = seen; steps = steps }
 
 -- what a seat knows that was joined to another
@@ -42,10 +42,10 @@ spent = marks 0 false false []
 
 -- the seat has raised the word, or looked at it
 abbrev pub after_raise : Marks → Marks
-after_raise v = marks v.share true v.seen (deed.Raise ∷ v.steps)
+after_raise v = marks v.share true v.seen (kind.Raise ∷ v.steps)
 
 abbrev pub after_look : Marks → Bool → Marks
-after_look v found = marks v.share v.raised found (deed.Look found ∷ v.steps)
+after_look v found = marks v.share v.raised found (kind.Look found ∷ v.steps)
 
 -- the two seats of a split, of which the left one keeps the steps; and the seat of a join
 abbrev pub left_half : Marks → Marks
@@ -81,9 +81,9 @@ pub record SomeRaised (views : List Marks) : Type 0 where
 pub record IsStop (s : State (Unit {0}) Marks) : Type 0 where
   pub up : Bool
   pub word : s.words ≡ word_of up ∷ []
-  pub happened : List Deed
+  pub happened : List WordStep
   pub steps : AreSteps happened up
-  pub made : (weight : Deed → ℕ) → sum_by (λ (v : Marks). sum_by weight v.steps) s.views ≡ sum_by weight happened
+  pub made : (weight : WordStep → ℕ) → sum_by (λ (v : Marks). sum_by weight v.steps) s.views ≡ sum_by weight happened
   pub someone : IsTrue up → SomeRaised s.views
   pub shares : sum_by (λ (v : Marks). v.share) s.views ≡ 4
   pub fits : (seat : ℕ) (v : Marks) → get_elem? s.views seat ≡ some v → Fits up seat v
@@ -94,10 +94,10 @@ SeesOwn v = v.share ≡ 4 → IsTrue v.seen → IsTrue v.raised
 
 -- a seat with the whole share made each step of the one history
 pub record KnowsSteps (v : Marks) : Type 0 where
-  pub happened : List Deed
+  pub happened : List WordStep
   pub up : Bool
   pub steps : AreSteps happened up
-  pub made : (weight : Deed → ℕ) → sum_by weight v.steps ≡ sum_by weight happened
+  pub made : (weight : WordStep → ℕ) → sum_by weight v.steps ≡ sum_by weight happened
 
 -- a look that found the word at n: the seat notes whether the stop is up, and it is where this seat raised it or saw it before
 pub record HasLooked (old : Me (Unit {0}) Marks) (n : ℕ) (new : Me (Unit {0}) Marks) : Type 0 where

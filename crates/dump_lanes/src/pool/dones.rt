@@ -36,7 +36,7 @@ pub struct Desk<T> {
     pub steps: LinkedList<Step<Note<T>>>,
 }
 
-/// The rule: the queue holds its share of the events.
+/// The rule: each step on the queue is its share of the event that its pass notes.
 pub struct DoneShares;
 
 impl<T> Protocol<Note<T>, Desk<T>> for DoneShares {

@@ -11,7 +11,7 @@ use atomic_table::{Join, Play, Split, TableRule};
 use std::collections::LinkedList;
 
 /// A step on the word. Only its type is used: no value of it is made.
-pub enum Deed {
+pub enum WordStep {
     Raise,
     Look(bool),
 }
@@ -21,7 +21,7 @@ pub struct Marks {
     pub share: u64,
     pub raised: bool,
     pub seen: bool,
-    pub steps: LinkedList<Deed>,
+    pub steps: LinkedList<WordStep>,
 }
 
 /// The rule: the word is up exactly where some seat raised it, and each step is its share of an event.

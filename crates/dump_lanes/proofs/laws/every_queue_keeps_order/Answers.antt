@@ -1,5 +1,5 @@
 use Rattle.dump_lanes.proofs.PartMoves.{in_order}
-use Rattle.dump_lanes.proofs.PartTeeth.{one_each}
+use Rattle.dump_lanes.proofs.StepMoves.{one_each}
 use Rattle.dump_lanes.proofs.laws.every_queue_keeps_order.Goals as goal
 
 pub returns-clause-order : goal.returns-clause-order

@@ -1,4 +1,4 @@
-use Rattle.dump_lanes.proofs.PartTeeth.{credits_move, jobs_move, dones_move, pieces, word_rises, not_unnoted}
+use Rattle.dump_lanes.proofs.StepMoves.{credits_move, jobs_move, dones_move, pieces, word_rises, not_unnoted}
 use Rattle.dump_lanes.proofs.laws.every_step_moves_one_entry.Goals as goal
 
 pub returns-clause-credits : goal.returns-clause-credits

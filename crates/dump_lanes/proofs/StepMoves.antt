@@ -10,7 +10,7 @@ use Rattle.dump_lanes.specs.declared.protocol.Mark.TheVariants.{Item, End}
 use Rattle.dump_lanes.specs.declared.steps.Move.{Move}
 use Rattle.dump_lanes.specs.declared.steps.Move.TheVariants as move
 use Rattle.dump_lanes.specs.declared.steps.Step.{Step}
-use Rattle.dump_lanes.specs.declared.stop.protocol.Deed.TheVariants as deed
+use Rattle.dump_lanes.specs.declared.stop.protocol.WordStep.TheVariants as kind
 use Rattle.dump_lanes.specs.PoolEvents.{Event}
 use Rattle.dump_lanes.specs.PoolParts.{Thread, thread_of}
 use Rattle.dump_lanes.specs.PartSteps.{event_of, Part, AreSteps, is_thread, all_put, all_taken, steps_of}
@@ -144,5 +144,5 @@ pub credits_move : CreditsMoveOne
 credits_move old new s h = credit s.event old new h.one_credit (one_balance old new s.event h.one_credit h.allowed h.share)
 
 pub word_rises : WordOnlyRises
-word_rises was up deed.Raise h = inl (refl, h.share Event.WriterRaises refl)
-word_rises was up (deed.Look found) h = inr (ap deed.Look h.says, h.share Event.Look refl)
+word_rises was up kind.Raise h = inl (refl, h.share Event.WriterRaises refl)
+word_rises was up (kind.Look found) h = inr (ap kind.Look h.says, h.share Event.Look refl)
