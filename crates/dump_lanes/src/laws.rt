@@ -33,7 +33,7 @@ pub fn every_queue_keeps_order<E>()
 {}
 
 /// A step on a shared part is one of two threads' own, and moves one entry: in at the back, or out at the front.
-/// A raise puts the stop word up, and nothing takes it down. And no step goes unnoted.
+/// A raise puts the stop word up, and nothing takes it down. And no rule lets the cutter put a mark unnoted.
 pub fn every_step_moves_one_entry<T>()
     ensures credits { CreditsMoveOne }
     ensures jobs { JobsMoveOne T }
