@@ -1,6 +1,5 @@
 -- What a call leaves an end with.
 use Rattle.std.proofs.Common.{◌≡◌, Bool, true, List, [], ◌∷◌, ◌++◌, sym, ap, ◌∙◌, subst, Result, Ok, Err, MatchResult}
-use Rattle.std.specs.Result.{is_ok}
 use Rattle.atomic_table.specs.declared.badge.Badge.{Badge}
 use Rattle.crossbeam_channel.specs.Claims.{Pass, IsSeatAt, view}
 use Rattle.crossbeam_channel.specs.declared.flavors.array.Doing.{Doing}
@@ -13,9 +12,9 @@ use Rattle.dump_lanes.specs.declared.protocol.Mark.{Mark}
 use Rattle.dump_lanes.specs.declared.protocol.Mark.TheVariants.{Item, End}
 use Rattle.dump_lanes.specs.LaneEnds.{LaneEnd, IsWholeAtEnd}
 use Rattle.dump_lanes.specs.LaneMarks.{items_of, AreItemsThen, IsPutting, IsTaking, mark_if, mark_of}
-use Rattle.dump_lanes.specs.LaneRule.{log}
+use Rattle.dump_lanes.specs.LaneRule.{after_put, after_take}
 use Rattle.dump_lanes.specs.LaneViews.{lane_of, sending_of, receiving_of, told, ComesAgain}
-use Rattle.dump_lanes.proofs.MarkLists.{items_of-then_item, items_of-then_end, then_item, then_end, is_whole}
+use Rattle.dump_lanes.proofs.MarkLists.{items_of-then_item, items_of-then_end, then_item, then_end, is_whole, is_marked}
 
 -- an end that may still be given items has no end to tell again
 pub nothing_told : (end : Told) (next : LaneEnd) → end ≡ MayCome → ComesAgain (told end) next
@@ -42,14 +41,6 @@ module _ {T : Type 0} where
       → told end ≡ next → receiving_of pass end ≡ record (receiving_of pass end) { told = next }
   ends_as pass end next e i = record { lane = lane_of pass; taken = items_of (view pass).taken; told = e i }
 
-  -- the log after a mark was put
-  abbrev pub after_put : Log T → Mark T → Log T
-  after_put v m = log v.puts v.takes (v.put ++ m ∷ []) v.taken
-
-  -- the log after a mark was taken
-  abbrev pub after_take : Log T → Mark T → Log T
-  after_take v m = log v.puts v.takes v.put (v.taken ++ m ∷ [])
-
   pub put_item : (v w : Log T) (x : T) → w ≡ after_put v (Item x) → items_of w.put ≡ items_of v.put ++ x ∷ []
   put_item v w x e = ap (λ (l : Log T). items_of l.put) e ∙ items_of-then_item v.put x
 
@@ -66,20 +57,13 @@ module _ {T : Type 0} where
       subst (IsPutting []) (sym e) record { may_put = h.may_put; marks = then_item v.put x h.marks }
   still_puts (Err b) v w x P h e = subst (IsPutting []) (sym e.1) h
 
-  -- a sending end that was closed has put its end mark, or the send of it failed
-  pub closes : {A B : Type 0} (r : Result A B) (marked : Bool) (v w : Log T) (P : B → Type 0) → marked ≡ is_ok r → IsPutting [] v
-      → MatchResult r (λ _. w ≡ after_put v End) (λ e. P e × (w ≡ v)) → IsPutting (mark_if marked) w
-  closes (Ok a) marked v w P m h e =
-      let closed : IsPutting (mark_if true) w =
-      subst (IsPutting (End ∷ [])) (sym e) record { may_put = h.may_put; marks = then_end v.put h.marks } in
-      subst (λ b. IsPutting (mark_if b) w) (sym m) closed
-  closes (Err b) marked v w P m h e = subst (λ b. IsPutting (mark_if b) w) (sym m) (subst (IsPutting []) (sym e.1) h)
+  -- a sending end that was closed has put its end mark
+  pub closes : (v w : Log T) → IsPutting [] v → w ≡ after_put v End → IsPutting (mark_if true) w
+  closes v w h e = subst (IsPutting (End ∷ [])) (sym e) record { may_put = h.may_put; marks = then_end v.put h.marks }
 
-  -- a close changes no item
-  pub close_keeps : {A B : Type 0} (r : Result A B) (v w : Log T) (P : B → Type 0)
-      → MatchResult r (λ _. w ≡ after_put v End) (λ e. P e × (w ≡ v)) → items_of w.put ≡ items_of v.put
-  close_keeps (Ok a) v w P e = ap (λ (l : Log T). items_of l.put) e ∙ items_of-then_end v.put
-  close_keeps (Err b) v w P e = ap (λ (l : Log T). items_of l.put) e.1
+  -- the end mark is no item
+  pub close_keeps : (v w : Log T) → w ≡ after_put v End → items_of w.put ≡ items_of v.put
+  close_keeps v w e = ap (λ (l : Log T). items_of l.put) e ∙ items_of-then_end v.put
 
   -- a receiving end that took an item may take more
   pub still_takes : (v w : Log T) (x : T) (end : Told) → end ≡ MayCome
@@ -103,3 +87,10 @@ module _ {T : Type 0} where
   whole_at_end put taken left marked MayCome hp ht e = tt
   whole_at_end put taken left marked Ended hp ht e = is_whole put taken marked left hp ht e
   whole_at_end put taken left marked SenderGone hp ht e = tt
+
+  -- the end was told only where its mark was put
+  pub marked_at_end : (put taken left : List (Mark T)) (marked : Bool) (end : Told)
+      → AreItemsThen (mark_if marked) put → AreItemsThen (mark_of end) taken → put ≡ taken ++ left → told end ≡ LaneEnd.Ended → marked ≡ true
+  marked_at_end put taken left marked MayCome hp ht e is = absurd (cc)
+  marked_at_end put taken left marked Ended hp ht e is = is_marked put taken marked left hp ht e
+  marked_at_end put taken left marked SenderGone hp ht e is = absurd (cc)

@@ -1,5 +1,5 @@
 -- The items among marks, as marks join the list.
-use Rattle.std.proofs.Common.{◌≡◌, Bool, true, false, List, [], ◌∷◌, ◌++◌, map, sym, refl, ap, ◌∙◌}
+use Rattle.std.proofs.Common.{◌≡◌, ◌≢◌, Bool, true, false, List, [], ◌∷◌, ◌++◌, map, sym, refl, ap, ◌∙◌}
 use Rattle.std.proofs.lemmas.List.{append-nil, map-append}
 use Rattle.dump_lanes.specs.declared.protocol.Mark.{Mark}
 use Rattle.dump_lanes.specs.declared.protocol.Mark.TheVariants.{Item, End}
@@ -56,6 +56,18 @@ module _ {T : Type 0} where
   closes (x ∷ put) (y ∷ taken) marked left e =
       let rest = closes put taken marked left (ap rest_of e) in
       let items = ap items_of e in cc
+
+  unmarked : (put taken : List T) (left : List (Mark T)) → map Item put ++ [] ≢ (map Item taken ++ End ∷ []) ++ left
+  unmarked [] [] left e = absurd (cc)
+  unmarked [] (y ∷ taken) left e = absurd (cc)
+  unmarked (x ∷ put) [] left e = absurd (cc)
+  unmarked (x ∷ put) (y ∷ taken) left e = unmarked put taken left (ap rest_of e)
+
+  -- the end mark was taken only where it was put
+  pub is_marked : (put taken : List (Mark T)) (marked : Bool) (left : List (Mark T))
+      → AreItemsThen (mark_if marked) put → AreItemsThen (End ∷ []) taken → put ≡ taken ++ left → marked ≡ true
+  is_marked put taken true left hp ht e = refl
+  is_marked put taken false left hp ht e = absurd (unmarked (items_of put) (items_of taken) left (sym hp ∙ (e ∙ ap (λ l. l ++ left) ht)))
 
   -- where the end mark was taken, what was taken is all that was put
   pub is_whole : (put taken : List (Mark T)) (marked : Bool) (left : List (Mark T))

@@ -1,155 +1,290 @@
 -- Each move on a lane's channel keeps its rule.
-use Rattle.std.proofs.Common.{◌≡◌, ◌≢◌, ℕ, zero, suc, true, false, true≢false, List, [], ◌∷◌, ◌++◌, length, set, sym, refl, ap, ◌∙◌, subst, ⊎_elim, append_assoc}
-use mathlib.Core.Option.{some, some-ne-none}
+use Rattle.std.proofs.Common.{◌≡◌, ◌≢◌, ℕ, true, true≢false, List, [], ◌∷◌, ◌++◌, length, set, sym, refl, ap, ◌∙◌, subst, append_assoc, arith}
+use Rattle.std.proofs.lemmas.Bool.{lt-ltb}
+use Rattle.std.proofs.lemmas.List.{append-nil}
+use mathlib.Core.Option.{some}
 use lib.ListN.{get_elem?}
-use Rattle.atomic_table.proofs.Lists.{at_set, at_snoc}
+use Rattle.atomic_table.proofs.Lists.{set_else}
 use Rattle.crossbeam_channel.specs.Fifo.{Pushes, Pops, Forks, Merges, Learns}
 use Rattle.dump_lanes.specs.declared.protocol.Log.{Log}
 use Rattle.dump_lanes.specs.declared.protocol.Mark.{Mark}
-use Rattle.dump_lanes.specs.LaneRule.{log, Fits, IsInOrder}
+use Rattle.dump_lanes.specs.declared.protocol.Mark.TheVariants.{Item, End}
+use Rattle.dump_lanes.specs.declared.steps.Move.TheVariants as move
+use Rattle.dump_lanes.specs.declared.steps.Step.{Step}
+use Rattle.dump_lanes.specs.LaneMarks.{items_of}
+use Rattle.dump_lanes.specs.PoolParts.{Thread}
+use Rattle.dump_lanes.specs.PartSteps.{IsStep, AreSteps, all_put, all_taken, steps_of, two_owners, Knows}
+use Rattle.dump_lanes.specs.LaneRule.{lane_part, put_step, take_step, log, after_put, after_take, sender_log, receiver_log, joined_log, spent_log, Fits, IsInOrder, KnowsSteps}
+use Rattle.dump_lanes.proofs.MarkLists.{items_of-then_item, items_of-then_end}
+use Rattle.dump_lanes.proofs.PartMoves.{knows_step, knows_else}
+use Rattle.dump_lanes.proofs.TwoMoves.{all_own, fork_left, fork_right, fork_else, join_both, join_else, join_spent}
+use Rattle.dump_lanes.proofs.Views.{AllViews, AllViews-set, AllViews-one, AllViews-more, within, set_long}
 
 module _ {T : Type 0} where
-  -- a view that is new in a list with one more at its end is that last one
-  at_end : (l : List (Log T)) (a b : Log T) (j : ℕ)
-      → get_elem? l j ≢ some b → get_elem? (l ++ a ∷ []) j ≡ some b → j ≡ length l
-  at_end [] a b zero n e = refl
-  at_end [] a b (suc j) n e = absurd (some-ne-none b (sym e))
-  at_end (x ∷ xs) a b zero n e = absurd (n e)
-  at_end (x ∷ xs) a b (suc j) n e = ap suc (at_end xs a b j n e)
+  abbrev pub release : T → Step T
+  release x = record { event = move.Release; entry = x }
 
-  abbrev AllViews : (ℕ → Log T → Type 0) → List (Log T) → Type 0
-  AllViews F views = (pass : ℕ) (v : Log T) → get_elem? views pass ≡ some v → F pass v
+  abbrev pub write : T → Step T
+  write x = record { event = move.Write; entry = x }
 
-  -- a fact of each view stays, where the changed view has it and the others keep it
-  AllViews-set : (F : ℕ → Log T → Type 0) (views : List (Log T)) (pass : ℕ) (w : Log T) → F pass w
-      → ((j : ℕ) (u : Log T) → j ≢ pass → get_elem? views j ≡ some u → F j u) → AllViews F (set views pass w)
-  AllViews-set F views pass w mine others j u e =
-      ⊎_elim (λ (x : (j ≡ pass) × (w ≡ u)). subst (λ (y : ℕ × Log T). F y.0 y.1) (λ i. (sym x.0 i, x.1 i)) mine)
-      (λ (x : (j ≢ pass) × (get_elem? views j ≡ some u)). others j u x.0 x.1) (at_set views pass j w u e)
+  -- the sender's step, and the receiver's, is the lane's share of its event
+  pub release_is_step : (x : T) (items : List T) → IsStep lane_part items (release x) (items ++ x ∷ [])
+  release_is_step x items = record { one_entry = refl; allowed = refl; share = refl; in_turn = refl }
+
+  pub write_is_step : (x : T) (items : List T) → IsStep lane_part (x ∷ items) (write x) items
+  write_is_step x items = record {
+    one_entry = refl;
+    allowed = lt-ltb 0 (length (x ∷ items)) (omega arith);
+    share = refl;
+    in_turn = ap (λ l. x ∷ l) (append-nil items);
+  }
+
+  -- the history after a mark joins, and after one leaves
+  put_steps : (happened : List (Step T)) (items : List (Mark T)) (m : Mark T) → AreSteps lane_part happened (items_of items)
+      → AreSteps lane_part (put_step m ++ happened) (items_of (items ++ m ∷ []))
+  put_steps happened items (Item x) h =
+      (items_of items, subst (IsStep lane_part (items_of items) (release x)) (sym (items_of-then_item items x)) (release_is_step x (items_of items)), h)
+  put_steps happened items End h = subst (AreSteps lane_part happened) (sym (items_of-then_end items)) h
+
+  take_steps : (happened : List (Step T)) (items : List (Mark T)) (m : Mark T) → AreSteps lane_part happened (items_of (m ∷ items))
+      → AreSteps lane_part (take_step m ++ happened) (items_of items)
+  take_steps happened items (Item x) h = (x ∷ items_of items, write_is_step x (items_of items), h)
+  take_steps happened items End h = h
+
+  put_adds : (happened : List (Step T)) (put : List (Mark T)) (m : Mark T) → items_of put ≡ all_put lane_part happened
+      → items_of (put ++ m ∷ []) ≡ all_put lane_part (put_step m ++ happened)
+  put_adds happened put (Item x) e = items_of-then_item put x ∙ ap (λ l. l ++ x ∷ []) e
+  put_adds happened put End e = items_of-then_end put ∙ e
+
+  put_leaves : (happened : List (Step T)) (taken : List T) (m : Mark T) → taken ≡ all_taken lane_part happened
+      → taken ≡ all_taken lane_part (put_step m ++ happened)
+  put_leaves happened taken (Item x) e = e ∙ sym (append-nil (all_taken lane_part happened))
+  put_leaves happened taken End e = e
+
+  take_adds : (happened : List (Step T)) (taken : List (Mark T)) (m : Mark T) → items_of taken ≡ all_taken lane_part happened
+      → items_of (taken ++ m ∷ []) ≡ all_taken lane_part (take_step m ++ happened)
+  take_adds happened taken (Item x) e = items_of-then_item taken x ∙ ap (λ l. l ++ x ∷ []) e
+  take_adds happened taken End e = items_of-then_end taken ∙ e
+
+  take_leaves : (happened : List (Step T)) (put : List T) (m : Mark T) → put ≡ all_put lane_part happened
+      → put ≡ all_put lane_part (take_step m ++ happened)
+  take_leaves happened put (Item x) e = e ∙ sym (append-nil (all_put lane_part happened))
+  take_leaves happened put End e = e
+
+  -- what is known of the history after a mark joins, and after one leaves
+  put_known : (sender receiver : ℕ) (happened : List (Step T)) (pass : ℕ) (steps : List (Step T)) (m : Mark T) → pass ≡ sender
+      → Knows (two_owners sender receiver) happened pass steps → Knows (two_owners sender receiver) (put_step m ++ happened) pass (put_step m ++ steps)
+  put_known sender receiver happened pass steps (Item x) is h = knows_step (two_owners sender receiver) happened pass steps (release x) (sym is) h
+  put_known sender receiver happened pass steps End is h = h
+
+  put_unknown : (sender receiver : ℕ) (happened : List (Step T)) (pass : ℕ) (steps : List (Step T)) (m : Mark T) → pass ≢ sender
+      → Knows (two_owners sender receiver) happened pass steps → Knows (two_owners sender receiver) (put_step m ++ happened) pass steps
+  put_unknown sender receiver happened pass steps (Item x) ne h = knows_else (two_owners sender receiver) happened pass steps (release x) (λ o. ne (sym o)) h
+  put_unknown sender receiver happened pass steps End ne h = h
+
+  take_known : (sender receiver : ℕ) (happened : List (Step T)) (pass : ℕ) (steps : List (Step T)) (m : Mark T) → pass ≡ receiver
+      → Knows (two_owners sender receiver) happened pass steps → Knows (two_owners sender receiver) (take_step m ++ happened) pass (take_step m ++ steps)
+  take_known sender receiver happened pass steps (Item x) is h = knows_step (two_owners sender receiver) happened pass steps (write x) (sym is) h
+  take_known sender receiver happened pass steps End is h = h
+
+  take_unknown : (sender receiver : ℕ) (happened : List (Step T)) (pass : ℕ) (steps : List (Step T)) (m : Mark T) → pass ≢ receiver
+      → Knows (two_owners sender receiver) happened pass steps → Knows (two_owners sender receiver) (take_step m ++ happened) pass steps
+  take_unknown sender receiver happened pass steps (Item x) ne h = knows_else (two_owners sender receiver) happened pass steps (write x) (λ o. ne (sym o)) h
+  take_unknown sender receiver happened pass steps End ne h = h
 
   -- a new lane
-  pub begins : IsInOrder {T = T} [] (log true true [] [] ∷ [])
-  begins =
-      let first : Log T = log true true [] [] in
-      let mine : Fits 0 0 [] [] 0 first = record { writes = λ _. (refl, refl); reads = λ _. (refl, refl) } in
-      let others : (j : ℕ) (u : Log T) → j ≢ 0 → get_elem? (first ∷ []) j ≡ some u → Fits 0 0 [] [] j u =
-      λ j u other e. absurd (other (at_end [] first u j (λ x. some-ne-none u (sym x)) e)) in
-      record {
-        writer = 0;
-        reader = 0;
-        put = [];
-        taken = [];
-        in_order = refl;
-        fits = AllViews-set (Fits 0 0 [] []) (first ∷ []) 0 first mine others;
-      }
+  pub begins : IsInOrder {T = T} [] (log true true [] [] [] ∷ [])
+  begins = record {
+    sender = 0;
+    receiver = 0;
+    put = [];
+    taken = [];
+    in_order = refl;
+    happened = [];
+    steps = refl;
+    put_is = refl;
+    taken_is = refl;
+    fits = AllViews-one (Fits 0 0 [] [] []) (log true true [] [] []) record {
+      puts = λ p. (refl, refl);
+      takes = λ p. (refl, refl);
+      knows = record { own = λ t e. refl; others = λ t ne. refl };
+    };
+  }
 
-  -- the writer puts a mark
-  pub sends : (n pass : ℕ) (v : Log T) (x : Mark T) → v.puts ≡ true
-      → Pushes IsInOrder n pass v x (λ w. w ≡ log v.puts v.takes (v.put ++ x ∷ []) v.taken)
+  -- the sender puts a mark
+  pub sends : (n pass : ℕ) (v : Log T) (x : Mark T) → v.puts ≡ true → Pushes IsInOrder n pass v x (λ w. w ≡ after_put v x)
   sends n pass v x may items views _ h at =
-      let w : Log T = log v.puts v.takes (v.put ++ x ∷ []) v.taken in
+      let w : Log T = after_put v x in
       let mine = h.fits pass v at in
+      let m = mine.puts may in
       let put : List (Mark T) = h.put ++ x ∷ [] in
-      let now : Fits h.writer h.reader put h.taken pass w =
-      record { writes = λ _. ((mine.writes may).0, ap (λ l. l ++ x ∷ []) (mine.writes may).1); reads = mine.reads } in
-      let others : (j : ℕ) (u : Log T) → j ≢ pass → get_elem? views j ≡ some u → Fits h.writer h.reader put h.taken j u =
-      λ j u other e. record {
-        writes = λ p. absurd (other (((h.fits j u e).writes p).0 ∙ sym (mine.writes may).0));
-        reads = (h.fits j u e).reads;
+      let happened : List (Step T) = put_step x ++ h.happened in
+      let now : Fits h.sender h.receiver put h.taken happened pass w = record {
+        puts = λ p. (m.0, ap (λ l. l ++ x ∷ []) m.1);
+        takes = mine.takes;
+        knows = put_known h.sender h.receiver h.happened pass v.steps x m.0 mine.knows;
+      } in
+      let others : (j : ℕ) (u : Log T) → j ≢ pass → get_elem? views j ≡ some u → Fits h.sender h.receiver put h.taken happened j u =
+      λ j u other e.
+      let f = h.fits j u e in record {
+        puts = λ p. absurd (other ((f.puts p).0 ∙ sym m.0));
+        takes = f.takes;
+        knows = put_unknown h.sender h.receiver h.happened j u.steps x (λ is. other (is ∙ sym m.0)) f.knows;
       } in
       let after : IsInOrder (items ++ x ∷ []) (set views pass w) = record {
-        writer = h.writer;
-        reader = h.reader;
+        sender = h.sender;
+        receiver = h.receiver;
         put = put;
         taken = h.taken;
         in_order = ap (λ l. l ++ x ∷ []) h.in_order ∙ append_assoc h.taken items (x ∷ []);
-        fits = AllViews-set (Fits h.writer h.reader put h.taken) views pass w now others;
+        happened = happened;
+        steps = put_steps h.happened items x h.steps;
+        put_is = put_adds h.happened h.put x h.put_is;
+        taken_is = put_leaves h.happened (items_of h.taken) x h.taken_is;
+        fits = AllViews-set (Fits h.sender h.receiver put h.taken happened) views pass w now others;
       } in (w, after, refl)
 
-  -- the reader takes a mark
-  pub gets : (pass : ℕ) (v : Log T) → v.takes ≡ true
-      → Pops IsInOrder pass v (λ x w. w ≡ log v.puts v.takes v.put (v.taken ++ x ∷ []))
+  -- the receiver takes a mark
+  pub gets : (pass : ℕ) (v : Log T) → v.takes ≡ true → Pops IsInOrder pass v (λ x w. w ≡ after_take v x)
   gets pass v may x items views h at =
-      let w : Log T = log v.puts v.takes v.put (v.taken ++ x ∷ []) in
+      let w : Log T = after_take v x in
       let mine = h.fits pass v at in
+      let m = mine.takes may in
       let taken : List (Mark T) = h.taken ++ x ∷ [] in
-      let now : Fits h.writer h.reader h.put taken pass w =
-      record { writes = mine.writes; reads = λ _. ((mine.reads may).0, ap (λ l. l ++ x ∷ []) (mine.reads may).1) } in
-      let others : (j : ℕ) (u : Log T) → j ≢ pass → get_elem? views j ≡ some u → Fits h.writer h.reader h.put taken j u =
-      λ j u other e. record {
-        writes = (h.fits j u e).writes;
-        reads = λ p. absurd (other (((h.fits j u e).reads p).0 ∙ sym (mine.reads may).0));
+      let happened : List (Step T) = take_step x ++ h.happened in
+      let now : Fits h.sender h.receiver h.put taken happened pass w = record {
+        puts = mine.puts;
+        takes = λ p. (m.0, ap (λ l. l ++ x ∷ []) m.1);
+        knows = take_known h.sender h.receiver h.happened pass v.steps x m.0 mine.knows;
+      } in
+      let others : (j : ℕ) (u : Log T) → j ≢ pass → get_elem? views j ≡ some u → Fits h.sender h.receiver h.put taken happened j u =
+      λ j u other e.
+      let f = h.fits j u e in record {
+        puts = f.puts;
+        takes = λ p. absurd (other ((f.takes p).0 ∙ sym m.0));
+        knows = take_unknown h.sender h.receiver h.happened j u.steps x (λ is. other (is ∙ sym m.0)) f.knows;
       } in
       let after : IsInOrder items (set views pass w) = record {
-        writer = h.writer;
-        reader = h.reader;
+        sender = h.sender;
+        receiver = h.receiver;
         put = h.put;
         taken = taken;
         in_order = h.in_order ∙ sym (append_assoc h.taken (x ∷ []) items);
-        fits = AllViews-set (Fits h.writer h.reader h.put taken) views pass w now others;
+        happened = happened;
+        steps = take_steps h.happened items x h.steps;
+        put_is = take_leaves h.happened (items_of h.put) x h.put_is;
+        taken_is = take_adds h.happened h.taken x h.taken_is;
+        fits = AllViews-set (Fits h.sender h.receiver h.put taken happened) views pass w now others;
       } in (w, after, refl)
 
-  -- the first pass is cut into the writer and the reader
-  pub forks : (pass : ℕ) (v : Log T) → v.puts ≡ true → v.takes ≡ true
-      → Forks IsInOrder pass v (log true false v.put []) (log false true [] v.taken)
-  forks pass v a b items views h at =
-      let left : Log T = log true false v.put [] in
-      let right : Log T = log false true [] v.taken in
+  -- the first pass is cut into the sender's and the receiver's, before any step
+  pub forks : (pass : ℕ) (v : Log T) → v.puts ≡ true → v.takes ≡ true → v.steps ≡ []
+      → Forks IsInOrder pass v (sender_log v) (receiver_log v)
+  forks pass v a b idle items views h at =
+      let left : Log T = sender_log v in
+      let right : Log T = receiver_log v in
       let mine = h.fits pass v at in
+      let p = mine.puts a in
+      let t = mine.takes b in
       let cut : List (Log T) = set views pass left in
-      let Old : ℕ → Log T → Type 0 = λ j u. (u.puts ≡ true → (j ≡ h.writer) × (u.put ≡ h.put)) × (u.takes ≢ true) in
-      let old : AllViews Old cut = AllViews-set Old views pass left ((λ _. mine.writes a), λ p. true≢false (sym p))
-      (λ j u other e. ((h.fits j u e).writes, λ p. other (((h.fits j u e).reads p).0 ∙ sym (mine.reads b).0))) in
-      let Now : ℕ → Log T → Type 0 = Fits h.writer (length cut) h.put h.taken in
-      let from_old : (j : ℕ) (u : Log T) → get_elem? cut j ≡ some u → Now j u =
-      λ j u x. record { writes = (old j u x).0; reads = λ p. absurd ((old j u x).1 p) } in
-      let from_right : (j : ℕ) (u : Log T) → get_elem? (cut ++ right ∷ []) j ≡ some u → right ≡ u → Now j u =
-      λ j u e is. record {
-        writes = λ p. absurd (true≢false (sym (ap (λ (y : Log T). y.puts) is ∙ p)));
-        reads = λ p. (at_end cut right u j (λ x. (old j u x).1 p) e, ap (λ (y : Log T). y.taken) (sym is) ∙ (mine.reads b).1);
+      let long = set_long views pass left in
+      let here = within views pass v at in
+      let both : (j : ℕ) (u : Log T) → Knows (two_owners h.sender h.receiver) h.happened j u.steps → Knows (two_owners pass pass) h.happened j u.steps =
+      λ j u k. subst (λ (y : ℕ × ℕ). Knows (two_owners y.0 y.1) h.happened j u.steps) (λ i. (sym p.0 i, sym t.0 i)) k in
+      let unwritten : steps_of Thread.Writer h.happened ≡ [] =
+      sym (all_own h.happened pass v.steps (both pass v mine.knows) Thread.Writer) ∙ ap (steps_of Thread.Writer) idle in
+      let Now : ℕ → Log T → Type 0 = Fits pass (length cut) h.put h.taken h.happened in
+      let one : Now pass left = record {
+        puts = λ q. (refl, p.1);
+        takes = λ q. absurd (true≢false (sym q));
+        knows = fork_left h.happened pass (length cut) v.steps unwritten (both pass v mine.knows);
+      } in
+      let others : (j : ℕ) (u : Log T) → j ≢ pass → get_elem? views j ≡ some u → Now j u =
+      λ j u other e.
+      let f = h.fits j u e in
+      let there = within views j u e in record {
+        puts = λ q. absurd (other ((f.puts q).0 ∙ sym p.0));
+        takes = λ q. absurd (other ((f.takes q).0 ∙ sym t.0));
+        knows = fork_else h.happened pass (length cut) j u.steps other (λ e. absurd (omega arith)) (both j u f.knows);
+      } in
+      let new : Now (length cut) right = record {
+        puts = λ q. absurd (true≢false (sym q));
+        takes = λ q. (refl, t.1);
+        knows = fork_right h.happened pass (length cut) (λ e. absurd (omega arith)) unwritten;
       } in
       record {
-        writer = h.writer;
-        reader = length cut;
+        sender = pass;
+        receiver = length cut;
         put = h.put;
         taken = h.taken;
         in_order = h.in_order;
-        fits = λ j u e. ⊎_elim (from_old j u) (from_right j u e) (at_snoc cut right u j e);
+        happened = h.happened;
+        steps = h.steps;
+        put_is = h.put_is;
+        taken_is = h.taken_is;
+        fits = AllViews-more Now cut right (AllViews-set Now views pass left one others) new;
       }
 
-  -- the writer takes in the reader
+  -- the sender takes in the receiver
   pub merges : (pass : ℕ) (v : Log T) (other : ℕ) (u : Log T) → v.puts ≡ true → u.takes ≡ true
-      → Merges IsInOrder pass v other u (log true true v.put u.taken) (log false false [] [])
+      → Merges IsInOrder pass v other u (joined_log v u) spent_log
   merges pass v other u a b items views h at two at' =
-      let both : Log T = log true true v.put u.taken in
-      let spent : Log T = log false false [] [] in
-      let mine = h.fits pass v at in
+      let both : Log T = joined_log v u in
+      let spent : Log T = spent_log in
       let joined : List (Log T) = set views pass both in
-      let was : get_elem? views other ≡ some u =
-      ⊎_elim (λ x. absurd (two x.0)) (λ x. x.1) (at_set views pass other both u at') in
-      let theirs = (h.fits other u was).reads b in
-      let Fits' : ℕ → Log T → Type 0 = Fits h.writer pass h.put h.taken in
-      let Now : ℕ → Log T → Type 0 = λ j y. j ≢ other → Fits' j y in
-      let here : Now pass both = λ _. record { writes = λ _. mine.writes a; reads = λ _. (refl, theirs.1) } in
-      let others : (j : ℕ) (y : Log T) → j ≢ pass → get_elem? views j ≡ some y → Now j y =
-      λ j y _ e apart. record {
-        writes = (h.fits j y e).writes;
-        reads = λ p. absurd (apart (((h.fits j y e).reads p).0 ∙ sym theirs.0));
+      let was : get_elem? views other ≡ some u = sym (set_else views pass other both two) ∙ at' in
+      let mine = h.fits pass v at in
+      let theirs = h.fits other u was in
+      let p = mine.puts a in
+      let t = theirs.takes b in
+      let those : (j : ℕ) (y : Log T) → Knows (two_owners h.sender h.receiver) h.happened j y.steps → Knows (two_owners pass other) h.happened j y.steps =
+      λ j y k. subst (λ (z : ℕ × ℕ). Knows (two_owners z.0 z.1) h.happened j y.steps) (λ i. (sym p.0 i, sym t.0 i)) k in
+      let Now : ℕ → Log T → Type 0 = Fits pass pass h.put h.taken h.happened in
+      let NowElse : ℕ → Log T → Type 0 = λ j y. j ≢ other → Now j y in
+      let here : NowElse pass both = λ apart. record {
+        puts = λ q. (refl, p.1);
+        takes = λ q. (refl, t.1);
+        knows = join_both h.happened pass other two v.steps u.steps (those pass v mine.knows) (those other u theirs.knows);
       } in
-      let now : AllViews Now joined = AllViews-set Now views pass both here others in
-      let none : Fits' other spent =
-      record { writes = λ p. absurd (true≢false (sym p)); reads = λ p. absurd (true≢false (sym p)) } in
+      let others : (j : ℕ) (y : Log T) → j ≢ pass → get_elem? views j ≡ some y → NowElse j y =
+      λ j y away e apart.
+      let f = h.fits j y e in record {
+        puts = λ q. absurd (away ((f.puts q).0 ∙ sym p.0));
+        takes = λ q. absurd (apart ((f.takes q).0 ∙ sym t.0));
+        knows = join_else h.happened pass other j y.steps away apart (those j y f.knows);
+      } in
+      let now : AllViews NowElse joined = AllViews-set NowElse views pass both here others in
+      let none : Now other spent = record {
+        puts = λ q. absurd (true≢false (sym q));
+        takes = λ q. absurd (true≢false (sym q));
+        knows = join_spent h.happened pass other two;
+      } in
       record {
-        writer = h.writer;
-        reader = pass;
+        sender = pass;
+        receiver = pass;
         put = h.put;
         taken = h.taken;
         in_order = h.in_order;
-        fits = AllViews-set Fits' joined other spent none (λ j y apart e. now j y e apart);
+        happened = h.happened;
+        steps = h.steps;
+        put_is = h.put_is;
+        taken_is = h.taken_is;
+        fits = AllViews-set Now joined other spent none (λ j y apart e. now j y e apart);
       }
 
-  -- a pass that may do both knows what the channel holds
+  -- a pass that may do both knows what the channel holds, and all steps
   pub totals : (pass : ℕ) (v : Log T) → v.puts ≡ true → v.takes ≡ true
-      → Learns IsInOrder pass v (λ items. v.put ≡ v.taken ++ items)
+      → Learns IsInOrder pass v (λ items. (v.put ≡ v.taken ++ items) × KnowsSteps v items)
   totals pass v a b items views h at =
-      let mine = h.fits pass v at in (mine.writes a).1 ∙ h.in_order ∙ ap (λ l. l ++ items) (sym (mine.reads b).1)
+      let mine = h.fits pass v at in
+      let p = mine.puts a in
+      let t = mine.takes b in
+      let all : Knows (two_owners pass pass) h.happened pass v.steps =
+      subst (λ (z : ℕ × ℕ). Knows (two_owners z.0 z.1) h.happened pass v.steps) (λ i. (sym p.0 i, sym t.0 i)) mine.knows in
+      let knows : KnowsSteps v items = record {
+        happened = h.happened;
+        steps = h.steps;
+        each = all_own h.happened pass v.steps all;
+        put_is = ap items_of p.1 ∙ h.put_is;
+        taken_is = ap items_of t.1 ∙ h.taken_is;
+      } in (p.1 ∙ h.in_order ∙ ap (λ l. l ++ items) (sym t.1), knows)

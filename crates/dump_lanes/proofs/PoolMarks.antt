@@ -1,12 +1,10 @@
 -- The marks of a pool's queues, as they join a list.
-use Rattle.std.proofs.Common.{◌≡◌, ◌+◌, ℕ, zero, suc, false, List, [], ◌∷◌, ◌++◌, replicate, IsTrue, refl, ap, ◌∙◌, arith}
+use Rattle.std.proofs.Common.{◌≡◌, ◌+◌, ℕ, zero, suc, List, [], ◌∷◌, ◌++◌, replicate, refl, ap, ◌∙◌, arith}
 use Rattle.std.proofs.lemmas.List.{append-nil, map-append}
 use Rattle.dump_lanes.specs.declared.pool.dones.Note.{Note}
 use Rattle.dump_lanes.specs.declared.protocol.Mark.{Mark}
 use Rattle.dump_lanes.specs.declared.protocol.Mark.TheVariants.{Item, End}
 use Rattle.dump_lanes.specs.LaneMarks.{items_of}
-use Rattle.dump_lanes.specs.PoolEvents.{Event}
-use Rattle.dump_lanes.specs.PoolParts.{jobs_share, jobs_allow}
 use Rattle.dump_lanes.specs.PoolPasses.{count_ends, marks_in}
 use Rattle.dump_lanes.proofs.MarkLists.{items_of-append}
 
@@ -19,19 +17,6 @@ items_of-ends T zero = refl
 items_of-ends T (suc n) = items_of-ends T n
 
 module _ {T : Type 0} where
-  -- the event in which the cutter puts a mark; whether an item is its last changes no queue
-  abbrev pub cut_event : Mark T → Event
-  cut_event (Item x) = Event.Cut false
-  cut_event End = Event.CutMark
-
-  pub cut_joins : (x : Mark T) (l : List (Mark T)) → jobs_share l (x ∷ []) (cut_event x) ≡ l ++ x ∷ []
-  cut_joins (Item x) l = refl
-  cut_joins End l = refl
-
-  pub cut_may : (x : Mark T) (l : List (Mark T)) → IsTrue (jobs_allow l (cut_event x))
-  cut_may (Item x) l = refl
-  cut_may End l = refl
-
   pub count_ends-append : (xs ys : List (Mark T)) → count_ends (xs ++ ys) ≡ count_ends xs + count_ends ys
   count_ends-append [] ys = omega arith
   count_ends-append (Item x ∷ xs) ys = count_ends-append xs ys

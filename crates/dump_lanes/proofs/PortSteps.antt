@@ -6,8 +6,8 @@ use Rattle.dump_lanes.specs.declared.pool.dones.Note.{Note}
 use Rattle.dump_lanes.specs.declared.pool.jobs.Hand.{Hand}
 use Rattle.dump_lanes.specs.declared.protocol.Mark.{Mark}
 use Rattle.dump_lanes.specs.declared.protocol.Mark.TheVariants.{Item, End}
-use Rattle.dump_lanes.specs.DoneRule.{reader, sender}
-use Rattle.dump_lanes.specs.JobRule.{hand}
+use Rattle.dump_lanes.specs.DoneRule.{after_give, after_arrive}
+use Rattle.dump_lanes.specs.JobRule.{after_put, after_ends, after_take}
 use Rattle.dump_lanes.specs.LaneMarks.{items_of, AreItemsThen, mark_if}
 use Rattle.dump_lanes.specs.PoolPasses.{count_ends, marks_in, IsCutting, IsWorking, IsGiving, IsSequencing, HasRead}
 use Rattle.dump_lanes.specs.PortSides.{PoolName, CutterSide, WorkerSide, SequencerSide}
@@ -18,25 +18,25 @@ use Rattle.dump_lanes.proofs.PoolMarks.{count_ends-append, count_ends-replicate,
 module _ {T : Type 0} where
   -- the cutter put a job
   pub cut_item : (workers : ℕ) (v w : Hand T) (x : T) → IsCutting workers v → count_ends v.put ≡ 0
-      → w ≡ hand v.parts v.puts (v.put ++ Item x ∷ []) v.taken → IsCutting workers w
+      → w ≡ after_put v (Item x) → IsCutting workers w
   cut_item workers v w x h none e =
       let put : List (Mark T) = v.put ++ Item x ∷ [] in
       let still : count_ends put ≡ 0 = let a = count_ends-append v.put (Item x ∷ []) in omega arith in
       let before : AreItemsThen [] v.put = subst (λ n. AreItemsThen (replicate n End) v.put) none h.marks in
       let after : AreItemsThen (replicate (count_ends put) End) put =
       subst (λ n. AreItemsThen (replicate n End) put) (sym still) (then_item v.put x before) in
-      subst (IsCutting workers) (sym e) record { may_put = h.may_put; parts = h.parts; nothing_taken = h.nothing_taken; marks = after }
+      subst (IsCutting workers) (sym e) record { may_put = h.may_put; takes_none = h.takes_none; parts = h.parts; nothing_taken = h.nothing_taken; marks = after }
 
-  pub cut_item_put : (v w : Hand T) (x : T) → w ≡ hand v.parts v.puts (v.put ++ Item x ∷ []) v.taken → items_of w.put ≡ items_of v.put ++ x ∷ []
+  pub cut_item_put : (v w : Hand T) (x : T) → w ≡ after_put v (Item x) → items_of w.put ≡ items_of v.put ++ x ∷ []
   cut_item_put v w x e = ap (λ (k : Hand T). items_of k.put) e ∙ items_of-then_item v.put x
 
-  pub cut_item_marks : (v w : Hand T) (x : T) → w ≡ hand v.parts v.puts (v.put ++ Item x ∷ []) v.taken → count_ends w.put ≡ count_ends v.put
+  pub cut_item_marks : (v w : Hand T) (x : T) → w ≡ after_put v (Item x) → count_ends w.put ≡ count_ends v.put
   cut_item_marks v w x e =
       ap (λ (k : Hand T). count_ends k.put) e ∙ (let a = count_ends-append v.put (Item x ∷ []) in omega arith)
 
   -- the cutter put its end marks
   pub cut_ends : (workers n : ℕ) (v w : Hand T) → IsCutting workers v → count_ends v.put ≡ 0
-      → w ≡ hand v.parts true (v.put ++ replicate n End) v.taken → IsCutting workers w
+      → w ≡ after_ends v n → IsCutting workers w
   cut_ends workers n v w h none e =
       let put : List (Mark T) = v.put ++ replicate n End in
       let now : count_ends put ≡ n =
@@ -46,12 +46,12 @@ module _ {T : Type 0} where
       ap (λ l. l ++ replicate n End) (before ∙ append-nil (map {B = Mark T} Item (items_of v.put)))
       ∙ ap (λ l. map {B = Mark T} Item l ++ replicate n End) (sym (items_of-then_ends v.put n)) in
       let after : AreItemsThen (replicate (count_ends put) End) put = subst (λ k. AreItemsThen (replicate k End) put) (sym now) all in
-      subst (IsCutting workers) (sym e) record { may_put = refl; parts = h.parts; nothing_taken = h.nothing_taken; marks = after }
+      subst (IsCutting workers) (sym e) record { may_put = h.may_put; takes_none = h.takes_none; parts = h.parts; nothing_taken = h.nothing_taken; marks = after }
 
-  pub cut_ends_put : (n : ℕ) (v w : Hand T) → w ≡ hand v.parts true (v.put ++ replicate n End) v.taken → items_of w.put ≡ items_of v.put
+  pub cut_ends_put : (n : ℕ) (v w : Hand T) → w ≡ after_ends v n → items_of w.put ≡ items_of v.put
   cut_ends_put n v w e = ap (λ (k : Hand T). items_of k.put) e ∙ items_of-then_ends v.put n
 
-  pub cut_ends_marks : (n : ℕ) (v w : Hand T) → count_ends v.put ≡ 0 → w ≡ hand v.parts true (v.put ++ replicate n End) v.taken → count_ends w.put ≡ n
+  pub cut_ends_marks : (n : ℕ) (v w : Hand T) → count_ends v.put ≡ 0 → w ≡ after_ends v n → count_ends w.put ≡ n
   cut_ends_marks n v w none e =
       ap (λ (k : Hand T). count_ends k.put) e
       ∙ (let a = count_ends-append v.put (replicate n End) in let b : count_ends {T = T} (replicate n End) ≡ n = count_ends-replicate T n in omega arith)
@@ -61,66 +61,66 @@ module _ {T : Type 0} where
   cutter_is pool workers drawn e m i = record { pool = pool; workers = workers; put = e i; marks = m i; drawn = drawn }
 
   -- a worker took a job
-  pub work_item : (ended : Bool) (v w : Hand T) (x : T) → ended ≡ false → IsWorking ended v
-      → w ≡ hand v.parts v.puts v.put (v.taken ++ Item x ∷ []) → IsWorking ended w
-  work_item ended v w x unended h e =
+  pub work_item : (worker : ℕ) (ended : Bool) (v w : Hand T) (x : T) → ended ≡ false → IsWorking worker ended v
+      → w ≡ after_take v (Item x) → IsWorking worker ended w
+  work_item worker ended v w x unended h e =
       let before : AreItemsThen [] v.taken = subst (λ b. AreItemsThen (mark_if b) v.taken) unended h.marks in
-      let after : IsWorking false (hand v.parts v.puts v.put (v.taken ++ Item x ∷ [])) = record { parts = h.parts; marks = then_item v.taken x before } in
-      subst (λ b. IsWorking b w) (sym unended) (subst (IsWorking false) (sym e) after)
+      let after : IsWorking worker false (after_take v (Item x)) = record { may_take = h.may_take; puts_none = h.puts_none; from = h.from; parts = h.parts; marks = then_item v.taken x before } in
+      subst (λ b. IsWorking worker b w) (sym unended) (subst (IsWorking worker false) (sym e) after)
 
-  pub work_item_taken : (v w : Hand T) (x : T) → w ≡ hand v.parts v.puts v.put (v.taken ++ Item x ∷ []) → items_of w.taken ≡ items_of v.taken ++ x ∷ []
+  pub work_item_taken : (v w : Hand T) (x : T) → w ≡ after_take v (Item x) → items_of w.taken ≡ items_of v.taken ++ x ∷ []
   work_item_taken v w x e = ap (λ (k : Hand T). items_of k.taken) e ∙ items_of-then_item v.taken x
 
   -- a worker took its end mark
-  pub work_end : (ended : Bool) (v w : Hand T) → ended ≡ false → IsWorking ended v
-      → w ≡ hand v.parts v.puts v.put (v.taken ++ End ∷ []) → IsWorking true w
-  work_end ended v w unended h e =
+  pub work_end : (worker : ℕ) (ended : Bool) (v w : Hand T) → ended ≡ false → IsWorking worker ended v
+      → w ≡ after_take v End → IsWorking worker true w
+  work_end worker ended v w unended h e =
       let before : AreItemsThen [] v.taken = subst (λ b. AreItemsThen (mark_if b) v.taken) unended h.marks in
-      let after : IsWorking true (hand v.parts v.puts v.put (v.taken ++ End ∷ [])) = record { parts = h.parts; marks = then_end v.taken before } in
-      subst (IsWorking true) (sym e) after
+      let after : IsWorking worker true (after_take v End) = record { may_take = h.may_take; puts_none = h.puts_none; from = h.from; parts = h.parts; marks = then_end v.taken before } in
+      subst (IsWorking worker true) (sym e) after
 
-  pub work_end_taken : (v w : Hand T) → w ≡ hand v.parts v.puts v.put (v.taken ++ End ∷ []) → items_of w.taken ≡ items_of v.taken
+  pub work_end_taken : (v w : Hand T) → w ≡ after_take v End → items_of w.taken ≡ items_of v.taken
   work_end_taken v w e = ap (λ (k : Hand T). items_of k.taken) e ∙ items_of-then_end v.taken
 
   -- a worker gave an item
   pub give_item : (worker : ℕ) (closed : Bool) (v w : Desk T) (n : Note T) (x : T) → n.mark ≡ Item x → closed ≡ false → IsGiving worker closed v
-      → w ≡ sender v.parts v.from (v.put ++ n ∷ []) → IsGiving worker closed w
+      → w ≡ after_give v n → IsGiving worker closed w
   give_item worker closed v w n x is unended h e =
       let before : AreItemsThen [] (marks_in v.put) = subst (λ b. AreItemsThen (mark_if b) (marks_in v.put)) unended h.marks in
       let joined : marks_in (v.put ++ n ∷ []) ≡ marks_in v.put ++ Item x ∷ [] = marks_in-then v.put n ∙ ap (λ m. marks_in v.put ++ m ∷ []) is in
       let all : AreItemsThen [] (marks_in (v.put ++ n ∷ [])) = subst (AreItemsThen []) (sym joined) (then_item (marks_in v.put) x before) in
-      let after : IsGiving worker false (sender v.parts v.from (v.put ++ n ∷ [])) = record { may_put = refl; from = h.from; parts = h.parts; marks = all } in
+      let after : IsGiving worker false (after_give v n) = record { may_put = refl; from = h.from; parts = h.parts; marks = all } in
       subst (λ b. IsGiving worker b w) (sym unended) (subst (IsGiving worker false) (sym e) after)
 
   pub give_item_given : (v w : Desk T) (n : Note T) (x : T) → n.mark ≡ Item x
-      → w ≡ sender v.parts v.from (v.put ++ n ∷ []) → items_of (marks_in w.put) ≡ items_of (marks_in v.put) ++ x ∷ []
+      → w ≡ after_give v n → items_of (marks_in w.put) ≡ items_of (marks_in v.put) ++ x ∷ []
   give_item_given v w n x is e =
       ap (λ (k : Desk T). items_of (marks_in k.put)) e
       ∙ (ap items_of (marks_in-then v.put n ∙ ap (λ m. marks_in v.put ++ m ∷ []) is) ∙ items_of-then_item (marks_in v.put) x)
 
   -- a worker put its end mark
   pub give_end : (worker : ℕ) (closed : Bool) (v w : Desk T) (n : Note T) → n.mark ≡ End → closed ≡ false → IsGiving worker closed v
-      → w ≡ sender v.parts v.from (v.put ++ n ∷ []) → IsGiving worker true w
+      → w ≡ after_give v n → IsGiving worker true w
   give_end worker closed v w n is unended h e =
       let before : AreItemsThen [] (marks_in v.put) = subst (λ b. AreItemsThen (mark_if b) (marks_in v.put)) unended h.marks in
       let joined : marks_in (v.put ++ n ∷ []) ≡ marks_in v.put ++ End ∷ [] = marks_in-then v.put n ∙ ap (λ m. marks_in v.put ++ m ∷ []) is in
       let all : AreItemsThen (End ∷ []) (marks_in (v.put ++ n ∷ [])) = subst (AreItemsThen (End ∷ [])) (sym joined) (then_end (marks_in v.put) before) in
-      let after : IsGiving worker true (sender v.parts v.from (v.put ++ n ∷ [])) = record { may_put = refl; from = h.from; parts = h.parts; marks = all } in
+      let after : IsGiving worker true (after_give v n) = record { may_put = refl; from = h.from; parts = h.parts; marks = all } in
       subst (IsGiving worker true) (sym e) after
 
   pub give_end_given : (v w : Desk T) (n : Note T) → n.mark ≡ End
-      → w ≡ sender v.parts v.from (v.put ++ n ∷ []) → items_of (marks_in w.put) ≡ items_of (marks_in v.put)
+      → w ≡ after_give v n → items_of (marks_in w.put) ≡ items_of (marks_in v.put)
   give_end_given v w n is e =
       ap (λ (k : Desk T). items_of (marks_in k.put)) e
       ∙ (ap items_of (marks_in-then v.put n ∙ ap (λ m. marks_in v.put ++ m ∷ []) is) ∙ items_of-then_end (marks_in v.put))
 
   -- the sequencer took a note with an item
   pub read_item : (v w w' : Desk T) (n : Note T) (x : T) → n.mark ≡ Item x → HasRead [] v w
-      → w' ≡ reader w.parts w.put w.made (w.got ++ n ∷ []) w.known → HasRead (x ∷ []) v w'
+      → w' ≡ after_arrive w n → HasRead (x ∷ []) v w'
   read_item v w w' n x is h e =
       let before = h.taken ∙ append-nil (items_of (marks_in v.got)) in
       let one : marks_in (w.got ++ n ∷ []) ≡ marks_in w.got ++ Item x ∷ [] = marks_in-then w.got n ∙ ap (λ m. marks_in w.got ++ m ∷ []) is in
-      let after : HasRead (x ∷ []) v (reader w.parts w.put w.made (w.got ++ n ∷ []) w.known) = record {
+      let after : HasRead (x ∷ []) v (after_arrive w n) = record {
         may_take = refl;
         parts = h.parts;
         made = h.made;
@@ -130,17 +130,17 @@ module _ {T : Type 0} where
       } in subst (HasRead (x ∷ []) v) (sym e) after
 
   pub read_item_ends : (w w' : Desk T) (n : Note T) (x : T) → n.mark ≡ Item x
-      → w' ≡ reader w.parts w.put w.made (w.got ++ n ∷ []) w.known → count_ends (marks_in w'.got) ≡ count_ends (marks_in w.got)
+      → w' ≡ after_arrive w n → count_ends (marks_in w'.got) ≡ count_ends (marks_in w.got)
   read_item_ends w w' n x is e =
       let one : marks_in (w.got ++ n ∷ []) ≡ marks_in w.got ++ Item x ∷ [] = marks_in-then w.got n ∙ ap (λ m. marks_in w.got ++ m ∷ []) is in
       ap (λ (k : Desk T). count_ends (marks_in k.got)) e ∙ (ap count_ends one ∙ (let a = count_ends-append (marks_in w.got) (Item x ∷ []) in omega arith))
 
   -- the sequencer took a worker's end mark
   pub read_end : (v w w' : Desk T) (n : Note T) → n.mark ≡ End → HasRead [] v w
-      → w' ≡ reader w.parts w.put w.made (w.got ++ n ∷ []) w.known → HasRead [] v w'
+      → w' ≡ after_arrive w n → HasRead [] v w'
   read_end v w w' n is h e =
       let one : marks_in (w.got ++ n ∷ []) ≡ marks_in w.got ++ End ∷ [] = marks_in-then w.got n ∙ ap (λ m. marks_in w.got ++ m ∷ []) is in
-      let after : HasRead [] v (reader w.parts w.put w.made (w.got ++ n ∷ []) w.known) = record {
+      let after : HasRead [] v (after_arrive w n) = record {
         may_take = refl;
         parts = h.parts;
         made = h.made;
@@ -150,7 +150,7 @@ module _ {T : Type 0} where
       } in subst (HasRead [] v) (sym e) after
 
   pub read_end_ends : (w w' : Desk T) (n : Note T) → n.mark ≡ End
-      → w' ≡ reader w.parts w.put w.made (w.got ++ n ∷ []) w.known → count_ends (marks_in w'.got) ≡ count_ends (marks_in w.got) + 1
+      → w' ≡ after_arrive w n → count_ends (marks_in w'.got) ≡ count_ends (marks_in w.got) + 1
   read_end_ends w w' n is e =
       let one : marks_in (w.got ++ n ∷ []) ≡ marks_in w.got ++ End ∷ [] = marks_in-then w.got n ∙ ap (λ m. marks_in w.got ++ m ∷ []) is in
       ap (λ (k : Desk T). count_ends (marks_in k.got)) e ∙ (ap count_ends one ∙ count_ends-append (marks_in w.got) (End ∷ []))

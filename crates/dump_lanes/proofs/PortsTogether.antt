@@ -19,7 +19,7 @@ use Rattle.dump_lanes.specs.LaneMarks.{items_of, AreItemsThen, mark_if}
 use Rattle.dump_lanes.specs.PoolNames.{name_of}
 use Rattle.dump_lanes.specs.PoolPasses.{count_ends, marks_in, IsCutting, IsSequencing}
 use Rattle.dump_lanes.specs.PortSides.{PoolName, PoolState, CutterSide, WorkerSide, new_cutter, new_worker, AreWorkersOf, IsDone, all_taken, all_given}
-use Rattle.dump_lanes.specs.PortViews.{worker_port, HasJobsOf, HasDonesOf}
+use Rattle.dump_lanes.specs.PortViews.{worker_port, HasJobsOf, HasDonesOf, job_steps, done_steps}
 use Rattle.dump_lanes.proofs.MarkLists.{items_of-append}
 use Rattle.dump_lanes.proofs.PoolMarks.{count_ends-append}
 use Rattle.dump_lanes.proofs.Settling.{one_end, all_jobs, all_dones, HasEnded, marks_in-append, flat_map-then, map-then}
@@ -184,33 +184,45 @@ module _ {J D : Type 0} where
       ∙ (ap (λ l. sum_by weight (items_of (marks_in l))) put_is ∙ ap (sum_by weight) (items_put ps)))
 
   -- the cutter's pass takes in one worker's after another
-  pub no_jobs : (v : Hand J) → v.puts ≡ true → HasJobsOf {J = J} {D = D} [] v v
-  no_jobs v may = record { may_put = may; parts = omega arith; put = refl; taken = sym (append-nil v.taken) }
+  job_steps-then : (ps : List (WorkerPort J D)) (p : WorkerPort J D) → job_steps (ps ++ p ∷ []) ≡ (view p.jobs).steps ++ job_steps ps
+  job_steps-then [] p = sym (append-nil (view p.jobs).steps)
+  job_steps-then (q ∷ ps) p =
+      ap (λ l. l ++ (view q.jobs).steps) (job_steps-then ps p) ∙ append_assoc (view p.jobs).steps (job_steps ps) (view q.jobs).steps
+
+  done_steps-then : (ps : List (WorkerPort J D)) (p : WorkerPort J D) → done_steps (ps ++ p ∷ []) ≡ (view p.dones).steps ++ done_steps ps
+  done_steps-then [] p = sym (append-nil (view p.dones).steps)
+  done_steps-then (q ∷ ps) p =
+      ap (λ l. l ++ (view q.dones).steps) (done_steps-then ps p) ∙ append_assoc (view p.dones).steps (done_steps ps) (view q.dones).steps
+
+  pub no_jobs : (v : Hand J) → v.puts ≡ true → v.takes ≡ false → HasJobsOf {J = J} {D = D} [] v v
+  no_jobs v may idle = record { may_put = may; takes_none = idle; parts = omega arith; put = refl; taken = sym (append-nil v.taken); steps = refl }
 
   pub more_jobs : (ps : List (WorkerPort J D)) (p : WorkerPort J D) (old v w : Hand J) → HasJobsOf ps old v
-      → w ≡ job_rule.hand (v.parts + (view p.jobs).parts) v.puts v.put (v.taken ++ (view p.jobs).taken) → HasJobsOf (ps ++ p ∷ []) old w
+      → w ≡ job_rule.after_join v (view p.jobs) → HasJobsOf (ps ++ p ∷ []) old w
   more_jobs ps p old v w h e =
       let one = p.works.parts in
       let long = length-append ps (p ∷ []) in
-      let both : Hand J = job_rule.hand (v.parts + (view p.jobs).parts) v.puts v.put (v.taken ++ (view p.jobs).taken) in
+      let both : Hand J = job_rule.after_join v (view p.jobs) in
       let after : HasJobsOf (ps ++ p ∷ []) old both = record {
         may_put = h.may_put;
+        takes_none = h.takes_none;
         parts = let k = h.parts in omega arith;
         put = h.put;
         taken = ap (λ l. l ++ taken_of p) h.taken ∙ (append_assoc old.taken (flat_map taken_of ps) (taken_of p) ∙ ap (λ l. old.taken ++ l) (sym (flat_map-then taken_of ps p)));
+        steps = ap (λ l. (view p.jobs).steps ++ l) h.steps ∙ (sym (append_assoc (view p.jobs).steps (job_steps ps) old.steps) ∙ ap (λ l. l ++ old.steps) (sym (job_steps-then ps p)));
       } in subst (HasJobsOf (ps ++ p ∷ []) old) (sym e) after
 
   -- and so does the sequencer's
   pub no_dones : (v : Desk D) → v.gets ≡ true → HasDonesOf {J = J} {D = D} [] v v
-  no_dones v may = record { may_take = may; parts = omega arith; put = sym (append-nil v.put); made = refl; got = refl; known = sym (append-nil v.known) }
+  no_dones v may = record { may_take = may; parts = omega arith; put = sym (append-nil v.put); made = refl; got = refl; known = sym (append-nil v.known); steps = refl }
 
   pub more_dones : (ps : List (WorkerPort J D)) (p : WorkerPort J D) (old v w : Desk D) → HasDonesOf ps old v
-      → w ≡ done_rule.reader (v.parts + (view p.dones).parts) (v.put ++ (view p.dones).put) v.made v.got (v.known ++ ((view p.dones).from, (view p.dones).put) ∷ [])
+      → w ≡ done_rule.after_join v (view p.dones)
       → HasDonesOf (ps ++ p ∷ []) old w
   more_dones ps p old v w h e =
       let one = p.gives.parts in
       let long = length-append ps (p ∷ []) in
-      let both : Desk D = done_rule.reader (v.parts + (view p.dones).parts) (v.put ++ (view p.dones).put) v.made v.got (v.known ++ ((view p.dones).from, (view p.dones).put) ∷ []) in
+      let both : Desk D = done_rule.after_join v (view p.dones) in
       let after : HasDonesOf (ps ++ p ∷ []) old both = record {
         may_take = refl;
         parts = let k = h.parts in omega arith;
@@ -218,6 +230,7 @@ module _ {J D : Type 0} where
         made = h.made;
         got = h.got;
         known = ap (λ l. l ++ known_of p ∷ []) h.known ∙ (append_assoc old.known (map known_of ps) (known_of p ∷ []) ∙ ap (λ l. old.known ++ l) (sym (map-then known_of ps p)));
+        steps = ap (λ l. (view p.dones).steps ++ l) h.steps ∙ (sym (append_assoc (view p.dones).steps (done_steps ps) old.steps) ∙ ap (λ l. l ++ old.steps) (sym (done_steps-then ps p)));
       } in subst (HasDonesOf (ps ++ p ∷ []) old) (sym e) after
 
   -- other ports of the same workers

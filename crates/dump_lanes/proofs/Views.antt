@@ -40,6 +40,16 @@ module _ {V : Type 0} where
   within (x ∷ xs) zero v e = omega arith
   within (x ∷ xs) (suc pass) v e = let t = within xs pass v e in omega arith
 
+  pub set_long : (views : List V) (pass : ℕ) (w : V) → length (set views pass w) ≡ length views
+  set_long [] pass w = refl
+  set_long (x ∷ xs) zero w = refl
+  set_long (x ∷ xs) (suc pass) w = ap suc (set_long xs pass w)
+
+  pub at_some : (views : List V) (pass : ℕ) → pass < length views → (v : V) × (get_elem? views pass ≡ some v)
+  at_some [] pass lt = absurd (omega arith)
+  at_some (x ∷ xs) zero lt = (x, refl)
+  at_some (x ∷ xs) (suc pass) lt = at_some xs pass (omega arith)
+
   -- a sum over the views after a change of one of them
   pub sum_by-set : (f : V → ℕ) (views : List V) (pass : ℕ) (v w : V) → get_elem? views pass ≡ some v
       → sum_by f (set views pass w) + f v ≡ sum_by f views + f w

@@ -1,5 +1,5 @@
 -- What the contracts see of a credit.
-use Rattle.std.specs.Prelude.{◌≡◌, ◌+◌, Bool, true, false}
+use Rattle.std.specs.Prelude.{◌≡◌, Bool, true, false}
 use Rattle.atomic_table.specs.Seated.{TableId}
 use Rattle.crossbeam_queue.specs.Passes.{Pass, view}
 use Rattle.dump_lanes.specs.declared.pool.credits.Purse.{Purse}
@@ -7,7 +7,7 @@ use Rattle.dump_lanes.specs.declared.pool.credits.Token.{Token}
 use Rattle.dump_lanes.specs.declared.pool.drawing.Credit.{Credit}
 use Rattle.dump_lanes.specs.declared.pool.drawing.Drawn.{Drawn}
 use Rattle.dump_lanes.specs.declared.pool.drawing.Drawn.TheVariants as draws
-use Rattle.dump_lanes.specs.CreditRule.{purse}
+use Rattle.dump_lanes.specs.CreditRule.{after_draw}
 
 -- the queue of credits of the pool that a credit is of
 abbrev pub credit_pool : Credit → TableId
@@ -21,5 +21,5 @@ is_stop draws.Stop = true
 -- one call for a credit, and the pass that draws it
 abbrev pub HasDrawn : Pass Token Purse → Drawn → Pass Token Purse → Type 0
 HasDrawn old (draws.Credit credit) new = (credit_pool credit ≡ old.table_id)
-    × (view new ≡ purse (view old).draws (view old).gives (view old).first ((view old).drawn + 1) (view old).back)
+    × (view new ≡ after_draw (view old))
 HasDrawn old draws.Stop new = view new ≡ view old

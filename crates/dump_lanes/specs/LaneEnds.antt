@@ -1,5 +1,5 @@
 -- A lane: items from one thread to another, in order, up to an end mark.
-use Rattle.std.specs.Prelude.{◌≡◌, List, ◌++◌, ⊤}
+use Rattle.std.specs.Prelude.{◌≡◌, List, ⊤}
 use Rattle.atomic_table.specs.Seated.{TableId}
 use Rattle.atomic_table.specs.declared.badge.Badge.{Badge}
 use Rattle.crossbeam_channel.specs.declared.flavors.array.Key.{Key}
@@ -32,8 +32,3 @@ abbrev pub IsWholeAtEnd : {T : Type 0} → LaneEnd → List T → List T → Typ
 IsWholeAtEnd LaneEnd.MayCome put taken = ⊤
 IsWholeAtEnd LaneEnd.Ended put taken = taken ≡ put
 IsWholeAtEnd LaneEnd.SenderGone put taken = ⊤
-
--- what was taken is a prefix of what was put, and after the end mark all of it
-pub record Settles {T : Type 0} (receiving : Receiving T) (sending : Sending T) : Type 0 where
-  pub in_order : (rest : List T) × (sending.put ≡ receiving.taken ++ rest)
-  pub whole : IsWholeAtEnd receiving.told sending.put receiving.taken

@@ -7,6 +7,7 @@ pub mod LaneEnds
 pub mod LaneMarks
 pub mod LaneRule
 pub mod LaneViews
+pub mod PartSteps
 pub mod PoolEvents
 pub mod PoolFacts
 pub mod PoolNames
@@ -14,9 +15,11 @@ pub mod PoolParts
 pub mod PoolPasses
 pub mod PoolWorld
 pub mod PortSides
+pub mod PortSteps
 pub mod PortViews
-pub mod QueueShares
+pub mod RunSteps
 pub mod SlotRow
 pub mod SlotViews
+pub mod StepMoves
 pub mod StopRule
 pub mod StopSeats

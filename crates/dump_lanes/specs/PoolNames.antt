@@ -7,7 +7,7 @@ use Rattle.dump_lanes.specs.declared.pool.queues.Passes.{Passes}
 use Rattle.dump_lanes.specs.declared.pool.shares.Shares.{Shares}
 use Rattle.dump_lanes.specs.CreditRule.{purse}
 use Rattle.dump_lanes.specs.DoneRule.{reader}
-use Rattle.dump_lanes.specs.JobRule.{hand}
+use Rattle.dump_lanes.specs.JobRule.{cutter_hand}
 use Rattle.dump_lanes.specs.PortSides.{PoolName, PoolState}
 
 module _ {J D : Type 0} where
@@ -28,9 +28,9 @@ module _ {J D : Type 0} where
     pub of_jobs : IsPassOf q.jobs p.jobs
     pub of_dones : IsPassOf q.dones p.dones
     pub of_credits : IsPassOf q.credits p.credits
-    pub jobs : view p.jobs ≡ hand 128 true [] []
-    pub dones : view p.dones ≡ reader 128 [] 0 [] []
-    pub credits : view p.credits ≡ purse true true q.window 0 0
+    pub jobs : view p.jobs ≡ cutter_hand 128 0
+    pub dones : view p.dones ≡ reader 128 [] 0 [] [] []
+    pub credits : view p.credits ≡ purse true true q.window 0 0 []
 
   -- the queues, once for each port
   pub record AreShares (q : Queues J D) (s : Shares J D) : Type 0 where

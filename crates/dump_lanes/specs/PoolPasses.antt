@@ -1,5 +1,5 @@
 -- What the passes of a pool's ports say.
-use Rattle.std.specs.Prelude.{◌≡◌, ℕ, ◌+◌, Bool, true, List, [], ◌∷◌, ◌++◌, map, replicate}
+use Rattle.std.specs.Prelude.{◌≡◌, ℕ, ◌+◌, Bool, true, false, List, [], ◌∷◌, ◌++◌, map, replicate}
 use Rattle.dump_lanes.specs.declared.pool.credits.Purse.{Purse}
 use Rattle.dump_lanes.specs.declared.pool.dones.Desk.{Desk}
 use Rattle.dump_lanes.specs.declared.pool.dones.Note.{Note}
@@ -22,12 +22,16 @@ module _ {T : Type 0} where
   -- the cutter's: it has put jobs and then end marks, and each worker has one of the parts
   pub record IsCutting (workers : ℕ) (v : Hand T) : Type 0 where
     pub may_put : v.puts ≡ true
+    pub takes_none : v.takes ≡ false
     pub parts : v.parts + workers ≡ 128
     pub nothing_taken : v.taken ≡ []
     pub marks : AreItemsThen (replicate (count_ends v.put) End) v.put
 
   -- a worker's for the jobs: it has taken jobs, and then its end mark, if that came
-  pub record IsWorking (ended : Bool) (v : Hand T) : Type 0 where
+  pub record IsWorking (worker : ℕ) (ended : Bool) (v : Hand T) : Type 0 where
+    pub may_take : v.takes ≡ true
+    pub puts_none : v.puts ≡ false
+    pub from : v.from ≡ worker
     pub parts : v.parts ≡ 1
     pub marks : AreItemsThen (mark_if ended) v.taken
 

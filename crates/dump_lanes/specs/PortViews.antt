@@ -12,6 +12,9 @@ use Rattle.dump_lanes.specs.declared.pool.dones.Desk.{Desk}
 use Rattle.dump_lanes.specs.declared.pool.drawing.Drawn.{Drawn}
 use Rattle.dump_lanes.specs.declared.pool.drawing.Drawn.TheVariants as draws
 use Rattle.dump_lanes.specs.declared.pool.jobs.Hand.{Hand}
+use Rattle.dump_lanes.specs.declared.pool.dones.Note.{Note}
+use Rattle.dump_lanes.specs.declared.protocol.Mark.{Mark}
+use Rattle.dump_lanes.specs.declared.steps.Step.{Step}
 use Rattle.dump_lanes.specs.CreditViews.{credit_pool}
 use Rattle.dump_lanes.specs.LaneMarks.{items_of}
 use Rattle.dump_lanes.specs.PoolNames.{name_of, state_of}
@@ -57,12 +60,23 @@ module _ {J D : Type 0} where
   worker_ports ports = map (λ (p : WorkerPort J D). worker_port p) ports.workers.items
 
 module _ {J D : Type 0} where
+  -- the steps on the jobs, and on the dones, that these workers made, the last ones first
+  abbrev pub job_steps : List (WorkerPort J D) → List (Step (Mark J))
+  job_steps [] = []
+  job_steps (p ∷ ports) = job_steps ports ++ (view p.jobs).steps
+
+  abbrev pub done_steps : List (WorkerPort J D) → List (Step (Note D))
+  done_steps [] = []
+  done_steps (p ∷ ports) = done_steps ports ++ (view p.dones).steps
+
   -- the cutter's pass for the jobs, after it has taken in these workers'
   pub record HasJobsOf (ports : List (WorkerPort J D)) (old new : Hand J) : Type 0 where
     pub may_put : new.puts ≡ true
+    pub takes_none : new.takes ≡ false
     pub parts : new.parts ≡ old.parts + length ports
     pub put : new.put ≡ old.put
     pub taken : new.taken ≡ old.taken ++ flat_map (λ (p : WorkerPort J D). (view p.jobs).taken) ports
+    pub steps : new.steps ≡ job_steps ports ++ old.steps
 
   -- the sequencer's pass, after it has taken in these workers'
   pub record HasDonesOf (ports : List (WorkerPort J D)) (old new : Desk D) : Type 0 where
@@ -72,6 +86,7 @@ module _ {J D : Type 0} where
     pub made : new.made ≡ old.made
     pub got : new.got ≡ old.got
     pub known : new.known ≡ old.known ++ map (λ (p : WorkerPort J D). ((view p.dones).from, (view p.dones).put)) ports
+    pub steps : new.steps ≡ done_steps ports ++ old.steps
 
 -- one call of a worker: a job joins the taken ones, or its end mark came, now or before
 abbrev pub JobStep : {J D : Type 0} → WorkerSide J D → Option J → WorkerSide J D → Type 0

@@ -1,16 +1,18 @@
 //! The two ends of a lane.
 ghost use Rattle.std.specs.Prelude.{◌≡◌, [], ◌∷◌, ◌++◌, IfErr, OnOk, OnErr};
+ghost use Rattle.std.specs.Result.{is_ok};
 ghost use Rattle.crossbeam_channel.specs.Claims.{IsSeatAt, view};
 ghost use Rattle.crossbeam_channel.specs.Ends.{sends_on, receives_on};
-ghost use Rattle.dump_lanes.specs.LaneEnds.{Settles};
 ghost use Rattle.dump_lanes.specs.LaneMarks.{IsPutting, IsTaking, mark_if, mark_of};
 
 use crate::protocol::{InOrder, Log, Mark, Puts, Roles, Takes, Total};
 use crossbeam_channel::{Pass, RuledReceiver, RuledSender};
 use std::sync::Wait;
 
+mod closing;
 mod pair;
 
+use closing::{Unheard, put_end};
 pub use pair::{Memory, lane};
 
 /// The sending end of a lane.
@@ -27,9 +29,9 @@ pub struct LaneIn<T: Drop> {
 pub struct Sent<T: Drop> {
     sender: RuledSender<Mark<T>, Log<T>, InOrder>,
     pass: Pass<Mark<T>, Log<T>>,
-    marked: bool,
+    marked: Result<(), Unheard>,
     ghost seated: { IsSeatAt (sends_on sender) pass },
-    ghost puts: { IsPutting (mark_if marked) (view pass) },
+    ghost puts: { IsPutting (mark_if (is_ok marked)) (view pass) },
 }
 
 /// The receiving end of a lane.
@@ -84,12 +86,12 @@ impl<T: Drop> LaneIn<T> {
     }
 
     /// Puts the end mark, so that nothing can follow what was put, and waits for a place. Where the
-    /// receiving end is gone there is no mark to put, and the list of items is final all the same.
+    /// receiving end is gone the mark is not put, and the list of items is final all the same.
     pub fn close<R: Wait>(self, rt: &R) -> Sent<T>
         ensures { sent result ≡ sending self }
     {
         let LaneIn { sender, mut pass } = self;
-        let marked = sender.send_as::<Puts, R>(rt, &mut pass, Mark::End).is_ok();
+        let marked = put_end(rt, &sender, &mut pass);
         Sent {
             sender,
             pass,
@@ -99,7 +101,7 @@ impl<T: Drop> LaneIn<T> {
 }
 
 impl<T: Drop> LaneOut<T> {
-    ghost use Rattle.dump_lanes.specs.LaneViews.{receiving, sent, TakeStep};
+    ghost use Rattle.dump_lanes.specs.LaneViews.{receiving, sent, Settles, TakeStep};
 
     /// Takes the item at the front, and waits for one. After `Closed` or `Lost` the answer stays.
     pub fn take<R: Wait>(&mut self, rt: &R) -> Taken<T>
@@ -123,10 +125,11 @@ impl<T: Drop> LaneOut<T> {
         }
     }
 
-    /// Shows that what was taken is what was put, and drops both ends.
+    /// Shows that what was taken is what was put, that the end was told only where its mark was put, and that
+    /// the ends together made just the steps of one history, and drops both ends.
     pub fn settle(self, other: Sent<T>)
         requires { (receiving self).lane ≡ (sent other).lane }
-        ensures { Settles (receiving self) (sent other) }
+        ensures { Settles self other }
     {
         let LaneOut {
             receiver,

@@ -3,12 +3,17 @@
 //! A pool is a cutter, workers, a sequencer and a writer, with the queues between them. An event is one
 //! atomic step of one of them. A run is any list of events, each of which may happen in the state that
 //! those before it led to. No law says that an event comes: a pool that stands still is sound too.
+ghost use Rattle.std.specs.Prelude.{◌≡◌, ◌+◌, List, ◌++◌, length, IsTrue};
 ghost use Rattle.std.specs.Prelude.{IsTrue};
 ghost use Rattle.dump_lanes.specs.Arrivals.{NoneClash, AllReleased};
 ghost use Rattle.dump_lanes.specs.PoolWorld.{PoolSize, World};
 ghost use Rattle.dump_lanes.specs.PoolEvents.{Event, is_enabled};
 ghost use Rattle.dump_lanes.specs.PoolFacts.{EveryRunIsSound};
 ghost use Rattle.dump_lanes.specs.PoolParts.{SharesEvent, LeavesOthers, PartsAllow};
+ghost use Rattle.dump_lanes.specs.PartSteps.{Part, AreSteps, all_put, all_taken};
+ghost use Rattle.dump_lanes.specs.RunSteps.{EveryRunMakesSteps};
+ghost use Rattle.dump_lanes.specs.StepMoves.{CreditsMoveOne, JobsMoveOne, DonesMoveOne, PiecesMoveOne, WordOnlyRises, NoCutIsUnnoted};
+ghost use Rattle.dump_lanes.specs.declared.steps.Step.{Step};
 
 /// An event is the share that each shared part has in it, and a change of what the thread that steps
 /// owns. So a part's rule can be stated of that part alone.
@@ -17,6 +22,33 @@ pub fn every_part_shares_each_event()
     ensures own { (size : PoolSize) (w : World) (event : Event) → LeavesOthers size w event }
     ensures allows { (size : PoolSize) (w : World) (event : Event) →
         IsTrue (is_enabled size w event) → PartsAllow w event }
+{}
+
+/// A queue whose steps are its part's shares of their events holds what was put less what was taken, in
+/// order, and each step moved one entry.
+pub fn every_queue_keeps_order<E>()
+    ensures order { (part : Part E) (happened : List (Step E)) (items : List E) →
+        AreSteps part happened items → all_put part happened ≡ all_taken part happened ++ items }
+    ensures one_each { (part : Part E) (happened : List (Step E)) (items : List E) →
+        AreSteps part happened items →
+        length happened ≡ length (all_put part happened) + length (all_taken part happened) }
+{}
+
+/// A step on a shared part is one of two threads' own, and moves one entry: in at the back, or out at the front.
+/// A raise puts the stop word up, and nothing takes it down. And no rule lets the cutter put a mark unnoted.
+pub fn every_step_moves_one_entry<T>()
+    ensures credits { CreditsMoveOne }
+    ensures jobs { JobsMoveOne T }
+    ensures dones { DonesMoveOne T }
+    ensures pieces { PiecesMoveOne T }
+    ensures word { WordOnlyRises }
+    ensures noted { NoCutIsUnnoted T }
+{}
+
+/// Every run makes on each shared part, one by one, steps that the part's rule allows: a history with a step for
+/// each event of the run on that part, which leads to what the part is after the run.
+pub fn every_run_makes_steps()
+    ensures { EveryRunMakesSteps }
 {}
 
 /// Whatever the threads do, in whatever order, the state of a pool with at least one worker and room

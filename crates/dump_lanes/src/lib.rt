@@ -22,11 +22,11 @@
 //!
 //! A `Pool` has a queue of jobs from one cutter to many workers, a queue of dones from the workers
 //! to one sequencer, and a queue of credits from one writer back to the cutter. `ports` gives each of
-//! them its port. The cutter draws a credit for each item, so no more items are under way than there
-//! are credits; whoever finishes an item gives its credit back. The cutter closes its port, each worker
-//! then its own, and the sequencer is told when each has. Where all ports come together again,
-//! `settle` shows that each job was taken as often as it was put, each done as often as it was given,
-//! and that no more credits were drawn than there were at first and came back.
+//! them its port. The cutter draws a credit before each item, and whoever finishes an item gives its
+//! credit back: where callers do so, no more items are under way than there are credits. The cutter
+//! closes its port, each worker then its own, and the sequencer is told when each has. Where all ports
+//! come together again, `settle` shows that each job was taken as often as it was put, each done as
+//! often as it was given, and that no more credits were drawn than there were at first and came back.
 //!
 //! ```text
 //! let Drawn::Credit(credit) = ports.cutter.draw(&rt, &word, &mut seat) else { return };
@@ -44,8 +44,9 @@
 //!
 //! # The stop word
 //!
-//! A `StopWord` is raised and looked at from seats, one for each thread. A look that finds it up is
-//! right, and a seat that raised it, or saw it up before, finds it up. None of its calls waits.
+//! A `StopWord` is raised and looked at from seats, one for each thread. A seat that raised it, or saw
+//! it up before, finds it up. A seat that holds the whole word saw it up only where it was raised, which
+//! comes out where seats are joined. None of its calls waits.
 //!
 //! # Slots
 //!
@@ -60,14 +61,15 @@
 //! # The laws of the pool
 //!
 //! [`laws`] says of the pool's events, without threads or queues, that whatever happens each item is in one
-//! place, in order, and no two share a slot; and that each queue is its own share of the events.
+//! place, in order, and no two share a slot; and that each event is a step that the rules of the queues, of
+//! the lane and of the stop word allow: one entry that joins or leaves, by the thread whose step it is.
 //!
 //! # What is not promised
 //!
 //! Nothing is promised of waiting: not that a put, a close, a take or a draw returns, nor how soon,
 //! which worker takes what, or that a stop is ever seen. No contract says when a put on a lane hands its
-//! item back or when a take answers `Lost`, only what the ends have then put and taken. The items that
-//! are left when all ends or ports go are dropped.
+//! item back, when a close finds that nobody receives its mark, or when a take answers `Lost`, only what
+//! the ends have then put and taken. The items that are left when all ends or ports go are dropped.
 #![tactic(auto)]
 
 mod ends;
@@ -75,6 +77,7 @@ pub mod laws;
 mod pool;
 mod protocol;
 mod slots;
+mod steps;
 mod stop;
 #[cfg(test)]
 mod tests;

@@ -1,6 +1,7 @@
 ghost use Rattle.std.specs.Prelude.{◌≡◌};
 ghost use Rattle.dump_lanes.specs.LaneViews.{sending, sent, receiving};
 
+mod drawing;
 mod pooling;
 mod running;
 mod starting;

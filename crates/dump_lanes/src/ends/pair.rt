@@ -1,7 +1,7 @@
 //! How the two ends of a lane are made.
-ghost use Rattle.std.specs.Prelude.{◌≡◌, ◌≤◌, [], IfOk};
+ghost use Rattle.std.specs.Prelude.{◌≡◌, ◌≤◌, ◌+◌, [], IfOk};
 ghost use Rattle.dump_lanes.specs.LaneEnds.{LaneEnd};
-ghost use Rattle.dump_lanes.specs.LaneViews.{sending, receiving};
+ghost use Rattle.dump_lanes.specs.LaneViews.{sending, receiving, places};
 
 use super::{LaneIn, LaneOut, Told};
 use crate::protocol::{InOrder, Log, Mark, Roles};
@@ -14,6 +14,7 @@ pub fn lane<T: Drop>(alloc: Global, capacity: usize) -> Result<(LaneIn<T>, LaneO
     requires some { 1 ≤ capacity }
     requires most { capacity ≤ 4096 }
     ensures ends { IfOk result (λ ends. (receiving ends.1).lane ≡ (sending ends.0).lane) }
+    ensures room { IfOk result (λ ends. places ends.0 ≡ capacity + 1) }
     ensures nothing_put { IfOk result (λ ends. (sending ends.0).put ≡ []) }
     ensures nothing_taken { IfOk result (λ ends. (receiving ends.1).taken ≡ []) }
     ensures nothing_told { IfOk result (λ ends. (receiving ends.1).told ≡ LaneEnd.MayCome) }

@@ -1,12 +1,15 @@
 //! The protocol of the queue of credits, from the writer back to the cutter.
 //!
 //! 1. The queue holds a token for each free credit; at first as many are put as the window is wide.
-//! 2. How many are free is the credits' share of each event of the pool.
-//! 3. One pass alone draws, and knows how many were drawn; one alone gives back, and knows how many came back.
+//! 2. There is one history of steps, each of which is the credits' share of one event of the pool, with one credit. It
+//!    leads from the credits that were put at first to those that are free.
+//! 3. The cutter's pass knows the draws, of which the history has just those; the writer's those that it gave back.
 //! 4. So those that were there at first and came back are those that were drawn and those that are free.
-//! 5. Where the two passes meet again, the credits drawn are at most those at first and those given back.
+//! 5. Where the two passes meet again, they know all steps, and no more were drawn than were there and came back.
+use crate::steps::Step;
 use crossbeam_queue::RuledArrayQueue;
 use crossbeam_queue::protocol::{Join, Lesson, Outcome, Protocol, Split};
+use std::collections::LinkedList;
 
 /// The queue of credits.
 pub type CreditQueue = RuledArrayQueue<Token, Purse, CreditShares>;
@@ -22,77 +25,76 @@ pub struct Purse {
     pub first: u64,
     pub drawn: u64,
     pub back: u64,
+    pub steps: LinkedList<Step<()>>,
 }
 
-/// The rule: as many credits are free as their share of the events says.
+/// The rule: each step on the queue is its share of the event that its pass notes.
 pub struct CreditShares;
 
 impl Protocol<Token, Purse> for CreditShares {
-    ghost use Rattle.std.specs.Prelude.{true};
+    ghost use Rattle.std.specs.Prelude.{true, []};
     ghost use Rattle.dump_lanes.specs.CreditRule.{purse, IsCreditQueue};
 
     ghost holds = { IsCreditQueue };
 
-    ghost first = { purse true true 0 0 0 };
+    ghost first = { purse true true 0 0 0 [] };
 }
 
 /// The first pass is cut in two: the left one draws, the right one gives back.
 pub struct CreditRoles;
 
 impl Split<Purse> for CreditRoles {
-    ghost use Rattle.std.specs.Prelude.{true, false};
-    ghost use Rattle.dump_lanes.specs.CreditRule.{purse};
+    ghost use Rattle.dump_lanes.specs.CreditRule.{cutter_purse, writer_purse};
 
-    ghost left = { λ v. purse true false 0 v.drawn 0 };
+    ghost left = { cutter_purse };
 
-    ghost right = { λ v. purse false true v.first 0 v.back };
+    ghost right = { writer_purse };
 }
 
 impl Join<Purse> for CreditRoles {
-    ghost use Rattle.std.specs.Prelude.{true, false};
-    ghost use Rattle.dump_lanes.specs.CreditRule.{purse};
+    ghost use Rattle.dump_lanes.specs.CreditRule.{joined_purse, spent_purse};
 
-    ghost both = { λ v w. purse true true w.first v.drawn w.back };
+    ghost both = { joined_purse };
 
-    ghost spent = { purse false false 0 0 0 };
+    ghost spent = { spent_purse };
 }
 
-/// One more credit is there at first.
+/// One more credit is there at first, which is no event.
 pub struct AddsFirst;
 
 impl Outcome<Token, Purse> for AddsFirst {
-    ghost use Rattle.std.specs.Prelude.{◌≡◌, ◌+◌};
-    ghost use Rattle.dump_lanes.specs.CreditRule.{purse};
+    ghost use Rattle.std.specs.Prelude.{◌≡◌};
+    ghost use Rattle.dump_lanes.specs.CreditRule.{after_first};
 
-    ghost then = { λ v x w. w ≡ purse v.draws v.gives (v.first + 1) v.drawn v.back };
+    ghost then = { λ v x w. w ≡ after_first v };
 }
 
 impl Lesson<Token, Purse> for AddsFirst {
     ghost fact = { λ v items. Unit {0} };
 }
 
-/// A credit is drawn.
+/// A credit is drawn: the event `Draw`.
 pub struct Draws;
 
 impl Outcome<Token, Purse> for Draws {
-    ghost use Rattle.std.specs.Prelude.{◌≡◌, ◌+◌};
-    ghost use Rattle.dump_lanes.specs.CreditRule.{purse};
+    ghost use Rattle.std.specs.Prelude.{◌≡◌};
+    ghost use Rattle.dump_lanes.specs.CreditRule.{after_draw};
 
-    ghost then = { λ v x w. w ≡ purse v.draws v.gives v.first (v.drawn + 1) v.back };
+    ghost then = { λ v x w. w ≡ after_draw v };
 }
 
 impl Lesson<Token, Purse> for Draws {
     ghost fact = { λ v items. Unit {0} };
 }
 
-/// A credit is given back.
+/// A credit is given back: the event `Give`.
 pub struct Gives;
 
 impl Outcome<Token, Purse> for Gives {
-    ghost use Rattle.std.specs.Prelude.{◌≡◌, ◌+◌};
-    ghost use Rattle.dump_lanes.specs.CreditRule.{purse};
+    ghost use Rattle.std.specs.Prelude.{◌≡◌};
+    ghost use Rattle.dump_lanes.specs.CreditRule.{after_back};
 
-    ghost then = { λ v x w. w ≡ purse v.draws v.gives v.first v.drawn (v.back + 1) };
+    ghost then = { λ v x w. w ≡ after_back v };
 }
 
 impl Lesson<Token, Purse> for Gives {
@@ -103,7 +105,8 @@ impl Lesson<Token, Purse> for Gives {
 pub struct AllCredits;
 
 impl Lesson<Token, Purse> for AllCredits {
-    ghost use Rattle.std.specs.Prelude.{◌≤◌, ◌+◌};
+    ghost use Rattle.std.specs.Prelude.{◌≤◌, ◌+◌, length};
+    ghost use Rattle.dump_lanes.specs.CreditRule.{KnowsSteps};
 
-    ghost fact = { λ v items. v.drawn ≤ v.first + v.back };
+    ghost fact = { λ v items. (v.drawn ≤ v.first + v.back) × KnowsSteps v (length items) };
 }

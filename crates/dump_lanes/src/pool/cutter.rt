@@ -2,7 +2,7 @@
 ghost use Rattle.std.specs.Prelude.{◌≡◌, ◌+◌, [], ◌∷◌, ◌++◌, true, replicate};
 ghost use Rattle.std.specs.Arc.{arc_value};
 ghost use Rattle.crossbeam_queue.specs.Passes.{view, IsSamePass, IsPassOf};
-ghost use Rattle.dump_lanes.specs.JobRule.{hand};
+ghost use Rattle.dump_lanes.specs.JobRule.{after_ends};
 ghost use Rattle.dump_lanes.specs.PoolPasses.{IsCutting};
 ghost use Rattle.dump_lanes.specs.StopSeats.{SeesOnlyRaised};
 ghost use Rattle.dump_lanes.specs.declared.protocol.Mark.TheVariants.{End};
@@ -91,7 +91,7 @@ fn put_ends<J: Drop, R: Wait>(
     requires pass { IsPassOf queue.now pass.old }
     requires puts { (view pass.old).puts ≡ true }
     ensures pass { IsSamePass pass.old pass.new }
-    ensures put { view pass.new ≡ hand (view pass.old).parts true ((view pass.old).put ++ replicate count End) (view pass.old).taken }
+    ensures put { view pass.new ≡ after_ends (view pass.old) count }
 {
     for _ in 0..count {
         push::<PutsJob, _, _, _, R>(rt, queue, bells, pass, Mark::End);

@@ -4,7 +4,7 @@ ghost use Rattle.std.specs.List.{range_with_len};
 ghost use Rattle.std.specs.Arc.{arc_value};
 ghost use Rattle.crossbeam_queue.specs.Passes.{view, IsPassOf};
 ghost use Rattle.dump_lanes.specs.DoneRule.{reader};
-ghost use Rattle.dump_lanes.specs.JobRule.{hand};
+ghost use Rattle.dump_lanes.specs.JobRule.{cutter_hand};
 ghost use Rattle.dump_lanes.specs.PoolNames.{AreFirst, AreShares, state_of};
 ghost use Rattle.dump_lanes.specs.PortSides.{new_cutter, new_worker, new_sequencer, new_writer};
 ghost use Rattle.dump_lanes.specs.PortViews.{job_port, worker_port, worker_ports, done_port, credit_port};
@@ -79,15 +79,15 @@ fn cut_workers<J: Drop, D: Drop>(
 ) -> Vec<WorkerPort<J, D>>
     requires of_jobs { IsPassOf queues.now.jobs jobs.old }
     requires of_dones { IsPassOf queues.now.dones dones.old }
-    requires jobs { view jobs.old ≡ hand 128 true [] [] }
-    requires dones { view dones.old ≡ reader 128 [] 0 [] [] }
+    requires jobs { view jobs.old ≡ cutter_hand 128 0 }
+    requires dones { view dones.old ≡ reader 128 [] 0 [] [] [] }
     requires shares { All (λ a. arc_value a ≡ queues.now) shares.items }
     requires as_many { length shares.items ≡ queues.now.workers }
     requires room { (room.items ≡ []) × (queues.now.workers ≤ vec_capacity room) }
     ensures of_jobs { IsPassOf queues.now.jobs jobs.new }
     ensures of_dones { IsPassOf queues.now.dones dones.new }
-    ensures jobs { view jobs.new ≡ hand (128 - queues.now.workers) true [] [] }
-    ensures dones { view dones.new ≡ reader (128 - queues.now.workers) [] queues.now.workers [] [] }
+    ensures jobs { view jobs.new ≡ cutter_hand (128 - queues.now.workers) queues.now.workers }
+    ensures dones { view dones.new ≡ reader (128 - queues.now.workers) [] queues.now.workers [] [] [] }
     ensures workers { map (λ p. worker_port p) result.items ≡ map (new_worker (state_of queues.now)) (range_with_len 0 queues.now.workers) }
 {
     let mut workers = room;

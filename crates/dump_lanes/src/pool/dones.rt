@@ -1,11 +1,14 @@
 //! The protocol of the queue of dones, from the workers to the sequencer.
 //!
 //! 1. The queue carries notes: a mark, which is an item or a worker's end mark, with that worker's index.
-//! 2. What was put is what was taken, in order, and then what the queue holds: its share of each event of the pool.
+//! 2. There is one history of steps, each of which is the dones' share of one event of the pool, with one note. It leads
+//!    from the empty queue to what the queue holds, and has of each thread just the steps that its pass made.
 //! 3. A worker has one pass, which knows what it put itself, in order; one pass alone takes, and knows all that was taken.
 //! 4. A pass has parts, 128 in all. A pass that takes in a worker's keeps that worker's list beside its index.
-//! 5. A pass with all parts learns that the workers together put each note as often as it was taken or is left.
+//! 5. A pass with all parts learns that the workers together put each note as often as it was taken or is left, and that
+//!    it knows each thread's steps in the history.
 use crate::protocol::Mark;
+use crate::steps::Step;
 use crossbeam_queue::RuledArrayQueue;
 use crossbeam_queue::protocol::{Join, Lesson, Outcome, Protocol, Split};
 use std::collections::LinkedList;
@@ -30,9 +33,10 @@ pub struct Desk<T> {
     pub made: u64,
     pub got: LinkedList<Note<T>>,
     pub known: LinkedList<(u64, LinkedList<Note<T>>)>,
+    pub steps: LinkedList<Step<Note<T>>>,
 }
 
-/// The rule: the queue holds its share of the events.
+/// The rule: each step on the queue is its share of the event that its pass notes.
 pub struct DoneShares;
 
 impl<T> Protocol<Note<T>, Desk<T>> for DoneShares {
@@ -41,26 +45,25 @@ impl<T> Protocol<Note<T>, Desk<T>> for DoneShares {
 
     ghost holds = { IsDoneQueue };
 
-    ghost first = { reader 128 [] 0 [] [] };
+    ghost first = { reader 128 [] 0 [] [] [] };
 }
 
 /// A worker's pass is cut off the sequencer's.
 pub struct DoneRoles;
 
 impl<T> Split<Desk<T>> for DoneRoles {
-    ghost use Rattle.std.specs.Prelude.{◌+◌, ◌-◌, []};
-    ghost use Rattle.dump_lanes.specs.DoneRule.{reader, sender};
+    ghost use Rattle.std.specs.Prelude.{[]};
+    ghost use Rattle.dump_lanes.specs.DoneRule.{after_fork, sender};
 
-    ghost left = { λ v. reader (v.parts - 1) v.put (v.made + 1) v.got v.known };
+    ghost left = { λ v. after_fork v };
 
-    ghost right = { λ v. sender 1 v.made [] };
+    ghost right = { λ v. sender 1 v.made [] [] };
 }
 
 impl<T> Join<Desk<T>> for DoneRoles {
-    ghost use Rattle.std.specs.Prelude.{◌+◌, [], ◌∷◌, ◌++◌};
-    ghost use Rattle.dump_lanes.specs.DoneRule.{reader, spent};
+    ghost use Rattle.dump_lanes.specs.DoneRule.{after_join, spent};
 
-    ghost both = { λ v w. reader (v.parts + w.parts) (v.put ++ w.put) v.made v.got (v.known ++ (w.from, w.put) ∷ []) };
+    ghost both = { λ v w. after_join v w };
 
     ghost spent = { spent };
 }
@@ -69,10 +72,10 @@ impl<T> Join<Desk<T>> for DoneRoles {
 pub struct PutsNote;
 
 impl<T> Outcome<Note<T>, Desk<T>> for PutsNote {
-    ghost use Rattle.std.specs.Prelude.{◌≡◌, [], ◌∷◌, ◌++◌};
-    ghost use Rattle.dump_lanes.specs.DoneRule.{sender};
+    ghost use Rattle.std.specs.Prelude.{◌≡◌};
+    ghost use Rattle.dump_lanes.specs.DoneRule.{after_give};
 
-    ghost then = { λ v x w. w ≡ sender v.parts v.from (v.put ++ x ∷ []) };
+    ghost then = { λ v x w. w ≡ after_give v x };
 }
 
 impl<T> Lesson<Note<T>, Desk<T>> for PutsNote {
@@ -83,10 +86,10 @@ impl<T> Lesson<Note<T>, Desk<T>> for PutsNote {
 pub struct TakesNote;
 
 impl<T> Outcome<Note<T>, Desk<T>> for TakesNote {
-    ghost use Rattle.std.specs.Prelude.{◌≡◌, [], ◌∷◌, ◌++◌};
-    ghost use Rattle.dump_lanes.specs.DoneRule.{reader};
+    ghost use Rattle.std.specs.Prelude.{◌≡◌};
+    ghost use Rattle.dump_lanes.specs.DoneRule.{after_arrive};
 
-    ghost then = { λ v x w. w ≡ reader v.parts v.put v.made (v.got ++ x ∷ []) v.known };
+    ghost then = { λ v x w. w ≡ after_arrive v x };
 }
 
 impl<T> Lesson<Note<T>, Desk<T>> for TakesNote {
@@ -97,7 +100,7 @@ impl<T> Lesson<Note<T>, Desk<T>> for TakesNote {
 pub struct AllNotes;
 
 impl<T> Lesson<Note<T>, Desk<T>> for AllNotes {
-    ghost use Rattle.dump_lanes.specs.DoneRule.{IsWhole};
+    ghost use Rattle.dump_lanes.specs.DoneRule.{IsWhole, KnowsSteps};
 
-    ghost fact = { λ v items. IsWhole v items };
+    ghost fact = { λ v items. IsWhole v items × KnowsSteps v items };
 }

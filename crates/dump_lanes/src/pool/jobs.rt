@@ -1,11 +1,14 @@
 //! The protocol of the queue of jobs, from the cutter to the workers.
 //!
 //! 1. The queue carries marks: each is a job, or an end mark, of which the cutter puts one for each worker.
-//! 2. What was put is what was taken, in order, and then what the queue holds: its share of each event of the pool.
-//! 3. One pass alone may put, so it knows all that was put; each pass knows what it took itself.
-//! 4. A pass has parts, 128 in all. A joined pass has the parts of both, and what both took, one after the other.
-//! 5. A pass with all parts learns that the passes together took each mark as often as it was put and is not left.
+//! 2. There is one history of steps, each of which is the jobs' share of one event of the pool, with one mark. It leads
+//!    from the empty queue to what the queue holds.
+//! 3. Each pass knows the steps that it made, of which the history has just those: the cutter's cuts, a worker's takes.
+//! 4. A pass has parts, 128 in all. A joined pass has the parts of both, and the steps of both.
+//! 5. A pass with all parts learns that the passes together took each mark as often as it was put and is not left, and
+//!    that it knows each thread's steps in the history.
 use crate::protocol::Mark;
+use crate::steps::Step;
 use crossbeam_queue::RuledArrayQueue;
 use crossbeam_queue::protocol::{Join, Lesson, Outcome, Protocol, Split};
 use std::collections::LinkedList;
@@ -17,65 +20,66 @@ pub type JobQueue<J> = RuledArrayQueue<Mark<J>, Hand<J>, JobShares>;
 pub struct Hand<T> {
     pub parts: u64,
     pub puts: bool,
+    pub made: u64,
+    pub takes: bool,
+    pub from: u64,
     pub put: LinkedList<Mark<T>>,
     pub taken: LinkedList<Mark<T>>,
+    pub steps: LinkedList<Step<Mark<T>>>,
 }
 
-/// The rule: the queue holds its share of the events.
+/// The rule: each step on the queue is its share of the event that its pass notes.
 pub struct JobShares;
 
 impl<T> Protocol<Mark<T>, Hand<T>> for JobShares {
-    ghost use Rattle.std.specs.Prelude.{true, []};
-    ghost use Rattle.dump_lanes.specs.JobRule.{hand, IsJobQueue};
+    ghost use Rattle.dump_lanes.specs.JobRule.{cutter_hand, IsJobQueue};
 
     ghost holds = { IsJobQueue };
 
-    ghost first = { hand 128 true [] [] };
+    ghost first = { cutter_hand 128 0 };
 }
 
 /// A worker's pass is cut off the cutter's.
 pub struct JobRoles;
 
 impl<T> Split<Hand<T>> for JobRoles {
-    ghost use Rattle.std.specs.Prelude.{false, [], ◌-◌};
-    ghost use Rattle.dump_lanes.specs.JobRule.{hand};
+    ghost use Rattle.dump_lanes.specs.JobRule.{after_fork, worker_hand};
 
-    ghost left = { λ v. hand (v.parts - 1) v.puts v.put v.taken };
+    ghost left = { λ v. after_fork v };
 
-    ghost right = { λ v. hand 1 false [] [] };
+    ghost right = { λ v. worker_hand v.made };
 }
 
 impl<T> Join<Hand<T>> for JobRoles {
-    ghost use Rattle.std.specs.Prelude.{false, [], ◌+◌, ◌++◌};
-    ghost use Rattle.dump_lanes.specs.JobRule.{hand};
+    ghost use Rattle.dump_lanes.specs.JobRule.{after_join, spent_hand};
 
-    ghost both = { λ v w. hand (v.parts + w.parts) v.puts v.put (v.taken ++ w.taken) };
+    ghost both = { λ v w. after_join v w };
 
-    ghost spent = { hand 0 false [] [] };
+    ghost spent = { spent_hand };
 }
 
-/// A mark joins those that were put.
+/// A mark is put: the event `Cut`, or `CutMark`.
 pub struct PutsJob;
 
 impl<T> Outcome<Mark<T>, Hand<T>> for PutsJob {
-    ghost use Rattle.std.specs.Prelude.{◌≡◌, [], ◌∷◌, ◌++◌};
-    ghost use Rattle.dump_lanes.specs.JobRule.{hand};
+    ghost use Rattle.std.specs.Prelude.{◌≡◌};
+    ghost use Rattle.dump_lanes.specs.JobRule.{after_put};
 
-    ghost then = { λ v x w. w ≡ hand v.parts v.puts (v.put ++ x ∷ []) v.taken };
+    ghost then = { λ v x w. w ≡ after_put v x };
 }
 
 impl<T> Lesson<Mark<T>, Hand<T>> for PutsJob {
     ghost fact = { λ v items. Unit {0} };
 }
 
-/// A mark joins those that were taken.
+/// A mark is taken: the event `Take` of this worker.
 pub struct TakesJob;
 
 impl<T> Outcome<Mark<T>, Hand<T>> for TakesJob {
-    ghost use Rattle.std.specs.Prelude.{◌≡◌, [], ◌∷◌, ◌++◌};
-    ghost use Rattle.dump_lanes.specs.JobRule.{hand};
+    ghost use Rattle.std.specs.Prelude.{◌≡◌};
+    ghost use Rattle.dump_lanes.specs.JobRule.{after_take};
 
-    ghost then = { λ v x w. w ≡ hand v.parts v.puts v.put (v.taken ++ x ∷ []) };
+    ghost then = { λ v x w. w ≡ after_take v x };
 }
 
 impl<T> Lesson<Mark<T>, Hand<T>> for TakesJob {
@@ -86,7 +90,7 @@ impl<T> Lesson<Mark<T>, Hand<T>> for TakesJob {
 pub struct AllJobs;
 
 impl<T> Lesson<Mark<T>, Hand<T>> for AllJobs {
-    ghost use Rattle.dump_lanes.specs.JobRule.{IsWhole};
+    ghost use Rattle.dump_lanes.specs.JobRule.{IsWhole, KnowsSteps};
 
-    ghost fact = { λ v items. IsWhole v.put v.taken items };
+    ghost fact = { λ v items. IsWhole v.put v.taken items × KnowsSteps v items };
 }

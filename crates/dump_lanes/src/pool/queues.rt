@@ -22,6 +22,7 @@ pub struct Queues<J: Drop, D: Drop> {
     pub window: usize,
     ghost some_workers: { 1 ≤ workers },
     ghost most_workers: { workers ≤ 64 },
+    ghost job_places: { ruled_capacity jobs ≡ window + workers },
     ghost places: { ruled_capacity dones ≡ window + workers },
     ghost credit_places: { ruled_capacity credits ≡ window },
 }

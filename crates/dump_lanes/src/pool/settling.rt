@@ -1,8 +1,9 @@
 //! How the ports of a pool come together again.
-ghost use Rattle.std.specs.Prelude.{◌≡◌, ◌+◌, ◌<◌, ◌≤◌, true, All};
+ghost use Rattle.std.specs.Prelude.{◌≡◌, ◌+◌, ◌<◌, ◌≤◌, true, false, All};
 ghost use Rattle.crossbeam_queue.specs.Passes.{view, IsPassOf};
 ghost use Rattle.dump_lanes.specs.PoolNames.{name_of};
 ghost use Rattle.dump_lanes.specs.PortSides.{AreWorkersOf, IsDone, WeighsSame, all_taken, all_given};
+ghost use Rattle.dump_lanes.specs.PortSteps.{HaveSteps};
 ghost use Rattle.dump_lanes.specs.PortViews.{job_port, worker_port, worker_ports, done_port, credit_port, HasJobsOf, HasDonesOf};
 
 use super::Ports;
@@ -18,8 +19,8 @@ use crate::protocol::Mark;
 use crossbeam_queue::Pass;
 
 impl<J: Drop, D: Drop> Ports<J, D> {
-    /// Shows that what was taken is what was put, and drops all ports. The workers' may come in any
-    /// order.
+    /// Shows that what was taken is what was put, and that the ports together made just the steps of one
+    /// history of each queue, and drops all ports. The workers' may come in any order.
     pub fn settle(self)
         requires workers { AreWorkersOf (job_port self.cutter).pool (job_port self.cutter).workers (worker_ports self) }
         requires sequencer { (done_port self.sequencer).pool ≡ (job_port self.cutter).pool }
@@ -31,6 +32,7 @@ impl<J: Drop, D: Drop> Ports<J, D> {
         ensures dones { WeighsSame (done_port self.sequencer).taken (all_given (worker_ports self)) }
         ensures credits { let writer = credit_port self.writer in
             (job_port self.cutter).drawn ≤ writer.window + writer.back }
+        ensures steps { HaveSteps self }
     {
         let Ports {
             cutter,
@@ -69,7 +71,7 @@ fn gather<J: Drop, D: Drop>(
 )
     requires of_jobs { IsPassOf queues.now.jobs jobs.old }
     requires of_dones { IsPassOf queues.now.dones dones.old }
-    requires cutter { ((view jobs.old).puts ≡ true) × (0 < (view jobs.old).parts) }
+    requires cutter { ((view jobs.old).puts ≡ true) × ((view jobs.old).takes ≡ false) × (0 < (view jobs.old).parts) }
     requires sequencer { ((view dones.old).gets ≡ true) × (0 < (view dones.old).parts) }
     requires workers { All (λ p. (worker_port p).pool ≡ name_of queues.now) workers.items }
     ensures of_jobs { IsPassOf queues.now.jobs jobs.new }

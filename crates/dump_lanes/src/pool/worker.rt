@@ -3,7 +3,7 @@ ghost use Rattle.std.specs.Prelude.{◌≡◌, [], ◌∷◌, ◌++◌, true, fa
 ghost use Rattle.std.specs.Arc.{arc_value};
 ghost use Rattle.crossbeam_queue.specs.Passes.{view, IsPassOf};
 ghost use Rattle.dump_lanes.specs.DoneRule.{sender};
-ghost use Rattle.dump_lanes.specs.JobRule.{hand};
+ghost use Rattle.dump_lanes.specs.JobRule.{worker_hand};
 ghost use Rattle.dump_lanes.specs.PoolPasses.{IsWorking, IsGiving};
 
 use super::dones::{Desk, Note, PutsNote};
@@ -25,7 +25,7 @@ pub struct WorkerPort<J: Drop, D: Drop> {
     pub(super) closed: bool,
     ghost of_jobs: { IsPassOf (arc_value queues).jobs jobs },
     ghost of_dones: { IsPassOf (arc_value queues).dones dones },
-    ghost works: { IsWorking ended (view jobs) },
+    ghost works: { IsWorking index ended (view jobs) },
     ghost gives: { IsGiving index closed (view dones) },
 }
 
@@ -42,8 +42,8 @@ impl<J: Drop, D: Drop> WorkerPort<J, D> {
     ) -> WorkerPort<J, D>
         requires of_jobs { IsPassOf (arc_value queues).jobs jobs }
         requires of_dones { IsPassOf (arc_value queues).dones dones }
-        requires jobs { view jobs ≡ hand 1 false [] [] }
-        requires dones { view dones ≡ sender 1 index [] }
+        requires jobs { view jobs ≡ worker_hand index }
+        requires dones { view dones ≡ sender 1 index [] [] }
         ensures { worker_port result ≡ new_worker (state_of (arc_value queues)) index }
     {
         WorkerPort {

@@ -6,7 +6,7 @@ pub bounded_with-requires-clause-rule : goal.bounded_with-requires-clause-rule
 bounded_with-requires-clause-rule g c = begins
 
 pub another-other-requires-clause-rule : goal.another-other-requires-clause-rule
-another-other-requires-clause-rule g c = forks _ _ (search rules) (search rules)
+another-other-requires-clause-rule g c = forks _ _ (search rules) (search rules) (search rules)
 
 pub returns-clause-nothing_told : goal.returns-clause-nothing_told
 returns-clause-nothing_told g c = refl

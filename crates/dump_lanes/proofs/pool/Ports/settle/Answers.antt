@@ -1,9 +1,11 @@
-use Rattle.std.proofs.Common.{ap, sym, subst, ◌∙◌, ◌≡◌, All, arith}
+use Rattle.std.proofs.Common.{ap, sym, subst, length, ◌∙◌, ◌≡◌, All, arith}
 use Rattle.std.specs.Arc.{arc_value}
 use Rattle.crossbeam_queue.specs.Passes.{view}
 use Rattle.dump_lanes.specs.declared.pool.credits.Purse.{Purse}
 use Rattle.dump_lanes.specs.declared.pool.queues.Queues.{Queues}
 use Rattle.dump_lanes.specs.declared.pool.worker.WorkerPort.{WorkerPort}
+use Rattle.dump_lanes.specs.CreditRule.{AreSteps}
+use Rattle.dump_lanes.specs.PartSteps.{steps_of}
 use Rattle.dump_lanes.specs.PoolNames.{name_of}
 use Rattle.dump_lanes.specs.PoolPasses.{IsSequencing}
 use Rattle.dump_lanes.specs.PortSides.{WorkerSide, IsDone}
@@ -48,7 +50,7 @@ returns-clause-jobs g c =
     let cutter = c.args.self.cutter in
     let done = all_of_map (λ (w : WorkerSide g.row.J.Denot g.row.D.Denot). IsDone w) (λ (p : WorkerPort g.row.J.Denot g.row.D.Denot). worker_port p) c.args.self.workers.items c.requires.done in
     let long = sym (length_of_map (λ (p : WorkerPort g.row.J.Denot g.row.D.Denot). worker_port p) c.args.self.workers.items) ∙ c.requires.workers.as_many in
-    settles_jobs (arc_value cutter.queues).workers (view cutter.jobs) (view c.gather.new.jobs) c.args.self.workers.items c.learn_as.ensures.rule.0 (arc_value cutter.queues).some_workers cutter.cuts c.requires.closed long done c.gather.ensures.jobs c.learn_as.ensures.rule.1
+    settles_jobs (arc_value cutter.queues).workers (view cutter.jobs) (view c.gather.new.jobs) c.args.self.workers.items c.learn_as.ensures.rule.0 (arc_value cutter.queues).some_workers cutter.cuts c.requires.closed long done c.gather.ensures.jobs c.learn_as.ensures.rule.1.0
 
 pub returns-clause-dones : goal.returns-clause-dones
 returns-clause-dones g c =
@@ -56,4 +58,35 @@ returns-clause-dones g c =
     let same = same_workers (arc_value sequencer.queues) (arc_value c.args.self.cutter.queues) c.requires.sequencer in
     let done = all_of_map (λ (w : WorkerSide g.row.J.Denot g.row.D.Denot). IsDone w) (λ (p : WorkerPort g.row.J.Denot g.row.D.Denot). worker_port p) c.args.self.workers.items c.requires.done in
     let sequences = subst (λ n. IsSequencing n sequencer.left (view sequencer.dones)) same sequencer.sequences in
-    settles_dones _ _ sequencer.left (view sequencer.dones) (view c.gather.new.dones) c.args.self.workers.items c.learn_as-2.ensures.rule.0 sequences c.requires.ended c.requires.workers done c.gather.ensures.dones c.learn_as-2.ensures.rule.1
+    settles_dones _ _ sequencer.left (view sequencer.dones) (view c.gather.new.dones) c.args.self.workers.items c.learn_as-2.ensures.rule.0 sequences c.requires.ended c.requires.workers done c.gather.ensures.dones c.learn_as-2.ensures.rule.1.0
+
+pub returns-clause-steps : goal.returns-clause-steps
+returns-clause-steps g c =
+    let j = c.learn_as.ensures.rule.1.1 in
+    let d = c.learn_as-2.ensures.rule.1.1 in
+    let k = c.learn_as-3.ensures.rule.1.1 in
+    let joined = c.absorb.ensures.rule in
+    record {
+      jobs = record {
+        happened = j.happened;
+        left = c.learn_as.ensures.rule.0;
+        steps = j.steps;
+        each = λ t. ap (λ l. steps_of t l) (sym c.gather.ensures.jobs.steps) ∙ j.each t;
+        put_is = sym c.gather.ensures.jobs.put ∙ j.put_is;
+      };
+      dones = record {
+        happened = d.happened;
+        left = c.learn_as-2.ensures.rule.0;
+        steps = d.steps;
+        each = λ t. ap (λ l. steps_of t l) (sym c.gather.ensures.dones.steps) ∙ d.each t;
+        taken_is = sym c.gather.ensures.dones.got ∙ d.got_is;
+      };
+      credits = record {
+        happened = k.happened;
+        free = length c.learn_as-3.ensures.rule.0;
+        steps = subst (λ n. AreSteps n k.happened (length c.learn_as-3.ensures.rule.0)) (ap (λ (p : Purse). p.first) joined ∙ c.args.self.writer.gives.first) k.steps;
+        each = λ t. ap (λ (p : Purse). steps_of t p.steps) (sym joined) ∙ k.each t;
+        drawn_is = ap (λ (p : Purse). p.drawn) (sym joined) ∙ k.drawn_is;
+        back_is = ap (λ (p : Purse). p.back) (sym joined) ∙ k.back_is;
+      };
+    }

@@ -1,7 +1,7 @@
-use Rattle.std.proofs.Common.{ap}
+use Rattle.std.proofs.Common.{ap, ◌∙◌}
 use Rattle.dump_lanes.specs.declared.pool.jobs.Hand.{Hand}
 use Rattle.dump_lanes.proofs.JobSteps.{puts}
 use Rattle.dump_lanes.proofs.pool.cutter.put_ends.Goals as goal
 
 pub push-requires-clause-rule : goal.push-requires-clause-rule
-push-requires-clause-rule g c = puts _ _ _ _ (ap (λ (v : Hand g.row.J.Denot). v.puts) c.loop.invariant.1)
+push-requires-clause-rule g c = puts _ _ _ _ (ap (λ (v : Hand g.row.J.Denot). v.puts) c.loop.invariant.1 ∙ c.requires.puts)

@@ -1,4 +1,4 @@
-use Rattle.std.proofs.Common.{ap, sym, subst, ◌∙◌, ◌≡◌, ◌+◌, ◌-◌, ◌<◌, ℕ, ◌++◌, [], ◌∷◌, List, true, map, length, All, slice_index_or, rules, arith}
+use Rattle.std.proofs.Common.{ap, sym, subst, ◌∙◌, ◌≡◌, ◌+◌, ◌-◌, ◌<◌, ℕ, ◌++◌, [], ◌∷◌, List, map, length, All, slice_index_or, rules, arith}
 use Rattle.std.proofs.lemmas.Iterator.Adapters.{YieldsList-from_vec}
 use Rattle.std.proofs.lemmas.Iterator.Consumers.{YieldsList-turn, YieldsList-end}
 use Rattle.std.proofs.lemmas.List.{length-append}
@@ -7,8 +7,8 @@ use Rattle.std.specs.List.{range_with_len}
 use Rattle.dump_lanes.specs.declared.pool.dones.Desk.{Desk}
 use Rattle.dump_lanes.specs.declared.pool.jobs.Hand.{Hand}
 use Rattle.dump_lanes.specs.declared.pool.queues.Queues.{Queues}
-use Rattle.dump_lanes.specs.DoneRule.{reader}
-use Rattle.dump_lanes.specs.JobRule.{hand}
+use Rattle.dump_lanes.specs.DoneRule.{reader, after_fork as dones_after_fork}
+use Rattle.dump_lanes.specs.JobRule.{cutter_hand, after_fork}
 use Rattle.dump_lanes.specs.PoolNames.{state_of}
 use Rattle.dump_lanes.specs.PortSides.{new_worker}
 use Rattle.dump_lanes.specs.PortViews.{worker_port}
@@ -27,7 +27,8 @@ another-takes-requires-clause-rule g c =
     let parts = ap (λ (v : Hand g.row.J.Denot). v.parts) c.loop-share.invariant.2 in
     let below = turn.0 in
     let many = c.requires.as_many in
-    let most = c.args.queues.now.most_workers in jobs.forks _ _ (omega arith)
+    let most = c.args.queues.now.most_workers in
+    jobs.forks _ _ (ap (λ (v : Hand g.row.J.Denot). v.puts) c.loop-share.invariant.2) (ap (λ (v : Hand g.row.J.Denot). v.takes) c.loop-share.invariant.2) (omega arith)
 
 pub another-gives-requires-clause-rule : goal.another-gives-requires-clause-rule
 another-gives-requires-clause-rule g c =
@@ -74,19 +75,19 @@ loop-share-preserved g c =
     ∙ (map-then (λ p. worker_port p) c.loop-share.workers.items c.new.result
     ∙ ((λ i. inv.4 i ++ new i ∷ []) ∙ (sym (map-then side (range_with_len 0 (length c.loop-share.yielded)) (length c.loop-share.yielded)) ∙ ap (map side) (sym (range-more (length c.loop-share.yielded)))))) in
     let fewer : 128 - length c.loop-share.yielded - 1 ≡ 128 - length (c.loop-share.yielded ++ c.in-Some.share ∷ []) = omega (arith, longer) in
-    let takes = c.another-takes.ensures.rule.0 ∙ (ap (λ (v : Hand g.row.J.Denot). hand (v.parts - 1) v.puts v.put v.taken) inv.2 ∙ ap (λ n. hand n true [] []) fewer) in
-    let gives = c.another-gives.ensures.rule.0 ∙ (ap (λ (v : Desk g.row.D.Denot). reader (v.parts - 1) v.put (v.made + 1) v.got v.known) inv.3 ∙ (λ i. reader (fewer i) [] (sym longer i) [] [])) in
+    let takes = c.another-takes.ensures.rule.0 ∙ (ap (λ (v : Hand g.row.J.Denot). after_fork v) inv.2 ∙ (λ i. cutter_hand (fewer i) (sym longer i))) in
+    let gives = c.another-gives.ensures.rule.0 ∙ (ap (λ (v : Desk g.row.D.Denot). dones_after_fork v) inv.3 ∙ (λ i. reader (fewer i) [] (sym longer i) [] [] [])) in
     (search rules, search rules, takes, gives, ports ∙ ap (λ n. map side (range_with_len 0 n)) (sym longer), c.push_reserved.ensures.len ∙ (ap (λ n. n + 1) inv.5 ∙ sym longer), search rules)
 
 pub returns-clause-jobs : goal.returns-clause-jobs
 returns-clause-jobs g c =
     let end = YieldsList-end (YieldsList-from_vec {s = c.into_iter-share-iterator.result} c.args.shares.items (search rules) (search rules)) c.loop-share.yielded c.loop-share.share-iterator c.loop-share.yielded_by c.next.result c.next.new.self c.in-None.is c.next.ensures.steps in
-    c.loop-share.invariant.2 ∙ ap (λ n. hand (128 - n) true [] []) (end.1 ∙ c.requires.as_many)
+    c.loop-share.invariant.2 ∙ ap (λ n. cutter_hand (128 - n) n) (end.1 ∙ c.requires.as_many)
 
 pub returns-clause-dones : goal.returns-clause-dones
 returns-clause-dones g c =
     let end = YieldsList-end (YieldsList-from_vec {s = c.into_iter-share-iterator.result} c.args.shares.items (search rules) (search rules)) c.loop-share.yielded c.loop-share.share-iterator c.loop-share.yielded_by c.next.result c.next.new.self c.in-None.is c.next.ensures.steps in
-    c.loop-share.invariant.3 ∙ ap (λ n. reader (128 - n) [] n [] []) (end.1 ∙ c.requires.as_many)
+    c.loop-share.invariant.3 ∙ ap (λ n. reader (128 - n) [] n [] [] []) (end.1 ∙ c.requires.as_many)
 
 pub returns-clause-workers : goal.returns-clause-workers
 returns-clause-workers g c =

@@ -1,7 +1,7 @@
-use Rattle.std.proofs.Common.{◌≡◌, true}
+use Rattle.std.proofs.Common.{◌≡◌, true, []}
 use Rattle.crossbeam_queue.specs.Passes.{view, IsSamePass}
 use Rattle.dump_lanes.specs.CreditRule.{purse}
 use Rattle.dump_lanes.proofs.pool.drawing.put_first.Given as goal
 
 abbrev pub invariant-loop : goal.invariant-loop
-invariant-loop g l = IsSamePass l.initial.pass l.pass × (view l.pass ≡ purse true true l.counter 0 0)
+invariant-loop g l = IsSamePass l.initial.pass l.pass × (view l.pass ≡ purse true true l.counter 0 0 [])

@@ -4,7 +4,7 @@ use Rattle.dump_lanes.proofs.PortSteps.{work_item, work_item_taken, work_end, wo
 use Rattle.dump_lanes.proofs.pool.worker.WorkerPort.take.Goals as goal
 
 pub pop-requires-clause-rule : goal.pop-requires-clause-rule
-pop-requires-clause-rule g c = takes _ _ (let e = c.args.self.now.works.parts in omega arith)
+pop-requires-clause-rule g c = let works = c.args.self.now.works in takes _ _ (let e = works.parts in omega arith) works.puts_none works.may_take
 
 pub invariant_of-self : goal.invariant_of-self
 invariant_of-self g c =
@@ -13,7 +13,7 @@ invariant_of-self g c =
     record {
       of_jobs = (c.pop.ensures.queue.0 ∙ old.of_jobs.0, c.pop.ensures.queue.2 ∙ old.of_jobs.1);
       of_dones = old.of_dones;
-      works = work_item _ _ _ _ c.if-self.false old.works step;
+      works = work_item _ _ _ _ _ c.if-self.false old.works step;
       gives = old.gives;
     }
 
@@ -24,7 +24,7 @@ invariant_of-self-in-End g c =
     record {
       of_jobs = (c.pop.ensures.queue.0 ∙ old.of_jobs.0, c.pop.ensures.queue.2 ∙ old.of_jobs.1);
       of_dones = old.of_dones;
-      works = work_end _ _ _ c.if-self.false old.works step;
+      works = work_end _ _ _ _ c.if-self.false old.works step;
       gives = old.gives;
     }
 

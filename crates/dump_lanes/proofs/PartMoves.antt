@@ -1,0 +1,172 @@
+-- One more step of a history: whose it is, and what it moves.
+use Rattle.std.proofs.Common.{◌≡◌, ◌≢◌, ◌==◌, ◌⊎◌, inl, inr, ℕ, true, false, true≢false, List, [], ◌∷◌, ◌++◌, cond, sym, refl, ap, ◌∙◌, subst, ⊎_elim, append_assoc, eq-eqb, ne_eqb}
+use Rattle.std.proofs.lemmas.List.{append-nil}
+use Rattle.std.proofs.lemmas.List.Elements.{filter-append}
+use mathlib.Core.Logic.{dite}
+use native.Mathlib.Decide.{ℕ_discrete}
+use Rattle.dump_lanes.specs.declared.steps.Step.{Step}
+use Rattle.dump_lanes.specs.PoolParts.{Thread, thread_of}
+use Rattle.dump_lanes.specs.PartSteps.{event_of, Part, AreSteps, is_thread, all_put, all_taken, steps_of, Knows}
+
+pub other_thread : (t u : Thread) → t ≢ u → is_thread t u ≡ false
+other_thread Thread.Cutter Thread.Cutter ne = absurd (ne refl)
+other_thread Thread.Cutter (Thread.Worker k) ne = refl
+other_thread Thread.Cutter Thread.Sequencer ne = refl
+other_thread Thread.Cutter Thread.Writer ne = refl
+other_thread (Thread.Worker j) Thread.Cutter ne = refl
+other_thread (Thread.Worker j) (Thread.Worker k) ne = ne_eqb j k (λ e. ne (ap Thread.Worker e))
+other_thread (Thread.Worker j) Thread.Sequencer ne = refl
+other_thread (Thread.Worker j) Thread.Writer ne = refl
+other_thread Thread.Sequencer Thread.Cutter ne = refl
+other_thread Thread.Sequencer (Thread.Worker k) ne = refl
+other_thread Thread.Sequencer Thread.Sequencer ne = absurd (ne refl)
+other_thread Thread.Sequencer Thread.Writer ne = refl
+other_thread Thread.Writer Thread.Cutter ne = refl
+other_thread Thread.Writer (Thread.Worker k) ne = refl
+other_thread Thread.Writer Thread.Sequencer ne = refl
+other_thread Thread.Writer Thread.Writer ne = absurd (ne refl)
+
+pub not_worker : (k : ℕ) (t : Thread) → is_thread (Thread.Worker k) t ≡ false → t ≢ Thread.Worker k
+not_worker k t other e = true≢false (sym (ap (is_thread (Thread.Worker k)) e ∙ eq-eqb k k refl) ∙ other)
+
+-- a thread is this worker, or another
+pub worker_or_other : (k : ℕ) (t : Thread)
+    → ((t ≡ Thread.Worker k) × (is_thread (Thread.Worker k) t ≡ true)) ⊎ ((t ≢ Thread.Worker k) × (is_thread (Thread.Worker k) t ≡ false))
+worker_or_other k Thread.Cutter = inr (not_worker k Thread.Cutter refl, refl)
+worker_or_other k (Thread.Worker j) =
+    dite (ℕ_discrete k j) (λ e. inl (ap Thread.Worker (sym e), eq-eqb k j e))
+    (λ ne. inr (not_worker k (Thread.Worker j) (ne_eqb k j ne), ne_eqb k j ne))
+worker_or_other k Thread.Sequencer = inr (not_worker k Thread.Sequencer refl, refl)
+worker_or_other k Thread.Writer = inr (not_worker k Thread.Writer refl, refl)
+
+module _ {E : Type 0} where
+  -- a step joins what is known of its thread, and what happened
+  pub step_both : (t : Thread) (s : Step E) (known happened : List (Step E)) → steps_of t known ≡ steps_of t happened
+      → steps_of t (s ∷ known) ≡ steps_of t (s ∷ happened)
+  step_both t s known happened e = ap (λ l. cond (is_thread t (thread_of (event_of s.event))) (s ∷ l) l) e
+
+  -- another thread's step
+  pub step_other : (t : Thread) (s : Step E) (steps : List (Step E)) → t ≢ thread_of (event_of s.event) → steps_of t (s ∷ steps) ≡ steps_of t steps
+  step_other t s steps ne = ap (λ b. cond b (s ∷ steps_of t steps) (steps_of t steps)) (other_thread t (thread_of (event_of s.event)) ne)
+
+  pub all_taken-append : (part : Part E) (xs ys : List (Step E)) → all_taken part (xs ++ ys) ≡ all_taken part ys ++ all_taken part xs
+  all_taken-append part [] ys = sym (append-nil (all_taken part ys))
+  all_taken-append part (s ∷ xs) ys =
+      ap (λ l. l ++ part.takes s) (all_taken-append part xs ys) ∙ append_assoc (all_taken part ys) (all_taken part xs) (part.takes s)
+
+  -- a part holds what was put less what was taken, in order
+  pub in_order : (part : Part E) (happened : List (Step E)) (items : List E) → AreSteps part happened items
+      → all_put part happened ≡ all_taken part happened ++ items
+  in_order part [] items h = sym h
+  in_order part (s ∷ before) items h =
+      let put : List E = all_put part before in
+      let gone : List E = all_taken part before in
+      ap (λ l. l ++ part.puts s) (in_order part before h.0 h.2)
+      ∙ (append_assoc gone h.0 (part.puts s) ∙ (ap (λ l. gone ++ l) h.1.in_turn ∙ sym (append_assoc gone (part.takes s) items)))
+
+-- a worker's steps go to a new pass
+module _ (owner : Thread → ℕ) (k new : ℕ) where
+  abbrev pub forked : Thread → ℕ
+  forked t = cond (is_thread (Thread.Worker k) t) new (owner t)
+
+  pub forked_goes : forked (Thread.Worker k) ≡ new
+  forked_goes = ap (λ b. cond b new (owner (Thread.Worker k))) (eq-eqb k k refl)
+
+  pub forked_to : (t : Thread) → t ≡ Thread.Worker k → forked t ≡ new
+  forked_to t e = ap forked e ∙ forked_goes
+
+  pub forked_stays : (t : Thread) → t ≢ Thread.Worker k → forked t ≡ owner t
+  forked_stays t ne = ⊎_elim (λ (y : (t ≡ Thread.Worker k) × (is_thread (Thread.Worker k) t ≡ true)). absurd (ne y.0))
+      (λ (y : (t ≢ Thread.Worker k) × (is_thread (Thread.Worker k) t ≡ false)). ap (λ b. cond b new (owner t)) y.1) (worker_or_other k t)
+
+  pub forked_had : (t : Thread) (j : ℕ) → j ≢ new → forked t ≡ j → owner t ≡ j
+  forked_had t j ne e = ⊎_elim (λ (y : (t ≡ Thread.Worker k) × (is_thread (Thread.Worker k) t ≡ true)). absurd (ne (sym e ∙ forked_to t y.0)))
+      (λ (y : (t ≢ Thread.Worker k) × (is_thread (Thread.Worker k) t ≡ false)). sym (forked_stays t y.0) ∙ e) (worker_or_other k t)
+
+  pub forked_kept : (t : Thread) (j : ℕ) → owner (Thread.Worker k) ≢ j → owner t ≡ j → forked t ≡ j
+  forked_kept t j ne e = forked_stays t (λ w. ne (sym (ap owner w) ∙ e)) ∙ e
+
+-- all steps that a pass knows go to another
+module _ (owner : Thread → ℕ) (pass other : ℕ) (two : other ≢ pass) where
+  abbrev pub joined : Thread → ℕ
+  joined t = cond (owner t == other) pass (owner t)
+
+  pub joined_stays : (t : Thread) → owner t ≢ other → joined t ≡ owner t
+  joined_stays t ne = ap (λ b. cond b pass (owner t)) (ne_eqb (owner t) other ne)
+
+  pub joined_comes : (t : Thread) → owner t ≡ other → joined t ≡ pass
+  joined_comes t e = ap (λ b. cond b pass (owner t)) (eq-eqb (owner t) other e)
+
+  pub joined_is : (t : Thread) → owner t ≡ pass → joined t ≡ pass
+  joined_is t e = joined_stays t (λ o. two (sym o ∙ e)) ∙ e
+
+  pub joined_kept : (t : Thread) (j : ℕ) → j ≢ other → owner t ≡ j → joined t ≡ j
+  joined_kept t j ne e = joined_stays t (λ o. ne (sym e ∙ o)) ∙ e
+
+  pub joined_had : (t : Thread) (j : ℕ) → j ≢ pass → joined t ≡ j → owner t ≡ j
+  joined_had t j ne e = dite (ℕ_discrete (owner t) other) (λ o. absurd (ne (sym e ∙ joined_comes t o))) (λ o. sym (joined_stays t o) ∙ e)
+
+  pub joined_left : (t : Thread) → joined t ≢ other
+  joined_left t e = dite (ℕ_discrete (owner t) other) (λ o. two (sym e ∙ joined_comes t o)) (λ ne. ne (sym (joined_stays t ne) ∙ e))
+
+module _ {E : Type 0} (owner : Thread → ℕ) (happened : List (Step E)) where
+  -- a step of a thread whose pass this is, and another's step
+  pub knows_step : (pass : ℕ) (steps : List (Step E)) (s : Step E) → owner (thread_of (event_of s.event)) ≡ pass
+      → Knows owner happened pass steps → Knows owner (s ∷ happened) pass (s ∷ steps)
+  knows_step pass steps s owns h = record {
+    own = λ t e. step_both t s steps happened (h.own t e);
+    others = λ t ne. step_other t s steps (λ e. ne (ap owner e ∙ owns)) ∙ h.others t ne;
+  }
+
+  pub knows_else : (pass : ℕ) (steps : List (Step E)) (s : Step E) → owner (thread_of (event_of s.event)) ≢ pass
+      → Knows owner happened pass steps → Knows owner (s ∷ happened) pass steps
+  knows_else pass steps s apart h =
+      record { own = λ t e. h.own t e ∙ sym (step_other t s happened (λ k. apart (sym (ap owner k) ∙ e))); others = h.others }
+
+  pub knows_fork_left : (pass k new : ℕ) (steps : List (Step E)) → pass ≢ new → steps_of (Thread.Worker k) steps ≡ []
+      → Knows owner happened pass steps → Knows (forked owner k new) happened pass steps
+  knows_fork_left pass k new steps apart none h = record {
+    own = λ t e. h.own t (forked_had owner k new t pass apart e);
+    others = λ t ne. ⊎_elim (λ (y : (t ≡ Thread.Worker k) × (is_thread (Thread.Worker k) t ≡ true)). subst (λ (w : Thread). steps_of w steps ≡ []) (sym y.0) none)
+        (λ (y : (t ≢ Thread.Worker k) × (is_thread (Thread.Worker k) t ≡ false)). h.others t (λ e. ne (forked_stays owner k new t y.0 ∙ e))) (worker_or_other k t);
+  }
+
+  pub knows_fork_else : (j k new : ℕ) (steps : List (Step E)) → j ≢ new → owner (Thread.Worker k) ≢ j
+      → Knows owner happened j steps → Knows (forked owner k new) happened j steps
+  knows_fork_else j k new steps apart other h = record {
+    own = λ t e. h.own t (forked_had owner k new t j apart e);
+    others = λ t ne. h.others t (λ e. ne (forked_kept owner k new t j other e));
+  }
+
+  pub knows_fork_new : (k new : ℕ) → ((t : Thread) → owner t ≢ new) → steps_of (Thread.Worker k) happened ≡ []
+      → Knows (forked owner k new) happened new []
+  knows_fork_new k new fresh none = record {
+    own = λ t e. ⊎_elim (λ (y : (t ≡ Thread.Worker k) × (is_thread (Thread.Worker k) t ≡ true)). subst (λ (w : Thread). [] ≡ steps_of w happened) (sym y.0) (sym none))
+        (λ (y : (t ≢ Thread.Worker k) × (is_thread (Thread.Worker k) t ≡ false)). absurd (fresh t (sym (forked_stays owner k new t y.0) ∙ e))) (worker_or_other k t);
+    others = λ t ne. refl;
+  }
+
+  pub knows_join_both : (pass other : ℕ) (two : other ≢ pass) (mine theirs : List (Step E)) → Knows owner happened pass mine
+      → Knows owner happened other theirs → Knows (joined owner pass other two) happened pass (theirs ++ mine)
+  knows_join_both pass other two mine theirs h k =
+      let split : (t : Thread) → steps_of t (theirs ++ mine) ≡ steps_of t theirs ++ steps_of t mine =
+      λ t. filter-append (λ (s : Step E). is_thread t (thread_of (event_of s.event))) theirs mine in
+      let mine_alone : (t : Thread) → owner t ≢ other → steps_of t (theirs ++ mine) ≡ steps_of t mine =
+      λ t b. split t ∙ ap (λ l. l ++ steps_of t mine) (k.others t b) in
+      record {
+        own = λ t e. dite (ℕ_discrete (owner t) other)
+            (λ o. split t ∙ (ap (λ l. steps_of t theirs ++ l) (h.others t (λ e. two (sym o ∙ e))) ∙ (append-nil (steps_of t theirs) ∙ k.own t o)))
+            (λ ne. mine_alone t ne ∙ h.own t (sym (joined_stays owner pass other two t ne) ∙ e));
+        others = λ t ne. dite (ℕ_discrete (owner t) other) (λ o. absurd (ne (joined_comes owner pass other two t o)))
+            (λ b. mine_alone t b ∙ h.others t (λ o. ne (joined_is owner pass other two t o)));
+      }
+
+  pub knows_join_else : (pass other : ℕ) (two : other ≢ pass) (j : ℕ) (steps : List (Step E)) → j ≢ pass → j ≢ other
+      → Knows owner happened j steps → Knows (joined owner pass other two) happened j steps
+  knows_join_else pass other two j steps apart away h = record {
+    own = λ t e. h.own t (joined_had owner pass other two t j apart e);
+    others = λ t ne. h.others t (λ e. ne (joined_kept owner pass other two t j away e));
+  }
+
+  pub knows_join_spent : (pass other : ℕ) (two : other ≢ pass) → Knows (joined owner pass other two) happened other []
+  knows_join_spent pass other two = record { own = λ t e. absurd (joined_left owner pass other two t e); others = λ t ne. refl }

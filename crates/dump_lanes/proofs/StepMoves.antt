@@ -1,0 +1,148 @@
+-- What a step on each shared part can be, and nothing else.
+use Rattle.std.proofs.Common.{◌≡◌, ◌⊎◌, inl, inr, ◌+◌, ◌==◌, ℕ, Bool, true, false, true≢false, List, [], ◌∷◌, ◌++◌, length, cond, sym, refl, ap, ◌∙◌, subst, eq-eqb, ne_eqb, arith}
+use Rattle.std.proofs.lemmas.List.{append-nil, length-append}
+use mathlib.Core.Logic.{dite}
+use native.Mathlib.Decide.{ℕ_discrete}
+use Rattle.dump_lanes.specs.declared.pool.dones.Note.{Note}
+use Rattle.dump_lanes.specs.declared.pool.jobs.Hand.{Hand}
+use Rattle.dump_lanes.specs.declared.protocol.Mark.{Mark}
+use Rattle.dump_lanes.specs.declared.protocol.Mark.TheVariants.{Item, End}
+use Rattle.dump_lanes.specs.declared.steps.Move.{Move}
+use Rattle.dump_lanes.specs.declared.steps.Move.TheVariants as move
+use Rattle.dump_lanes.specs.declared.steps.Step.{Step}
+use Rattle.dump_lanes.specs.declared.stop.protocol.WordStep.TheVariants as kind
+use Rattle.dump_lanes.specs.PoolEvents.{Event}
+use Rattle.dump_lanes.specs.PoolParts.{Thread, thread_of}
+use Rattle.dump_lanes.specs.PartSteps.{event_of, Part, AreSteps, is_thread, all_put, all_taken, steps_of}
+use Rattle.dump_lanes.specs.CreditRule as credits
+use Rattle.dump_lanes.specs.DoneRule as dones
+use Rattle.dump_lanes.specs.JobRule as jobs
+use Rattle.dump_lanes.specs.JobRule.{jobs_part, cutter_hand, Fits, IsJobQueue}
+use Rattle.dump_lanes.specs.LaneRule as lane
+use Rattle.dump_lanes.specs.StepMoves.{Joins, Leaves, JobsMoveOne, DonesMoveOne, PiecesMoveOne, CreditsMoveOne, WordOnlyRises, NoCutIsUnnoted}
+use Rattle.dump_lanes.proofs.CreditSteps.{one_balance}
+use Rattle.dump_lanes.proofs.JobSteps.{begins}
+
+is_same_thread : (t : Thread) → is_thread t t ≡ true
+is_same_thread Thread.Cutter = refl
+is_same_thread (Thread.Worker k) = eq-eqb k k refl
+is_same_thread Thread.Sequencer = refl
+is_same_thread Thread.Writer = refl
+
+module _ {E : Type 0} where
+  -- a step moves one entry, no more
+  pub one_each : (part : Part E) (happened : List (Step E)) (items : List E) → AreSteps part happened items
+      → length happened ≡ length (all_put part happened) + length (all_taken part happened)
+  one_each part [] items h = refl
+  one_each part (s ∷ before) items h =
+      let t = one_each part before h.0 h.2 in
+      let o = ap length h.1.one_entry in
+      let a = length-append (part.puts s) (part.takes s) in
+      let b = length-append (all_put part before) (part.puts s) in
+      let c = length-append (all_taken part before) (part.takes s) in omega arith
+
+  -- where no thread has a step, nothing happened
+  nothing : (happened : List (Step E)) → ((t : Thread) → [] ≡ steps_of t happened) → happened ≡ []
+  nothing [] h = refl
+  nothing (s ∷ before) h =
+      let t : Thread = thread_of (event_of s.event) in
+      let e : [] ≡ s ∷ steps_of t before = h t ∙ ap (λ b. cond b (s ∷ steps_of t before) (steps_of t before)) (is_same_thread t) in
+      absurd (let l = ap length e in omega arith)
+
+  none : {A : Type 0} (x : E) → [] ≡ x ∷ [] → A
+  none x e = absurd (let l = ap length e in omega arith)
+
+  left_is : (old : List E) (x : E) (new : List E) → old ++ [] ≡ x ∷ new → Leaves old x new
+  left_is old x new e = sym (append-nil old) ∙ e
+
+  piece : (m : Move) (x : E) (old new : List E) → lane.put_by (event_of m) x ++ lane.taken_by (event_of m) x ≡ x ∷ []
+      → old ++ lane.put_by (event_of m) x ≡ lane.taken_by (event_of m) x ++ new
+      → ((thread_of (event_of m) ≡ Thread.Sequencer) × Joins old x new) ⊎ ((thread_of (event_of m) ≡ Thread.Writer) × Leaves old x new)
+  piece move.Release x old new one turn = inl (refl, sym turn)
+  piece move.Write x old new one turn = inr (refl, left_is old x new turn)
+  piece move.Cut x old new one turn = none x one
+  piece move.CutMark x old new one turn = none x one
+  piece (move.Take k) x old new one turn = none x one
+  piece (move.Put k) x old new one turn = none x one
+  piece move.Arrive x old new one turn = none x one
+  piece move.Draw x old new one turn = none x one
+  piece move.Give x old new one turn = none x one
+
+  pub pieces : PiecesMoveOne E
+  pieces old new s h = piece s.event s.entry old new h.one_entry h.in_turn
+
+module _ {T : Type 0} where
+  job : (m : Move) (x : Mark T) (old new : List (Mark T)) → jobs.put_by (event_of m) x ++ jobs.taken_by (event_of m) x ≡ x ∷ []
+      → old ++ jobs.put_by (event_of m) x ≡ jobs.taken_by (event_of m) x ++ new
+      → ((thread_of (event_of m) ≡ Thread.Cutter) × Joins old x new)
+      ⊎ ((worker : ℕ) × (thread_of (event_of m) ≡ Thread.Worker worker) × Leaves old x new)
+  job move.Cut (Item x) old new one turn = inl (refl, sym turn)
+  job move.Cut End old new one turn = none End one
+  job move.CutMark (Item x) old new one turn = none (Item x) one
+  job move.CutMark End old new one turn = inl (refl, sym turn)
+  job (move.Take k) x old new one turn = inr (k, refl, left_is old x new turn)
+  job (move.Put k) x old new one turn = none x one
+  job move.Arrive x old new one turn = none x one
+  job move.Draw x old new one turn = none x one
+  job move.Give x old new one turn = none x one
+  job move.Release x old new one turn = none x one
+  job move.Write x old new one turn = none x one
+
+  pub jobs_move : JobsMoveOne T
+  jobs_move old new s h = job s.event s.entry old new h.one_entry h.in_turn
+
+  put_note : (k : ℕ) (n : Note T) (old new : List (Note T)) (same : Bool) → (n.from == k) ≡ same
+      → cond same (n ∷ []) [] ++ [] ≡ n ∷ [] → old ++ cond same (n ∷ []) [] ≡ new → (n.from ≡ k) × Joins old n new
+  put_note k n old new false is one turn = none n one
+  put_note k n old new true is one turn = dite (ℕ_discrete n.from k) (λ e. (e, sym turn)) (λ ne. absurd (true≢false (sym is ∙ ne_eqb n.from k ne)))
+
+  done : (m : Move) (n : Note T) (old new : List (Note T)) → dones.put_by (event_of m) n ++ dones.taken_by (event_of m) n ≡ n ∷ []
+      → old ++ dones.put_by (event_of m) n ≡ dones.taken_by (event_of m) n ++ new
+      → ((thread_of (event_of m) ≡ Thread.Worker n.from) × Joins old n new) ⊎ ((thread_of (event_of m) ≡ Thread.Sequencer) × Leaves old n new)
+  done (move.Put k) n old new one turn = let z = put_note k n old new (n.from == k) refl one turn in inl (ap Thread.Worker (sym z.0), z.1)
+  done move.Arrive n old new one turn = inr (refl, left_is old n new turn)
+  done move.Cut n old new one turn = none n one
+  done move.CutMark n old new one turn = none n one
+  done (move.Take k) n old new one turn = none n one
+  done move.Draw n old new one turn = none n one
+  done move.Give n old new one turn = none n one
+  done move.Release n old new one turn = none n one
+  done move.Write n old new one turn = none n one
+
+  pub dones_move : DonesMoveOne T
+  dones_move old new s h = done s.event s.entry old new h.one_entry h.in_turn
+
+  -- a rule that lets the cutter put a mark and note no step would be kept at the first push, and isn't
+  pub not_unnoted : NoCutIsUnnoted T
+  not_unnoted x rule =
+      let first : Hand T = cutter_hand 128 0 in
+      let after = rule 1 0 first refl [] (first ∷ []) (omega arith) begins refl in
+      let w : Hand T = after.0 in
+      let h : IsJobQueue (x ∷ []) (w ∷ []) = after.1 in
+      let f : Fits h.owner h.happened 0 w = h.fits 0 w refl in
+      let steps : w.steps ≡ [] = ap (λ (k : Hand T). k.steps) after.2 in
+      let none : h.happened ≡ [] = nothing h.happened (λ t.
+      let o = h.owned t in
+      let e : h.owner t ≡ 0 = omega arith in ap (steps_of t) (sym steps) ∙ f.own t e) in
+      let empty : x ∷ [] ≡ [] = subst (λ l. AreSteps jobs_part l (x ∷ [])) none h.steps in
+      absurd (let l = ap length empty in omega arith)
+
+credit : (m : Move) (old new : ℕ) → credits.put_by (event_of m) + credits.taken_by (event_of m) ≡ 1
+    → old + credits.put_by (event_of m) ≡ credits.taken_by (event_of m) + new
+    → ((thread_of (event_of m) ≡ Thread.Cutter) × (old ≡ new + 1)) ⊎ ((thread_of (event_of m) ≡ Thread.Writer) × (new ≡ old + 1))
+credit move.Draw old new one turn = inl (refl, omega arith)
+credit move.Give old new one turn = inr (refl, omega arith)
+credit move.Cut old new one turn = absurd (omega arith)
+credit move.CutMark old new one turn = absurd (omega arith)
+credit (move.Take k) old new one turn = absurd (omega arith)
+credit (move.Put k) old new one turn = absurd (omega arith)
+credit move.Arrive old new one turn = absurd (omega arith)
+credit move.Release old new one turn = absurd (omega arith)
+credit move.Write old new one turn = absurd (omega arith)
+
+pub credits_move : CreditsMoveOne
+credits_move old new s h = credit s.event old new h.one_credit (one_balance old new s.event h.one_credit h.allowed h.share)
+
+pub word_rises : WordOnlyRises
+word_rises was up kind.Raise h = inl (refl, h.share Event.WriterRaises refl)
+word_rises was up (kind.Look found) h = inr (ap kind.Look h.says, h.share Event.Look refl)

@@ -1,0 +1,5 @@
+use Rattle.dump_lanes.proofs.RunSteps.{every_run_makes_steps}
+use Rattle.dump_lanes.proofs.laws.every_run_makes_steps.Goals as goal
+
+pub returns : goal.returns
+returns c = every_run_makes_steps
