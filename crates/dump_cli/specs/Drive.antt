@@ -3,11 +3,11 @@ use Rattle.std.specs.Prelude.{◌≡◌, ℕ, Bool, true, ◌⊎◌, List, [], O
 use Rattle.std.specs.Io.KnownBytes.{Keeps, Appends, GrowsBy}
 use Rattle.dump_rules.specs.Settings.{Settings}
 use Rattle.dump_writer.specs.SinkStates.{LentState}
-use Rattle.dump_writer.specs.SinkWords.{HasFailedSince, IsPrefixOf}
+use Rattle.dump_writer.specs.SinkWords.{IsPrefixOf}
 use Rattle.dump_pipeline.specs.declared.answer.Answer.{Answer}
 use Rattle.dump_pipeline.specs.declared.answer.Answer.TheVariants.{Clean, Fault, Failed}
 use Rattle.dump_pipeline.specs.declared.answer.Failure.TheVariants as failures
-use Rattle.dump_pipeline.specs.RunAnswer.{IsRunAnswer}
+use Rattle.dump_pipeline.specs.RunAnswer.{IsRunAnswer, SinkFailsOnly}
 use Rattle.dump_cli.specs.Words.{AnswersTo, Meaning}
 use Rattle.dump_cli.specs.declared.words.Order.{Order}
 use Rattle.dump_cli.specs.declared.words.Usage.{Usage}
@@ -46,10 +46,9 @@ abbrev pub TellsBehind : LentState → Answer → Answer → Type 0
 TellsBehind sink ran told = ((told ≡ ran) × (sink.waiting ≡ []))
     ⊎ ((told ≡ Failed failures.Sink sink.out.written) × GrowsBy sink.out.start sink.out.taken sink.out.written)
 
--- and the failure of the sink only where the run failed so, or the sink failed since
+-- and what is told is the failure of the sink only where it failed, in the run or behind it
 abbrev pub FailsOnlyBehind : ℕ → ℕ → Answer → Answer → Type 0
-FailsOnlyBehind old new ran (Failed failures.Sink written) = ((count : ℕ) × (ran ≡ Failed failures.Sink count)) ⊎ HasFailedSince old new
-FailsOnlyBehind old new ran told = told ≡ ran
+FailsOnlyBehind old new ran told = (first : ℕ) → SinkFailsOnly first old ran → SinkFailsOnly first new told
 
 -- an order is run on the whole input, or writes nothing for want of memory or input
 abbrev pub CarriesOut : Settings → Option (List ℕ) → Option (List ℕ) → Option (List ℕ) → ℕ → Type 0

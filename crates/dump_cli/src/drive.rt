@@ -2,23 +2,27 @@
 ghost use Rattle.std.specs.Prelude.{◌≡◌, [], map};
 ghost use Rattle.std.specs.Io.KnownBytes.{GrowsBy, Keeps};
 ghost use Rattle.dump_writer.specs.SinkStates.{lent_taken, loan_of};
+ghost use Rattle.dump_pipeline.specs.RunAnswer.{SinkFailsOnly};
 ghost use Rattle.dump_cli.specs.Words.{meaning_of};
 ghost use Rattle.dump_cli.specs.Drive.{CarriesOut, Drives, FailsOnlyBehind, IsSilent, Ran, TellsBehind, refusal_status, status_of};
 
 use crate::input::{Unread, read_all};
 use crate::lines::{write_failure, write_fault, write_report, write_unread, write_usage};
 use crate::words::{Order, Usage, options_of};
-use dump_pipeline::{Answer, Failure, Plan, run_plain};
+use dump_pipeline::{Answer, Failure, FreeGate, Plan, run};
 use dump_rules::Options;
 use dump_writer::{OutMut, SinkDown};
 use std::alloc::Global;
 use std::io::{Read, Write};
+use std::sync::Wait;
+use std::thread::Threads;
 
 /// So many bytes of small texts wait for one call of the writer.
 const BUFFER: usize = 1 << 16;
 
 /// The whole program, with its exit status.
-pub fn drive<'a, R: Read, W: Write, E: Write>(
+pub fn drive<'a, H: Threads + Wait + Sync, R: Read, W: Write, E: Write>(
+    rt: &H,
     alloc: Global,
     words: &'a [&'a str],
     reader: &mut R,
@@ -28,7 +32,7 @@ pub fn drive<'a, R: Read, W: Write, E: Write>(
     ensures { Drives (meaning_of (map (λ word. word.now) words.now)) (R.remaining reader.old) (W.contents writer.old) (W.contents writer.new) result }
 {
     match options_of(alloc, words) {
-        Ok(order) => carry_out(alloc, &order, reader, writer, errors),
+        Ok(order) => carry_out(rt, alloc, &order, reader, writer, errors),
         Err(usage) => refuse(errors, usage),
     }
 }
@@ -47,7 +51,8 @@ pub fn refuse<E: Write>(errors: &mut E, usage: Usage) -> u8
 }
 
 // Runs an order on the whole input.
-fn carry_out<R: Read, W: Write, E: Write>(
+fn carry_out<H: Threads + Wait + Sync, R: Read, W: Write, E: Write>(
+    rt: &H,
     alloc: Global,
     order: &Order,
     reader: &mut R,
@@ -69,6 +74,7 @@ fn carry_out<R: Read, W: Write, E: Write>(
     };
     let mut sink = OutMut::new(writer, buffer);
     let answer = run_and_flush(
+        rt,
         alloc,
         input.as_slice(),
         &order.options,
@@ -80,19 +86,21 @@ fn carry_out<R: Read, W: Write, E: Write>(
 }
 
 // Runs, and hands on all that waits behind the run.
-fn run_and_flush<W: Write>(
+fn run_and_flush<H: Threads + Wait + Sync, W: Write>(
+    rt: &H,
     alloc: Global,
     dump: &[u8],
     options: &Options,
-    _plan: Plan,
+    plan: Plan,
     sink: &mut OutMut<'_, W>,
 ) -> Answer
     requires waiting { sink.old.waiting ≡ [] }
     requires start { sink.old.out.start ≡ sink.old.out.taken }
     ensures ran { Ran options.now dump.now sink.old.out.taken sink.new.out.taken result }
+    ensures sink { SinkFailsOnly sink.old.out.failures sink.new.out.failures result }
     ensures loan { loan_of sink.new ≡ loan_of sink.old }
 {
-    let answer = run_plain(alloc, dump, options, sink);
+    let answer = run(rt, alloc, dump, options, plan, &FreeGate, sink);
     flush_behind(sink, answer)
 }
 

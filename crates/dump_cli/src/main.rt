@@ -13,10 +13,12 @@ use drive::{drive, refuse};
 use std::env;
 use std::io::ErrorKind;
 use std::process::ExitCode;
+use std::sync::Wait;
+use std::thread::Threads;
 use words::Usage;
 
 fn main(rt: HostRuntime) -> ExitCode {
-    let status = match run_words(&rt) {
+    let status = match run_words(&rt, &rt) {
         Ok(status) => status,
         Err(usage) => refuse(&mut rt.stderr(), usage),
     };
@@ -24,7 +26,7 @@ fn main(rt: HostRuntime) -> ExitCode {
 }
 
 // The whole program on the words and the streams of the process.
-fn run_words(rt: &HostRuntime) -> Result<u8, Usage> {
+fn run_words<H: Threads + Wait + Sync>(threads: &H, rt: &HostRuntime) -> Result<u8, Usage> {
     let alloc = rt.alloc();
     let words = read_words(rt)?;
     let mut texts = Vec::new(alloc);
@@ -34,6 +36,7 @@ fn run_words(rt: &HostRuntime) -> Result<u8, Usage> {
         }
     }
     Ok(drive(
+        threads,
         alloc,
         texts.as_slice(),
         &mut rt.reader(),

@@ -4,7 +4,6 @@
 //! atomic step of one of them. A run is any list of events, each of which may happen in the state that
 //! those before it led to. No law says that an event comes: a pool that stands still is sound too.
 ghost use Rattle.std.specs.Prelude.{◌≡◌, ◌+◌, List, ◌++◌, length, IsTrue};
-ghost use Rattle.std.specs.Prelude.{IsTrue};
 ghost use Rattle.dump_lanes.specs.Arrivals.{NoneClash, AllReleased};
 ghost use Rattle.dump_lanes.specs.PoolWorld.{PoolSize, World};
 ghost use Rattle.dump_lanes.specs.PoolEvents.{Event, is_enabled};

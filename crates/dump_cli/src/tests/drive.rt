@@ -62,6 +62,7 @@ fn a_dump_is_filtered(rt: HostRuntime) -> Result<(), Fail> {
     let mut output = Vec::new(alloc);
     let mut errors = Vec::new(alloc);
     let status = drive(
+        &rt,
         alloc,
         &ORDER,
         &mut dump.as_slice(),
@@ -83,6 +84,7 @@ fn a_quiet_run_says_nothing(rt: HostRuntime) -> Result<(), Fail> {
     let mut errors = Vec::new(alloc);
     let words = ["svndumpfilter", "include", "a", "--quiet"];
     let status = drive(
+        &rt,
         alloc,
         &words,
         &mut dump.as_slice(),
@@ -115,7 +117,7 @@ fn words_that_are_no_order_write_nothing(rt: HostRuntime) -> Result<(), Fail> {
     ] {
         let mut output = Vec::new(alloc);
         let mut errors = Vec::new(alloc);
-        let status = drive(alloc, words, &mut KEPT, &mut output, &mut errors);
+        let status = drive(&rt, alloc, words, &mut KEPT, &mut output, &mut errors);
         assert_eq!(rt; status, 2);
         assert!(rt; output.is_empty());
         let usage = "usage: svndumpfilter include|exclude [OPTIONS] PREFIX...\n";
@@ -129,7 +131,7 @@ fn a_fault_is_told_with_its_record_and_place(rt: HostRuntime) -> Result<(), Fail
     let alloc = rt.alloc();
     let mut output = Vec::new(alloc);
     let mut errors = Vec::new(alloc);
-    let status = drive(alloc, &ORDER, &mut LEFT_OUT, &mut output, &mut errors);
+    let status = drive(&rt, alloc, &ORDER, &mut LEFT_OUT, &mut output, &mut errors);
     assert_eq!(rt; status, 1);
     assert!(rt; output.is_empty());
     let line = "svndumpfilter: fault 4 Version in record 0 at byte 0\n";
@@ -148,7 +150,7 @@ fn a_full_disk_is_told_with_the_count(rt: HostRuntime) -> Result<(), Fail> {
             room,
             loses: false,
         };
-        let status = drive(alloc, &ORDER, &mut dump.as_slice(), &mut disk, &mut errors);
+        let status = drive(&rt, alloc, &ORDER, &mut dump.as_slice(), &mut disk, &mut errors);
         assert_eq!(rt; status, 1);
         assert_eq!(rt; disk.held.as_slice(), &KEPT[..room]);
         let mut line = Vec::new(alloc);
@@ -171,7 +173,7 @@ fn a_failed_flush_is_a_failure(rt: HostRuntime) -> Result<(), Fail> {
         room: 1000,
         loses: true,
     };
-    let status = drive(alloc, &ORDER, &mut dump.as_slice(), &mut disk, &mut errors);
+    let status = drive(&rt, alloc, &ORDER, &mut dump.as_slice(), &mut disk, &mut errors);
     assert_eq!(rt; status, 1);
     let mut line = Vec::new(alloc);
     let written = KEPT.len();
@@ -218,6 +220,7 @@ fn nothing_is_tried_behind_a_failure(rt: HostRuntime) -> Result<(), Fail> {
         failed: false,
     };
     let status = drive(
+        &rt,
         alloc,
         &ORDER,
         &mut dump.as_slice(),
@@ -241,6 +244,7 @@ fn want_of_memory_leaves_a_first_part(rt: HostRuntime) {
     let mut output = Vec::new(alloc);
     let mut errors = Vec::new(alloc);
     let status = drive(
+        &rt,
         alloc,
         &ORDER,
         &mut dump.as_slice(),
