@@ -1,7 +1,8 @@
 //! The words on the command line.
 ghost use Rattle.std.specs.Prelude.{◌≡◌, ◌≢◌, ◌≤◌, ◌⊎◌, ℕ, [], IfOk, Err, map, true, codes, unwrap_or};
-ghost use Rattle.clap.specs.Words.{all_of, found_of, kind_of, rows_of};
+ghost use Rattle.clap.specs.Words.{all_of, found_of, kind_of, rows_of, takes};
 ghost use Rattle.dump_pipeline.specs.PlanViews.{worker_count, window_size};
+ghost use Rattle.dump_cli.specs.CommandLine.{program};
 ghost use Rattle.dump_cli.specs.Words.{AnswersTo, AreFilled, IsNumber, IsSwitch, empty_in, is_lawful, is_set, meaning_of, number_of, order_of, side_of};
 
 use crate::command::program;
@@ -40,6 +41,7 @@ pub fn options_of<'a>(alloc: Global, words: &'a [&'a str]) -> Result<Order, Usag
 
     // No lawful line is refused as other words.
     ensures lawful { is_lawful (map (λ word. word.now) words.now) ≡ true → result ≢ Err Usage.Words }
+    ensures takes { takes program (map (λ word. word.now) words.now) ≡ true → result ≢ Err Usage.Words }
 {
     let Ok(command) = program(alloc) else {
         return Err(Usage::Memory);

@@ -7,9 +7,8 @@ use std::process::Abort;
 use std::test::Fail;
 
 #[derive(Clone, Copy)]
-struct Wanted<'a> {
+struct Wanted {
     side: Side,
-    prefixes: &'a [&'a str],
     empty: Empty,
     renumber: bool,
     preserve: bool,
@@ -20,9 +19,8 @@ struct Wanted<'a> {
 }
 
 // `include a` with no flag.
-const PLAIN: Wanted<'static> = Wanted {
+const PLAIN: Wanted = Wanted {
     side: Side::Include,
-    prefixes: &["a"],
     empty: Empty::Pad,
     renumber: false,
     preserve: false,
@@ -32,11 +30,12 @@ const PLAIN: Wanted<'static> = Wanted {
     quiet: false,
 };
 
-fn assert_order(
+fn assert_order<'a>(
     rt: &impl Abort,
     alloc: Global,
-    words: &[&str],
-    wanted: &Wanted,
+    words: &'a [&'a str],
+    prefixes: &[&str],
+    wanted: Wanted,
 ) -> Result<(), Fail> {
     let order = options_of(alloc, words)?;
     let options = order.options;
@@ -48,20 +47,25 @@ fn assert_order(
     assert_eq!(rt; order.plan.workers(), wanted.workers, "in {words:?}");
     assert_eq!(rt; order.plan.window(), wanted.window, "in {words:?}");
     assert_eq!(rt; order.quiet, wanted.quiet, "in {words:?}");
-    for (n, prefix) in wanted.prefixes.iter().enumerate() {
+    for (n, prefix) in prefixes.iter().enumerate() {
         assert_eq!(rt; options.prefix(n), Some(prefix.as_bytes()), "in {words:?}");
     }
-    assert_eq!(rt; options.prefix(wanted.prefixes.len()), None, "in {words:?}");
+    assert_eq!(rt; options.prefix(prefixes.len()), None, "in {words:?}");
     Ok(())
 }
 
 #[test]
 fn sides_and_prefixes_are_read(rt: HostRuntime) -> Result<(), Fail> {
     let alloc = rt.alloc();
-    assert_order(&rt, alloc, &["svndumpfilter", "include", "a"], &PLAIN)?;
+    assert_order(
+        &rt,
+        alloc,
+        &["svndumpfilter", "include", "a"],
+        &["a"],
+        PLAIN,
+    )?;
     let mut exclude = PLAIN;
     exclude.side = Side::Exclude;
-    exclude.prefixes = &["//trunk/", "", "br\u{e4}nche", "a b", "include", "-"];
     let words = [
         "",
         "exclude",
@@ -72,7 +76,13 @@ fn sides_and_prefixes_are_read(rt: HostRuntime) -> Result<(), Fail> {
         "include",
         "-",
     ];
-    assert_order(&rt, alloc, &words, &exclude)
+    assert_order(
+        &rt,
+        alloc,
+        &words,
+        &["//trunk/", "", "br\u{e4}nche", "a b", "include", "-"],
+        exclude,
+    )
 }
 
 #[test]
@@ -84,14 +94,16 @@ fn drop_flags_are_read(rt: HostRuntime) -> Result<(), Fail> {
         &rt,
         alloc,
         &["p", "include", "--drop-empty-revs", "a"],
-        &wanted,
+        &["a"],
+        wanted,
     )?;
     wanted.empty = Empty::DropAll;
     assert_order(
         &rt,
         alloc,
         &["p", "include", "--drop-all-empty-revs", "a"],
-        &wanted,
+        &["a"],
+        wanted,
     )
 }
 
@@ -104,7 +116,8 @@ fn each_switch_is_read(rt: HostRuntime) -> Result<(), Fail> {
         &rt,
         alloc,
         &["p", "include", "--renumber-revs", "a"],
-        &wanted,
+        &["a"],
+        wanted,
     )?;
     wanted = PLAIN;
     wanted.preserve = true;
@@ -112,22 +125,28 @@ fn each_switch_is_read(rt: HostRuntime) -> Result<(), Fail> {
         &rt,
         alloc,
         &["p", "include", "--preserve-revprops", "a"],
-        &wanted,
+        &["a"],
+        wanted,
     )?;
     wanted = PLAIN;
     wanted.skip_missing = true;
     let words = ["p", "include", "--skip-missing-merge-sources", "a"];
-    assert_order(&rt, alloc, &words, &wanted)?;
+    assert_order(&rt, alloc, &words, &["a"], wanted)?;
     wanted = PLAIN;
     wanted.quiet = true;
-    assert_order(&rt, alloc, &["p", "include", "--quiet", "a"], &wanted)
+    assert_order(
+        &rt,
+        alloc,
+        &["p", "include", "--quiet", "a"],
+        &["a"],
+        wanted,
+    )
 }
 
 #[test]
 fn flags_are_read_in_any_order(rt: HostRuntime) -> Result<(), Fail> {
     let alloc = rt.alloc();
     let mut wanted = PLAIN;
-    wanted.prefixes = &["a", "b"];
     wanted.empty = Empty::DropEmptied;
     wanted.renumber = true;
     wanted.preserve = true;
@@ -142,7 +161,7 @@ fn flags_are_read_in_any_order(rt: HostRuntime) -> Result<(), Fail> {
         "a",
         "b",
     ];
-    assert_order(&rt, alloc, &before, &wanted)?;
+    assert_order(&rt, alloc, &before, &["a", "b"], wanted)?;
     let around = [
         "p",
         "include",
@@ -153,7 +172,7 @@ fn flags_are_read_in_any_order(rt: HostRuntime) -> Result<(), Fail> {
         "b",
         "--preserve-revprops",
     ];
-    assert_order(&rt, alloc, &around, &wanted)
+    assert_order(&rt, alloc, &around, &["a", "b"], wanted)
 }
 
 #[test]
@@ -163,14 +182,13 @@ fn a_plan_is_read(rt: HostRuntime) -> Result<(), Fail> {
     wanted.workers = 64;
     wanted.window = 4096;
     let words = ["p", "include", "--workers", "64", "--window", "4096", "a"];
-    assert_order(&rt, alloc, &words, &wanted)?;
+    assert_order(&rt, alloc, &words, &["a"], wanted)?;
     wanted.workers = 1;
     wanted.window = 1;
     let words = ["p", "include", "a", "--window=1", "--workers=1"];
-    assert_order(&rt, alloc, &words, &wanted)?;
+    assert_order(&rt, alloc, &words, &["a"], wanted)?;
     let mut quiet = PLAIN;
     quiet.side = Side::Exclude;
-    quiet.prefixes = &["a", "b"];
     quiet.workers = 2;
     quiet.quiet = true;
     let words = [
@@ -182,18 +200,17 @@ fn a_plan_is_read(rt: HostRuntime) -> Result<(), Fail> {
         "a",
         "b",
     ];
-    assert_order(&rt, alloc, &words, &quiet)
+    assert_order(&rt, alloc, &words, &["a", "b"], quiet)
 }
 
 #[test]
 fn behind_two_minus_signs_stand_prefixes(rt: HostRuntime) -> Result<(), Fail> {
     let alloc = rt.alloc();
-    let mut wanted = PLAIN;
-    wanted.prefixes = &["--quiet", "a"];
-    assert_order(&rt, alloc, &["p", "include", "--", "--quiet", "a"], &wanted)
+    let words = ["p", "include", "--", "--quiet", "a"];
+    assert_order(&rt, alloc, &words, &["--quiet", "a"], PLAIN)
 }
 
-fn assert_refused(rt: &impl Abort, alloc: Global, words: &[&str], usage: Usage) {
+fn assert_refused<'a>(rt: &impl Abort, alloc: Global, words: &'a [&'a str], usage: Usage) {
     match options_of(alloc, words) {
         Ok(_) => panic!(rt; "{words:?} is an order"),
         Err(found) => assert_eq!(rt; found, usage, "in {words:?}"),
@@ -203,68 +220,149 @@ fn assert_refused(rt: &impl Abort, alloc: Global, words: &[&str], usage: Usage) 
 #[test]
 fn other_words_are_refused(rt: HostRuntime) {
     let alloc = rt.alloc();
-    let refused = |words: &[&str]| assert_refused(&rt, alloc, words, Usage::Words);
-    refused(&[]);
-    refused(&["svndumpfilter"]);
-    refused(&["svndumpfilter", "include"]);
-    refused(&["svndumpfilter", "filter", "a"]);
-    refused(&["svndumpfilter", "Include", "a"]);
-    refused(&["svndumpfilter", "--drop-empty-revs", "include", "a"]);
-    refused(&["svndumpfilter", "include", "--preserve-revprops"]);
-    refused(&["svndumpfilter", "include", "-x"]);
-    refused(&["svndumpfilter", "include", "a", "-x"]);
+    assert_refused(&rt, alloc, &[], Usage::Words);
+    assert_refused(&rt, alloc, &["svndumpfilter"], Usage::Words);
+    assert_refused(&rt, alloc, &["svndumpfilter", "include"], Usage::Words);
+    assert_refused(&rt, alloc, &["svndumpfilter", "filter", "a"], Usage::Words);
+    assert_refused(&rt, alloc, &["svndumpfilter", "Include", "a"], Usage::Words);
+    assert_refused(
+        &rt,
+        alloc,
+        &["svndumpfilter", "--drop-empty-revs", "include", "a"],
+        Usage::Words,
+    );
+    assert_refused(
+        &rt,
+        alloc,
+        &["svndumpfilter", "include", "--preserve-revprops"],
+        Usage::Words,
+    );
+    assert_refused(
+        &rt,
+        alloc,
+        &["svndumpfilter", "include", "-x"],
+        Usage::Words,
+    );
+    assert_refused(
+        &rt,
+        alloc,
+        &["svndumpfilter", "include", "a", "-x"],
+        Usage::Words,
+    );
 }
 
 #[test]
 fn other_flags_are_refused(rt: HostRuntime) {
     let alloc = rt.alloc();
-    let refused = |words: &[&str]| assert_refused(&rt, alloc, words, Usage::Words);
-    refused(&["p", "include", "--preserve", "a"]);
-    refused(&["p", "include", "--preserve-revprops=", "a"]);
-    refused(&["p", "include", "--renumber", "a"]);
-    refused(&["p", "include", "--help", "a"]);
-    refused(&["p", "help", "include"]);
+    assert_refused(
+        &rt,
+        alloc,
+        &["p", "include", "--preserve", "a"],
+        Usage::Words,
+    );
+    assert_refused(
+        &rt,
+        alloc,
+        &["p", "include", "--preserve-revprops=", "a"],
+        Usage::Words,
+    );
+    assert_refused(
+        &rt,
+        alloc,
+        &["p", "include", "--renumber", "a"],
+        Usage::Words,
+    );
+    assert_refused(&rt, alloc, &["p", "include", "--help", "a"], Usage::Words);
+    assert_refused(&rt, alloc, &["p", "help", "include"], Usage::Words);
 }
 
 #[test]
 fn a_flag_twice_is_refused(rt: HostRuntime) {
     let alloc = rt.alloc();
-    let refused = |words: &[&str]| assert_refused(&rt, alloc, words, Usage::Words);
-    refused(&[
-        "p",
-        "include",
-        "--preserve-revprops",
-        "--preserve-revprops",
-        "a",
-    ]);
-    refused(&["p", "include", "--renumber-revs", "--renumber-revs", "a"]);
-    refused(&["p", "include", "--workers", "2", "--workers", "3", "a"]);
-    refused(&[
-        "p",
-        "include",
-        "--drop-empty-revs",
-        "--drop-empty-revs",
-        "a",
-    ]);
-    refused(&[
-        "p",
-        "include",
-        "--drop-all-empty-revs",
-        "--drop-all-empty-revs",
-        "a",
-    ]);
+    assert_refused(
+        &rt,
+        alloc,
+        &[
+            "p",
+            "include",
+            "--preserve-revprops",
+            "--preserve-revprops",
+            "a",
+        ],
+        Usage::Words,
+    );
+    assert_refused(
+        &rt,
+        alloc,
+        &["p", "include", "--renumber-revs", "--renumber-revs", "a"],
+        Usage::Words,
+    );
+    assert_refused(
+        &rt,
+        alloc,
+        &["p", "include", "--workers", "2", "--workers", "3", "a"],
+        Usage::Words,
+    );
+    assert_refused(
+        &rt,
+        alloc,
+        &[
+            "p",
+            "include",
+            "--drop-empty-revs",
+            "--drop-empty-revs",
+            "a",
+        ],
+        Usage::Words,
+    );
+    assert_refused(
+        &rt,
+        alloc,
+        &[
+            "p",
+            "include",
+            "--drop-all-empty-revs",
+            "--drop-all-empty-revs",
+            "a",
+        ],
+        Usage::Words,
+    );
 }
 
 #[test]
 fn plans_out_of_range_are_refused(rt: HostRuntime) {
     let alloc = rt.alloc();
-    let refused = |words: &[&str]| assert_refused(&rt, alloc, words, Usage::Words);
-    refused(&["p", "include", "--workers", "65", "a"]);
-    refused(&["p", "include", "--workers", "0", "a"]);
-    refused(&["p", "include", "--window", "4097", "a"]);
-    refused(&["p", "include", "--window", "0", "trunk"]);
-    refused(&["p", "include", "--window", "many", "a"]);
-    refused(&["p", "include", "a", "--window"]);
+    assert_refused(
+        &rt,
+        alloc,
+        &["p", "include", "--workers", "65", "a"],
+        Usage::Words,
+    );
+    assert_refused(
+        &rt,
+        alloc,
+        &["p", "include", "--workers", "0", "a"],
+        Usage::Words,
+    );
+    assert_refused(
+        &rt,
+        alloc,
+        &["p", "include", "--window", "4097", "a"],
+        Usage::Words,
+    );
+    assert_refused(
+        &rt,
+        alloc,
+        &["p", "include", "--window", "0", "trunk"],
+        Usage::Words,
+    );
+    assert_refused(
+        &rt,
+        alloc,
+        &["p", "include", "--window", "many", "a"],
+        Usage::Words,
+    );
+    assert_refused(&rt, alloc, &["p", "include", "a", "--window"], Usage::Words);
 }
 
 #[test]

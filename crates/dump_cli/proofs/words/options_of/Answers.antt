@@ -1,6 +1,6 @@
 use Rattle.std.proofs.Common.{◌≡◌, ◌∙◌, ap, map, subst, sym, List}
 use Rattle.clap.specs.Kinds.{HasKind}
-use Rattle.clap.specs.Words.{Text, fault_of, found_of, is_simple, is_simple_and_free, rows_of, subcommand_of}
+use Rattle.clap.specs.Words.{takes, Text, fault_of, found_of, is_simple, is_simple_and_free, rows_of, subcommand_of}
 use Rattle.dump_cli.specs.CommandLine.{program}
 use Rattle.dump_cli.specs.Words.{AnswersTo, AreFilled, meaning_of, order_of}
 use Rattle.dump_cli.proofs.ProgramLemmas.{free, simple}
@@ -18,6 +18,12 @@ returns-in-Err-clause-lawful c lawful is =
     let words : List Text = map (λ w. w.now) c.args.words.now in
     let has : HasKind (fault_of program words) c.in-Err.error = subst (λ a. HasKind (fault_of a words) c.in-Err.error) c.in-Ok.ensures (c.in-Err.ensures.kinds (ap is_simple_and_free c.in-Ok.ensures ∙ free)) in
     refusal_unlawful words c.in-Err.error c.refusal.result has c.refusal.ensures.memory lawful cc
+
+pub returns-in-Err-clause-takes : goal.returns-in-Err-clause-takes
+returns-in-Err-clause-takes c takes_them is =
+    let words : List Text = map (λ w. w.now) c.args.words.now in
+    let memory = c.refusal.ensures.memory (c.in-Err.ensures.passes (ap (λ a. takes a words) c.in-Ok.ensures ∙ takes_them)) in
+    cc
 
 pub read_order-requires : goal.read_order-requires
 read_order-requires c =
