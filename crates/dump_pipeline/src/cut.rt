@@ -34,13 +34,7 @@ fn draw<'a, D: Run, R: Wait>(
     ensures seen { seat.new ≡ record seat.old { seen = is_none result } }
 {
     match port.draw(rt, word, seat) {
-        Drawn::Credit(credit) => {
-            if word.look(seat) {
-                None
-            } else {
-                Some(credit)
-            }
-        }
+        Drawn::Credit(credit) => { if word.look(seat) { None } else { Some(credit) } }
         Drawn::Stop => None,
     }
 }

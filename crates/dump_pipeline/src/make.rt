@@ -57,7 +57,11 @@ pub struct Given<'a, D: Run> {
 }
 
 /// Makes the queues, the slots and the words, and all the room that the run takes of its own.
-pub fn make<'a, D: Run, R: Wait>(rt: &R, alloc: Global, plan: Plan) -> Result<Given<'a, D>, Memory> {
+pub fn make<'a, D: Run, R: Wait>(
+    rt: &R,
+    alloc: Global,
+    plan: Plan,
+) -> Result<Given<'a, D>, Memory> {
     let (workers, window) = (plan.workers(), plan.window());
     let mut pool = Pool::<Job<'a, D>, Checked<'a, D>>::new(rt, alloc, workers, window)?;
     let ports = pool.ports(alloc)?;

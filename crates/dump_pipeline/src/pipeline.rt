@@ -42,7 +42,16 @@ const REFUSED: Answer = Answer::Failed {
 };
 
 // Runs all threads to their ends.
-fn run_in<'s, 'a: 's, 'b, E: 's, D: Run + Send + Sync + 's, S: Sink, G: Gate + 's, R: Threads + Wait + Sync + 's>(
+fn run_in<
+    's,
+    'a: 's,
+    'b,
+    E: 's,
+    D: Run + Send + Sync + 's,
+    S: Sink,
+    G: Gate + 's,
+    R: Threads + Wait + Sync + 's,
+>(
     scope: &'s Scope<'s, E>,
     rt: &'s R,
     alloc: Global,
@@ -86,13 +95,21 @@ fn run_in<'s, 'a: 's, 'b, E: 's, D: Run + Send + Sync + 's, S: Sink, G: Gate + '
     } = ports;
     let answer = REFUSED;
     let Some(sequencer) = start_sequencer(
-        scope, rt, alloc, options, &words.stop, sequencer, slots, to, sequences,
+        scope,
+        rt,
+        alloc,
+        options,
+        &words.stop,
+        sequencer,
+        slots,
+        to,
+        sequences,
     ) else {
         return Held { sink, answer };
     };
-    let Some(Crew { workers, cutter }) =
-        start_workers(scope, rt, options, gate, workers, room, cutter)
-    else {
+    let Some(Crew { workers, cutter }) = start_workers(
+        scope, rt, options, gate, workers, room, cutter,
+    ) else {
         return Held { sink, answer };
     };
     let Some(cutter) = start_cutter(scope, rt, dump, cutter, words, cuts, shut, &mut shuts) else {

@@ -158,7 +158,14 @@ pub struct Crew<'a, D: Run> {
 }
 
 /// Starts the workers' threads. Where one is refused all end.
-pub fn start_workers<'s, 'a: 's, E: 's, D: Run + Send + Sync + 's, G: Gate + 's, R: Wait + Sync + 's>(
+pub fn start_workers<
+    's,
+    'a: 's,
+    E: 's,
+    D: Run + Send + Sync + 's,
+    G: Gate + 's,
+    R: Wait + Sync + 's,
+>(
     scope: &'s Scope<'s, E>,
     rt: &'s R,
     options: &'a Options,

@@ -159,7 +159,10 @@ pub struct Watching<'c> {
 impl<'c> Gate for Watching<'c> {
     fn pass(&self, number: u64) {
         if number == 0 {
-            self.at_first.store(self.count.load(Ordering::SeqCst) + 1, Ordering::SeqCst);
+            self.at_first.store(
+                self.count.load(Ordering::SeqCst).saturating_add(1),
+                Ordering::SeqCst,
+            );
         }
         if number == self.last {
             for _ in 0..TURNS {

@@ -40,7 +40,15 @@ fn each_plan_gives_the_same(rt: HostRuntime) -> Result<(), Fail> {
     let options = options(alloc, Side::Include, Empty::Pad)?;
     for (workers, window) in [(1, 1), (2, 4), (4, 64), (64, 4096)] {
         let mut sink = MemorySink::new(alloc, 1000, Trouble::Never);
-        let answer = run(&rt, alloc, DUMP, &options, plan(workers, window)?, &FreeGate, &mut sink);
+        let answer = run(
+            &rt,
+            alloc,
+            DUMP,
+            &options,
+            plan(workers, window)?,
+            &FreeGate,
+            &mut sink,
+        );
         assert_eq!(rt; answer, report(2, 1));
         assert_eq!(rt; sink.taken(), &DUMP[..TRUNK2]);
     }
@@ -102,6 +110,7 @@ fn write_folder(dump: &mut Vec<u8>, path: &str) -> Result<(), Fail> {
 }
 
 const WRONG_SHA1: &str = "Text-content-sha1: a9993e364706816aba3e25717850c26c9cd0d89e";
+
 const WRONG_MD5: &str = "Text-content-md5: 900150983cd24fb0d6963f7d28e17f73";
 
 const SHA1_IN_RECORD_2: Answer = Answer::Fault {
@@ -137,7 +146,15 @@ fn a_broken_sink_gets_a_first_part(rt: HostRuntime) -> Result<(), Fail> {
     dump.extend_from_slice(b"junk")?;
     let options = options(alloc, Side::Include, Empty::Pad)?;
     let mut sink = MemorySink::new(alloc, 1000, Trouble::Once(100));
-    let answer = run(&rt, alloc, &dump, &options, plan(4, 64)?, &FreeGate, &mut sink);
+    let answer = run(
+        &rt,
+        alloc,
+        &dump,
+        &options,
+        plan(4, 64)?,
+        &FreeGate,
+        &mut sink,
+    );
     let failed = Answer::Failed {
         failure: Failure::Sink,
         written: 100,
@@ -145,7 +162,15 @@ fn a_broken_sink_gets_a_first_part(rt: HostRuntime) -> Result<(), Fail> {
     assert_eq!(rt; answer, failed);
     assert_eq!(rt; sink.taken(), &DUMP[..100]);
     let mut sink = MemorySink::new(alloc, 1000, Trouble::Never);
-    let answer = run(&rt, alloc, &dump, &options, plan(4, 64)?, &FreeGate, &mut sink);
+    let answer = run(
+        &rt,
+        alloc,
+        &dump,
+        &options,
+        plan(4, 64)?,
+        &FreeGate,
+        &mut sink,
+    );
     let fault = Answer::Fault {
         kind: FaultKind::HeaderCut,
         number: 6,
@@ -194,7 +219,15 @@ fn each_record_passes_the_gate_once(rt: HostRuntime) -> Result<(), Fail> {
     for (workers, window) in [(1, 1), (4, 64), (64, 4096)] {
         let gate = Counting::new();
         let mut sink = MemorySink::new(alloc, 1000, Trouble::Never);
-        let answer = run(&rt, alloc, &dump, &options, plan(workers, window)?, &gate, &mut sink);
+        let answer = run(
+            &rt,
+            alloc,
+            &dump,
+            &options,
+            plan(workers, window)?,
+            &gate,
+            &mut sink,
+        );
         assert_eq!(rt; answer, HALF);
         assert_eq!(rt; sink.taken().len(), 11_359);
         assert_eq!(rt; gate.words(), [u64::MAX, u64::MAX, u64::MAX, 0xff]);
@@ -268,4 +301,26 @@ fn a_broken_sink_stops_the_cutting(rt: HostRuntime) -> Result<(), Fail> {
     assert_eq!(rt; answer, failed);
     assert_eq!(rt; gate.passed(), 0b1);
     Ok(())
+}
+
+// Run with each allocation refused in turn: the answer is want of memory, a thread that wasn't started, or the usual one.
+#[test]
+fn want_of_memory_leaves_a_first_part_over_threads(rt: HostRuntime) {
+    let alloc = rt.alloc();
+    let (side, prefixes) = (Side::Include, [b"trunk".as_slice()]);
+    let Ok(options) = Options::new(alloc, side, &prefixes, Empty::Pad, false, true, false) else {
+        return;
+    };
+    let Some(plan) = Plan::new(2, 4) else {
+        return;
+    };
+    let mut sink = MemorySink::new(alloc, 1000, Trouble::Never);
+    let answer = run(&rt, alloc, DUMP, &options, plan, &FreeGate, &mut sink);
+    assert!(rt; DUMP.starts_with(sink.taken()));
+    match answer {
+        Answer::Failed { written, .. } => {
+            assert_eq!(rt; sink.taken().len() as u64, written);
+        }
+        _ => assert_eq!(rt; answer, report(2, 1)),
+    }
 }

@@ -35,13 +35,17 @@ impl Gate for Delaying {
 
 // A sink that breaks off at some byte, or doesn't.
 fn sink_of(alloc: Global, seed: u64, len: usize) -> MemorySink {
-    let at = scatter(seed) % (len as u64 + 1);
-    let trouble = match scatter(seed + 1) % 3 {
+    let at = scatter(seed) % (len as u64).max(1);
+    let trouble = match scatter(seed.wrapping_add(1)) % 3 {
         0 => Trouble::Never,
         1 => Trouble::Once(at),
         _ => Trouble::From(at),
     };
-    MemorySink::new(alloc, 1 + (scatter(seed + 2) % 512) as usize, trouble)
+    MemorySink::new(
+        alloc,
+        1 + (scatter(seed.wrapping_add(2)) % 512) as usize,
+        trouble,
+    )
 }
 
 // Whether a run over threads answers and writes what one on one thread does, for so many seeds.
@@ -54,13 +58,21 @@ fn agree<R: Threads + Wait + Sync>(
 ) -> Result<bool, Fail> {
     for seed in seeds {
         let most = if seed % 16 == 0 { 64 } else { 6 };
-        let workers = 1 + (scatter(seed + 3) % most) as usize;
-        let window = 1 + (scatter(seed + 4) % 40) as usize;
+        let workers = 1 + (scatter(seed.wrapping_add(3)) % most) as usize;
+        let window = 1 + (scatter(seed.wrapping_add(4)) % 40) as usize;
         let mut plain = sink_of(alloc, seed, dump.len());
         let mut sink = sink_of(alloc, seed, dump.len());
         let gate = Delaying { seed };
         let wanted = run_plain(alloc, dump, options, &mut plain);
-        let answer = run(rt, alloc, dump, options, plan(workers, window)?, &gate, &mut sink);
+        let answer = run(
+            rt,
+            alloc,
+            dump,
+            options,
+            plan(workers, window)?,
+            &gate,
+            &mut sink,
+        );
         if answer != wanted || sink.taken() != plain.taken() {
             return Ok(false);
         }
@@ -73,7 +85,15 @@ fn clean_dumps_are_filtered_as_on_one_thread(rt: HostRuntime) -> Result<(), Fail
     let alloc = rt.alloc();
     let dump = hundred(alloc)?;
     assert!(rt; agree(&rt, alloc, &dump, &renumbering(alloc)?, 0..60)?);
-    assert!(rt; agree(&rt, alloc, DUMP, &options(alloc, Side::Include, Empty::Pad)?, 1000..1400)?);
+    assert!(rt;
+        agree(
+            &rt,
+            alloc,
+            DUMP,
+            &options(alloc, Side::Include, Empty::Pad)?,
+            1000..1400
+        )?
+    );
     Ok(())
 }
 
@@ -84,6 +104,14 @@ fn dumps_with_a_fault_are_filtered_as_on_one_thread(rt: HostRuntime) -> Result<(
     assert!(rt; agree(&rt, alloc, &dump, &everything(alloc)?, 3000..3200)?);
     let mut dump = Vec::from_slice(alloc, DUMP)?;
     dump.extend_from_slice(b"junk")?;
-    assert!(rt; agree(&rt, alloc, &dump, &options(alloc, Side::Include, Empty::Pad)?, 5000..5400)?);
+    assert!(rt;
+        agree(
+            &rt,
+            alloc,
+            &dump,
+            &options(alloc, Side::Include, Empty::Pad)?,
+            5000..5400
+        )?
+    );
     Ok(())
 }
