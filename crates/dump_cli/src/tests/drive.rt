@@ -150,7 +150,14 @@ fn a_full_disk_is_told_with_the_count(rt: HostRuntime) -> Result<(), Fail> {
             room,
             loses: false,
         };
-        let status = drive(&rt, alloc, &ORDER, &mut dump.as_slice(), &mut disk, &mut errors);
+        let status = drive(
+            &rt,
+            alloc,
+            &ORDER,
+            &mut dump.as_slice(),
+            &mut disk,
+            &mut errors,
+        );
         assert_eq!(rt; status, 1);
         assert_eq!(rt; disk.held.as_slice(), &KEPT[..room]);
         let mut line = Vec::new(alloc);
@@ -173,7 +180,14 @@ fn a_failed_flush_is_a_failure(rt: HostRuntime) -> Result<(), Fail> {
         room: 1000,
         loses: true,
     };
-    let status = drive(&rt, alloc, &ORDER, &mut dump.as_slice(), &mut disk, &mut errors);
+    let status = drive(
+        &rt,
+        alloc,
+        &ORDER,
+        &mut dump.as_slice(),
+        &mut disk,
+        &mut errors,
+    );
     assert_eq!(rt; status, 1);
     let mut line = Vec::new(alloc);
     let written = KEPT.len();
