@@ -23,7 +23,7 @@ abbrev pub IsSilent : Answer → Bool → Type 0
 IsSilent (Clean report) quiet = quiet ≡ true
 IsSilent answer quiet = ⊥
 
--- the output broke off: the writer took only the first of the bytes, and the answer is the failure with their count
+-- the output broke off: the writer took the first of the bytes, perhaps all, and the answer is the failure with their count
 pub record BreaksOff (old new : Option (List ℕ)) (sent : List ℕ) (told : Answer) : Type 0 where
   pub part : List ℕ
   pub written : ℕ

@@ -1,7 +1,7 @@
 //! Laws of what the filter writes, each the contract of a function that does nothing.
 ghost use Rattle.dump_filter.specs.FilterLaws.{KeepsItsOwnText, WrittenOnlyGrows};
 
-/// What is written of the first records of a dump begins what is written of more of them.
+/// What is written of the first records of a dump, where none of them has a fault, begins what is written of more.
 pub fn written_only_grows()
     ensures { WrittenOnlyGrows }
 {}
