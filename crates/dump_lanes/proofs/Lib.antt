@@ -13,12 +13,16 @@ pub mod PoolMarks
 pub mod PortSteps
 pub mod PortsTogether
 pub mod RunCredits
+pub mod RunEndings
 pub mod RunEnds
 pub mod RunMarks
 pub mod RunOrder
 pub mod RunPlaces
+pub mod RunProgress
+pub mod RunSettling
 pub mod RunSlots
 pub mod RunSteps
+pub mod RunStill
 pub mod RunStop
 pub mod RunWeights
 pub mod Runs

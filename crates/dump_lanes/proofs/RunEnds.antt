@@ -4,7 +4,8 @@ use Rattle.std.proofs.lemmas.Bool.{and_parts, not-true, ltb-true, cases_eq, case
 use Rattle.dump_lanes.specs.PoolWorld.{PoolSize, Entry, World, opening, hand_of, items_of, items_in_hands, items_on_the_way}
 use Rattle.dump_lanes.specs.PoolEvents.{Event, is_enabled, after_event, taken_by, arrived, written_next}
 use Rattle.dump_lanes.proofs.RunWeights.{items_of-append}
-use Rattle.dump_lanes.proofs.RunMarks.{marks, marks_in_hands, count_taken, AreItemsFirst, AreMarkedAfter, marks-append, item_joins, mark_joins, closes, none_left, hand_set, taken_set, not_all, no_item_in_hands, no_marks_in_hands, none_taken, none_taken_at}
+use Rattle.dump_lanes.specs.PoolProgress.{marks, marks_in_hands}
+use Rattle.dump_lanes.proofs.RunMarks.{count_taken, AreItemsFirst, AreMarkedAfter, marks-append, item_joins, mark_joins, closes, none_left, hand_set, taken_set, not_all, no_item_in_hands, no_marks_in_hands, none_taken, none_taken_at}
 use Rattle.dump_lanes.proofs.RunPlaces.{IsSized, may_take, MayTake, hand_within}
 
 -- the job queue, beside the marks that were put and taken

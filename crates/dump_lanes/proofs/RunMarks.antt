@@ -1,17 +1,8 @@
 -- The end marks: each comes after the items of its worker, after each event.
 use Rattle.std.proofs.Common.{◌≡◌, ℕ, zero, suc, ◌+◌, ◌<◌, ◌≤◌, Bool, true, false, cond, List, [], ◌∷◌, ◌++◌, length, get_or, set, replicate, Option, None, option_to_list, refl, ap, ◌∙◌, arith, append-nil}
 use Rattle.dump_lanes.specs.PoolWorld.{Entry, items_of, items_in_hands}
+use Rattle.dump_lanes.specs.PoolProgress.{marks, marks_in_hands}
 use Rattle.dump_lanes.proofs.RunWeights.{items_of-append}
-
--- how many marks are among entries, and in hands
-abbrev pub marks : List Entry → ℕ
-marks [] = 0
-marks (Entry.Item n ∷ es) = marks es
-marks (Entry.Mark ∷ es) = 1 + marks es
-
-abbrev pub marks_in_hands : List (Option Entry) → ℕ
-marks_in_hands [] = 0
-marks_in_hands (h ∷ hands) = marks (option_to_list h) + marks_in_hands hands
 
 -- how many workers took theirs
 abbrev bit : Bool → ℕ

@@ -53,17 +53,17 @@ sized_kept size w Event.Look s = s
 sized_kept size w Event.Shut s = s
 
 -- what each event keeps, and so each run
-record Holds (size : PoolSize) (w : World) : Type 0 where
-  some_worker : 0 < size.workers
-  sized : IsSized size w
-  once : IsEachOnce w
-  bounded : IsBounded size w
-  in_order : IsInOrder w
-  placed : IsPlaced size w
-  ending : IsEnding size w
-  stop : HasStopCause w
+pub record Holds (size : PoolSize) (w : World) : Type 0 where
+  pub some_worker : 0 < size.workers
+  pub sized : IsSized size w
+  pub once : IsEachOnce w
+  pub bounded : IsBounded size w
+  pub in_order : IsInOrder w
+  pub placed : IsPlaced size w
+  pub ending : IsEnding size w
+  pub stop : HasStopCause w
 
-step_holds : (size : PoolSize) (w : World) (event : Event) → IsTrue (is_enabled size w event) → Holds size w → Holds size (after_event size w event)
+pub step_holds : (size : PoolSize) (w : World) (event : Event) → IsTrue (is_enabled size w event) → Holds size w → Holds size (after_event size w event)
 step_holds size w event e h = record {
   some_worker = h.some_worker;
   sized = sized_kept size w event h.sized;
@@ -75,11 +75,11 @@ step_holds size w event e h = record {
   stop = stop_kept size w event e h.stop;
 }
 
-run_holds : (size : PoolSize) (events : List Event) (u w : World) → IsRun size events u w → Holds size u → Holds size w
+pub run_holds : (size : PoolSize) (events : List Event) (u w : World) → IsRun size events u w → Holds size u → Holds size w
 run_holds size [] u w run h = subst (Holds size) (sym run) h
 run_holds size (event ∷ events) u w run h = run_holds size events (after_event size u event) w run.1 (step_holds size u event run.0 h)
 
-first_holds : (size : PoolSize) → 0 < size.workers → 0 < size.window → Holds size (opening size)
+pub first_holds : (size : PoolSize) → 0 < size.workers → 0 < size.window → Holds size (opening size)
 first_holds size some_worker some_slot = record {
   some_worker = some_worker;
   sized = record { each_hand = length-replicate size.workers _; each_mark = length-replicate size.workers _; each_slot = length-replicate size.window _; some_slot = some_slot };
@@ -96,7 +96,7 @@ way_weight : (f : ℕ → ℕ) (w : World) → weigh f (items_on_the_way w) ≡ 
 way_weight f w =
     omega (arith, weigh-append f (items_of w.jobs ++ items_in_hands w.hands) (items_of w.dones), weigh-append f (items_of w.jobs) (items_in_hands w.hands))
 
-released_weight : (f : ℕ → ℕ) (w : World) → weigh f (items_released w) ≡ weigh f w.finished + weigh f (option_to_list w.writing) + weigh f w.lane
+pub released_weight : (f : ℕ → ℕ) (w : World) → weigh f (items_released w) ≡ weigh f w.finished + weigh f (option_to_list w.writing) + weigh f w.lane
 released_weight f w =
     omega (arith, weigh-append f (w.finished ++ option_to_list w.writing) w.lane, weigh-append f w.finished (option_to_list w.writing))
 
@@ -109,7 +109,7 @@ flight_weight : (f : ℕ → ℕ) (w : World)
 flight_weight f w =
     omega (arith, way_weight f w, weigh-append f (items_on_the_way w ++ concat w.slots ++ w.lane) (option_to_list w.writing), weigh-append f (items_on_the_way w ++ concat w.slots) w.lane, weigh-append f (items_on_the_way w) (concat w.slots))
 
-range_each : (n : ℕ) → weigh each (range_with_len 0 n) ≡ n
+pub range_each : (n : ℕ) → weigh each (range_with_len 0 n) ≡ n
 range_each n = sym (length_is (range_with_len 0 n)) ∙ length-range_with_len 0 n
 
 -- the facts of one state
@@ -120,7 +120,7 @@ module _ (size : PoolSize) (w : World) (h : Holds size w) where
   released_each : weigh each w.finished + weigh each (option_to_list w.writing) + weigh each w.lane ≡ w.released
   released_each = sym (released_weight each w) ∙ (ap (weigh each) h.in_order ∙ range_each w.released)
 
-  released_cut : w.released ≤ w.cut
+  pub released_cut : w.released ≤ w.cut
   released_cut = omega (arith, released_each, h.once each, range_each w.cut)
 
   credits : w.credits + held w.holds_credit + count_in_flight w ≡ size.window

@@ -10,9 +10,12 @@ pub mod LaneViews
 pub mod PartSteps
 pub mod PoolEvents
 pub mod PoolFacts
+pub mod PoolMoves
 pub mod PoolNames
 pub mod PoolParts
 pub mod PoolPasses
+pub mod PoolProgress
+pub mod PoolSettling
 pub mod PoolWorld
 pub mod PortSides
 pub mod PortSteps

@@ -8,7 +8,10 @@ ghost use Rattle.dump_lanes.specs.Arrivals.{NoneClash, AllReleased};
 ghost use Rattle.dump_lanes.specs.PoolWorld.{PoolSize, World};
 ghost use Rattle.dump_lanes.specs.PoolEvents.{Event, is_enabled};
 ghost use Rattle.dump_lanes.specs.PoolFacts.{EveryRunIsSound};
+ghost use Rattle.dump_lanes.specs.PoolMoves.{NoDeadEnd, OnlyDoneStandsStill};
 ghost use Rattle.dump_lanes.specs.PoolParts.{SharesEvent, LeavesOthers, PartsAllow};
+ghost use Rattle.dump_lanes.specs.PoolProgress.{EveryMoveCounts, NoEndlessWay, EveryRunCanEnd, NeverFull};
+ghost use Rattle.dump_lanes.specs.PoolSettling.{AfterAStop, EndedCutsNothing, IdleEventsSettle};
 ghost use Rattle.dump_lanes.specs.PartSteps.{Part, AreSteps, all_put, all_taken};
 ghost use Rattle.dump_lanes.specs.RunSteps.{EveryRunMakesSteps};
 ghost use Rattle.dump_lanes.specs.StepMoves.{CreditsMoveOne, JobsMoveOne, DonesMoveOne, PiecesMoveOne, WordOnlyRises, NoCutIsUnnoted};
@@ -61,4 +64,42 @@ pub fn every_run_is_sound()
 pub fn items_come_in_order()
     ensures apart { NoneClash }
     ensures all { AllReleased }
+{}
+
+/// In each state before the end some thread can make a move, and the state says which one and what. And only
+/// where all is done no move may be made.
+pub fn no_state_is_a_dead_end()
+    ensures next { NoDeadEnd }
+    ensures still { OnlyDoneStandsStill }
+{}
+
+/// The moves of a run are counted by the state that it leads to: each move adds one, and no other event any.
+pub fn every_move_counts()
+    ensures { EveryMoveCounts }
+{}
+
+/// A run that cuts so many items makes at most eight moves for each, four for each worker, and one more.
+pub fn no_run_goes_on_without_end()
+    ensures { NoEndlessWay }
+{}
+
+/// From each state that a run reaches, the moves that may be made in turn lead to the end.
+pub fn every_run_can_end()
+    ensures { EveryRunCanEnd }
+{}
+
+/// A queue with a place for each item of the window and each worker's mark is never too full for a put.
+pub fn no_queue_is_overfull()
+    ensures { NeverFull }
+{}
+
+/// Once the stop is up at most one more item is cut, and none once the cutter has ended or was shut.
+pub fn a_stop_ends_the_cutting()
+    ensures stop { AfterAStop }
+    ensures ended { EndedCutsNothing }
+{}
+
+/// An event that is no move changes something at most once, so none is waited for.
+pub fn idle_events_settle()
+    ensures { IdleEventsSettle }
 {}

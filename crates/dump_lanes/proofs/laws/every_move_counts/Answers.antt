@@ -1,0 +1,5 @@
+use Rattle.dump_lanes.proofs.RunProgress.{every_move_counts}
+use Rattle.dump_lanes.proofs.laws.every_move_counts.Goals as goal
+
+pub returns : goal.returns
+returns c = every_move_counts

@@ -1,0 +1,8 @@
+use Rattle.dump_lanes.proofs.RunEndings.{no_dead_end, only_done_stands_still}
+use Rattle.dump_lanes.proofs.laws.no_state_is_a_dead_end.Goals as goal
+
+pub returns-clause-next : goal.returns-clause-next
+returns-clause-next c = no_dead_end
+
+pub returns-clause-still : goal.returns-clause-still
+returns-clause-still c = only_done_stands_still
