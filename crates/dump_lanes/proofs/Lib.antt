@@ -30,4 +30,5 @@ pub mod Settling
 pub mod StepMoves
 pub mod StopSteps
 pub mod TwoMoves
+pub mod Values
 pub mod Views

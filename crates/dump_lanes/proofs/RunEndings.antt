@@ -6,7 +6,7 @@ use Rattle.std.proofs.lemmas.Bool.{and_parts, not-true, cases_Bool}
 use Rattle.std.proofs.lemmas.List.FromFn.{length-range_with_len, get_or-range_with_len}
 use Rattle.dump_lanes.specs.PoolWorld.{PoolSize, Entry, World}
 use Rattle.dump_lanes.specs.PoolEvents.{Event, is_enabled, after_event, taken_by, arrived, written_next, IsRun}
-use Rattle.dump_lanes.specs.PoolMoves.{is_move, all_moves, next_move, IsAllDone, StandsStill, NoDeadEnd, OnlyDoneStandsStill}
+use Rattle.dump_lanes.specs.PoolMoves.{is_move, all_moves, next_move, who_moves, IsAllDone, IsReached, CanMove, StandsStill, NoDeadEnd, OnlyDoneStandsStill}
 use Rattle.dump_lanes.specs.PoolProgress.{progress, count_move, most_moves, AreNextMoves, EveryRunCanEnd}
 use Rattle.dump_lanes.proofs.RunCredits.{held}
 use Rattle.dump_lanes.proofs.RunProgress.{reached_holds, step_counts, progress_within}
@@ -165,8 +165,18 @@ module _ (size : PoolSize) (w : World) where
     no_draw = s Event.Draw refl;
   }
 
+next_or_done : (size : PoolSize) (w : World) → IsReached size w
+    → IsAllDone size w ⊎ (IsTrue (is_move (next_move size w)) × IsTrue (is_enabled size w (next_move size w)))
+next_or_done size w r = as_move size w (done_or_moves size w (reached_holds size w r))
+
+by_thread : (size : PoolSize) (w : World)
+    → IsAllDone size w ⊎ (IsTrue (is_move (next_move size w)) × IsTrue (is_enabled size w (next_move size w)))
+    → IsAllDone size w ⊎ CanMove size w (who_moves size w)
+by_thread size w (inl d) = inl d
+by_thread size w (inr m) = inr (next_move size w, m.0, m.1, refl)
+
 pub no_dead_end : NoDeadEnd
-no_dead_end size w r = as_move size w (done_or_moves size w (reached_holds size w r))
+no_dead_end = record { who = λ size w r. by_thread size w (next_or_done size w r); next = next_or_done }
 
 pub only_done_stands_still : OnlyDoneStandsStill
 only_done_stands_still = record {

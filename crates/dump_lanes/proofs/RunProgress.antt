@@ -2,11 +2,12 @@
 use Rattle.std.proofs.Common.{◌≡◌, ℕ, ◌+◌, ◌-◌, ◌*◌, ◌<◌, ◌≤◌, ◌%◌, Bool, true, false, not, ◌&&◌, IsTrue, nat_lt, List, [], ◌∷◌, ◌++◌, length, count_by, Option, Some, None, is_some, option_to_list, sym, refl, ap, ◌∙◌, arith, mod-lt}
 use Rattle.std.specs.List.{concat}
 use Rattle.std.proofs.lemmas.Bool.{and_parts, not-true, ltb-true}
+use Rattle.std.proofs.lemmas.List.{length_push}
 use Rattle.std.proofs.lemmas.List.Sums.{sum_by-cons}
 use Rattle.dump_lanes.specs.PoolWorld.{PoolSize, Entry, World, opening, hand_of, slot_of, items_of, items_in_hands}
 use Rattle.dump_lanes.specs.PoolEvents.{Event, is_enabled, after_event, taken_by, arrived, written_next, IsRun}
 use Rattle.dump_lanes.specs.PoolMoves.{is_move, IsReached}
-use Rattle.dump_lanes.specs.PoolProgress.{marks, marks_in_hands, progress, count_move, most_moves, moves_left, HasRoom, NeverFull, EveryMoveCounts, NoEndlessWay}
+use Rattle.dump_lanes.specs.PoolProgress.{marks, marks_in_hands, progress, count_move, most_moves, moves_left, HasRoom, FindsPlace, NeverFull, EveryMoveCounts, NoEndlessWay}
 use Rattle.dump_lanes.proofs.RunWeights.{weigh, each, without, weigh-append, weigh_entries, weigh_hand, hands_set, no_hands, slots_set, no_slots, without_one, length_is}
 use Rattle.dump_lanes.proofs.RunMarks.{marks-append, hand_set, no_marks_in_hands}
 use Rattle.dump_lanes.proofs.RunPlaces.{IsSized, may_take, hand_within, is_none_from, IsNext, is_next}
@@ -200,8 +201,34 @@ has_room size w h =
       credits = omega (arith, t.items, t.flight);
     }
 
+one_longer : (xs : List Entry) (o : Option Entry) → is_some o ≡ true → length (xs ++ option_to_list o) ≡ length xs + 1
+one_longer xs None e = cc
+one_longer xs (Some x) e = length_push xs x
+
+-- the state after a put has room for what was put
+has_place : (size : PoolSize) (w : World) (event : Event) → IsTrue (is_enabled size w event)
+    → HasRoom size (after_event size w event) → FindsPlace size w event
+has_place size w Event.Draw e r = tt
+has_place size w (Event.Cut last) e r = omega (arith, r.jobs, length_push w.jobs (Entry.Item w.cut))
+has_place size w Event.CutMark e r = omega (arith, r.jobs, length_push w.jobs Entry.Mark)
+has_place size w (Event.Take k) e r = tt
+has_place size w (Event.Put k) e r = omega (arith, r.dones, one_longer w.dones (hand_of w k) e)
+has_place size w Event.Arrive e r = tt
+has_place size w Event.SequencerNotes e r = tt
+has_place size w Event.WriterNotes e r = tt
+has_place size w Event.Release e r = omega (arith, r.lane, length_push w.lane w.released)
+has_place size w Event.Write e r = tt
+has_place size w Event.Give e r = omega (arith, r.credits)
+has_place size w Event.SequencerRaises e r = tt
+has_place size w Event.WriterRaises e r = tt
+has_place size w Event.Look e r = tt
+has_place size w Event.Shut e r = tt
+
 pub never_full : NeverFull
-never_full size w r = has_room size w (reached_holds size w r)
+never_full = record {
+  room = λ size w r. has_room size w (reached_holds size w r);
+  place = λ size w event r e. has_place size w event e (has_room size (after_event size w event) (step_holds size w event e (reached_holds size w r)));
+}
 
 -- no more moves lie behind a state than its items and end marks can make
 pub progress_within : (size : PoolSize) (w : World) → Holds size w → progress w ≤ most_moves w.cut size

@@ -1,8 +1,11 @@
 -- Once the stop is up at most one item is cut, and none once the cutter has ended; and what settles stays.
-use Rattle.std.proofs.Common.{◌≡◌, ◌⊎◌, inl, inr, ℕ, ◌+◌, ◌≤◌, Bool, true, false, not, ◌&&◌, ◌||◌, cond, IsTrue, List, [], ◌∷◌, ◌++◌, sym, refl, ap, ◌∙◌, subst, arith, true≢false}
+use Rattle.std.proofs.Common.{◌≡◌, ◌⊎◌, inl, inr, ℕ, ◌+◌, ◌<◌, ◌≤◌, Bool, true, false, not, ◌&&◌, ◌||◌, cond, IsTrue, List, [], ◌∷◌, ◌++◌, Option, Some, None, option_to_list, sym, refl, ap, ◌∙◌, subst, arith, true≢false}
 use Rattle.std.proofs.lemmas.Bool.{and_parts, not-true, not_from_true, or_right}
 use Rattle.dump_lanes.specs.PoolWorld.{PoolSize, Entry, World, opening}
 use Rattle.dump_lanes.specs.PoolEvents.{Event, is_enabled, after_event, taken_by, arrived, written_next, IsRun}
+use Rattle.dump_lanes.proofs.RunProgress.{totals}
+use Rattle.dump_lanes.proofs.RunWeights.{weigh, each}
+use Rattle.dump_lanes.proofs.Runs.{Holds, run_holds, first_holds}
 use Rattle.dump_lanes.specs.PoolSettling.{looks_before_draws, AfterAStop, EndedCutsNothing, is_signal, IdleEventsSettle}
 
 -- what was noted, raised or ended stays so
@@ -262,8 +265,23 @@ run_ended size [] old new x run = ap (λ (v : World). v.cut) run
 run_ended size (event ∷ events) old new x run =
     run_ended size events (after_event size old event) new ((step_stays size old event run.0).ended x) run.1 ∙ step_ended size old event x run.0
 
+shut_cuts : (size : PoolSize) (events : List Event) (w : World) → IsRun size (Event.Shut ∷ events) (opening size) w → w.cut ≡ 0
+shut_cuts size events w run = run_ended size events (after_event size (opening size) Event.Shut) w refl run.1
+
+no_piece : (lane : List ℕ) → weigh each lane ≤ 0 → lane ≡ []
+no_piece [] le = refl
+no_piece (n ∷ lane) le = absurd (omega (arith, le))
+
+no_writing : (o : Option ℕ) → weigh each (option_to_list o) ≤ 0 → o ≡ None
+no_writing None le = refl
+no_writing (Some n) le = absurd (omega (arith, le))
+
+shut_writes : (size : PoolSize) (events : List Event) (w : World) → 0 < size.workers → 0 < size.window
+    → IsRun size (Event.Shut ∷ events) (opening size) w → (w.lane ≡ []) × (w.writing ≡ None)
+shut_writes size events w some_worker some_slot run =
+    let h : Holds size w = run_holds size (Event.Shut ∷ events) (opening size) w run (first_holds size some_worker some_slot) in
+    let all = (totals size w h).items in
+    (no_piece w.lane (omega (arith, all, shut_cuts size events w run)), no_writing w.writing (omega (arith, all, shut_cuts size events w run)))
+
 pub ended_cuts_nothing : EndedCutsNothing
-ended_cuts_nothing = record {
-  ended = run_ended;
-  shut = λ size events w run. run_ended size events (after_event size (opening size) Event.Shut) w refl run.1;
-}
+ended_cuts_nothing = record { ended = run_ended; shut = shut_cuts; no_writer = shut_writes }

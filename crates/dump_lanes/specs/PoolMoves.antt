@@ -56,10 +56,16 @@ pub record IsReached (size : PoolSize) (w : World) : Type 0 where
 abbrev pub StandsStill : PoolSize → World → Type 0
 StandsStill size w = (event : Event) → IsTrue (is_move event) → is_enabled size w event ≡ false
 
--- in each state that a run reaches all is done, or the next move may be made
-abbrev pub NoDeadEnd : Type 0
-NoDeadEnd = (size : PoolSize) (w : World) → IsReached size w →
-    IsAllDone size w ⊎ (IsTrue (is_move (next_move size w)) × IsTrue (is_enabled size w (next_move size w)))
+-- a thread can make a move
+abbrev pub CanMove : PoolSize → World → Thread → Type 0
+CanMove size w thread =
+    (event : Event) × IsTrue (is_move event) × IsTrue (is_enabled size w event) × (thread_of event ≡ thread)
+
+-- in each state that a run reaches all is done, or the thread that the state names can make a move: the next one
+pub record NoDeadEnd : Type 0 where
+  pub who : (size : PoolSize) (w : World) → IsReached size w → IsAllDone size w ⊎ CanMove size w (who_moves size w)
+  pub next : (size : PoolSize) (w : World) → IsReached size w →
+      IsAllDone size w ⊎ (IsTrue (is_move (next_move size w)) × IsTrue (is_enabled size w (next_move size w)))
 
 -- a pool stands still where all is done, and nowhere else
 pub record OnlyDoneStandsStill : Type 0 where

@@ -84,6 +84,17 @@ pub record HasRoom (size : PoolSize) (w : World) : Type 0 where
   pub lane : length w.lane ≤ size.window
   pub credits : w.credits ≤ size.window
 
--- in each state that a run reaches
-abbrev pub NeverFull : Type 0
-NeverFull = (size : PoolSize) (w : World) → IsReached size w → HasRoom size w
+-- the queue that an event puts into has a place for it
+abbrev pub FindsPlace : PoolSize → World → Event → Type 0
+FindsPlace size w (Event.Cut last) = length w.jobs < size.window + size.workers
+FindsPlace size w Event.CutMark = length w.jobs < size.window + size.workers
+FindsPlace size w (Event.Put worker) = length w.dones < size.window + size.workers
+FindsPlace size w Event.Release = length w.lane < size.window
+FindsPlace size w Event.Give = w.credits < size.window
+FindsPlace size w event = Unit {0}
+
+-- in each state that a run reaches, and so for each put that may come there
+pub record NeverFull : Type 0 where
+  pub room : (size : PoolSize) (w : World) → IsReached size w → HasRoom size w
+  pub place : (size : PoolSize) (w : World) (event : Event) → IsReached size w →
+      IsTrue (is_enabled size w event) → FindsPlace size w event

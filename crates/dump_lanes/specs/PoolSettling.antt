@@ -1,5 +1,5 @@
 -- What a pool does once the stop is up or the cutter has ended, and that no event but a move keeps anyone.
-use Rattle.std.specs.Prelude.{◌≡◌, ◌+◌, ◌≤◌, Bool, true, false, ◌&&◌, List, [], ◌∷◌, ◌++◌, IsTrue}
+use Rattle.std.specs.Prelude.{◌≡◌, ◌+◌, ◌<◌, ◌≤◌, Bool, true, false, ◌&&◌, List, [], ◌∷◌, ◌++◌, IsTrue, None}
 use Rattle.dump_lanes.specs.PoolWorld.{PoolSize, World, opening}
 use Rattle.dump_lanes.specs.PoolEvents.{Event, is_enabled, after_event, IsRun}
 
@@ -18,12 +18,15 @@ AfterAStop = (size : PoolSize) (before after : List Event) (w new : World) →
     IsRun size before (opening size) w → IsTrue w.stop_up → IsRun size after w new →
     IsTrue (looks_before_draws false (before ++ after)) → new.cut ≤ w.cut + 1
 
--- once the cutter has ended nothing is cut; so nothing ever, where it is shut before it began
+-- once the cutter has ended nothing is cut; so nothing ever, where it is shut before it began: then nothing is put
+-- into the lane, and no move of a writer is wanted
 pub record EndedCutsNothing : Type 0 where
   pub ended : (size : PoolSize) (events : List Event) (old new : World) →
       IsTrue old.cutter_ended → IsRun size events old new → new.cut ≡ old.cut
   pub shut : (size : PoolSize) (events : List Event) (w : World) →
       IsRun size (Event.Shut ∷ events) (opening size) w → w.cut ≡ 0
+  pub no_writer : (size : PoolSize) (events : List Event) (w : World) → 0 < size.workers → 0 < size.window →
+      IsRun size (Event.Shut ∷ events) (opening size) w → (w.lane ≡ []) × (w.writing ≡ None)
 
 -- whether an event notes a failure or raises the stop
 abbrev pub is_signal : Event → Bool
