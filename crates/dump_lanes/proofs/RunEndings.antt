@@ -6,11 +6,11 @@ use Rattle.std.proofs.lemmas.Bool.{and_parts, not-true, cases_Bool}
 use Rattle.std.proofs.lemmas.List.FromFn.{length-range_with_len, get_or-range_with_len}
 use Rattle.dump_lanes.specs.PoolWorld.{PoolSize, Entry, World}
 use Rattle.dump_lanes.specs.PoolEvents.{Event, is_enabled, after_event, taken_by, arrived, written_next, IsRun}
-use Rattle.dump_lanes.specs.PoolMoves.{is_move, all_moves, next_move, who_moves, IsAllDone, IsReached, CanMove, StandsStill, NoDeadEnd, OnlyDoneStandsStill}
+use Rattle.dump_lanes.specs.PoolMoves.{is_move, all_moves, next_move, who_moves, IsAllDone, IsReached, CanMove, StandsStill, NoDeadEnd, OnlyDoneStandsStill, ClosedKeepsNobody}
 use Rattle.dump_lanes.specs.PoolProgress.{progress, count_move, most_moves, AreNextMoves, EveryRunCanEnd}
 use Rattle.dump_lanes.proofs.RunCredits.{held}
 use Rattle.dump_lanes.proofs.RunProgress.{reached_holds, step_counts, progress_within}
-use Rattle.dump_lanes.proofs.RunStill.{IsStuck, done_where_stuck, still_where_done}
+use Rattle.dump_lanes.proofs.RunStill.{IsStuck, done_where_stuck, still_where_done, may_take_once_closed}
 use Rattle.dump_lanes.proofs.Runs.{Holds, step_holds}
 
 -- a move that may come next: no cut but the last
@@ -183,6 +183,9 @@ only_done_stands_still = record {
   done = λ size w r s. done_where_stuck size w (reached_holds size w r) (still_stuck size w s);
   still = λ size w r d. still_where_done size w (reached_holds size w r) d;
 }
+
+pub closed_keeps_nobody : ClosedKeepsNobody
+closed_keeps_nobody size w worker r = may_take_once_closed size w worker (reached_holds size w r)
 
 -- how many items are cut at most where the next cut is the last
 abbrev uncut : Bool → ℕ

@@ -1,5 +1,5 @@
 -- A pool stands still where all is done, and nowhere else.
-use Rattle.std.proofs.Common.{◌≡◌, ◌⊎◌, inl, inr, ℕ, zero, suc, ◌+◌, ◌<◌, ◌≤◌, ◌%◌, ◌==◌, Bool, true, false, not, ◌&&◌, cond, nat_lt, List, [], ◌∷◌, ◌++◌, length, get_or, Option, Some, None, is_some, is_none, option_to_list, slice_index_or, sym, refl, ap, ◌∙◌, arith, append-nil, true≢false}
+use Rattle.std.proofs.Common.{◌≡◌, ◌⊎◌, inl, inr, ℕ, zero, suc, ◌+◌, ◌<◌, ◌≤◌, ◌%◌, ◌==◌, Bool, true, false, not, ◌&&◌, cond, IsTrue, nat_lt, List, [], ◌∷◌, ◌++◌, length, get_or, Option, Some, None, is_some, is_none, option_to_list, slice_index_or, sym, refl, ap, ◌∙◌, arith, append-nil, true≢false}
 use Rattle.std.specs.List.{concat, list_any, range_with_len}
 use Rattle.std.proofs.lemmas.Bool.{and_from, and_cases, and_left, and_right, or_left, or_right, not-false, not_from_true, not_from_false, lt-ltb, le-ltb, ltb-false, cases_Bool, cases_lt, false_from_ne_true}
 use Rattle.dump_lanes.specs.PoolWorld.{PoolSize, Entry, World, hand_of, slot_of, items_of, items_in_hands, items_released}
@@ -7,7 +7,7 @@ use Rattle.dump_lanes.specs.PoolEvents.{Event, is_enabled, has_next}
 use Rattle.dump_lanes.specs.PoolMoves.{IsAllDone, StandsStill}
 use Rattle.dump_lanes.specs.PoolProgress.{marks, marks_in_hands}
 use Rattle.dump_lanes.proofs.RunWeights.{weigh, only, each, weigh-append, weighs, slot_le, length_is, within_range, above_range}
-use Rattle.dump_lanes.proofs.RunMarks.{count_taken}
+use Rattle.dump_lanes.proofs.RunMarks.{count_taken, not_all}
 use Rattle.dump_lanes.proofs.RunCredits.{held}
 use Rattle.dump_lanes.proofs.RunProgress.{totals, entries_are}
 use Rattle.dump_lanes.proofs.Runs.{Holds, released_weight, range_each, released_cut}
@@ -299,3 +299,16 @@ module _ (size : PoolSize) (w : World) (h : Holds size w) (d : IsAllDone size w)
   still_where_done Event.WriterRaises m = absurd (true≢false (sym m))
   still_where_done Event.Look m = absurd (true≢false (sym m))
   still_where_done Event.Shut m = absurd (true≢false (sym m))
+
+-- once all end marks are put, each worker that hasn't its own finds an entry
+pub may_take_once_closed : (size : PoolSize) (w : World) (k : ℕ) → Holds size w → w.marks_put ≡ size.workers → k < size.workers
+    → hand_of w k ≡ None → slice_index_or w.marks_taken k false ≡ false → IsTrue (is_enabled size w (Event.Take k))
+may_take_once_closed size w k h put lt bare unmarked =
+    let fewer : count_taken w.marks_taken < length w.marks_taken = not_all w.marks_taken k (omega (arith, lt, h.sized.each_mark)) unmarked in
+    let some : 0 < length w.jobs = omega (arith, entries_are w.jobs, h.ending.0.in_queue, put, fewer, h.sized.each_mark) in
+    let none : is_none (hand_of w k) ≡ true = ap is_none bare in
+    let one : (nat_lt k size.workers && is_none (hand_of w k)) ≡ true =
+    and_from (nat_lt k size.workers) (is_none (hand_of w k)) (lt-ltb k size.workers lt) none in
+    let two : (nat_lt k size.workers && is_none (hand_of w k) && not (slice_index_or w.marks_taken k false)) ≡ true =
+    and_from (nat_lt k size.workers && is_none (hand_of w k)) _ one (not_from_false (slice_index_or w.marks_taken k false) unmarked) in
+    and_from (nat_lt k size.workers && is_none (hand_of w k) && not (slice_index_or w.marks_taken k false)) _ two (lt-ltb 0 (length w.jobs) some)

@@ -1,7 +1,7 @@
 -- The moves of a pool: the events that carry it to its end. In each state before the end one thread can make one.
-use Rattle.std.specs.Prelude.{◌≡◌, ◌⊎◌, ◌<◌, Bool, true, false, List, [], ◌∷◌, ◌++◌, map, find, unwrap_or, IsTrue}
+use Rattle.std.specs.Prelude.{◌≡◌, ◌⊎◌, ℕ, ◌<◌, Bool, true, false, List, [], ◌∷◌, ◌++◌, map, find, None, unwrap_or, slice_index_or, IsTrue}
 use Rattle.std.specs.List.{range_with_len}
-use Rattle.dump_lanes.specs.PoolWorld.{PoolSize, World, opening}
+use Rattle.dump_lanes.specs.PoolWorld.{PoolSize, World, opening, hand_of}
 use Rattle.dump_lanes.specs.PoolEvents.{Event, is_enabled, IsRun}
 use Rattle.dump_lanes.specs.PoolParts.{Thread, thread_of}
 
@@ -71,3 +71,9 @@ pub record NoDeadEnd : Type 0 where
 pub record OnlyDoneStandsStill : Type 0 where
   pub done : (size : PoolSize) (w : World) → IsReached size w → StandsStill size w → IsAllDone size w
   pub still : (size : PoolSize) (w : World) → IsReached size w → IsAllDone size w → StandsStill size w
+
+-- once all end marks are put, a worker with nothing in hand that hasn't its own may take an entry: it waits for nobody
+abbrev pub ClosedKeepsNobody : Type 0
+ClosedKeepsNobody = (size : PoolSize) (w : World) (worker : ℕ) → IsReached size w → w.marks_put ≡ size.workers →
+    worker < size.workers → hand_of w worker ≡ None → slice_index_or w.marks_taken worker false ≡ false →
+    IsTrue (is_enabled size w (Event.Take worker))

@@ -2,13 +2,14 @@
 //!
 //! A pool is a cutter, workers, a sequencer and a writer, with the queues between them. An event is one
 //! atomic step of one of them. A run is any list of events, each of which may happen in the state that
-//! those before it led to. No law says that an event comes: a pool that stands still is sound too.
+//! those before it led to. No law says that an event comes: a pool that stands still is sound too. But
+//! before the end there is always a move that may come, and runs have no more moves than a formula says.
 ghost use Rattle.std.specs.Prelude.{◌≡◌, ◌+◌, List, ◌++◌, length, IsTrue};
 ghost use Rattle.dump_lanes.specs.Arrivals.{NoneClash, AllReleased};
 ghost use Rattle.dump_lanes.specs.PoolWorld.{PoolSize, World};
 ghost use Rattle.dump_lanes.specs.PoolEvents.{Event, is_enabled};
 ghost use Rattle.dump_lanes.specs.PoolFacts.{EveryRunIsSound};
-ghost use Rattle.dump_lanes.specs.PoolMoves.{NoDeadEnd, OnlyDoneStandsStill};
+ghost use Rattle.dump_lanes.specs.PoolMoves.{NoDeadEnd, OnlyDoneStandsStill, ClosedKeepsNobody};
 ghost use Rattle.dump_lanes.specs.PoolParts.{SharesEvent, LeavesOthers, PartsAllow};
 ghost use Rattle.dump_lanes.specs.PoolProgress.{EveryMoveCounts, NoEndlessWay, EveryRunCanEnd, NeverFull};
 ghost use Rattle.dump_lanes.specs.PoolSettling.{AfterAStop, EndedCutsNothing, IdleEventsSettle};
@@ -66,11 +67,12 @@ pub fn items_come_in_order()
     ensures all { AllReleased }
 {}
 
-/// In each state before the end some thread can make a move, and the state says which one and what. And only
-/// where all is done no move may be made.
+/// In each state before the end some thread can make a move, and the state says which one and what; only where all is
+/// done no move may be made, and a worker never waits once all end marks are put.
 pub fn no_state_is_a_dead_end()
     ensures next { NoDeadEnd }
     ensures still { OnlyDoneStandsStill }
+    ensures closed { ClosedKeepsNobody }
 {}
 
 /// The moves of a run are counted by the state that it leads to: each move adds one, and no other event any.

@@ -1,4 +1,4 @@
-use Rattle.dump_lanes.proofs.RunEndings.{no_dead_end, only_done_stands_still}
+use Rattle.dump_lanes.proofs.RunEndings.{no_dead_end, only_done_stands_still, closed_keeps_nobody}
 use Rattle.dump_lanes.proofs.laws.no_state_is_a_dead_end.Goals as goal
 
 pub returns-clause-next : goal.returns-clause-next
@@ -6,3 +6,6 @@ returns-clause-next c = no_dead_end
 
 pub returns-clause-still : goal.returns-clause-still
 returns-clause-still c = only_done_stands_still
+
+pub returns-clause-closed : goal.returns-clause-closed
+returns-clause-closed c = closed_keeps_nobody
