@@ -56,7 +56,8 @@ takes_next : (ks : List ℕ) → AreNext (map Event.Take ks)
 takes_next [] = tt
 takes_next (k ∷ ks) = (refl, takes_next ks)
 
-none-append : (test : Event → Bool) (xs ys : List Event) → NonePass test (xs ++ ys) → NonePass test xs × NonePass test ys
+none-append : (test : Event → Bool) (xs ys : List Event) → NonePass test (xs ++ ys)
+    → NonePass test xs × NonePass test ys
 none-append test [] ys h = (tt, h)
 none-append test (x ∷ xs) ys h = let more = none-append test xs ys h.1 in ((h.0, more.0), more.1)
 
@@ -66,10 +67,12 @@ none_at test move [] i h lt = absurd (omega (arith, lt))
 none_at test move (k ∷ ks) zero h lt = h.0
 none_at test move (k ∷ ks) (suc i) h lt = none_at test move ks i h.1 (omega (arith, lt))
 
-none_below : (test : Event → Bool) (move : ℕ → Event) (n k : ℕ) → NonePass test (map move (range_with_len 0 n)) → k < n → test (move k) ≡ false
+none_below : (test : Event → Bool) (move : ℕ → Event) (n k : ℕ) → NonePass test (map move (range_with_len 0 n))
+    → k < n → test (move k) ≡ false
 none_below test move n k h lt =
     let place : get_or (range_with_len 0 n) k 0 ≡ k = get_or-range_with_len 0 n k 0 lt ∙ omega arith in
-    sym (ap (λ (i : ℕ). test (move i)) place) ∙ none_at test move (range_with_len 0 n) k h (omega (arith, lt, length-range_with_len 0 n))
+    sym (ap (λ (i : ℕ). test (move i)) place) ∙ none_at test move (range_with_len 0 n) k h
+    (omega (arith, lt, length-range_with_len 0 n))
 
 -- the first event that passes, if one does
 record IsFound (test : Event → Bool) (events : List Event) (event : Event) : Type 0 where
@@ -85,7 +88,14 @@ find_at : (test : Event → Bool) (x : Event) (xs : List Event) → AreNext (x �
 find_at test x xs a (inl e) rest =
     inl (x, record { first = ap (λ (b : Bool). cond b (Some x) (find test xs)) e; passes = e; next = a.0 })
 find_at test x xs a (inr e) (inl f) =
-    inl (f.0, record { first = ap (λ (b : Bool). cond b (Some x) (find test xs)) e ∙ f.1.first; passes = f.1.passes; next = f.1.next })
+    inl (
+      f.0,
+      record {
+        first = ap (λ (b : Bool). cond b (Some x) (find test xs)) e ∙ f.1.first;
+        passes = f.1.passes;
+        next = f.1.next;
+      },
+    )
 find_at test x xs a (inr e) (inr none) = inr (e, none)
 
 find_first : (test : Event → Bool) (events : List Event) → AreNext events → FindsOne test events ⊎ NonePass test events
@@ -112,8 +122,10 @@ module _ (size : PoolSize) (w : World) where
 
   all_next : AreNext (all_moves size)
   all_next =
-      let first : AreNext (front_moves ++ puts) = next-append front_moves puts (refl, (refl, (refl, (refl, tt)))) (puts_next (range_with_len 0 size.workers)) in
-      let second : AreNext (front_moves ++ puts ++ takes) = next-append (front_moves ++ puts) takes first (takes_next (range_with_len 0 size.workers)) in
+      let first : AreNext (front_moves ++ puts) =
+      next-append front_moves puts (refl, (refl, (refl, (refl, tt)))) (puts_next (range_with_len 0 size.workers)) in
+      let second : AreNext (front_moves ++ puts ++ takes) =
+      next-append (front_moves ++ puts) takes first (takes_next (range_with_len 0 size.workers)) in
       next-append (front_moves ++ puts ++ takes) last_moves second (refl, (refl, (refl, tt)))
 
   may_move : FindsOne (is_enabled size w) (all_moves size) → MayMove size w
@@ -139,7 +151,8 @@ module _ (size : PoolSize) (w : World) where
         no_draw = a.1.1.1.0;
       }
 
-  done_or_not : Holds size w → FindsOne (is_enabled size w) (all_moves size) ⊎ NonePass (is_enabled size w) (all_moves size)
+  done_or_not : Holds size w
+      → FindsOne (is_enabled size w) (all_moves size) ⊎ NonePass (is_enabled size w) (all_moves size)
       → IsAllDone size w ⊎ MayMove size w
   done_or_not h (inl f) = inr (may_move f)
   done_or_not h (inr none) = inl (done_where_stuck size w h (stuck none))
@@ -250,10 +263,12 @@ move_counts size w h m =
     let one : count_move (next_move size w) ≡ 1 = ap held (next_moves (next_move size w) m.next) in
     step_counts size w (next_move size w) m.enabled h ∙ ap (λ (n : ℕ). progress w + n) one
 
-after_holds : (size : PoolSize) (w : World) → Holds size w → MayMove size w → Holds size (after_event size w (next_move size w))
+after_holds : (size : PoolSize) (w : World) → Holds size w → MayMove size w
+    → Holds size (after_event size w (next_move size w))
 after_holds size w h m = step_holds size w (next_move size w) m.enabled h
 
-one_more : (size : PoolSize) (w : World) (left : ℕ) → MayMove size w → EndsWithin size (after_event size w (next_move size w)) left
+one_more : (size : PoolSize) (w : World) (left : ℕ) → MayMove size w
+    → EndsWithin size (after_event size w (next_move size w)) left
     → EndsWithin size w (suc left)
 one_more size w left m rest = record {
   events = next_move size w ∷ rest.events;
@@ -279,13 +294,17 @@ ends_at size zero w h le (inr m) =
     let same : limit v ≡ limit w = limit_kept size w (next_move size w) m.next m.enabled in
     let most : most_moves (limit v) size ≡ most_moves (limit w) size = ap (λ (n : ℕ). most_moves n size) same in
     let within : progress v ≤ most_moves (limit v) size = limit_bounds size v (after_holds size w h m) in
-    absurd (too_many (most_moves (limit v) size) (progress w) (progress v) (move_counts size w h m) within (subst (λ (n : ℕ). n ≤ progress w + 0) (sym most) le))
+    absurd (too_many (most_moves (limit v) size) (progress w) (progress v) (move_counts size w h m) within
+    (subst (λ (n : ℕ). n ≤ progress w + 0) (sym most) le))
 ends_at size (suc left) w h le (inr m) =
     let v : World = after_event size w (next_move size w) in
     let same : limit v ≡ limit w = limit_kept size w (next_move size w) m.next m.enabled in
     let most : most_moves (limit v) size ≡ most_moves (limit w) size = ap (λ (n : ℕ). most_moves n size) same in
     let held : Holds size v = after_holds size w h m in
-    one_more size w left m (ends_at size left v held (less_left (most_moves (limit w) size) (most_moves (limit v) size) (progress w) (progress v) left most (move_counts size w h m) le) (done_or_moves size v held))
+    let less : most_moves (limit v) size ≤ progress v + left =
+    less_left (most_moves (limit w) size) (most_moves (limit v) size) (progress w) (progress v) left most
+    (move_counts size w h m) le in
+    one_more size w left m (ends_at size left v held less (done_or_moves size v held))
 
 within_one : (cut : ℕ) (ended : Bool) → cut + uncut ended ≤ cut + 1
 within_one cut true = omega arith
@@ -304,7 +323,9 @@ pub every_run_can_end : EveryRunCanEnd
 every_run_can_end size w r =
     let h : Holds size w = reached_holds size w r in
     let left : ℕ = most_moves (limit w) size - progress w in
-    let ends : EndsWithin size w left = ends_at size left w h (all_left (most_moves (limit w) size) (progress w) (limit_bounds size w h)) (done_or_moves size w h) in record {
+    let enough : most_moves (limit w) size ≤ progress w + left =
+    all_left (most_moves (limit w) size) (progress w) (limit_bounds size w h) in
+    let ends : EndsWithin size w left = ends_at size left w h enough (done_or_moves size w h) in record {
       events = ends.events;
       new = ends.new;
       next = ends.next;

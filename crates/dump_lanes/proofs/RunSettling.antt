@@ -36,22 +36,31 @@ write_stays w (n ∷ rest) = record { sequencer = λ x. x; writer = λ x. x; up 
 going : (w : World) → not w.cutter_ended ≡ true → w.cutter_ended ≡ true → ⊥
 going w e x = true≢false (sym x ∙ not-true w.cutter_ended e)
 
-step_stays : (size : PoolSize) (w : World) (event : Event) → IsTrue (is_enabled size w event) → Stays w (after_event size w event)
+step_stays : (size : PoolSize) (w : World) (event : Event) → IsTrue (is_enabled size w event)
+    → Stays w (after_event size w event)
 step_stays size w Event.Draw e = record { sequencer = λ x. x; writer = λ x. x; up = λ x. x; ended = λ x. x }
 step_stays size w (Event.Cut last) e =
-    record { sequencer = λ x. x; writer = λ x. x; up = λ x. x; ended = λ x. absurd (going w (and_parts w.holds_credit _ e).1 x) }
+    record {
+      sequencer = λ x. x;
+      writer = λ x. x;
+      up = λ x. x;
+      ended = λ x. absurd (going w (and_parts w.holds_credit _ e).1 x);
+    }
 step_stays size w Event.CutMark e = record { sequencer = λ x. x; writer = λ x. x; up = λ x. x; ended = λ x. x }
 step_stays size w (Event.Take k) e = take_stays w k w.jobs
 step_stays size w (Event.Put k) e = record { sequencer = λ x. x; writer = λ x. x; up = λ x. x; ended = λ x. x }
 step_stays size w Event.Arrive e = arrive_stays size w w.dones
-step_stays size w Event.SequencerNotes e = record { sequencer = λ x. refl; writer = λ x. x; up = λ x. x; ended = λ x. x }
+step_stays size w Event.SequencerNotes e =
+    record { sequencer = λ x. refl; writer = λ x. x; up = λ x. x; ended = λ x. x }
 step_stays size w Event.WriterNotes e = record { sequencer = λ x. x; writer = λ x. refl; up = λ x. x; ended = λ x. x }
 step_stays size w Event.Release e = record { sequencer = λ x. x; writer = λ x. x; up = λ x. x; ended = λ x. x }
 step_stays size w Event.Write e = write_stays w w.lane
 step_stays size w Event.Give e = record { sequencer = λ x. x; writer = λ x. x; up = λ x. x; ended = λ x. x }
-step_stays size w Event.SequencerRaises e = record { sequencer = λ x. x; writer = λ x. x; up = λ x. refl; ended = λ x. x }
+step_stays size w Event.SequencerRaises e =
+    record { sequencer = λ x. x; writer = λ x. x; up = λ x. refl; ended = λ x. x }
 step_stays size w Event.WriterRaises e = record { sequencer = λ x. x; writer = λ x. x; up = λ x. refl; ended = λ x. x }
-step_stays size w Event.Look e = record { sequencer = λ x. x; writer = λ x. x; up = λ x. x; ended = λ x. absurd (going w e x) }
+step_stays size w Event.Look e =
+    record { sequencer = λ x. x; writer = λ x. x; up = λ x. x; ended = λ x. absurd (going w e x) }
 step_stays size w Event.Shut e = record { sequencer = λ x. x; writer = λ x. x; up = λ x. x; ended = λ x. refl }
 
 run_stays : (size : PoolSize) (events : List Event) (u w : World) → IsRun size events u w → Stays u w
@@ -66,9 +75,11 @@ run_stays size (event ∷ events) u w run =
     }
 
 -- a note or a raise that came changes nothing where it comes again
-again : (size : PoolSize) (w new : World) (event : Event) → IsTrue (is_signal event) → Stays (after_event size w event) new
+again : (size : PoolSize) (w new : World) (event : Event) → IsTrue (is_signal event)
+    → Stays (after_event size w event) new
     → after_event size new event ≡ new
-again size w new Event.SequencerNotes m s = ap (λ (b : Bool). record new { sequencer_failed = b }) (sym (s.sequencer refl))
+again size w new Event.SequencerNotes m s =
+    ap (λ (b : Bool). record new { sequencer_failed = b }) (sym (s.sequencer refl))
 again size w new Event.WriterNotes m s = ap (λ (b : Bool). record new { writer_failed = b }) (sym (s.writer refl))
 again size w new Event.SequencerRaises m s = ap (λ (b : Bool). record new { stop_up = b }) (sym (s.up refl))
 again size w new Event.WriterRaises m s = ap (λ (b : Bool). record new { stop_up = b }) (sym (s.up refl))
@@ -96,7 +107,8 @@ look_idle w a b =
 
 pub idle_events_settle : IdleEventsSettle
 idle_events_settle = record {
-  signal = λ size events w new event m run. again size w new event m (run_stays size events (after_event size w event) new run);
+  signal = λ size events w new event m run. again size w new event m
+      (run_stays size events (after_event size w event) new run);
   idle_look = λ size w e down. look_idle w (not-true w.cutter_ended e) down;
   last_look = λ size w up. up;
   ended = λ size events old new e run.
@@ -142,18 +154,21 @@ looks_on looked Event.Shut events l = l
 looks_after : (looked : Bool) (before after : List Event) → IsTrue (looks_before_draws looked (before ++ after))
     → (then' : Bool) × IsTrue (looks_before_draws then' after)
 looks_after looked [] after l = (looked, l)
-looks_after looked (event ∷ before) after l = looks_after (then_looked looked event) before after (looks_on looked event (before ++ after) l)
+looks_after looked (event ∷ before) after l =
+    looks_after (then_looked looked event) before after (looks_on looked event (before ++ after) l)
 
 -- the items cut after a state, and those that may still be cut there
 abbrev cut_most : Bool → World → ℕ
 cut_most looked w = w.cut + may_cut w.cutter_ended looked w.holds_credit
 
-take_cuts : (looked : Bool) (w : World) (k : ℕ) (jobs : List Entry) → cut_most looked (taken_by w k jobs) ≤ cut_most looked w
+take_cuts : (looked : Bool) (w : World) (k : ℕ) (jobs : List Entry)
+    → cut_most looked (taken_by w k jobs) ≤ cut_most looked w
 take_cuts looked w k [] = omega arith
 take_cuts looked w k (Entry.Item n ∷ rest) = omega arith
 take_cuts looked w k (Entry.Mark ∷ rest) = omega arith
 
-arrive_cuts : (looked : Bool) (size : PoolSize) (w : World) (dones : List Entry) → cut_most looked (arrived size w dones) ≤ cut_most looked w
+arrive_cuts : (looked : Bool) (size : PoolSize) (w : World) (dones : List Entry)
+    → cut_most looked (arrived size w dones) ≤ cut_most looked w
 arrive_cuts looked size w [] = omega arith
 arrive_cuts looked size w (Entry.Item n ∷ rest) = omega arith
 arrive_cuts looked size w (Entry.Mark ∷ rest) = omega arith
@@ -162,11 +177,13 @@ write_cuts : (looked : Bool) (w : World) (lane : List ℕ) → cut_most looked (
 write_cuts looked w [] = omega arith
 write_cuts looked w (n ∷ rest) = omega arith
 
-may_one : (ended looked holds : Bool) → ended ≡ false → (looked ≡ true) ⊎ (holds ≡ true) → may_cut ended looked holds ≡ 1
+may_one : (ended looked holds : Bool) → ended ≡ false → (looked ≡ true) ⊎ (holds ≡ true)
+    → may_cut ended looked holds ≡ 1
 may_one ended looked holds e (inl a) =
     ap (λ (b : Bool). may_cut b looked holds) e ∙ ap (λ (b : Bool). may_cut false b holds) a
 may_one ended looked holds e (inr a) =
-    ap (λ (b : Bool). may_cut b looked holds) e ∙ (ap (λ (b : Bool). may_cut false looked b) a ∙ ap (λ (b : Bool). cond {A = ℕ} b 1 0) (or_right looked true refl))
+    ap (λ (b : Bool). may_cut b looked holds) e
+    ∙ (ap (λ (b : Bool). may_cut false looked b) a ∙ ap (λ (b : Bool). cond {A = ℕ} b 1 0) (or_right looked true refl))
 
 may_none : (ended looked holds : Bool) → ended ≡ true → may_cut ended looked holds ≡ 0
 may_none ended looked holds e = ap (λ (b : Bool). may_cut b looked holds) e
@@ -211,13 +228,15 @@ step_cuts size looked w Event.WriterRaises events up e l = omega arith
 step_cuts size looked w Event.Look events up e l = omega (arith, may_none w.stop_up true w.holds_credit up)
 step_cuts size looked w Event.Shut events up e l = omega arith
 
-run_cuts : (size : PoolSize) (looked : Bool) (events : List Event) (w new : World) → IsTrue w.stop_up → IsRun size events w new
+run_cuts : (size : PoolSize) (looked : Bool) (events : List Event) (w new : World) → IsTrue w.stop_up
+    → IsRun size events w new
     → IsTrue (looks_before_draws looked events) → new.cut ≤ cut_most looked w
 run_cuts size looked [] w new up run l = omega (arith, ap (λ (v : World). v.cut) run)
 run_cuts size looked (event ∷ events) w new up run l =
     let v : World = after_event size w event in
     let still : IsTrue v.stop_up = (step_stays size w event run.0).up up in
-    let step : cut_most (then_looked looked event) v ≤ cut_most looked w = step_cuts size looked w event events up run.0 l in
+    let step : cut_most (then_looked looked event) v ≤ cut_most looked w =
+    step_cuts size looked w event events up run.0 l in
     let more : new.cut ≤ cut_most (then_looked looked event) v =
     run_cuts size (then_looked looked event) events v new still run.1 (looks_on looked event events l) in
     both_le new.cut (cut_most (then_looked looked event) v) (cut_most looked w) more step
@@ -260,12 +279,15 @@ step_ended size w Event.WriterRaises x e = refl
 step_ended size w Event.Look x e = refl
 step_ended size w Event.Shut x e = refl
 
-run_ended : (size : PoolSize) (events : List Event) (old new : World) → IsTrue old.cutter_ended → IsRun size events old new → new.cut ≡ old.cut
+run_ended : (size : PoolSize) (events : List Event) (old new : World) → IsTrue old.cutter_ended
+    → IsRun size events old new → new.cut ≡ old.cut
 run_ended size [] old new x run = ap (λ (v : World). v.cut) run
 run_ended size (event ∷ events) old new x run =
-    run_ended size events (after_event size old event) new ((step_stays size old event run.0).ended x) run.1 ∙ step_ended size old event x run.0
+    run_ended size events (after_event size old event) new ((step_stays size old event run.0).ended x) run.1
+    ∙ step_ended size old event x run.0
 
-shut_cuts : (size : PoolSize) (events : List Event) (w : World) → IsRun size (Event.Shut ∷ events) (opening size) w → w.cut ≡ 0
+shut_cuts : (size : PoolSize) (events : List Event) (w : World) → IsRun size (Event.Shut ∷ events) (opening size) w
+    → w.cut ≡ 0
 shut_cuts size events w run = run_ended size events (after_event size (opening size) Event.Shut) w refl run.1
 
 no_piece : (lane : List ℕ) → weigh each lane ≤ 0 → lane ≡ []
@@ -279,9 +301,11 @@ no_writing (Some n) le = absurd (omega (arith, le))
 shut_writes : (size : PoolSize) (events : List Event) (w : World) → 0 < size.workers → 0 < size.window
     → IsRun size (Event.Shut ∷ events) (opening size) w → (w.lane ≡ []) × (w.writing ≡ None)
 shut_writes size events w some_worker some_slot run =
-    let h : Holds size w = run_holds size (Event.Shut ∷ events) (opening size) w run (first_holds size some_worker some_slot) in
-    let all = (totals size w h).items in
-    (no_piece w.lane (omega (arith, all, shut_cuts size events w run)), no_writing w.writing (omega (arith, all, shut_cuts size events w run)))
+    let h : Holds size w =
+    run_holds size (Event.Shut ∷ events) (opening size) w run (first_holds size some_worker some_slot) in
+    let none : weigh each w.lane + weigh each (option_to_list w.writing) ≡ 0 =
+    omega (arith, (totals size w h).items, shut_cuts size events w run) in
+    (no_piece w.lane (omega (arith, none)), no_writing w.writing (omega (arith, none)))
 
 pub ended_cuts_nothing : EndedCutsNothing
 ended_cuts_nothing = record { ended = run_ended; shut = shut_cuts; no_writer = shut_writes }

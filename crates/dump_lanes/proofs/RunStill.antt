@@ -9,7 +9,7 @@ use Rattle.dump_lanes.specs.PoolProgress.{marks, marks_in_hands}
 use Rattle.dump_lanes.proofs.RunWeights.{weigh, only, each, weigh-append, weighs, slot_le, length_is, within_range, above_range}
 use Rattle.dump_lanes.proofs.RunMarks.{count_taken, not_all}
 use Rattle.dump_lanes.proofs.RunCredits.{held}
-use Rattle.dump_lanes.proofs.RunProgress.{totals, entries_are}
+use Rattle.dump_lanes.proofs.RunProgress.{Totals, totals, entries_are}
 use Rattle.dump_lanes.proofs.Runs.{Holds, released_weight, range_each, released_cut}
 
 -- no move that may come next may be made
@@ -33,17 +33,20 @@ none_from None e = refl
 none_from (Some x) e = absurd (true≢false e)
 
 -- hands that hold nothing
-no_items_held : (hands : List (Option Entry)) → ((k : ℕ) → k < length hands → is_some (get_or hands k None) ≡ false) → items_in_hands hands ≡ []
+no_items_held : (hands : List (Option Entry)) → ((k : ℕ) → k < length hands → is_some (get_or hands k None) ≡ false)
+    → items_in_hands hands ≡ []
 no_items_held [] bare = refl
 no_items_held (None ∷ hands) bare = no_items_held hands (λ k lt. bare (suc k) (omega arith))
 no_items_held (Some h ∷ hands) bare = absurd (true≢false (bare zero (omega arith)))
 
-no_marks_held : (hands : List (Option Entry)) → ((k : ℕ) → k < length hands → is_some (get_or hands k None) ≡ false) → marks_in_hands hands ≡ 0
+no_marks_held : (hands : List (Option Entry)) → ((k : ℕ) → k < length hands → is_some (get_or hands k None) ≡ false)
+    → marks_in_hands hands ≡ 0
 no_marks_held [] bare = refl
 no_marks_held (None ∷ hands) bare = let more = no_marks_held hands (λ k lt. bare (suc k) (omega arith)) in omega arith
 no_marks_held (Some h ∷ hands) bare = absurd (true≢false (bare zero (omega arith)))
 
-all_taken : (taken : List Bool) → ((k : ℕ) → k < length taken → get_or taken k false ≡ true) → count_taken taken ≡ length taken
+all_taken : (taken : List Bool) → ((k : ℕ) → k < length taken → get_or taken k false ≡ true)
+    → count_taken taken ≡ length taken
 all_taken [] each_one = refl
 all_taken (true ∷ taken) each_one = let more = all_taken taken (λ k lt. each_one (suc k) (omega arith)) in omega arith
 all_taken (false ∷ taken) each_one = absurd (true≢false (sym (each_one zero (omega arith))))
@@ -59,7 +62,8 @@ abbrev StandsIn : ℕ → List (List ℕ) → Type 0
 StandsIn n slots = (i : ℕ) × (0 < weigh (only n) (get_or slots i []))
 
 some_slot_at : (n : ℕ) (s : List ℕ) (slots : List (List ℕ)) → (0 < weigh (only n) s) ⊎ (weigh (only n) s ≤ 0)
-    → 0 < weigh (only n) (concat (s ∷ slots)) → (0 < weigh (only n) (concat slots) → StandsIn n slots) → StandsIn n (s ∷ slots)
+    → 0 < weigh (only n) (concat (s ∷ slots)) → (0 < weigh (only n) (concat slots) → StandsIn n slots) → StandsIn n
+    (s ∷ slots)
 some_slot_at n s slots (inl here) all rest = (zero, here)
 some_slot_at n s slots (inr none) all rest =
     let later : StandsIn n slots = rest (omega (arith, all, none, weigh-append (only n) s (concat slots))) in
@@ -81,6 +85,17 @@ found : (n : ℕ) (xs : List ℕ) → 0 < weigh (only n) xs → list_any (λ m. 
 found n [] here = absurd (omega (arith, here))
 found n (x ∷ xs) here = found_at n x xs (cases_Bool (x == n)) here (found n xs)
 
+-- a worker that hasn't its mark and has nothing in hand may take what is there
+may_take_from : (size : PoolSize) (w : World) (k : ℕ) → k < size.workers → hand_of w k ≡ None
+    → slice_index_or w.marks_taken k false ≡ false → 0 < length w.jobs → IsTrue (is_enabled size w (Event.Take k))
+may_take_from size w k lt bare unmarked some =
+    let one : (nat_lt k size.workers && is_none (hand_of w k)) ≡ true =
+    and_from (nat_lt k size.workers) _ (lt-ltb k size.workers lt) (ap is_none bare) in
+    let mark : not (slice_index_or w.marks_taken k false) ≡ true =
+    not_from_false (slice_index_or w.marks_taken k false) unmarked in
+    and_from _ (nat_lt 0 (length w.jobs)) (and_from _ (not (slice_index_or w.marks_taken k false)) one mark)
+    (lt-ltb 0 (length w.jobs) some)
+
 -- nothing is on its way to the sequencer or the writer, and the next item hasn't arrived
 record IsQuiet (size : PoolSize) (w : World) : Type 0 where
   jobs : items_of w.jobs ≡ []
@@ -95,7 +110,8 @@ module _ (size : PoolSize) (w : World) (h : Holds size w) where
   all_written q =
       let free : (w.finished ++ option_to_list w.writing) ++ w.lane ≡ (w.finished ++ []) ++ w.lane =
       ap (λ (o : Option ℕ). (w.finished ++ option_to_list o) ++ w.lane) q.writing in
-      let empty : (w.finished ++ []) ++ w.lane ≡ (w.finished ++ []) ++ [] = ap (λ (l : List ℕ). (w.finished ++ []) ++ l) q.lane in
+      let empty : (w.finished ++ []) ++ w.lane ≡ (w.finished ++ []) ++ [] =
+      ap (λ (l : List ℕ). (w.finished ++ []) ++ l) q.lane in
       sym (append-nil w.finished) ∙ (sym (append-nil (w.finished ++ [])) ∙ (sym empty ∙ (sym free ∙ h.in_order)))
 
   -- the next item would stand in its slot
@@ -112,7 +128,8 @@ module _ (size : PoolSize) (w : World) (h : Holds size w) where
   next_waits q lt =
       let there : StandsIn w.released w.slots = some_slot w.released w.slots (next_stands q lt) in
       let place : w.released % size.window ≡ there.0 = h.placed there.0 w.released there.1 in
-      let same : weigh (only w.released) (slot_of size w w.released) ≡ weigh (only w.released) (get_or w.slots there.0 []) =
+      let same : weigh (only w.released) (slot_of size w w.released) ≡ weigh (only w.released)
+      (get_or w.slots there.0 []) =
       ap (λ (i : ℕ). weigh (only w.released) (get_or w.slots i [])) place in
       found w.released (slot_of size w w.released) (omega (arith, same, there.1))
 
@@ -150,19 +167,25 @@ module _ (size : PoolSize) (w : World) (h : Holds size w) where
     hand_marks : marks_in_hands w.hands ≡ 0
     hand_marks = no_marks_held w.hands each_hand
 
+    quiet : items_of w.jobs ≡ [] → IsQuiet size w
+    quiet none = record {
+      jobs = none;
+      hands = hands;
+      dones = ap items_of dones;
+      lane = lane;
+      writing = free;
+      next = s.no_release;
+    }
+
     -- a worker that could take a job has its mark
     took_at : (k : ℕ) → k < size.workers → 0 < length w.jobs
-        → (slice_index_or w.marks_taken k false ≡ true) ⊎ (slice_index_or w.marks_taken k false ≡ false) → slice_index_or w.marks_taken k false ≡ true
+        → (slice_index_or w.marks_taken k false ≡ true) ⊎ (slice_index_or w.marks_taken k false ≡ false)
+        → slice_index_or w.marks_taken k false ≡ true
     took_at k lt some (inl e) = e
     took_at k lt some (inr e) =
-        let none : is_none (hand_of w k) ≡ true = ap is_none (none_from (hand_of w k) (s.no_put k lt)) in
-        let one : (nat_lt k size.workers && is_none (hand_of w k)) ≡ true =
-        and_from (nat_lt k size.workers) (is_none (hand_of w k)) (lt-ltb k size.workers lt) none in
-        let two : (nat_lt k size.workers && is_none (hand_of w k) && not (slice_index_or w.marks_taken k false)) ≡ true =
-        and_from (nat_lt k size.workers && is_none (hand_of w k)) _ one (not_from_false (slice_index_or w.marks_taken k false) e) in
-        let all : is_enabled size w (Event.Take k) ≡ true =
-        and_from (nat_lt k size.workers && is_none (hand_of w k) && not (slice_index_or w.marks_taken k false)) _ two (lt-ltb 0 (length w.jobs) some) in
-        absurd (true≢false (sym all ∙ s.no_take k lt))
+        let may : IsTrue (is_enabled size w (Event.Take k)) =
+        may_take_from size w k lt (none_from (hand_of w k) (s.no_put k lt)) e some in
+        absurd (true≢false (sym may ∙ s.no_take k lt))
 
     took : (k : ℕ) → k < size.workers → 0 < length w.jobs → slice_index_or w.marks_taken k false ≡ true
     took k lt some = took_at k lt some (cases_Bool (slice_index_or w.marks_taken k false))
@@ -172,13 +195,18 @@ module _ (size : PoolSize) (w : World) (h : Holds size w) where
         all_taken w.marks_taken (λ k lt. took k (omega (arith, lt, h.sized.each_mark)) some) ∙ h.sized.each_mark
 
     -- the cutter has ended
-    all_put_at : w.cutter_ended ≡ true → (w.cutter_ended ≡ false) ⊎ (nat_lt w.marks_put size.workers ≡ false) → size.workers ≤ w.marks_put
+    all_put_at : w.cutter_ended ≡ true → (w.cutter_ended ≡ false) ⊎ (nat_lt w.marks_put size.workers ≡ false)
+        → size.workers ≤ w.marks_put
     all_put_at e (inl f) = absurd (true≢false (sym e ∙ f))
     all_put_at e (inr f) = ltb-false w.marks_put size.workers f
 
     all_put : w.cutter_ended ≡ true → w.marks_put ≡ size.workers
     all_put e =
-        omega (arith, h.ending.0.enough, all_put_at e (and_cases w.cutter_ended (nat_lt w.marks_put size.workers) s.no_mark))
+        omega (
+          arith,
+          h.ending.0.enough,
+          all_put_at e (and_cases w.cutter_ended (nat_lt w.marks_put size.workers) s.no_mark),
+        )
 
     no_job_marks_at : w.cutter_ended ≡ true → (0 < length w.jobs) ⊎ (length w.jobs ≤ 0) → marks w.jobs ≡ 0
     no_job_marks_at e (inl some) = omega (arith, h.ending.0.in_queue, all_put e, all_took some)
@@ -196,22 +224,26 @@ module _ (size : PoolSize) (w : World) (h : Holds size w) where
     done_ended : w.cutter_ended ≡ true → IsAllDone size w
     done_ended e = record {
       cutter = e;
-      marks = omega (arith, h.ending.0.in_queue, h.ending.1.on_the_way, all_put e, no_job_marks e, hand_marks, no_done_marks);
-      items = all_finished (record { jobs = no_jobs e; hands = hands; dones = ap items_of dones; lane = lane; writing = free; next = s.no_release });
+      marks = omega
+          (arith, h.ending.0.in_queue, h.ending.1.on_the_way, all_put e, no_job_marks e, hand_marks, no_done_marks);
+      items = all_finished (quiet (no_jobs e));
     }
 
     -- the cutter hasn't ended: it would hold a credit, or could draw one
-    not_held_at : w.cutter_ended ≡ false → (w.holds_credit ≡ false) ⊎ (not w.cutter_ended ≡ false) → w.holds_credit ≡ false
+    not_held_at : w.cutter_ended ≡ false → (w.holds_credit ≡ false) ⊎ (not w.cutter_ended ≡ false)
+        → w.holds_credit ≡ false
     not_held_at e (inl f) = f
     not_held_at e (inr f) = absurd (true≢false (sym (not-false w.cutter_ended f) ∙ e))
 
     not_held : w.cutter_ended ≡ false → w.holds_credit ≡ false
     not_held e = not_held_at e (and_cases w.holds_credit (not w.cutter_ended) s.no_cut)
 
-    no_credit_at : w.cutter_ended ≡ false → ((not w.cutter_ended && not w.holds_credit) ≡ false) ⊎ (nat_lt 0 w.credits ≡ false) → w.credits ≤ 0
+    no_credit_at : w.cutter_ended ≡ false
+        → ((not w.cutter_ended && not w.holds_credit) ≡ false) ⊎ (nat_lt 0 w.credits ≡ false) → w.credits ≤ 0
     no_credit_at e (inl f) =
         let both : (not w.cutter_ended && not w.holds_credit) ≡ true =
-        and_from (not w.cutter_ended) (not w.holds_credit) (not_from_false w.cutter_ended e) (not_from_false w.holds_credit (not_held e)) in
+        and_from (not w.cutter_ended) (not w.holds_credit) (not_from_false w.cutter_ended e)
+        (not_from_false w.holds_credit (not_held e)) in
         absurd (true≢false (sym both ∙ f))
     no_credit_at e (inr f) = ltb-false 0 w.credits f
 
@@ -229,10 +261,11 @@ module _ (size : PoolSize) (w : World) (h : Holds size w) where
 
     not_ended : w.cutter_ended ≡ false → ⊥
     not_ended e =
-        let quiet : IsQuiet size w = record { jobs = ap items_of (jobs e); hands = hands; dones = ap items_of dones; lane = lane; writing = free; next = s.no_release } in
-        let all : weigh each w.finished ≡ w.cut = ap (weigh each) (all_finished quiet) ∙ range_each w.cut in
+        let nowhere : IsQuiet size w = quiet (ap items_of (jobs e)) in
+        let all : weigh each w.finished ≡ w.cut = ap (weigh each) (all_finished nowhere) ∙ range_each w.cut in
         let none : held w.holds_credit ≡ 0 = ap held (not_held e) in
-        let total : w.credits + held w.holds_credit + w.cut ≡ size.window + weigh each w.finished = (totals size w h).flight in
+        let total : w.credits + held w.holds_credit + w.cut ≡ size.window + weigh each w.finished =
+        (totals size w h).flight in
         omega (arith, total, none, all, no_credit e, h.sized.some_slot)
 
     done_at : (w.cutter_ended ≡ true) ⊎ (w.cutter_ended ≡ false) → IsAllDone size w
@@ -243,7 +276,8 @@ module _ (size : PoolSize) (w : World) (h : Holds size w) where
     done_where_stuck = done_at (cases_Bool w.cutter_ended)
 
 -- hands without items and marks are empty
-hand_empty : (hands : List (Option Entry)) (k : ℕ) → weigh each (items_in_hands hands) + marks_in_hands hands ≤ 0 → is_some (get_or hands k None) ≡ false
+hand_empty : (hands : List (Option Entry)) (k : ℕ) → weigh each (items_in_hands hands) + marks_in_hands hands ≤ 0
+    → is_some (get_or hands k None) ≡ false
 hand_empty [] k le = refl
 hand_empty (None ∷ hands) zero le = refl
 hand_empty (None ∷ hands) (suc k) le = hand_empty hands k (omega (arith, le))
@@ -258,37 +292,48 @@ nothing_in (Some n) le = absurd (omega (arith, le))
 module _ (size : PoolSize) (w : World) (h : Holds size w) (d : IsAllDone size w) where
   -- nothing is anywhere but with the finished
   weighs_none : (f : ℕ → ℕ)
-      → weigh f (items_of w.jobs) + weigh f (items_in_hands w.hands) + weigh f (items_of w.dones) + weigh f (concat w.slots)
-      + weigh f (option_to_list w.writing) + weigh f w.lane ≡ 0
+      → weigh f (items_of w.jobs) + weigh f (items_in_hands w.hands) + weigh f (items_of w.dones)
+      + weigh f (concat w.slots) + weigh f (option_to_list w.writing) + weigh f w.lane ≡ 0
   weighs_none f = omega (arith, h.once f, ap (weigh f) d.items)
 
-  put_all : (marks w.jobs ≡ 0) × (marks_in_hands w.hands ≡ 0) × (marks w.dones ≡ 0) × (w.marks_put ≡ size.workers)
-  put_all =
-      let t = totals size w h in
-      (omega (arith, t.marks, t.put, d.marks), omega (arith, t.marks, t.put, d.marks), omega (arith, t.marks, t.put, d.marks), omega (arith, t.marks, t.put, d.marks))
+  all : Totals size w
+  all = totals size w h
+
+  no_marks_left : marks w.jobs + marks_in_hands w.hands + marks w.dones ≡ 0
+  no_marks_left = omega (arith, all.marks, all.put, d.marks)
+
+  all_put_then : w.marks_put ≡ size.workers
+  all_put_then = omega (arith, all.marks, all.put, d.marks)
 
   no_jobs_left : length w.jobs ≤ 0
-  no_jobs_left = omega (arith, entries_are w.jobs, weighs_none each, put_all.0)
+  no_jobs_left = omega (arith, entries_are w.jobs, weighs_none each, no_marks_left)
 
   no_dones_left : length w.dones ≤ 0
-  no_dones_left = omega (arith, entries_are w.dones, weighs_none each, put_all.2)
+  no_dones_left = omega (arith, entries_are w.dones, weighs_none each, no_marks_left)
 
   no_lane_left : length w.lane ≤ 0
   no_lane_left = omega (arith, length_is w.lane, weighs_none each)
 
   no_next : has_next size w ≡ true → ⊥
   no_next e =
-      omega (arith, weighs w.released (slot_of size w w.released) e, slot_le (only w.released) w.slots (w.released % size.window), weighs_none (only w.released))
+      omega (
+        arith,
+        weighs w.released (slot_of size w w.released) e,
+        slot_le (only w.released) w.slots (w.released % size.window),
+        weighs_none (only w.released),
+      )
 
   pub still_where_done : StandsStill size w
   still_where_done Event.Draw m =
-      and_left (not w.cutter_ended && not w.holds_credit) _ (and_left (not w.cutter_ended) _ (not_from_true w.cutter_ended d.cutter))
+      and_left (not w.cutter_ended && not w.holds_credit) _
+      (and_left (not w.cutter_ended) _ (not_from_true w.cutter_ended d.cutter))
   still_where_done (Event.Cut last) m = and_right w.holds_credit _ (not_from_true w.cutter_ended d.cutter)
   still_where_done Event.CutMark m =
-      and_right w.cutter_ended _ (le-ltb w.marks_put size.workers (omega (arith, put_all.3)))
+      and_right w.cutter_ended _ (le-ltb w.marks_put size.workers (omega (arith, all_put_then)))
   still_where_done (Event.Take k) m =
-      and_right (nat_lt k size.workers && is_none (hand_of w k) && not (slice_index_or w.marks_taken k false)) _ (le-ltb 0 (length w.jobs) no_jobs_left)
-  still_where_done (Event.Put k) m = hand_empty w.hands k (omega (arith, weighs_none each, put_all.1))
+      and_right (nat_lt k size.workers && is_none (hand_of w k) && not (slice_index_or w.marks_taken k false)) _
+      (le-ltb 0 (length w.jobs) no_jobs_left)
+  still_where_done (Event.Put k) m = hand_empty w.hands k (omega (arith, weighs_none each, no_marks_left))
   still_where_done Event.Arrive m = le-ltb 0 (length w.dones) no_dones_left
   still_where_done Event.SequencerNotes m = absurd (true≢false (sym m))
   still_where_done Event.WriterNotes m = absurd (true≢false (sym m))
@@ -301,14 +346,12 @@ module _ (size : PoolSize) (w : World) (h : Holds size w) (d : IsAllDone size w)
   still_where_done Event.Shut m = absurd (true≢false (sym m))
 
 -- once all end marks are put, each worker that hasn't its own finds an entry
-pub may_take_once_closed : (size : PoolSize) (w : World) (k : ℕ) → Holds size w → w.marks_put ≡ size.workers → k < size.workers
-    → hand_of w k ≡ None → slice_index_or w.marks_taken k false ≡ false → IsTrue (is_enabled size w (Event.Take k))
+pub may_take_once_closed : (size : PoolSize) (w : World) (k : ℕ) → Holds size w → w.marks_put ≡ size.workers
+    → k < size.workers → hand_of w k ≡ None → slice_index_or w.marks_taken k false ≡ false
+    → IsTrue (is_enabled size w (Event.Take k))
 may_take_once_closed size w k h put lt bare unmarked =
-    let fewer : count_taken w.marks_taken < length w.marks_taken = not_all w.marks_taken k (omega (arith, lt, h.sized.each_mark)) unmarked in
-    let some : 0 < length w.jobs = omega (arith, entries_are w.jobs, h.ending.0.in_queue, put, fewer, h.sized.each_mark) in
-    let none : is_none (hand_of w k) ≡ true = ap is_none bare in
-    let one : (nat_lt k size.workers && is_none (hand_of w k)) ≡ true =
-    and_from (nat_lt k size.workers) (is_none (hand_of w k)) (lt-ltb k size.workers lt) none in
-    let two : (nat_lt k size.workers && is_none (hand_of w k) && not (slice_index_or w.marks_taken k false)) ≡ true =
-    and_from (nat_lt k size.workers && is_none (hand_of w k)) _ one (not_from_false (slice_index_or w.marks_taken k false) unmarked) in
-    and_from (nat_lt k size.workers && is_none (hand_of w k) && not (slice_index_or w.marks_taken k false)) _ two (lt-ltb 0 (length w.jobs) some)
+    let fewer : count_taken w.marks_taken < length w.marks_taken =
+    not_all w.marks_taken k (omega (arith, lt, h.sized.each_mark)) unmarked in
+    let some : 0 < length w.jobs =
+    omega (arith, entries_are w.jobs, h.ending.0.in_queue, put, fewer, h.sized.each_mark) in
+    may_take_from size w k lt bare unmarked some

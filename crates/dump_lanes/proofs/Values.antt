@@ -18,7 +18,8 @@ right = record { allows = is_enabled; leads = after_event }
 -- where a list of events leads to, if each of them may happen
 abbrev play : Core → PoolSize → World → List Event → Option World
 play core size w [] = Some w
-play core size w (event ∷ events) = cond (core.allows size w event) (play core size (core.leads size w event) events) None
+play core size w (event ∷ events) =
+    cond (core.allows size w event) (play core size (core.leads size w event) events) None
 
 -- whether no move may be made there
 abbrev stands_still : Core → PoolSize → World → Bool
@@ -78,8 +79,12 @@ most_are_behind = refl
 abbrev cut_after : PoolSize → List Event → Option ℕ
 cut_after size events = option_map (λ (w : World). w.cut) (play right size (opening size) events)
 
+abbrev look_draw : List Event
+look_draw = Event.Look ∷ Event.Draw ∷ []
+
 abbrev first_arrives : List Event
-first_arrives = Event.Look ∷ Event.Draw ∷ Event.Cut false ∷ Event.Take 0 ∷ Event.Put 0 ∷ Event.Arrive ∷ Event.Look ∷ Event.Draw ∷ Event.Look ∷ []
+first_arrives =
+    look_draw ++ (Event.Cut false ∷ Event.Take 0 ∷ Event.Put 0 ∷ Event.Arrive ∷ []) ++ look_draw ++ (Event.Look ∷ [])
 
 abbrev stopped : List Event
 stopped = first_arrives ++ (Event.SequencerNotes ∷ Event.SequencerRaises ∷ [])
@@ -146,10 +151,14 @@ cutter_waits_undone = refl
 abbrev with_a_credit_more : PoolSize → World
 with_a_credit_more size = record (opening size) { credits = size.window + 1 }
 
+abbrev draw_cut : List Event
+draw_cut = Event.Draw ∷ Event.Cut false ∷ []
+
+abbrev take_put : List Event
+take_put = Event.Take 0 ∷ Event.Put 0 ∷ []
+
 abbrev two_items : List Event
-two_items =
-    Event.Draw ∷ Event.Cut false ∷ Event.Draw ∷ Event.Cut false ∷ Event.Take 0 ∷ Event.Put 0 ∷ Event.Take 0 ∷ Event.Put 0
-    ∷ Event.Arrive ∷ Event.Arrive ∷ []
+two_items = draw_cut ++ draw_cut ++ take_put ++ take_put ++ (Event.Arrive ∷ Event.Arrive ∷ [])
 
 abbrev slots_after : PoolSize → World → Option (List (List ℕ))
 slots_after size w = option_map (λ (v : World). v.slots) (play right size w two_items)
