@@ -1,4 +1,5 @@
 pub mod PrefixLemmas
+pub mod BarePrefixLemmas
 pub mod ReachLemmas
 pub mod RangeLemmas
 pub mod RangeListLemmas

@@ -1,8 +1,8 @@
 -- A prefix and a slash at the front of a path.
-use Rattle.std.proofs.Common.{◌≡◌, ℕ, Bool, true, false, ◌&&◌, ◌||◌, ◌==◌, List, [], ◌∷◌, ◌++◌, take, drop, length, map, nat_eq, bytes_eq, refl, sym, ap, ◌∙◌, arith}
+use Rattle.std.proofs.Common.{◌≡◌, ℕ, Bool, true, false, ◌&&◌, ◌||◌, List, [], ◌∷◌, ◌++◌, take, drop, length, map, nat_eq, bytes_eq, refl, ap, ◌∙◌, arith}
 use Rattle.std.specs.List.{starts_with, list_any}
 use Rattle.std.proofs.Math.Bool.{and-true}
-use Rattle.dump_rules.specs.Prefix.{has_slash_first, begins_path}
+use Rattle.dump_rules.specs.Prefix.{has_slash_first}
 
 eq_sym : (a b : ℕ) → nat_eq a b ≡ nat_eq b a
 eq_sym a b = grind arith
@@ -20,19 +20,6 @@ slash_behind (a ∷ prefix) (b ∷ path) =
     ap (λ t. nat_eq a b && t) (slash_behind prefix path)
     ∙ ap (λ t. t && (bytes_eq (take (length prefix) path) prefix && has_slash_first (drop (length prefix) path))) (eq_sym a b)
     ∙ and_assoc (nat_eq b a) (bytes_eq (take (length prefix) path) prefix) (has_slash_first (drop (length prefix) path))
-
--- a path that isn't the bare prefix and doesn't begin with it
-pub begins_not : (prefix path : List ℕ) → (length prefix == 0) ≡ false → bytes_eq path prefix ≡ false
-    → bytes_eq (take (length prefix) path) prefix ≡ false → false ≡ begins_path prefix path
-begins_not [] path some other no_front = let bad : true ≡ false = some in cc
-begins_not (b ∷ prefix) path some other no_front =
-    sym (rw (other, slash_behind (b ∷ prefix) path, no_front) refl)
-
-pub begins_so : (prefix path rest : List ℕ) → (length prefix == 0) ≡ false → bytes_eq path prefix ≡ false
-    → bytes_eq (take (length prefix) path) prefix ≡ true → rest ≡ drop (length prefix) path → has_slash_first rest ≡ begins_path prefix path
-begins_so [] path rest some other front is = let bad : true ≡ false = some in cc
-begins_so (b ∷ prefix) path rest some other front is =
-    ap has_slash_first is ∙ sym (rw (other, slash_behind (b ∷ prefix) path, front) refl)
 
 pub any_mapped : {X Y : Type 0} (f : X → Y) (p : Y → Bool) (xs : List X) → list_any p (map f xs) ≡ list_any (λ x. p (f x)) xs
 any_mapped f p [] = refl

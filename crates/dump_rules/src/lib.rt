@@ -47,6 +47,7 @@
 //! the filter, and a `Reach` renumbers whether or not one asks for it.
 #![tactic(auto)]
 
+mod bare;
 mod blocks;
 pub mod laws;
 mod memory;

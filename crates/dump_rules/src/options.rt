@@ -3,8 +3,9 @@ ghost use Rattle.std.specs.Prelude.{◌≡◌, IfOk, map, option_copied, slice_g
 ghost use Rattle.std.specs.List.{list_any};
 ghost use Rattle.dump_rules.specs.Prefix.{matches_path};
 
+use crate::bare::BarePrefixes;
 use crate::memory::Memory;
-use crate::prefix::matches;
+use crate::prefix::trim_path;
 use std::alloc::Global;
 use std::marker::Model;
 
@@ -26,11 +27,12 @@ pub enum Empty {
     DropAll,
 }
 
-/// The filter's options, with their own copies of the prefixes.
+/// The filter's options, with their own copies of the prefixes, once as they were handed in and once to be looked up.
 #[derive(Drop)]
 pub struct Options {
     side: Side,
     prefixes: Vec<Vec<u8>>,
+    bare: BarePrefixes,
     empty: Empty,
     renumber: bool,
     preserve: bool,
@@ -39,6 +41,7 @@ pub struct Options {
 
 impl Model for Options {
     ghost use Rattle.std.specs.Prelude.{map};
+    ghost use Rattle.dump_rules.specs.Prefix.{BeginSame, bare_prefix};
     ghost use Rattle.dump_rules.specs.Settings.{Settings};
 
     ghost Value = { Settings };
@@ -51,6 +54,8 @@ impl Model for Options {
       preserve = o.preserve;
       skip_missing = o.skip_missing;
     } };
+
+    ghost invariant = { λ o. BeginSame o.bare (map (λ prefix. bare_prefix prefix.items) o.prefixes.items) };
 }
 
 /// Copies of texts, in their order.
@@ -69,21 +74,12 @@ fn copies(alloc: Global, texts: &[&[u8]]) -> Result<Vec<Vec<u8>>, Memory>
     Ok(copied)
 }
 
-/// Whether one of the prefixes matches the path.
-fn some_matches(prefixes: &[Vec<u8>], path: &[u8]) -> bool
-    ensures { result ≡ list_any (λ prefix. matches_path prefix.items path.now) prefixes.now }
-{
-    prefixes
-        .iter()
-        .any(|prefix| matches(prefix.as_slice(), path))
-}
-
 impl Options {
     /// Whether a prefix matches the path.
     pub(crate) fn has_match(&self, path: &[u8]) -> bool
         ensures { result ≡ list_any (λ prefix. matches_path prefix path.now) self.now.prefixes }
     {
-        some_matches(&self.prefixes, path)
+        self.bare.begin(trim_path(path))
     }
 
     /// Options with copies of the prefixes.
@@ -105,12 +101,12 @@ impl Options {
           skip_missing = skip_missing;
         }) }
     {
-        let Ok(prefixes) = copies(alloc, prefixes) else {
-            return Err(Memory);
-        };
+        let bare = BarePrefixes::new(alloc, prefixes)?;
+        let prefixes = copies(alloc, prefixes)?;
         Ok(Options {
             side,
             prefixes,
+            bare,
             empty,
             renumber,
             preserve,

@@ -1,6 +1,6 @@
-//! Path prefixes, compared by whole names.
+//! The slashes at the ends of prefixes and paths, which don't count.
 ghost use Rattle.std.specs.Prelude.{◌≡◌};
-ghost use Rattle.dump_rules.specs.Prefix.{without_leading_slashes, without_trailing_slashes, bare_prefix, bare_path, has_slash_first, begins_path, matches_path};
+ghost use Rattle.dump_rules.specs.Prefix.{without_leading_slashes, without_trailing_slashes, bare_prefix, bare_path};
 
 /// The text without the slashes at its front.
 fn trim_front(text: &[u8]) -> &[u8]
@@ -25,7 +25,7 @@ fn trim_end(text: &[u8]) -> &[u8]
 }
 
 /// A path without one leading slash, if it has one.
-fn trim_path(path: &[u8]) -> &[u8]
+pub(crate) fn trim_path(path: &[u8]) -> &[u8]
     ensures { result.now ≡ bare_path path.now }
 {
     match path {
@@ -34,29 +34,9 @@ fn trim_path(path: &[u8]) -> &[u8]
     }
 }
 
-/// Whether a slash stands first.
-fn begins_with_slash(text: &[u8]) -> bool
-    ensures { result ≡ has_slash_first text.now }
+/// The prefix without the slashes at both its ends.
+pub(crate) fn trim_slashes(prefix: &[u8]) -> &[u8]
+    ensures { result.now ≡ bare_prefix prefix.now }
 {
-    matches!(text, [b'/', ..])
-}
-
-/// Whether the path is the bare prefix, or begins with it and a slash.
-fn begins(prefix: &[u8], path: &[u8]) -> bool
-    ensures { result ≡ begins_path prefix.now path.now }
-{
-    if prefix.is_empty() || path == prefix {
-        return true;
-    }
-    match path.strip_prefix(prefix) {
-        Some(rest) => begins_with_slash(rest),
-        None => false,
-    }
-}
-
-/// Whether the prefix matches the path.
-pub(crate) fn matches(prefix: &[u8], path: &[u8]) -> bool
-    ensures { result ≡ matches_path prefix.now path.now }
-{
-    begins(trim_end(trim_front(prefix)), trim_path(path))
+    trim_end(trim_front(prefix))
 }

@@ -9,6 +9,8 @@ use crate::{
 use std::alloc::Global;
 use std::test::Fail;
 
+mod prefixes;
+
 fn options(alloc: Global, side: Side, prefixes: &[&[u8]]) -> Result<Options, Memory> {
     Options::new(alloc, side, prefixes, Empty::Pad, false, false, false)
 }
