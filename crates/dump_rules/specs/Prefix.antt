@@ -37,7 +37,8 @@ matches_path prefix path = begins_path (bare_prefix prefix) (bare_path path)
 -- the two lists of bare prefixes begin the same paths
 abbrev pub BeginSame : List (List ℕ) → List (List ℕ) → Type 0
 BeginSame some others =
-    (path : List ℕ) → list_any (λ prefix. begins_path prefix path) some ≡ list_any (λ prefix. begins_path prefix path) others
+    (path : List ℕ)
+    → list_any (λ prefix. begins_path prefix path) some ≡ list_any (λ prefix. begins_path prefix path) others
 
 -- none of the texts is longer than this
 abbrev pub AreWithin : ℕ → List (List ℕ) → Type 0

@@ -1,7 +1,7 @@
 //! The ranges of svn:mergeinfo, read where they lie.
 ghost use Rattle.std.specs.Prelude.{◌≡◌, ◌==◌, not, option_map, position};
 ghost use Rattle.dump_rules.specs.Blocks.{parts_agree};
-ghost use Rattle.dump_rules.specs.ReadRanges.{contradicts, ends_in_star, climbed, ends_of, list_reads, raised, raised_by, range_parts, range_of, span_range, without_star};
+ghost use Rattle.dump_rules.specs.ReadRanges.{ends_in_star, climbed, ends_of, list_reads, raised, raised_by, range_parts, range_of, span_range, without_star};
 
 use crate::blocks::each_part_agrees;
 use dump_text::number;
@@ -63,15 +63,6 @@ pub(crate) fn range(text: &[u8]) -> Option<Span>
         })
     } else {
         None
-    }
-}
-
-impl Span {
-    /// Whether the ranges have a number in common, and are of unlike kinds.
-    pub(crate) fn contradicts(self, other: Span) -> bool
-        ensures { result ≡ contradicts (span_range self) (span_range other) }
-    {
-        self.inheritable != other.inheritable && self.from <= other.to && other.from <= self.to
     }
 }
 

@@ -9,6 +9,7 @@ use crate::{
 use std::alloc::Global;
 use std::test::Fail;
 
+mod mixed_lists;
 mod prefixes;
 
 fn options(alloc: Global, side: Side, prefixes: &[&[u8]]) -> Result<Options, Memory> {

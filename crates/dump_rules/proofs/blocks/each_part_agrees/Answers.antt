@@ -1,25 +1,32 @@
 use Rattle.std.proofs.Common.{◌&&◌, ◌∙◌, sym, ap, not, take, Bool, Option, Bor, List, ℕ, option_copied}
-use Rattle.dump_rules.specs.Blocks.{parts_agree, parts_left}
+use Rattle.dump_rules.specs.Blocks.{kind_agrees, parts_left}
 use Rattle.dump_rules.specs.ReadRanges.{range_parts}
-use Rattle.dump_rules.proofs.BlockLemmas.{block_agrees}
+use Rattle.dump_rules.proofs.BlockLemmas.{agrees_unless, one_kind_suffices}
 use Rattle.dump_rules.proofs.blocks.each_part_agrees.Goals as goal
 
-pub returns-then-list_contradicts_some : goal.returns-then-list_contradicts_some
-returns-then-list_contradicts_some c =
+pub loop-rest-init : goal.loop-rest-init
+loop-rest-init c = sym (one_kind_suffices c.lacks_few_stars-inheritable.result (range_parts c.args.list.now))
+
+pub returns-then-arranged_contradicts_some : goal.returns-then-arranged_contradicts_some
+returns-then-arranged_contradicts_some c =
     let all = range_parts c.args.list.now in
-    let behind = parts_agree all (parts_left (option_copied c.in-Some-fill.behind)) in
+    let kind = c.lacks_few_stars-inheritable.result in
+    let behind = kind_agrees kind all (parts_left (option_copied c.in-Some-fill.behind)) in
     sym (c.loop-rest.invariant
-    ∙ ap (λ (o : Option (Bor (List ℕ))). parts_agree all (parts_left (option_copied o))) c.in-Some.is
+    ∙ ap (λ (o : Option (Bor (List ℕ))). kind_agrees kind all (parts_left (option_copied o))) c.in-Some.is
     ∙ c.in-Some-fill.ensures.filled.2 all
     ∙ ap (λ (b : Bool). b && behind)
-    (block_agrees all (take c.in-Some-fill.count c.fill.new.block) ∙ ap not (sym c.list_contradicts_some.ensures ∙ c.if-list_contradicts_some.true)))
+    (agrees_unless kind all (take c.in-Some-fill.count c.fill.new.block)
+    ∙ ap not (sym c.arranged_contradicts_some.ensures ∙ c.if-arranged_contradicts_some.true)))
 
 pub loop-rest-preserved : goal.loop-rest-preserved
 loop-rest-preserved c =
     let all = range_parts c.args.list.now in
-    let behind = parts_agree all (parts_left (option_copied c.in-Some-fill.behind)) in
+    let kind = c.lacks_few_stars-inheritable.result in
+    let behind = kind_agrees kind all (parts_left (option_copied c.in-Some-fill.behind)) in
     c.loop-rest.invariant
-    ∙ ap (λ (o : Option (Bor (List ℕ))). parts_agree all (parts_left (option_copied o))) c.in-Some.is
+    ∙ ap (λ (o : Option (Bor (List ℕ))). kind_agrees kind all (parts_left (option_copied o))) c.in-Some.is
     ∙ c.in-Some-fill.ensures.filled.2 all
     ∙ ap (λ (b : Bool). b && behind)
-    (block_agrees all (take c.in-Some-fill.count c.fill.new.block) ∙ ap not (sym c.list_contradicts_some.ensures ∙ c.if-list_contradicts_some.false))
+    (agrees_unless kind all (take c.in-Some-fill.count c.fill.new.block)
+    ∙ ap not (sym c.arranged_contradicts_some.ensures ∙ c.if-arranged_contradicts_some.false))

@@ -1,12 +1,16 @@
 use Rattle.std.proofs.Common.{◌≡◌, ℕ, ◌+◌, ◌≤◌, ◌&&◌, List, length, take}
-use Rattle.dump_rules.specs.Blocks.{parts_agree, spans_agree}
+use Rattle.dump_rules.specs.Blocks.{block_agrees, kind_agrees}
 use Rattle.dump_rules.specs.ReadRanges.{range_parts}
 use Rattle.dump_rules.proofs.blocks.fill.Given as goal
 
 abbrev pub invariant-places : goal.invariant-places
 invariant-places l = record {
-  size : length l.block ≡ 64;
+  size : length l.block ≡ 4096;
   shorter : length l.rest + l.place ≤ length l.list;
-  read : (all : List (List ℕ)) → parts_agree all (range_parts l.list)
-      ≡ (spans_agree all (take l.place l.block) && parts_agree all (range_parts l.rest));
+  held : l.place ≤ 4096;
+  read : (all : List (List ℕ)) → kind_agrees l.inheritable all (range_parts l.list)
+      ≡ (block_agrees l.inheritable all (take l.place l.block) && kind_agrees l.inheritable all (range_parts l.rest));
 }
+
+abbrev pub decreases-places : goal.decreases-places
+decreases-places l = length l.rest

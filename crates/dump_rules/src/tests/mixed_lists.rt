@@ -1,0 +1,56 @@
+//! Ranges of both kinds in no order, more than are held at a time.
+use crate::merge_reads;
+use std::test::Fail;
+
+#[test]
+fn ranges_reach_over_others_of_their_kind(rt: HostRuntime) {
+    let rows = [
+        (b"/a:70*,60,1-100".as_slice(), false),
+        (b"/a:70*,60,1-69", true),
+        (b"/a:70*,60,1-70", false),
+        (b"/a:70,60*,1-100*", false),
+        (b"/a:70,60*,1-69*", true),
+        (b"/a:80-90*,85-99,1-3", false),
+        (b"/a:80-84*,85-99,1-3", true),
+        (b"/a:9,5-6*,1-3,7-8*,4", true),
+        (b"/a:9,5-6*,1-3,7-9*,4", false),
+        (b"/a:9,4-6*,1-3,7-8*,4", false),
+        (b"/a:9,5-6*,1-3,7-8*,4,0", false),
+        (b"/a:9,5-6*,1-3,7-8*,,4", false),
+    ];
+    for (value, reads) in rows {
+        assert_eq!(rt; merge_reads(value), reads, "{value:?}");
+    }
+}
+
+// The even numbers fall from 20000 to 2, the odd ones with stars between them. The lists are of as
+// many ranges of either kind, and of more of the one or the other.
+#[test]
+fn twenty_thousand_ranges_of_both_kinds_in_falling_order(rt: HostRuntime) -> Result<(), Fail> {
+    let mut text = String::from_str(rt.alloc(), "20000")?;
+    for n in 1..20000u64 {
+        let lower = 20000 - n;
+        let star = if n % 2 == 0 { "" } else { "*" };
+        text.push_str(&format!(in rt.alloc(); ",{lower}{star}")?)?;
+    }
+    for (first, last, reads) in [
+        ("", "", true),
+        ("30000,30001,30002,", "", true),
+        ("30000*,30001*,30002*,", ",1*", true),
+        ("2*,", "", false),
+        ("1,", "", false),
+        ("", ",20000*", false),
+        ("", ",19999", false),
+        ("", ",8192*", false),
+        ("", ",8191", false),
+        ("9999-10001*,", "", false),
+        ("9999-10001,", "", false),
+        ("25000-26000*,25500,", "", false),
+        ("", ",0", false),
+        ("", ",", false),
+    ] {
+        let value = format!(in rt.alloc(); "/a:{first}{text}{last}")?;
+        assert_eq!(rt; merge_reads(value.as_bytes()), reads, "{first} {last}");
+    }
+    Ok(())
+}
