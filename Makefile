@@ -1,6 +1,7 @@
 # make            proves and builds the program, build/svndumpfilter
 # make test       proves every crate from nothing, runs their tests, and then tests/ on the program that was so proved
-# make bench      measures the program on made dumps, beside md5sum, sha1sum, cat and, where it is installed, the stock svndumpfilter
+# make bench      measures the program on made dumps, beside the filter on one thread, md5sum, sha1sum, cat and, where it
+#                 is installed, the stock svndumpfilter
 # make install    puts the program and its manual page under $(DESTDIR)$(PREFIX), by the name $(NAME)
 # make uninstall  takes both away again
 # make deb        makes a Debian package of the same, build/svndumpfilter-proved_VERSION_ARCHITECTURE.deb
@@ -11,6 +12,7 @@ DESTDIR ?=
 NAME ?= svndumpfilter
 
 PROGRAM := build/svndumpfilter
+PLAIN := build/run_plain
 # where the toolchain leaves the program, after rt run and after rt ci
 BUILT := crates/dump_cli/out/dump_cli
 PAGE := docs/svndumpfilter.1
@@ -33,13 +35,23 @@ test:
 	cp $(BUILT) $(PROGRAM)
 	@echo "make: running tests/cases on $(PROGRAM)"
 	tests/run $(PROGRAM)
+	@echo "make: refusing each growth of memory and each start of a thread in turn"
+	tests/refusals $(PROGRAM)
+	@echo "make: running $(PROGRAM) on hostile input, streams and limits"
+	tests/hostile $(PROGRAM)
 	@echo "make: installing $(PROGRAM) into an empty root"
 	tests/install
 	@echo "make: comparing $(PROGRAM) with the stock svndumpfilter"
 	tests/stock $(PROGRAM)
 
-bench: $(PROGRAM)
-	bench/measure $(PROGRAM)
+# the same filter on one thread, over the same crates
+$(PLAIN): $(PROGRAM) bench/plain/crates/run_plain/src/main.rt
+	@echo "make: building $@"
+	@cd bench/plain/crates/run_plain && rt run -- / < ../../../../tests/cases/include_keeps_what_a_prefix_matches/stdin > /dev/null
+	@cp bench/plain/crates/run_plain/out/run_plain $@
+
+bench: $(PROGRAM) $(PLAIN)
+	bench/measure $(PROGRAM) $(PLAIN)
 
 install: $(PROGRAM)
 	install -d "$(DESTDIR)$(PREFIX)/bin" "$(DESTDIR)$(PREFIX)/share/man/man1"
