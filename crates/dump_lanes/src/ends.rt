@@ -5,15 +5,17 @@ ghost use Rattle.crossbeam_channel.specs.Claims.{IsSeatAt, view};
 ghost use Rattle.crossbeam_channel.specs.Ends.{sends_on, receives_on};
 ghost use Rattle.dump_lanes.specs.LaneMarks.{IsPutting, IsTaking, mark_if, mark_of};
 
-use crate::protocol::{InOrder, Log, Mark, Puts, Roles, Takes, Total};
+use crate::protocol::{InOrder, Log, Mark, Puts, Roles, Total};
 use crossbeam_channel::{Pass, RuledReceiver, RuledSender};
 use std::sync::Wait;
 
 mod closing;
 mod pair;
+mod receiving;
 
 use closing::{Unheard, put_end};
 pub use pair::{Memory, lane};
+use receiving::receive;
 
 /// The sending end of a lane.
 #[derive(Drop)]
@@ -112,7 +114,7 @@ impl<T: Drop> LaneOut<T> {
             Told::SenderGone => return Taken::Lost,
             Told::MayCome => {}
         }
-        match self.receiver.recv_as::<Takes, R>(rt, &mut self.pass) {
+        match receive(rt, &self.receiver, &mut self.pass) {
             Ok(Mark::Item(item)) => Taken::Item(item),
             Ok(Mark::End) => {
                 self.told = Told::Ended;

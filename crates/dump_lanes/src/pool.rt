@@ -36,6 +36,9 @@ pub use sequencer::DonePort;
 pub use worker::WorkerPort;
 pub use writer::CreditPort;
 
+/// How many batches are a window: a port that naps is called once a batch waits.
+const BATCHES: usize = 4;
+
 /// The queues between a cutter, some workers, a sequencer and a writer.
 #[derive(Drop)]
 pub struct Pool<J: Drop, D: Drop> {
@@ -83,14 +86,15 @@ impl<J: Drop, D: Drop> Pool<J, D> {
         let Ok((credits, mut first_credit)) = CreditQueue::ruled(alloc, window) else {
             return Err(Memory);
         };
-        let credit_bells = Bells::new();
+        let batch = (window / BATCHES).max(1) as u64;
+        let credit_bells = Bells::new(batch);
         put_first(rt, &credits, &credit_bells, &mut first_credit, window);
         let queues = Queues {
             jobs,
             dones,
             credits,
-            job_bells: Bells::new(),
-            done_bells: Bells::new(),
+            job_bells: Bells::new(batch),
+            done_bells: Bells::new(batch),
             credit_bells,
             workers,
             window,

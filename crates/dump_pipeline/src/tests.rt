@@ -2,6 +2,7 @@
 
 mod digests;
 mod gates;
+mod hostile;
 mod merges;
 mod plans;
 mod running;

@@ -5,7 +5,7 @@ ghost use Rattle.dump_lanes.specs.CreditRule.{purse};
 ghost use Rattle.dump_lanes.specs.CreditViews.{HasDrawn, is_stop};
 ghost use Rattle.dump_lanes.specs.StopSeats.{SeesOnlyRaised};
 
-use super::bell::Bells;
+use super::bell::{Bells, Patience};
 use super::credits::{AddsFirst, CreditQueue, Draws, Purse, Token};
 use super::waiting::push;
 use crate::stop::{StopSeat, StopWord};
@@ -67,22 +67,23 @@ pub fn draw_from<R: Wait>(
     ensures seen { seat.new ≡ record seat.old { seen = is_stop result } }
     ensures whole { SeesOnlyRaised seat.new }
 {
-    let mut turns = 0;
+    let mut patience = Patience::new();
     for _ in rt.forever() {
-        let heard = bells.items.heard();
+        let puts = bells.puts();
         if word.look(seat) {
             return Drawn::Stop;
         }
         match queue.pop_as::<Draws, R>(rt, pass) {
             Some(_) => {
-                bells.places.ring();
+                bells.took(&patience);
                 return Drawn::Credit(Credit {
                     drawn_by: Snapshot::of(pass),
                 });
             }
-            None => turns = bells
-                .items
-                .wait(rt, heard, turns, Some(Duration::from_millis(LOOK_AGAIN))),
+            None => {
+                let most = Some(Duration::from_millis(LOOK_AGAIN));
+                bells.wait_for_item(rt, &mut patience, puts, most);
+            }
         }
     }
     unreachable!()

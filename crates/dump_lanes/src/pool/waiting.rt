@@ -2,7 +2,7 @@
 ghost use Rattle.crossbeam_queue.specs.Fifo.{Pushes, Pops, Learns};
 ghost use Rattle.crossbeam_queue.specs.Passes.{view, IsSamePass, IsPassOf, ruled_capacity};
 
-use super::bell::Bells;
+use super::bell::{Bells, Patience};
 use crossbeam_queue::protocol::{Lesson, Outcome, Protocol};
 use crossbeam_queue::{Pass, RuledArrayQueue};
 use std::sync::Wait;
@@ -22,17 +22,17 @@ pub fn push<M: Outcome<T, V> + Lesson<T, V>, T, V, P: Protocol<T, V>, R: Wait>(
     ensures rule { M.then (view pass.old) item (view pass.new) }
 {
     let mut waiting = item;
-    let mut turns = 0;
+    let mut patience = Patience::new();
     for _ in rt.forever() {
-        let heard = bells.places.heard();
+        let takes = bells.takes();
         match queue.push_as::<M, R>(rt, pass, waiting) {
             Ok(()) => {
-                bells.items.ring();
+                bells.put();
                 return;
             }
             Err(back) => {
                 waiting = back;
-                turns = bells.places.wait(rt, heard, turns, None);
+                bells.wait_for_place(rt, &mut patience, takes);
             }
         }
     }
@@ -52,15 +52,15 @@ pub fn pop<M: Outcome<T, V> + Lesson<T, V>, T, V, P: Protocol<T, V>, R: Wait>(
     ensures queue { IsSamePass pass.old pass.new }
     ensures rule { M.then (view pass.old) result (view pass.new) }
 {
-    let mut turns = 0;
+    let mut patience = Patience::new();
     for _ in rt.forever() {
-        let heard = bells.items.heard();
+        let puts = bells.puts();
         match queue.pop_as::<M, R>(rt, pass) {
             Some(item) => {
-                bells.places.ring();
+                bells.took(&patience);
                 return item;
             }
-            None => turns = bells.items.wait(rt, heard, turns, None),
+            None => bells.wait_for_item(rt, &mut patience, puts, None),
         }
     }
     unreachable!()

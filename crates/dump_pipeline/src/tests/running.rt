@@ -12,7 +12,7 @@ use std::io::Write;
 use std::sync::atomic::{AtomicU64, Ordering};
 use std::test::*;
 
-const VERSION: &[u8] = b"SVN-fs-dump-format-version: 2\n\n";
+pub const VERSION: &[u8] = b"SVN-fs-dump-format-version: 2\n\n";
 
 pub fn plan(workers: usize, window: usize) -> Result<Plan, Fail> {
     match Plan::new(workers, window) {
@@ -113,22 +113,28 @@ const WRONG_SHA1: &str = "Text-content-sha1: a9993e364706816aba3e25717850c26c9cd
 
 const WRONG_MD5: &str = "Text-content-md5: 900150983cd24fb0d6963f7d28e17f73";
 
-const SHA1_IN_RECORD_2: Answer = Answer::Fault {
+pub const SHA1_IN_RECORD_2: Answer = Answer::Fault {
     kind: FaultKind::Sha1,
     number: 2,
     place: 151,
 };
 
-// The fault of record 2 is the answer, though that of record 5 is found before it.
-#[test]
-fn the_first_fault_is_answered_and_not_the_one_found_first(rt: HostRuntime) -> Result<(), Fail> {
-    let alloc = rt.alloc();
+// Records 2 and 5 have wrong digests.
+pub fn wrong_in_2_and_5(alloc: Global) -> Result<Vec<u8>, Fail> {
     let mut dump = Vec::from_slice(alloc, VERSION)?;
     write_revision(&mut dump, 0)?;
     write_wrong_file(&mut dump, "a/x", WRONG_SHA1)?;
     write_revision(&mut dump, 1)?;
     write_folder(&mut dump, "a")?;
     write_wrong_file(&mut dump, "a/y", WRONG_MD5)?;
+    Ok(dump)
+}
+
+// The fault of record 2 is the answer, though that of record 5 is found before it.
+#[test]
+fn the_first_fault_is_answered_and_not_the_one_found_first(rt: HostRuntime) -> Result<(), Fail> {
+    let alloc = rt.alloc();
+    let dump = wrong_in_2_and_5(alloc)?;
     let options = everything(alloc)?;
     let gate = Holding::new(2, 1 << 5, 0);
     let mut sink = MemorySink::new(alloc, 1000, Trouble::Never);

@@ -5,7 +5,6 @@ use Rattle.dump_lanes.specs.declared.protocol.Log.{Log}
 use Rattle.dump_lanes.specs.LaneMarks.{items_of}
 use Rattle.dump_lanes.specs.LaneViews.{told}
 use Rattle.dump_lanes.proofs.LaneSteps.{same_receiving, ends_as, take_item, take_end, still_takes, ends, nothing_told}
-use Rattle.dump_lanes.proofs.Moves.{gets}
 use Rattle.dump_lanes.proofs.ends.LaneOut.take.Goals as goal
 
 pub returns-in-Ended : goal.returns-in-Ended
@@ -14,32 +13,32 @@ returns-in-Ended g c = let is = ap told c.in-Ended.is in (ends_as c.args.self.no
 pub returns-in-SenderGone : goal.returns-in-SenderGone
 returns-in-SenderGone g c = let is = ap told c.in-SenderGone.is in (ends_as c.args.self.now.pass _ _ is, λ _. is)
 
-pub recv_as-requires-clause-rule : goal.recv_as-requires-clause-rule
-recv_as-requires-clause-rule g c = (gets _ _ c.args.self.now.takes.may_take, λ items views h at. tt)
+pub receive-requires-clause-may_take : goal.receive-requires-clause-may_take
+receive-requires-clause-may_take g c = c.args.self.now.takes.may_take
 
 pub invariant_of-self : goal.invariant_of-self
 invariant_of-self g c =
     let step = rw c.in-Ok-Item.field-0-is at c.in-Ok-Item.ensures in
-    record { seated = c.recv_as.ensures.channel.0; takes = still_takes _ _ c.in-Ok-Item.item c.args.self.now.told c.in-MayCome.is c.args.self.now.takes step.rule }
+    record { seated = c.receive.ensures.seated; takes = still_takes _ _ c.in-Ok-Item.item c.args.self.now.told c.in-MayCome.is c.args.self.now.takes step.taken }
 
 pub invariant_of-self-in-Ok-End : goal.invariant_of-self-in-Ok-End
 invariant_of-self-in-Ok-End g c =
     let step = rw c.in-Ok-End.field-0-is at c.in-Ok-End.ensures in
-    record { seated = c.recv_as.ensures.channel.0; takes = ends _ _ c.args.self.now.told c.in-MayCome.is c.args.self.now.takes step.rule }
+    record { seated = c.receive.ensures.seated; takes = ends _ _ c.args.self.now.told c.in-MayCome.is c.args.self.now.takes step.taken }
 
 pub returns-in-Ok-Item : goal.returns-in-Ok-Item
 returns-in-Ok-Item g c =
     let step = rw c.in-Ok-Item.field-0-is at c.in-Ok-Item.ensures in
-    let more = take_item _ _ c.in-Ok-Item.item step.rule in
-    (ap told c.in-MayCome.is, same_receiving (receives_on c.args.self.now.receiver) c.recv_as.new.pass c.args.self.now.pass c.args.self.now.told _ c.recv_as.ensures.channel.0 c.args.self.now.seated more)
+    let more = take_item _ _ c.in-Ok-Item.item step.taken in
+    (ap told c.in-MayCome.is, same_receiving (receives_on c.args.self.now.receiver) c.receive.new.pass c.args.self.now.pass c.args.self.now.told _ c.receive.ensures.seated c.args.self.now.seated more)
 
 pub returns-in-Ok-End : goal.returns-in-Ok-End
 returns-in-Ok-End g c =
     let step = rw c.in-Ok-End.field-0-is at c.in-Ok-End.ensures in
-    let same = take_end _ _ step.rule in
-    (same_receiving (receives_on c.args.self.now.receiver) c.recv_as.new.pass c.args.self.now.pass Ended _ c.recv_as.ensures.channel.0 c.args.self.now.seated same, nothing_told _ _ c.in-MayCome.is)
+    let same = take_end _ _ step.taken in
+    (same_receiving (receives_on c.args.self.now.receiver) c.receive.new.pass c.args.self.now.pass Ended _ c.receive.ensures.seated c.args.self.now.seated same, nothing_told _ _ c.in-MayCome.is)
 
 pub returns-in-Err : goal.returns-in-Err
 returns-in-Err g c =
-    let same = ap (λ (l : Log g.row.T.Denot). items_of l.taken) c.in-Err.ensures.rule.0 in
-    (same_receiving (receives_on c.args.self.now.receiver) c.recv_as.new.pass c.args.self.now.pass SenderGone _ c.recv_as.ensures.channel.0 c.args.self.now.seated same, nothing_told _ _ c.in-MayCome.is)
+    let same = ap (λ (l : Log g.row.T.Denot). items_of l.taken) c.in-Err.ensures.same in
+    (same_receiving (receives_on c.args.self.now.receiver) c.receive.new.pass c.args.self.now.pass SenderGone _ c.receive.ensures.seated c.args.self.now.seated same, nothing_told _ _ c.in-MayCome.is)

@@ -1,0 +1,36 @@
+//! How the receiving end waits.
+ghost use Rattle.std.specs.Prelude.{◌≡◌, true, IfOk, OnErr};
+ghost use Rattle.crossbeam_channel.specs.Claims.{IsSeatAt, view};
+ghost use Rattle.crossbeam_channel.specs.Ends.{receives_on};
+ghost use Rattle.dump_lanes.specs.LaneRule.{after_take};
+
+use crate::protocol::{InOrder, Log, Mark, Takes};
+use crossbeam_channel::{Pass, RecvError, RuledReceiver, TryRecvError};
+use std::sync::Wait;
+use std::thread;
+
+/// How often it gives its turn away before it sleeps: as long as waking another thread takes, since that is what a put
+/// into a lane costs whose receiver sleeps.
+const TURNS: u32 = 400;
+
+/// Takes the mark at the front, and waits for one. An error: none is there, and the sending end is gone.
+pub fn receive<T: Drop, R: Wait>(
+    rt: &R,
+    receiver: &RuledReceiver<Mark<T>, Log<T>, InOrder>,
+    pass: &mut Pass<Mark<T>, Log<T>>,
+) -> Result<Mark<T>, RecvError>
+    requires seated { IsSeatAt (receives_on receiver.now) pass.old }
+    requires may_take { (view pass.old).takes ≡ true }
+    ensures seated { IsSeatAt (receives_on receiver.now) pass.new }
+    ensures taken { IfOk result (λ mark. view pass.new ≡ after_take (view pass.old) mark) }
+    ensures same { OnErr result (view pass.new ≡ view pass.old) }
+{
+    for _ in 0..TURNS {
+        match receiver.try_recv_as::<Takes, R>(rt, pass) {
+            Ok(mark) => return Ok(mark),
+            Err(TryRecvError::Empty) => thread::yield_now(),
+            Err(TryRecvError::Disconnected) => return Err(RecvError),
+        }
+    }
+    receiver.recv_as::<Takes, R>(rt, pass)
+}
