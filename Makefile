@@ -1,5 +1,7 @@
 # make            proves and builds the program, build/svndumpfilter
 # make test       proves every crate from nothing, runs their tests, and then tests/ on the program that was so proved
+# make check      checks the crate that CRATE names, with what was proved of it before
+# make case       runs the case that NAME names
 # make bench      measures the program on made dumps, beside the filter on one thread, md5sum, sha1sum, cat and, where it
 #                 is installed, the stock svndumpfilter
 # make install    puts the program and its manual page under $(DESTDIR)$(PREFIX), by the name $(NAME)
@@ -18,7 +20,7 @@ BUILT := crates/dump_cli/out/dump_cli
 PAGE := docs/svndumpfilter.1
 SOURCES := $(shell tools/sources)
 
-.PHONY: all test bench install uninstall deb clean
+.PHONY: all test check case bench install uninstall deb clean
 .DELETE_ON_ERROR:
 
 all: $(PROGRAM)
@@ -43,6 +45,14 @@ test:
 	tests/install
 	@echo "make: comparing $(PROGRAM) with the stock svndumpfilter"
 	tests/stock $(PROGRAM)
+	@echo "make: looking whether the README lists the definitions of the statement"
+	tests/trusted
+
+check:
+	cd crates/$(CRATE) && rt check
+
+case: $(PROGRAM)
+	tests/run $(PROGRAM) $(NAME)
 
 # the same filter on one thread, over the same crates
 $(PLAIN): $(PROGRAM) bench/plain/crates/run_plain/src/main.rt

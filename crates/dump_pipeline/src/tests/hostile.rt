@@ -1,5 +1,5 @@
 //! Cut dumps and broken sinks, on one thread and over several.
-ghost use Rattle.std.specs.Prelude.{Some, []};
+ghost use Rattle.std.specs.Prelude.{◌≤◌, Some, []};
 ghost use Rattle.dump_writer.specs.SinkWords.{greatest};
 
 use super::gates::Holding;
@@ -11,6 +11,7 @@ use dump_rules::{Empty, Options, Side};
 use dump_text::FaultKind;
 use dump_writer::{MemorySink, Sink, SinkDown, Trouble};
 use std::alloc::Global;
+use std::process::Abort;
 use std::sync::Wait;
 use std::test::Fail;
 use std::thread::Threads;
@@ -87,19 +88,21 @@ fn a_dump_is_cut_at_each_byte(rt: HostRuntime) -> Result<(), Fail> {
             let answer = run_by(&rt, alloc, &CUTTABLE[..count], &options, by, &mut sink)?;
             let (wanted, written) = of_first(count);
             assert_eq!(rt; answer, wanted, "{count}");
-            assert_eq!(rt; sink.taken(), &CUTTABLE[..written], "{count}");
+            assert_eq!(rt; Some(sink.taken()), CUTTABLE.get(..written), "{count}");
         }
     }
     Ok(())
 }
 
-// By how many bytes a call takes at most.
-fn assert_broken_at_each_byte<R: Threads + Wait + Sync + std::process::Abort>(
+// The sink takes at most so many bytes a call, and breaks off at each byte in turn.
+fn assert_broken_at_each_byte<R: Threads + Wait + Sync + Abort>(
     rt: &R,
     alloc: Global,
     by: Option<(usize, usize)>,
     most: usize,
-) -> Result<(), Fail> {
+) -> Result<(), Fail>
+    requires some { 1 ≤ most }
+{
     let options = options(alloc, Side::Include, Empty::Pad)?;
     for room in 0..=TRUNK2 {
         let written = room as u64;

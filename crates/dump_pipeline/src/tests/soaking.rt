@@ -91,7 +91,7 @@ fn clean_dumps_are_filtered_as_on_one_thread(rt: HostRuntime) -> Result<(), Fail
             alloc,
             DUMP,
             &options(alloc, Side::Include, Empty::Pad)?,
-            1000..1400
+            1000..2500
         )?
     );
     Ok(())
@@ -110,7 +110,7 @@ fn dumps_with_a_fault_are_filtered_as_on_one_thread(rt: HostRuntime) -> Result<(
             alloc,
             &dump,
             &options(alloc, Side::Include, Empty::Pad)?,
-            5000..5400
+            5000..6500
         )?
     );
     Ok(())
