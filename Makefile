@@ -55,10 +55,9 @@ case: $(PROGRAM)
 	tests/run $(PROGRAM) $(NAME)
 
 # the same filter on one thread, over the same crates
-$(PLAIN): $(PROGRAM) bench/plain/crates/run_plain/src/main.rt
+$(PLAIN): $(PROGRAM) bench/plain bench/run_plain.rt.in
 	@echo "make: building $@"
-	@cd bench/plain/crates/run_plain && rt run -- / < ../../../../tests/cases/include_keeps_what_a_prefix_matches/stdin > /dev/null
-	@cp bench/plain/crates/run_plain/out/run_plain $@
+	@bench/plain
 
 bench: $(PROGRAM) $(PLAIN)
 	bench/measure $(PROGRAM) $(PLAIN)

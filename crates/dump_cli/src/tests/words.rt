@@ -383,12 +383,23 @@ fn both_drop_flags_are_refused_as_such(rt: HostRuntime) {
 // Run with each allocation refused in turn: there is an order, or no memory.
 #[test]
 fn an_order_or_no_memory(rt: HostRuntime) {
-    let words = ["svndumpfilter", "exclude", "--workers", "2", "--quiet", "a", "b"];
+    let words = [
+        "svndumpfilter",
+        "exclude",
+        "--workers",
+        "2",
+        "--quiet",
+        "a",
+        "b",
+    ];
     match options_of(rt.alloc(), &words) {
         Ok(order) => {
             assert_eq!(rt; order.options.side(), Side::Exclude);
             assert_eq!(rt; order.options.prefix(1), Some(b"b".as_slice()));
-            assert_eq!(rt; (order.plan.workers(), order.plan.window(), order.quiet), (2, 64, true));
+            assert_eq!(rt;
+                (order.plan.workers(), order.plan.window(), order.quiet),
+                (2, 64, true)
+            );
         }
         Err(usage) => assert_eq!(rt; usage, Usage::Memory),
     }

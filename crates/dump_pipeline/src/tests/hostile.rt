@@ -140,7 +140,11 @@ impl Sink for WornOut {
     ghost failure_count = { λ _. greatest };
 
     fn accept(&mut self, bytes: &[u8]) -> Result<usize, SinkDown> {
-        if bytes.is_empty() { Ok(0) } else { Err(SinkDown) }
+        if bytes.is_empty() {
+            Ok(0)
+        } else {
+            Err(SinkDown)
+        }
     }
 
     fn failures(&self) -> u64 {
@@ -171,7 +175,15 @@ fn a_cut_header_behind_a_wrong_digest_is_not_told(rt: HostRuntime) -> Result<(),
     dump.extend_from_slice(b"junk")?;
     let gate = Holding::new(2, 1 << 5, 0);
     let mut sink = MemorySink::new(alloc, 1000, Trouble::Never);
-    let answer = run(&rt, alloc, &dump, &everything(alloc)?, plan(4, 64)?, &gate, &mut sink);
+    let answer = run(
+        &rt,
+        alloc,
+        &dump,
+        &everything(alloc)?,
+        plan(4, 64)?,
+        &gate,
+        &mut sink,
+    );
     assert_eq!(rt; answer, SHA1_IN_RECORD_2);
     assert_eq!(rt; sink.taken(), VERSION);
     assert!(rt; !gate.is_late());
