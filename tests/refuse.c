@@ -32,16 +32,25 @@ __attribute__((constructor)) static void begin(void) {
     counts = 1;
 }
 
-/* the program ends by _exit, behind which no destructor runs */
-void _exit(int status) {
+static void tell(void) {
     const char *path = getenv("REFUSE_REPORT");
     FILE *report;
-    counts = 0;
+    if (!atomic_exchange(&counts, 0))
+        return;
     report = path ? fopen(path, "w") : NULL;
     if (report) {
         fprintf(report, "growths %lu\nstarts %lu\n", growths, starts);
         fclose(report);
     }
+}
+
+__attribute__((destructor)) static void end(void) {
+    tell();
+}
+
+/* where a program ends so, no destructor runs */
+void _exit(int status) {
+    tell();
     syscall(SYS_exit_group, status);
     __builtin_unreachable();
 }
