@@ -1,5 +1,6 @@
 //! What no clause says: a worked dump, sinks that fail at each of its bytes, and memory that is refused.
 
+mod copies;
 mod digests;
 mod gates;
 mod hostile;

@@ -123,11 +123,28 @@ fn assert_broken_at_each_byte<R: Threads + Wait + Sync + Abort>(
 
 #[test]
 fn a_sink_breaks_off_at_each_byte(rt: HostRuntime) -> Result<(), Fail> {
-    for by in PLANS {
-        assert_broken_at_each_byte(&rt, rt.alloc(), by, 1)?;
-        assert_broken_at_each_byte(&rt, rt.alloc(), by, 64)?;
-    }
-    Ok(())
+    assert_broken_at_each_byte(&rt, rt.alloc(), None, 1)?;
+    assert_broken_at_each_byte(&rt, rt.alloc(), None, 64)
+}
+
+#[test]
+fn a_sink_breaks_off_at_each_byte_of_one_worker(rt: HostRuntime) -> Result<(), Fail> {
+    assert_broken_at_each_byte(&rt, rt.alloc(), Some((1, 1)), 64)
+}
+
+#[test]
+fn a_sink_breaks_off_in_small_steps_of_one_worker(rt: HostRuntime) -> Result<(), Fail> {
+    assert_broken_at_each_byte(&rt, rt.alloc(), Some((1, 1)), 1)
+}
+
+#[test]
+fn a_sink_breaks_off_at_each_byte_of_four_workers(rt: HostRuntime) -> Result<(), Fail> {
+    assert_broken_at_each_byte(&rt, rt.alloc(), Some((4, 64)), 64)
+}
+
+#[test]
+fn a_sink_breaks_off_in_small_steps_of_four_workers(rt: HostRuntime) -> Result<(), Fail> {
+    assert_broken_at_each_byte(&rt, rt.alloc(), Some((4, 64)), 1)
 }
 
 /// A sink that has failed so often that its count stays.
