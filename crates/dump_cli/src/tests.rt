@@ -45,12 +45,17 @@ fn input_is_read_whole(rt: HostRuntime) -> Result<(), Fail> {
     let input = read_all(alloc, &mut reader)?;
     assert!(rt; input.as_slice() == long.as_slice());
     assert!(rt; reader.is_empty());
+    Ok(())
+}
+
+#[test]
+fn input_that_comes_in_drops_is_read_whole(rt: HostRuntime) -> Result<(), Fail> {
     let mut dripping = Dripping {
         rest: b"some text",
         interruptions: 3,
         fails: false,
     };
-    let input = read_all(alloc, &mut dripping)?;
+    let input = read_all(rt.alloc(), &mut dripping)?;
     assert_eq!(rt; input.as_slice(), b"some text".as_slice());
     Ok(())
 }
@@ -67,7 +72,7 @@ fn an_error_is_no_end(rt: HostRuntime) {
 }
 
 #[test]
-fn lines_say_how_a_run_went(rt: HostRuntime) -> Result<(), Fail> {
+fn a_line_has_the_counts_of_a_clean_run(rt: HostRuntime) -> Result<(), Fail> {
     let mut lines = Vec::new(rt.alloc());
     let report = Report {
         revisions_kept: 2,
@@ -77,22 +82,38 @@ fn lines_say_how_a_run_went(rt: HostRuntime) -> Result<(), Fail> {
         texts_checked: 18_446_744_073_709_551_615,
     };
     write_report(&mut lines, report)?;
+    let wanted =
+        "revisions kept 2, dropped 0; nodes kept 3, dropped 1; texts checked 18446744073709551615\n";
+    assert_eq!(rt; lines.as_slice(), wanted.as_bytes());
+    Ok(())
+}
+
+#[test]
+fn lines_tell_failures(rt: HostRuntime) {
+    let mut lines = Vec::new(rt.alloc());
+    for (failure, written) in [
+        (Failure::Sink, 100),
+        (Failure::Memory, 0),
+        (Failure::Threads, u64::MAX),
+    ] {
+        write_failure(&mut lines, failure, written);
+    }
+    let wanted = "svndumpfilter: failure 20 Sink after 100 bytes\n\
+        svndumpfilter: failure 21 Memory after 0 bytes\n\
+        svndumpfilter: failure 22 Threads after 18446744073709551615 bytes\n";
+    assert_eq!(rt; lines.as_slice(), wanted.as_bytes());
+}
+
+#[test]
+fn lines_tell_what_else_ends_a_run(rt: HostRuntime) {
+    let mut lines = Vec::new(rt.alloc());
     write_fault(&mut lines, FaultKind::Sha1, 2, 151);
-    write_failure(&mut lines, Failure::Sink, 100);
-    write_failure(&mut lines, Failure::Memory, 0);
-    write_failure(&mut lines, Failure::Threads, u64::MAX);
     write_unread(&mut lines);
     write_usage(&mut lines);
-    let wanted =
-        "revisions kept 2, dropped 0; nodes kept 3, dropped 1; texts checked 18446744073709551615\n\
-        svndumpfilter: fault 11 Sha1 in record 2 at byte 151\n\
-        svndumpfilter: failure 20 Sink after 100 bytes\n\
-        svndumpfilter: failure 21 Memory after 0 bytes\n\
-        svndumpfilter: failure 22 Threads after 18446744073709551615 bytes\n\
+    let wanted = "svndumpfilter: fault 11 Sha1 in record 2 at byte 151\n\
         svndumpfilter: failure 24 Source after 0 bytes\n\
         usage: svndumpfilter include|exclude [OPTIONS] PREFIX...\n";
     assert_eq!(rt; lines.as_slice(), wanted.as_bytes());
-    Ok(())
 }
 
 // A terminal that is gone.

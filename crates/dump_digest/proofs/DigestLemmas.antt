@@ -5,7 +5,7 @@ use Rattle.dump_text.specs.HeaderLine.{has_header, header_value}
 use Rattle.dump_records.specs.RecordText.{DumpRecord}
 use Rattle.dump_records.specs.RecordViews.{part_with}
 use Rattle.dump_text.proofs.BlockLemmas.{has_value}
-use Rattle.dump_records.proofs.HeaderLemmas.{some_copied}
+use Rattle.dump_text.proofs.ValueLemmas.{some_copied}
 use Rattle.dump_digest.specs.RecordParts.{has_text}
 use Rattle.dump_digest.specs.Checks.{TellsOther, HasOtherDigest, is_told_text}
 

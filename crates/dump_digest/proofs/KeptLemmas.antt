@@ -1,11 +1,15 @@
 -- Whether a node is kept, by its path.
-use Rattle.std.proofs.Common.{◌≡◌, List, ℕ, false, true, refl, sym, ap, ◌∙◌, Some, None, is_some}
-use Rattle.dump_text.specs.Names.{path_name}
+use Rattle.std.proofs.Common.{◌≡◌, List, ℕ, false, true, not, refl, sym, ap, ◌∙◌, Some, None, is_some}
+use Rattle.dump_text.specs.Names.{path_name, revision_name, copy_path_name}
 use Rattle.dump_text.specs.HeaderLine.{has_header, header_value}
-use Rattle.dump_records.specs.RecordText.{DumpRecord}
+use Rattle.dump_records.specs.HeaderRules.{header_number, has_bad_number}
+use Rattle.dump_records.specs.RecordText.{DumpRecord, is_lawful}
+use Rattle.dump_records.proofs.HeaderLemmas.{revision_there}
+use Rattle.dump_records.proofs.Unique.{keeps}
+use Rattle.dump_text.proofs.BoolLemmas.{not_so}
 use Rattle.dump_text.proofs.BlockLemmas.{has_value}
 use Rattle.dump_rules.specs.Settings.{Settings, keeps_path}
-use Rattle.dump_digest.specs.RecordParts.{is_kept_node}
+use Rattle.dump_digest.specs.RecordParts.{is_revision, is_kept_node, has_lost_source}
 
 pub kept_some : (settings : Settings) (r : DumpRecord) (path : List ℕ) → header_value path_name r.headers ≡ Some path
     → keeps_path settings path ≡ is_kept_node settings r
@@ -17,3 +21,20 @@ pub kept_none : (settings : Settings) (r : DumpRecord) → header_value path_nam
 kept_none settings r is =
     let node : has_header path_name r.headers ≡ false = sym (has_value path_name r.headers) ∙ ap is_some is in
     sym (rw node refl)
+
+-- a copy's path is kept or lost
+pub lost_some : (settings : Settings) (r : DumpRecord) (path : List ℕ) → header_value copy_path_name r.headers ≡ Some path
+    → not (keeps_path settings path) ≡ has_lost_source settings r
+lost_some settings r path is =
+    let copy : has_header copy_path_name r.headers ≡ true = sym (has_value copy_path_name r.headers) ∙ ap is_some is in
+    sym (rw (copy, is) refl)
+
+pub lost_none : (settings : Settings) (r : DumpRecord) → header_value copy_path_name r.headers ≡ None → false ≡ has_lost_source settings r
+lost_none settings r is =
+    let copy : has_header copy_path_name r.headers ≡ false = sym (has_value copy_path_name r.headers) ∙ ap is_some is in
+    sym (rw copy refl)
+
+-- a record is a revision exactly where it has a revision's number
+pub revision_told : (r : DumpRecord) (number : ℕ) → is_lawful number r.headers ≡ true
+    → is_some (header_number revision_name r.headers) ≡ is_revision r
+revision_told r number lawful = sym (revision_there r.headers (not_so (has_bad_number r.headers) (keeps number r.headers lawful).number_ok))

@@ -1,5 +1,5 @@
 -- What a verdict's parts mean together.
-use Rattle.std.proofs.Common.{◌≡◌, ◌↔◌, ℕ, Bool, true, false, not, ◌||◌, List, refl, sym, ap, subst, ◌∙◌, Option, is_some, IsTrue, IsFalse, IsSome}
+use Rattle.std.proofs.Common.{◌≡◌, ◌↔◌, ℕ, Bool, true, false, ◌||◌, List, refl, sym, subst, ◌∙◌, Option, is_some, IsTrue, IsFalse, IsSome}
 use Rattle.dump_text.specs.Names.{md5_name, sha1_name}
 use Rattle.dump_text.specs.PropertyList.{HasProperties}
 use Rattle.dump_records.specs.RecordText.{DumpRecord}
@@ -31,9 +31,8 @@ unread props found means = (λ none has. clash (means.1 has) none, λ none. by_f
 
 -- properties that aren't asked, and properties that are
 
-pub not_asked : (r : DumpRecord) (revision : Bool) → revision ≡ false → IsFalse (is_revision r)
-    → IsFalse (not revision) ↔ (IsTrue (is_revision r) × ¬ HasProperties r.props)
-not_asked r revision is none = (λ e. let bad : true ≡ false = sym (ap not is) ∙ e in cc, λ bad. absurd (clash bad.0 none))
+pub not_asked : (r : DumpRecord) → IsFalse (is_revision r) → IsFalse true ↔ (IsTrue (is_revision r) × ¬ HasProperties r.props)
+not_asked r none = (λ e. cc, λ bad. absurd (clash bad.0 none))
 
 pub found_properties : {T : Type 0} (props bytes : List ℕ) (found : Option T) (ok : Bool) → bytes ≡ props → ok ≡ is_some found
     → (IsSome found ↔ HasProperties bytes) → IsFalse ok ↔ (¬ HasProperties props)

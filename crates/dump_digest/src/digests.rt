@@ -84,9 +84,8 @@ pub(crate) fn text_check(item: &Record<'_>) -> TextCheck
             checked: false,
         };
     };
-    let block = item.block();
-    let md5 = block.get(b"Text-content-md5");
-    let sha1 = block.get(b"Text-content-sha1");
+    let md5 = item.md5();
+    let sha1 = item.sha1();
     TextCheck {
         md5_ok: md5_ok(md5, text),
         sha1_ok: sha1_ok(sha1, text),

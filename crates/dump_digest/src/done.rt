@@ -1,23 +1,33 @@
 //! A record that was checked.
 ghost use Rattle.dump_records.specs.RecordViews.{record_item};
-ghost use Rattle.dump_digest.specs.VerdictMeaning.{IsVerdict};
+ghost use Rattle.dump_digest.specs.ContentViews.{IsContent};
 
-use crate::verdict::{Verdict, check};
+use crate::content::{Content, read_content};
+use crate::verdict::Verdict;
 use dump_records::Record;
 use dump_rules::Options;
+use dump_text::{FaultKind, Props};
 
-/// A record with its verdict, and the options that it was judged under.
+/// A record with its verdict, the options that it was judged under, and what was read for it. Who filters it reads none
+/// of its properties to find out what the check knew.
 #[derive(Clone, Copy)]
 pub struct Done<'a> {
     item: Record<'a>,
     options: &'a Options,
-    verdict: Verdict,
-    pub ghost judged: { IsVerdict options.now (record_item item) verdict },
+    content: Content<'a>,
+    pub ghost judged: { IsContent options.now (record_item item) content },
 }
 
 impl<'a> Done<'a> {
-    ghost use Rattle.std.specs.Prelude.{◌≡◌};
+    ghost use Rattle.std.specs.Prelude.{◌≡◌, ◌&&◌, List, IfSome, IsTrue, is_some};
+    ghost use Rattle.std.specs.List.{list_any};
+    ghost use Rattle.dump_text.specs.PropertyList.{IsPropertyBlock, Property};
+    ghost use Rattle.dump_text.specs.PropertyViews.{props_bytes};
+    ghost use Rattle.dump_digest.specs.ContentViews.{is_asked, ArePropertiesOf};
     ghost use Rattle.dump_digest.specs.DoneViews.{done_record, done_settings, done_verdict};
+    ghost use Rattle.dump_digest.specs.MergeFaults.{merge_fault};
+    ghost use Rattle.dump_digest.specs.RecordParts.{has_lost_source, is_kept_node, is_mergeinfo};
+    ghost use Rattle.dump_digest.specs.VerdictMeaning.{IsVerdict};
 
     /// The record, checked under these options.
     pub fn of(item: Record<'a>, options: &'a Options) -> Done<'a>
@@ -27,7 +37,7 @@ impl<'a> Done<'a> {
         Done {
             item,
             options,
-            verdict: check(&item, options),
+            content: read_content(&item, options),
         }
     }
 
@@ -43,6 +53,66 @@ impl<'a> Done<'a> {
         ensures value { result ≡ done_verdict self.now }
         ensures judged { IsVerdict (done_settings self.now) (record_item (done_record self.now)) result }
     {
-        self.verdict
+        self.content.verdict
+    }
+
+    /// Whether it is a node that the options keep.
+    pub fn is_kept(&self) -> bool
+        ensures { result ≡ is_kept_node (done_settings self.now) (record_item (done_record self.now)) }
+    {
+        self.content.kept
+    }
+
+    /// The properties of a revision or of a kept node, where they are a property block.
+    pub fn props(&self) -> Option<Props<'a>>
+        ensures found { is_some result
+            ≡ (is_asked (done_settings self.now) (record_item (done_record self.now)) && (done_verdict self.now).props_ok) }
+        ensures bytes { IfSome result (λ props. props_bytes props ≡ (record_item (done_record self.now)).props) }
+        ensures read { let r = record_item (done_record self.now) in
+            IsTrue (is_asked (done_settings self.now) r) → ArePropertiesOf r result }
+    {
+        self.content.props
+    }
+
+    /// Whether a kept node has mergeinfo; its verdict says whether all of it can be read.
+    pub fn has_mergeinfo(&self) -> bool
+        ensures { let r = record_item (done_record self.now) in IsTrue (is_kept_node (done_settings self.now) r)
+            → IsTrue (done_verdict self.now).merge_ok → (ps : List Property) → IsPropertyBlock r.props ps
+            → result ≡ list_any is_mergeinfo ps }
+    {
+        match self.content.mergeinfo {
+            Some(mergeinfo) => mergeinfo.found,
+            None => false,
+        }
+    }
+
+    /// The fault of a kept node's mergeinfo, in a dump whose first revision has the number `first`, at the present
+    /// revision `present`.
+    pub fn merge_fault(&self, first: u64, present: u64) -> Option<FaultKind>
+        ensures { let r = record_item (done_record self.now) in IsTrue (is_kept_node (done_settings self.now) r)
+            → (ps : List Property) → IsPropertyBlock r.props ps
+            → result ≡ merge_fault (done_settings self.now) first present (done_verdict self.now).merge_ok ps }
+    {
+        let Some(mergeinfo) = self.content.mergeinfo else {
+            return Some(FaultKind::MergeInfo);
+        };
+        if mergeinfo.said.misses_source() {
+            Some(FaultKind::MergeSource)
+        } else if mergeinfo
+            .said
+            .has_foreign_number(self.options, first, present)
+        {
+            Some(FaultKind::MergeRange)
+        } else {
+            None
+        }
+    }
+
+    /// Whether a kept node is copied from a path that isn't kept.
+    pub fn has_lost_source(&self) -> bool
+        ensures { let r = record_item (done_record self.now) in IsTrue (is_kept_node (done_settings self.now) r)
+            → result ≡ has_lost_source (done_settings self.now) r }
+    {
+        self.content.lost_source
     }
 }

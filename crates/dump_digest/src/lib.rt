@@ -1,8 +1,8 @@
 //! The verdict on a record: what can be said of its content by itself, before the filter sees it.
 //!
 //! [`check`] gives the [`Verdict`] on a record under some options. A [`Done`] is a record with its
-//! verdict, made by [`Done::of`], so that who holds one knows that the verdict is this record's.
-//! Records don't depend on one another here, so they may be checked in any order.
+//! verdict and what was read for it, made by [`Done::of`], so that who holds one knows that both are
+//! this record's. Records don't depend on one another here, so they may be checked in any order.
 //!
 //! ```
 //! let done = Done::of(record, &options);
@@ -18,14 +18,16 @@
 //! as the order of revisions, copy sources and the numbers in mergeinfo, isn't asked here.
 #![tactic(auto)]
 
+mod content;
 mod digests;
 mod done;
 mod kept;
-mod merge;
+mod mergeinfo;
 mod verdict;
 
 pub use done::Done;
 pub use kept::is_kept;
+pub use mergeinfo::is_mergeinfo;
 pub use verdict::{Verdict, check};
 
 #[cfg(test)]

@@ -2,6 +2,7 @@
 use crate::{Done, Verdict, check, is_kept};
 use dump_records::{Cut, Cutter, Record};
 use dump_rules::{Empty, Options, Side};
+use dump_text::FaultKind;
 use std::alloc::Global;
 use std::test::Fail;
 
@@ -250,5 +251,38 @@ fn mergeinfo_of_kept_nodes_is_checked(rt: HostRuntime) -> Result<(), Fail> {
         let found = verdict_on_values(rt.alloc(), header, first, second, end)?;
         assert_eq!(rt; found, verdict, "{header} {first} {second} {end}");
     }
+    Ok(())
+}
+
+/// A kept node with mergeinfo, copied from a path that isn't kept.
+const COPY: &str = "Node-path: trunk\nNode-copyfrom-rev: 1\nNode-copyfrom-path: tags\n\
+Prop-content-length: 45\nContent-length: 45\n\nK 13\nsvn:mergeinfo\nV 10\n/trunk:2-4\nPROPS-END\n\n\n";
+
+#[test]
+fn a_done_tells_what_its_check_read(rt: HostRuntime) -> Result<(), Fail> {
+    let options = Options::new(
+        rt.alloc(),
+        Side::Include,
+        &[b"trunk"],
+        Empty::Pad,
+        true,
+        false,
+        false,
+    )?;
+    let dump = format!(in rt.alloc();
+        "SVN-fs-dump-format-version: 2\n\n{COPY}Node-path: tags\n\n\n"
+    )?;
+    let done = Done::of(record(dump.as_bytes(), 1)?, &options);
+    assert!(rt; done.is_kept() && done.has_mergeinfo() && done.has_lost_source());
+    let props = done.props().ok_or("no properties")?;
+    assert_eq!(rt;
+        props.get(b"svn:mergeinfo").ok_or("no mergeinfo")?,
+        b"/trunk:2-4".as_slice()
+    );
+    assert_eq!(rt; done.merge_fault(2, 4), None);
+    assert_eq!(rt; done.merge_fault(3, 4), Some(FaultKind::MergeRange));
+    assert_eq!(rt; done.merge_fault(2, 3), Some(FaultKind::MergeRange));
+    let dropped = Done::of(record(dump.as_bytes(), 2)?, &options);
+    assert!(rt; !dropped.is_kept() && dropped.props().is_none());
     Ok(())
 }

@@ -10,9 +10,10 @@ use Rattle.dump_rules.specs.Renumbering.{KeptRevisions, new_number}
 use Rattle.dump_digest.specs.RecordParts.{is_revision, is_node, is_kept_node}
 use Rattle.dump_filter.specs.FilterLaws.{keep_all}
 use Rattle.dump_filter.specs.Groups.{group_of, keeps_group, revision_number, kept_revisions}
-use Rattle.dump_filter.specs.NewHeaders.{written_number, is_copy, is_whole_file}
+use Rattle.dump_filter.specs.NewHeaders.{written_number, is_whole_file}
+use Rattle.dump_digest.specs.RecordParts.{is_copy}
 use Rattle.dump_filter.specs.RecordFaults.{HoldsOfRecord, AreFaultFree}
-use Rattle.dump_filter.specs.Shape.{kept_numbers}
+use Rattle.dump_filter.specs.Knowledge.{kept_numbers}
 use Rattle.dump_filter.specs.Written.{is_written}
 use Rattle.dump_filter.proofs.AgainNumbers.{kept_revision, dropped_revision, no_revision, new_number_rises}
 use Rattle.dump_filter.proofs.AgainOrder.{RisesFrom, present_behind, AreInOrder, in_order, order_fits}

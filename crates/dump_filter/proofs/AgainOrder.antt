@@ -11,7 +11,7 @@ use Rattle.dump_digest.specs.RecordParts.{is_revision, is_node}
 use Rattle.dump_filter.specs.Groups.{revision_number, revision_numbers, present_revision}
 use Rattle.dump_filter.specs.RecordFaults.{ends_in_group, IsOutOfOrder, AreFaultFree}
 use Rattle.dump_text.proofs.BoolLemmas.{absurd_bool}
-use Rattle.dump_filter.proofs.TurnLemmas.{last_is}
+use Rattle.dump_filter.proofs.StandsNext.{last_is}
 
 -- whether a revision of this number may follow the present one
 abbrev pub RisesFrom : Option ℕ → ℕ → Type 0

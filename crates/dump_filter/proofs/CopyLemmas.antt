@@ -1,48 +1,48 @@
--- The new copy source of a kept node, and the image of a number behind a waiting revision.
-use Rattle.std.proofs.Common.{◌≡◌, ℕ, ◌+◌, ◌<◌, ◌≤◌, true, false, not, List, length, refl, sym, ap, ◌∙◌, arith, Option, Some, None, is_some}
-use Rattle.dump_text.specs.Names.{copy_path_name}
-use Rattle.dump_text.specs.HeaderLine.{has_header, header_value}
-use Rattle.dump_records.specs.RecordText.{DumpRecord}
-use Rattle.dump_text.proofs.BlockLemmas.{has_value}
-use Rattle.dump_rules.specs.Settings.{Settings, keeps_path}
+-- The new copy source of a kept node, and the image of a number behind a pending revision.
+use Rattle.std.proofs.Common.{◌≡◌, ℕ, ◌+◌, ◌<◌, ◌≤◌, length, sym, subst, Option, Some, None, MatchOption}
 use Rattle.dump_rules.specs.Renumbering.{KeptRevisions, image}
 use Rattle.dump_rules.proofs.ReachLemmas.{image_pushed, image_at_pushed, length_fits}
 use Rattle.dump_filter.specs.Groups.{revision_number}
-use Rattle.dump_filter.specs.NewHeaders.{has_lost_source}
-use Rattle.dump_filter.specs.Turns.{Waited, front_kept}
-use Rattle.dump_filter.specs.Shape.{AreKept}
-use Rattle.dump_filter.proofs.KeptLemmas.{below_waiting}
+use Rattle.dump_filter.specs.declared.revisions.Revisions.{Revisions}
+use Rattle.dump_filter.specs.State.{PendingRevision, no_revisions}
+use Rattle.dump_filter.specs.State.PresentGroup.{NoGroup, Pending}
+use Rattle.dump_filter.specs.Advance.{front_kept}
+use Rattle.dump_filter.specs.Knowledge.{AreRising, AreKept}
+use Rattle.dump_filter.proofs.KeptLemmas.{below_pending}
 
-pub lost_some : (settings : Settings) (r : DumpRecord) (path : List ℕ) → header_value copy_path_name r.headers ≡ Some path
-    → not (keeps_path settings path) ≡ has_lost_source settings r
-lost_some settings r path is =
-    let copied : has_header copy_path_name r.headers ≡ true = sym (has_value copy_path_name r.headers) ∙ ap is_some is in
-    sym (rw (copied, is) refl)
+-- a pending revision is that of a group
+no_pending : (w : PendingRevision) → Pending w ≡ NoGroup → ⊥
+no_pending w e = cc
 
-pub lost_none : (settings : Settings) (r : DumpRecord) → header_value copy_path_name r.headers ≡ None → false ≡ has_lost_source settings r
-lost_none settings r is =
-    let copied : has_header copy_path_name r.headers ≡ false = sym (has_value copy_path_name r.headers) ∙ ap is_some is in
-    sym (rw copied refl)
+-- where a revision is pending, it is the present one
+pub pending_rising : (revisions : Revisions) (w : PendingRevision) → AreKept revisions (Pending w)
+    → AreRising revisions.kept (revision_number w.revision) (Pending w)
+pending_rising revisions w = by_present revisions.present
+  where
+    by_present : (p : Option ℕ)
+        → MatchOption p ((revisions.kept ≡ no_revisions.kept) × (Pending w ≡ NoGroup))
+        (λ present. AreRising revisions.kept present (Pending w))
+        → AreRising revisions.kept (revision_number w.revision) (Pending w)
+    by_present None (none, group) = absurd (no_pending w group)
+    by_present (Some p) up = subst (λ n. AreRising revisions.kept n (Pending w)) (sym up.waits) up
 
-some_none : (w : Waited) → Some w ≡ None → ⊥
-some_none w e = cc
+-- the number that a pending revision gets is at most its own
+pub next_fits : (revisions : Revisions) (w : PendingRevision) → AreKept revisions (Pending w)
+    → revisions.kept.first + length revisions.kept.numbers ≤ revision_number w.revision
+next_fits revisions w kept =
+    let up = pending_rising revisions w kept in
+    length_fits revisions.kept (revision_number w.revision) up.rise
+    (below_pending revisions.kept w (revision_number w.revision) up) up.low
 
--- the number that a waiting revision gets is at most its own
-pub next_fits : (kept : KeptRevisions) (present : Option ℕ) (w : Waited) → AreKept kept present (Some w)
-    → kept.first + length kept.numbers ≤ revision_number w.revision
-next_fits kept None w up = absurd (some_none w up.1)
-next_fits kept (Some p) w up =
-    let at = up.waits in
-    let low = up.low in
-    length_fits kept (revision_number w.revision) up.rise (below_waiting kept w p up) (omega (arith, at, low))
-
--- the image of a number from the waiting revision on
-pub image_at_waiting : (kept : KeptRevisions) (present : Option ℕ) (w : Waited) (n : ℕ) → AreKept kept present (Some w)
-    → revision_number w.revision ≤ n → image (front_kept kept (Some w)) n ≡ Some (kept.first + length kept.numbers)
-image_at_waiting kept None w n up low = absurd (some_none w up.1)
-image_at_waiting kept (Some p) w n up low = image_at_pushed kept (revision_number w.revision) n (below_waiting kept w p up) low
+-- the image of a number from the pending revision on
+pub image_at_pending : (revisions : Revisions) (w : PendingRevision) (n : ℕ) → AreKept revisions (Pending w)
+    → revision_number w.revision ≤ n
+    → image (front_kept revisions.kept (Pending w)) n ≡ Some (revisions.kept.first + length revisions.kept.numbers)
+image_at_pending revisions w n kept low =
+    image_at_pushed revisions.kept (revision_number w.revision) n
+    (below_pending revisions.kept w (revision_number w.revision) (pending_rising revisions w kept)) low
 
 -- the image of a number below it
-pub image_before_waiting : (kept : KeptRevisions) (w : Waited) (n : ℕ) → n < revision_number w.revision
-    → image (front_kept kept (Some w)) n ≡ image kept n
-image_before_waiting kept w n low = image_pushed kept (revision_number w.revision) n low
+pub image_before_pending : (kept : KeptRevisions) (w : PendingRevision) (n : ℕ) → n < revision_number w.revision
+    → image (front_kept kept (Pending w)) n ≡ image kept n
+image_before_pending kept w n low = image_pushed kept (revision_number w.revision) n low

@@ -1,5 +1,5 @@
 -- The kept revisions so far, and those of the whole list.
-use Rattle.std.proofs.Common.{◌≡◌, ℕ, ◌+◌, ◌<◌, ◌≤◌, Bool, true, false, List, [], ◌∷◌, ◌++◌, length, refl, sym, ap, ◌∙◌, subst, arith, append_assoc, Option, Some, None, unwrap_or, All, if◌then◌else◌}
+use Rattle.std.proofs.Common.{◌≡◌, ℕ, ◌+◌, ◌<◌, ◌≤◌, Bool, true, false, List, [], ◌∷◌, ◌++◌, length, refl, sym, ap, ◌∙◌, subst, arith, append_assoc, Option, Some, None, unwrap_or, MatchOption, All, if◌then◌else◌}
 use Rattle.std.proofs.lemmas.List.{append-nil}
 use Rattle.std.proofs.lemmas.List.Elements.{All-append, All-cons, All-head, All-nil, All-tail}
 use Rattle.dump_records.specs.RecordText.{DumpRecord}
@@ -8,8 +8,11 @@ use Rattle.dump_rules.specs.Renumbering.{KeptRevisions, new_number, image}
 use Rattle.dump_rules.proofs.ReachLemmas.{new_number_above, new_number_pushed, image_pushed, rise_pushed}
 use Rattle.dump_filter.specs.Groups.{revision_number}
 use Rattle.dump_filter.specs.NewHeaders.{written_number}
-use Rattle.dump_filter.specs.Turns.{Waited, stays, next_number, with_kept, front_kept, end_kept}
-use Rattle.dump_filter.specs.Shape.{open_from, GoesOn, AreRising, AreKept}
+use Rattle.dump_filter.specs.declared.revisions.Revisions.{Revisions}
+use Rattle.dump_filter.specs.State.{PendingRevision, PresentGroup, no_revisions, node_revision}
+use Rattle.dump_filter.specs.State.PresentGroup.{NoGroup, Pending, Written}
+use Rattle.dump_filter.specs.Advance.{stays, next_number, with_kept, front_kept, end_kept}
+use Rattle.dump_filter.specs.Knowledge.{open_from, GoesOn, AreRising, AreKept}
 
 -- the same claim of each number, weakened
 pub all_weaker : (P Q : ℕ → Type 0) (ns : List ℕ) → ((n : ℕ) → P n → Q n) → All P ns → All Q ns
@@ -20,15 +23,18 @@ all_one P n p = All-cons P n [] p (All-nil P)
 
 -- later numbers change nothing below them
 number_goes_on : (first : ℕ) (numbers later : List ℕ) (m : ℕ) → All (λ n. m ≤ n) later
-    → new_number (record { first = first; numbers = numbers ++ later }) m ≡ new_number (record { first = first; numbers = numbers }) m
-number_goes_on first numbers [] m all = ap (λ ns. new_number (record { first = first; numbers = ns }) m) (append-nil numbers)
+    → new_number (record { first = first; numbers = numbers ++ later }) m
+    ≡ new_number (record { first = first; numbers = numbers }) m
+number_goes_on first numbers [] m all =
+    ap (λ ns. new_number (record { first = first; numbers = ns }) m) (append-nil numbers)
 number_goes_on first numbers (n ∷ later) m all =
     ap (λ ns. new_number (record { first = first; numbers = ns }) m) (sym (append_assoc numbers (n ∷ []) later))
     ∙ number_goes_on first (numbers ++ n ∷ []) later m (All-tail (λ k. m ≤ k) n later all)
     ∙ new_number_pushed (record { first = first; numbers = numbers }) n m (All-head (λ k. m ≤ k) n later all)
 
 image_goes_on : (first : ℕ) (numbers later : List ℕ) (m : ℕ) → All (λ n. m < n) later
-    → image (record { first = first; numbers = numbers ++ later }) m ≡ image (record { first = first; numbers = numbers }) m
+    → image (record { first = first; numbers = numbers ++ later }) m
+    ≡ image (record { first = first; numbers = numbers }) m
 image_goes_on first numbers [] m all = ap (λ ns. image (record { first = first; numbers = ns }) m) (append-nil numbers)
 image_goes_on first numbers (n ∷ later) m all =
     ap (λ ns. image (record { first = first; numbers = ns }) m) (sym (append_assoc numbers (n ∷ []) later))
@@ -40,20 +46,24 @@ pub whole_is : (kept : KeptRevisions) (from : ℕ) (whole : KeptRevisions) (g : 
 whole_is kept from whole g = λ i. record { first = g.first_is i; numbers = g.numbers_are i }
 
 -- the image of a number below all that may come
-pub image_kept : (kept : KeptRevisions) (from : ℕ) (whole : KeptRevisions) (m : ℕ) → GoesOn kept from whole → m < from → image whole m ≡ image kept m
+pub image_kept : (kept : KeptRevisions) (from : ℕ) (whole : KeptRevisions) (m : ℕ) → GoesOn kept from whole → m < from
+    → image whole m ≡ image kept m
 image_kept kept from whole m g low =
     ap (λ (k : KeptRevisions). image k m) (whole_is kept from whole g)
-    ∙ image_goes_on kept.first kept.numbers g.later m (all_weaker (λ n. from ≤ n) (λ n. m < n) g.later (λ n up. omega (arith, up, low)) g.behind)
+    ∙ image_goes_on kept.first kept.numbers g.later m
+    (all_weaker (λ n. from ≤ n) (λ n. m < n) g.later (λ n up. omega (arith, up, low)) g.behind)
 
 -- the number of a revision that comes behind all kept ones
-pub next_written : (settings : Settings) (kept : KeptRevisions) (from : ℕ) (whole : KeptRevisions) (r : DumpRecord) → GoesOn kept from whole
+pub next_written : (settings : Settings) (kept : KeptRevisions) (from : ℕ) (whole : KeptRevisions) (r : DumpRecord)
+    → GoesOn kept from whole
     → revision_number r ≤ from → All (λ n. n < revision_number r) kept.numbers
     → written_number settings whole (revision_number r) ≡ next_number settings kept r
 next_written settings kept from whole r g low below = by_case settings.renumber
   where
     at : new_number whole (revision_number r) ≡ kept.first + length kept.numbers
     at = ap (λ (k : KeptRevisions). new_number k (revision_number r)) (whole_is kept from whole g)
-        ∙ number_goes_on kept.first kept.numbers g.later (revision_number r) (all_weaker (λ n. from ≤ n) (λ n. revision_number r ≤ n) g.later (λ n up. omega (arith, up, low)) g.behind)
+        ∙ number_goes_on kept.first kept.numbers g.later (revision_number r)
+        (all_weaker (λ n. from ≤ n) (λ n. revision_number r ≤ n) g.later (λ n up. omega (arith, up, low)) g.behind)
         ∙ new_number_above kept (revision_number r) below
 
     by_case : (b : Bool) → (if b then new_number whole (revision_number r) else revision_number r)
@@ -61,13 +71,15 @@ next_written settings kept from whole r g low below = by_case settings.renumber
     by_case true = at
     by_case false = refl
 
--- what may come behind a waiting revision that is kept might come before
-reopened : (kept whole : KeptRevisions) (r : DumpRecord) (p q : ℕ) → revision_number r ≡ p → p ≤ q → GoesOn (with_kept kept r) q whole → GoesOn kept p whole
+-- what may come behind a pending revision that is kept might come before
+reopened : (kept whole : KeptRevisions) (r : DumpRecord) (p q : ℕ) → revision_number r ≡ p → p ≤ q
+    → GoesOn (with_kept kept r) q whole → GoesOn kept p whole
 reopened kept whole r p q is low g = record {
   first_is = g.first_is;
   later = revision_number r ∷ g.later;
   numbers_are = g.numbers_are ∙ append_assoc kept.numbers (revision_number r ∷ []) g.later;
-  behind = All-cons (λ n. p ≤ n) (revision_number r) g.later (omega (arith, is)) (all_weaker (λ n. q ≤ n) (λ n. p ≤ n) g.later (λ n up. omega (arith, up, low)) g.behind);
+  behind = All-cons (λ n. p ≤ n) (revision_number r) g.later (omega (arith, is))
+      (all_weaker (λ n. q ≤ n) (λ n. p ≤ n) g.later (λ n up. omega (arith, up, low)) g.behind);
 }
 
 pub lowered : (kept whole : KeptRevisions) (p q : ℕ) → p ≤ q → GoesOn kept q whole → GoesOn kept p whole
@@ -78,27 +90,36 @@ lowered kept whole p q low g = record {
   behind = all_weaker (λ n. q ≤ n) (λ n. p ≤ n) g.later (λ n up. omega (arith, up, low)) g.behind;
 }
 
-pub front_reopened : (kept whole : KeptRevisions) (waiting : Option Waited) (present : ℕ) → AreRising kept present waiting
-    → GoesOn (front_kept kept waiting) (present + 1) whole → GoesOn kept (open_from present waiting) whole
-front_reopened kept whole None present up g = g
-front_reopened kept whole (Some w) present up g = reopened kept whole w.revision present (present + 1) up.waits (omega arith) g
+pub front_reopened : (kept whole : KeptRevisions) (group : PresentGroup) (present : ℕ) → AreRising kept present group
+    → GoesOn (front_kept kept group) (present + 1) whole → GoesOn kept (open_from present group) whole
+front_reopened kept whole NoGroup present up g = g
+front_reopened kept whole Written present up g = g
+front_reopened kept whole (Pending w) present up g =
+    reopened kept whole w.revision present (present + 1) up.waits (omega arith) g
 
-pub end_reopened : (settings : Settings) (kept whole : KeptRevisions) (waiting : Option Waited) (present next : ℕ) → AreRising kept present waiting → present < next
-    → GoesOn (end_kept settings kept waiting) next whole → GoesOn kept (open_from present waiting) whole
-end_reopened settings kept whole None present next up low g = lowered kept whole (present + 1) next (omega (arith, low)) g
-end_reopened settings kept whole (Some w) present next up low g = by_case (stays settings w) g
+pub end_reopened : (settings : Settings) (kept whole : KeptRevisions) (group : PresentGroup) (present next : ℕ)
+    → AreRising kept present group → present < next
+    → GoesOn (end_kept settings kept group) next whole → GoesOn kept (open_from present group) whole
+end_reopened settings kept whole NoGroup present next up low g =
+    lowered kept whole (present + 1) next (omega (arith, low)) g
+end_reopened settings kept whole Written present next up low g =
+    lowered kept whole (present + 1) next (omega (arith, low)) g
+end_reopened settings kept whole (Pending w) present next up low g = by_case (stays settings w) g
   where
     by_case : (b : Bool) → GoesOn (if b then with_kept kept w.revision else kept) next whole → GoesOn kept present whole
     by_case true h = reopened kept whole w.revision present next up.waits (omega (arith, low)) h
     by_case false h = lowered kept whole present next (omega (arith, low)) h
 
 -- the kept revisions go on rising
-pushed_rising : (kept : KeptRevisions) (r : DumpRecord) (bare : Bool) (present : ℕ) → AreRising kept present (Some (record { revision = r; bare = bare }))
-    → AreRising (with_kept kept r) present None
+pushed_rising : (kept : KeptRevisions) (r : DumpRecord) (bare : Bool) (present : ℕ)
+    → AreRising kept present (Pending (record { revision = r; bare = bare }))
+    → AreRising (with_kept kept r) present NoGroup
 pushed_rising kept r bare present up =
     let at = up.waits in
     let low = up.low in
-    let below : All (λ n. n < revision_number r) kept.numbers = all_weaker (λ n. n < present) (λ n. n < revision_number r) kept.numbers (λ n under. omega (arith, under, at)) up.below in
+    let below : All (λ n. n < revision_number r) kept.numbers =
+    all_weaker (λ n. n < present) (λ n. n < revision_number r) kept.numbers
+    (λ n under. omega (arith, under, at)) up.below in
     record {
       low = low;
       rise = rise_pushed kept.first (revision_number r) kept.numbers up.rise below (omega (arith, at, low));
@@ -108,7 +129,8 @@ pushed_rising kept r bare present up =
       waits = tt;
     }
 
-dropped_rising : (kept : KeptRevisions) (w : Waited) (present : ℕ) → AreRising kept present (Some w) → AreRising kept present None
+dropped_rising : (kept : KeptRevisions) (w : PendingRevision) (present : ℕ) → AreRising kept present (Pending w)
+    → AreRising kept present NoGroup
 dropped_rising kept w present up = record {
   low = up.low;
   rise = up.rise;
@@ -116,42 +138,68 @@ dropped_rising kept w present up = record {
   waits = tt;
 }
 
-pub front_rising : (kept : KeptRevisions) (waiting : Option Waited) (present : ℕ) → AreRising kept present waiting → AreRising (front_kept kept waiting) present None
-front_rising kept None present up = up
-front_rising kept (Some w) present up = pushed_rising kept w.revision w.bare present up
+-- without a pending revision it is the same whether there is a group
+written_rising : (kept : KeptRevisions) (present : ℕ) → AreRising kept present NoGroup → AreRising kept present Written
+written_rising kept present up = record { low = up.low; rise = up.rise; below = up.below; waits = tt }
 
-pub end_rising : (settings : Settings) (kept : KeptRevisions) (waiting : Option Waited) (present : ℕ) → AreRising kept present waiting
-    → AreRising (end_kept settings kept waiting) present None
-end_rising settings kept None present up = up
-end_rising settings kept (Some w) present up = by_case (stays settings w)
+closed_rising : (kept : KeptRevisions) (present : ℕ) → AreRising kept present Written → AreRising kept present NoGroup
+closed_rising kept present up = record { low = up.low; rise = up.rise; below = up.below; waits = tt }
+
+pub front_rising : (kept : KeptRevisions) (group : PresentGroup) (present : ℕ) → AreRising kept present group
+    → AreRising (front_kept kept group) present Written
+front_rising kept NoGroup present up = written_rising kept present up
+front_rising kept Written present up = up
+front_rising kept (Pending w) present up =
+    written_rising (with_kept kept w.revision) present (pushed_rising kept w.revision w.bare present up)
+
+pub end_rising : (settings : Settings) (kept : KeptRevisions) (group : PresentGroup) (present : ℕ)
+    → AreRising kept present group
+    → AreRising (end_kept settings kept group) present NoGroup
+end_rising settings kept NoGroup present up = up
+end_rising settings kept Written present up = closed_rising kept present up
+end_rising settings kept (Pending w) present up = by_case (stays settings w)
   where
-    by_case : (b : Bool) → AreRising (if b then with_kept kept w.revision else kept) present None
+    by_case : (b : Bool) → AreRising (if b then with_kept kept w.revision else kept) present NoGroup
     by_case true = pushed_rising kept w.revision w.bare present up
     by_case false = dropped_rising kept w present up
 
--- a revision that begins to wait
-pub next_rising : (kept : KeptRevisions) (r : DumpRecord) (present : ℕ) → AreRising kept present None → present < revision_number r
-    → AreRising kept (revision_number r) (Some (record { revision = r; bare = true }))
+-- a revision that becomes pending
+pub next_rising : (kept : KeptRevisions) (r : DumpRecord) (present : ℕ) → AreRising kept present NoGroup
+    → present < revision_number r
+    → AreRising kept (revision_number r) (Pending (record { revision = r; bare = true }))
 next_rising kept r present up above = let low = up.low in record {
   low = omega (arith, low, above);
   rise = up.rise;
-  below = all_weaker (λ n. n < present + 1) (λ n. n < revision_number r) kept.numbers (λ n under. omega (arith, under, above)) up.below;
+  below = all_weaker (λ n. n < present + 1) (λ n. n < revision_number r) kept.numbers
+      (λ n under. omega (arith, under, above)) up.below;
   waits = refl;
 }
 
-pub first_rising : (r : DumpRecord) → AreRising (record { first = revision_number r; numbers = [] }) (revision_number r) (Some (record { revision = r; bare = true }))
+pub first_rising : (r : DumpRecord)
+    → AreRising (record { first = revision_number r; numbers = [] }) (revision_number r)
+    (Pending (record { revision = r; bare = true }))
 first_rising r = record { low = omega arith; rise = tt; below = All-nil (λ n. n < revision_number r); waits = refl }
 
--- the waiting revision stands above all kept ones
-pub below_waiting : (kept : KeptRevisions) (w : Waited) (present : ℕ) → AreRising kept present (Some w) → All (λ n. n < revision_number w.revision) kept.numbers
-below_waiting kept w present up =
+-- the pending revision stands above all kept ones
+pub below_pending : (kept : KeptRevisions) (w : PendingRevision) (present : ℕ) → AreRising kept present (Pending w)
+    → All (λ n. n < revision_number w.revision) kept.numbers
+below_pending kept w present up =
     let at = up.waits in
-    all_weaker (λ n. n < present) (λ n. n < revision_number w.revision) kept.numbers (λ n under. omega (arith, under, at)) up.below
+    all_weaker (λ n. n < present) (λ n. n < revision_number w.revision) kept.numbers
+    (λ n under. omega (arith, under, at)) up.below
 
 -- no kept revision is above the present one, which a node's own is
-pub up_to_present : (kept : KeptRevisions) (present : Option ℕ) (waiting : Option Waited) → AreKept kept present waiting
-    → All (λ k. k ≤ unwrap_or present 0) (front_kept kept waiting).numbers
-up_to_present kept None waiting (none, free) =
-    subst (λ (k : KeptRevisions). All (λ n. n ≤ 0) k.numbers) (sym (ap (front_kept kept) free ∙ none)) (All-nil (λ n. n ≤ 0))
-up_to_present kept (Some p) waiting up =
-    all_weaker (λ n. n < p + 1) (λ n. n ≤ p) (front_kept kept waiting).numbers (λ n low. omega (arith, low)) (front_rising kept waiting p up).below
+pub up_to_present : (revisions : Revisions) (group : PresentGroup) → AreKept revisions group
+    → All (λ k. k ≤ node_revision revisions) (front_kept revisions.kept group).numbers
+up_to_present revisions group = by_present revisions.present
+  where
+    by_present : (p : Option ℕ)
+        → MatchOption p ((revisions.kept ≡ no_revisions.kept) × (group ≡ NoGroup))
+        (λ present. AreRising revisions.kept present group)
+        → All (λ k. k ≤ unwrap_or p 0) (front_kept revisions.kept group).numbers
+    by_present None (none, free) =
+        subst (λ (k : KeptRevisions). All (λ n. n ≤ 0) k.numbers) (sym (ap (front_kept revisions.kept) free ∙ none))
+        (All-nil (λ n. n ≤ 0))
+    by_present (Some p) up =
+        all_weaker (λ n. n < p + 1) (λ n. n ≤ p) (front_kept revisions.kept group).numbers (λ n low. omega (arith, low))
+        (front_rising revisions.kept group p up).below

@@ -8,11 +8,11 @@ pub mod KeptLemmas
 pub mod MergeLemmas
 pub mod OwnLemmas
 pub mod NumberLemmas
-pub mod TurnLemmas
+pub mod StandsNext
 pub mod FaultLemmas
-pub mod JudgeLemmas
+pub mod DecisionLemmas
 pub mod OnceLemmas
-pub mod StepLemmas
+pub mod AdvanceLemmas
 pub mod FilterLemmas
 pub mod Answered
 pub mod GrowthLaw

@@ -7,8 +7,8 @@ use Rattle.dump_text.specs.Number.{spelled_number}
 use Rattle.dump_text.specs.Names.{revision_name, copy_revision_name, property_length_name, text_length_name, content_length_name}
 use Rattle.dump_text.specs.HeaderLine.{Header, is_named, has_header, with_header_value}
 use Rattle.dump_text.proofs.BoolLemmas.{first_false, second_false, absurd_bool}
-use Rattle.dump_filter.specs.declared.copies.NewCopy.{NewCopy}
-use Rattle.dump_filter.specs.declared.copies.NewCopy.TheVariants.{Same, Number, Plain}
+use Rattle.dump_filter.specs.declared.fate.CopyChange.{CopyChange}
+use Rattle.dump_filter.specs.declared.fate.CopyChange.TheVariants.{Same, Renumbered, Dropped}
 use Rattle.dump_filter.specs.declared.new_lines.Changes.{Changes}
 use Rattle.dump_filter.specs.NewHeaders.{with_length, with_lengths}
 use Rattle.dump_filter.specs.OwnText.{copied_headers}
@@ -260,13 +260,13 @@ module _ (c : Changes) (headers : List Header) where
       ∙ ap (λ n. with_length content_length_name (length props + length text) (with_header_value text_length_name (spelled_number (length text)) (with_length property_length_name n base))) props_is
 
 -- a line that goes is of a copy source
-dropped_copy : (copy : NewCopy) (name : List ℕ) → is_dropped copy name ≡ true → is_copy_line name ≡ true
+dropped_copy : (copy : CopyChange) (name : List ℕ) → is_dropped copy name ≡ true → is_copy_line name ≡ true
 dropped_copy Same name is = cc
-dropped_copy (Number n) name is = cc
-dropped_copy Plain name is = is
+dropped_copy (Renumbered n) name is = cc
+dropped_copy Dropped name is = is
 
 -- where a line of no copy source stood, it still stands
-stay_has : (name : List ℕ) (copy : NewCopy) → is_copy_line name ≡ false → (headers : List Header)
+stay_has : (name : List ℕ) (copy : CopyChange) → is_copy_line name ≡ false → (headers : List Header)
     → has_header name (lines_that_stay copy headers) ≡ has_header name headers
 stay_has name copy other [] = refl
 stay_has name copy other (h ∷ headers) = cases (stay_has name copy other headers) (is_dropped copy h.name) refl
@@ -309,7 +309,7 @@ revision_lines c headers number props text revision copy lengths =
     ∙ ap (λ (hs : List Header). with_lengths props text (with_header_value revision_name (spelled_number number) hs)) (all_stay headers)
 
 -- the lines of a node
-pub node_lines : (c : Changes) (headers : List Header) (copy : NewCopy) (props text : List ℕ) → c.revision ≡ None → c.copy ≡ copy
+pub node_lines : (c : Changes) (headers : List Header) (copy : CopyChange) (props text : List ℕ) → c.revision ≡ None → c.copy ≡ copy
     → AreLengths props text c → new_headers c headers ≡ with_lengths props text (copied_headers copy headers)
 node_lines c headers copy props text revision copy_is lengths =
     lines_are c headers props text lengths
@@ -317,7 +317,7 @@ node_lines c headers copy props text revision copy_is lengths =
     ∙ ap (λ k. with_lengths props text (put_all copy_revision_name (copy_number k) (lines_that_stay k headers))) copy_is
     ∙ ap (with_lengths props text) (copied copy)
   where
-    copied : (copy : NewCopy) → put_all copy_revision_name (copy_number copy) (lines_that_stay copy headers) ≡ copied_headers copy headers
+    copied : (copy : CopyChange) → put_all copy_revision_name (copy_number copy) (lines_that_stay copy headers) ≡ copied_headers copy headers
     copied Same = all_stay headers
-    copied (Number n) = ap (with_header_value copy_revision_name (spelled_number n)) (all_stay headers)
-    copied Plain = refl
+    copied (Renumbered n) = ap (with_header_value copy_revision_name (spelled_number n)) (all_stay headers)
+    copied Dropped = refl

@@ -1,5 +1,5 @@
 -- The faults of the mergeinfo of a kept node.
-use Rattle.std.proofs.Common.{◌≡◌, ◌⊎◌, ◌↔◌, ℕ, Bool, true, false, List, refl, sym, subst, inl, inr, Option, Some, None, Contains, IsFalse, if◌then◌else◌}
+use Rattle.std.proofs.Common.{◌≡◌, ◌⊎◌, ◌↔◌, ◌||◌, ℕ, Bool, true, false, List, refl, sym, ap, subst, inl, inr, Option, Some, None, Contains, IsFalse, IsTrue, if◌then◌else◌}
 use Rattle.std.specs.List.{list_any}
 use Rattle.std.proofs.Math.Logic.{∥∥₁_elim}
 use Rattle.dump_text.specs.declared.fault.FaultKind.{FaultKind}
@@ -13,11 +13,16 @@ use Rattle.dump_rules.specs.Mergeinfo.{HasMergeLines}
 use Rattle.dump_rules.specs.Rewriting.{HasMissingSource, HasForeignNumber}
 use Rattle.dump_rules.specs.NewLines.{value_misses, value_foreign}
 use Rattle.dump_rules.proofs.FaultLemmas.{found, finds, missing_there, missing_back, foreign_there, foreign_back, has_lines}
-use Rattle.dump_digest.specs.RecordParts.{is_kept_node, is_mergeinfo}
+use Rattle.dump_records.specs.RecordViews.{record_item}
+use Rattle.dump_digest.specs.declared.done.Done.{Done}
+use Rattle.dump_digest.specs.DoneViews.{done_record, done_settings, done_verdict}
+use Rattle.dump_digest.specs.ContentViews.{is_asked}
+use Rattle.dump_digest.specs.RecordParts.{is_revision, is_kept_node, is_mergeinfo}
+use Rattle.dump_filter.specs.NewProperties.{IsReadNode}
 use Rattle.dump_digest.specs.ContentFaults.{IsMergeinfoValueOf, HasBadMergeinfo}
 use Rattle.dump_digest.proofs.VerdictChoice.{bad_choice}
-use Rattle.dump_filter.specs.MergeFaults.{misses, is_foreign, merge_fault, HasLines}
-use Rattle.dump_text.proofs.BoolLemmas.{first_true, second_true, both_true, false_true, absurd_bool}
+use Rattle.dump_digest.specs.MergeFaults.{misses, is_foreign, merge_fault, HasLines}
+use Rattle.dump_text.proofs.BoolLemmas.{first_true, second_true, both_true, false_true, absurd_bool, either_second}
 
 -- some element that passes a test
 -- a kept node has mergeinfo that misses a source
@@ -98,3 +103,18 @@ module _ (settings : Settings) (r : DumpRecord) (keep : is_kept_node settings r 
 -- a kept node without bad mergeinfo has lines in each value
 pub lines_told : (settings : Settings) (r : DumpRecord) → is_kept_node settings r ≡ true → ¬ HasBadMergeinfo settings r → HasLines r.props
 lines_told settings r keep fine ps block p within is none = fine (p.value, (keep, ps, block, p, within, is, refl), none)
+
+-- a kept node's properties are asked for
+pub asked_node : (d : Done) → IsReadNode d → IsTrue (is_asked (done_settings d) (record_item (done_record d)))
+asked_node d (kept, ok) = either_second (is_revision (record_item (done_record d))) (is_kept_node (done_settings d) (record_item (done_record d))) kept
+
+-- each value of its mergeinfo is some lines
+pub read_lines : (d : Done) → IsReadNode d → HasLines (record_item (done_record d)).props
+read_lines d (kept, ok) =
+    lines_told (done_settings d) (record_item (done_record d)) kept
+    (λ bad. absurd_bool (done_verdict d).merge_ok ok (d.judged.verdict_is.merge.1 ∣ bad ∣₁))
+
+-- and those of a revision are
+pub asked_revision : (d : Done) → IsTrue (is_revision (record_item (done_record d)))
+    → IsTrue (is_asked (done_settings d) (record_item (done_record d)))
+asked_revision d revision = ap (λ b. b || is_kept_node (done_settings d) (record_item (done_record d))) revision

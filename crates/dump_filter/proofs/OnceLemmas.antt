@@ -14,7 +14,8 @@ use Rattle.dump_rules.specs.Rewriting.{IsNewMergeinfo}
 use Rattle.dump_rules.proofs.OneNewValue.{one_new_value}
 use Rattle.dump_digest.specs.RecordParts.{is_revision, is_node, is_mergeinfo}
 use Rattle.dump_filter.specs.Groups.{Group, group_of, is_padded}
-use Rattle.dump_filter.specs.NewHeaders.{is_copy, becomes_plain, without_copy_headers, IsWrittenCopyNumber, IsNewCopy}
+use Rattle.dump_filter.specs.NewHeaders.{becomes_plain, without_copy_headers, IsWrittenCopyNumber, IsNewCopy}
+use Rattle.dump_digest.specs.RecordParts.{is_copy}
 use Rattle.dump_filter.specs.NewContent.{new_block, AreNewProperties}
 use Rattle.dump_filter.specs.RecordOutput.{revision_text, whole_text, IsRevisionOutput, IsNodeOutput, IsOutput}
 use Rattle.dump_filter.specs.Written.{is_written, AreOutputs}

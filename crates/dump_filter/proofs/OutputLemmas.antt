@@ -7,8 +7,8 @@ use Rattle.dump_text.specs.HeaderLine.{Header, with_header_value}
 use Rattle.dump_text.specs.HeaderBlock.{block_text}
 use Rattle.dump_text.specs.PropertyList.{Property}
 use Rattle.dump_records.specs.RecordText.{DumpRecord}
-use Rattle.dump_filter.specs.declared.copies.NewCopy.{NewCopy}
-use Rattle.dump_filter.specs.declared.copies.NewCopy.TheVariants.{Same}
+use Rattle.dump_filter.specs.declared.fate.CopyChange.{CopyChange}
+use Rattle.dump_filter.specs.declared.fate.CopyChange.TheVariants.{Same}
 use Rattle.dump_filter.specs.declared.new_lines.Changes.{Changes}
 use Rattle.dump_filter.specs.NewHeaders.{with_lengths}
 use Rattle.dump_filter.specs.NewContent.{revision_properties, new_block}
@@ -49,7 +49,7 @@ revision_is c r number padded bytes text ps revision copy lengths text_is bytes_
     (record_is c r.headers (with_header_value revision_name (spelled_number number) r.headers) bytes (new_block padded r (revision_properties padded ps)) r.text
     (revision_lines c r.headers number bytes r.text revision copy (subst (λ t. AreLengths bytes t c) text_is lengths)) bytes_are)
 
-pub node_is : (c : Changes) (r : DumpRecord) (copy : NewCopy) (bytes text : List ℕ) (ps : List Property)
+pub node_is : (c : Changes) (r : DumpRecord) (copy : CopyChange) (bytes text : List ℕ) (ps : List Property)
     → c.revision ≡ None → c.copy ≡ copy → AreLengths bytes text c → text ≡ r.text → bytes ≡ new_block false r ps
     → new_record c r.headers bytes r.text ++ codes "\n\n" ≡ node_own r copy ps
 node_is c r copy bytes text ps revision copy_is lengths text_is bytes_are =

@@ -1,26 +1,30 @@
 -- What is written of the properties of a record.
-use Rattle.std.proofs.Common.{◌≡◌, ℕ, ◌<◌, ◌^◌, suc, Bool, true, false, ◌||◌, List, [], ◌∷◌, ◌++◌, length, flat_map, refl, sym, ap, ◌∙◌, subst, arith, append_assoc, inl, inr, codes, bytes_eq, Option, Some, None, option_and_then, option_copied, unwrap_or, is_some, IsTrue}
+use Rattle.std.proofs.Common.{◌≡◌, ℕ, ◌<◌, ◌^◌, suc, Bool, true, false, List, [], ◌∷◌, ◌++◌, length, flat_map, refl, sym, ap, ◌∙◌, subst, arith, append_assoc, inl, inr, codes, bytes_eq, Option, Some, None, option_and_then, unwrap_or, is_some, IsTrue}
 use Rattle.std.specs.List.{list_any}
-use denote.Bor.{Bor}
 use Rattle.std.proofs.lemmas.List.{append-nil}
 use Rattle.std.proofs.lemmas.Grind.{flat_map-append}
 use Rattle.std.proofs.lemmas.Slice.Eq.{bytes_eq-Decides}
 use Rattle.dump_text.specs.Number.{number_of}
 use Rattle.dump_text.specs.Names.{property_length_name}
 use Rattle.dump_text.specs.HeaderLine.{has_header}
+use Rattle.dump_text.specs.PropertyScan.{IsWritten}
 use Rattle.dump_text.specs.PropertyList.{Property, IsEntry, IsPropertyBlock, HasProperties, block_end, entry_text, property_block_text, property_value}
-use Rattle.dump_text.proofs.PropertyLemmas.{entry_parts, left_of, property_block_once, value_behind, value_here}
-use Rattle.dump_text.proofs.WrittenLemmas.{IsWritten, written_list}
+use Rattle.dump_text.proofs.PropertyLemmas.{entry_parts, left_of, property_block_once}
+use Rattle.dump_text.proofs.WrittenLemmas.{written_list}
 use Rattle.dump_records.specs.HeaderRules.{header_number, property_length}
 use Rattle.dump_records.specs.RecordText.{DumpRecord}
 use Rattle.dump_rules.specs.Settings.{Settings}
 use Rattle.dump_rules.specs.Renumbering.{KeptRevisions}
 use Rattle.dump_rules.specs.Mergeinfo.{HasMergeLines}
 use Rattle.dump_rules.specs.Rewriting.{IsNewMergeinfo}
-use Rattle.dump_digest.specs.RecordParts.{mergeinfo_name, is_mergeinfo}
+use Rattle.dump_digest.specs.RecordParts.{is_mergeinfo}
 use Rattle.dump_filter.specs.NewContent.{padding_log, padding_properties, IsNewProperty, AreNewProperties, new_block}
 use Rattle.dump_filter.specs.NewProperties.{property_of, dated_padding}
-use Rattle.dump_filter.specs.MergeFaults.{HasLines}
+use Rattle.dump_digest.specs.MergeFaults.{HasLines}
+use Rattle.dump_digest.specs.ContentViews.{ArePropertiesOf}
+use Rattle.dump_text.specs.declared.props.Props.{Props}
+use Rattle.dump_text.specs.PropertyViews.{props_bytes}
+use Rattle.dump_text.proofs.BoolLemmas.{false_true, first_false, second_false}
 use Rattle.dump_filter.proofs.HeaderLemmas.{no_value}
 
 -- the rest of a list is written behind what stands already
@@ -73,14 +77,13 @@ pub with_new_value : (settings : Settings) (kept : KeptRevisions) (p : Property)
 with_new_value settings kept p value merge is = (refl, rw merge is)
 
 -- no property of the list is mergeinfo, so it is its own new list
-pub no_mergeinfo : (settings : Settings) (kept : KeptRevisions) (ps : List Property) → property_value mergeinfo_name ps ≡ None → AreNewProperties settings kept ps ps
+pub no_mergeinfo : (settings : Settings) (kept : KeptRevisions) (ps : List Property) → list_any is_mergeinfo ps ≡ false
+    → AreNewProperties settings kept ps ps
 no_mergeinfo settings kept [] none = tt
-no_mergeinfo settings kept (p ∷ ps) none = by_case (bytes_eq p.name mergeinfo_name) refl (no_mergeinfo settings kept ps)
-  where
-    by_case : (b : Bool) → bytes_eq p.name mergeinfo_name ≡ b → (property_value mergeinfo_name ps ≡ None → AreNewProperties settings kept ps ps)
-        → AreNewProperties settings kept (p ∷ ps) (p ∷ ps)
-    by_case true is more = let bad : Some p.value ≡ None = sym (value_here mergeinfo_name p ps is) ∙ none in cc
-    by_case false is more = ((refl, rw is refl), more (sym (value_behind mergeinfo_name p ps is) ∙ none))
+no_mergeinfo settings kept (p ∷ ps) none = (
+  unchanged settings kept p (first_false (is_mergeinfo p) (list_any is_mergeinfo ps) none),
+  no_mergeinfo settings kept ps (second_false (is_mergeinfo p) (list_any is_mergeinfo ps) none),
+)
 
 -- the properties up to the rest of a block, with new values, are written behind what stands already
 abbrev pub AreRewritten : Settings → KeptRevisions → List ℕ → List ℕ → List ℕ → Type 0
@@ -137,13 +140,15 @@ entry_lines block rest front p lines (ps, is) cut one merge =
     let left = left_of block p rest ps (entry_parts block front rest p cut one) is in
     lines (p ∷ left.others) (inr (front, rest, cut, one, left.entries)) p (0, omega arith, refl) merge
 
--- a value that isn't there
-pub none_copied : {T : Type 0} (found : Option (Bor T)) → is_some found ≡ false → option_copied found ≡ None
-none_copied None none = refl
-none_copied (Some x) none = absurd (some_false none)
-  where
-    some_false : true ≡ false → ⊥
-    some_false bad = cc
+-- a record with a list of properties was read
+pub none_read : (r : DumpRecord) (found : Option Props) → ArePropertiesOf r found → found ≡ None → (ps : List Property)
+    → IsPropertyBlock r.props ps → ⊥
+none_read r found are is ps block = let bad : false ≡ true = sym (ap is_some is) ∙ are.there (ps, block) in false_true bad
+
+-- what was read is a block of the same list
+pub read_block : (r : DumpRecord) (found : Option Props) (p : Props) → ArePropertiesOf r found → found ≡ Some p → (ps : List Property)
+    → IsPropertyBlock r.props ps → IsPropertyBlock (props_bytes p) ps
+read_block r found p are is ps block = subst (λ (t : List ℕ). IsPropertyBlock t ps) (sym (are.bytes p is)) block
 
 -- the block of a record with a length for its properties, and without
 pub block_with : (r : DumpRecord) (ps : List Property) → has_header property_length_name r.headers ≡ true → property_block_text ps ≡ new_block false r ps
@@ -164,28 +169,3 @@ no_block settings kept r none size ps is =
     no_bytes : (bytes : List ℕ) → length bytes ≡ 0 → bytes ≡ []
     no_bytes [] e = refl
     no_bytes (b ∷ bytes) e = absurd (omega arith)
-
--- a test passes some property of a block where it passes one that is left
-abbrev pub IsAnyLeft : (Property → Bool) → List ℕ → List ℕ → Type 0
-IsAnyLeft passes block rest = (ps : List Property) → IsPropertyBlock block ps
-    → (qs : List Property) × IsPropertyBlock rest qs × (list_any passes ps ≡ list_any passes qs)
-
-pub any_next : (passes : Property → Bool) (block text rest front : List ℕ) (p : Property) → IsAnyLeft passes block text → text ≡ front ++ rest → IsEntry front p
-    → passes p ≡ false → IsAnyLeft passes block rest
-any_next passes block text rest front p before cut one misses ps is =
-    let (qs, here, same) = before ps is in
-    let left = left_of text p rest qs (entry_parts text front rest p cut one) here in
-    (left.others, inr left.entries, same ∙ ap (list_any passes) left.list ∙ ap (λ b. b || list_any passes left.others) misses)
-
-pub any_here : (passes : Property → Bool) (block text rest front : List ℕ) (p : Property) → IsAnyLeft passes block text → text ≡ front ++ rest → IsEntry front p
-    → passes p ≡ true → (ps : List Property) → IsPropertyBlock block ps → true ≡ list_any passes ps
-any_here passes block text rest front p before cut one so ps is =
-    let (qs, here, same) = before ps is in
-    let left = left_of text p rest qs (entry_parts text front rest p cut one) here in
-    sym (same ∙ ap (list_any passes) left.list ∙ ap (λ b. b || list_any passes left.others) so)
-
-pub any_end : (passes : Property → Bool) (block rest : List ℕ) → IsAnyLeft passes block rest → IsPropertyBlock rest []
-    → (ps : List Property) → IsPropertyBlock block ps → false ≡ list_any passes ps
-any_end passes block rest before end ps is =
-    let (qs, here, same) = before ps is in
-    sym (same ∙ ap (list_any passes) (property_block_once rest qs [] here end))

@@ -5,12 +5,13 @@ pub mod NewLines
 pub mod NewProperties
 pub mod RecordOutput
 pub mod OwnText
-pub mod MergeFaults
-pub mod Turns
+pub mod State
+pub mod Advance
+pub mod Decision
 pub mod Written
 pub mod RecordFaults
 pub mod Counts
 pub mod FilterState
 pub mod WholeText
 pub mod FilterLaws
-pub mod Shape
+pub mod Knowledge

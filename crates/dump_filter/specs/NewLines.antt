@@ -5,28 +5,28 @@ use Rattle.dump_text.specs.Number.{spelled_number}
 use Rattle.dump_text.specs.Names.{revision_name, copy_revision_name, copy_names, property_length_name, text_length_name, content_length_name}
 use Rattle.dump_text.specs.HeaderLine.{Header, has_header, with_header_value}
 use Rattle.dump_text.specs.HeaderBlock.{block_text}
-use Rattle.dump_filter.specs.declared.copies.NewCopy.{NewCopy}
-use Rattle.dump_filter.specs.declared.copies.NewCopy.TheVariants.{Same, Number, Plain}
+use Rattle.dump_filter.specs.declared.fate.CopyChange.{CopyChange}
+use Rattle.dump_filter.specs.declared.fate.CopyChange.TheVariants.{Same, Renumbered, Dropped}
 use Rattle.dump_filter.specs.declared.new_lines.Changes.{Changes}
 
 -- the number that the line of a copy revision gets
-abbrev pub copy_number : NewCopy → Option ℕ
+abbrev pub copy_number : CopyChange → Option ℕ
 copy_number Same = None
-copy_number (Number n) = Some n
-copy_number Plain = None
+copy_number (Renumbered n) = Some n
+copy_number Dropped = None
 
 -- whether the line of this name tells of a copy source
 abbrev pub is_copy_line : List ℕ → Bool
 is_copy_line name = list_any (bytes_eq name) copy_names
 
 -- whether the line of this name goes
-abbrev pub is_dropped : NewCopy → List ℕ → Bool
+abbrev pub is_dropped : CopyChange → List ℕ → Bool
 is_dropped Same name = false
-is_dropped (Number n) name = false
-is_dropped Plain name = is_copy_line name
+is_dropped (Renumbered n) name = false
+is_dropped Dropped name = is_copy_line name
 
 -- the lines that don't go
-abbrev pub lines_that_stay : NewCopy → List Header → List Header
+abbrev pub lines_that_stay : CopyChange → List Header → List Header
 lines_that_stay copy headers = filter (λ h. not (is_dropped copy h.name)) headers
 
 -- the number that the line of this name gets

@@ -1,6 +1,10 @@
 -- The properties of a record as they are written.
-use Rattle.std.specs.Prelude.{ℕ, List, [], ◌∷◌, Option, Some, None, codes}
+use Rattle.std.specs.Prelude.{ℕ, List, [], ◌∷◌, Option, Some, None, codes, IsTrue}
 use Rattle.dump_text.specs.PropertyList.{Property}
+use Rattle.dump_records.specs.RecordViews.{record_item}
+use Rattle.dump_digest.specs.declared.done.Done.{Done}
+use Rattle.dump_digest.specs.DoneViews.{done_record, done_settings, done_verdict}
+use Rattle.dump_digest.specs.RecordParts.{is_kept_node}
 use Rattle.dump_filter.specs.NewContent.{padding_log}
 
 -- the property of this name and value
@@ -11,3 +15,7 @@ property_of name value = record { name = name; value = value }
 abbrev pub dated_padding : Option (List ℕ) → List Property
 dated_padding None = padding_log ∷ []
 dated_padding (Some date) = property_of (codes "svn:date") date ∷ padding_log ∷ []
+
+-- a checked record is a kept node, all mergeinfo of which can be read
+abbrev pub IsReadNode : Done → Type 0
+IsReadNode d = IsTrue (is_kept_node (done_settings d) (record_item (done_record d))) × IsTrue (done_verdict d).merge_ok

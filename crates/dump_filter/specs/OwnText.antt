@@ -8,14 +8,14 @@ use Rattle.dump_records.specs.RecordText.{DumpRecord}
 use Rattle.dump_filter.specs.NewHeaders.{without_copy_headers}
 use Rattle.dump_filter.specs.NewContent.{revision_properties, new_block}
 use Rattle.dump_filter.specs.RecordOutput.{whole_text}
-use Rattle.dump_filter.specs.declared.copies.NewCopy.{NewCopy}
-use Rattle.dump_filter.specs.declared.copies.NewCopy.TheVariants.{Same, Number, Plain}
+use Rattle.dump_filter.specs.declared.fate.CopyChange.{CopyChange}
+use Rattle.dump_filter.specs.declared.fate.CopyChange.TheVariants.{Same, Renumbered, Dropped}
 
 -- the lines of a node with its new copy source
-abbrev pub copied_headers : NewCopy → List Header → List Header
+abbrev pub copied_headers : CopyChange → List Header → List Header
 copied_headers Same headers = headers
-copied_headers (Number n) headers = with_header_value copy_revision_name (spelled_number n) headers
-copied_headers Plain headers = without_copy_headers headers
+copied_headers (Renumbered n) headers = with_header_value copy_revision_name (spelled_number n) headers
+copied_headers Dropped headers = without_copy_headers headers
 
 -- a revision of these properties under its new number, padded or not
 abbrev pub revision_own : DumpRecord → ℕ → Bool → List Property → List ℕ
@@ -24,5 +24,5 @@ revision_own r number padded ps =
     ++ codes "\n"
 
 -- a node of these properties with its new copy source
-abbrev pub node_own : DumpRecord → NewCopy → List Property → List ℕ
+abbrev pub node_own : DumpRecord → CopyChange → List Property → List ℕ
 node_own r copy ps = whole_text (copied_headers copy r.headers) (new_block false r ps) r.text ++ codes "\n\n"

@@ -1,110 +1,70 @@
 //! What becomes of the copy source of a kept node.
-ghost use Rattle.std.specs.Prelude.{◌≡◌, option_map};
+ghost use Rattle.std.specs.Prelude.{◌≡◌, IsTrue};
 ghost use Rattle.dump_records.specs.RecordViews.{record_item};
-ghost use Rattle.dump_rules.specs.Renumbering.{image};
-ghost use Rattle.dump_filter.specs.NewHeaders.{has_lost_source, is_whole_file};
-ghost use Rattle.dump_filter.specs.Turns.{waited, front_kept, source_of, copy_of};
-ghost use Rattle.dump_filter.specs.Shape.{AreKept};
+ghost use Rattle.dump_filter.specs.NewHeaders.{is_whole_file};
+ghost use Rattle.dump_digest.specs.DoneViews.{done_record, done_settings};
+ghost use Rattle.dump_digest.specs.RecordParts.{is_kept_node};
+ghost use Rattle.dump_filter.specs.State.{view_group, node_revision};
+ghost use Rattle.dump_filter.specs.Advance.{front_kept};
+ghost use Rattle.dump_filter.specs.Decision.{source_change, copy_change};
+ghost use Rattle.dump_filter.specs.Knowledge.{AreKept};
 
-use crate::turn::{Waiting, next_image, number_of_revision};
+use crate::fate::CopyChange;
+use crate::state::State;
+use dump_digest::Done;
 use dump_records::Record;
-use dump_rules::{Options, Reach, keeps};
+use dump_rules::Options;
 use dump_text::FaultKind;
-
-/// The new copy source of a node.
-#[derive(Clone, Copy)]
-pub(crate) enum NewCopy {
-    /// The node is no copy.
-    Same,
-    /// The node is a copy of this revision.
-    Number(u64),
-    /// The node loses its copy source.
-    Plain,
-}
-
-/// Whether the record is copied from a path that the options don't keep.
-fn has_lost_source(options: &Options, item: &Record<'_>) -> bool
-    ensures { result ≡ has_lost_source options.now (record_item item.now) }
-{
-    match item.block().get(b"Node-copyfrom-path") {
-        Some(path) => !keeps(options, path),
-        None => false,
-    }
-}
 
 /// Whether the record is a file with its text, so that it can stand without its copy source.
 fn is_whole_file(item: &Record<'_>) -> bool
     ensures { result ≡ is_whole_file (record_item item.now) }
 {
-    match item.block().get(b"Node-kind") {
-        Some(kind) => kind == b"file".as_slice() && item.block().has(b"Text-content-length"),
-        None => false,
-    }
+    item.is_file() && item.has_text()
 }
 
-/// The image of a number, where a waiting revision counts as kept already.
-fn image_behind(
-    kept: &Reach,
-    waiting: &Option<Waiting<'_>>,
-    present: Option<u64>,
-    number: u64,
-) -> Option<u64>
-    requires { AreKept kept.now present (option_map waited waiting.now) }
-    ensures { result ≡ image (front_kept kept.now (option_map waited waiting.now)) number }
-{
-    match waiting {
-        Some(waiting) => {
-            if number_of_revision(&waiting.revision) <= number {
-                Some(next_image(kept))
-            } else {
-                kept.reach(number)
-            }
-        }
-        None => kept.reach(number),
-    }
-}
-
-/// The new copy source of a kept node that stays a copy of this revision, if it is one.
-fn find_source(
+/// What becomes of the source of a kept node that stays a copy of this revision, if it is one.
+fn source_change(
     options: &Options,
-    kept: &Reach,
-    waiting: &Option<Waiting<'_>>,
-    present: Option<u64>,
+    state: &State<'_>,
     source: Option<u64>,
-) -> Result<NewCopy, FaultKind>
-    requires { AreKept kept.now present (option_map waited waiting.now) }
-    ensures { result ≡ source_of options.now (front_kept kept.now (option_map waited waiting.now)) present source }
+) -> Result<CopyChange, FaultKind>
+    requires { AreKept state.now.revisions (view_group state.now.group) }
+    ensures { let kept = front_kept state.now.revisions.kept (view_group state.now.group) in
+        result ≡ source_change options.now kept (node_revision state.now.revisions) source }
 {
     let Some(number) = source else {
-        return Ok(NewCopy::Same);
+        return Ok(CopyChange::Same);
     };
     if !options.renumber() {
-        return Ok(NewCopy::Number(number));
+        return Ok(CopyChange::Renumbered(number));
     }
-    if present.unwrap_or(0) < number {
+    if state.revisions.node_revision() < number {
         return Err(FaultKind::CopyRevision);
     }
-    match image_behind(kept, waiting, present, number) {
-        Some(image) => Ok(NewCopy::Number(image)),
+    match state.revisions.image(&state.group, number) {
+        Some(image) => Ok(CopyChange::Renumbered(image)),
         None => Err(FaultKind::CopyRevision),
     }
 }
 
-/// The new copy source of a kept node, or its fault.
-pub(crate) fn find_copy(
+/// What becomes of the copy source of a kept node, or its fault.
+pub(crate) fn copy_change(
     options: &Options,
-    kept: &Reach,
-    waiting: &Option<Waiting<'_>>,
-    present: Option<u64>,
-    item: &Record<'_>,
-) -> Result<NewCopy, FaultKind>
-    requires { AreKept kept.now present (option_map waited waiting.now) }
-    ensures { result ≡ copy_of options.now (front_kept kept.now (option_map waited waiting.now)) present (record_item item.now) }
+    state: &State<'_>,
+    done: &Done<'_>,
+) -> Result<CopyChange, FaultKind>
+    requires kept { AreKept state.now.revisions (view_group state.now.group) }
+    requires options { done_settings done.now ≡ options.now }
+    requires node { IsTrue (is_kept_node options.now (record_item (done_record done.now))) }
+    ensures { let kept = front_kept state.now.revisions.kept (view_group state.now.group) in
+        result ≡ copy_change options.now kept (node_revision state.now.revisions) (record_item (done_record done.now)) }
 {
-    if !has_lost_source(options, item) {
-        find_source(options, kept, waiting, present, item.copy_revision())
-    } else if is_whole_file(item) {
-        Ok(NewCopy::Plain)
+    let item = done.item();
+    if !done.has_lost_source() {
+        source_change(options, state, item.copy_revision())
+    } else if is_whole_file(&item) {
+        Ok(CopyChange::Dropped)
     } else {
         Err(FaultKind::CopySource)
     }

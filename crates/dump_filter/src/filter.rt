@@ -1,10 +1,9 @@
 //! The filter: it takes the records of a dump one after another, and gives what is written of each.
-use crate::counts::{report_at_end, report_behind};
-use crate::judge::judge;
+use crate::decide::decide;
 use crate::report::Report;
-use crate::turn::{Held, end_piece, find_role, turn};
+use crate::state::State;
 use dump_digest::Done;
-use dump_rules::{Options, Reach};
+use dump_rules::Options;
 use dump_text::FaultKind;
 use dump_writer::Piece;
 use std::alloc::Global;
@@ -26,8 +25,7 @@ pub enum StepFault {
 #[derive(Drop)]
 pub struct Filter<'o, 'a> {
     options: &'o Options,
-    held: Held<'a>,
-    report: Report,
+    state: State<'a>,
     active: bool,
 }
 
@@ -35,18 +33,18 @@ impl<'o, 'a> Model for Filter<'o, 'a> {
     ghost use Rattle.std.specs.Prelude.{◌≡◌, true, option_map};
     ghost use Rattle.dump_records.specs.RecordViews.{record_dump, record_number};
     ghost use Rattle.dump_filter.specs.FilterState.{FilterState};
-    ghost use Rattle.dump_filter.specs.Turns.{waited};
-    ghost use Rattle.dump_filter.specs.Shape.{Knows};
+    ghost use Rattle.dump_filter.specs.State.{view_state};
+    ghost use Rattle.dump_filter.specs.Knowledge.{Knows};
 
     ghost Value = { FilterState };
 
     ghost view = { λ f. record {
       settings = f.options.now;
-      last = option_map (λ r. record { dump = record_dump r; number = record_number r }) f.held.last;
+      last = option_map (λ r. record { dump = record_dump r; number = record_number r }) f.state.last;
       active = f.active;
     } };
 
-    ghost invariant = { λ f. f.active ≡ true → Knows f.options.now f.held.last f.held.present f.held.kept (option_map waited f.held.waiting) f.report };
+    ghost invariant = { λ f. f.active ≡ true → Knows f.options.now f.state.last (view_state f.state) };
 }
 
 impl<'o, 'a> Filter<'o, 'a> {
@@ -64,19 +62,7 @@ impl<'o, 'a> Filter<'o, 'a> {
     {
         Filter {
             options,
-            held: Held {
-                last: None,
-                present: None,
-                kept: Reach::new(alloc, 0),
-                waiting: None,
-            },
-            report: Report {
-                revisions_kept: 0,
-                revisions_dropped: 0,
-                nodes_kept: 0,
-                nodes_dropped: 0,
-                texts_checked: 0,
-            },
+            state: State::new(alloc),
             active: true,
         }
     }
@@ -85,7 +71,7 @@ impl<'o, 'a> Filter<'o, 'a> {
     pub fn expected(&self) -> u64
         ensures { result ≡ count_up_to self.now.last }
     {
-        match &self.held.last {
+        match &self.state.last {
             Some(last) => last.number() + 1,
             None => 0,
         }
@@ -112,24 +98,17 @@ impl<'o, 'a> Filter<'o, 'a> {
         if !self.active {
             return Err(StepFault::Closed);
         }
-        let record = done.item();
-        let role = find_role(self.options, &record);
-        let verdict = done.verdict();
-        let copy = match judge(self.options, &self.held, &record, role, verdict) {
-            Ok(copy) => copy,
+        let fate = match decide(self.options, &self.state, &done) {
+            Ok(fate) => fate,
             Err(kind) => {
                 self.active = false;
                 return Err(StepFault::Rule(kind));
             }
         };
-        let checked = verdict.checked;
-        let waiting = &self.held.waiting;
-        let report = report_behind(self.options, waiting, self.report, role, checked);
-        let Ok(piece) = turn(&mut self.held, alloc, self.options, record, copy, role) else {
+        let Ok(piece) = self.state.advance(alloc, self.options, done, fate) else {
             self.active = false;
             return Err(StepFault::Memory);
         };
-        self.report = report;
         Ok(piece)
     }
 
@@ -144,16 +123,10 @@ impl<'o, 'a> Filter<'o, 'a> {
         if !self.active {
             return Err(StepFault::Closed);
         }
-        let Held {
-            present,
-            kept,
-            waiting,
-            ..
-        } = &self.held;
-        let Ok(piece) = end_piece(alloc, self.options, kept, *present, waiting) else {
+        let mut state = self.state;
+        let Ok(piece) = state.end_group(alloc, self.options) else {
             return Err(StepFault::Memory);
         };
-        let report = report_at_end(self.options, waiting, self.report);
-        Ok((piece, report))
+        Ok((piece, state.report))
     }
 }

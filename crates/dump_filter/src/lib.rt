@@ -17,17 +17,19 @@
 //! A piece lends bytes of the dump where they stay as they stand; only what is new is made.
 #![tactic(auto)]
 
+mod advance;
 mod copies;
-mod counts;
+mod decide;
+mod fate;
 mod filter;
-mod judge;
 pub mod laws;
-mod mergeinfo;
 mod new_lines;
 mod output;
+mod pending;
 mod props;
 mod report;
-mod turn;
+mod revisions;
+mod state;
 
 pub use filter::{Filter, StepFault};
 pub use report::Report;

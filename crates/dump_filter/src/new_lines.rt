@@ -6,8 +6,8 @@ ghost use Rattle.dump_text.specs.Views.{block_headers, line_header};
 ghost use Rattle.dump_writer.specs.ChunkBytes.{chunk_bytes};
 ghost use Rattle.dump_filter.specs.NewLines.{copy_number, is_copy_line, is_dropped, number_for, numbered, with_number, renewed_lines, added, new_headers};
 
-use crate::copies::NewCopy;
-use dump_text::{Block, Line, spell};
+use crate::fate::CopyChange;
+use dump_text::{Block, Line, push_header, spell};
 use dump_writer::{Chunk, Memory};
 use std::alloc::Global;
 
@@ -15,24 +15,24 @@ use std::alloc::Global;
 #[derive(Clone, Copy)]
 pub(crate) struct Changes {
     pub(crate) revision: Option<u64>,
-    pub(crate) copy: NewCopy,
+    pub(crate) copy: CopyChange,
     pub(crate) props: u64,
     pub(crate) text: u64,
     pub(crate) content: u64,
 }
 
 /// The number that the line of a copy revision gets.
-fn copy_number_of(copy: NewCopy) -> Option<u64>
+fn copy_number(copy: CopyChange) -> Option<u64>
     ensures { result ≡ copy_number copy }
 {
     match copy {
-        NewCopy::Number(n) => Some(n),
-        NewCopy::Same | NewCopy::Plain => None,
+        CopyChange::Renumbered(n) => Some(n),
+        CopyChange::Same | CopyChange::Dropped => None,
     }
 }
 
 /// Whether the line of this name tells of a copy source.
-fn tells_of_copy(name: &[u8]) -> bool
+fn is_copy_line(name: &[u8]) -> bool
     ensures { result ≡ is_copy_line name.now }
 {
     name == b"Node-copyfrom-rev".as_slice()
@@ -42,23 +42,23 @@ fn tells_of_copy(name: &[u8]) -> bool
 }
 
 /// Whether the line of this name goes.
-fn goes(changes: &Changes, name: &[u8]) -> bool
+fn is_dropped(changes: &Changes, name: &[u8]) -> bool
     ensures { result ≡ is_dropped changes.now.copy name.now }
 {
     match changes.copy {
-        NewCopy::Plain => tells_of_copy(name),
-        NewCopy::Same | NewCopy::Number(_) => false,
+        CopyChange::Dropped => is_copy_line(name),
+        CopyChange::Same | CopyChange::Renumbered(_) => false,
     }
 }
 
 /// The number that the line of this name gets.
-fn new_number(changes: &Changes, name: &[u8]) -> Option<u64>
+fn number_for(changes: &Changes, name: &[u8]) -> Option<u64>
     ensures { result ≡ number_for changes.now name.now }
 {
     if name == b"Revision-number".as_slice() {
         changes.revision
     } else if name == b"Node-copyfrom-rev".as_slice() {
-        copy_number_of(changes.copy)
+        copy_number(changes.copy)
     } else if name == b"Prop-content-length".as_slice() {
         Some(changes.props)
     } else if name == b"Text-content-length".as_slice() {
@@ -70,35 +70,15 @@ fn new_number(changes: &Changes, name: &[u8]) -> Option<u64>
     }
 }
 
-/// Adds bytes.
-pub(crate) fn push_bytes(out: &mut Vec<u8>, bytes: &[u8]) -> Result<(), Memory>
-    ensures { OnOk result (out.new.items ≡ out.old.items ++ bytes.now) }
-{
-    match out.extend_from_slice(bytes) {
-        Ok(()) => Ok(()),
-        Err(_) => Err(Memory),
-    }
-}
-
-/// Adds a line of this name and number.
-fn push_number(out: &mut Vec<u8>, name: &[u8], n: u64) -> Result<(), Memory>
-    ensures { OnOk result (out.new.items ≡ out.old.items ++ (header_text (numbered name.now n) ++ 10 ∷ [])) }
-{
-    push_bytes(out, name)?;
-    push_bytes(out, b": ")?;
-    push_bytes(out, spell(n).bytes())?;
-    push_bytes(out, b"\n")
-}
-
 /// Adds a line, with a new number if it gets one.
 fn push_line(out: &mut Vec<u8>, line: &Line<'_>, number: Option<u64>) -> Result<(), Memory>
     ensures { OnOk result (out.new.items ≡ out.old.items ++ (header_text (with_number (line_header line.now) number) ++ 10 ∷ [])) }
 {
     match number {
-        Some(n) => push_number(out, line.name, n),
+        Some(n) => Ok(push_header(out, line.name, n)?),
         None => {
-            push_bytes(out, line.whole)?;
-            push_bytes(out, b"\n")
+            out.extend_from_slice(line.whole)?;
+            Ok(out.extend_from_slice(b"\n")?)
         }
     }
 }
@@ -110,7 +90,7 @@ fn push_missing(out: &mut Vec<u8>, block: &Block<'_>, name: &[u8], n: u64) -> Re
     if n == 0 || block.has(name) {
         return Ok(());
     }
-    push_number(out, name, n)
+    Ok(push_header(out, name, n)?)
 }
 
 /// Whether a line stays as it stands where it gets this number.
@@ -129,7 +109,7 @@ fn all_stay(block: &Block<'_>, changes: &Changes) -> bool
 {
     let mut lines = block.lines();
     while let Some(line) = lines.next() {
-        if goes(changes, line.name) || !stays(&line, new_number(changes, line.name)) {
+        if is_dropped(changes, line.name) || !stays(&line, number_for(changes, line.name)) {
             return false;
         }
     }
@@ -174,12 +154,12 @@ fn write_block(alloc: Global, block: &Block<'_>, changes: &Changes) -> Result<Ve
     let mut out = Vec::new(alloc);
     let mut lines = block.lines();
     while let Some(line) = lines.next() {
-        if !goes(changes, line.name) {
-            push_line(&mut out, &line, new_number(changes, line.name))?;
+        if !is_dropped(changes, line.name) {
+            push_line(&mut out, &line, number_for(changes, line.name))?;
         }
     }
     push_missing(&mut out, block, b"Prop-content-length", changes.props)?;
     push_missing(&mut out, block, b"Content-length", changes.content)?;
-    push_bytes(&mut out, b"\n")?;
+    out.extend_from_slice(b"\n")?;
     Ok(out)
 }

@@ -1,24 +1,27 @@
 //! What is written of a record, as chunks of a piece.
-ghost use Rattle.std.specs.Prelude.{◌≡◌, ℕ, ◌++◌, ◌≤◌, All, List, OnOk};
+ghost use Rattle.std.specs.Prelude.{◌≡◌, ℕ, ◌++◌, List, IsTrue, OnOk};
 ghost use Rattle.dump_text.specs.HeaderBlock.{block_text};
 ghost use Rattle.dump_text.specs.PropertyList.{Property, IsPropertyBlock};
 ghost use Rattle.dump_writer.specs.ChunkBytes.{chunk_bytes};
 ghost use Rattle.dump_records.specs.RecordViews.{record_item};
 ghost use Rattle.dump_filter.specs.OwnText.{revision_own};
 ghost use Rattle.dump_filter.specs.NewLines.{AreLengths, new_record};
-ghost use Rattle.dump_filter.specs.MergeFaults.{HasLines};
-ghost use Rattle.dump_filter.specs.Turns.{IsOwnNode};
+ghost use Rattle.dump_digest.specs.DoneViews.{done_record};
+ghost use Rattle.dump_digest.specs.RecordParts.{is_revision};
+ghost use Rattle.dump_filter.specs.NewProperties.{IsReadNode};
+ghost use Rattle.dump_filter.specs.Advance.{IsOwnNode};
 
-use crate::copies::NewCopy;
+use crate::fate::CopyChange;
 use crate::new_lines::{Changes, new_lines};
 use crate::props::{node_properties, revision_properties};
+use dump_digest::Done;
 use dump_records::Record;
 use dump_rules::{Options, Reach};
 use dump_writer::{Chunk, Memory, Piece};
 use std::alloc::Global;
 
 /// What changes in the lines of a record of these properties and this text.
-fn changes_of(props: &Chunk<'_>, text: &[u8], revision: Option<u64>, copy: NewCopy) -> Changes
+fn changes_of(props: &Chunk<'_>, text: &[u8], revision: Option<u64>, copy: CopyChange) -> Changes
     ensures lengths { AreLengths (chunk_bytes props.now) text.now result }
     ensures revision { result.revision ≡ revision }
     ensures copy { result.copy ≡ copy }
@@ -68,36 +71,37 @@ fn push_record<'a>(
 pub(crate) fn push_revision<'a>(
     piece: &mut Piece<'a>,
     alloc: Global,
-    item: &Record<'a>,
+    done: &Done<'a>,
     number: u64,
     padded: bool,
 ) -> Result<(), Memory>
-    ensures { OnOk result ((ps : List Property) → IsPropertyBlock (record_item item.now).props ps
-        → piece.new ≡ piece.old ++ revision_own (record_item item.now) number padded ps) }
+    requires { IsTrue (is_revision (record_item (done_record done.now))) }
+    ensures { let r = record_item (done_record done.now) in OnOk result ((ps : List Property) → IsPropertyBlock r.props ps
+        → piece.new ≡ piece.old ++ revision_own r number padded ps) }
 {
-    let props = revision_properties(alloc, item, padded)?;
-    let changes = changes_of(&props, item.text_bytes(), Some(number), NewCopy::Same);
-    push_record(piece, alloc, item, &changes, props, b"\n")
+    let item = done.item();
+    let props = revision_properties(alloc, &item, &done.props(), padded)?;
+    let changes = changes_of(&props, item.text_bytes(), Some(number), CopyChange::Same);
+    push_record(piece, alloc, &item, &changes, props, b"\n")
 }
 
-/// Adds a node with its new copy source and new values of mergeinfo, where these revisions are kept, up to the present
-/// one.
+/// Adds a node with its new copy source and new values of mergeinfo, where these revisions are kept.
 pub(crate) fn push_node<'a>(
     piece: &mut Piece<'a>,
     alloc: Global,
     options: &Options,
     kept: &Reach,
-    present: u64,
-    item: &Record<'a>,
-    copy: NewCopy,
+    done: &Done<'a>,
+    copy: CopyChange,
 ) -> Result<(), Memory>
-    requires present { All (λ k. k ≤ present) kept.now.numbers }
-    requires merged { HasLines (record_item item.now).props }
-    ensures { OnOk result ((own : List ℕ) × (piece.new ≡ piece.old ++ own) × IsOwnNode options.now kept.now (record_item item.now) copy own) }
+    requires { IsReadNode done.now }
+    ensures { OnOk result ((own : List ℕ) × (piece.new ≡ piece.old ++ own)
+        × IsOwnNode options.now kept.now (record_item (done_record done.now)) copy own) }
 {
-    let props = node_properties(alloc, options, kept, present, item)?;
+    let item = done.item();
+    let props = node_properties(alloc, options, kept, done)?;
     let changes = changes_of(&props, item.text_bytes(), None, copy);
-    push_record(piece, alloc, item, &changes, props, b"\n\n")
+    push_record(piece, alloc, &item, &changes, props, b"\n\n")
 }
 
 /// Adds the lines of a version or UUID record, as they stand.

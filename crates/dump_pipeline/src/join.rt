@@ -1,6 +1,5 @@
 //! The end of a run: its threads are joined, and what they brought back is put together.
 ghost use Rattle.std.specs.Prelude.{◌≡◌, ◌≢◌, ◌+◌, ◌≤◌, ℕ, List, Option, length, map, true, false, All, vec_capacity};
-ghost use Rattle.dump_lanes.specs.Arrivals.{first_numbers};
 ghost use Rattle.dump_lanes.specs.LaneEnds.{LaneEnd};
 ghost use Rattle.dump_lanes.specs.LaneViews.{sending, sent, receiving};
 ghost use Rattle.dump_lanes.specs.PortSides.{AreWorkersOf};

@@ -1,7 +1,127 @@
--- What reading the header lines of a block tells.
-use Rattle.std.proofs.Common.{◌≡◌, ℕ, List, Option, Some, None, refl, is_some, Bor}
-use Rattle.std.specs.Option.{option_copied}
+-- What lawful header lines tell of their record's kind and numbers.
+use Rattle.std.proofs.Common.{◌≡◌, ℕ, ◌==◌, ◌&&◌, not, Bool, true, false, List, [], ◌∷◌, refl, sym, ap, ◌∙◌, Option, Some, None, is_some, is_none, count_by, option_and_then}
+use Rattle.dump_text.specs.Names.{version_name, uuid_name, revision_name, path_name, copy_revision_name, copy_path_name, deciding_names, length_names}
+use Rattle.std.specs.List.{list_any}
+use Rattle.dump_text.specs.Number.{number_of}
+use Rattle.dump_text.specs.HeaderLine.{Header, has_header, header_value}
+use Rattle.dump_text.proofs.BoolLemmas.{first_false, second_false, false_true}
+use Rattle.dump_text.proofs.BlockLemmas.{has_value}
+use Rattle.dump_records.specs.HeaderRules.{header_number, is_one_alone, has_bad_kind, has_bad_number}
 
-pub some_copied : (r : Option (Bor (List ℕ))) → is_some r ≡ is_some (option_copied r)
-some_copied None = refl
-some_copied (Some x) = refl
+-- of four names exactly one is there
+pub record OneKind (v u s n : Bool) : Type 0 where
+  pub node : n ≡ true → (v ≡ false) × (u ≡ false) × (s ≡ false)
+  pub uuid : u ≡ true → (v ≡ false) × (s ≡ false) × (n ≡ false)
+  pub revision : s ≡ true → (v ≡ false) × (u ≡ false) × (n ≡ false)
+  pub version : u ≡ false → s ≡ false → n ≡ false → v ≡ true
+
+one_kind : (v u s n : Bool) → not (count_by (λ (b : Bool). b) (v ∷ u ∷ s ∷ n ∷ []) == 1) ≡ false → OneKind v u s n
+one_kind true true true true bad = absurd (false_true (sym bad))
+one_kind true true true false bad = absurd (false_true (sym bad))
+one_kind true true false true bad = absurd (false_true (sym bad))
+one_kind true true false false bad = absurd (false_true (sym bad))
+one_kind true false true true bad = absurd (false_true (sym bad))
+one_kind true false true false bad = absurd (false_true (sym bad))
+one_kind true false false true bad = absurd (false_true (sym bad))
+one_kind true false false false good = record {
+  node = λ is. absurd (false_true is);
+  uuid = λ is. absurd (false_true is);
+  revision = λ is. absurd (false_true is);
+  version = λ no_uuid no_revision no_node. refl;
+}
+one_kind false true true true bad = absurd (false_true (sym bad))
+one_kind false true true false bad = absurd (false_true (sym bad))
+one_kind false true false true bad = absurd (false_true (sym bad))
+one_kind false true false false good = record {
+  node = λ is. absurd (false_true is);
+  uuid = λ is. (refl, refl, refl);
+  revision = λ is. absurd (false_true is);
+  version = λ no_uuid no_revision no_node. absurd (false_true (sym no_uuid));
+}
+one_kind false false true true bad = absurd (false_true (sym bad))
+one_kind false false true false good = record {
+  node = λ is. absurd (false_true is);
+  uuid = λ is. absurd (false_true is);
+  revision = λ is. (refl, refl, refl);
+  version = λ no_uuid no_revision no_node. absurd (false_true (sym no_revision));
+}
+one_kind false false false true good = record {
+  node = λ is. (refl, refl, refl);
+  uuid = λ is. absurd (false_true is);
+  revision = λ is. absurd (false_true is);
+  version = λ no_uuid no_revision no_node. absurd (false_true (sym no_node));
+}
+one_kind false false false false bad = absurd (false_true (sym bad))
+
+-- the deciding names of lines of some kind
+pub deciding : (headers : List Header) → has_bad_kind headers ≡ false
+    → OneKind (has_header version_name headers) (has_header uuid_name headers) (has_header revision_name headers)
+    (has_header path_name headers)
+deciding headers good = one_kind (has_header version_name headers) (has_header uuid_name headers)
+    (has_header revision_name headers) (has_header path_name headers)
+    (first_false _ (has_header path_name headers && is_one_alone (has_header copy_revision_name headers)
+    (has_header copy_path_name headers)) good)
+
+-- a node's two copyfrom headers stand together
+pub copy_both : (headers : List Header) → has_bad_kind headers ≡ false → has_header path_name headers ≡ true
+    → has_header copy_revision_name headers ≡ has_header copy_path_name headers
+copy_both headers good node = same (has_header copy_revision_name headers) (has_header copy_path_name headers)
+    (sym (rw node refl) ∙ second_false (not (count_by (λ name. has_header name headers) deciding_names == 1))
+    (has_header path_name headers && is_one_alone (has_header copy_revision_name headers)
+    (has_header copy_path_name headers)) good)
+  where
+    same : (a b : Bool) → is_one_alone a b ≡ false → a ≡ b
+    same true true alone = refl
+    same true false alone = alone
+    same false true alone = sym alone
+    same false false alone = refl
+
+-- what is missing is none
+pub none_of : {A : Type 0} (r : Option A) → is_some r ≡ false → None ≡ r
+none_of None missing = refl
+none_of (Some x) missing = absurd (false_true (sym missing))
+
+-- where no line has the name, it has no value and no number
+pub no_value : (name : List ℕ) (headers : List Header) → has_header name headers ≡ false
+    → None ≡ header_value name headers
+no_value name headers missing = none_of (header_value name headers) (has_value name headers ∙ missing)
+
+pub no_number : (name : List ℕ) (headers : List Header) → has_header name headers ≡ false
+    → None ≡ header_number name headers
+no_number name headers missing = ap (option_and_then number_of) (no_value name headers missing)
+
+-- a line has the name where the name has a value
+pub value_there : (name : List ℕ) (headers : List Header) (v : Option (List ℕ)) → v ≡ header_value name headers
+    → has_header name headers ≡ is_some v
+value_there name headers v is = sym (has_value name headers) ∙ ap is_some (sym is)
+
+-- a number is there where its line is, unless that line gives none
+number_there : (name : List ℕ) (headers : List Header)
+    → (has_header name headers && is_none (header_number name headers)) ≡ false
+    → has_header name headers ≡ is_some (header_number name headers)
+number_there name headers good = cases (has_header name headers) refl (header_number name headers) refl
+  where
+    cases : (b : Bool) → has_header name headers ≡ b → (n : Option ℕ) → header_number name headers ≡ n → b ≡ is_some n
+    cases true has (Some n) number = refl
+    cases true has None number = absurd (false_true (sym good ∙ rw (has, number) refl))
+    cases false has None number = refl
+    cases false has (Some n) number = absurd (no_some (no_number name headers has ∙ number))
+      where
+        no_some : None ≡ Some n → ⊥
+        no_some e = cc
+
+-- the numbers of a revision and of a copy source are there where their lines are
+module _ (headers : List Header) (good : has_bad_number headers ≡ false) where
+  rest : list_any (λ name. has_header name headers && is_none (header_number name headers))
+      (copy_revision_name ∷ length_names) ≡ false
+  rest = second_false (has_header revision_name headers && is_none (header_number revision_name headers)) _ good
+
+  pub revision_there : has_header revision_name headers ≡ is_some (header_number revision_name headers)
+  revision_there = number_there revision_name headers
+      (first_false _ (list_any (λ name. has_header name headers && is_none (header_number name headers))
+      (copy_revision_name ∷ length_names)) good)
+
+  pub copy_there : has_header copy_revision_name headers ≡ is_some (header_number copy_revision_name headers)
+  copy_there = number_there copy_revision_name headers
+      (first_false _ (list_any (λ name. has_header name headers && is_none
+      (header_number name headers)) length_names) rest)

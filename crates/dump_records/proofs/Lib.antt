@@ -4,3 +4,4 @@ pub mod PartLemmas
 pub mod CutLemmas
 pub mod ListLaw
 pub mod Prefixes
+pub mod RecordLemmas

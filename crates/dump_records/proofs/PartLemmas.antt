@@ -16,7 +16,9 @@ use Rattle.dump_records.specs.RecordText.{BeginsWithRecord, is_lawful, HasBlockW
 use Rattle.dump_records.specs.RecordPlaces.{record_between}
 use Rattle.dump_records.proofs.Unique.{keeps}
 use Rattle.dump_records.specs.Lawful.{header_fault, IsUnlawful, LengthsOf}
-use Rattle.dump_records.specs.declared.headers.Lengths.{Lengths}
+use Rattle.dump_records.specs.declared.readings.Lengths.{Lengths}
+use Rattle.dump_records.specs.declared.readings.RecordHeader.{RecordHeader}
+use Rattle.dump_records.specs.HeaderReading.{IsHeaderOf}
 use Rattle.dump_text.specs.declared.block.Block.{Block}
 use Rattle.dump_text.specs.Views.{block_dump, block_place, block_after, block_headers}
 use Rattle.dump_records.specs.Standing.{IsGap, StandsAt}
@@ -197,15 +199,17 @@ module _ (dump : List ℕ) (place number : ℕ) (b : Block) (dump_is : block_dum
       cut_short number (drop place dump) headers (drop (block_after b) dump) here.block
       (ap (is_lawful number) (sym headers_here) ∙ found.lawful) (omega arith)
 
-  pub stands_here : (lengths : Lengths) (text_from after : ℕ) → LengthsOf number (block_headers b) lengths
+  pub stands_here : (header : RecordHeader) (lengths : Lengths) (text_from after : ℕ)
+      → IsHeaderOf (block_headers b) header → LengthsOf number (block_headers b) lengths
       → lengths.props + lengths.text ≤ length dump - block_after b
       → text_from ≡ block_after b + lengths.props → after ≡ text_from + lengths.text
-      → StandsAt dump place number (record { block = b; text_from = text_from; after = after })
-  stands_here lengths text_from after found fits text_at after_at =
+      → StandsAt dump place number (record { block = b; header = header; text_from = text_from; after = after })
+  stands_here header lengths text_from after says found fits text_at after_at =
       let inside = here.inside in
       record {
         dump_is = dump_is;
         place_is = place_is;
+        header = says;
         inside = record { props = omega arith; text = omega arith; end = omega arith };
         stands = standing dump number place (block_after b) text_from after lengths.props lengths.text here
             (ap (is_lawful number) (sym headers_here) ∙ found.lawful)

@@ -1,6 +1,8 @@
 pub mod HeaderRules
 pub mod RecordText
 pub mod Lawful
+pub mod KindReading
+pub mod HeaderReading
 pub mod DumpText
 pub mod RecordPlaces
 pub mod Standing

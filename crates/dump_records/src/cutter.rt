@@ -60,6 +60,7 @@ impl<'a> Cutter<'a> {
                 let record = Record {
                     block: parts.block,
                     number: self.number,
+                    header: parts.header,
                     text_from: parts.text_from,
                     after: parts.after,
                 };

@@ -1,141 +1,192 @@
 //! What the header lines of a block say of their record, and the rules that they may break.
-ghost use Rattle.std.specs.Prelude.{◌≡◌, ◌<◌, ◌^◌, ◌&&◌, IfSome, MatchResult, is_none};
-ghost use Rattle.dump_text.specs.HeaderLine.{has_header};
-ghost use Rattle.dump_text.specs.Views.{block_headers};
-ghost use Rattle.dump_records.specs.HeaderRules.{kind_of, header_number, header_length, has_bad_kind, has_bad_version, has_bad_number, has_bad_lengths, property_length, text_length};
-ghost use Rattle.dump_records.specs.Lawful.{LengthsOf, header_fault, IsUnlawful};
+ghost use Rattle.std.specs.Prelude.{◌≡◌, ◌<◌, ◌^◌, ◌&&◌, IfSome, IsFalse, MatchResult, is_none, is_some, option_map, bytes_eq, unwrap_or, codes, []};
+ghost use Rattle.dump_text.specs.Names.{name_text, node_kind_name, copy_path_name};
+ghost use Rattle.dump_text.specs.HeaderLine.{has_header, header_value};
+ghost use Rattle.dump_records.specs.HeaderRules.{header_number, has_bad_kind, has_bad_version, has_bad_number, has_bad_lengths};
+ghost use Rattle.dump_records.specs.KindReading.{IsKindOf};
+ghost use Rattle.dump_records.specs.HeaderReading.{lines_of, AreNumbers, IsHeaderOf};
+ghost use Rattle.dump_records.specs.Lawful.{LengthsOf, IsUnlawful};
 
-use crate::kind::RecordKind;
-use dump_text::{Block, FaultKind, number};
-
-/// Whether a line has this name.
-pub(crate) fn has(block: &Block<'_>, name: &[u8]) -> bool
-    ensures { result ≡ has_header name.now (block_headers block.now) }
-{
-    block.get(name).is_some()
-}
+use crate::kind::{CopySource, KindParts};
+use crate::readings::{Lengths, Numbers, RecordHeader};
+use dump_text::{FaultKind, HeaderName, Headers, number};
 
 /// The number that the header of this name gives.
-pub(crate) fn number_at(block: &Block<'_>, name: &[u8]) -> Option<u64>
-    ensures value { result ≡ header_number name.now (block_headers block.now) }
+fn number_at(headers: &Headers<'_>, name: HeaderName) -> Option<u64>
+    ensures value { result ≡ header_number (name_text name) (lines_of headers.now) }
     ensures small { IfSome result (λ n. n < 10 ^ 18) }
 {
-    match block.get(name) {
+    match headers.value(name) {
         Some(digits) => number(digits),
         None => None,
     }
 }
 
-/// The length that the header of this name gives; a missing one counts as 0.
-fn length_at(block: &Block<'_>, name: &[u8]) -> u64
-    ensures value { result ≡ header_length name.now (block_headers block.now) }
-    ensures small { result < 10 ^ 18 }
+/// The numbers that the lines give, each read once.
+fn numbers_of(headers: &Headers<'_>) -> Numbers
+    ensures { AreNumbers (lines_of headers.now) result }
 {
-    match number_at(block, name) {
-        Some(length) => length,
-        None => 0,
-    }
-}
-
-/// Whether the header of this name is there and gives no number.
-fn is_no_number(block: &Block<'_>, name: &[u8]) -> bool
-    ensures { result ≡ (has_header name.now (block_headers block.now) && is_none (header_number name.now (block_headers block.now))) }
-{
-    has(block, name) && number_at(block, name).is_none()
-}
-
-/// What a block's record is.
-pub(crate) fn kind_at(block: &Block<'_>) -> RecordKind
-    ensures { result ≡ kind_of (block_headers block.now) }
-{
-    if has(block, b"SVN-fs-dump-format-version") {
-        RecordKind::Version
-    } else if has(block, b"UUID") {
-        RecordKind::Uuid
-    } else if has(block, b"Revision-number") {
-        RecordKind::Revision
-    } else {
-        RecordKind::Node
+    Numbers {
+        version: number_at(headers, HeaderName::FormatVersion),
+        revision: number_at(headers, HeaderName::RevisionNumber),
+        copy_revision: number_at(headers, HeaderName::NodeCopyfromRev),
+        props: number_at(headers, HeaderName::PropContentLength),
+        text: number_at(headers, HeaderName::TextContentLength),
+        content: number_at(headers, HeaderName::ContentLength),
     }
 }
 
 /// Whether not exactly one deciding name stands in the block, or one copyfrom header alone in a node.
-fn breaks_kind(block: &Block<'_>) -> bool
-    ensures { result ≡ has_bad_kind (block_headers block.now) }
+fn breaks_kind(headers: &Headers<'_>) -> bool
+    ensures { result ≡ has_bad_kind (lines_of headers.now) }
 {
-    let is_node = has(block, b"Node-path");
-    let deciding = u8::from(has(block, b"SVN-fs-dump-format-version"))
-        + u8::from(has(block, b"UUID"))
-        + u8::from(has(block, b"Revision-number"))
+    let is_node = headers.has(HeaderName::NodePath);
+    let deciding = u8::from(headers.has(HeaderName::FormatVersion))
+        + u8::from(headers.has(HeaderName::Uuid))
+        + u8::from(headers.has(HeaderName::RevisionNumber))
         + u8::from(is_node);
-    let half_copy = has(block, b"Node-copyfrom-rev") != has(block, b"Node-copyfrom-path");
+    let half_copy = headers.has(HeaderName::NodeCopyfromRev)
+        != headers.has(HeaderName::NodeCopyfromPath);
     deciding != 1 || (is_node && half_copy)
 }
 
 /// Whether the first record of the dump is no version record, or a version isn't 2.
-fn breaks_version(block: &Block<'_>, number: u64) -> bool
-    ensures { result ≡ has_bad_version number (block_headers block.now) }
+fn breaks_version(headers: &Headers<'_>, numbers: &Numbers, number: u64) -> bool
+    requires { AreNumbers (lines_of headers.now) numbers.now }
+    ensures { result ≡ has_bad_version number (lines_of headers.now) }
 {
-    if has(block, b"SVN-fs-dump-format-version") {
-        length_at(block, b"SVN-fs-dump-format-version") != 2
+    if headers.has(HeaderName::FormatVersion) {
+        numbers.version.unwrap_or(0) != 2
     } else {
         number == 0
     }
 }
 
-/// Whether a revision number, a copy revision or a length isn't a number.
-fn breaks_number(block: &Block<'_>) -> bool
-    ensures { result ≡ has_bad_number (block_headers block.now) }
+/// Whether the header of this name is there and gives no number.
+fn is_no_number(headers: &Headers<'_>, name: HeaderName, found: Option<u64>) -> bool
+    requires { found ≡ header_number (name_text name) (lines_of headers.now) }
+    ensures { result ≡ (has_header (name_text name) (lines_of headers.now)
+        && is_none (header_number (name_text name) (lines_of headers.now))) }
 {
-    is_no_number(block, b"Revision-number")
-        || is_no_number(block, b"Node-copyfrom-rev")
-        || is_no_number(block, b"Prop-content-length")
-        || is_no_number(block, b"Text-content-length")
-        || is_no_number(block, b"Content-length")
+    headers.has(name) && found.is_none()
+}
+
+/// Whether a revision number, a copy revision or a length isn't a number.
+fn breaks_number(headers: &Headers<'_>, numbers: &Numbers) -> bool
+    requires { AreNumbers (lines_of headers.now) numbers.now }
+    ensures { result ≡ has_bad_number (lines_of headers.now) }
+{
+    is_no_number(headers, HeaderName::RevisionNumber, numbers.revision)
+        || is_no_number(headers, HeaderName::NodeCopyfromRev, numbers.copy_revision)
+        || is_no_number(headers, HeaderName::PropContentLength, numbers.props)
+        || is_no_number(headers, HeaderName::TextContentLength, numbers.text)
+        || is_no_number(headers, HeaderName::ContentLength, numbers.content)
+}
+
+/// How many bytes of properties and of text follow a block; a missing length counts as 0.
+fn lengths_of(numbers: &Numbers) -> Lengths
+    ensures props { result.props ≡ unwrap_or numbers.now.props 0 }
+    ensures text { result.text ≡ unwrap_or numbers.now.text 0 }
+{
+    Lengths {
+        props: numbers.props.unwrap_or(0),
+        text: numbers.text.unwrap_or(0),
+    }
 }
 
 /// Whether the lengths don't add up, or the record may not have one of them.
-fn breaks_lengths(block: &Block<'_>) -> bool
-    ensures { result ≡ has_bad_lengths (block_headers block.now) }
+fn breaks_lengths(headers: &Headers<'_>, numbers: &Numbers) -> bool
+    requires { AreNumbers (lines_of headers.now) numbers.now }
+    ensures { result ≡ has_bad_lengths (lines_of headers.now) }
 {
-    let has_text = has(block, b"Text-content-length");
-    let has_content = has(block, b"Content-length");
-    let sum = length_at(block, b"Prop-content-length") + length_at(block, b"Text-content-length");
-    if has_content && length_at(block, b"Content-length") != sum {
+    let has_text = headers.has(HeaderName::TextContentLength);
+    let has_content = headers.has(HeaderName::ContentLength);
+    let lengths = lengths_of(numbers);
+    if has_content && numbers.content.unwrap_or(0) != lengths.props + lengths.text {
         return true;
     }
-    let has_none = has(block, b"SVN-fs-dump-format-version") || has(block, b"UUID");
-    if has_none && (has(block, b"Prop-content-length") || has_text || has_content) {
+    let has_none = headers.has(HeaderName::FormatVersion) || headers.has(HeaderName::Uuid);
+    if has_none && (headers.has(HeaderName::PropContentLength) || has_text || has_content) {
         return true;
     }
-    has(block, b"Revision-number") && has_text
+    headers.has(HeaderName::RevisionNumber) && has_text
 }
 
-/// How many bytes of properties and of text follow a block.
-#[derive(Clone, Copy)]
-pub(crate) struct Lengths {
-    pub(crate) props: u64,
-    pub(crate) text: u64,
-}
-
-/// The lengths of the record with this number, or the first rule that its header lines break.
-pub(crate) fn read_lengths(block: &Block<'_>, number: u64) -> Result<Lengths, FaultKind>
-    ensures { MatchResult result (LengthsOf number (block_headers block.now)) (IsUnlawful number (block_headers block.now)) }
+/// What a node is copied from, where its copy revision is this one.
+fn copy_source<'a>(headers: &Headers<'a>, revision: Option<u64>) -> Option<CopySource<'a>>
+    requires { is_some revision ≡ has_header copy_path_name (lines_of headers.now) }
+    ensures path { option_map (λ c. c.path.now) result ≡ header_value copy_path_name (lines_of headers.now) }
+    ensures revision { option_map (λ c. c.revision) result ≡ revision }
 {
-    if breaks_kind(block) {
+    let Some(path) = headers.value(HeaderName::NodeCopyfromPath) else {
+        return None;
+    };
+    let Some(revision) = revision else {
+        return None;
+    };
+    Some(CopySource { path, revision })
+}
+
+/// What the record is, with the parts that its kind has.
+fn parts_of<'a>(headers: &Headers<'a>, numbers: &Numbers) -> KindParts<'a>
+    requires numbers { AreNumbers (lines_of headers.now) numbers.now }
+    requires kind { IsFalse (has_bad_kind (lines_of headers.now)) }
+    requires number { IsFalse (has_bad_number (lines_of headers.now)) }
+    ensures { IsKindOf (lines_of headers.now) result }
+{
+    if let Some(path) = headers.value(HeaderName::NodePath) {
+        let copy = copy_source(headers, numbers.copy_revision);
+        return KindParts::Node { path, copy };
+    }
+    if let Some(number) = numbers.revision {
+        return KindParts::Revision { number };
+    }
+    if headers.has(HeaderName::Uuid) {
+        KindParts::Uuid
+    } else {
+        KindParts::Version
+    }
+}
+
+/// Whether the lines say that the node is a file.
+fn says_file(headers: &Headers<'_>) -> bool
+    ensures { result ≡ bytes_eq (unwrap_or (header_value node_kind_name (lines_of headers.now)) []) (codes "file") }
+{
+    match headers.value(HeaderName::NodeKind) {
+        Some(kind) => kind == b"file".as_slice(),
+        None => false,
+    }
+}
+
+/// What the header lines of the record with this number say, and its lengths; or the first rule that they break.
+pub(crate) fn read_header<'a>(
+    headers: &Headers<'a>,
+    number: u64,
+) -> Result<(RecordHeader<'a>, Lengths), FaultKind>
+    ensures { MatchResult result
+        (λ found. IsHeaderOf (lines_of headers.now) found.0 × LengthsOf number (lines_of headers.now) found.1)
+        (IsUnlawful number (lines_of headers.now)) }
+{
+    let numbers = numbers_of(headers);
+    if breaks_kind(headers) {
         return Err(FaultKind::Kind);
     }
-    if breaks_version(block, number) {
+    if breaks_version(headers, &numbers, number) {
         return Err(FaultKind::Version);
     }
-    if breaks_number(block) {
+    if breaks_number(headers, &numbers) {
         return Err(FaultKind::Number);
     }
-    if breaks_lengths(block) {
+    if breaks_lengths(headers, &numbers) {
         return Err(FaultKind::Lengths);
     }
-    Ok(Lengths {
-        props: length_at(block, b"Prop-content-length"),
-        text: length_at(block, b"Text-content-length"),
-    })
+    let header = RecordHeader {
+        parts: parts_of(headers, &numbers),
+        is_file: says_file(headers),
+        has_props: headers.has(HeaderName::PropContentLength),
+        has_text: headers.has(HeaderName::TextContentLength),
+        md5: headers.value(HeaderName::TextContentMd5),
+        sha1: headers.value(HeaderName::TextContentSha1),
+    };
+    Ok((header, lengths_of(&numbers)))
 }

@@ -3,7 +3,8 @@
 //! A [`Record`] is a block of header lines, then its properties, then its text. [`Cutter::next`]
 //! gives the next one, or says how the list of records ends: with the dump, or at a byte where no
 //! record stands, with the first fault that holds there. After its end a cutter tells the same end
-//! again. A record is a copyable view: it holds places of the dump and lends parts of it.
+//! again. A record is a copyable view: it holds places of the dump and what its header lines say, which
+//! are read once, and lends parts of the dump.
 //!
 //! ```
 //! let mut cutter = Cutter::new(dump);
@@ -27,6 +28,7 @@ mod headers;
 mod kind;
 pub mod laws;
 mod parts;
+mod readings;
 mod record;
 
 pub use cutter::{Cut, Cutter};

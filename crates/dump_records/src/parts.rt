@@ -3,13 +3,15 @@ ghost use Rattle.std.specs.Prelude.{◌≡◌, IfOk, IfErr, drop};
 ghost use Rattle.dump_records.specs.RecordText.{IsCutFault};
 ghost use Rattle.dump_records.specs.Standing.{StandsAt, IsGap};
 
-use crate::headers::read_lengths;
-use dump_text::{Block, FaultKind};
+use crate::headers::read_header;
+use crate::readings::RecordHeader;
+use dump_text::{Block, FaultKind, Headers};
 
-/// A record's block, and where its text and what follows it begin.
+/// A record's block, what its lines say, and where its text and what follows it begin.
 #[derive(Clone, Copy)]
 pub(crate) struct Parts<'a> {
     pub(crate) block: Block<'a>,
+    pub(crate) header: RecordHeader<'a>,
     pub(crate) text_from: usize,
     pub(crate) after: usize,
 }
@@ -31,8 +33,10 @@ pub(crate) fn parts_at(dump: &[u8], place: usize, number: u64) -> Result<Parts<'
     ensures stands { IfOk result (StandsAt dump.now place number) }
     ensures fault { IfErr result (IsCutFault number (drop place dump.now)) }
 {
-    let block = Block::cut(dump, place)?;
-    let lengths = read_lengths(&block, number)?;
+    let headers = Headers::read(dump, place)?;
+    let found = read_header(&headers, number)?;
+    let lengths = found.1;
+    let block = headers.block();
     let left = dump.len() - block.after();
     if (left as u64) < lengths.props + lengths.text {
         return Err(FaultKind::ContentCut);
@@ -40,6 +44,7 @@ pub(crate) fn parts_at(dump: &[u8], place: usize, number: u64) -> Result<Parts<'
     let text_from = block.after() + lengths.props as usize;
     Ok(Parts {
         block,
+        header: found.0,
         text_from,
         after: text_from + lengths.text as usize,
     })

@@ -1,22 +1,26 @@
 //! A record of a dump, as a view into it.
 ghost use Rattle.std.specs.Prelude.{drop, ◌+◌, ◌<◌, ◌^◌};
-ghost use Rattle.dump_text.specs.Views.{block_dump, block_place, block_after};
+ghost use Rattle.dump_text.specs.Views.{block_dump, block_place, block_after, block_headers};
 ghost use Rattle.dump_records.specs.RecordText.{BeginsWithRecord};
 ghost use Rattle.dump_records.specs.RecordPlaces.{record_between};
 ghost use Rattle.dump_records.specs.DumpText.{IsRecordOf};
 ghost use Rattle.dump_records.specs.Standing.{AreInside};
+ghost use Rattle.dump_records.specs.HeaderReading.{IsHeaderOf};
 
-use crate::headers::{has, kind_at, number_at};
-use crate::kind::RecordKind;
+use crate::kind::{CopySource, KindParts, RecordKind};
+use crate::readings::RecordHeader;
 use dump_text::Block;
 
-/// A record of a dump, with its number there. Every slice that it lends is a part of the dump.
+/// A record of a dump, with its number there and what its header lines say. Every slice that it lends is a part of the
+/// dump.
 #[derive(Clone, Copy)]
 pub struct Record<'a> {
     pub(crate) block: Block<'a>,
     pub(crate) number: u64,
+    pub(crate) header: RecordHeader<'a>,
     pub(crate) text_from: usize,
     pub(crate) after: usize,
+    pub ghost says: { IsHeaderOf (block_headers block) header },
     pub ghost counted: { number + 1 < 2 ^ 64 },
     pub ghost inside: { AreInside (block_dump block) (block_after block) text_from after },
     pub ghost stands: { BeginsWithRecord number (drop (block_place block) (block_dump block))
@@ -27,11 +31,11 @@ pub struct Record<'a> {
 }
 
 impl<'a> Record<'a> {
-    ghost use Rattle.std.specs.Prelude.{◌≡◌, List, IfSome, option_copied, slice_range};
-    ghost use Rattle.dump_text.specs.Names.{path_name, revision_name, copy_path_name, copy_revision_name, property_length_name, text_length_name};
-    ghost use Rattle.dump_text.specs.HeaderLine.{header_value};
-    ghost use Rattle.dump_text.specs.Views.{block_headers};
+    ghost use Rattle.std.specs.Prelude.{◌≡◌, List, [], IfSome, option_copied, slice_range, bytes_eq, unwrap_or, codes};
+    ghost use Rattle.dump_text.specs.Names.{path_name, revision_name, copy_path_name, copy_revision_name, property_length_name, text_length_name, node_kind_name, md5_name, sha1_name};
+    ghost use Rattle.dump_text.specs.HeaderLine.{has_header, header_value};
     ghost use Rattle.dump_records.specs.HeaderRules.{kind_of, header_number};
+    ghost use Rattle.dump_records.specs.KindReading.{copy_in};
     ghost use Rattle.dump_records.specs.RecordPlaces.{props_place, text_place, place_after};
     ghost use Rattle.dump_records.specs.RecordViews.{record_dump, record_number, record_item, part_with, part_of_node, IsInBlock};
 
@@ -60,7 +64,12 @@ impl<'a> Record<'a> {
     pub fn kind(&self) -> RecordKind
         ensures { result ≡ kind_of (record_item self.now).headers }
     {
-        kind_at(&self.block)
+        match self.header.parts {
+            KindParts::Version => RecordKind::Version,
+            KindParts::Uuid => RecordKind::Uuid,
+            KindParts::Revision { .. } => RecordKind::Revision,
+            KindParts::Node { .. } => RecordKind::Node,
+        }
     }
 
     /// Its header lines.
@@ -78,7 +87,20 @@ impl<'a> Record<'a> {
         ensures value { option_copied result ≡ header_value path_name (record_item self.now).headers }
         ensures lent { IfSome result (λ path. IsInBlock self.now path.now) }
     {
-        self.block.get(b"Node-path")
+        match self.header.parts {
+            KindParts::Node { path, .. } => Some(path),
+            _ => None,
+        }
+    }
+
+    /// What a node is copied from.
+    fn copy_source(&self) -> Option<CopySource<'a>>
+        ensures { result ≡ copy_in self.now.header.parts }
+    {
+        match self.header.parts {
+            KindParts::Node { copy, .. } => copy,
+            _ => None,
+        }
     }
 
     /// The path that a node is copied from.
@@ -87,11 +109,10 @@ impl<'a> Record<'a> {
             option_copied result ≡ part_of_node r (header_value copy_path_name r.headers) }
         ensures lent { IfSome result (λ path. IsInBlock self.now path.now) }
     {
-        if has(&self.block, b"Node-path") {
-            self.block.get(b"Node-copyfrom-path")
-        } else {
-            None
-        }
+        let Some(source) = self.copy_source() else {
+            return None;
+        };
+        Some(source.path)
     }
 
     /// The revision that a node is copied from.
@@ -99,18 +120,58 @@ impl<'a> Record<'a> {
         ensures { let r = record_item self.now in
             result ≡ part_of_node r (header_number copy_revision_name r.headers) }
     {
-        if has(&self.block, b"Node-path") {
-            number_at(&self.block, b"Node-copyfrom-rev")
-        } else {
-            None
-        }
+        let Some(source) = self.copy_source() else {
+            return None;
+        };
+        Some(source.revision)
     }
 
     /// The number of a revision.
     pub fn revision(&self) -> Option<u64>
         ensures { result ≡ header_number revision_name (record_item self.now).headers }
     {
-        number_at(&self.block, b"Revision-number")
+        match self.header.parts {
+            KindParts::Revision { number } => Some(number),
+            _ => None,
+        }
+    }
+
+    /// Whether its lines say that it is a file.
+    pub fn is_file(&self) -> bool
+        ensures { result ≡ bytes_eq (unwrap_or (header_value node_kind_name (record_item self.now).headers) [])
+            (codes "file") }
+    {
+        self.header.is_file
+    }
+
+    /// The MD5 digest that its lines tell of its text.
+    pub fn md5(&self) -> Option<&'a [u8]>
+        ensures value { option_copied result ≡ header_value md5_name (record_item self.now).headers }
+        ensures lent { IfSome result (λ digest. IsInBlock self.now digest.now) }
+    {
+        self.header.md5
+    }
+
+    /// The SHA-1 digest that its lines tell of its text.
+    pub fn sha1(&self) -> Option<&'a [u8]>
+        ensures value { option_copied result ≡ header_value sha1_name (record_item self.now).headers }
+        ensures lent { IfSome result (λ digest. IsInBlock self.now digest.now) }
+    {
+        self.header.sha1
+    }
+
+    /// Whether it has a length for properties.
+    pub fn has_props(&self) -> bool
+        ensures { result ≡ has_header property_length_name (record_item self.now).headers }
+    {
+        self.header.has_props
+    }
+
+    /// Whether it has a length for a text.
+    pub fn has_text(&self) -> bool
+        ensures { result ≡ has_header text_length_name (record_item self.now).headers }
+    {
+        self.header.has_text
     }
 
     /// Its properties, where it has a length for them.
@@ -120,7 +181,7 @@ impl<'a> Record<'a> {
         ensures lent { let r = record_item self.now in
             IfSome result (λ bytes. bytes.now ≡ slice_range (record_dump self.now) (props_place r) (text_place r)) }
     {
-        if has(&self.block, b"Prop-content-length") {
+        if self.header.has_props {
             Some(&self.block.dump()[self.block.after()..self.text_from])
         } else {
             None
@@ -134,7 +195,7 @@ impl<'a> Record<'a> {
         ensures lent { let r = record_item self.now in
             IfSome result (λ bytes. bytes.now ≡ slice_range (record_dump self.now) (text_place r) (place_after r)) }
     {
-        if has(&self.block, b"Text-content-length") {
+        if self.header.has_text {
             Some(&self.block.dump()[self.text_from..self.after])
         } else {
             None

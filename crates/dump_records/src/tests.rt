@@ -141,6 +141,7 @@ fn assert_has_no_copy(rt: &impl Abort, revision: &Record<'_>) {
 }
 
 fn assert_has_only_properties(rt: &impl Abort, revision: &Record<'_>) {
+    assert_eq!(rt; (revision.has_props(), revision.has_text()), (true, false));
     assert_eq!(rt; revision.props(), Some(b"PROPS-END\n".as_slice()));
     assert_eq!(rt; revision.text(), None);
     assert_eq!(rt; revision.property_bytes(), b"PROPS-END\n".as_slice());
@@ -155,6 +156,7 @@ fn assert_is_copied(rt: &impl Abort, node: &Record<'_>) {
 }
 
 fn assert_has_only_text(rt: &impl Abort, node: &Record<'_>) {
+    assert_eq!(rt; (node.has_props(), node.has_text()), (false, true));
     assert_eq!(rt; node.props(), None);
     assert_eq!(rt; node.text(), Some(b"abc".as_slice()));
     assert_eq!(rt; node.property_bytes(), b"".as_slice());
@@ -187,6 +189,28 @@ fn records_are_read(rt: HostRuntime) -> Result<(), Fail> {
     assert_is_copied(&rt, &node);
     assert_has_only_text(&rt, &node);
     assert_eq!(rt; seen_in(cutter.next()), Seen::Finished);
+    Ok(())
+}
+
+#[test]
+fn what_the_lines_of_a_node_say_is_read(rt: HostRuntime) -> Result<(), Fail> {
+    let file =
+        b"Node-path: f\nNode-kind: file\nText-content-md5: 900150983cd24fb0d6963f7d28e17f72\nText-content-sha1: a9993e364706816aba3e25717850c26c9cd0d89d\n\n";
+    let folder = b"Node-path: d\nNode-kind: dir\n\n";
+    let dump = joined(rt.alloc(), &[VERSION, file, folder])?;
+    let mut cutter = Cutter::new(&dump);
+    assert_eq!(rt; seen_in(cutter.next()), Seen::Item(0));
+
+    let file = next_record(&mut cutter)?;
+    assert!(rt; file.is_file());
+    let md5 = b"900150983cd24fb0d6963f7d28e17f72".as_slice();
+    assert_eq!(rt; file.md5(), Some(md5));
+    let sha1 = b"a9993e364706816aba3e25717850c26c9cd0d89d".as_slice();
+    assert_eq!(rt; file.sha1(), Some(sha1));
+
+    let folder = next_record(&mut cutter)?;
+    assert!(rt; !folder.is_file());
+    assert_eq!(rt; (folder.md5(), folder.sha1()), (None, None));
     Ok(())
 }
 

@@ -1,5 +1,5 @@
 -- The bare prefixes that begin a path: one of its parts before a slash, itself, or the empty one.
-use Rattle.std.proofs.Common.{◌≡◌, ℕ, zero, suc, ◌+◌, ◌<◌, ◌≤◌, Bool, true, false, ◌||◌, List, [], ◌∷◌, ◌++◌, take, drop, length, get_or, map, nat_lt, bytes_eq, Bor, Result, Ok, Err, refl, sym, ap, ◌∙◌, inl, inr, arith}
+use Rattle.std.proofs.Common.{◌≡◌, ℕ, zero, suc, ◌+◌, ◌<◌, ◌≤◌, Bool, true, false, ◌||◌, List, [], ◌∷◌, ◌++◌, take, drop, length, get_or, map, nat_lt, bytes_eq, Bor, refl, sym, ap, ◌∙◌, inl, inr, arith}
 use Rattle.std.specs.List.{list_any}
 use Rattle.std.specs.Cmp.Lexicographic.{slice_cmp}
 use Rattle.std.specs.Ordering.{is_eq, match_ordering, nat_cmp}
@@ -9,7 +9,6 @@ use Rattle.std.specs.BTreeMap.{is_at}
 use Rattle.std.specs.BTreeSet.{insert_key}
 use Rattle.std.proofs.lemmas.Bool.{or_cases, or_parts, or_from, or_left, or_right, and_parts, and_from, false_from_ne_true, both_ways, ltb-true, lt-ltb}
 use Rattle.std.proofs.lemmas.Bool.Decides.{nat_tests}
-use Rattle.std.specs.Result.{OnOk, is_err}
 use Rattle.std.proofs.lemmas.List.{length-take-le, take_more, map-append}
 use Rattle.std.proofs.lemmas.Map.Text.{is_eq-slice_cmp}
 use Rattle.std.proofs.lemmas.Slice.Eq.{bytes_eq-Decides}
@@ -171,10 +170,6 @@ within_more items ks k low high up fits within =
         further text long = omega arith
 
 -- what holds where a call succeeds
-pub keys_after : {T E : Type 0} (r : Result T E) (P : Type 0) → OnOk r P → is_err r ≡ false → P
-keys_after (Ok x) P holds ok = holds
-keys_after (Err e) P holds ok = let bad : true ≡ false = ok in cc
-
 -- the bare forms of one prefix more
 pub bares_more : (prefixes : List (Bor (List ℕ))) (n : ℕ) (d : Bor (List ℕ)) → n < length prefixes
     → map (λ (prefix : Bor (List ℕ)). bare_prefix prefix.now) (take (n + 1) prefixes)

@@ -14,6 +14,8 @@ pub mod RunsLemmas
 pub mod NewLineLemmas
 pub mod ValueLemmas
 pub mod FaultLemmas
+pub mod MergedLemmas
+pub mod MergedMeaning
 pub mod MergeFaults
 pub mod LaterRevisions
 pub mod OneNewValue

@@ -11,3 +11,4 @@ pub mod RangeLaws
 pub mod Runs
 pub mod NewRanges
 pub mod NewLines
+pub mod Merged

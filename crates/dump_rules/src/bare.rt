@@ -37,12 +37,8 @@ impl BarePrefixes {
         for prefix in prefixes {
             let bare = trim_slashes(prefix);
             longest = bare.len().max(longest);
-            let Ok(copy) = Vec::from_slice(alloc, bare) else {
-                return Err(Memory);
-            };
-            if set.insert(copy).is_err() {
-                return Err(Memory);
-            }
+            let copy = Vec::from_slice(alloc, bare)?;
+            set.insert(copy)?;
         }
         Ok(BarePrefixes { set, longest })
     }

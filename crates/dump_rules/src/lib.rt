@@ -32,9 +32,9 @@
 //!
 //! [`rewrite`] gives the new value: the lines whose paths are kept, each with the runs of its map,
 //! in new numbers if revisions are renumbered. [`laws`] says that a map has no other spelling. Two
-//! faults are told before: [`misses_source`], a line whose path isn't kept, and
-//! [`has_foreign_number`], a number that the dump can't have. Who has several values asks for the
-//! faults of all of them first.
+//! faults are told before: a line whose path isn't kept, and a number that the dump can't have. Who
+//! has several values reads them with [`Merged::with`], asks what they say together, and then makes
+//! each [`new_value`].
 //!
 //! ```
 //! rewrite(alloc, b"/trunk:4,1-3", &options, &reach, 4)?;    // /trunk:1-4
@@ -51,7 +51,7 @@ mod bare;
 mod blocks;
 pub mod laws;
 mod memory;
-mod merge_faults;
+mod merged;
 mod mergeinfo;
 mod options;
 mod paths;
@@ -62,12 +62,12 @@ mod rewriting;
 mod runs;
 
 pub use memory::Memory;
-pub use merge_faults::{has_foreign_number, misses_source};
+pub use merged::{Bounds, Merged};
 pub use mergeinfo::merge_reads;
 pub use options::{Empty, Options, Side};
 pub use paths::keeps;
 pub use reach::Reach;
-pub use rewriting::{RewriteFault, rewrite};
+pub use rewriting::{RewriteFault, new_value, rewrite};
 
 #[cfg(test)]
 mod tests;

@@ -64,12 +64,8 @@ fn copies(alloc: Global, texts: &[&[u8]]) -> Result<Vec<Vec<u8>>, Memory>
 {
     let mut copied = Vec::new(alloc);
     for text in texts {
-        let Ok(copy) = Vec::from_slice(alloc, text) else {
-            return Err(Memory);
-        };
-        if copied.push(copy).is_err() {
-            return Err(Memory);
-        }
+        let copy = Vec::from_slice(alloc, text)?;
+        copied.push(copy)?;
     }
     Ok(copied)
 }

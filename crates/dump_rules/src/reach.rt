@@ -47,10 +47,14 @@ impl Reach {
         ensures ok { OnOk result (self.new ≡ record self.old { numbers = self.old.numbers ++ revision ∷ [] }) }
         ensures err { OnErr result (self.new ≡ self.old) }
     {
-        match self.numbers.push(revision) {
-            Ok(()) => Ok(()),
-            Err(_) => Err(Memory),
-        }
+        Ok(self.numbers.push(revision)?)
+    }
+
+    /// The kept revisions rise from the dump's first one on: said to who asks the table nothing else.
+    pub(crate) fn rises(&self)
+        ensures { RiseFrom self.now.first self.now.numbers }
+    {
+        let _first = self.first;
     }
 
     /// The new number of the last kept revision that is at most this one, if there is one.

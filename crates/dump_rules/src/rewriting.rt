@@ -1,6 +1,7 @@
 //! New values of svn:mergeinfo.
 ghost use Rattle.std.specs.Prelude.{◌≡◌, ◌==◌, ◌≤◌, ◌↔◌, [], All, Err, IfOk, OnOk, map, true};
 ghost use Rattle.std.specs.List.{list_all, slice_split};
+ghost use Rattle.dump_rules.specs.declared.rewriting.RewriteFault.TheVariants as faults;
 ghost use Rattle.dump_rules.specs.Mergeinfo.{HasMergeLines};
 ghost use Rattle.dump_rules.specs.NewLines.{text_lines, with_break, with_new_line, with_new_lines, with_runs};
 ghost use Rattle.dump_rules.specs.RangeList.{IsConsistent};
@@ -11,7 +12,7 @@ ghost use Rattle.dump_rules.specs.Rewriting.{IsNewMergeinfo, HasForeignNumber, H
 ghost use Rattle.dump_rules.specs.Runs.{HaveNumbers, runs_of};
 
 use crate::memory::Memory;
-use crate::merge_faults::{has_foreign_number, misses_source};
+use crate::merged::Merged;
 use crate::mergeinfo::{cut_lf, list_of, path_of};
 use crate::options::Options;
 use crate::paths::keeps;
@@ -29,6 +30,14 @@ pub enum RewriteFault {
     MergeRange,
     /// Memory ran out.
     Memory,
+}
+
+impl From<Memory> for RewriteFault {
+    ghost from_gives = { λ _ r. r ≡ faults.Memory };
+
+    fn from(_error: Memory) -> RewriteFault {
+        RewriteFault::Memory
+    }
 }
 
 /// Adds an LF where something stands already.
@@ -113,12 +122,25 @@ fn new_text(alloc: Global, text: &[u8], options: &Options, reach: &Reach) -> Res
     Ok(out)
 }
 
-/// The new value: the lines whose paths are kept, in their order, each with the runs of its map,
-/// in new numbers if revisions are renumbered. A line whose map is empty goes. `now` is the present
-/// revision, and `reach` has those kept up to it.
+/// The new value of one whose faults were asked for before: the lines whose paths are kept, in their order, each with the
+/// runs of its map, in new numbers if revisions are renumbered. A line whose map is empty goes.
 ///
-/// A fault is found before memory is taken. The work is that of sorting each line's ranges,
-/// however many numbers they have.
+/// The work is that of sorting each line's ranges, however many numbers they have.
+pub fn new_value(
+    alloc: Global,
+    value: &[u8],
+    options: &Options,
+    reach: &Reach,
+) -> Result<Vec<u8>, Memory>
+    requires reads { ¬ ¬ HasMergeLines value.now }
+    ensures { IfOk result (λ v. IsNewMergeinfo options.now reach.now value.now v.items) }
+{
+    reach.rises();
+    new_text(alloc, cut_lf(value), options, reach)
+}
+
+/// The [`new_value`], or the fault of the value. `now` is the present revision, and `reach` has those kept up to it. A
+/// fault is found before memory is taken.
 pub fn rewrite(
     alloc: Global,
     value: &[u8],
@@ -133,14 +155,14 @@ pub fn rewrite(
     ensures range { (result ≡ Err RewriteFault.MergeRange)
         ↔ (¬ HasMissingSource options.now value.now × HasForeignNumber options.now reach.now now value.now) }
 {
-    if misses_source(value, options) {
+    let Some(said) = Merged::new().with(value, options) else {
+        unreachable!()
+    };
+    if said.misses_source() {
         return Err(RewriteFault::MergeSource);
     }
-    if has_foreign_number(value, options, reach.first(), now) {
+    if said.has_foreign_number(options, reach.first(), now) {
         return Err(RewriteFault::MergeRange);
     }
-    match new_text(alloc, cut_lf(value), options, reach) {
-        Ok(new) => Ok(new),
-        Err(_) => Err(RewriteFault::Memory),
-    }
+    Ok(new_value(alloc, value, options, reach)?)
 }

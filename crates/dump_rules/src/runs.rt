@@ -50,10 +50,7 @@ fn push_new(spans: &mut Vec<Span>, part: &[u8], renumber: bool, reach: &Reach) -
         ≡ map span_range spans.old.items ++ with_range (part_range renumber reach.now (range_of part.now)) []) }
 {
     match new_span(part, renumber, reach) {
-        Some(span) => match spans.push(span) {
-            Ok(()) => Ok(()),
-            Err(_) => Err(Memory),
-        },
+        Some(span) => Ok(spans.push(span)?),
         None => Ok(()),
     }
 }
@@ -115,10 +112,7 @@ pub(crate) fn sort(spans: &mut Vec<Span>)
 pub(crate) fn push_bytes(out: &mut Vec<u8>, bytes: &[u8]) -> Result<(), Memory>
     ensures { OnOk result (out.new.items ≡ out.old.items ++ bytes.now) }
 {
-    match out.extend_from_slice(bytes) {
-        Ok(()) => Ok(()),
-        Err(_) => Err(Memory),
-    }
+    Ok(out.extend_from_slice(bytes)?)
 }
 
 /// Adds the upper end of a run that has more than one number.

@@ -3,8 +3,8 @@ ghost use Rattle.std.specs.Prelude.{◌≤◌, All};
 
 use crate::laws::each_map_has_one_spelling;
 use crate::{
-    Empty, Memory, Options, Reach, RewriteFault, Side, has_foreign_number, keeps, merge_reads,
-    misses_source, rewrite,
+    Empty, Memory, Merged, Options, Reach, RewriteFault, Side, keeps, merge_reads, new_value,
+    rewrite,
 };
 use std::alloc::Global;
 use std::test::Fail;
@@ -327,20 +327,66 @@ fn numbers_that_the_dump_cannot_have_are_refused(rt: HostRuntime) -> Result<(), 
     Ok(())
 }
 
+/// What one value says.
+fn said(value: &[u8], options: &Options) -> Option<Merged> {
+    Merged::new().with(value, options)
+}
+
 #[test]
 fn faults_are_told_without_a_new_value(rt: HostRuntime) -> Result<(), Fail> {
     let strict = rules(rt.alloc(), b"trunk", true, false)?;
-    assert!(rt; misses_source(b"/trunk:5\n/other:5", &strict));
-    assert!(rt; !misses_source(b"/trunk:5\n", &strict));
-    assert!(rt; has_foreign_number(b"/trunk:4-6", &strict, 5, 6));
-    assert!(rt; has_foreign_number(b"/trunk:5-7", &strict, 5, 6));
-    assert!(rt; !has_foreign_number(b"/trunk:5-6\n/other:4", &strict, 5, 6));
     let lenient = rules(rt.alloc(), b"trunk", true, true)?;
-    assert!(rt; !misses_source(b"/trunk:5\n/other:5", &lenient));
-    assert!(rt; !has_foreign_number(b"/trunk:4-6", &lenient, 5, 6));
-    assert!(rt; has_foreign_number(b"/trunk:5-7", &lenient, 5, 6));
     let old_numbers = rules(rt.alloc(), b"trunk", false, false)?;
-    assert!(rt; !has_foreign_number(b"/trunk:5-7", &old_numbers, 5, 6));
+    let rows = [
+        (b"/trunk:5\n/other:5".as_slice(), &strict, true, false),
+        (b"/trunk:5\n", &strict, false, false),
+        (b"/trunk:4-6", &strict, false, true),
+        (b"/trunk:5-7", &strict, false, true),
+        (b"/trunk:5-6\n/other:4", &strict, true, false),
+        (b"/trunk:5\n/other:5", &lenient, false, false),
+        (b"/trunk:4-6", &lenient, false, false),
+        (b"/trunk:5-7", &lenient, false, true),
+        (b"/trunk:5-7", &old_numbers, false, false),
+    ];
+    for (value, options, misses, foreign) in rows {
+        let merged = said(value, options).ok_or("no mergeinfo")?;
+        assert_eq!(rt; merged.misses_source(), misses, "{value:?}");
+        assert_eq!(rt;
+            merged.has_foreign_number(options, 5, 6),
+            foreign,
+            "{value:?}"
+        );
+    }
+    assert!(rt; said(b"/trunk", &strict).is_none());
+    Ok(())
+}
+
+#[test]
+fn values_are_told_together(rt: HostRuntime) -> Result<(), Fail> {
+    let strict = rules(rt.alloc(), b"trunk", true, false)?;
+    let first = said(b"/trunk:7", &strict).ok_or("no mergeinfo")?;
+    let both = first
+        .with(b"/trunk/a:5-6\n/other:9", &strict)
+        .ok_or("no mergeinfo")?;
+    assert!(rt; !first.misses_source());
+    assert!(rt; both.misses_source());
+    assert!(rt; both.has_foreign_number(&strict, 5, 6));
+    assert!(rt; both.has_foreign_number(&strict, 6, 7));
+    assert!(rt; !both.has_foreign_number(&strict, 5, 7));
+    assert!(rt; first.with(b"x", &strict).is_none());
+    Ok(())
+}
+
+#[test]
+fn new_value_of_one_without_a_fault(rt: HostRuntime) -> Result<(), Fail> {
+    let options = rules(rt.alloc(), b"/", false, false)?;
+    let reach = Reach::new(rt.alloc(), 0);
+    let value = b"/trunk:4,1-3\n".as_slice();
+    if !merge_reads(value) {
+        return Err("no mergeinfo".into());
+    }
+    let new = new_value(rt.alloc(), value, &options, &reach)?;
+    assert_eq!(rt; new.as_slice(), b"/trunk:1-4".as_slice());
     Ok(())
 }
 

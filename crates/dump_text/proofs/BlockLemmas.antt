@@ -1,22 +1,24 @@
 -- A block, from the lines that a scan finds.
-use Rattle.std.proofs.Common.{◌≡◌, ℕ, zero, suc, ◌+◌, ◌-◌, ◌<◌, ◌≤◌, nat_lt, nat_le, Bool, true, false, not, ◌&&◌, ◌||◌, List, [], ◌∷◌, ◌++◌, take, drop, length, slice_range, refl, sym, ap, ◌∙◌, subst, arith, append_assoc, length-append, bytes_eq, Some, is_some, slice_index, if◌then◌else◌, codes}
+use Rattle.std.proofs.Common.{◌≡◌, ℕ, zero, suc, ◌+◌, ◌-◌, ◌<◌, ◌≤◌, nat_lt, nat_le, Bool, true, false, not, ◌&&◌, ◌||◌, List, [], ◌∷◌, ◌++◌, take, drop, length, slice_range, refl, sym, ap, ◌∙◌, subst, arith, append_assoc, length-append, bytes_eq, is_some, if◌then◌else◌, codes}
 use Rattle.std.specs.List.{list_all, list_any}
 use Rattle.std.proofs.lemmas.List.{take_at, drop_at, append-nil, length-drop, length-take, length-take-le, drop-drop, drop-take, take-take}
-use Rattle.std.proofs.lemmas.List.Sums.{sum_by-cons}
+use Rattle.std.proofs.lemmas.List.Sums.{sum_by-cons, sum_by-append}
+use Rattle.std.proofs.lemmas.List.Folds.{list_all-append}
+use Rattle.std.proofs.lemmas.Grind.{flat_map-append}
 use Rattle.std.proofs.lemmas.Slice.Eq.{bytes_eq-Decides}
 use Rattle.dump_text.specs.Names.{known_names}
 use Rattle.dump_text.specs.HeaderLine as line
 use Rattle.dump_text.specs.HeaderLine.{is_header, header_text, is_named, has_header, header_value, count_named}
 use Rattle.dump_text.specs.HeaderBlock.{is_block, lines_bytes, block_text, BeginsWithBlock, HasBlock}
 use Rattle.dump_text.specs.ReadHeaders.{headers_of, AreHeaderLines, IsBlockBetween, IsPartBetween}
-use Rattle.dump_text.specs.Starts.{known_place, AreStarts}
-use Rattle.dump_text.specs.Scanning.{IsLinesEnd, IsBlockEnd, HasLines, is_known, names_stand_once}
-use Rattle.dump_text.proofs.Unique.{lines_once, lawful_lines}
-use Rattle.dump_text.proofs.BoolLemmas.{first_true, second_true}
-use Rattle.dump_text.proofs.ScanLemmas.{headers_of-lines}
+use Rattle.dump_text.specs.KnownValues.{may_follow}
+use Rattle.dump_text.specs.Scanning.{IsLinesEnd, IsBlockEnd, HasLines}
+use Rattle.dump_text.proofs.Unique.{lines_once, lawful_lines, ended}
+use Rattle.dump_text.proofs.BoolLemmas.{first_true, second_true, absurd_bool}
+use Rattle.dump_text.proofs.ScanLemmas.{headers_of-lines, lines_behind}
 
--- whether each known name stands at most once, by counting and by looking ahead
-abbrev counts_once : List (List ℕ) → List line.Header → Bool
+-- whether each of these names stands at most once
+abbrev pub counts_once : List (List ℕ) → List line.Header → Bool
 counts_once names headers = list_all (λ name. nat_le (count_named name headers) 1) names
 
 pub count_cons : (name : List ℕ) (h : line.Header) (hs : List line.Header)
@@ -67,14 +69,35 @@ spread (name ∷ names) h hs =
     mix false false q true r = refl
     mix false false q false r = refl
 
-none_counted : (names : List (List ℕ)) → counts_once names [] ≡ true
-none_counted [] = refl
-none_counted (name ∷ names) = none_counted names
+count_append : (name : List ℕ) (xs ys : List line.Header)
+    → count_named name (xs ++ ys) ≡ count_named name xs + count_named name ys
+count_append name xs ys = sum_by-append (λ (x : line.Header). if is_named name x then 1 else 0) xs ys
 
-pub stand_once-counts : (hs : List line.Header) → names_stand_once hs ≡ counts_once known_names hs
-stand_once-counts [] = refl
-stand_once-counts (h ∷ hs) =
-    ap (λ b. not (is_known h.name && has_header h.name hs) && b) (stand_once-counts hs) ∙ sym (spread known_names h hs)
+-- one more line behind some lines: it may follow them, and they stand at most once
+pub once_more : (hs : List line.Header) (h : line.Header)
+    → counts_once known_names (hs ++ h ∷ []) ≡ (may_follow hs h.name && counts_once known_names hs)
+once_more hs h = moved known_names ∙ spread known_names h hs
+  where
+    count_same : (name : List ℕ) → count_named name (hs ++ h ∷ []) ≡ count_named name (h ∷ hs)
+    count_same name =
+        let behind = count_append name hs (h ∷ []) in
+        let front = count_append name (h ∷ []) hs in
+        omega arith
+
+    moved : (names : List (List ℕ)) → counts_once names (hs ++ h ∷ []) ≡ counts_once names (h ∷ hs)
+    moved [] = refl
+    moved (name ∷ names) = let more = moved names in rw (count_same name, more) refl
+
+-- the first of some lines stand at most once where all do
+once_front : (names : List (List ℕ)) (xs ys : List line.Header) → counts_once names (xs ++ ys) ≡ true
+    → counts_once names xs ≡ true
+once_front [] xs ys once = refl
+once_front (name ∷ names) xs ys once =
+    let first = first_true (nat_le (count_named name (xs ++ ys)) 1) (counts_once names (xs ++ ys)) once in
+    let few : nat_le (count_named name xs) 1 ≡ true = let sum = count_append name xs ys in grind (arith, first, sum) in
+    let more = once_front names xs ys (second_true (nat_le (count_named name (xs ++ ys)) 1)
+    (counts_once names (xs ++ ys)) once) in
+    rw (few, more) refl
 
 -- the lines that a scan found are those of each block that stands there
 same_lines : (text rest : List ℕ) (hs : List line.Header) (size : ℕ) → IsLinesEnd text size → BeginsWithBlock text hs rest
@@ -83,8 +106,9 @@ same_lines text rest hs size found b =
     (lines_once hs (headers_of (take size text)) rest (drop (size + 1) text) (lawful_lines hs b.block) found.lines.lawful
     (sym (append_assoc (lines_bytes hs) (10 ∷ []) rest) ∙ sym b.spelled ∙ found.ended ∙ ap (λ t. t ++ 10 ∷ drop (size + 1) text) found.lines.spelled)).0
 
-pub block_end : (text : List ℕ) (size : ℕ) → IsLinesEnd text size → 0 < size → names_stand_once (headers_of (take size text)) ≡ true
-    → IsBlockEnd text (size + 1)
+pub block_end : (text : List ℕ) (size : ℕ) → IsLinesEnd text size → 0 < size
+    → counts_once known_names (headers_of (take size text)) ≡ true
+    → IsBlockEnd text (size + 1) × (headers_of (take (size + 1) text) ≡ headers_of (take size text))
 block_end text size found some once =
     let hs = headers_of (take size text) in
     let below = found.below in
@@ -95,27 +119,38 @@ block_end text size found some once =
     ∙ ap (λ t. t ++ 10 ∷ []) found.lines.spelled in
     let read : headers_of (take (size + 1) text) ≡ hs = ap headers_of front ∙ headers_of-lines hs (10 ∷ []) found.lines.lawful refl in
     let full : nat_lt 0 (length hs) ≡ true = some_lines hs (ap length (sym found.lines.spelled) ∙ length-take-le size text (omega arith)) some in
-    let lawful = found.lines.lawful in
-    let counted = sym (stand_once-counts hs) ∙ once in
-    record {
-      inside = omega arith;
-      block = record {
-        block = ap is_block read ∙ rw (full, lawful, counted) refl;
-        spelled = cut ∙ ap (λ t. (t ++ 10 ∷ []) ++ drop (size + 1) text) found.lines.spelled
-            ∙ ap (λ (g : List line.Header). block_text g ++ drop (size + 1) text) (sym read);
-      };
-    }
+    let lawful = found.lines.lawful in (
+      record {
+        inside = omega arith;
+        block = record {
+          block = ap is_block read ∙ rw (full, lawful, once) refl;
+          spelled = cut ∙ ap (λ t. (t ++ 10 ∷ []) ++ drop (size + 1) text) found.lines.spelled
+              ∙ ap (λ (g : List line.Header). block_text g ++ drop (size + 1) text) (sym read);
+        };
+      },
+      read,
+    )
   where
     some_lines : (hs : List line.Header) → length (lines_bytes hs) ≡ size → 0 < size → nat_lt 0 (length hs) ≡ true
     some_lines [] is some = absurd (omega arith)
     some_lines (h ∷ hs) is some = grind arith
 
-pub no_block-once : (text : List ℕ) (size : ℕ) → IsLinesEnd text size → names_stand_once (headers_of (take size text)) ≡ false → ¬ HasBlock text
-no_block-once text size found once (hs, rest, b) =
-    let same = same_lines text rest hs size found b in
-    let counted : counts_once known_names hs ≡ true = second_true (nat_lt 0 (length hs) && list_all is_header hs) (counts_once known_names hs) b.block in
-    let bad : true ≡ false = sym counted ∙ sym (stand_once-counts hs) ∙ ap names_stand_once same ∙ once in
-    cc
+-- lines that stand too often begin no block
+pub no_block-once : (text others : List ℕ) (hs : List line.Header) → list_all is_header hs ≡ true
+    → text ≡ lines_bytes hs ++ others
+    → counts_once known_names hs ≡ false → ¬ HasBlock text
+no_block-once text others hs all is twice (ks, rest, b) =
+    let all' = lawful_lines ks b.block in
+    let spelled : text ≡ lines_bytes ks ++ 10 ∷ rest = b.spelled ∙ append_assoc (lines_bytes ks) (10 ∷ []) rest in
+    let (more, good, left) = lines_behind hs ks others rest all all' (sym is ∙ spelled) in
+    let both : list_all is_header (hs ++ more) ≡ true = list_all-append is_header hs more ∙ rw (all, good) refl in
+    let whole : lines_bytes (hs ++ more) ++ 10 ∷ rest ≡ lines_bytes ks ++ 10 ∷ rest =
+    ap (λ t. t ++ 10 ∷ rest) (flat_map-append ended hs more)
+    ∙ append_assoc (lines_bytes hs) (lines_bytes more) (10 ∷ rest)
+    ∙ ap (λ t. lines_bytes hs ++ t) (sym left) ∙ sym is ∙ spelled in
+    let same = (lines_once (hs ++ more) ks rest rest both all' whole).0 in
+    let once = second_true (nat_lt 0 (length ks) && list_all is_header ks) (counts_once known_names ks) b.block in
+    absurd_bool _ (once_front known_names hs more (ap (counts_once known_names) same ∙ once)) twice
 
 pub no_block-empty : (text : List ℕ) (size : ℕ) → IsLinesEnd text size → size ≤ 0 → ¬ HasBlock text
 no_block-empty text size found none (hs, rest, b) =
@@ -209,36 +244,18 @@ block_bytes dump place after stands =
     let count : length text ≡ after - place = omega arith in
     ap (take (after - place)) b.spelled ∙ take_at text (drop after dump) (after - place) count
 
--- what is left of a block's lines from a place on
-pub part_from : (dump : List ℕ) (place after start : ℕ) → IsBlockBetween dump place after → start ≤ length (slice_range dump place (after - 1))
-    → IsPartBetween dump place after (drop start (slice_range dump place (after - 1)))
-part_from dump place after start stands inside =
+-- a block takes the bytes from its place up to its end
+pub block_size : (dump : List ℕ) (place after : ℕ) → IsBlockBetween dump place after
+    → place + length (block_text (headers_of (slice_range dump place after))) ≡ after
+block_size dump place after stands =
     let hs = headers_of (slice_range dump place after) in
     let b = stands.block in
+    let inside = stands.inside in
     let sizes = ap length b.spelled ∙ length-append (block_text hs) (drop after dump) in
     let size = length-append (lines_bytes hs) (10 ∷ []) in
     let whole = length-drop place dump in
     let behind = length-drop after dump in
-    let last = stands.inside in
-    let low : place < after = omega arith in
-    let count = length-take (after - 1 - place) (drop place dump) in
-    let most : start ≤ after - 1 - place = omega arith in
-    let sum : start + (after - 1 - place - start) ≡ after - 1 - place = omega arith in (
-      place + start,
-      after - 1,
-      omega arith,
-      omega arith,
-      omega arith,
-      ap (λ n. drop start (take n (drop place dump))) (sym sum) ∙ drop-take start (after - 1 - place - start) (drop place dump)
-          ∙ ap (take (after - 1 - place - start)) (drop-drop start place dump) ∙ ap (λ n. take n (drop (place + start) dump)) (omega arith),
-    )
-
--- the lines of a name from its start on
-pub lines_of_name : (dump : List ℕ) (place after : ℕ) (starts : List ℕ) → IsBlockBetween dump place after → AreStarts (slice_range dump place (after - 1)) starts
-    → (name : List ℕ) (i : ℕ) → known_place name ≡ Some i
-    → header_value name (headers_of (drop (slice_index starts i) (slice_range dump place (after - 1)))) ≡ header_value name (headers_of (slice_range dump place after))
-lines_of_name dump place after starts stands found name i is =
-    (found name i is).value ∙ ap (header_value name) (lines_of dump place after stands).headers
+    omega arith
 
 -- a name has a line where it has a value
 pub has_value : (name : List ℕ) (headers : List line.Header) → is_some (header_value name headers) ≡ has_header name headers
@@ -249,9 +266,6 @@ has_value name (h ∷ headers) = cases (is_named name h) refl (has_value name he
         → is_some (header_value name (h ∷ headers)) ≡ has_header name (h ∷ headers)
     cases true is more = rw is refl
     cases false is more = rw is more
-
-pub same_names : (name : List ℕ) (some all : List line.Header) → header_value name some ≡ header_value name all → has_header name some ≡ has_header name all
-same_names name some all same = sym (has_value name some) ∙ ap is_some same ∙ has_value name all
 
 -- a block at a place, from one at the front of the text there
 pub block_there : (dump text : List ℕ) (place size : ℕ) → text ≡ drop place dump → place ≤ length dump → IsBlockEnd text size → IsBlockBetween dump place (place + size)
@@ -268,11 +282,12 @@ block_there dump text place size is low found =
       inside = omega arith;
     }
 
-pub starts_there : (dump text starts : List ℕ) (place size : ℕ) → text ≡ drop place dump → AreStarts (take (size - 1) text) starts
-    → AreStarts (slice_range dump place (place + size - 1)) starts
-starts_there dump text starts place size is found =
-    let count : place + size - 1 - place ≡ size - 1 = omega arith in
-    subst (λ t. AreStarts t starts) (ap (take (size - 1)) is ∙ ap (λ n. take n (drop place dump)) (sym count)) found
+-- and its bytes
+pub lines_there : (dump text : List ℕ) (place size : ℕ) → text ≡ drop place dump
+    → take size text ≡ slice_range dump place (place + size)
+lines_there dump text place size is =
+    let count : place + size - place ≡ size = omega arith in
+    ap (take size) is ∙ ap (λ n. take n (drop place dump)) (sym count)
 
 -- all that is left from a place on
 pub all_left : (dump : List ℕ) (place : ℕ) → take (length dump - place) (drop place dump) ≡ drop place dump

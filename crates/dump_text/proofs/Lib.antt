@@ -3,7 +3,8 @@ pub mod NumberLemmas
 pub mod Unique
 pub mod ScanLemmas
 pub mod BlockLemmas
-pub mod StartLemmas
+pub mod NameLemmas
+pub mod ValueLemmas
 pub mod PartLemmas
 pub mod PropertyLemmas
 pub mod WrittenLemmas

@@ -243,12 +243,13 @@ lines_more text whole rest others hs h is first cut =
 pub all_more : (hs : List line.Header) (h : line.Header) → list_all is_header hs ≡ true → is_header h ≡ true → list_all is_header (hs ++ h ∷ []) ≡ true
 all_more hs h all good = list_all-append is_header hs (h ∷ []) ∙ rw (all, good) refl
 
-empty_text : (text : List ℕ) → length text ≡ 0 → text ≡ []
+pub empty_text : (text : List ℕ) → length text ≡ 0 → text ≡ []
 empty_text [] none = refl
 empty_text (c ∷ text) none = absurd (omega arith)
 
 pub lines_end : (text whole rest others : List ℕ) (hs : List line.Header) → text ≡ lines_bytes hs ++ rest → list_all is_header hs ≡ true
-    → IsFirstLine rest whole others → length whole ≡ 0 → IsLinesEnd text (length text - length rest)
+    → IsFirstLine rest whole others → length whole ≡ 0
+    → IsLinesEnd text (length text - length rest) × (headers_of (take (length text - length rest) text) ≡ hs)
 lines_end text whole rest others hs is all first none =
     let empty : rest ≡ 10 ∷ others = first.cut ∙ ap (λ w. w ++ 10 ∷ others) (empty_text whole none) in
     let sizes = ap length is ∙ length-append (lines_bytes hs) rest in
@@ -259,12 +260,15 @@ lines_end text whole rest others hs is all first none =
     ap (drop (length text - length rest + 1)) (whole_is ∙ sym (append_assoc (lines_bytes hs) (10 ∷ []) others))
     ∙ drop_at (lines_bytes hs ++ 10 ∷ []) others _ (length-append (lines_bytes hs) (10 ∷ []) ∙ omega arith) in
     let front : take (length text - length rest) text ≡ lines_bytes hs = ap (take (length text - length rest)) is ∙ take_at (lines_bytes hs) rest _ at in
-    let read = ap headers_of (front ∙ sym (append-nil (lines_bytes hs))) ∙ headers_of-lines hs [] all refl in
-    record {
-      below = omega arith;
-      lines = record { lawful = ap (list_all is_header) read ∙ all; spelled = front ∙ ap lines_bytes (sym read) };
-      ended = whole_is ∙ ap (λ t. t ++ 10 ∷ others) (sym front) ∙ ap (λ t. take (length text - length rest) text ++ 10 ∷ t) (sym back);
-    }
+    let read = ap headers_of (front ∙ sym (append-nil (lines_bytes hs))) ∙ headers_of-lines hs [] all refl in (
+      record {
+        below = omega arith;
+        lines = record { lawful = ap (list_all is_header) read ∙ all; spelled = front ∙ ap lines_bytes (sym read) };
+        ended = whole_is ∙ ap (λ t. t ++ 10 ∷ others) (sym front)
+            ∙ ap (λ t. take (length text - length rest) text ++ 10 ∷ t) (sym back);
+      },
+      read,
+    )
 
 -- where a header line would begin, the line before the first LF is one
 pub no_line_here : (others : List line.Header) (rest whole tail more : List ℕ) → list_all is_header others ≡ true

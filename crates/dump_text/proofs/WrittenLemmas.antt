@@ -1,17 +1,14 @@
 -- A property block as it is written: which texts are one, and that it is read again as its list.
-use Rattle.std.proofs.Common.{◌≡◌, ℕ, ◌<◌, ◌^◌, true, false, List, [], ◌∷◌, ◌++◌, get_or, length, lit<, flat_map, refl, sym, ap, ◌∙◌, arith, append_assoc, inl, inr, codes, bytes_eq}
+use Rattle.std.proofs.Common.{◌≡◌, ◌↔◌, ℕ, ◌<◌, ◌^◌, Bool, true, false, List, [], ◌∷◌, ◌++◌, get_or, length, lit<, flat_map, refl, sym, ap, ◌∙◌, arith, append_assoc, inl, inr, codes, bytes_eq}
 use Rattle.std.specs.List.{All}
 use Rattle.std.proofs.lemmas.List.Elements.{All-nil, All-cons, All-head, All-tail}
 use Rattle.std.proofs.lemmas.Slice.Eq.{bytes_eq-Decides}
 use Rattle.dump_text.specs.Number.{spelled_number}
 use Rattle.dump_text.specs.PropertyList.{Property, sized_text, AreEntries, IsPropertyBlock, HasProperties, block_end, entry_text, property_block_text}
-use Rattle.dump_text.specs.PropertyScan.{HasEntry}
+use Rattle.dump_text.specs.PropertyScan.{IsWritten}
+use Rattle.dump_text.proofs.BoolLemmas.{absurd_bool}
 use Rattle.dump_text.proofs.PartLemmas.{number_spells, spelled_spells, number_of-spelled, sized_once, part_inside}
-use Rattle.dump_text.proofs.PropertyLemmas.{EntryParts, entry_parts, entry_shorter, property-eq, apart, no_entry-end, block_ends}
-
--- the text is a property block as it is written
-abbrev pub IsWritten : List ℕ → Type 0
-IsWritten text = (ps : List Property) × (text ≡ property_block_text ps)
+use Rattle.dump_text.proofs.PropertyLemmas.{EntryParts, entry_parts, entry_shorter, property-eq, apart, no_entry-end}
 
 -- both lengths of an entry have no leading zeros
 pub record AreShortest (text : List ℕ) (p : Property) (rest : List ℕ) (e : EntryParts text p rest) : Type 0 where
@@ -60,6 +57,26 @@ written_more text p rest e s (ps, is) =
           ∙ sym (append_assoc first second (property_block_text ps)) ∙ sym (written_cons p ps),
     )
 
+-- behind an entry whose lengths are shortest, the rest decides
+pub written_short : (whole text : List ℕ) (p : Property) (rest : List ℕ) (e : EntryParts text p rest)
+    (spelled next : Bool) → length text < 2 ^ 64
+    → AreShortest text p rest e → next ≡ spelled → (IsWritten whole ↔ ((spelled ≡ true) × IsWritten text))
+    → IsWritten whole ↔ ((next ≡ true) × IsWritten rest)
+written_short whole text p rest e spelled next small short same before = (
+  λ written. let (so, left) = before.0 written in (same ∙ so, (written_left text p rest e small left).1),
+  λ (so, left). before.1 (sym same ∙ so, written_more text p rest e short left),
+)
+
+-- and behind any other the text isn't as it is written
+pub written_long : (whole text : List ℕ) (p : Property) (rest : List ℕ) (e : EntryParts text p rest)
+    (spelled next : Bool) → length text < 2 ^ 64
+    → ¬ AreShortest text p rest e → next ≡ false → (IsWritten whole ↔ ((spelled ≡ true) × IsWritten text))
+    → IsWritten whole ↔ ((next ≡ true) × IsWritten rest)
+written_long whole text p rest e spelled next small long none before = (
+  λ written. absurd (long (written_left text p rest e small (before.0 written).1).0),
+  λ (so, left). absurd (absurd_bool next so none),
+)
+
 no_text : (ps : List Property) → [] ≡ property_block_text ps → ⊥
 no_text [] is = cc
 no_text (p ∷ ps) is = cc
@@ -67,13 +84,6 @@ no_text (p ∷ ps) is = cc
 -- a written entry isn't the end
 no_entry-written : (p : Property) (ps : List Property) → property_block_text (p ∷ ps) ≡ block_end → ⊥
 no_entry-written p ps is = apart 75 80 (lit< tt) (ap (λ (t : List ℕ). get_or t 0 0) is)
-
--- where no entry stands first, the end alone is written
-pub written_end : (text : List ℕ) → ¬ HasEntry text → ∥ HasProperties text ∥₁ → IsWritten text → text ≡ block_end
-written_end text none reads (ps, is) = elim (block_ends text none reads) [
-  | inl empty ↦ absurd (no_text ps (sym empty.0 ∙ is))
-  | inr all ↦ all
-]
 
 -- the lengths of a property's name and value are numbers that can be read
 pub record IsShort (p : Property) : Type 0 where
@@ -137,6 +147,44 @@ written_list text ps qs small (inr all) is = lists text ps qs small all is
         let others = lists rest ps qs (omega arith) more once.2 in
         λ i. once.1 i ∷ others i
 
--- whether bytes are others
+-- whether a property block is as it is written, by its list
+pub spelled_is : (text : List ℕ) (spelled : Bool) → length text < 2 ^ 64 → (spelled ≡ true → IsWritten text)
+    → (IsWritten text → spelled ≡ true)
+    → (ps : List Property) → IsPropertyBlock text ps → spelled ≡ bytes_eq text (property_block_text ps)
+spelled_is text spelled small to from ps is = cases spelled refl (bytes_eq text (property_block_text ps)) refl
+  where
+    equal : (bytes_eq text (property_block_text ps) ≡ true) ↔ (text ≡ property_block_text ps)
+    equal = bytes_eq-Decides text (property_block_text ps)
+
+    cases : (s : Bool) → spelled ≡ s → (b : Bool) → bytes_eq text (property_block_text ps) ≡ b → s ≡ b
+    cases true so true same = refl
+    cases false so false same = refl
+    cases true so false same =
+        let (qs, at) = to so in
+        absurd (absurd_bool _ (equal.1 (at ∙ ap property_block_text (sym (written_list text ps qs small is at)))) same)
+    cases false so true same = absurd (absurd_bool spelled (from (ps, equal.0 same)) so)
+
+-- no bytes are no property block as it is written
+pub none_spelled : (text : List ℕ) → text ≡ [] → (ps : List Property) → false ≡ bytes_eq text (property_block_text ps)
+none_spelled text none ps = cases (bytes_eq text (property_block_text ps)) refl
+  where
+    cases : (b : Bool) → bytes_eq text (property_block_text ps) ≡ b → false ≡ b
+    cases true same = absurd (no_text ps (sym none ∙ (bytes_eq-Decides text (property_block_text ps)).0 same))
+    cases false same = refl
+
+-- and the other way: what is known by the list holds of the bytes
+pub written_is : (text : List ℕ) (spelled : Bool) → length text < 2 ^ 64 → HasProperties text
+    → ((ps : List Property) → IsPropertyBlock text ps → spelled ≡ bytes_eq text (property_block_text ps))
+    → (spelled ≡ true) ↔ IsWritten text
+written_is text spelled small (ps, is) known = (
+  λ so. (ps, (bytes_eq-Decides text (property_block_text ps)).0 (sym (known ps is) ∙ so)),
+  λ (qs, at). known ps is ∙ (bytes_eq-Decides text (property_block_text ps)).1
+      (at ∙ ap property_block_text (sym (written_list text ps qs small is at))),
+)
+
+-- what a comparison of bytes tells
 pub not_equal : (x y : List ℕ) → bytes_eq x y ≡ false → x ≡ y → ⊥
-not_equal x y other is = let bad : false ≡ true = sym other ∙ (bytes_eq-Decides x y).1 is in cc
+not_equal x y other is = absurd_bool (bytes_eq x y) ((bytes_eq-Decides x y).1 is) other
+
+pub equal : (x y : List ℕ) → bytes_eq x y ≡ true → x ≡ y
+equal x y same = (bytes_eq-Decides x y).0 same

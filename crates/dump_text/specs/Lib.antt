@@ -8,5 +8,7 @@ pub mod Scanning
 pub mod PropertyList
 pub mod PropertyScan
 pub mod Views
-pub mod Starts
+pub mod KnownValues
+pub mod HeadersViews
 pub mod PropertyViews
+pub mod WritingLaws

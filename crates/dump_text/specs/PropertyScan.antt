@@ -2,7 +2,7 @@
 use Rattle.std.specs.Prelude.{◌≡◌, ℕ, List, [], ◌∷◌, ◌++◌, length, Some}
 use Rattle.dump_text.specs.declared.parts.Part.{Part}
 use Rattle.dump_text.specs.Number.{number_of}
-use Rattle.dump_text.specs.PropertyList.{Property, sized_text, IsEntry, AreEntries}
+use Rattle.dump_text.specs.PropertyList.{Property, sized_text, IsEntry, AreEntries, property_block_text}
 
 -- the text begins with a part: this letter, a length in these digits, and that many bytes
 pub record IsSized (letter : ℕ) (text digits bytes rest : List ℕ) : Type 0 where
@@ -36,3 +36,7 @@ IsEntryOf text name value = IsPartOf 75 text name × IsPartOf 86 name.rest.now v
 -- the text is entries of some list, and then the end
 abbrev pub HasEntries : List ℕ → Type 0
 HasEntries text = (ps : List Property) × AreEntries text ps
+
+-- the text is a property block as it is written
+abbrev pub IsWritten : List ℕ → Type 0
+IsWritten text = (ps : List Property) × (text ≡ property_block_text ps)

@@ -1,5 +1,5 @@
 -- What the parts of the scan of a block find.
-use Rattle.std.specs.Prelude.{◌≡◌, ℕ, ◌+◌, ◌<◌, ◌≤◌, Bool, true, not, ◌&&◌, List, [], ◌∷◌, ◌++◌, take, drop, length, nat_lt, IsTrue, IsFalse, bytes_eq}
+use Rattle.std.specs.Prelude.{◌≡◌, ℕ, ◌+◌, ◌<◌, ◌≤◌, Bool, List, ◌∷◌, ◌++◌, take, drop, length, nat_lt, IsTrue, IsFalse, bytes_eq}
 use Rattle.std.specs.List.{list_any, list_all}
 use Rattle.dump_text.specs.Names.{known_names}
 use Rattle.dump_text.specs.HeaderLine as line
@@ -46,9 +46,3 @@ pub record IsBlockEnd (text : List ℕ) (size : ℕ) : Type 0 where
 -- whether the name is known
 abbrev pub is_known : List ℕ → Bool
 is_known name = list_any (λ known. bytes_eq name known) known_names
-
--- whether no line with a known name is followed by another of that name
-abbrev pub names_stand_once : List line.Header → Bool
-names_stand_once [] = true
-names_stand_once (h ∷ headers) =
-    not (is_known h.name && line.has_header h.name headers) && names_stand_once headers

@@ -41,14 +41,3 @@ impl<'a> Iterator for Lines<'a> {
         Some(Line { name, value, whole })
     }
 }
-
-impl<'a> Lines<'a> {
-    ghost use Rattle.dump_text.specs.Views.{lines_left};
-
-    /// The same lines once more.
-    pub(crate) fn again(&self) -> Lines<'a>
-        ensures { lines_left result ≡ lines_left self.now }
-    {
-        Lines { rest: self.rest }
-    }
-}

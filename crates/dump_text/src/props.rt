@@ -1,19 +1,23 @@
 //! A property block, read where it stands.
-ghost use Rattle.std.specs.Prelude.{◌≡◌, ◌↔◌, List, length, IsTrue, IsSome, IfSome, option_copied};
+ghost use Rattle.std.specs.Prelude.{◌≡◌, ◌↔◌, List, length, bytes_eq, IsTrue, IsSome, IfSome, MatchOption, option_copied};
 ghost use Rattle.dump_text.specs.PropertyList.{Property, IsPropertyBlock, HasProperties, property_value, property_block_text};
-ghost use Rattle.dump_text.specs.PropertyScan.{HasEntries};
+ghost use Rattle.dump_text.specs.PropertyScan.{HasEntries, IsWritten};
 ghost use Rattle.dump_text.specs.ReadHeaders.{IsPartBetween};
 
 use crate::parts::{entry, is_shortest};
 
 /// The line that ends a property block.
-const BLOCK_END: &[u8] = b"PROPS-END\n";
+pub(crate) const BLOCK_END: &[u8] = b"PROPS-END\n";
 
 /// A property block.
 #[derive(Clone, Copy)]
 pub struct Props<'a> {
     bytes: &'a [u8],
+    /// Whether the bytes are as they are written.
+    spelled: bool,
     pub ghost reads: { ∥ HasProperties bytes.now ∥₁ },
+    pub ghost written: { (ps : List Property) → IsPropertyBlock bytes.now ps
+        → spelled ≡ bytes_eq bytes.now (property_block_text ps) },
 }
 
 impl<'a> Props<'a> {
@@ -24,11 +28,22 @@ impl<'a> Props<'a> {
         ensures found { IsSome result ↔ HasProperties block.now }
         ensures bytes { IfSome result (λ props. props_bytes props ≡ block.now) }
     {
-        if block.is_empty() || are_entries(block) {
-            Some(Props { bytes: block })
+        let spelled = if block.is_empty() {
+            false
         } else {
-            None
-        }
+            read_entries(block)?
+        };
+        Some(Props {
+            bytes: block,
+            spelled,
+        })
+    }
+
+    /// The block as it stands.
+    pub fn bytes(&self) -> &'a [u8]
+        ensures { result.now ≡ props_bytes self.now }
+    {
+        self.bytes
     }
 
     /// The properties, in their order.
@@ -60,14 +75,7 @@ impl<'a> Props<'a> {
     pub fn spelled(&self) -> bool
         ensures { IsTrue result ↔ ((ps : List Property) × (props_bytes self.now ≡ property_block_text ps)) }
     {
-        let mut rest = self.bytes;
-        while let Some((name, value)) = entry(rest) {
-            if !is_shortest(&name) || !is_shortest(&value) {
-                return false;
-            }
-            rest = value.rest;
-        }
-        rest == BLOCK_END
+        self.spelled
     }
 }
 
@@ -107,13 +115,22 @@ impl<'a> Iterator for Entries<'a> {
     }
 }
 
-/// Whether the text is entries and their end.
-fn are_entries(text: &[u8]) -> bool
-    ensures { IsTrue result ↔ HasEntries text.now }
+/// Whether the lengths of a text of entries and their end have no leading zero; None for any other text.
+fn read_entries(text: &[u8]) -> Option<bool>
+    ensures { MatchOption result (¬ HasEntries text.now)
+        (λ spelled. HasEntries text.now × (IsTrue spelled ↔ IsWritten text.now)) }
 {
     let mut rest = text;
-    while let Some((_, value)) = entry(rest) {
+    let mut spelled = true;
+    while let Some((name, value)) = entry(rest) {
+        if !is_shortest(&name) || !is_shortest(&value) {
+            spelled = false;
+        }
         rest = value.rest;
     }
-    rest == BLOCK_END
+    if rest == BLOCK_END {
+        Some(spelled)
+    } else {
+        None
+    }
 }

@@ -2,7 +2,7 @@
 ghost use Rattle.std.specs.Prelude.{◌≡◌, MatchOption, IsFalse};
 ghost use Rattle.dump_text.specs.HeaderLine.{has_byte};
 ghost use Rattle.dump_text.specs.HeaderBlock.{starts_with_lf, has_empty_line};
-ghost use Rattle.dump_text.specs.Scanning.{IsFirstAt, IsFirstLine, IsCutAtColon, IsNoHeader, HasLines, IsLinesEnd};
+ghost use Rattle.dump_text.specs.Scanning.{IsFirstAt, IsFirstLine, IsCutAtColon, IsNoHeader};
 
 use memchr::memchr;
 
@@ -32,23 +32,6 @@ pub(crate) fn name_and_value(whole: &[u8]) -> Option<(&[u8], &[u8])>
         return None;
     }
     Some((&whole[..colon], &whole[colon + 2..]))
-}
-
-/// How many bytes the header lines before the first empty line take; None where there are no such lines.
-pub(crate) fn lines_len(text: &[u8]) -> Option<usize>
-    ensures { MatchOption result (¬ HasLines text.now) (λ size. IsLinesEnd text.now size) }
-{
-    let mut rest = text;
-    while let Some((whole, others)) = first_line(rest) {
-        if whole.is_empty() {
-            return Some(text.len() - rest.len());
-        }
-        let Some(_) = name_and_value(whole) else {
-            return None;
-        };
-        rest = others;
-    }
-    None
 }
 
 /// Whether an LF stands first.

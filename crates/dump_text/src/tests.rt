@@ -1,5 +1,10 @@
 //! What no clause says: worked examples, and each call once.
-use crate::{Block, FaultKind, Props, number, spell};
+use crate::laws::{blocks_are_read_as_written, properties_are_read_as_written};
+use crate::{
+    Block, FaultKind, HeaderName, Headers, Props, number, push_block_end, push_header,
+    push_property, spell,
+};
+use std::alloc::{AllocError, Global};
 use std::test::Fail;
 
 const VERSION: &[u8] = b"SVN-fs-dump-format-version: 2\n\n";
@@ -74,6 +79,25 @@ fn lines_are_given_in_their_order(rt: HostRuntime) -> Result<(), Fail> {
 }
 
 #[test]
+fn values_of_known_names_are_found(rt: HostRuntime) -> Result<(), Fail> {
+    let text = b"Node-path: a: b\nNote: c\nNode-kind: \nnode-action: add\n\nbehind: it\n\n";
+    let headers = Headers::read(text, 0)?;
+    assert_eq!(rt; headers.block().after(), 54);
+    let rows = [
+        (HeaderName::NodePath, Some(b"a: b".as_slice())),
+        (HeaderName::NodeKind, Some(b"")),
+        (HeaderName::NodeAction, None),
+        (HeaderName::TextContentSha1, None),
+    ];
+    for (name, value) in rows {
+        assert_eq!(rt; headers.value(name), value, "{name:?}");
+        assert_eq!(rt; headers.has(name), value.is_some(), "{name:?}");
+        assert_eq!(rt; headers.block().get(name.bytes()), value, "{name:?}");
+    }
+    Ok(())
+}
+
+#[test]
 fn no_block_is_cut_short_or_malformed(rt: HostRuntime) {
     let rows = [
         (VERSION, 31, FaultKind::HeaderCut),
@@ -81,6 +105,11 @@ fn no_block_is_cut_short_or_malformed(rt: HostRuntime) {
         (b"", 0, FaultKind::HeaderCut),
         (b"\n\n", 0, FaultKind::Header),
         (b"Node-path: a\nNode-path: b\n\n", 0, FaultKind::Header),
+        (
+            b"Node-path: a\nNote: b\nNode-path: \n\n",
+            0,
+            FaultKind::Header,
+        ),
         (b"Node-path:a\n\n", 0, FaultKind::Header),
         (b"Node-path\n\n", 0, FaultKind::Header),
         (b"Node-path\n", 0, FaultKind::HeaderCut),
@@ -174,5 +203,31 @@ fn faults_have_numbers_and_names(rt: HostRuntime) {
     ];
     for (kind, code, name) in rows {
         assert_eq!(rt; (kind.code(), kind.name()), (code, name));
+    }
+}
+
+/// A line, and a block of one property.
+fn written(alloc: Global) -> Result<Vec<u8>, AllocError> {
+    let mut out = Vec::new(alloc);
+    push_header(&mut out, HeaderName::NodeCopyfromRev.bytes(), 7)?;
+    push_property(&mut out, b"svn:log", b"a\n")?;
+    push_block_end(&mut out)?;
+    Ok(out)
+}
+
+#[test]
+fn lines_and_properties_are_written(rt: HostRuntime) -> Result<(), Fail> {
+    blocks_are_read_as_written();
+    properties_are_read_as_written();
+    let out = written(rt.alloc())?;
+    let wanted = b"Node-copyfrom-rev: 7\nK 7\nsvn:log\nV 2\na\n\nPROPS-END\n".as_slice();
+    assert_eq!(rt; out.as_slice(), wanted);
+    Ok(())
+}
+
+#[test]
+fn written_or_no_memory(rt: HostRuntime) {
+    if let Ok(out) = written(rt.alloc()) {
+        assert_eq!(rt; out.len(), 50);
     }
 }

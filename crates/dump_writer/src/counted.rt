@@ -1,3 +1,4 @@
+//! Counted calls of a writer: how many bytes it took, and how often it failed.
 ghost use Rattle.std.specs.Prelude.{◌≡◌, ◌+◌, ◌≤◌, ◌<◌, [], ℕ, List, Option, take, length, IfOk, OnErr, OnOk};
 ghost use Rattle.std.specs.Io.KnownBytes.{Appends, Keeps, GrowsBy};
 ghost use Rattle.dump_writer.specs.SinkWords.{CountsFailure, capped};
@@ -5,7 +6,7 @@ ghost use Rattle.dump_writer.specs.SinkWords.{CountsFailure, capped};
 use crate::sink::SinkDown;
 use std::io::Write;
 
-// What a sink over a writer counts; both numbers stay at `u64::MAX`.
+/// What a sink over a writer counts; both numbers stay at `u64::MAX`.
 #[derive(Clone, Copy)]
 pub(crate) struct Counts {
     pub(crate) written: u64,
@@ -13,7 +14,7 @@ pub(crate) struct Counts {
 }
 
 impl Counts {
-    // Nothing was written, and nothing failed.
+    /// Nothing was written, and nothing failed.
     pub(crate) fn new() -> Counts
         ensures { result ≡ record { written = 0; failures = 0 } }
     {
@@ -23,7 +24,7 @@ impl Counts {
         }
     }
 
-    // One more failure.
+    /// One more failure.
     fn fail(&mut self) -> SinkDown
         ensures written { self.new.written ≡ self.old.written }
         ensures failures { CountsFailure self.old.failures self.new.failures }
@@ -33,8 +34,8 @@ impl Counts {
     }
 }
 
-// One call of the writer, which takes the first of the bytes; an error, or none of them, is a
-// failure. No bytes make no call.
+/// One call of the writer, which takes the first of the bytes; an error, or none of them, is a
+/// failure. No bytes make no call.
 pub(crate) fn write_counted<W: Write>(
     writer: &mut W,
     counts: &mut Counts,
@@ -69,7 +70,7 @@ pub(crate) fn write_counted<W: Write>(
     }
 }
 
-// Calls of the writer until it has taken all the bytes or fails; how many it took.
+/// Calls of the writer until it has taken all the bytes or fails; how many it took.
 pub(crate) fn write_all_counted<W: Write>(
     writer: &mut W,
     counts: &mut Counts,
@@ -93,7 +94,7 @@ pub(crate) fn write_all_counted<W: Write>(
     at
 }
 
-// Flushes the writer, once; an error is a failure.
+/// Flushes the writer, once; an error is a failure.
 pub(crate) fn flush_counted<W: Write>(writer: &mut W, counts: &mut Counts) -> Result<(), SinkDown>
     ensures kept { Keeps (W.contents writer.old) (W.contents writer.new) }
     ensures written { counts.new.written ≡ counts.old.written }

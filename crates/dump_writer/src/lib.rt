@@ -12,16 +12,17 @@
 //! piece.push(Chunk::Lent(dump))?;
 //! piece.push(Chunk::Own(made))?;
 //!
-//! let mut sink = OutMut::new(writer);
+//! let buffer = Vec::with_capacity(alloc, 65536)?;
+//! let mut sink = OutMut::new(writer, buffer);
 //! let answer = write_piece(&mut sink, &piece);
 //! let flushed = sink.flush();
 //! let _ = sink.into_inner();
 //! ```
 //!
 //! A failure is never tried again here: who holds the sink may go on behind the bytes that were
-//! taken. Nothing is buffered either, so each chunk makes a call of the writer or more; for many
-//! small chunks give `Out` a `BufWriter`. Only `Piece::push`, and the growth of a `MemorySink`,
-//! take memory.
+//! taken. An [`Out`] buffers nothing, so each chunk makes a call of its writer or more. An [`OutMut`]
+//! keeps small texts in the buffer that it was given, and hands them on where that is full or
+//! [`OutMut::flush`] is called. Only `Piece::push`, and the growth of a `MemorySink`, take memory.
 #![tactic(auto)]
 
 mod counted;

@@ -1,3 +1,4 @@
+//! A sink in memory, which fails where a test wants it to.
 ghost use Rattle.std.specs.Prelude.{◌≡◌, ◌≤◌, ◌<◌, [], take, length, IfOk, OnErr, Some, true, if◌then◌else◌};
 ghost use Rattle.std.specs.Io.KnownBytes.{Appends, Keeps};
 ghost use Rattle.dump_writer.specs.SinkWords.{CountsFailure};
@@ -19,7 +20,7 @@ pub enum Trouble {
 }
 
 impl Trouble {
-    // How many of so many bytes come before the trouble.
+    /// How many of so many bytes come before the trouble.
     fn before(self, taken: usize, count: usize) -> usize
         ensures { result ≡ before_trouble self taken count }
     {
@@ -32,7 +33,7 @@ impl Trouble {
         }
     }
 
-    // The trouble that is ahead, once it came.
+    /// The trouble that is ahead, once it came.
     fn after(self) -> Trouble
         ensures { result ≡ trouble_after self true }
     {

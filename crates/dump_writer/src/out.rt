@@ -1,3 +1,4 @@
+//! A sink over a writer that it owns.
 ghost use Rattle.std.specs.Prelude.{◌≡◌, ◌≤◌, ◌<◌, [], take, length, IfOk, OnErr, OnOk};
 ghost use Rattle.std.specs.Io.KnownBytes.{Appends, Keeps, GrowsBy};
 ghost use Rattle.dump_writer.specs.SinkWords.{CountsFailure};

@@ -1,3 +1,4 @@
+//! A sink over a writer that is lent, with a buffer before it.
 ghost use Rattle.std.specs.Prelude.{◌≡◌, ◌≤◌, ◌<◌, ◌-◌, ◌++◌, [], Some, take, drop, length, vec_len, vec_capacity, IfOk, OnErr, OnOk};
 ghost use Rattle.std.specs.Io.KnownBytes.{Appends, Keeps, GrowsBy, append_known};
 ghost use Rattle.dump_writer.specs.SinkWords.{CountsFailure};
@@ -44,7 +45,7 @@ impl<'a, W: Write> Model for OutMut<'a, W> {
         GrowsBy (W.contents o.start.value) (W.contents o.writer.now) o.counts.written };
 }
 
-// Takes the first bytes away.
+/// Takes the first bytes away.
 fn remove_front(bytes: &mut Vec<u8>, count: usize)
     requires { count ≤ vec_len bytes.old }
     ensures items { bytes.new.items ≡ drop count bytes.old.items }
@@ -55,14 +56,14 @@ fn remove_front(bytes: &mut Vec<u8>, count: usize)
     bytes.truncate(len - count);
 }
 
-// How many bytes fit behind these.
+/// How many bytes fit behind these.
 fn room(bytes: &Vec<u8>) -> usize
     ensures { result ≡ vec_capacity bytes.now - vec_len bytes.now }
 {
     bytes.capacity() - bytes.len()
 }
 
-// Adds bytes that fit.
+/// Adds bytes that fit.
 fn append(bytes: &mut Vec<u8>, more: &[u8])
     requires { length more.now ≤ vec_capacity bytes.old - vec_len bytes.old }
     ensures { bytes.new.items ≡ bytes.old.items ++ more.now }
@@ -100,7 +101,7 @@ impl<'a, W: Write> OutMut<'a, W> {
         self.counts.written
     }
 
-    // Hands on what waits; what the writer doesn't take goes on waiting.
+    /// Hands on what waits; what the writer doesn't take goes on waiting.
     fn hand_on(&mut self) -> Result<(), SinkDown>
         ensures start { self.new.out.start ≡ self.old.out.start }
         ensures taken { Keeps (lent_taken self.old) (lent_taken self.new) }

@@ -1,10 +1,11 @@
+//! Pieces of what is written, in chunks, and how a piece goes into a sink.
 ghost use Rattle.std.specs.Prelude.{◌≡◌, ◌<◌, ◌≤◌, ◌++◌, [], length, take, OnOk, OnErr, IfErr};
 ghost use Rattle.std.specs.Io.KnownBytes.{Appends};
 ghost use Rattle.dump_writer.specs.ChunkBytes.{chunk_bytes, bytes_of_chunks};
 ghost use Rattle.dump_writer.specs.SinkWords.{TakesOnlyFirst, HasFailedSince};
 
 use crate::sink::{Sink, SinkDown, SinkFault};
-use std::alloc::Global;
+use std::alloc::{AllocError, AllocFailed, Global};
 use std::marker::Model;
 
 /// A part of a piece: bytes of the dump, or new ones.
@@ -28,9 +29,21 @@ impl<'a> Chunk<'a> {
     }
 }
 
-/// Want of memory.
+/// Memory ran out.
 #[derive(Clone, Copy, Debug, PartialEq, Eq)]
 pub struct Memory;
+
+impl From<AllocError> for Memory {
+    fn from(_error: AllocError) -> Memory {
+        Memory
+    }
+}
+
+impl<T: Drop> From<AllocFailed<T>> for Memory {
+    fn from(_error: AllocFailed<T>) -> Memory {
+        Memory
+    }
+}
 
 /// What is written at once: chunks, in order.
 #[derive(Drop)]
@@ -62,10 +75,7 @@ impl<'a> Piece<'a> {
         ensures ok { OnOk result (self.new ≡ self.old ++ chunk_bytes chunk.entry) }
         ensures err { OnErr result (self.new ≡ self.old) }
     {
-        match self.chunks.push(chunk) {
-            Ok(()) => Ok(()),
-            Err(_) => Err(Memory),
-        }
+        Ok(self.chunks.push(chunk)?)
     }
 
     /// Its chunks, in order.
@@ -101,7 +111,7 @@ pub fn write_piece<S: Sink>(sink: &mut S, piece: &Piece<'_>) -> Result<(), SinkF
     Ok(())
 }
 
-// Writes all the bytes, in as many calls as the sink wants; none where there are no bytes.
+/// Writes all the bytes, in as many calls as the sink wants; none where there are no bytes.
 fn write_bytes<S: Sink>(sink: &mut S, bytes: &[u8]) -> Result<(), SinkFault>
     ensures whole { OnOk result (Appends (S.taken sink.old) (S.taken sink.new) bytes.now) }
     ensures short { IfErr result (λ e. e.written < length bytes.now) }

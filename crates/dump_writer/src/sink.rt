@@ -1,3 +1,4 @@
+//! What takes bytes, and how it may fail.
 ghost use Rattle.std.specs.Prelude.{◌≡◌, ◌≤◌, ◌<◌, [], ℕ, List, take, length, Option, None, IfOk, OnErr};
 ghost use Rattle.std.specs.Io.KnownBytes.{Appends, Keeps};
 ghost use Rattle.dump_writer.specs.SinkWords.{CountsFailure, Loan};

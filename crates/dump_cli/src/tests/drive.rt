@@ -4,7 +4,9 @@ use crate::drive::drive;
 use std::alloc::{AllocError, Global};
 use std::io::{self, ErrorKind, Write};
 use std::process::Abort;
+use std::sync::Wait;
 use std::test::Fail;
+use std::thread::Threads;
 
 // Revision 0 adds `a`.
 const KEPT: &[u8] = b"SVN-fs-dump-format-version: 2\n\n\
@@ -51,8 +53,33 @@ impl Write for Disk {
     }
 }
 
-fn assert_line(rt: &impl Abort, errors: &[u8], wanted: &str) {
-    assert_eq!(rt; errors, wanted.as_bytes());
+// The status of a run, and its lines.
+fn run<'a, R: Threads + Wait + Sync, W: Write>(
+    rt: &R,
+    alloc: Global,
+    words: &'a [&'a str],
+    dump: &[u8],
+    output: &mut W,
+) -> (u8, Vec<u8>) {
+    let mut reader = dump;
+    let mut errors = Vec::new(alloc);
+    let status = drive(rt, alloc, words, &mut reader, output, &mut errors);
+    (status, errors)
+}
+
+// Runs, and compares the status and the lines.
+fn assert_run<'a, R: Threads + Wait + Sync + Abort, W: Write>(
+    rt: &R,
+    alloc: Global,
+    words: &'a [&'a str],
+    dump: &[u8],
+    output: &mut W,
+    status: u8,
+    lines: &[u8],
+) {
+    let (found, errors) = run(rt, alloc, words, dump, output);
+    assert_eq!(rt; found, status, "of {words:?}");
+    assert_eq!(rt; errors.as_slice(), lines, "of {words:?}");
 }
 
 #[test]
@@ -60,19 +87,9 @@ fn a_dump_is_filtered(rt: HostRuntime) -> Result<(), Fail> {
     let alloc = rt.alloc();
     let dump = dump(alloc)?;
     let mut output = Vec::new(alloc);
-    let mut errors = Vec::new(alloc);
-    let status = drive(
-        &rt,
-        alloc,
-        &ORDER,
-        &mut dump.as_slice(),
-        &mut output,
-        &mut errors,
-    );
-    assert_eq!(rt; status, 0);
-    assert_eq!(rt; output.as_slice(), KEPT);
     let line = "revisions kept 1, dropped 0; nodes kept 1, dropped 1; texts checked 0\n";
-    assert_line(&rt, errors.as_slice(), line);
+    assert_run(&rt, alloc, &ORDER, &dump, &mut output, 0, line.as_bytes());
+    assert_eq!(rt; output.as_slice(), KEPT);
     Ok(())
 }
 
@@ -81,62 +98,60 @@ fn a_quiet_run_says_nothing(rt: HostRuntime) -> Result<(), Fail> {
     let alloc = rt.alloc();
     let dump = dump(alloc)?;
     let mut output = Vec::new(alloc);
-    let mut errors = Vec::new(alloc);
     let words = ["svndumpfilter", "include", "a", "--quiet"];
-    let status = drive(
-        &rt,
-        alloc,
-        &words,
-        &mut dump.as_slice(),
-        &mut output,
-        &mut errors,
-    );
-    assert_eq!(rt; status, 0);
+    assert_run(&rt, alloc, &words, &dump, &mut output, 0, b"");
     assert_eq!(rt; output.as_slice(), KEPT);
-    assert_line(&rt, errors.as_slice(), "");
     Ok(())
+}
+
+fn assert_usage<'a, R: Threads + Wait + Sync + Abort>(rt: &R, alloc: Global, words: &'a [&'a str]) {
+    let mut output = Vec::new(alloc);
+    let line = "usage: svndumpfilter include|exclude [OPTIONS] PREFIX...\n";
+    assert_run(rt, alloc, words, KEPT, &mut output, 2, line.as_bytes());
+    assert!(rt; output.is_empty(), "of {words:?}");
 }
 
 #[test]
 fn words_that_are_no_order_write_nothing(rt: HostRuntime) -> Result<(), Fail> {
     let alloc = rt.alloc();
-    let both = [
+    assert_usage(&rt, alloc, &[]);
+    for line in [
         "svndumpfilter",
-        "include",
-        "--drop-empty-revs",
-        "--drop-all-empty-revs",
-        "/",
-    ];
-    let window = ["svndumpfilter", "include", "--window", "0", "trunk"];
-    for words in [
-        [].as_slice(),
-        &["svndumpfilter"],
-        &["svndumpfilter", "include"],
-        &window,
-        &both,
+        "svndumpfilter include",
+        "svndumpfilter include --window 0 trunk",
+        "svndumpfilter include --drop-empty-revs --drop-all-empty-revs /",
     ] {
-        let mut output = Vec::new(alloc);
-        let mut errors = Vec::new(alloc);
-        let status = drive(&rt, alloc, words, &mut KEPT, &mut output, &mut errors);
-        assert_eq!(rt; status, 2);
-        assert!(rt; output.is_empty());
-        let usage = "usage: svndumpfilter include|exclude [OPTIONS] PREFIX...\n";
-        assert_line(&rt, errors.as_slice(), usage);
+        let words: Vec<&str> = line.split(' ').collect(alloc)?;
+        assert_usage(&rt, alloc, words.as_slice());
     }
     Ok(())
 }
 
 #[test]
-fn a_fault_is_told_with_its_record_and_place(rt: HostRuntime) -> Result<(), Fail> {
+fn a_fault_is_told_with_its_record_and_place(rt: HostRuntime) {
     let alloc = rt.alloc();
     let mut output = Vec::new(alloc);
-    let mut errors = Vec::new(alloc);
-    let status = drive(&rt, alloc, &ORDER, &mut LEFT_OUT, &mut output, &mut errors);
-    assert_eq!(rt; status, 1);
-    assert!(rt; output.is_empty());
     let line = "svndumpfilter: fault 4 Version in record 0 at byte 0\n";
-    assert_line(&rt, errors.as_slice(), line);
-    Ok(())
+    assert_run(
+        &rt,
+        alloc,
+        &ORDER,
+        LEFT_OUT,
+        &mut output,
+        1,
+        line.as_bytes(),
+    );
+    assert!(rt; output.is_empty());
+}
+
+// The line of a sink that failed behind so many bytes.
+fn sink_line(alloc: Global, written: usize) -> Result<Vec<u8>, Fail> {
+    let mut line = Vec::new(alloc);
+    writeln!(
+        &mut line,
+        "svndumpfilter: failure 20 Sink after {written} bytes"
+    )?;
+    Ok(line)
 }
 
 #[test]
@@ -144,28 +159,14 @@ fn a_full_disk_is_told_with_the_count(rt: HostRuntime) -> Result<(), Fail> {
     let alloc = rt.alloc();
     let dump = dump(alloc)?;
     for room in 0..KEPT.len() {
-        let mut errors = Vec::new(alloc);
         let mut disk = Disk {
             held: Vec::new(alloc),
             room,
             loses: false,
         };
-        let status = drive(
-            &rt,
-            alloc,
-            &ORDER,
-            &mut dump.as_slice(),
-            &mut disk,
-            &mut errors,
-        );
-        assert_eq!(rt; status, 1);
+        let line = sink_line(alloc, room)?;
+        assert_run(&rt, alloc, &ORDER, &dump, &mut disk, 1, &line);
         assert_eq!(rt; disk.held.as_slice(), &KEPT[..room]);
-        let mut line = Vec::new(alloc);
-        writeln!(
-            &mut line,
-            "svndumpfilter: failure 20 Sink after {room} bytes"
-        )?;
-        assert_eq!(rt; errors.as_slice(), line.as_slice());
     }
     Ok(())
 }
@@ -174,28 +175,13 @@ fn a_full_disk_is_told_with_the_count(rt: HostRuntime) -> Result<(), Fail> {
 fn a_failed_flush_is_a_failure(rt: HostRuntime) -> Result<(), Fail> {
     let alloc = rt.alloc();
     let dump = dump(alloc)?;
-    let mut errors = Vec::new(alloc);
     let mut disk = Disk {
         held: Vec::new(alloc),
         room: 1000,
         loses: true,
     };
-    let status = drive(
-        &rt,
-        alloc,
-        &ORDER,
-        &mut dump.as_slice(),
-        &mut disk,
-        &mut errors,
-    );
-    assert_eq!(rt; status, 1);
-    let mut line = Vec::new(alloc);
-    let written = KEPT.len();
-    writeln!(
-        &mut line,
-        "svndumpfilter: failure 20 Sink after {written} bytes"
-    )?;
-    assert_eq!(rt; errors.as_slice(), line.as_slice());
+    let line = sink_line(alloc, KEPT.len())?;
+    assert_run(&rt, alloc, &ORDER, &dump, &mut disk, 1, &line);
     Ok(())
 }
 
@@ -228,23 +214,13 @@ fn nothing_is_tried_behind_a_failure(rt: HostRuntime) -> Result<(), Fail> {
     let head = b"Node-path: a/f\nText-content-length: 100000\nContent-length: 100000\n\n";
     dump.extend_from_slice(head)?;
     dump.extend_from_slice(&vec![in alloc; 7; 100_000]?)?;
-    let mut errors = Vec::new(alloc);
     let mut output = Hiccup {
         held: Vec::new(alloc),
         failed: false,
     };
-    let status = drive(
-        &rt,
-        alloc,
-        &ORDER,
-        &mut dump.as_slice(),
-        &mut output,
-        &mut errors,
-    );
-    assert_eq!(rt; status, 1);
-    assert!(rt; output.held.is_empty());
     let line = "svndumpfilter: failure 20 Sink after 0 bytes\n";
-    assert_line(&rt, errors.as_slice(), line);
+    assert_run(&rt, alloc, &ORDER, &dump, &mut output, 1, line.as_bytes());
+    assert!(rt; output.held.is_empty());
     Ok(())
 }
 
@@ -256,15 +232,7 @@ fn want_of_memory_leaves_a_first_part(rt: HostRuntime) {
         return;
     };
     let mut output = Vec::new(alloc);
-    let mut errors = Vec::new(alloc);
-    let status = drive(
-        &rt,
-        alloc,
-        &ORDER,
-        &mut dump.as_slice(),
-        &mut output,
-        &mut errors,
-    );
+    let (status, _) = run(&rt, alloc, &ORDER, &dump, &mut output);
     assert!(rt; KEPT.starts_with(output.as_slice()));
     assert!(rt; (status == 0) == (output.as_slice() == KEPT));
 }

@@ -1,12 +1,12 @@
 //! Worked words.
 
-use crate::words::{Usage, options_of};
-use dump_rules::{Empty, Side};
+use crate::words::{Order, Usage, options_of};
+use dump_rules::{Empty, Options, Side};
 use std::alloc::Global;
 use std::process::Abort;
 use std::test::Fail;
 
-#[derive(Clone, Copy)]
+#[derive(Clone, Copy, PartialEq)]
 struct Wanted {
     side: Side,
     empty: Empty,
@@ -30,6 +30,28 @@ const PLAIN: Wanted = Wanted {
     quiet: false,
 };
 
+fn found_in(order: &Order) -> Wanted {
+    Wanted {
+        side: order.options.side(),
+        empty: order.options.empty(),
+        renumber: order.options.renumber(),
+        preserve: order.options.preserve(),
+        skip_missing: order.options.skip_missing(),
+        workers: order.plan.workers(),
+        window: order.plan.window(),
+        quiet: order.quiet,
+    }
+}
+
+fn has_prefixes(options: &Options, prefixes: &[&str]) -> bool {
+    for (n, prefix) in prefixes.iter().enumerate() {
+        if options.prefix(n) != Some(prefix.as_bytes()) {
+            return false;
+        }
+    }
+    options.prefix(prefixes.len()).is_none()
+}
+
 fn assert_order<'a>(
     rt: &impl Abort,
     alloc: Global,
@@ -38,32 +60,28 @@ fn assert_order<'a>(
     wanted: Wanted,
 ) -> Result<(), Fail> {
     let order = options_of(alloc, words)?;
-    let options = order.options;
-    assert_eq!(rt; options.side(), wanted.side, "in {words:?}");
-    assert_eq!(rt; options.empty(), wanted.empty, "in {words:?}");
-    assert_eq!(rt; options.renumber(), wanted.renumber, "in {words:?}");
-    assert_eq!(rt; options.preserve(), wanted.preserve, "in {words:?}");
-    assert_eq!(rt; options.skip_missing(), wanted.skip_missing, "in {words:?}");
-    assert_eq!(rt; order.plan.workers(), wanted.workers, "in {words:?}");
-    assert_eq!(rt; order.plan.window(), wanted.window, "in {words:?}");
-    assert_eq!(rt; order.quiet, wanted.quiet, "in {words:?}");
-    for (n, prefix) in prefixes.iter().enumerate() {
-        assert_eq!(rt; options.prefix(n), Some(prefix.as_bytes()), "in {words:?}");
-    }
-    assert_eq!(rt; options.prefix(prefixes.len()), None, "in {words:?}");
+    assert!(rt; found_in(&order) == wanted, "in {words:?}");
+    assert!(rt; has_prefixes(&order.options, prefixes), "in {words:?}");
     Ok(())
+}
+
+// The same of words and prefixes in one text each, with spaces between them.
+fn assert_line(
+    rt: &impl Abort,
+    alloc: Global,
+    line: &str,
+    prefixes: &str,
+    wanted: Wanted,
+) -> Result<(), Fail> {
+    let words: Vec<&str> = line.split(' ').collect(alloc)?;
+    let prefixes: Vec<&str> = prefixes.split(' ').collect(alloc)?;
+    assert_order(rt, alloc, words.as_slice(), prefixes.as_slice(), wanted)
 }
 
 #[test]
 fn sides_and_prefixes_are_read(rt: HostRuntime) -> Result<(), Fail> {
     let alloc = rt.alloc();
-    assert_order(
-        &rt,
-        alloc,
-        &["svndumpfilter", "include", "a"],
-        &["a"],
-        PLAIN,
-    )?;
+    assert_line(&rt, alloc, "svndumpfilter include a", "a", PLAIN)?;
     let mut exclude = PLAIN;
     exclude.side = Side::Exclude;
     let words = [
@@ -76,138 +94,116 @@ fn sides_and_prefixes_are_read(rt: HostRuntime) -> Result<(), Fail> {
         "include",
         "-",
     ];
-    assert_order(
-        &rt,
-        alloc,
-        &words,
-        &["//trunk/", "", "br\u{e4}nche", "a b", "include", "-"],
-        exclude,
-    )
+    assert_order(&rt, alloc, &words, &words[2..], exclude)
 }
 
 #[test]
 fn drop_flags_are_read(rt: HostRuntime) -> Result<(), Fail> {
-    let alloc = rt.alloc();
+    for (line, empty) in [
+        ("p include --drop-empty-revs a", Empty::DropEmptied),
+        ("p include --drop-all-empty-revs a", Empty::DropAll),
+    ] {
+        let mut wanted = PLAIN;
+        wanted.empty = empty;
+        assert_line(&rt, rt.alloc(), line, "a", wanted)?;
+    }
+    Ok(())
+}
+
+#[test]
+fn switches_of_revisions_are_read(rt: HostRuntime) -> Result<(), Fail> {
     let mut wanted = PLAIN;
-    wanted.empty = Empty::DropEmptied;
-    assert_order(
+    wanted.renumber = true;
+    assert_line(&rt, rt.alloc(), "p include --renumber-revs a", "a", wanted)?;
+    wanted = PLAIN;
+    wanted.preserve = true;
+    assert_line(
         &rt,
-        alloc,
-        &["p", "include", "--drop-empty-revs", "a"],
-        &["a"],
-        wanted,
-    )?;
-    wanted.empty = Empty::DropAll;
-    assert_order(
-        &rt,
-        alloc,
-        &["p", "include", "--drop-all-empty-revs", "a"],
-        &["a"],
+        rt.alloc(),
+        "p include --preserve-revprops a",
+        "a",
         wanted,
     )
 }
 
 #[test]
-fn each_switch_is_read(rt: HostRuntime) -> Result<(), Fail> {
-    let alloc = rt.alloc();
+fn other_switches_are_read(rt: HostRuntime) -> Result<(), Fail> {
     let mut wanted = PLAIN;
-    wanted.renumber = true;
-    assert_order(
-        &rt,
-        alloc,
-        &["p", "include", "--renumber-revs", "a"],
-        &["a"],
-        wanted,
-    )?;
-    wanted = PLAIN;
-    wanted.preserve = true;
-    assert_order(
-        &rt,
-        alloc,
-        &["p", "include", "--preserve-revprops", "a"],
-        &["a"],
-        wanted,
-    )?;
-    wanted = PLAIN;
     wanted.skip_missing = true;
-    let words = ["p", "include", "--skip-missing-merge-sources", "a"];
-    assert_order(&rt, alloc, &words, &["a"], wanted)?;
+    assert_line(
+        &rt,
+        rt.alloc(),
+        "p include --skip-missing-merge-sources a",
+        "a",
+        wanted,
+    )?;
     wanted = PLAIN;
     wanted.quiet = true;
-    assert_order(
-        &rt,
-        alloc,
-        &["p", "include", "--quiet", "a"],
-        &["a"],
-        wanted,
-    )
+    assert_line(&rt, rt.alloc(), "p include --quiet a", "a", wanted)
 }
 
 #[test]
 fn flags_are_read_in_any_order(rt: HostRuntime) -> Result<(), Fail> {
-    let alloc = rt.alloc();
     let mut wanted = PLAIN;
     wanted.empty = Empty::DropEmptied;
     wanted.renumber = true;
     wanted.preserve = true;
     wanted.skip_missing = true;
-    let before = [
-        "p",
-        "include",
-        "--preserve-revprops",
-        "--skip-missing-merge-sources",
-        "--renumber-revs",
-        "--drop-empty-revs",
-        "a",
-        "b",
-    ];
-    assert_order(&rt, alloc, &before, &["a", "b"], wanted)?;
-    let around = [
-        "p",
-        "include",
-        "--drop-empty-revs",
-        "--renumber-revs",
-        "a",
-        "--skip-missing-merge-sources",
-        "b",
-        "--preserve-revprops",
-    ];
-    assert_order(&rt, alloc, &around, &["a", "b"], wanted)
+    let before =
+        "p include --preserve-revprops --skip-missing-merge-sources --renumber-revs --drop-empty-revs a b";
+    assert_line(&rt, rt.alloc(), before, "a b", wanted)?;
+    let around =
+        "p include --drop-empty-revs --renumber-revs a --skip-missing-merge-sources b --preserve-revprops";
+    assert_line(&rt, rt.alloc(), around, "a b", wanted)
 }
 
 #[test]
 fn a_plan_is_read(rt: HostRuntime) -> Result<(), Fail> {
-    let alloc = rt.alloc();
     let mut wanted = PLAIN;
     wanted.workers = 64;
     wanted.window = 4096;
-    let words = ["p", "include", "--workers", "64", "--window", "4096", "a"];
-    assert_order(&rt, alloc, &words, &["a"], wanted)?;
+    assert_line(
+        &rt,
+        rt.alloc(),
+        "p include --workers 64 --window 4096 a",
+        "a",
+        wanted,
+    )?;
     wanted.workers = 1;
     wanted.window = 1;
-    let words = ["p", "include", "a", "--window=1", "--workers=1"];
-    assert_order(&rt, alloc, &words, &["a"], wanted)?;
+    assert_line(
+        &rt,
+        rt.alloc(),
+        "p include a --window=1 --workers=1",
+        "a",
+        wanted,
+    )
+}
+
+#[test]
+fn a_plan_is_read_beside_a_switch(rt: HostRuntime) -> Result<(), Fail> {
     let mut quiet = PLAIN;
     quiet.side = Side::Exclude;
     quiet.workers = 2;
     quiet.quiet = true;
-    let words = [
-        "svndumpfilter",
-        "exclude",
-        "--workers",
-        "2",
-        "--quiet",
-        "a",
-        "b",
-    ];
-    assert_order(&rt, alloc, &words, &["a", "b"], quiet)
+    assert_line(
+        &rt,
+        rt.alloc(),
+        "svndumpfilter exclude --workers 2 --quiet a b",
+        "a b",
+        quiet,
+    )
 }
 
 #[test]
 fn behind_two_minus_signs_stand_prefixes(rt: HostRuntime) -> Result<(), Fail> {
-    let alloc = rt.alloc();
-    let words = ["p", "include", "--", "--quiet", "a"];
-    assert_order(&rt, alloc, &words, &["--quiet", "a"], PLAIN)
+    assert_line(
+        &rt,
+        rt.alloc(),
+        "p include -- --quiet a",
+        "--quiet a",
+        PLAIN,
+    )
 }
 
 fn assert_refused<'a>(rt: &impl Abort, alloc: Global, words: &'a [&'a str], usage: Usage) {
@@ -217,157 +213,66 @@ fn assert_refused<'a>(rt: &impl Abort, alloc: Global, words: &'a [&'a str], usag
     }
 }
 
-#[test]
-fn other_words_are_refused(rt: HostRuntime) {
-    let alloc = rt.alloc();
-    assert_refused(&rt, alloc, &[], Usage::Words);
-    assert_refused(&rt, alloc, &["svndumpfilter"], Usage::Words);
-    assert_refused(&rt, alloc, &["svndumpfilter", "include"], Usage::Words);
-    assert_refused(&rt, alloc, &["svndumpfilter", "filter", "a"], Usage::Words);
-    assert_refused(&rt, alloc, &["svndumpfilter", "Include", "a"], Usage::Words);
-    assert_refused(
-        &rt,
-        alloc,
-        &["svndumpfilter", "--drop-empty-revs", "include", "a"],
-        Usage::Words,
-    );
-    assert_refused(
-        &rt,
-        alloc,
-        &["svndumpfilter", "include", "--preserve-revprops"],
-        Usage::Words,
-    );
-    assert_refused(
-        &rt,
-        alloc,
-        &["svndumpfilter", "include", "-x"],
-        Usage::Words,
-    );
-    assert_refused(
-        &rt,
-        alloc,
-        &["svndumpfilter", "include", "a", "-x"],
-        Usage::Words,
-    );
+// Each line is words with spaces between them.
+fn assert_lines_refused(rt: &impl Abort, alloc: Global, lines: &str) -> Result<(), Fail> {
+    for line in lines.split('\n') {
+        let words: Vec<&str> = line.split(' ').collect(alloc)?;
+        assert_refused(rt, alloc, words.as_slice(), Usage::Words);
+    }
+    Ok(())
 }
 
 #[test]
-fn other_flags_are_refused(rt: HostRuntime) {
-    let alloc = rt.alloc();
-    assert_refused(
-        &rt,
-        alloc,
-        &["p", "include", "--preserve", "a"],
-        Usage::Words,
-    );
-    assert_refused(
-        &rt,
-        alloc,
-        &["p", "include", "--preserve-revprops=", "a"],
-        Usage::Words,
-    );
-    assert_refused(
-        &rt,
-        alloc,
-        &["p", "include", "--renumber", "a"],
-        Usage::Words,
-    );
-    assert_refused(&rt, alloc, &["p", "include", "--help", "a"], Usage::Words);
-    assert_refused(&rt, alloc, &["p", "help", "include"], Usage::Words);
+fn no_words_are_refused(rt: HostRuntime) {
+    assert_refused(&rt, rt.alloc(), &[], Usage::Words);
 }
 
 #[test]
-fn a_flag_twice_is_refused(rt: HostRuntime) {
-    let alloc = rt.alloc();
-    assert_refused(
-        &rt,
-        alloc,
-        &[
-            "p",
-            "include",
-            "--preserve-revprops",
-            "--preserve-revprops",
-            "a",
-        ],
-        Usage::Words,
-    );
-    assert_refused(
-        &rt,
-        alloc,
-        &["p", "include", "--renumber-revs", "--renumber-revs", "a"],
-        Usage::Words,
-    );
-    assert_refused(
-        &rt,
-        alloc,
-        &["p", "include", "--workers", "2", "--workers", "3", "a"],
-        Usage::Words,
-    );
-    assert_refused(
-        &rt,
-        alloc,
-        &[
-            "p",
-            "include",
-            "--drop-empty-revs",
-            "--drop-empty-revs",
-            "a",
-        ],
-        Usage::Words,
-    );
-    assert_refused(
-        &rt,
-        alloc,
-        &[
-            "p",
-            "include",
-            "--drop-all-empty-revs",
-            "--drop-all-empty-revs",
-            "a",
-        ],
-        Usage::Words,
-    );
+fn other_words_are_refused(rt: HostRuntime) -> Result<(), Fail> {
+    let lines = "svndumpfilter\n\
+        svndumpfilter include\n\
+        svndumpfilter filter a\n\
+        svndumpfilter Include a\n\
+        svndumpfilter --drop-empty-revs include a\n\
+        svndumpfilter include --preserve-revprops\n\
+        svndumpfilter include -x\n\
+        svndumpfilter include a -x";
+    assert_lines_refused(&rt, rt.alloc(), lines)
 }
 
 #[test]
-fn plans_out_of_range_are_refused(rt: HostRuntime) {
-    let alloc = rt.alloc();
-    assert_refused(
-        &rt,
-        alloc,
-        &["p", "include", "--workers", "65", "a"],
-        Usage::Words,
-    );
-    assert_refused(
-        &rt,
-        alloc,
-        &["p", "include", "--workers", "0", "a"],
-        Usage::Words,
-    );
-    assert_refused(
-        &rt,
-        alloc,
-        &["p", "include", "--window", "4097", "a"],
-        Usage::Words,
-    );
-    assert_refused(
-        &rt,
-        alloc,
-        &["p", "include", "--window", "0", "trunk"],
-        Usage::Words,
-    );
-    assert_refused(
-        &rt,
-        alloc,
-        &["p", "include", "--window", "many", "a"],
-        Usage::Words,
-    );
-    assert_refused(&rt, alloc, &["p", "include", "a", "--window"], Usage::Words);
+fn other_flags_are_refused(rt: HostRuntime) -> Result<(), Fail> {
+    let lines = "p include --preserve a\n\
+        p include --preserve-revprops= a\n\
+        p include --renumber a\n\
+        p include --help a\n\
+        p help include";
+    assert_lines_refused(&rt, rt.alloc(), lines)
 }
 
 #[test]
-fn both_drop_flags_are_refused_as_such(rt: HostRuntime) {
-    let alloc = rt.alloc();
+fn a_flag_twice_is_refused(rt: HostRuntime) -> Result<(), Fail> {
+    let lines = "p include --preserve-revprops --preserve-revprops a\n\
+        p include --renumber-revs --renumber-revs a\n\
+        p include --workers 2 --workers 3 a\n\
+        p include --drop-empty-revs --drop-empty-revs a\n\
+        p include --drop-all-empty-revs --drop-all-empty-revs a";
+    assert_lines_refused(&rt, rt.alloc(), lines)
+}
+
+#[test]
+fn plans_out_of_range_are_refused(rt: HostRuntime) -> Result<(), Fail> {
+    let lines = "p include --workers 65 a\n\
+        p include --workers 0 a\n\
+        p include --window 4097 a\n\
+        p include --window 0 trunk\n\
+        p include --window many a\n\
+        p include a --window";
+    assert_lines_refused(&rt, rt.alloc(), lines)
+}
+
+#[test]
+fn both_drop_flags_are_refused_as_such(rt: HostRuntime) -> Result<(), Fail> {
     let words = [
         "p",
         "exclude",
@@ -375,9 +280,12 @@ fn both_drop_flags_are_refused_as_such(rt: HostRuntime) {
         "--drop-empty-revs",
         "a",
     ];
-    assert_refused(&rt, alloc, &words, Usage::BothDrops);
-    let words = ["p", "exclude", "--drop-all-empty-revs", "--drop-empty-revs"];
-    assert_refused(&rt, alloc, &words, Usage::Words);
+    assert_refused(&rt, rt.alloc(), &words, Usage::BothDrops);
+    assert_lines_refused(
+        &rt,
+        rt.alloc(),
+        "p exclude --drop-all-empty-revs --drop-empty-revs",
+    )
 }
 
 // Run with each allocation refused in turn: there is an order, or no memory.

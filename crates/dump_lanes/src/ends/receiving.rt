@@ -5,13 +5,10 @@ ghost use Rattle.crossbeam_channel.specs.Ends.{receives_on};
 ghost use Rattle.dump_lanes.specs.LaneRule.{after_take};
 
 use crate::protocol::{InOrder, Log, Mark, Takes};
+use crate::turns::TURNS;
 use crossbeam_channel::{Pass, RecvError, RuledReceiver, TryRecvError};
 use std::sync::Wait;
 use std::thread;
-
-/// How often it gives its turn away before it sleeps: as long as waking another thread takes, since that is what a put
-/// into a lane costs whose receiver sleeps.
-const TURNS: u32 = 400;
 
 /// Takes the mark at the front, and waits for one. An error: none is there, and the sending end is gone.
 pub fn receive<T: Drop, R: Wait>(

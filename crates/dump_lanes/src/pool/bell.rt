@@ -13,17 +13,15 @@
 //!
 //! One ring wakes one, and one who wakes makes at least one try; a try that finds its item taken by another found a port
 //! at work. No contract speaks of bells: they are no part of what is proved.
+use crate::turns::TURNS;
 use crossbeam_utils::CachePadded;
 use std::sync::Wait;
 use std::sync::atomic::{AtomicU64, Ordering};
 use std::thread;
 use std::time::Duration;
 
-/// How often a port gives its turn away before it asks whether it is the one that stays awake.
+/// How often a port gives its turn away before it asks whether it is the one that stays awake for all its turns.
 const FIRST_TURNS: u32 = 20;
-
-/// How often the one that stays awake gives its turn away in all: as long as waking a thread takes.
-const TURNS: u32 = 400;
 
 /// How often a port naps before it sleeps.
 const NAPS: u32 = 2;

@@ -1,7 +1,6 @@
-use Rattle.std.proofs.Common.{◌↔◌, ◌∙◌, ap, subst, List, ℕ, IsFalse}
+use Rattle.std.proofs.Common.{◌↔◌, subst, List, ℕ, IsFalse}
 use Rattle.std.specs.Option.{option_copied}
 use Rattle.dump_text.specs.Names.{md5_name, sha1_name}
-use Rattle.dump_text.specs.HeaderLine.{header_value}
 use Rattle.dump_records.specs.RecordViews.{record_item}
 use Rattle.dump_digest.specs.Checks.{TellsOther}
 use Rattle.dump_digest.proofs.DigestLemmas.{text_there, digest_told, text_told}
@@ -13,22 +12,25 @@ pub returns-clause-md5 : goal.returns-clause-md5
 returns-clause-md5 c =
     let r = record_item c.args.item.now in
     let there = text_there r c.in-Some.text.now c.in-Some.ensures.value in
-    digest_told md5_name r 16 (md5 r.text) c.md5_ok.result (option_copied c.get-md5.result) there.0
-    (c.get-md5.ensures.value ∙ ap (header_value md5_name) c.block-block.ensures.lines)
-    (subst (λ (t : List ℕ). IsFalse c.md5_ok.result ↔ TellsOther (option_copied c.get-md5.result) 16 (md5 t)) there.1 c.md5_ok.ensures)
+    digest_told md5_name r 16 (md5 r.text) c.md5_ok.result (option_copied c.md5-md5.result) there.0
+    c.md5-md5.ensures.value
+    (subst (λ (t : List ℕ). IsFalse c.md5_ok.result ↔ TellsOther (option_copied c.md5-md5.result) 16 (md5 t))
+    there.1 c.md5_ok.ensures)
 
 pub returns-clause-sha1 : goal.returns-clause-sha1
 returns-clause-sha1 c =
     let r = record_item c.args.item.now in
     let there = text_there r c.in-Some.text.now c.in-Some.ensures.value in
-    digest_told sha1_name r 20 (sha1 r.text) c.sha1_ok.result (option_copied c.get-sha1.result) there.0
-    (c.get-sha1.ensures.value ∙ ap (header_value sha1_name) c.block-block.ensures.lines)
-    (subst (λ (t : List ℕ). IsFalse c.sha1_ok.result ↔ TellsOther (option_copied c.get-sha1.result) 20 (sha1 t)) there.1 c.sha1_ok.ensures)
+    digest_told sha1_name r 20 (sha1 r.text) c.sha1_ok.result (option_copied c.sha1-sha1.result) there.0
+    c.sha1-sha1.ensures.value
+    (subst (λ (t : List ℕ). IsFalse c.sha1_ok.result ↔ TellsOther (option_copied c.sha1-sha1.result) 20 (sha1 t))
+    there.1 c.sha1_ok.ensures)
 
 pub returns-clause-checked : goal.returns-clause-checked
 returns-clause-checked c =
     let r = record_item c.args.item.now in
-    text_told r c.is_told.result c.get-md5.result c.get-sha1.result (text_there r c.in-Some.text.now c.in-Some.ensures.value).0
-    (c.get-md5.ensures.value ∙ ap (header_value md5_name) c.block-block.ensures.lines)
-    (c.get-sha1.ensures.value ∙ ap (header_value sha1_name) c.block-block.ensures.lines)
+    text_told r c.is_told.result c.md5-md5.result c.sha1-sha1.result
+    (text_there r c.in-Some.text.now c.in-Some.ensures.value).0
+    c.md5-md5.ensures.value
+    c.sha1-sha1.ensures.value
     c.is_told.ensures

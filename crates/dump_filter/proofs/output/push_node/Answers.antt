@@ -1,23 +1,33 @@
-use Rattle.std.proofs.Common.{◌++◌, codes}
+use Rattle.std.proofs.Common.{◌≡◌, List, ℕ, false, sym, subst, ◌++◌, codes, OnOk}
+use Rattle.dump_text.specs.PropertyList.{Property, IsPropertyBlock}
 use Rattle.dump_writer.specs.ChunkBytes.{chunk_bytes}
 use Rattle.dump_records.specs.RecordViews.{record_item}
+use Rattle.dump_records.specs.declared.record.Record.{Record}
+use Rattle.dump_filter.specs.Advance.{IsOwnNode}
+use Rattle.dump_filter.specs.NewContent.{AreNewProperties, new_block}
 use Rattle.dump_filter.specs.NewLines.{new_record}
 use Rattle.dump_filter.proofs.OutputLemmas.{on_ok, node_is}
 use Rattle.dump_filter.proofs.output.push_node.Goals as goal
 
 pub returns : goal.returns
 returns c =
-    let r = record_item c.args.item.now in
+    let item = c.item-item.result in
+    let r = record_item item in
     let changes = c.changes_of-changes in
     let own = new_record changes.result r.headers (chunk_bytes c.in_ok-props.props) r.text ++ codes "\n\n" in
-    on_ok c.push_record.result _ _ (λ pushed. (
+    let written = subst (λ (x : Record). (ps : List Property) → IsPropertyBlock (record_item x).props ps
+    → (new : List Property) × AreNewProperties c.args.options.now c.args.kept.now ps new
+    × (chunk_bytes c.in_ok-props.props ≡ new_block false (record_item x) new)) (sym c.item-item.ensures) c.in_ok-props.ensures in
+    subst (λ (x : Record). OnOk c.push_record.result ((text : List ℕ) × (c.push_record.new.piece ≡ c.args.piece.now ++ text)
+    × IsOwnNode c.args.options.now c.args.kept.now (record_item x) c.args.copy text)) c.item-item.ensures
+    (on_ok c.push_record.result _ _ (λ pushed. (
       own,
       pushed,
       λ ps is.
-          let (new, properties, bytes) = c.in_ok-props.ensures ps is in (
+          let (new, properties, bytes) = written ps is in (
             new,
             properties,
             node_is changes.result r c.args.copy _ _ new changes.ensures.revision changes.ensures.copy changes.ensures.lengths c.text_bytes.ensures bytes,
           ),
     ))
-    c.push_record.ensures
+    c.push_record.ensures)

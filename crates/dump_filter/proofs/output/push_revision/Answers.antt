@@ -1,13 +1,26 @@
-use Rattle.std.proofs.Common.{ap, ◌∙◌, ◌++◌}
+use Rattle.std.proofs.Common.{◌≡◌, List, ap, sym, subst, ◌∙◌, ◌++◌, OnOk}
+use Rattle.dump_text.specs.PropertyList.{Property, IsPropertyBlock}
 use Rattle.dump_records.specs.RecordViews.{record_item}
+use Rattle.dump_records.specs.declared.record.Record.{Record}
+use Rattle.dump_digest.specs.ContentViews.{ArePropertiesOf}
+use Rattle.dump_filter.specs.OwnText.{revision_own}
+use Rattle.dump_filter.proofs.MergeLemmas.{asked_revision}
 use Rattle.dump_filter.proofs.OutputLemmas.{on_ok, revision_is}
 use Rattle.dump_filter.proofs.output.push_revision.Goals as goal
+
+pub revision_properties-requires : goal.revision_properties-requires
+revision_properties-requires c =
+    subst (λ (r : Record). ArePropertiesOf (record_item r) c.props.result) (sym c.item-item.ensures)
+    (c.props.ensures.read (asked_revision c.args.done.now c.requires))
 
 pub returns : goal.returns
 returns c =
     let changes = c.changes_of-changes in
-    on_ok c.push_record.result _ _ (λ pushed ps is.
+    let item = c.item-item.result in
+    subst (λ (r : Record). OnOk c.push_record.result ((ps : List Property) → IsPropertyBlock (record_item r).props ps
+    → c.push_record.new.piece ≡ c.args.piece.now ++ revision_own (record_item r) c.args.number c.args.padded ps)) c.item-item.ensures
+    (on_ok c.push_record.result _ _ (λ pushed ps is.
     pushed ∙ ap (λ t. c.args.piece.now ++ t)
-    (revision_is changes.result (record_item c.args.item.now) c.args.number c.args.padded _ _ ps changes.ensures.revision changes.ensures.copy
+    (revision_is changes.result (record_item item) c.args.number c.args.padded _ _ ps changes.ensures.revision changes.ensures.copy
     changes.ensures.lengths c.text_bytes.ensures (c.in_ok-props.ensures ps is)))
-    c.push_record.ensures
+    c.push_record.ensures)

@@ -1,22 +1,46 @@
-use Rattle.std.proofs.Common.{[], sym, ap, ◌∙◌, subst}
-use Rattle.dump_text.specs.PropertyList.{IsPropertyBlock}
-use Rattle.dump_text.specs.Names.{property_length_name}
-use Rattle.dump_text.specs.HeaderLine.{has_header}
+use Rattle.std.proofs.Common.{◌≡◌, List, false, IfOk, sym, subst, ◌∙◌}
+use Rattle.dump_text.specs.PropertyList.{Property, IsPropertyBlock}
+use Rattle.dump_writer.specs.ChunkBytes.{chunk_bytes}
 use Rattle.dump_records.specs.RecordViews.{record_item}
+use Rattle.dump_records.specs.declared.record.Record.{Record}
+use Rattle.dump_digest.specs.ContentViews.{ArePropertiesOf}
+use Rattle.dump_digest.specs.MergeFaults.{HasLines}
+use Rattle.dump_filter.specs.NewContent.{AreNewProperties, new_block}
 use Rattle.dump_filter.proofs.OutputLemmas.{if_ok}
-use Rattle.dump_filter.proofs.PropertyOutput.{no_block, block_with, block_without}
+use Rattle.dump_filter.proofs.MergeLemmas.{read_lines, asked_node}
+use Rattle.dump_filter.proofs.PropertyOutput.{no_mergeinfo}
 use Rattle.dump_filter.proofs.props.node_properties.Goals as goal
 
-pub returns-then-has : goal.returns-then-has
-returns-then-has c =
-    let r = record_item c.args.item.now in
-    if_ok c.rewritten.result _ _ (λ chunk written ps is.
-    let (new, properties, bytes) = written ps (subst (λ t. IsPropertyBlock t ps) (sym c.property_bytes.ensures) is) in
-    (new, properties, bytes ∙ block_with r new (sym (ap (has_header property_length_name) c.block.ensures.lines) ∙ sym c.has.ensures ∙ c.if-has.true)))
-    c.rewritten.ensures
+pub rewritten_block-requires-clause-read : goal.rewritten_block-requires-clause-read
+rewritten_block-requires-clause-read c =
+    subst (λ (r : Record). ArePropertiesOf (record_item r) c.props-props.result) (sym c.item-item.ensures)
+    (c.props-props.ensures.read (asked_node c.args.done.now c.requires.node))
 
-pub returns-else-has : goal.returns-else-has
-returns-else-has c = λ ps is.
-    let r = record_item c.args.item.now in
-    let none = sym (ap (has_header property_length_name) c.block.ensures.lines) ∙ sym c.has.ensures ∙ c.if-has.false in
-    ([], no_block c.args.options.now c.args.kept.now r none c.args.item.now.stands.props_fit ps is, block_without r [] none)
+pub rewritten_block-requires-clause-lines : goal.rewritten_block-requires-clause-lines
+rewritten_block-requires-clause-lines c =
+    subst (λ (r : Record). HasLines (record_item r).props) (sym c.item-item.ensures) (read_lines c.args.done.now c.requires.node)
+
+pub respelled_block-requires : goal.respelled_block-requires
+respelled_block-requires c =
+    subst (λ (r : Record). ArePropertiesOf (record_item r) c.props-props.result) (sym c.item-item.ensures)
+    (c.props-props.ensures.read (asked_node c.args.done.now c.requires.node))
+
+pub returns-then-has_mergeinfo : goal.returns-then-has_mergeinfo
+returns-then-has_mergeinfo c =
+    subst (λ (r : Record). IfOk c.rewritten_block.result (λ chunk. (ps : List Property) → IsPropertyBlock (record_item r).props ps
+    → (new : List Property) × AreNewProperties c.args.options.now c.args.kept.now ps new
+    × (chunk_bytes chunk ≡ new_block false (record_item r) new)))
+    c.item-item.ensures c.rewritten_block.ensures
+
+pub returns-else-has_mergeinfo : goal.returns-else-has_mergeinfo
+returns-else-has_mergeinfo c =
+    let (kept, ok) = c.requires.node in
+    if_ok c.respelled_block.result _ _ (λ chunk written ps is. (
+      ps,
+      no_mergeinfo c.args.options.now c.args.kept.now ps
+          (sym (c.has_mergeinfo.ensures kept ok ps is) ∙ c.if-has_mergeinfo.false),
+      written ps is,
+    ))
+    (subst (λ (r : Record). IfOk c.respelled_block.result (λ chunk. (ps : List Property) → IsPropertyBlock (record_item r).props ps
+    → chunk_bytes chunk ≡ new_block false (record_item r) ps))
+    c.item-item.ensures c.respelled_block.ensures)

@@ -1,9 +1,9 @@
-use Rattle.std.proofs.Common.{◌<◌, ◌^◌, length, subst}
-use Rattle.dump_text.proofs.WrittenLemmas.{IsWritten}
+use Rattle.std.proofs.Common.{◌<◌, ◌^◌, length, ◌∙◌}
+use Rattle.dump_text.specs.PropertyViews.{props_bytes}
 use Rattle.dump_filter.proofs.PropertyOutput.{own_spelling}
 use Rattle.dump_filter.proofs.props.respelled.Goals as goal
 
 pub returns-then-spelled : goal.returns-then-spelled
-returns-then-spelled c =
-    let small : length c.args.block.now < 2 ^ 64 = search in
-    own_spelling c.args.block.now small (subst IsWritten c.in-Some.ensures.bytes (c.spelled.ensures.0 c.if-spelled.true))
+returns-then-spelled c = λ ps is.
+    let small : length (props_bytes c.args.props.now) < 2 ^ 64 = search in
+    c.bytes.ensures ∙ own_spelling (props_bytes c.args.props.now) small (c.spelled.ensures.0 c.if-spelled.true) ps is

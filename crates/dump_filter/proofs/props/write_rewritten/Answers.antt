@@ -1,7 +1,7 @@
 use Rattle.std.proofs.Common.{sym, subst}
 use Rattle.dump_text.specs.PropertyViews.{props_bytes, entry_property}
 use Rattle.dump_text.proofs.PropertyTruth.{untruncated}
-use Rattle.dump_filter.specs.MergeFaults.{HasLines}
+use Rattle.dump_digest.specs.MergeFaults.{HasLines}
 use Rattle.dump_filter.proofs.PropertyOutput.{none_rewritten, next_rewritten, all_rewritten, left_lines, entry_lines}
 use Rattle.dump_filter.proofs.props.write_rewritten.Goals as goal
 
@@ -10,11 +10,11 @@ loop-entry-init c = (
   tt,
   tt,
   none_rewritten c.args.options.now c.args.kept.now (props_bytes c.args.props.now) _ _ c.new-out.ensures.items c.entries-entries.ensures.lent,
-  subst HasLines (sym c.entries-entries.ensures.lent) c.requires.lines,
+  subst HasLines (sym c.entries-entries.ensures.lent) c.requires,
 )
 
-pub push_rewritten-requires-clause-lines : goal.push_rewritten-requires-clause-lines
-push_rewritten-requires-clause-lines c =
+pub push_rewritten-requires : goal.push_rewritten-requires
+push_rewritten-requires c =
     let (front, cut, one) = c.in-Some.ensures.steps in
     entry_lines _ _ front (entry_property c.in-Some.entry) c.loop-entry.invariant.3 (untruncated _ c.loop-entry.entries.reads) cut one
 
@@ -29,4 +29,4 @@ loop-entry-preserved c =
     )
 
 pub returns : goal.returns
-returns c = all_rewritten c.args.options.now c.args.kept.now _ _ _ _ c.loop-entry.invariant.2 c.in_default.ensures.steps.0 c.in_ok-push_bytes.ensures
+returns c = all_rewritten c.args.options.now c.args.kept.now _ _ _ _ c.loop-entry.invariant.2 c.in_default.ensures.steps.0 c.in_ok-push_block_end.ensures

@@ -1,34 +1,48 @@
-use Rattle.std.proofs.Common.{sym, subst, drop, arith, refl}
+use Rattle.std.proofs.Common.{sym, subst, drop, arith, refl, ap, ◌∙◌}
 use Rattle.dump_text.specs.HeaderBlock.{HasBlock}
+use Rattle.dump_text.specs.Views.{block_dump, block_place, block_headers}
 use Rattle.dump_records.specs.RecordText.{IsCutFault}
+use Rattle.dump_records.specs.HeaderReading.{IsHeaderOf}
+use Rattle.dump_records.specs.Lawful.{LengthsOf}
 use Rattle.dump_records.proofs.PartLemmas.{handed_on, no_block, unlawful_here, short_here, stands_here}
 use Rattle.dump_records.proofs.parts.parts_at.Goals as goal
 
-pub returns-in_err-block-clause-fault : goal.returns-in_err-block-clause-fault
-returns-in_err-block-clause-fault c =
+pub returns-in_err-headers-clause-fault : goal.returns-in_err-headers-clause-fault
+returns-in_err-headers-clause-fault c =
     let text = drop c.args.place c.args.dump.now in
-    let none : ¬ HasBlock text = λ has. let bad = c.in_err-block.ensures.found.1 has in cc in
-    handed_on _ _ _ c.from_residual.ensures.1 (subst (IsCutFault c.args.number text) (sym c.in_err-block.ensures.fault) (no_block c.args.number text none))
+    let none : ¬ HasBlock text = λ has. let bad = c.in_err-headers.ensures.found.1 has in cc in
+    handed_on _ _ _ c.from_residual.ensures.1
+    (subst (IsCutFault c.args.number text) (sym c.in_err-headers.ensures.fault) (no_block c.args.number text none))
 
-pub returns-in_err-lengths-clause-fault : goal.returns-in_err-lengths-clause-fault
-returns-in_err-lengths-clause-fault c =
-    let b = c.in_ok-block in
-    handed_on _ _ _ c.from_residual-in_err-lengths.ensures.1
-    (unlawful_here c.args.dump.now c.args.place c.args.number b.block b.ensures.dump b.ensures.place _ c.in_err-lengths.ensures)
+pub returns-in_err-found-clause-fault : goal.returns-in_err-found-clause-fault
+returns-in_err-found-clause-fault c =
+    let h = c.in_ok-headers in
+    handed_on _ _ _ c.from_residual-in_err-found.ensures.1
+    (unlawful_here c.args.dump.now c.args.place c.args.number h.headers.block h.ensures.dump h.ensures.place
+    _ c.in_err-found.ensures)
 
 pub returns-then-left-lengths-clause-fault : goal.returns-then-left-lengths-clause-fault
 returns-then-left-lengths-clause-fault c =
-    let b = c.in_ok-block in
+    let h = c.in_ok-headers in
+    let same = c.block-block.ensures in
     let short = c.if-left-lengths.true in
     let after = c.after.ensures in
-    short_here c.args.dump.now c.args.place c.args.number b.block b.ensures.dump b.ensures.place c.in_ok-lengths.lengths c.in_ok-lengths.ensures
+    short_here c.args.dump.now c.args.place c.args.number c.block-block.result (ap block_dump same ∙ h.ensures.dump)
+    (ap block_place same ∙ h.ensures.place)
+    c.in_ok-found.found.1 (subst (λ b. LengthsOf c.args.number (block_headers b) c.in_ok-found.found.1)
+    (sym same) c.in_ok-found.ensures.1)
     (omega arith)
 
 pub returns-clause-stands : goal.returns-clause-stands
 returns-clause-stands c =
-    let b = c.in_ok-block in
+    let h = c.in_ok-headers in
+    let same = c.block-block.ensures in
     let fits = c.if-left-lengths.false in
     let after = c.after.ensures in
     let again = c.after-2.ensures in
-    stands_here c.args.dump.now c.args.place c.args.number b.block b.ensures.dump b.ensures.place c.in_ok-lengths.lengths _ _ c.in_ok-lengths.ensures
+    stands_here c.args.dump.now c.args.place c.args.number c.block-block.result (ap block_dump same ∙ h.ensures.dump)
+    (ap block_place same ∙ h.ensures.place)
+    c.in_ok-found.found.0 c.in_ok-found.found.1 _ _
+    (subst (λ b. IsHeaderOf (block_headers b) c.in_ok-found.found.0) (sym same) c.in_ok-found.ensures.0)
+    (subst (λ b. LengthsOf c.args.number (block_headers b) c.in_ok-found.found.1) (sym same) c.in_ok-found.ensures.1)
     (omega arith) (omega arith) refl

@@ -1,15 +1,14 @@
-use Rattle.std.proofs.Common.{◌∙◌, option_map}
-use Rattle.dump_filter.specs.Turns.{waited}
-use Rattle.dump_filter.proofs.FilterLemmas.{finishes, reports}
+use Rattle.std.proofs.Common.{ap, ◌∙◌}
+use Rattle.dump_filter.specs.State.{State}
+use Rattle.dump_filter.proofs.FilterLemmas.{holds, finishes, reports}
 use Rattle.dump_filter.proofs.filter.Filter.finish.Goals as goal
 
 pub returns-clause-piece : goal.returns-clause-piece
 returns-clause-piece c =
-    let s = c.self.inside in
-    finishes s.options.now s.active s.held.last s.held.present s.held.kept (option_map waited s.held.waiting) s.report (c.self.invariant c.if-not-self.false) c.args.self c.self.view_is c.in-Ok.piece c.in-Ok.ensures
+    let h = holds c.self.inside c.args.self c.self.invariant c.self.view_is c.if-not-self.false in
+    finishes h c.in-Ok.piece c.in-Ok.ensures.piece
 
 pub returns-clause-report : goal.returns-clause-report
 returns-clause-report c = λ records accepted.
-    let s = c.self.inside in
-    c.report_at_end-report.ensures.counted
-    ∙ reports s.options.now s.active s.held.last s.held.present s.held.kept (option_map waited s.held.waiting) s.report (c.self.invariant c.if-not-self.false) c.args.self c.self.view_is records accepted
+    let h = holds c.self.inside c.args.self c.self.invariant c.self.view_is c.if-not-self.false in
+    ap (λ (s : State). s.report) c.in-Ok.ensures.state ∙ reports h records accepted

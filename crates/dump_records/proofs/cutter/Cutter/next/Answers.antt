@@ -27,6 +27,7 @@ invariant_of-record c =
     let at = c.in-Ok.ensures.stands in
     let room = item_room s.dump.now s.number s.place gap c.in-Ok.parts c.self.invariant lfs at in
     record {
+      says = at.header;
       counted = omega (arith, c.self.told);
       inside = own_inside s.dump.now (s.place + gap) s.number c.in-Ok.parts at;
       stands = own_stands s.dump.now (s.place + gap) s.number c.in-Ok.parts at;

@@ -1,0 +1,182 @@
+-- What the mergeinfo of some properties says, property by property.
+use Rattle.std.proofs.Common.{◌≡◌, ◌↔◌, ℕ, Bool, true, false, ◌&&◌, ◌||◌, List, [], ◌∷◌, refl, sym, ap, subst, ◌∙◌, Option, Some, None, IsSome, IsNone, IfSome, is_some, MatchOption, IsTrue, IsFalse}
+use Rattle.std.specs.List.{list_any}
+use Rattle.std.specs.Option.{ForSome}
+use Rattle.dump_text.specs.declared.props.Props.{Props}
+use Rattle.dump_text.specs.PropertyList.{Property, IsPropertyBlock, HasProperties}
+use Rattle.dump_text.specs.PropertyViews.{props_bytes}
+use Rattle.dump_text.proofs.BoolLemmas.{absurd_bool, both_true, either_second}
+use Rattle.dump_records.specs.RecordText.{DumpRecord}
+use Rattle.dump_rules.specs.declared.merged.Merged.{Merged}
+use Rattle.dump_rules.specs.Settings.{Settings}
+use Rattle.dump_rules.specs.Mergeinfo.{HasMergeLines}
+use Rattle.dump_rules.specs.Merged.{is_outside, nothing_merged}
+use Rattle.dump_rules.specs.NewLines.{value_misses, value_foreign}
+use Rattle.dump_rules.specs.ReadMergeinfo.{value_reads}
+use Rattle.dump_digest.specs.declared.content.Content.{Content}
+use Rattle.dump_digest.specs.declared.verdict.Verdict.{Verdict}
+use Rattle.dump_digest.specs.VerdictMeaning.{IsVerdict}
+use Rattle.dump_digest.specs.declared.mergeinfo.Mergeinfo.{Mergeinfo}
+use Rattle.dump_digest.specs.RecordParts.{is_revision, is_kept_node, is_mergeinfo}
+use Rattle.dump_digest.specs.Checks.{properties_read}
+use Rattle.dump_digest.specs.ContentFaults.{HasBadMergeinfo}
+use Rattle.dump_digest.specs.MergeFaults.{misses, is_foreign}
+use Rattle.dump_digest.specs.ContentViews.{IsSaidBy, IsContent, ArePropertiesOf, is_asked}
+use Rattle.dump_digest.proofs.MergeLemmas.{read_is, merge_means, merge_unread}
+
+-- what is said of the properties that were read, where the others are left
+pub record IsSaidUpTo (s : Settings) (ps qs : List Property) (found : Bool) (said : Merged) : Type 0 where
+  pub read : properties_read ps ≡ properties_read qs
+  pub found_is : list_any is_mergeinfo ps ≡ (found || list_any is_mergeinfo qs)
+  pub sources : list_any (misses s) ps ≡ (said.misses || list_any (misses s) qs)
+  pub numbers : (first present : ℕ) → list_any (is_foreign s first present) ps
+      ≡ (is_outside s first present said.numbers || list_any (is_foreign s first present) qs)
+
+-- before the first property nothing is said
+pub said_at_first : (s : Settings) (ps : List Property) (said : Merged) → said ≡ nothing_merged → IsSaidUpTo s ps ps false said
+said_at_first s ps said is = record {
+  read = refl;
+  found_is = refl;
+  sources = ap (λ (m : Merged). m.misses || list_any (misses s) ps) (sym is);
+  numbers = λ first present. ap (λ (m : Merged). is_outside s first present m.numbers || list_any (is_foreign s first present) ps) (sym is);
+}
+
+or_or : (a b c : Bool) → (a || (b || c)) ≡ ((a || b) || c)
+or_or true b c = refl
+or_or false b c = refl
+
+or_true : (a c : Bool) → (a || (true || c)) ≡ true
+or_true true c = refl
+or_true false c = refl
+
+-- one more property that isn't mergeinfo
+pub said_of_other : (s : Settings) (ps qs others : List Property) (p : Property) (found : Bool) (said : Merged) → qs ≡ p ∷ others
+    → is_mergeinfo p ≡ false → IsSaidUpTo s ps qs found said → IsSaidUpTo s ps others found said
+said_of_other s ps qs others p found said is other up = record {
+  read = up.read ∙ ap properties_read is ∙ rw other refl;
+  found_is = up.found_is ∙ ap (λ (l : List Property). found || list_any is_mergeinfo l) is ∙ rw other refl;
+  sources = up.sources ∙ ap (λ (l : List Property). said.misses || list_any (misses s) l) is ∙ rw other refl;
+  numbers = λ first present. up.numbers first present
+      ∙ ap (λ (l : List Property). is_outside s first present said.numbers || list_any (is_foreign s first present) l) is
+      ∙ rw other refl;
+}
+
+-- one more property that is
+pub said_of_value : (s : Settings) (ps qs others : List Property) (p : Property) (found : Bool) (said next : Merged) → qs ≡ p ∷ others
+    → is_mergeinfo p ≡ true → value_reads p.value ≡ true
+    → next.misses ≡ (said.misses || value_misses s p.value)
+    → ((first present : ℕ) → is_outside s first present next.numbers
+    ≡ (is_outside s first present said.numbers || value_foreign s first present p.value))
+    → IsSaidUpTo s ps qs found said → IsSaidUpTo s ps others true next
+said_of_value s ps qs others p found said next is named reads sources numbers up = record {
+  read = up.read ∙ ap properties_read is ∙ rw (named, reads) refl;
+  found_is = up.found_is ∙ ap (λ (l : List Property). found || list_any is_mergeinfo l) is ∙ rw named (or_true found (list_any is_mergeinfo others));
+  sources = up.sources ∙ ap (λ (l : List Property). said.misses || list_any (misses s) l) is
+      ∙ rw named (or_or said.misses (value_misses s p.value) (list_any (misses s) others))
+      ∙ ap (λ b. b || list_any (misses s) others) (sym sources);
+  numbers = λ first present. up.numbers first present
+      ∙ ap (λ (l : List Property). is_outside s first present said.numbers || list_any (is_foreign s first present) l) is
+      ∙ rw named (or_or (is_outside s first present said.numbers) (value_foreign s first present p.value) (list_any (is_foreign s first present) others))
+      ∙ ap (λ b. b || list_any (is_foreign s first present) others) (sym (numbers first present));
+}
+
+-- a property whose value can't be read
+pub not_said : (s : Settings) (ps qs others : List Property) (p : Property) (found : Bool) (said : Merged) → qs ≡ p ∷ others
+    → is_mergeinfo p ≡ true → value_reads p.value ≡ false → IsSaidUpTo s ps qs found said → properties_read ps ≡ false
+not_said s ps qs others p found said is named bad up = up.read ∙ ap properties_read is ∙ rw (named, bad) refl
+
+-- behind the last property all is said
+pub said_at_last : (s : Settings) (ps : List Property) (found : Bool) (said : Merged) → IsSaidUpTo s ps [] found said
+    → IsSaidBy s ps (record { found = found; said = said })
+said_at_last s ps found said up = record {
+  read = up.read;
+  found = sym (up.found_is ∙ or_none found);
+  sources = sym (up.sources ∙ or_none said.misses);
+  numbers = λ first present. sym (up.numbers first present ∙ or_none (is_outside s first present said.numbers));
+}
+  where
+    or_none : (a : Bool) → (a || false) ≡ a
+    or_none true = refl
+    or_none false = refl
+
+-- what the reader of a value answers
+pub unread_value : (value : List ℕ) (o : Option Merged) → (IsSome o ↔ HasMergeLines value) → o ≡ None → value_reads value ≡ false
+unread_value value o means is = sym (read_is value (is_some o) means) ∙ ap is_some is
+
+pub reads_value : (value : List ℕ) (o : Option Merged) (next : Merged) → (IsSome o ↔ HasMergeLines value) → o ≡ Some next
+    → value_reads value ≡ true
+reads_value value o next means is = sym (read_is value (is_some o) means) ∙ ap is_some is
+
+-- what was read of the properties of a kept node, by whether they are a property block
+abbrev pub AreSaid : Settings → Option Props → Option Mergeinfo → Type 0
+AreSaid s found o = (ps : List Property) (p : Props) → found ≡ Some p → IsPropertyBlock (props_bytes p) ps
+    → MatchOption o (properties_read ps ≡ false) (λ m. IsSaidBy s ps m)
+
+-- values can be read where mergeinfo was
+said_ok : (s : Settings) (ps : List Property) (o : Option Mergeinfo) → MatchOption o (properties_read ps ≡ false) (λ m. IsSaidBy s ps m)
+    → is_some o ≡ properties_read ps
+said_ok s ps None bad = sym bad
+said_ok s ps (Some m) said = sym said.read
+
+-- a kept node's mergeinfo can be read exactly where it isn't bad
+pub merge_told : (s : Settings) (r : DumpRecord) (bytes : List ℕ) (found : Option Props) (o : Option Mergeinfo)
+    → IsTrue (is_kept_node s r) → bytes ≡ r.props → (IsSome found ↔ HasProperties bytes) → IfSome found (λ p. props_bytes p ≡ bytes)
+    → AreSaid s found o → (IsNone found → IsSome o) → IsFalse (is_some o) ↔ ∥ HasBadMergeinfo s r ∥₁
+merge_told s r bytes None o kept same means is said none =
+    let unread = merge_unread s r (λ has. let bad : false ≡ true = means.1 (subst HasProperties (sym same) has) in cc) in
+    subst (λ (b : Bool). IsFalse b ↔ ∥ HasBadMergeinfo s r ∥₁) (sym (none refl)) unread
+merge_told s r bytes (Some p) o kept same means is said none =
+    let (ps, block) = means.0 refl in
+    merge_means s r (is_some o) ps kept (subst (λ (t : List ℕ). IsPropertyBlock t ps) same block)
+    (said_ok s ps o (said ps p refl (subst (λ (t : List ℕ). IsPropertyBlock t ps) (sym is) block)))
+
+-- what mergeinfo says is what the properties say
+pub values_told : (s : Settings) (r : DumpRecord) (bytes : List ℕ) (found : Option Props) (o : Option Mergeinfo)
+    → bytes ≡ r.props → (IsSome found ↔ HasProperties bytes) → IfSome found (λ p. props_bytes p ≡ bytes) → AreSaid s found o
+    → (ps : List Property) → IsPropertyBlock r.props ps → ForSome o (λ m. IsSaidBy s ps m)
+values_told s r bytes None o same means is said ps block =
+    let has : HasProperties bytes = (ps, subst (λ (t : List ℕ). IsPropertyBlock t ps) (sym same) block) in
+    let bad : false ≡ true = means.1 has in cc
+values_told s r bytes (Some p) o same means is said ps block =
+    by_option o (said ps p refl (subst (λ (t : List ℕ). IsPropertyBlock t ps) (sym (is ∙ same)) block))
+  where
+    by_option : (o : Option Mergeinfo) → MatchOption o (properties_read ps ≡ false) (λ m. IsSaidBy s ps m) → ForSome o (λ m. IsSaidBy s ps m)
+    by_option None bad = λ m e. absurd (let no : None ≡ Some m = e in cc)
+    by_option (Some m) told = λ n e. subst (IsSaidBy s ps) (let one : m ≡ n = cc in one) told
+
+-- a block's bytes are the record's
+pub bytes_told : (r : DumpRecord) (bytes : List ℕ) (found : Option Props) → bytes ≡ r.props → IfSome found (λ p. props_bytes p ≡ bytes)
+    → ForSome found (λ p. props_bytes p ≡ r.props)
+bytes_told r bytes None same is = λ p e. absurd (let no : None ≡ Some p = e in cc)
+bytes_told r bytes (Some p) same is = λ q e. ap props_bytes (let one : q ≡ p = cc in one) ∙ is ∙ same
+
+-- a kept node's properties are asked
+pub asked_kept : (s : Settings) (r : DumpRecord) (found : Option Props) (ok : Bool) → IsTrue (is_kept_node s r) → ok ≡ is_some found
+    → is_some found ≡ (is_asked s r && ok)
+asked_kept s r found ok kept is = sym is ∙ ap (λ b. b && ok) (sym (either_second (is_revision r) (is_kept_node s r) kept))
+
+-- of another record no mergeinfo is read, and no copy source
+pub content_of_other : (s : Settings) (r : DumpRecord) (v : Verdict) (found : Option Props) → IsFalse (is_kept_node s r) → IsVerdict s r v
+    → is_some found ≡ (is_asked s r && v.props_ok) → ForSome found (λ p. props_bytes p ≡ r.props)
+    → IsContent s r (record { verdict = v; kept = false; props = found; mergeinfo = None; lost_source = false })
+content_of_other s r v found other verdict asked bytes = record {
+  verdict_is = verdict;
+  kept_is = sym other;
+  asked = asked;
+  bytes = bytes;
+  read = λ kept. absurd (absurd_bool (is_kept_node s r) kept other);
+  said = λ kept. absurd (absurd_bool (is_kept_node s r) kept other);
+  lost = λ kept. absurd (absurd_bool (is_kept_node s r) kept other);
+}
+
+not_so_false : (b : Bool) → (b ≡ false → ⊥) → b ≡ true
+not_so_false true bad = refl
+not_so_false false bad = absurd (bad refl)
+
+-- what was read of a record that is asked for its properties is them
+pub properties_of : (s : Settings) (r : DumpRecord) (c : Content) → IsContent s r c → IsTrue (is_asked s r) → ArePropertiesOf r c.props
+properties_of s r c is asked = record {
+  bytes = is.bytes;
+  there = λ has. is.asked ∙ both_true (is_asked s r) c.verdict.props_ok asked
+      (not_so_false c.verdict.props_ok (λ bad. (is.verdict_is.props.0 bad).1 has));
+}

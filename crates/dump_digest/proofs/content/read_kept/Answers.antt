@@ -1,0 +1,37 @@
+use Rattle.std.proofs.Common.{◌≡◌, ◌↔◌, Bool, IsFalse, subst, sym}
+use Rattle.dump_records.specs.RecordViews.{record_item}
+use Rattle.dump_text.proofs.BoolLemmas.{first_true}
+use Rattle.dump_digest.specs.RecordParts.{is_node}
+use Rattle.dump_digest.specs.ContentFaults.{HasBadMergeinfo}
+use Rattle.dump_digest.proofs.VerdictLemmas.{kept_verdict, found_properties}
+use Rattle.dump_digest.proofs.SaidLemmas.{merge_told, values_told, bytes_told, asked_kept}
+use Rattle.dump_digest.proofs.content.read_kept.Goals as goal
+
+pub has_lost_source-requires : goal.has_lost_source-requires
+has_lost_source-requires c = first_true (is_node (record_item c.args.item.now)) _ c.requires
+
+pub returns : goal.returns
+returns c =
+    let s = c.args.options.now in
+    let r = record_item c.args.item.now in
+    let kept = c.requires in
+    let bytes = c.property_bytes.result.now in
+    let same : bytes ≡ r.props = c.property_bytes.ensures in
+    let found = c.read-props.result in
+    let read = c.read-props.ensures in
+    let said = c.mergeinfo_of-mergeinfo.ensures in
+    let told = merge_told s r bytes found c.mergeinfo_of-mergeinfo.result kept same read.found read.bytes said.some said.none in
+    record {
+      verdict_is = kept_verdict s r _ kept
+          (found_properties r.props bytes found c.is_some.result same c.is_some.ensures read.found)
+          c.text_check-text.ensures.md5
+          c.text_check-text.ensures.sha1
+          (subst (λ (b : Bool). IsFalse b ↔ ∥ HasBadMergeinfo s r ∥₁) (sym c.is_some-2.ensures) told)
+          c.text_check-text.ensures.checked;
+      kept_is = sym kept;
+      asked = asked_kept s r found c.is_some.result kept c.is_some.ensures;
+      bytes = bytes_told r bytes found same read.bytes;
+      read = λ k. sym c.is_some-2.ensures;
+      said = λ k ps block. values_told s r bytes found c.mergeinfo_of-mergeinfo.result same read.found read.bytes said.some ps block;
+      lost = λ k. c.has_lost_source.ensures;
+    }

@@ -1,0 +1,126 @@
+//! What a check reads of a record: its verdict, and what the filter asks of its properties and its copy source.
+ghost use Rattle.std.specs.Prelude.{◌≡◌, false, List, Some, MatchOption, IsFalse, IsTrue, IsNone, IsSome};
+ghost use Rattle.dump_text.specs.declared.props.Props.{Props};
+ghost use Rattle.dump_text.specs.PropertyList.{IsPropertyBlock, Property};
+ghost use Rattle.dump_text.specs.PropertyViews.{props_bytes};
+ghost use Rattle.dump_records.specs.RecordText.{DumpRecord};
+ghost use Rattle.dump_records.specs.RecordViews.{record_item};
+ghost use Rattle.dump_rules.specs.Settings.{Settings};
+ghost use Rattle.dump_digest.specs.Checks.{properties_read};
+ghost use Rattle.dump_digest.specs.ContentViews.{IsContent, IsSaidBy};
+ghost use Rattle.dump_digest.specs.RecordParts.{has_lost_source, is_kept_node, is_node, is_revision};
+
+use crate::digests::text_check;
+use crate::kept::is_kept;
+use crate::mergeinfo::Mergeinfo;
+use crate::verdict::Verdict;
+use dump_records::Record;
+use dump_rules::{Options, keeps};
+use dump_text::Props;
+
+/// What was read of a record.
+#[derive(Clone, Copy)]
+pub(crate) struct Content<'a> {
+    pub(crate) verdict: Verdict,
+    /// Whether it is a node that the options keep.
+    pub(crate) kept: bool,
+    /// The properties of a revision or of a kept node, where they are a property block.
+    pub(crate) props: Option<Props<'a>>,
+    /// The mergeinfo of a kept node, where each value of it can be read.
+    pub(crate) mergeinfo: Option<Mergeinfo>,
+    /// Whether it is a kept node that is copied from a path that isn't kept.
+    pub(crate) lost_source: bool,
+}
+
+/// Whether the node is copied from a path that the options don't keep.
+fn has_lost_source(item: &Record<'_>, options: &Options) -> bool
+    requires { IsTrue (is_node (record_item item.now)) }
+    ensures { result ≡ has_lost_source options.now (record_item item.now) }
+{
+    match item.copy_path() {
+        Some(path) => !keeps(options, path),
+        None => false,
+    }
+}
+
+/// The mergeinfo among the properties of a kept node, where each value of it can be read. Properties that can't be read
+/// have none.
+fn mergeinfo_of(props: &Option<Props<'_>>, options: &Options) -> Option<Mergeinfo>
+    ensures some { (ps : List Property) (p : Props) → props.now ≡ Some p → IsPropertyBlock (props_bytes p) ps
+        → MatchOption result (properties_read ps ≡ false) (λ m. IsSaidBy options.now ps m) }
+    ensures none { IsNone props.now → IsSome result }
+{
+    match props {
+        Some(props) => Mergeinfo::of(props, options),
+        None => Some(Mergeinfo::none()),
+    }
+}
+
+/// What is read of a node that is kept.
+fn read_kept<'a>(item: &Record<'a>, options: &Options) -> Content<'a>
+    requires { IsTrue (is_kept_node options.now (record_item item.now)) }
+    ensures { IsContent options.now (record_item item.now) result }
+{
+    let text = text_check(item);
+    let props = Props::read(item.property_bytes());
+    let mergeinfo = mergeinfo_of(&props, options);
+    Content {
+        verdict: Verdict {
+            props_ok: props.is_some(),
+            md5_ok: text.md5_ok,
+            sha1_ok: text.sha1_ok,
+            merge_ok: mergeinfo.is_some(),
+            checked: text.checked,
+        },
+        kept: true,
+        props,
+        mergeinfo,
+        lost_source: has_lost_source(item, options),
+    }
+}
+
+/// What is read of a revision.
+fn read_revision<'a>(item: &Record<'a>) -> Content<'a>
+    requires { IsTrue (is_revision (record_item item.now)) }
+    ensures { (settings : Settings) → IsFalse (is_kept_node settings (record_item item.now))
+        → IsContent settings (record_item item.now) result }
+{
+    let props = Props::read(item.property_bytes());
+    Content {
+        verdict: Verdict {
+            props_ok: props.is_some(),
+            ..Verdict::UNASKED
+        },
+        kept: false,
+        props,
+        mergeinfo: None,
+        lost_source: false,
+    }
+}
+
+/// What is read of a record that is neither a revision nor a kept node.
+fn read_nothing<'a>() -> Content<'a>
+    ensures { (settings : Settings) (r : DumpRecord) → IsFalse (is_revision r) → IsFalse (is_kept_node settings r)
+        → IsContent settings r result }
+{
+    Content {
+        verdict: Verdict::UNASKED,
+        kept: false,
+        props: None,
+        mergeinfo: None,
+        lost_source: false,
+    }
+}
+
+/// What is read of a record under these options, each thing once.
+pub(crate) fn read_content<'a>(item: &Record<'a>, options: &Options) -> Content<'a>
+    ensures { IsContent options.now (record_item item.now) result }
+{
+    if is_kept(item, options) {
+        read_kept(item, options)
+    } else if item.revision().is_some() {
+        read_revision(item)
+    } else {
+        read_nothing()
+    }
+}

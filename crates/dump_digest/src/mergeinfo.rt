@@ -1,0 +1,56 @@
+//! The mergeinfo of a kept node.
+ghost use Rattle.std.specs.Prelude.{◌≡◌, List, MatchOption, false};
+ghost use Rattle.dump_text.specs.PropertyList.{IsPropertyBlock, Property};
+ghost use Rattle.dump_text.specs.PropertyViews.{entry_property, props_bytes};
+ghost use Rattle.dump_digest.specs.Checks.{properties_read};
+ghost use Rattle.dump_digest.specs.ContentViews.{IsSaidBy};
+ghost use Rattle.dump_digest.specs.RecordParts.{is_mergeinfo};
+
+use dump_rules::{Merged, Options};
+use dump_text::{Entry, Props};
+
+/// The name of the property that tells what was merged.
+const MERGEINFO: &[u8] = b"svn:mergeinfo";
+
+/// Whether the property tells what was merged.
+pub fn is_mergeinfo(entry: &Entry<'_>) -> bool
+    ensures { result ≡ is_mergeinfo (entry_property entry.now) }
+{
+    entry.name == MERGEINFO
+}
+
+/// The mergeinfo among some properties, where each value of it can be read.
+#[derive(Clone, Copy)]
+pub(crate) struct Mergeinfo {
+    /// Whether there is any.
+    pub(crate) found: bool,
+    /// What the values say together.
+    pub(crate) said: Merged,
+}
+
+impl Mergeinfo {
+    /// That of no property.
+    pub(crate) fn none() -> Mergeinfo {
+        Mergeinfo {
+            found: false,
+            said: Merged::new(),
+        }
+    }
+
+    /// That of a block's properties; `None` where a value can't be read. The name may stand more than once.
+    pub(crate) fn of(props: &Props<'_>, options: &Options) -> Option<Mergeinfo>
+        ensures { (ps : List Property) → IsPropertyBlock (props_bytes props.now) ps
+            → MatchOption result (properties_read ps ≡ false) (λ m. IsSaidBy options.now ps m) }
+    {
+        let mut found = false;
+        let mut said = Merged::new();
+        let mut entries = props.entries();
+        while let Some(entry) = entries.next() {
+            if is_mergeinfo(&entry) {
+                found = true;
+                said = said.with(entry.value, options)?;
+            }
+        }
+        Some(Mergeinfo { found, said })
+    }
+}

@@ -1,9 +1,0 @@
-use Rattle.dump_text.specs.PropertyViews.{props_bytes, entries_text}
-use Rattle.dump_filter.specs.MergeFaults.{is_foreign}
-use Rattle.dump_filter.proofs.PropertyOutput.{IsAnyLeft}
-use Rattle.dump_filter.proofs.mergeinfo.some_is_foreign.Given as goal
-
-abbrev pub invariant-loop-entry : goal.invariant-loop-entry
-invariant-loop-entry l =
-    (goal.iterator-loop-entry).can_next l.entries × (goal.iterator-loop-entry).is_finite l.entries
-    × IsAnyLeft (is_foreign l.options l.first l.present) (props_bytes l.props) (entries_text l.entries)

@@ -1,0 +1,13 @@
+use Rattle.std.proofs.Common.{ap, ◌∙◌, arith}
+use Rattle.dump_records.specs.RecordViews.{record_item}
+use Rattle.dump_filter.specs.Groups.{revision_number}
+use Rattle.dump_filter.specs.State.{view_pending}
+use Rattle.dump_filter.proofs.CopyLemmas.{next_fits}
+use Rattle.dump_filter.proofs.revisions.Revisions.next_number.Goals as goal
+
+pub next_image-requires : goal.next_image-requires
+next_image-requires c =
+    let fits = next_fits c.args.self.now (view_pending c.args.pending.now) c.requires in
+    let at = c.revision_number-number.ensures ∙ ap (λ r. revision_number (record_item r)) c.item.ensures in
+    let small = c.revision_number-number.type_inv in
+    omega (arith, fits, at, small)

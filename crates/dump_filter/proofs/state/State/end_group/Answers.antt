@@ -1,0 +1,19 @@
+use Rattle.std.proofs.Common.{Bool, IfOk, sym, ap, subst, ◌∙◌}
+use Rattle.dump_records.specs.RecordViews.{record_item}
+use Rattle.dump_digest.specs.DoneViews.{done_record}
+use Rattle.dump_filter.specs.State.{PresentGroup, view_group}
+use Rattle.dump_filter.specs.Advance.{IsOwnRevision, IsEndText}
+use Rattle.dump_filter.proofs.OutputLemmas.{if_ok}
+use Rattle.dump_filter.proofs.state.State.end_group.Goals as goal
+
+pub returns-then-stays-clause-piece : goal.returns-then-stays-clause-piece
+returns-then-stays-clause-piece c =
+    let options = c.args.options.now in
+    let kept = c.args.self.now.revisions.kept in
+    let r = record_item (done_record c.in-Pending.pending.revision) in
+    let stay = sym c.stays.ensures ∙ c.if-stays.true in
+    subst (λ (group : PresentGroup). IfOk c.write_pending.result (λ piece. IsEndText options kept group piece))
+    (sym (ap view_group c.in-Pending.is))
+    (if_ok c.write_pending.result _ _ (λ piece text. rw stay
+    (subst (λ (padded : Bool). IsOwnRevision options kept r padded piece) c.pads.ensures text))
+    c.write_pending.ensures.piece)

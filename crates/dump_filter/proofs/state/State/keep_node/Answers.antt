@@ -1,0 +1,19 @@
+use Rattle.std.proofs.Common.{ap, subst}
+use Rattle.dump_records.specs.RecordViews.{record_item}
+use Rattle.dump_rules.specs.Renumbering.{KeptRevisions}
+use Rattle.dump_digest.specs.DoneViews.{done_record}
+use Rattle.dump_filter.specs.State.{State}
+use Rattle.dump_filter.specs.Advance.{IsOwnNode}
+use Rattle.dump_filter.proofs.state.State.keep_node.Goals as goal
+
+pub returns-clause-piece : goal.returns-clause-piece
+returns-clause-piece c =
+    let (own, pushed, is) = c.in_ok-push_node.ensures in
+    let kept = ap (λ (s : State). s.revisions.kept) c.in_ok-piece.ensures.state in (
+      c.in_ok-piece.piece,
+      own,
+      pushed,
+      c.in_ok-piece.ensures.piece,
+      subst (λ (k : KeptRevisions). IsOwnNode c.args.options.now k (record_item (done_record c.args.done.now)) c.args.copy own) kept
+          is,
+    )

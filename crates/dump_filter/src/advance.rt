@@ -1,0 +1,251 @@
+//! Carries out the fate of a record: what is written of it, what is held behind it, and what is counted.
+ghost use Rattle.std.specs.Prelude.{◌≡◌, ◌<◌, ◌+◌, ◌^◌, Some, IfOk, IsTrue, OnOk, OnErr};
+ghost use Rattle.dump_records.specs.RecordViews.{record_item};
+ghost use Rattle.dump_records.specs.RecordText.{DumpRecord};
+ghost use Rattle.dump_rules.specs.Settings.{Settings};
+ghost use Rattle.dump_digest.specs.DoneViews.{done_record, done_verdict};
+ghost use Rattle.dump_digest.specs.RecordParts.{is_revision};
+ghost use Rattle.dump_filter.specs.NewProperties.{IsReadNode};
+ghost use Rattle.dump_filter.specs.State.{view_pending, view_group, view_state, revision_count};
+ghost use Rattle.dump_filter.specs.State.PresentGroup.{Pending as IsPending};
+ghost use Rattle.dump_filter.specs.Advance.{IsOwnRevision, IsEndText, IsFrontText, IsPiece, with_kept, with_kept_revision, opened, ended, text_count, fate_state, next_state};
+ghost use Rattle.dump_filter.specs.Knowledge.{AreKept};
+ghost use Rattle.dump_filter.specs.declared.fate.CopyChange.{CopyChange as Change};
+
+use crate::fate::{CopyChange, Fate};
+use crate::output::{push_lines, push_node, push_revision};
+use crate::pending::Pending;
+use crate::state::{Group, State};
+use dump_digest::Done;
+use dump_records::Record;
+use dump_rules::Options;
+use dump_writer::{Memory, Piece};
+use std::alloc::Global;
+
+impl<'a> State<'a> {
+    /// Writes a pending revision, padded or not, and keeps it.
+    fn write_pending(
+        &mut self,
+        alloc: Global,
+        options: &Options,
+        pending: &Pending<'a>,
+        padded: bool,
+    ) -> Result<Piece<'a>, Memory>
+        requires kept { AreKept self.old.revisions (IsPending (view_pending pending.now)) }
+        requires room { self.old.report.revisions_kept + 1 < 2 ^ 64 }
+        ensures piece { let r = record_item (done_record pending.now.revision) in
+            IfOk result (λ piece. IsOwnRevision options.now self.old.revisions.kept r padded piece) }
+        ensures state { let s = view_state self.old in let r = record_item (done_record pending.now.revision) in
+            OnOk result (view_state self.new ≡ record s {
+              revisions = record s.revisions { kept = with_kept s.revisions.kept r };
+              report = with_kept_revision s.report;
+            }) }
+        ensures last { self.new.last ≡ self.old.last }
+    {
+        let number = self.revisions.next_number(options, pending);
+        let mut piece = Piece::new(alloc);
+        push_revision(&mut piece, alloc, &pending.revision, number, padded)?;
+        self.revisions.keep(pending)?;
+        self.report.revisions_kept += 1;
+        Ok(piece)
+    }
+
+    /// Writes the present group's revision for its first kept node, if it is pending.
+    fn open_group(&mut self, alloc: Global, options: &Options) -> Result<Piece<'a>, Memory>
+        requires kept { AreKept self.old.revisions (view_group self.old.group) }
+        requires room { revision_count (view_state self.old) < 2 ^ 64 }
+        ensures piece { let s = view_state self.old in
+            IfOk result (λ piece. IsFrontText options.now s.revisions.kept s.group piece) }
+        ensures state { OnOk result (view_state self.new ≡ opened (view_state self.old)) }
+        ensures last { self.new.last ≡ self.old.last }
+    {
+        let group = self.group;
+        self.group = Group::Written;
+        match group {
+            Group::Pending(pending) => self.write_pending(alloc, options, &pending, false),
+            Group::None | Group::Written => Ok(Piece::new(alloc)),
+        }
+    }
+
+    /// Writes the present group's revision where the group ends, if it is pending and the options keep it.
+    pub(crate) fn end_group(
+        &mut self,
+        alloc: Global,
+        options: &Options,
+    ) -> Result<Piece<'a>, Memory>
+        requires kept { AreKept self.old.revisions (view_group self.old.group) }
+        requires room { revision_count (view_state self.old) < 2 ^ 64 }
+        ensures piece { let s = view_state self.old in
+            IfOk result (λ piece. IsEndText options.now s.revisions.kept s.group piece) }
+        ensures state { OnOk result (view_state self.new ≡ ended options.now (view_state self.old)) }
+        ensures last { self.new.last ≡ self.old.last }
+    {
+        let group = self.group;
+        self.group = Group::None;
+        match group {
+            Group::Pending(pending) => {
+                if pending.stays(options) {
+                    self.write_pending(alloc, options, &pending, pending.pads(options))
+                } else {
+                    self.report.revisions_dropped += 1;
+                    Ok(Piece::new(alloc))
+                }
+            }
+            Group::None | Group::Written => Ok(Piece::new(alloc)),
+        }
+    }
+
+    /// Writes a kept node. The present revision is kept before, since the node's mergeinfo may name it.
+    fn keep_node(
+        &mut self,
+        alloc: Global,
+        options: &Options,
+        done: &Done<'a>,
+        copy: CopyChange,
+    ) -> Result<Piece<'a>, Memory>
+        requires kept { AreKept self.old.revisions (view_group self.old.group) }
+        requires room { revision_count (view_state self.old) < 2 ^ 64 }
+        requires nodes { self.old.report.nodes_kept + 1 < 2 ^ 64 }
+        requires node { IsReadNode done.now }
+        ensures piece { let r = record_item (done_record done.now) in
+            IfOk result (λ piece. IsPiece options.now (view_state self.old) r (Fate.Keep copy) piece) }
+        ensures state { let r = record_item (done_record done.now) in
+            OnOk result (view_state self.new ≡ fate_state options.now (view_state self.old) r (Fate.Keep copy)) }
+        ensures last { self.new.last ≡ self.old.last }
+    {
+        let nodes_kept = self.report.nodes_kept + 1;
+        let mut piece = self.open_group(alloc, options)?;
+        push_node(&mut piece, alloc, options, &self.revisions.kept, done, copy)?;
+        self.report.nodes_kept = nodes_kept;
+        Ok(piece)
+    }
+
+    /// Leaves a node out.
+    fn drop_node(&mut self)
+        requires { self.old.report.nodes_dropped + 1 < 2 ^ 64 }
+        ensures state { (settings : Settings) (r : DumpRecord)
+            → view_state self.new ≡ fate_state settings (view_state self.old) r Fate.Drop }
+        ensures last { self.new.last ≡ self.old.last }
+    {
+        self.group = self.group.emptied();
+        self.report.nodes_dropped += 1;
+    }
+
+    /// Ends the present group, and holds the revision that begins the next.
+    fn hold_revision(
+        &mut self,
+        alloc: Global,
+        options: &Options,
+        done: Done<'a>,
+    ) -> Result<Piece<'a>, Memory>
+        requires kept { AreKept self.old.revisions (view_group self.old.group) }
+        requires room { revision_count (view_state self.old) < 2 ^ 64 }
+        requires revision { IsTrue (is_revision (record_item (done_record done))) }
+        ensures piece { let r = record_item (done_record done.entry) in
+            IfOk result (λ piece. IsPiece options.now (view_state self.old) r Fate.Hold piece) }
+        ensures state { let r = record_item (done_record done.entry) in
+            OnOk result (view_state self.new ≡ fate_state options.now (view_state self.old) r Fate.Hold) }
+        ensures last { self.new.last ≡ self.old.last }
+    {
+        let piece = self.end_group(alloc, options)?;
+        self.revisions.begin(alloc, &done.item());
+        self.group = Group::Pending(Pending {
+            revision: done,
+            bare: true,
+        });
+        Ok(piece)
+    }
+
+    /// Ends the present group, and writes a version or UUID record as it stands.
+    fn pass_lines(
+        &mut self,
+        alloc: Global,
+        options: &Options,
+        item: &Record<'a>,
+    ) -> Result<Piece<'a>, Memory>
+        requires kept { AreKept self.old.revisions (view_group self.old.group) }
+        requires room { revision_count (view_state self.old) < 2 ^ 64 }
+        ensures piece { let r = record_item item.now in
+            IfOk result (λ piece. IsPiece options.now (view_state self.old) r Fate.Pass piece) }
+        ensures state { let r = record_item item.now in
+            OnOk result (view_state self.new ≡ fate_state options.now (view_state self.old) r Fate.Pass) }
+        ensures last { self.new.last ≡ self.old.last }
+    {
+        let mut piece = self.end_group(alloc, options)?;
+        push_lines(&mut piece, item)?;
+        Ok(piece)
+    }
+
+    /// Carries out the fate of a record.
+    fn carry_out(
+        &mut self,
+        alloc: Global,
+        options: &Options,
+        done: Done<'a>,
+        fate: Fate,
+    ) -> Result<Piece<'a>, Memory>
+        requires kept { AreKept self.old.revisions (view_group self.old.group) }
+        requires room { revision_count (view_state self.old) < 2 ^ 64 }
+        requires nodes_kept { self.old.report.nodes_kept + 1 < 2 ^ 64 }
+        requires nodes_dropped { self.old.report.nodes_dropped + 1 < 2 ^ 64 }
+        requires node { (copy : Change) → fate ≡ Fate.Keep copy → IsReadNode done }
+        requires revision { fate ≡ Fate.Hold → IsTrue (is_revision (record_item (done_record done))) }
+        ensures piece { let r = record_item (done_record done.entry) in
+            IfOk result (λ piece. IsPiece options.now (view_state self.old) r fate piece) }
+        ensures state { let r = record_item (done_record done.entry) in
+            OnOk result (view_state self.new ≡ fate_state options.now (view_state self.old) r fate) }
+        ensures last { self.new.last ≡ self.old.last }
+    {
+        match fate {
+            Fate::Keep(copy) => self.keep_node(alloc, options, &done, copy),
+            Fate::Drop => {
+                self.drop_node();
+                Ok(Piece::new(alloc))
+            }
+            Fate::Hold => self.hold_revision(alloc, options, done),
+            Fate::Pass => self.pass_lines(alloc, options, &done.item()),
+        }
+    }
+
+    /// The count of checked texts with one more, if it was checked.
+    fn text_count(&self, checked: bool) -> u64
+        requires { self.now.report.texts_checked + 1 < 2 ^ 64 }
+        ensures { result ≡ text_count checked self.now.report }
+    {
+        if checked {
+            self.report.texts_checked + 1
+        } else {
+            self.report.texts_checked
+        }
+    }
+
+    /// Carries out the fate of the record that comes next, and gives what is written.
+    pub(crate) fn advance(
+        &mut self,
+        alloc: Global,
+        options: &Options,
+        done: Done<'a>,
+        fate: Fate,
+    ) -> Result<Piece<'a>, Memory>
+        requires kept { AreKept self.old.revisions (view_group self.old.group) }
+        requires room { revision_count (view_state self.old) < 2 ^ 64 }
+        requires nodes_kept { self.old.report.nodes_kept + 1 < 2 ^ 64 }
+        requires nodes_dropped { self.old.report.nodes_dropped + 1 < 2 ^ 64 }
+        requires texts { self.old.report.texts_checked + 1 < 2 ^ 64 }
+        requires node { (copy : Change) → fate ≡ Fate.Keep copy → IsReadNode done }
+        requires revision { fate ≡ Fate.Hold → IsTrue (is_revision (record_item (done_record done))) }
+        ensures piece { let r = record_item (done_record done.entry) in
+            IfOk result (λ piece. IsPiece options.now (view_state self.old) r fate piece) }
+        ensures state { let r = record_item (done_record done.entry) in
+            OnOk result (view_state self.new
+            ≡ next_state options.now (view_state self.old) r fate (done_verdict done.entry).checked) }
+        ensures last { OnOk result (self.new.last ≡ Some (done_record done.entry)) }
+        ensures err { OnErr result (self.new.last ≡ self.old.last) }
+    {
+        let texts_checked = self.text_count(done.verdict().checked);
+        let piece = self.carry_out(alloc, options, done, fate)?;
+        self.report.texts_checked = texts_checked;
+        self.last = Some(done.item());
+        Ok(piece)
+    }
+}

@@ -1,0 +1,16 @@
+//! A revision that is held back.
+ghost use Rattle.std.specs.Prelude.{IsTrue};
+ghost use Rattle.dump_records.specs.RecordViews.{record_item};
+ghost use Rattle.dump_digest.specs.DoneViews.{done_record};
+ghost use Rattle.dump_digest.specs.RecordParts.{is_revision};
+
+use dump_digest::Done;
+
+/// A revision that isn't written yet: its group has no kept node so far.
+#[derive(Clone, Copy)]
+pub(crate) struct Pending<'a> {
+    pub(crate) revision: Done<'a>,
+    /// Whether the group has no node at all.
+    pub(crate) bare: bool,
+    pub ghost is_revision: { IsTrue (is_revision (record_item (done_record revision))) },
+}

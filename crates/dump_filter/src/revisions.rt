@@ -1,0 +1,127 @@
+//! The kept revisions, with the present one.
+ghost use Rattle.std.specs.Prelude.{◌≡◌, ◌<◌, ◌+◌, ◌^◌, OnOk, Some, length};
+ghost use Rattle.dump_records.specs.RecordViews.{record_item};
+ghost use Rattle.dump_digest.specs.DoneViews.{done_record};
+ghost use Rattle.dump_rules.specs.Renumbering.{image};
+ghost use Rattle.dump_filter.specs.Groups.{revision_number};
+ghost use Rattle.dump_filter.specs.State.{view_pending, view_group, no_revisions, node_revision};
+ghost use Rattle.dump_filter.specs.State.PresentGroup.{Pending as IsPending};
+ghost use Rattle.dump_filter.specs.Advance.{next_number, with_kept, front_kept, started};
+ghost use Rattle.dump_filter.specs.Decision.{rises};
+ghost use Rattle.dump_filter.specs.Knowledge.{AreKept};
+
+use crate::pending::Pending;
+use crate::state::Group;
+use dump_records::Record;
+use dump_rules::{Options, Reach};
+use dump_writer::Memory;
+use std::alloc::Global;
+
+/// The kept revisions, and the number of the present one, which is the last that came.
+#[derive(Drop)]
+pub(crate) struct Revisions {
+    pub(crate) kept: Reach,
+    pub(crate) present: Option<u64>,
+}
+
+/// The number of a revision record.
+pub(crate) fn revision_number(item: &Record<'_>) -> u64
+    ensures { result ≡ revision_number (record_item item.now) }
+{
+    item.revision().unwrap_or(0)
+}
+
+impl Revisions {
+    /// No revision so far. It takes no memory.
+    pub(crate) fn new(alloc: Global) -> Revisions
+        ensures { result ≡ no_revisions }
+    {
+        Revisions {
+            kept: Reach::new(alloc, 0),
+            present: None,
+        }
+    }
+
+    /// The number of the revision that a node belongs to which comes next. Where there is none the node is out of
+    /// order, and 0 stands in its place.
+    pub(crate) fn node_revision(&self) -> u64
+        ensures { result ≡ node_revision self.now }
+    {
+        self.present.unwrap_or(0)
+    }
+
+    /// Whether a revision of this number may follow the present one.
+    pub(crate) fn rises(&self, number: u64) -> bool
+        ensures { result ≡ rises self.now.present number }
+    {
+        match self.present {
+            Some(present) => present < number,
+            None => true,
+        }
+    }
+
+    /// The number that the next kept revision gets with renumbering.
+    fn next_image(&self) -> u64
+        requires { self.now.kept.first + length self.now.kept.numbers < 2 ^ 64 }
+        ensures { result ≡ self.now.kept.first + length self.now.kept.numbers }
+    {
+        self.kept.first() + self.kept.count()
+    }
+
+    /// The number under which a pending revision is written.
+    pub(crate) fn next_number(&self, options: &Options, pending: &Pending<'_>) -> u64
+        requires { AreKept self.now (IsPending (view_pending pending.now)) }
+        ensures { result ≡ next_number options.now self.now.kept (record_item (done_record pending.now.revision)) }
+    {
+        let number = revision_number(&pending.revision.item());
+        if options.renumber() {
+            self.next_image()
+        } else {
+            number
+        }
+    }
+
+    /// The new number of a copy's revision, where a pending revision counts as kept already.
+    pub(crate) fn image(&self, group: &Group<'_>, number: u64) -> Option<u64>
+        requires { AreKept self.now (view_group group.now) }
+        ensures { result ≡ image (front_kept self.now.kept (view_group group.now)) number }
+    {
+        match group {
+            Group::Pending(pending) => {
+                if revision_number(&pending.revision.item()) <= number {
+                    Some(self.next_image())
+                } else {
+                    self.kept.reach(number)
+                }
+            }
+            Group::None | Group::Written => self.kept.reach(number),
+        }
+    }
+
+    /// Keeps a pending revision.
+    pub(crate) fn keep(&mut self, pending: &Pending<'_>) -> Result<(), Memory>
+        requires { AreKept self.old (IsPending (view_pending pending.now)) }
+        ensures { OnOk result (self.new ≡ record self.old {
+          kept = with_kept self.old.kept (record_item (done_record pending.now.revision));
+        }) }
+    {
+        match self.kept.push(revision_number(&pending.revision.item())) {
+            Ok(()) => Ok(()),
+            Err(_) => Err(Memory),
+        }
+    }
+
+    /// Makes a revision the present one. New numbers count from the dump's first revision, so they begin anew at that.
+    pub(crate) fn begin(&mut self, alloc: Global, item: &Record<'_>)
+        ensures { self.new ≡ record {
+          kept = started self.old.present (record_item item.now) self.old.kept;
+          present = Some (revision_number (record_item item.now));
+        } }
+    {
+        let number = revision_number(item);
+        if self.present.is_none() {
+            self.kept = Reach::new(alloc, number);
+        }
+        self.present = Some(number);
+    }
+}

@@ -1,0 +1,108 @@
+//! What the filter holds of the records so far.
+ghost use Rattle.std.specs.Prelude.{◌≡◌, None};
+ghost use Rattle.dump_filter.specs.Groups.{keeps_empty};
+ghost use Rattle.dump_filter.specs.State.{view_pending, view_group, view_state, new_state};
+ghost use Rattle.dump_filter.specs.Advance.{stays, pads, emptied};
+ghost use Rattle.dump_filter.specs.Decision.{is_open};
+
+use crate::pending::Pending;
+use crate::report::Report;
+use crate::revisions::{Revisions, revision_number};
+use dump_records::Record;
+use dump_rules::{Empty, Options};
+use std::alloc::Global;
+
+/// The group of a node that comes next.
+#[derive(Clone, Copy)]
+pub(crate) enum Group<'a> {
+    /// There is none: no node may come next.
+    None,
+    /// Its revision isn't written yet.
+    Pending(Pending<'a>),
+    /// Its revision is written.
+    Written,
+}
+
+/// What the filter holds of the records so far.
+#[derive(Drop)]
+pub(crate) struct State<'a> {
+    /// The last record.
+    pub(crate) last: Option<Record<'a>>,
+    pub(crate) group: Group<'a>,
+    pub(crate) revisions: Revisions,
+    pub(crate) report: Report,
+}
+
+/// Whether the options keep a revision whose group ends so.
+fn keeps_empty(empty: Empty, bare: bool) -> bool
+    ensures { result ≡ keeps_empty empty bare }
+{
+    match empty {
+        Empty::Pad => true,
+        Empty::DropEmptied => bare,
+        Empty::DropAll => false,
+    }
+}
+
+impl<'a> Pending<'a> {
+    /// Whether the options keep the revision if its group ends now.
+    pub(crate) fn stays(&self, options: &Options) -> bool
+        ensures { result ≡ stays options.now (view_pending self.now) }
+    {
+        revision_number(&self.revision.item()) == 0 || keeps_empty(options.empty(), self.bare)
+    }
+
+    /// Whether the revision is written as an empty one if its group ends now.
+    pub(crate) fn pads(&self, options: &Options) -> bool
+        ensures { result ≡ pads options.now (view_pending self.now) }
+    {
+        !self.bare && matches!(options.empty(), Empty::Pad) && !options.preserve()
+    }
+}
+
+impl<'a> Group<'a> {
+    /// Whether a node may come next.
+    pub(crate) fn is_open(&self) -> bool
+        ensures { result ≡ is_open (view_group self.now) }
+    {
+        match self {
+            Group::None => false,
+            Group::Pending(_) | Group::Written => true,
+        }
+    }
+
+    /// The group behind a dropped node.
+    pub(crate) fn emptied(self) -> Group<'a>
+        ensures { view_group result ≡ emptied (view_group self.entry) }
+    {
+        match self {
+            Group::Pending(pending) => Group::Pending(Pending {
+                revision: pending.revision,
+                bare: false,
+            }),
+            Group::None => Group::None,
+            Group::Written => Group::Written,
+        }
+    }
+}
+
+impl<'a> State<'a> {
+    /// The state before the first record. It takes no memory.
+    pub(crate) fn new(alloc: Global) -> State<'a>
+        ensures state { view_state result ≡ new_state }
+        ensures last { result.last ≡ None }
+    {
+        State {
+            last: None,
+            group: Group::None,
+            revisions: Revisions::new(alloc),
+            report: Report {
+                revisions_kept: 0,
+                revisions_dropped: 0,
+                nodes_kept: 0,
+                nodes_dropped: 0,
+                texts_checked: 0,
+            },
+        }
+    }
+}

@@ -1,0 +1,29 @@
+-- What a record lends of its block.
+use Rattle.std.proofs.Common.{◌≡◌, ℕ, Bool, true, false, if◌then◌else◌, List, Option, Some, None, Bor, sym, ◌∙◌, subst}
+use Rattle.std.specs.Option.{option_copied, IfSome}
+use Rattle.dump_text.specs.HeaderLine.{header_value}
+use Rattle.dump_text.specs.ReadHeaders.{IsPartBetween}
+use Rattle.dump_text.proofs.BlockLemmas.{block_size}
+use Rattle.dump_text.proofs.ValueLemmas.{value_lent, if_copied}
+use Rattle.dump_records.specs.declared.record.Record.{Record}
+use Rattle.dump_records.specs.RecordViews.{record_item, IsInBlock}
+
+-- a header's value stands in the block
+pub value_in_block : (r : Record) (name : List ℕ) (value : List ℕ)
+    → Some value ≡ header_value name (record_item r).headers → IsInBlock r value
+value_in_block r name value is =
+    let b = r.block in
+    subst (λ (n : ℕ). IsPartBetween b.dump.now b.place n value) (sym (block_size b.dump.now b.place b.after b.stands))
+    (value_lent b.dump.now b.place b.after b.stands name value (sym is))
+
+-- and so does one that may be missing
+pub copy_in_block : (r : Record) (name : List ℕ) (found : Option (Bor (List ℕ)))
+    → option_copied found ≡ header_value name (record_item r).headers
+    → IfSome found (λ value. IsInBlock r value.now)
+copy_in_block r name found is = if_copied found (IsInBlock r) (λ value at. value_in_block r name value (sym at ∙ is))
+
+-- a part that is there is the whole that it is a part of
+pub part_there : {A : Type 0} (b : Bool) (x : A) (whole : Option A) → Some x ≡ (if b then whole else None)
+    → Some x ≡ whole
+part_there true x whole is = is
+part_there false x whole is = cc

@@ -1,0 +1,31 @@
+//! What is read of header lines.
+use crate::kind::KindParts;
+
+/// The numbers that header lines give.
+#[derive(Clone, Copy)]
+pub(crate) struct Numbers {
+    pub(crate) version: Option<u64>,
+    pub(crate) revision: Option<u64>,
+    pub(crate) copy_revision: Option<u64>,
+    pub(crate) props: Option<u64>,
+    pub(crate) text: Option<u64>,
+    pub(crate) content: Option<u64>,
+}
+
+/// How many bytes of properties and of text follow a block.
+#[derive(Clone, Copy)]
+pub(crate) struct Lengths {
+    pub(crate) props: u64,
+    pub(crate) text: u64,
+}
+
+/// What the header lines of a record say.
+#[derive(Clone, Copy)]
+pub(crate) struct RecordHeader<'a> {
+    pub(crate) parts: KindParts<'a>,
+    pub(crate) is_file: bool,
+    pub(crate) has_props: bool,
+    pub(crate) has_text: bool,
+    pub(crate) md5: Option<&'a [u8]>,
+    pub(crate) sha1: Option<&'a [u8]>,
+}

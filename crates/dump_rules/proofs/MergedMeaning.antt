@@ -1,0 +1,217 @@
+-- What values of mergeinfo say together: whether each is mergeinfo, a source is missing, a number is foreign.
+use Rattle.std.proofs.Common.{◌≡◌, ℕ, Bool, true, false, not, ◌&&◌, ◌||◌, nat_lt, min, max, List, [], ◌∷◌, refl, sym, ap, ◌∙◌, arith, Some, None, Option, IfSome, is_some}
+use Rattle.std.specs.List.{list_all, list_any}
+use Rattle.std.proofs.lemmas.Bool.Decides.{nat_tests}
+use Rattle.dump_rules.specs.declared.merged.Bounds.{Bounds}
+use Rattle.dump_rules.specs.declared.merged.Merged.{Merged}
+use Rattle.dump_rules.specs.Settings.{Settings, keeps_path}
+use Rattle.dump_rules.specs.RangeList.{Range}
+use Rattle.dump_rules.specs.ReadRanges.{range_of, range_parts}
+use Rattle.dump_rules.specs.ReadMergeinfo.{line_reads, lines_read, value_reads, without_lf}
+use Rattle.dump_rules.specs.NewLines.{line_list, line_path, text_lines, line_misses, range_foreign, part_foreign, list_foreign, line_foreign, value_misses, value_foreign}
+use Rattle.dump_rules.specs.Merged.{widened, widened_by, parts_bounds, list_bounds, is_outside, nothing_merged, line_said, lines_merged, text_merged}
+
+-- the bounds of numbers
+
+below_greater : (now a b : ℕ) → nat_lt now (max a b) ≡ (nat_lt now a || nat_lt now b)
+below_greater now a b = grind (arith, nat_tests)
+
+lesser_below : (a b first : ℕ) → nat_lt (min a b) first ≡ (nat_lt a first || nat_lt b first)
+lesser_below a b first = grind (arith, nat_tests)
+
+two_of_each : (a b c d k : Bool) → ((a || b) || (k && (c || d))) ≡ ((a || (k && c)) || (b || (k && d)))
+two_of_each true b c d k = refl
+two_of_each false true c d true = either c
+  where
+    either : (c : Bool) → true ≡ (c || true)
+    either true = refl
+    either false = refl
+two_of_each false true c d false = refl
+two_of_each false false c d true = refl
+two_of_each false false c d false = refl
+
+module _ (s : Settings) (first now : ℕ) where
+  outside_widened : (bounds : Option Bounds) (r : Range)
+      → is_outside s first now (Some (widened bounds r)) ≡ (is_outside s first now bounds || range_foreign s first now r)
+  outside_widened None r = refl
+  outside_widened (Some b) r =
+      rw (below_greater now b.greatest r.to, lesser_below b.least r.from first)
+      (two_of_each (nat_lt now b.greatest) (nat_lt now r.to) (nat_lt b.least first) (nat_lt r.from first) (not s.skip_missing))
+
+  or_false : (a : Bool) → a ≡ (a || false)
+  or_false true = refl
+  or_false false = refl
+
+  or_or : (a b c : Bool) → ((a || b) || c) ≡ (a || (b || c))
+  or_or true b c = refl
+  or_or false b c = refl
+
+  outside_part : (bounds : Option Bounds) (o : Option Range)
+      → is_outside s first now (widened_by bounds o) ≡ (is_outside s first now bounds || part_foreign s first now o)
+  outside_part bounds None = or_false (is_outside s first now bounds)
+  outside_part bounds (Some r) = outside_widened bounds r
+
+  outside_parts : (bounds : Option Bounds) (parts : List (List ℕ)) → is_outside s first now (parts_bounds bounds parts)
+      ≡ (is_outside s first now bounds || list_any (λ part. part_foreign s first now (range_of part)) parts)
+  outside_parts bounds [] = or_false (is_outside s first now bounds)
+  outside_parts bounds (part ∷ parts) =
+      outside_parts (widened_by bounds (range_of part)) parts
+      ∙ ap (λ b. b || list_any (λ p. part_foreign s first now (range_of p)) parts) (outside_part bounds (range_of part))
+      ∙ or_or (is_outside s first now bounds) (part_foreign s first now (range_of part))
+      (list_any (λ p. part_foreign s first now (range_of p)) parts)
+
+  outside_list : (bounds : Option Bounds) (list : List ℕ) → is_outside s first now (list_bounds bounds list)
+      ≡ (is_outside s first now bounds || list_foreign s first now list)
+  outside_list bounds [] = or_false (is_outside s first now bounds)
+  outside_list bounds (b ∷ list) = outside_parts bounds (range_parts (b ∷ list))
+
+  outside_line : (said : Merged) (line : List ℕ) → is_outside s first now (line_said s said line).numbers
+      ≡ (is_outside s first now said.numbers || (s.renumber && line_foreign s first now line))
+  outside_line said line = by_kept (keeps_path s (line_path line)) refl s.renumber refl
+    where
+      none : (a r : Bool) → a ≡ (a || (r && false))
+      none true r = refl
+      none false true = refl
+      none false false = refl
+
+      by_kept : (k : Bool) → keeps_path s (line_path line) ≡ k → (r : Bool) → s.renumber ≡ r
+          → is_outside s first now (line_said s said line).numbers
+          ≡ (is_outside s first now said.numbers || (s.renumber && line_foreign s first now line))
+      by_kept true e true f = rw (e, f) (outside_list said.numbers (line_list line))
+      by_kept true e false f = rw (e, f) (or_false (is_outside s first now said.numbers))
+      by_kept false e r f = rw e (none (is_outside s first now said.numbers) s.renumber)
+
+  spread : (a r x y : Bool) → ((a || (r && x)) || (r && y)) ≡ (a || (r && (x || y)))
+  spread true r x y = refl
+  spread false true x y = refl
+  spread false false x y = refl
+
+  outside_lines : (said last : Merged) (lines : List (List ℕ)) → lines_merged s said lines ≡ Some last
+      → is_outside s first now last.numbers
+      ≡ (is_outside s first now said.numbers || (s.renumber && list_any (line_foreign s first now) lines))
+  outside_lines said last [] is =
+      ap (λ (o : Option Merged). outside_of o) (sym is) ∙ none (is_outside s first now said.numbers) s.renumber
+    where
+      outside_of : Option Merged → Bool
+      outside_of None = false
+      outside_of (Some m) = is_outside s first now m.numbers
+
+      none : (a r : Bool) → a ≡ (a || (r && false))
+      none true r = refl
+      none false true = refl
+      none false false = refl
+  outside_lines said last (line ∷ lines) is =
+      by_line (outside_lines (line_said s said line) last lines) (line_reads line) refl
+    where
+      by_line : (lines_merged s (line_said s said line) lines ≡ Some last → is_outside s first now last.numbers
+          ≡ (is_outside s first now (line_said s said line).numbers || (s.renumber && list_any (line_foreign s first now) lines)))
+          → (b : Bool) → line_reads line ≡ b → is_outside s first now last.numbers
+          ≡ (is_outside s first now said.numbers || (s.renumber && list_any (line_foreign s first now) (line ∷ lines)))
+      by_line later false e = let bad : Path (Option Merged) None (Some last) = rw e at is in cc
+      by_line later true e =
+          later (rw e at is)
+          ∙ ap (λ b. b || (s.renumber && list_any (line_foreign s first now) lines)) (outside_line said line)
+          ∙ spread (is_outside s first now said.numbers) s.renumber (line_foreign s first now line)
+          (list_any (line_foreign s first now) lines)
+
+  -- a value's numbers are outside bounds where those said before are, or one of its own
+  pub outside_value : (said last : Merged) (value : List ℕ) → text_merged s said value ≡ Some last
+      → is_outside s first now last.numbers ≡ (is_outside s first now said.numbers || value_foreign s first now value)
+  outside_value said last value is = outside_lines said last (text_lines (without_lf value)) is
+
+module _ (s : Settings) where
+  missed_line : (said : Merged) (line : List ℕ)
+      → (line_said s said line).misses ≡ (said.misses || (not s.skip_missing && line_misses s line))
+  missed_line said line = by_kept (keeps_path s (line_path line)) refl s.renumber refl
+    where
+      none : (a k : Bool) → a ≡ (a || (k && false))
+      none true k = refl
+      none false true = refl
+      none false false = refl
+
+      some : (a k : Bool) → (a || k) ≡ (a || (k && true))
+      some true k = refl
+      some false true = refl
+      some false false = refl
+
+      by_kept : (k : Bool) → keeps_path s (line_path line) ≡ k → (r : Bool) → s.renumber ≡ r
+          → (line_said s said line).misses ≡ (said.misses || (not s.skip_missing && line_misses s line))
+      by_kept true e true f = rw (e, f) (none said.misses (not s.skip_missing))
+      by_kept true e false f = rw (e, f) (none said.misses (not s.skip_missing))
+      by_kept false e r f = rw e (some said.misses (not s.skip_missing))
+
+  missed_lines : (said last : Merged) (lines : List (List ℕ)) → lines_merged s said lines ≡ Some last
+      → last.misses ≡ (said.misses || (not s.skip_missing && list_any (line_misses s) lines))
+  missed_lines said last [] is = ap misses_of (sym is) ∙ none said.misses (not s.skip_missing)
+    where
+      misses_of : Option Merged → Bool
+      misses_of None = false
+      misses_of (Some m) = m.misses
+
+      none : (a k : Bool) → a ≡ (a || (k && false))
+      none true k = refl
+      none false true = refl
+      none false false = refl
+  missed_lines said last (line ∷ lines) is =
+      by_line (missed_lines (line_said s said line) last lines) (line_reads line) refl
+    where
+      spread : (a r x y : Bool) → ((a || (r && x)) || (r && y)) ≡ (a || (r && (x || y)))
+      spread true r x y = refl
+      spread false true x y = refl
+      spread false false x y = refl
+
+      by_line : (lines_merged s (line_said s said line) lines ≡ Some last
+          → last.misses ≡ ((line_said s said line).misses || (not s.skip_missing && list_any (line_misses s) lines)))
+          → (b : Bool) → line_reads line ≡ b
+          → last.misses ≡ (said.misses || (not s.skip_missing && list_any (line_misses s) (line ∷ lines)))
+      by_line later false e = let bad : Path (Option Merged) None (Some last) = rw e at is in cc
+      by_line later true e =
+          later (rw e at is)
+          ∙ ap (λ b. b || (not s.skip_missing && list_any (line_misses s) lines)) (missed_line said line)
+          ∙ spread said.misses (not s.skip_missing) (line_misses s line) (list_any (line_misses s) lines)
+
+  -- a source is missing where one was before, or in this value
+  pub missed_value : (said last : Merged) (value : List ℕ) → text_merged s said value ≡ Some last
+      → last.misses ≡ (said.misses || value_misses s value)
+  missed_value said last value is = missed_lines said last (text_lines (without_lf value)) is
+
+  read_lines : (said : Merged) (lines : List (List ℕ)) → is_some (lines_merged s said lines) ≡ list_all line_reads lines
+  read_lines said [] = refl
+  read_lines said (line ∷ lines) = by_line (read_lines (line_said s said line) lines) (line_reads line) refl
+    where
+      by_line : is_some (lines_merged s (line_said s said line) lines) ≡ list_all line_reads lines
+          → (b : Bool) → line_reads line ≡ b
+          → is_some (lines_merged s said (line ∷ lines)) ≡ list_all line_reads (line ∷ lines)
+      by_line later true e = rw e later
+      by_line later false e = rw e refl
+
+  read_text : (said : Merged) (text : List ℕ) → is_some (lines_merged s said (text_lines text)) ≡ lines_read text
+  read_text said [] = refl
+  read_text said (b ∷ text) = read_lines said (text_lines (b ∷ text))
+
+  -- something is said of a value where it is mergeinfo
+  pub read_value : (said : Merged) (value : List ℕ) → is_some (text_merged s said value) ≡ value_reads value
+  read_value said value = read_text said (without_lf value)
+
+-- what is said of a value, as far as it is mergeinfo
+pub said_sources : (s : Settings) (said : Merged) (value : List ℕ) (made : Option Merged) → made ≡ text_merged s said value
+    → IfSome made (λ m. m.misses ≡ (said.misses || value_misses s value))
+said_sources s said value None is = tt
+said_sources s said value (Some m) is = missed_value s said m value (sym is)
+
+pub said_numbers : (s : Settings) (first now : ℕ) (said : Merged) (value : List ℕ) (made : Option Merged)
+    → made ≡ text_merged s said value
+    → IfSome made (λ m. is_outside s first now m.numbers ≡ (is_outside s first now said.numbers || value_foreign s first now value))
+said_numbers s first now said value None is = tt
+said_numbers s first now said value (Some m) is = outside_value s first now said m value (sym is)
+
+-- what the first value says alone
+pub first_sources : (s : Settings) (said last : Merged) (value : List ℕ) → said ≡ nothing_merged
+    → last.misses ≡ (said.misses || value_misses s value) → last.misses ≡ value_misses s value
+first_sources s said last value none is = is ∙ ap (λ (m : Merged). m.misses || value_misses s value) none
+
+pub first_numbers : (s : Settings) (first now : ℕ) (said last : Merged) (value : List ℕ) → said ≡ nothing_merged
+    → is_outside s first now last.numbers ≡ (is_outside s first now said.numbers || value_foreign s first now value)
+    → is_outside s first now last.numbers ≡ value_foreign s first now value
+first_numbers s first now said last value none is =
+    is ∙ ap (λ (m : Merged). is_outside s first now m.numbers || value_foreign s first now value) none

@@ -1,0 +1,23 @@
+use Rattle.std.proofs.Common.{◌≡◌, ◌↔◌, Bool, IsTrue, is_some, sym, ap, subst, ◌∙◌}
+use Rattle.dump_rules.specs.Mergeinfo.{HasMergeLines}
+use Rattle.dump_rules.specs.Merged.{lines_merged, text_merged}
+use Rattle.dump_rules.specs.NewLines.{text_lines}
+use Rattle.dump_rules.proofs.MergeinfoLemmas.{reads_exactly}
+use Rattle.dump_rules.proofs.MergedMeaning.{read_value, said_sources, said_numbers}
+use Rattle.dump_rules.proofs.merged.Merged.with.Goals as goal
+
+-- what the text of the value says
+said : (c : goal.After-with_text) → c.with_text.result ≡ text_merged c.args.options.now c.args.self c.args.value.now
+said c = c.with_text.ensures ∙ ap (λ t. lines_merged c.args.options.now c.args.self (text_lines t)) c.cut_lf.ensures
+
+pub returns-clause-read : goal.returns-clause-read
+returns-clause-read c =
+    subst (λ (b : Bool). IsTrue b ↔ HasMergeLines c.args.value.now)
+    (sym (ap is_some (said c) ∙ read_value c.args.options.now c.args.self c.args.value.now)) (reads_exactly c.args.value.now)
+
+pub returns-clause-sources : goal.returns-clause-sources
+returns-clause-sources c = said_sources c.args.options.now c.args.self c.args.value.now c.with_text.result (said c)
+
+pub returns-clause-numbers : goal.returns-clause-numbers
+returns-clause-numbers c first now =
+    said_numbers c.args.options.now first now c.args.self c.args.value.now c.with_text.result (said c)

@@ -1,0 +1,22 @@
+use Rattle.std.proofs.Common.{ℕ, List, [], sym, ap, subst, ◌∙◌}
+use Rattle.std.proofs.lemmas.Result.{IfOk-weaker}
+use Rattle.dump_rules.specs.ReadMergeinfo.{lines_read}
+use Rattle.dump_rules.specs.NewLines.{text_lines, with_new_lines}
+use Rattle.dump_rules.specs.Rewriting.{IsNewMergeinfo}
+use Rattle.dump_rules.proofs.MergeinfoLemmas.{reads_exactly}
+use Rattle.dump_rules.proofs.ValueLemmas.{new_value}
+use Rattle.dump_rules.proofs.FaultLemmas.{has_lines}
+use Rattle.dump_rules.proofs.rewriting.new_value.Goals as goal
+
+pub new_text-requires-clause-reads : goal.new_text-requires-clause-reads
+new_text-requires-clause-reads c =
+    ap lines_read c.cut_lf.ensures ∙ (reads_exactly c.args.value.now).1 (has_lines c.args.value.now c.requires.reads)
+
+pub returns : goal.returns
+returns c =
+    let has = has_lines c.args.value.now c.requires.reads in
+    IfOk-weaker c.new_text.result _ _
+    (λ v is. subst (IsNewMergeinfo c.args.options.now c.args.reach.now c.args.value.now)
+    (sym (is ∙ ap (λ (t : List ℕ). with_new_lines c.args.options.now c.args.reach.now [] (text_lines t)) c.cut_lf.ensures))
+    (new_value c.args.options.now c.args.reach.now c.rises.ensures c.args.value.now has.0 has.1))
+    c.new_text.ensures

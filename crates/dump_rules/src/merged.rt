@@ -1,0 +1,164 @@
+//! What values of svn:mergeinfo say to the filter: whether a source is missing, and which numbers they name.
+ghost use Rattle.std.specs.Prelude.{◌≡◌, ◌↔◌, ◌==◌, ◌||◌, ℕ, IfSome, IsSome};
+ghost use Rattle.std.specs.List.{slice_split};
+ghost use Rattle.dump_rules.specs.Merged.{is_outside, line_merged, lines_merged, list_bounds, nothing_merged, widened, widened_by};
+ghost use Rattle.dump_rules.specs.Mergeinfo.{HasMergeLines};
+ghost use Rattle.dump_rules.specs.NewLines.{text_lines, value_foreign, value_misses};
+ghost use Rattle.dump_rules.specs.ReadRanges.{range_of, span_range};
+
+use crate::mergeinfo::{colon_end, cut_lf};
+use crate::options::Options;
+use crate::paths::keeps;
+use crate::ranges::{Span, find, list_reads, range};
+use crate::runs::cut_at;
+
+/// The least and the greatest number of some ranges.
+#[derive(Clone, Copy, Debug, PartialEq, Eq)]
+pub struct Bounds {
+    pub least: u64,
+    pub greatest: u64,
+}
+
+impl Bounds {
+    /// The bounds with those of a range.
+    fn widened(bounds: Option<Bounds>, span: Span) -> Bounds
+        ensures { result ≡ widened bounds (span_range span) }
+    {
+        match bounds {
+            Some(bounds) => Bounds {
+                least: bounds.least.min(span.from),
+                greatest: bounds.greatest.max(span.to),
+            },
+            None => Bounds {
+                least: span.from,
+                greatest: span.to,
+            },
+        }
+    }
+
+    /// The bounds with those of a part, if it is a range.
+    fn widened_by(bounds: Option<Bounds>, part: &[u8]) -> Option<Bounds>
+        ensures { result ≡ widened_by bounds (range_of part.now) }
+    {
+        match range(part) {
+            Some(span) => Some(Bounds::widened(bounds, span)),
+            None => bounds,
+        }
+    }
+
+    /// The bounds with those of a list.
+    fn widened_by_list(bounds: Option<Bounds>, list: &[u8]) -> Option<Bounds>
+        ensures { result ≡ list_bounds bounds list.now }
+    {
+        if list.is_empty() {
+            return bounds;
+        }
+        let mut bounds = bounds;
+        let mut rest = list;
+        while let Some(comma) = find(b',', rest) {
+            let (part, others) = cut_at(rest, comma);
+            bounds = Bounds::widened_by(bounds, part);
+            rest = others;
+        }
+        Bounds::widened_by(bounds, rest)
+    }
+}
+
+/// What values of svn:mergeinfo say under some options, each read once. It takes no memory.
+#[derive(Clone, Copy, Debug, PartialEq, Eq)]
+pub struct Merged {
+    /// Whether a line's path isn't kept, and such lines may not be left out.
+    misses: bool,
+    /// The bounds of the numbers in lines that stay, where revisions are renumbered.
+    numbers: Option<Bounds>,
+}
+
+impl Merged {
+    /// What no value says.
+    pub fn new() -> Merged
+        ensures { result ≡ nothing_merged }
+    {
+        Merged {
+            misses: false,
+            numbers: None,
+        }
+    }
+
+    /// What these values and one more say; `None` where it isn't mergeinfo.
+    pub fn with(self, value: &[u8], options: &Options) -> Option<Merged>
+        ensures read { IsSome result ↔ HasMergeLines value.now }
+        ensures sources { IfSome result (λ m. m.misses ≡ (self.misses || value_misses options.now value.now)) }
+        ensures numbers { (first now : ℕ) → IfSome result (λ m. is_outside options.now first now m.numbers
+            ≡ (is_outside options.now first now self.numbers || value_foreign options.now first now value.now)) }
+    {
+        self.with_text(cut_lf(value), options)
+    }
+
+    /// What these values and the lines of a text say.
+    fn with_text(self, text: &[u8], options: &Options) -> Option<Merged>
+        ensures { result ≡ lines_merged options.now self (text_lines text.now) }
+    {
+        if text.is_empty() {
+            return Some(self);
+        }
+        self.with_lines(text, options)
+    }
+
+    /// What these values and the lines of a text that isn't empty say.
+    fn with_lines(self, text: &[u8], options: &Options) -> Option<Merged>
+        ensures { result ≡ lines_merged options.now self (slice_split (λ b. b == 10) text.now) }
+    {
+        let mut merged = self;
+        let mut rest = text;
+        while let Some(lf) = find(b'\n', rest) {
+            let (line, others) = cut_at(rest, lf);
+            merged = merged.with_line(line, options)?;
+            rest = others;
+        }
+        merged.with_line(rest, options)
+    }
+
+    /// What these values and a line say; `None` where it isn't a line of mergeinfo.
+    fn with_line(self, line: &[u8], options: &Options) -> Option<Merged>
+        ensures { result ≡ line_merged options.now self line.now }
+    {
+        let list_from = colon_end(line);
+        let list = &line[list_from..];
+        if list_from <= 1 || !list_reads(list) {
+            return None;
+        }
+        if !keeps(options, &line[..list_from - 1]) {
+            return Some(Merged {
+                misses: self.misses || !options.skip_missing(),
+                numbers: self.numbers,
+            });
+        }
+        if !options.renumber() {
+            return Some(self);
+        }
+        Some(Merged {
+            misses: self.misses,
+            numbers: Bounds::widened_by_list(self.numbers, list),
+        })
+    }
+
+    /// Whether a line's path isn't kept, where such lines may not be left out.
+    pub fn misses_source(&self) -> bool
+        ensures { result ≡ self.now.misses }
+    {
+        self.misses
+    }
+
+    /// Whether revisions are renumbered and a line that stays has a number above `present`, the present revision, or
+    /// one below `first`, the dump's first, where such numbers may not be left out.
+    pub fn has_foreign_number(&self, options: &Options, first: u64, present: u64) -> bool
+        ensures { result ≡ is_outside options.now first present self.now.numbers }
+    {
+        match self.numbers {
+            Some(numbers) => {
+                numbers.greatest > present || !options.skip_missing() && numbers.least < first
+            }
+            None => false,
+        }
+    }
+}

@@ -1,0 +1,134 @@
+-- The names that have a meaning: which bytes are one, and where it stands among them.
+use Rattle.std.proofs.Common.{◌≡◌, ℕ, ◌<◌, ◌||◌, Bool, true, false, List, [], ◌∷◌, length, map, get_or, refl, sym, ap, ◌∙◌, lit<, bytes_eq, Some, is_some}
+use Rattle.std.specs.List.{list_any, find}
+use Rattle.std.proofs.lemmas.Slice.Eq.{bytes_eq-Decides}
+use denote.Enum.Declared.{tag_of}
+use Rattle.dump_text.specs.contracts.names.HeaderName as enum
+use Rattle.dump_text.specs.declared.names.HeaderName.{HeaderName}
+use Rattle.dump_text.specs.declared.names.HeaderName.TheVariants.{FormatVersion, Uuid, RevisionNumber, NodePath, PropContentLength, TextContentLength, ContentLength, NodeCopyfromRev, NodeCopyfromPath, TextCopySourceMd5, TextCopySourceSha1, NodeKind, NodeAction, TextContentMd5, TextContentSha1}
+use Rattle.dump_text.specs.Names.{name_text}
+use Rattle.dump_text.specs.KnownValues.{all_names, name_place, known_name}
+use Rattle.dump_text.specs.Scanning.{is_known}
+
+-- what is found among some elements, by the first of them
+pub find_behind : {X : Type 0} (p : X → Bool) (x : X) (xs : List X) → p x ≡ false → find p (x ∷ xs) ≡ find p xs
+find_behind p x xs other = rw other refl
+
+pub find_here : {X : Type 0} (p : X → Bool) (x : X) (xs : List X) → p x ≡ true → find p (x ∷ xs) ≡ Some x
+find_here p x xs here = rw here refl
+
+-- what is found is what was sought
+found : {X : Type 0} (p : X → Bool) (xs : List X) (y : X) → find p xs ≡ Some y → p y ≡ true
+found p [] y is = cc
+found p (x ∷ xs) y is = cases (p x) refl (found p xs y)
+  where
+    some_once : Some x ≡ Some y → x ≡ y
+    some_once e = cc
+
+    cases : (b : Bool) → p x ≡ b → (find p xs ≡ Some y → p y ≡ true) → p y ≡ true
+    cases true here more = ap p (sym (some_once (sym (find_here p x xs here) ∙ is))) ∙ here
+    cases false other more = more (sym (find_behind p x xs other) ∙ is)
+
+-- a name's bytes are known as that name
+pub known_itself : (name : HeaderName) → known_name (name_text name) ≡ Some name
+known_itself FormatVersion = refl
+known_itself Uuid = refl
+known_itself RevisionNumber = refl
+known_itself NodePath = refl
+known_itself PropContentLength = refl
+known_itself TextContentLength = refl
+known_itself ContentLength = refl
+known_itself NodeCopyfromRev = refl
+known_itself NodeCopyfromPath = refl
+known_itself TextCopySourceMd5 = refl
+known_itself TextCopySourceSha1 = refl
+known_itself NodeKind = refl
+known_itself NodeAction = refl
+known_itself TextContentMd5 = refl
+known_itself TextContentSha1 = refl
+
+-- bytes that are known as a name are its bytes
+pub known_text : (bytes : List ℕ) (name : HeaderName) → known_name bytes ≡ Some name → bytes ≡ name_text name
+known_text bytes name is = (bytes_eq-Decides bytes (name_text name)).0
+    (found (λ other. bytes_eq bytes (name_text other)) all_names name is)
+
+-- whether bytes are among the known names
+pub known_is : (bytes : List ℕ) → is_known bytes ≡ is_some (known_name bytes)
+known_is bytes = among all_names
+  where
+    among : (names : List HeaderName) → list_any (λ known. bytes_eq bytes known) (map name_text names)
+        ≡ is_some (find (λ name. bytes_eq bytes (name_text name)) names)
+    among [] = refl
+    among (name ∷ names) = cases (bytes_eq bytes (name_text name)) refl (among names)
+      where
+        cases : (b : Bool) → bytes_eq bytes (name_text name) ≡ b
+            → list_any (λ known. bytes_eq bytes known) (map name_text names)
+            ≡ is_some (find (λ other. bytes_eq bytes (name_text other)) names)
+            → (bytes_eq bytes (name_text name) || list_any (λ known. bytes_eq bytes known) (map name_text names))
+            ≡ is_some (find (λ other. bytes_eq bytes (name_text other)) (name ∷ names))
+        cases true here more = rw here refl
+        cases false other more = rw other more
+
+-- two names of the same bytes are one
+pub text_once : (m n : HeaderName) → name_text m ≡ name_text n → m ≡ n
+text_once m n same = some_once (sym (known_itself m) ∙ ap known_name same ∙ known_itself n)
+  where
+    some_once : Some m ≡ Some n → m ≡ n
+    some_once e = cc
+
+-- a name stands at its place
+at_place : (name : HeaderName) → get_or all_names (name_place name) FormatVersion ≡ name
+at_place FormatVersion = refl
+at_place Uuid = refl
+at_place RevisionNumber = refl
+at_place NodePath = refl
+at_place PropContentLength = refl
+at_place TextContentLength = refl
+at_place ContentLength = refl
+at_place NodeCopyfromRev = refl
+at_place NodeCopyfromPath = refl
+at_place TextCopySourceMd5 = refl
+at_place TextCopySourceSha1 = refl
+at_place NodeKind = refl
+at_place NodeAction = refl
+at_place TextContentMd5 = refl
+at_place TextContentSha1 = refl
+
+-- two names at one place are one
+pub place_once : (m n : HeaderName) → name_place m ≡ name_place n → m ≡ n
+place_once m n same = sym (at_place m) ∙ ap (λ i. get_or all_names i FormatVersion) same ∙ at_place n
+
+-- a name's number is its place, and lies among the names
+pub tag_place : (name : HeaderName) → tag_of enum.the_type name ≡ name_place name
+tag_place FormatVersion = refl
+tag_place Uuid = refl
+tag_place RevisionNumber = refl
+tag_place NodePath = refl
+tag_place PropContentLength = refl
+tag_place TextContentLength = refl
+tag_place ContentLength = refl
+tag_place NodeCopyfromRev = refl
+tag_place NodeCopyfromPath = refl
+tag_place TextCopySourceMd5 = refl
+tag_place TextCopySourceSha1 = refl
+tag_place NodeKind = refl
+tag_place NodeAction = refl
+tag_place TextContentMd5 = refl
+tag_place TextContentSha1 = refl
+
+pub place_inside : (name : HeaderName) → name_place name < length all_names
+place_inside FormatVersion = lit< tt
+place_inside Uuid = lit< tt
+place_inside RevisionNumber = lit< tt
+place_inside NodePath = lit< tt
+place_inside PropContentLength = lit< tt
+place_inside TextContentLength = lit< tt
+place_inside ContentLength = lit< tt
+place_inside NodeCopyfromRev = lit< tt
+place_inside NodeCopyfromPath = lit< tt
+place_inside TextCopySourceMd5 = lit< tt
+place_inside TextCopySourceSha1 = lit< tt
+place_inside NodeKind = lit< tt
+place_inside NodeAction = lit< tt
+place_inside TextContentMd5 = lit< tt
+place_inside TextContentSha1 = lit< tt

@@ -1,0 +1,159 @@
+-- The values of the known names among header lines, line by line.
+use Rattle.std.proofs.Common.{◌≡◌, ◌≢◌, ℕ, zero, suc, replicate, ◌<◌, ◌==◌, not, Bool, true, false, List, [], ◌∷◌, ◌++◌, length, refl, sym, ap, ◌∙◌, arith, subst, bytes_eq, Option, Some, None, is_some, Bor, slice_index_or, slice_set, slice_range}
+use Rattle.std.specs.Option.{option_copied, IfSome}
+use Rattle.std.proofs.lemmas.Bool.{eqb-true, eqb-false}
+use Rattle.std.proofs.lemmas.List.{get_or-set_other, get_or-set_same}
+use Rattle.std.proofs.lemmas.Slice.Eq.{bytes_eq-Decides}
+use Rattle.dump_text.specs.declared.names.HeaderName.{HeaderName}
+use Rattle.dump_text.specs.Names.{name_text}
+use Rattle.dump_text.specs.HeaderLine as line
+use Rattle.dump_text.specs.HeaderLine.{is_named, has_header, header_value}
+use Rattle.dump_text.specs.HeaderBlock.{lines_bytes}
+use Rattle.dump_text.specs.ReadHeaders.{headers_between, IsBlockBetween, IsPartBetween}
+use Rattle.dump_text.specs.Scanning.{is_known}
+use Rattle.dump_text.specs.KnownValues.{name_place, known_name, noted_value, AreValues, may_follow}
+use Rattle.dump_text.proofs.BoolLemmas.{first_false, second_false, not_so}
+use Rattle.dump_text.proofs.Unique.{regroup}
+use Rattle.dump_text.proofs.BlockLemmas.{has_value, block_bytes, block_size, value_between, rest_between}
+use Rattle.dump_text.proofs.NameLemmas.{known_itself, known_text, known_is, text_once, place_once}
+
+-- a value is there where its copy is
+pub some_copied : (r : Option (Bor (List ℕ))) → is_some r ≡ is_some (option_copied r)
+some_copied None = refl
+some_copied (Some x) = refl
+
+-- no value is noted before the first line
+pub none_noted : (count : ℕ) → AreValues [] (replicate count None)
+none_noted count name = ap option_copied (all_none count (name_place name))
+  where
+    all_none : (n i : ℕ) → slice_index_or {A = Option (Bor (List ℕ))} (replicate n None) i None ≡ None
+    all_none zero i = refl
+    all_none (suc n) zero = refl
+    all_none (suc n) (suc i) = all_none n i
+
+-- a line of another name changes no value
+value_other : (name : List ℕ) (hs : List line.Header) (h : line.Header) → is_named name h ≡ false
+    → header_value name (hs ++ h ∷ []) ≡ header_value name hs
+value_other name [] h other = rw other refl
+value_other name (g ∷ hs) h other = cases (is_named name g) refl (value_other name hs h other)
+  where
+    cases : (b : Bool) → is_named name g ≡ b → header_value name (hs ++ h ∷ []) ≡ header_value name hs
+        → header_value name (g ∷ (hs ++ h ∷ [])) ≡ header_value name (g ∷ hs)
+    cases true is more = rw is refl
+    cases false is more = rw is more
+
+-- the first line of a name gives its value
+value_first : (name : List ℕ) (hs : List line.Header) (h : line.Header) → has_header name hs ≡ false
+    → is_named name h ≡ true
+    → header_value name (hs ++ h ∷ []) ≡ Some h.value
+value_first name [] h none is = rw is refl
+value_first name (g ∷ hs) h none is =
+    let no = first_false (is_named name g) (has_header name hs) none in
+    let more = value_first name hs h (second_false (is_named name g) (has_header name hs) none) is in
+    rw no more
+
+-- the line of a name and value
+abbrev pub line_of : List ℕ → List ℕ → line.Header
+line_of name value = record { name = name; value = value }
+
+-- what is noted of a line behind some lines
+module _ (headers : List line.Header) (values : List (Option (Bor (List ℕ)))) (are : AreValues headers values)
+    (name : List ℕ) where
+  -- a line of no known name may follow, and changes nothing
+  pub unknown_follows : known_name name ≡ None → true ≡ may_follow headers name
+  unknown_follows none = let no : is_known name ≡ false = known_is name ∙ ap is_some none in rw no refl
+
+  pub unknown_noted : known_name name ≡ None → (value : List ℕ) → AreValues (headers ++ line_of name value ∷ []) values
+  unknown_noted none value n = are n ∙ sym (value_other (name_text n) headers (line_of name value) (not_so _ other))
+    where
+      no_name : None ≡ Some n → ⊥
+      no_name e = cc
+
+      other : bytes_eq name (name_text n) ≡ true → ⊥
+      other same = no_name (sym none ∙ ap known_name ((bytes_eq-Decides name (name_text n)).0 same) ∙ known_itself n)
+
+  -- a line of a known name may follow where the name has no value yet
+  pub known_follows : (n : HeaderName) → known_name name ≡ Some n
+      → may_follow headers name ≡ not (is_some (slice_index_or values (name_place n) None))
+  known_follows n is =
+      let known : is_known name ≡ true = known_is name ∙ ap is_some is in
+      let has : has_header name headers ≡ is_some (slice_index_or values (name_place n) None) =
+      ap (λ t. has_header t headers) (known_text name n is) ∙ sym (has_value (name_text n) headers)
+      ∙ ap is_some (sym (are n))
+      ∙ sym (some_copied (slice_index_or values (name_place n) None)) in
+      rw (known, has) refl
+
+  -- and then its value is the line's
+  pub known_noted : (n : HeaderName) → known_name name ≡ Some n → name_place n < length values
+      → is_some (slice_index_or values (name_place n) None) ≡ false → (value : Bor (List ℕ))
+      → AreValues (headers ++ line_of name value.now ∷ []) (slice_set values (name_place n) (Some value))
+  known_noted n is inside free value m = by_place (name_place m == name_place n) refl
+    where
+      same_name : name ≡ name_text n
+      same_name = known_text name n is
+
+      none : has_header (name_text n) headers ≡ false
+      none = sym (has_value (name_text n) headers) ∙ ap is_some (sym (are n))
+          ∙ sym (some_copied (slice_index_or values (name_place n) None)) ∙ free
+
+      here : header_value (name_text n) (headers ++ line_of name value.now ∷ []) ≡ Some value.now
+      here = value_first (name_text n) headers (line_of name value.now) none
+          ((bytes_eq-Decides name (name_text n)).1 same_name)
+
+      by_place : (b : Bool) → (name_place m == name_place n) ≡ b
+          → noted_value (slice_set values (name_place n) (Some value)) m
+          ≡ header_value (name_text m) (headers ++ line_of name value.now ∷ [])
+      by_place true at =
+          let one : m ≡ n = place_once m n (eqb-true (name_place m) (name_place n) at) in
+          ap (noted_value (slice_set values (name_place n) (Some value))) one
+          ∙ ap option_copied (get_or-set_same values (name_place n) (Some value) None inside)
+          ∙ sym here ∙ ap (λ k. header_value (name_text k) (headers ++ line_of name value.now ∷ [])) (sym one)
+      by_place false at =
+          let apart : name_place m ≢ name_place n = eqb-false (name_place m) (name_place n) at in
+          ap option_copied (get_or-set_other values (name_place n) (name_place m) (Some value) None apart) ∙ are m
+          ∙ sym (value_other (name_text m) headers (line_of name value.now)
+          (not_so _ (λ same. apart (ap name_place
+          (text_once m n (sym ((bytes_eq-Decides name (name_text m)).0 same) ∙ same_name))))))
+
+-- a value among the lines of a block stands in the block
+pub value_lent : (dump : List ℕ) (place after : ℕ) → IsBlockBetween dump place after → (name value : List ℕ)
+    → header_value name (headers_between dump place after) ≡ Some value → IsPartBetween dump place after value
+value_lent dump place after stands name value is =
+    in_lines (headers_between dump place after) (10 ∷ [])
+    (subst (IsPartBetween dump place after) (block_bytes dump place after stands) whole) is
+  where
+    whole : IsPartBetween dump place after (slice_range dump place after)
+    whole = (
+      place,
+      after,
+      omega arith,
+      (let size = block_size dump place after stands in omega arith),
+      omega arith,
+      refl,
+    )
+
+    in_lines : (hs : List line.Header) (tail : List ℕ) → IsPartBetween dump place after (lines_bytes hs ++ tail)
+        → header_value name hs ≡ Some value → IsPartBetween dump place after value
+    in_lines [] tail part is = cc
+    in_lines (h ∷ hs) tail part is = cases (is_named name h) refl (λ left here. in_lines hs tail left here)
+      where
+        some_once : Some h.value ≡ Some value → h.value ≡ value
+        some_once e = cc
+
+        cases : (b : Bool) → is_named name h ≡ b
+            → (IsPartBetween dump place after (lines_bytes hs ++ tail) → header_value name hs ≡ Some value
+            → IsPartBetween dump place after value)
+            → IsPartBetween dump place after value
+        cases true here more =
+            subst (IsPartBetween dump place after) (some_once (rw here at is))
+            (value_between dump place after _ (line.header_text h) h.name h.value (lines_bytes hs ++ tail) part
+            (regroup h hs tail) refl)
+        cases false other more =
+            more (rest_between dump place after _ (line.header_text h) (lines_bytes hs ++ tail) part
+            (regroup h hs tail)) (rw other at is)
+
+-- what holds of a copied value holds of the value
+pub if_copied : (r : Option (Bor (List ℕ))) (P : List ℕ → Type 0)
+    → ((value : List ℕ) → option_copied r ≡ Some value → P value) → IfSome r (λ x. P x.now)
+if_copied None P all = tt
+if_copied (Some x) P all = all x.now refl

@@ -1,0 +1,8 @@
+use Rattle.std.proofs.Common.{◌≡◌, drop, bytes_eq}
+use Rattle.std.specs.List.{find}
+use Rattle.dump_text.specs.Names.{name_text}
+use Rattle.dump_text.proofs.names.find_name.Given as goal
+
+abbrev pub invariant-loop-name : goal.invariant-loop-name
+invariant-loop-name l = find (λ name. bytes_eq l.bytes (name_text name)) l.names
+    ≡ find (λ name. bytes_eq l.bytes (name_text name)) (drop l.name-index l.names)

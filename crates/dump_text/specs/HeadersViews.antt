@@ -1,0 +1,7 @@
+-- What the contracts see of a block with its values.
+use Rattle.dump_text.specs.declared.block.Block.{Block}
+use Rattle.dump_text.specs.declared.headers.Headers.{Headers}
+
+-- the block itself
+abbrev pub headers_block : Headers → Block
+headers_block h = h.block
