@@ -105,18 +105,3 @@ merge_other settings r other = (
   λ e. cc,
   λ bad. ∥∥₁_elim bad (Bool-set true false) (λ (value, mine, lines). absurd (clash mine.0 other)),
 )
-
--- one by one
-
-pub read_behind : (p : Property) (ps others : List Property) → ps ≡ p ∷ others → property_reads p ≡ true → properties_read ps ≡ properties_read others
-read_behind p ps others is reads = ap properties_read is ∙ rw reads refl
-
-pub not_read : (p : Property) (ps others : List Property) → ps ≡ p ∷ others → property_reads p ≡ false → properties_read ps ≡ false
-not_read p ps others is bad = ap properties_read is ∙ rw bad refl
-
-pub value_decides : (p : Property) → not (is_mergeinfo p) ≡ false → value_reads p.value ≡ property_reads p
-value_decides p named = by_name (is_mergeinfo p) refl
-  where
-    by_name : (b : Bool) → is_mergeinfo p ≡ b → value_reads p.value ≡ property_reads p
-    by_name true e = rw e refl
-    by_name false e = let bad : true ≡ false = sym (ap not e) ∙ named in cc

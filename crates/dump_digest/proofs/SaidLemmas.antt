@@ -13,6 +13,7 @@ use Rattle.dump_rules.specs.Mergeinfo.{HasMergeLines}
 use Rattle.dump_rules.specs.Merged.{is_outside, nothing_merged}
 use Rattle.dump_rules.specs.NewLines.{value_misses, value_foreign}
 use Rattle.dump_rules.specs.ReadMergeinfo.{value_reads}
+use Rattle.dump_rules.proofs.MergedMeaning.{or_false, or_or}
 use Rattle.dump_digest.specs.declared.content.Content.{Content}
 use Rattle.dump_digest.specs.declared.verdict.Verdict.{Verdict}
 use Rattle.dump_digest.specs.VerdictMeaning.{IsVerdict}
@@ -41,10 +42,6 @@ said_at_first s ps said is = record {
   numbers = λ first present. ap (λ (m : Merged). is_outside s first present m.numbers || list_any (is_foreign s first present) ps) (sym is);
 }
 
-or_or : (a b c : Bool) → (a || (b || c)) ≡ ((a || b) || c)
-or_or true b c = refl
-or_or false b c = refl
-
 or_true : (a c : Bool) → (a || (true || c)) ≡ true
 or_true true c = refl
 or_true false c = refl
@@ -72,11 +69,12 @@ said_of_value s ps qs others p found said next is named reads sources numbers up
   read = up.read ∙ ap properties_read is ∙ rw (named, reads) refl;
   found_is = up.found_is ∙ ap (λ (l : List Property). found || list_any is_mergeinfo l) is ∙ rw named (or_true found (list_any is_mergeinfo others));
   sources = up.sources ∙ ap (λ (l : List Property). said.misses || list_any (misses s) l) is
-      ∙ rw named (or_or said.misses (value_misses s p.value) (list_any (misses s) others))
+      ∙ rw named (sym (or_or said.misses (value_misses s p.value) (list_any (misses s) others)))
       ∙ ap (λ b. b || list_any (misses s) others) (sym sources);
   numbers = λ first present. up.numbers first present
       ∙ ap (λ (l : List Property). is_outside s first present said.numbers || list_any (is_foreign s first present) l) is
-      ∙ rw named (or_or (is_outside s first present said.numbers) (value_foreign s first present p.value) (list_any (is_foreign s first present) others))
+      ∙ rw named (sym (or_or (is_outside s first present said.numbers) (value_foreign s first present p.value)
+      (list_any (is_foreign s first present) others)))
       ∙ ap (λ b. b || list_any (is_foreign s first present) others) (sym (numbers first present));
 }
 
@@ -90,14 +88,10 @@ pub said_at_last : (s : Settings) (ps : List Property) (found : Bool) (said : Me
     → IsSaidBy s ps (record { found = found; said = said })
 said_at_last s ps found said up = record {
   read = up.read;
-  found = sym (up.found_is ∙ or_none found);
-  sources = sym (up.sources ∙ or_none said.misses);
-  numbers = λ first present. sym (up.numbers first present ∙ or_none (is_outside s first present said.numbers));
+  found = sym (up.found_is ∙ sym (or_false found));
+  sources = sym (up.sources ∙ sym (or_false said.misses));
+  numbers = λ first present. sym (up.numbers first present ∙ sym (or_false (is_outside s first present said.numbers)));
 }
-  where
-    or_none : (a : Bool) → (a || false) ≡ a
-    or_none true = refl
-    or_none false = refl
 
 -- what the reader of a value answers
 pub unread_value : (value : List ℕ) (o : Option Merged) → (IsSome o ↔ HasMergeLines value) → o ≡ None → value_reads value ≡ false

@@ -2,6 +2,7 @@
 use Rattle.std.proofs.Common.{◌≡◌, ◌↔◌, ℕ, Bool, true, false, ◌||◌, List, refl, sym, subst, ◌∙◌, Option, is_some, IsTrue, IsFalse, IsSome}
 use Rattle.dump_text.specs.Names.{md5_name, sha1_name}
 use Rattle.dump_text.specs.PropertyList.{HasProperties}
+use Rattle.dump_text.proofs.BoolLemmas.{either_second}
 use Rattle.dump_records.specs.RecordText.{DumpRecord}
 use Rattle.dump_rules.specs.Settings.{Settings}
 use Rattle.dump_digest.specs.declared.verdict.Verdict.{Verdict}
@@ -13,10 +14,6 @@ use Rattle.dump_digest.proofs.DigestLemmas.{clash}
 use Rattle.dump_digest.proofs.MergeLemmas.{merge_other}
 use Rattle.md5.specs.Md5.{md5}
 use Rattle.sha1.specs.Sha1.{sha1}
-
-or_second : (a b : Bool) → b ≡ true → (a || b) ≡ true
-or_second true b e = refl
-or_second false b e = e
 
 or_none : (a b : Bool) → b ≡ false → (a || b) ≡ a
 or_none true b e = refl
@@ -56,7 +53,7 @@ pub kept_verdict : (settings : Settings) (r : DumpRecord) (v : Verdict) → IsTr
     → v.checked ≡ is_told_text r
     → IsVerdict settings r v
 kept_verdict settings r v kept props first second merge checked = record {
-  props = (λ e. (or_second (is_revision r) (is_kept_node settings r) kept, props.0 e), λ bad. props.1 bad.1);
+  props = (λ e. (either_second (is_revision r) (is_kept_node settings r) kept, props.0 e), λ bad. props.1 bad.1);
   md5 = (λ e. let other = first.0 e in (kept, other.0, other.1), λ bad. first.1 (bad.1, bad.2));
   sha1 = (λ e. let other = second.0 e in (kept, other.0, other.1), λ bad. second.1 (bad.1, bad.2));
   merge = merge;

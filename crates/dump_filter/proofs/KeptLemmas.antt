@@ -187,19 +187,3 @@ below_pending kept w present up =
     let at = up.waits in
     all_weaker (λ n. n < present) (λ n. n < revision_number w.revision) kept.numbers
     (λ n under. omega (arith, under, at)) up.below
-
--- no kept revision is above the present one, which a node's own is
-pub up_to_present : (revisions : Revisions) (group : PresentGroup) → AreKept revisions group
-    → All (λ k. k ≤ node_revision revisions) (front_kept revisions.kept group).numbers
-up_to_present revisions group = by_present revisions.present
-  where
-    by_present : (p : Option ℕ)
-        → MatchOption p ((revisions.kept ≡ no_revisions.kept) × (group ≡ NoGroup))
-        (λ present. AreRising revisions.kept present group)
-        → All (λ k. k ≤ unwrap_or p 0) (front_kept revisions.kept group).numbers
-    by_present None (none, free) =
-        subst (λ (k : KeptRevisions). All (λ n. n ≤ 0) k.numbers) (sym (ap (front_kept revisions.kept) free ∙ none))
-        (All-nil (λ n. n ≤ 0))
-    by_present (Some p) up =
-        all_weaker (λ n. n < p + 1) (λ n. n ≤ p) (front_kept revisions.kept group).numbers (λ n low. omega (arith, low))
-        (front_rising revisions.kept group p up).below

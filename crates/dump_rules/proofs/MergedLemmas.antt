@@ -8,14 +8,6 @@ use Rattle.dump_rules.specs.ReadRanges.{range_of, range_parts}
 use Rattle.dump_rules.specs.Merged.{widened_by, parts_bounds, list_bounds, line_merged, lines_merged}
 use Rattle.dump_rules.proofs.RangeLemmas.{position_split}
 
--- the parts up to a byte, and what follows
-pub parts_first : (b : ℕ) (rest part others : List ℕ) (k : ℕ) → position (λ c. c == b) rest ≡ Some k → part ≡ take k rest
-    → others ≡ drop (k + 1) rest → slice_split (λ c. c == b) rest ≡ part ∷ slice_split (λ c. c == b) others
-parts_first b rest part others k is first later =
-    position_split b k rest is
-    ∙ ap (λ (l : List ℕ). l ∷ slice_split (λ c. c == b) (drop (k + 1) rest)) (sym first)
-    ∙ ap (λ (t : List ℕ). part ∷ slice_split (λ c. c == b) t) (sym later)
-
 -- one part more
 pub bounds_first : (bounds next : Option Bounds) (part : List ℕ) (others all : List (List ℕ)) → all ≡ part ∷ others
     → next ≡ widened_by bounds (range_of part) → parts_bounds bounds all ≡ parts_bounds next others

@@ -30,6 +30,26 @@ two_of_each false true c d false = refl
 two_of_each false false c d true = refl
 two_of_each false false c d false = refl
 
+-- truth values
+
+pub or_false : (a : Bool) → a ≡ (a || false)
+or_false true = refl
+or_false false = refl
+
+pub or_or : (a b c : Bool) → ((a || b) || c) ≡ (a || (b || c))
+or_or true b c = refl
+or_or false b c = refl
+
+none : (a r : Bool) → a ≡ (a || (r && false))
+none true r = refl
+none false true = refl
+none false false = refl
+
+spread : (a r x y : Bool) → ((a || (r && x)) || (r && y)) ≡ (a || (r && (x || y)))
+spread true r x y = refl
+spread false true x y = refl
+spread false false x y = refl
+
 module _ (s : Settings) (first now : ℕ) where
   outside_widened : (bounds : Option Bounds) (r : Range)
       → is_outside s first now (Some (widened bounds r)) ≡ (is_outside s first now bounds || range_foreign s first now r)
@@ -37,14 +57,6 @@ module _ (s : Settings) (first now : ℕ) where
   outside_widened (Some b) r =
       rw (below_greater now b.greatest r.to, lesser_below b.least r.from first)
       (two_of_each (nat_lt now b.greatest) (nat_lt now r.to) (nat_lt b.least first) (nat_lt r.from first) (not s.skip_missing))
-
-  or_false : (a : Bool) → a ≡ (a || false)
-  or_false true = refl
-  or_false false = refl
-
-  or_or : (a b c : Bool) → ((a || b) || c) ≡ (a || (b || c))
-  or_or true b c = refl
-  or_or false b c = refl
 
   outside_part : (bounds : Option Bounds) (o : Option Range)
       → is_outside s first now (widened_by bounds o) ≡ (is_outside s first now bounds || part_foreign s first now o)
@@ -69,22 +81,12 @@ module _ (s : Settings) (first now : ℕ) where
       ≡ (is_outside s first now said.numbers || (s.renumber && line_foreign s first now line))
   outside_line said line = by_kept (keeps_path s (line_path line)) refl s.renumber refl
     where
-      none : (a r : Bool) → a ≡ (a || (r && false))
-      none true r = refl
-      none false true = refl
-      none false false = refl
-
       by_kept : (k : Bool) → keeps_path s (line_path line) ≡ k → (r : Bool) → s.renumber ≡ r
           → is_outside s first now (line_said s said line).numbers
           ≡ (is_outside s first now said.numbers || (s.renumber && line_foreign s first now line))
       by_kept true e true f = rw (e, f) (outside_list said.numbers (line_list line))
       by_kept true e false f = rw (e, f) (or_false (is_outside s first now said.numbers))
       by_kept false e r f = rw e (none (is_outside s first now said.numbers) s.renumber)
-
-  spread : (a r x y : Bool) → ((a || (r && x)) || (r && y)) ≡ (a || (r && (x || y)))
-  spread true r x y = refl
-  spread false true x y = refl
-  spread false false x y = refl
 
   outside_lines : (said last : Merged) (lines : List (List ℕ)) → lines_merged s said lines ≡ Some last
       → is_outside s first now last.numbers
@@ -95,11 +97,6 @@ module _ (s : Settings) (first now : ℕ) where
       outside_of : Option Merged → Bool
       outside_of None = false
       outside_of (Some m) = is_outside s first now m.numbers
-
-      none : (a r : Bool) → a ≡ (a || (r && false))
-      none true r = refl
-      none false true = refl
-      none false false = refl
   outside_lines said last (line ∷ lines) is =
       by_line (outside_lines (line_said s said line) last lines) (line_reads line) refl
     where
@@ -124,11 +121,6 @@ module _ (s : Settings) where
       → (line_said s said line).misses ≡ (said.misses || (not s.skip_missing && line_misses s line))
   missed_line said line = by_kept (keeps_path s (line_path line)) refl s.renumber refl
     where
-      none : (a k : Bool) → a ≡ (a || (k && false))
-      none true k = refl
-      none false true = refl
-      none false false = refl
-
       some : (a k : Bool) → (a || k) ≡ (a || (k && true))
       some true k = refl
       some false true = refl
@@ -147,19 +139,9 @@ module _ (s : Settings) where
       misses_of : Option Merged → Bool
       misses_of None = false
       misses_of (Some m) = m.misses
-
-      none : (a k : Bool) → a ≡ (a || (k && false))
-      none true k = refl
-      none false true = refl
-      none false false = refl
   missed_lines said last (line ∷ lines) is =
       by_line (missed_lines (line_said s said line) last lines) (line_reads line) refl
     where
-      spread : (a r x y : Bool) → ((a || (r && x)) || (r && y)) ≡ (a || (r && (x || y)))
-      spread true r x y = refl
-      spread false true x y = refl
-      spread false false x y = refl
-
       by_line : (lines_merged s (line_said s said line) lines ≡ Some last
           → last.misses ≡ ((line_said s said line).misses || (not s.skip_missing && list_any (line_misses s) lines)))
           → (b : Bool) → line_reads line ≡ b

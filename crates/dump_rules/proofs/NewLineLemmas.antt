@@ -78,11 +78,13 @@ line_fits renumber kept up line reads =
 
 -- line by line
 
-pub lines_first : (rest line behind : List ℕ) (k : ℕ) → position (λ b. b == 10) rest ≡ Some k → line ≡ take k rest → behind ≡ drop (k + 1) rest
-    → slice_split (λ b. b == 10) rest ≡ line ∷ slice_split (λ b. b == 10) behind
-lines_first rest line behind k is first later =
-    position_split 10 k rest is ∙ ap (λ (l : List ℕ). l ∷ slice_split (λ b. b == 10) (drop (k + 1) rest)) (sym first)
-    ∙ ap (λ (t : List ℕ). line ∷ slice_split (λ b. b == 10) t) (sym later)
+-- the parts up to a byte, and what follows
+pub parts_first : (b : ℕ) (rest part others : List ℕ) (k : ℕ) → position (λ c. c == b) rest ≡ Some k → part ≡ take k rest
+    → others ≡ drop (k + 1) rest → slice_split (λ c. c == b) rest ≡ part ∷ slice_split (λ c. c == b) others
+parts_first b rest part others k is first later =
+    position_split b k rest is
+    ∙ ap (λ (l : List ℕ). l ∷ slice_split (λ c. c == b) (drop (k + 1) rest)) (sym first)
+    ∙ ap (λ (t : List ℕ). part ∷ slice_split (λ c. c == b) t) (sym later)
 
 pub lines_last : (rest : List ℕ) → position (λ b. b == 10) rest ≡ None → slice_split (λ b. b == 10) rest ≡ rest ∷ []
 lines_last rest is = position_whole 10 rest is

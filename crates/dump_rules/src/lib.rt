@@ -62,7 +62,7 @@ mod rewriting;
 mod runs;
 
 pub use memory::Memory;
-pub use merged::{Bounds, Merged};
+pub use merged::Merged;
 pub use mergeinfo::merge_reads;
 pub use options::{Empty, Options, Side};
 pub use paths::keeps;

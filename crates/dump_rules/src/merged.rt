@@ -14,7 +14,7 @@ use crate::runs::cut_at;
 
 /// The least and the greatest number of some ranges.
 #[derive(Clone, Copy, Debug, PartialEq, Eq)]
-pub struct Bounds {
+pub(crate) struct Bounds {
     pub least: u64,
     pub greatest: u64,
 }
@@ -150,7 +150,8 @@ impl Merged {
     }
 
     /// Whether revisions are renumbered and a line that stays has a number above `present`, the present revision, or
-    /// one below `first`, the dump's first, where such numbers may not be left out.
+    /// one below `first`, the dump's first, where such numbers may not be left out. `options` are those that the values
+    /// were read under.
     pub fn has_foreign_number(&self, options: &Options, first: u64, present: u64) -> bool
         ensures { result ≡ is_outside options.now first present self.now.numbers }
     {

@@ -54,6 +54,7 @@ impl Reach {
     pub(crate) fn rises(&self)
         ensures { RiseFrom self.now.first self.now.numbers }
     {
+        // a read, so that what the table always holds is known behind the call
         let _first = self.first;
     }
 

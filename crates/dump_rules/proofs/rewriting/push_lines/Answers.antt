@@ -1,7 +1,7 @@
 use Rattle.std.proofs.Common.{◌≡◌, ◌==◌, ℕ, List, [], sym, ap, subst, ◌∙◌, OnOk}
 use Rattle.std.specs.List.{slice_split}
 use Rattle.dump_rules.specs.NewLines.{with_new_lines}
-use Rattle.dump_rules.proofs.NewLineLemmas.{lines_first, lines_last, first_reads, step_lines}
+use Rattle.dump_rules.proofs.NewLineLemmas.{parts_first, lines_last, first_reads, step_lines}
 use Rattle.dump_rules.proofs.rewriting.push_lines.Goals as goal
 
 pub push_line-requires-clause-reads : goal.push_line-requires-clause-reads
@@ -9,14 +9,14 @@ push_line-requires-clause-reads c =
     let at = c.find.ensures in
     let here = c.in-Some.is in
     (first_reads c.cut_at.result.0.now (slice_split (λ b. b == 10) c.cut_at.result.1.now) _
-    (lines_first c.loop-lf.rest.now c.cut_at.result.0.now c.cut_at.result.1.now c.in-Some.lf (sym at ∙ here) c.cut_at.ensures.before c.cut_at.ensures.behind)
+    (parts_first 10 c.loop-lf.rest.now c.cut_at.result.0.now c.cut_at.result.1.now c.in-Some.lf (sym at ∙ here) c.cut_at.ensures.before c.cut_at.ensures.behind)
     c.loop-lf.invariant.read).0
 
 pub loop-lf-preserved : goal.loop-lf-preserved
 loop-lf-preserved c =
     let at = c.find.ensures in
     let here = c.in-Some.is in
-    let cut = lines_first c.loop-lf.rest.now c.cut_at.result.0.now c.cut_at.result.1.now c.in-Some.lf (sym at ∙ here) c.cut_at.ensures.before c.cut_at.ensures.behind in
+    let cut = parts_first 10 c.loop-lf.rest.now c.cut_at.result.0.now c.cut_at.result.1.now c.in-Some.lf (sym at ∙ here) c.cut_at.ensures.before c.cut_at.ensures.behind in
     record {
       read = (first_reads c.cut_at.result.0.now (slice_split (λ b. b == 10) c.cut_at.result.1.now) _ cut c.loop-lf.invariant.read).1;
       written = c.loop-lf.invariant.written
