@@ -20,6 +20,7 @@ pub mod CopyLemmas
 pub mod ReadAgain
 pub mod LineChanges
 pub mod AgainHeaders
+pub mod StayLemmas
 pub mod AgainRecord
 pub mod AgainOutput
 pub mod AgainOrder

@@ -283,7 +283,7 @@ stay_has name copy other (h ∷ headers) = cases (stay_has name copy other heade
     cases others false is = rw is (ap (λ b. is_named name h || b) others)
 
 -- a copy that stays one loses no line
-all_stay : (headers : List Header) → filter (λ h. true) headers ≡ headers
+pub all_stay : (headers : List Header) → filter (λ h. true) headers ≡ headers
 all_stay [] = refl
 all_stay (h ∷ headers) = ap (λ (t : List Header). h ∷ t) (all_stay headers)
 

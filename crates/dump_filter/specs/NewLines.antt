@@ -5,6 +5,7 @@ use Rattle.dump_text.specs.Number.{spelled_number}
 use Rattle.dump_text.specs.Names.{revision_name, copy_revision_name, copy_names, property_length_name, text_length_name, content_length_name}
 use Rattle.dump_text.specs.HeaderLine.{Header, has_header, with_header_value}
 use Rattle.dump_text.specs.HeaderBlock.{block_text}
+use Rattle.dump_records.specs.HeaderRules.{header_number}
 use Rattle.dump_filter.specs.declared.fate.CopyChange.{CopyChange}
 use Rattle.dump_filter.specs.declared.fate.CopyChange.TheVariants.{Same, Renumbered, Dropped}
 use Rattle.dump_filter.specs.declared.new_lines.Changes.{Changes}
@@ -64,6 +65,12 @@ added name n headers = if has_header name headers then [] else if n == 0 then []
 abbrev pub new_headers : Changes → List Header → List Header
 new_headers c headers =
     (renewed_lines c headers ++ added property_length_name c.props headers) ++ added content_length_name c.content headers
+
+-- a copy source that these lines tell stays as it stands
+abbrev pub StaysCopied : CopyChange → List Header → Type 0
+StaysCopied Same headers = Unit
+StaysCopied (Renumbered n) headers = header_number copy_revision_name headers ≡ Some n
+StaysCopied Dropped headers = ⊥
 
 -- the lengths are those of these properties and this text
 pub record AreLengths (props text : List ℕ) (c : Changes) : Type 0 where

@@ -1,13 +1,17 @@
 //! The header lines of a record that is written: the old ones with new numbers, and lengths that were missing.
-ghost use Rattle.std.specs.Prelude.{◌≡◌, ◌++◌, ◌∷◌, [], OnOk, IfOk, IsTrue};
+ghost use Rattle.std.specs.Prelude.{◌≡◌, ◌++◌, ◌∷◌, [], ℕ, Some, OnOk, IfOk, IsTrue};
+ghost use Rattle.dump_text.specs.Names.{revision_name};
 ghost use Rattle.dump_text.specs.HeaderLine.{header_text};
 ghost use Rattle.dump_text.specs.HeaderBlock.{lines_bytes, block_text};
 ghost use Rattle.dump_text.specs.Views.{block_headers, line_header};
 ghost use Rattle.dump_writer.specs.ChunkBytes.{chunk_bytes};
-ghost use Rattle.dump_filter.specs.NewLines.{copy_number, is_copy_line, is_dropped, number_for, numbered, with_number, renewed_lines, added, new_headers};
+ghost use Rattle.dump_records.specs.HeaderRules.{header_number};
+ghost use Rattle.dump_records.specs.RecordViews.{record_item};
+ghost use Rattle.dump_filter.specs.NewLines.{AreLengths, StaysCopied, copy_number, is_copy_line, is_dropped, number_for, numbered, with_number, renewed_lines, added, new_headers};
 
 use crate::fate::CopyChange;
-use dump_text::{Block, Line, push_header, spell};
+use dump_records::Record;
+use dump_text::{Block, HeaderName, Line, push_header};
 use dump_writer::{Chunk, Memory};
 use std::alloc::Global;
 
@@ -35,10 +39,10 @@ fn copy_number(copy: CopyChange) -> Option<u64>
 fn is_copy_line(name: &[u8]) -> bool
     ensures { result ≡ is_copy_line name.now }
 {
-    name == b"Node-copyfrom-rev".as_slice()
-        || name == b"Node-copyfrom-path".as_slice()
-        || name == b"Text-copy-source-md5".as_slice()
-        || name == b"Text-copy-source-sha1".as_slice()
+    name == HeaderName::NodeCopyfromRev.bytes()
+        || name == HeaderName::NodeCopyfromPath.bytes()
+        || name == HeaderName::TextCopySourceMd5.bytes()
+        || name == HeaderName::TextCopySourceSha1.bytes()
 }
 
 /// Whether the line of this name goes.
@@ -55,15 +59,15 @@ fn is_dropped(changes: &Changes, name: &[u8]) -> bool
 fn number_for(changes: &Changes, name: &[u8]) -> Option<u64>
     ensures { result ≡ number_for changes.now name.now }
 {
-    if name == b"Revision-number".as_slice() {
+    if name == HeaderName::RevisionNumber.bytes() {
         changes.revision
-    } else if name == b"Node-copyfrom-rev".as_slice() {
+    } else if name == HeaderName::NodeCopyfromRev.bytes() {
         copy_number(changes.copy)
-    } else if name == b"Prop-content-length".as_slice() {
+    } else if name == HeaderName::PropContentLength.bytes() {
         Some(changes.props)
-    } else if name == b"Text-content-length".as_slice() {
+    } else if name == HeaderName::TextContentLength.bytes() {
         Some(changes.text)
-    } else if name == b"Content-length".as_slice() {
+    } else if name == HeaderName::ContentLength.bytes() {
         Some(changes.content)
     } else {
         None
@@ -93,57 +97,57 @@ fn push_missing(out: &mut Vec<u8>, block: &Block<'_>, name: &[u8], n: u64) -> Re
     Ok(push_header(out, name, n)?)
 }
 
-/// Whether a line stays as it stands where it gets this number.
-fn stays(line: &Line<'_>, number: Option<u64>) -> bool
-    ensures { IsTrue result → with_number (line_header line.now) number ≡ line_header line.now }
+/// Whether a record that gets this number, if any, keeps its own.
+fn revision_stays(item: &Record<'_>, revision: Option<u64>) -> bool
+    ensures { IsTrue result → (n : ℕ) → revision ≡ Some n → header_number revision_name (record_item item.now).headers ≡ Some n }
 {
-    match number {
-        Some(n) => line.value == spell(n).bytes(),
-        None => true,
+    revision.is_none() || item.revision() == revision
+}
+
+/// Whether a record keeps its copy source as it stands.
+fn copy_stays(item: &Record<'_>, copy: CopyChange) -> bool
+    ensures { IsTrue result → StaysCopied copy (record_item item.now).headers }
+{
+    match copy {
+        CopyChange::Same => true,
+        CopyChange::Renumbered(n) => item.copy_revision() == Some(n),
+        CopyChange::Dropped => false,
     }
 }
 
-/// Whether all lines stay as they stand.
-fn all_stay(block: &Block<'_>, changes: &Changes) -> bool
-    ensures { IsTrue result → renewed_lines changes.now (block_headers block.now) ≡ block_headers block.now }
+/// Whether the lengths stay those of the record.
+fn lengths_stay(item: &Record<'_>, changes: &Changes) -> bool
+    ensures { let r = record_item item.now in IsTrue result → AreLengths r.props r.text changes.now }
 {
-    let mut lines = block.lines();
-    while let Some(line) = lines.next() {
-        if is_dropped(changes, line.name) || !stays(&line, number_for(changes, line.name)) {
-            return false;
-        }
-    }
-    true
+    let props = item.property_bytes().len() as u64;
+    let text = item.text_bytes().len() as u64;
+    changes.props == props && changes.text == text && changes.content == props + text
 }
 
-/// Whether a length that isn't 0 has a line of this name.
-fn has_length(block: &Block<'_>, name: &[u8], n: u64) -> bool
-    ensures { IsTrue result → added name.now n (block_headers block.now) ≡ [] }
+/// Whether the record's block is written as it stands.
+fn block_stays(item: &Record<'_>, changes: &Changes) -> bool
+    ensures { let r = record_item item.now in IsTrue result → new_headers changes.now r.headers ≡ r.headers }
 {
-    n == 0 || block.has(name)
-}
-
-/// Whether the block is written as it stands.
-fn block_stays(block: &Block<'_>, changes: &Changes) -> bool
-    ensures { IsTrue result → new_headers changes.now (block_headers block.now) ≡ block_headers block.now }
-{
-    all_stay(block, changes)
-        && has_length(block, b"Prop-content-length", changes.props)
-        && has_length(block, b"Content-length", changes.content)
+    item.is_written()
+        && lengths_stay(item, changes)
+        && revision_stays(item, changes.revision)
+        && copy_stays(item, changes.copy)
 }
 
 /// The block of a record as it is written: lent where it stays as it stands.
 pub(crate) fn new_lines<'a>(
     alloc: Global,
-    block: &Block<'a>,
+    item: &Record<'a>,
     changes: &Changes,
 ) -> Result<Chunk<'a>, Memory>
-    ensures { IfOk result (λ chunk. chunk_bytes chunk ≡ block_text (new_headers changes.now (block_headers block.now))) }
+    ensures { let r = record_item item.now in
+        IfOk result (λ chunk. chunk_bytes chunk ≡ block_text (new_headers changes.now r.headers)) }
 {
-    if block_stays(block, changes) {
+    let block = item.block();
+    if block_stays(item, changes) {
         return Ok(Chunk::Lent(block.bytes()));
     }
-    let bytes = write_block(alloc, block, changes)?;
+    let bytes = write_block(alloc, &block, changes)?;
     Ok(Chunk::Own(bytes))
 }
 
@@ -158,8 +162,8 @@ fn write_block(alloc: Global, block: &Block<'_>, changes: &Changes) -> Result<Ve
             push_line(&mut out, &line, number_for(changes, line.name))?;
         }
     }
-    push_missing(&mut out, block, b"Prop-content-length", changes.props)?;
-    push_missing(&mut out, block, b"Content-length", changes.content)?;
+    push_missing(&mut out, block, HeaderName::PropContentLength.bytes(), changes.props)?;
+    push_missing(&mut out, block, HeaderName::ContentLength.bytes(), changes.content)?;
     out.extend_from_slice(b"\n")?;
     Ok(out)
 }

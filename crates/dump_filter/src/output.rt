@@ -60,7 +60,7 @@ fn push_record<'a>(
     ensures { let r = record_item item.now in
         OnOk result (piece.new ≡ piece.old ++ (new_record changes.now r.headers (chunk_bytes props.entry) r.text ++ end.entry.now)) }
 {
-    let block = new_lines(alloc, &item.block(), changes)?;
+    let block = new_lines(alloc, item, changes)?;
     piece.push(block)?;
     push_some(piece, props)?;
     push_some(piece, Chunk::Lent(item.text_bytes()))?;

@@ -4,12 +4,12 @@ ghost use Rattle.dump_text.specs.Names.{name_text, node_kind_name, copy_path_nam
 ghost use Rattle.dump_text.specs.HeaderLine.{has_header, header_value};
 ghost use Rattle.dump_records.specs.HeaderRules.{header_number, has_bad_kind, has_bad_version, has_bad_number, has_bad_lengths};
 ghost use Rattle.dump_records.specs.KindReading.{IsKindOf};
-ghost use Rattle.dump_records.specs.HeaderReading.{lines_of, AreNumbers, IsHeaderOf};
+ghost use Rattle.dump_records.specs.HeaderReading.{lines_of, AreNumbers, is_spelled, are_written, IsHeaderOf};
 ghost use Rattle.dump_records.specs.Lawful.{LengthsOf, IsUnlawful};
 
 use crate::kind::{CopySource, KindParts};
 use crate::readings::{Lengths, Numbers, RecordHeader};
-use dump_text::{FaultKind, HeaderName, Headers, number};
+use dump_text::{FaultKind, HeaderName, Headers, number, spell};
 
 /// The number that the header of this name gives.
 fn number_at(headers: &Headers<'_>, name: HeaderName) -> Option<u64>
@@ -158,6 +158,31 @@ fn says_file(headers: &Headers<'_>) -> bool
     }
 }
 
+/// Whether the header of this name, where it gives a number, is written as that number is.
+fn is_spelled(headers: &Headers<'_>, name: HeaderName, found: Option<u64>) -> bool
+    requires { found ≡ header_number (name_text name) (lines_of headers.now) }
+    ensures { result ≡ is_spelled (name_text name) (lines_of headers.now) }
+{
+    match (headers.value(name), found) {
+        (Some(digits), Some(n)) => digits == spell(n).bytes(),
+        _ => true,
+    }
+}
+
+/// Whether the lines, under the numbers and lengths that they have, are written as they stand.
+fn are_written(headers: &Headers<'_>, numbers: &Numbers) -> bool
+    requires { AreNumbers (lines_of headers.now) numbers.now }
+    ensures { result ≡ are_written (lines_of headers.now) }
+{
+    let lengths = lengths_of(numbers);
+    is_spelled(headers, HeaderName::RevisionNumber, numbers.revision)
+        && is_spelled(headers, HeaderName::NodeCopyfromRev, numbers.copy_revision)
+        && is_spelled(headers, HeaderName::PropContentLength, numbers.props)
+        && is_spelled(headers, HeaderName::TextContentLength, numbers.text)
+        && is_spelled(headers, HeaderName::ContentLength, numbers.content)
+        && (headers.has(HeaderName::ContentLength) || lengths.props + lengths.text == 0)
+}
+
 /// What the header lines of the record with this number say, and its lengths; or the first rule that they break.
 pub(crate) fn read_header<'a>(
     headers: &Headers<'a>,
@@ -187,6 +212,7 @@ pub(crate) fn read_header<'a>(
         has_text: headers.has(HeaderName::TextContentLength),
         md5: headers.value(HeaderName::TextContentMd5),
         sha1: headers.value(HeaderName::TextContentSha1),
+        is_written: are_written(headers, &numbers),
     };
     Ok((header, lengths_of(&numbers)))
 }

@@ -28,4 +28,5 @@ pub(crate) struct RecordHeader<'a> {
     pub(crate) has_text: bool,
     pub(crate) md5: Option<&'a [u8]>,
     pub(crate) sha1: Option<&'a [u8]>,
+    pub(crate) is_written: bool,
 }

@@ -5,7 +5,7 @@ ghost use Rattle.dump_records.specs.RecordText.{BeginsWithRecord};
 ghost use Rattle.dump_records.specs.RecordPlaces.{record_between};
 ghost use Rattle.dump_records.specs.DumpText.{IsRecordOf};
 ghost use Rattle.dump_records.specs.Standing.{AreInside};
-ghost use Rattle.dump_records.specs.HeaderReading.{IsHeaderOf};
+ghost use Rattle.dump_records.specs.HeaderReading.{are_written, IsHeaderOf};
 
 use crate::kind::{CopySource, KindParts, RecordKind};
 use crate::readings::RecordHeader;
@@ -172,6 +172,14 @@ impl<'a> Record<'a> {
         ensures { result ≡ has_header text_length_name (record_item self.now).headers }
     {
         self.header.has_text
+    }
+
+    /// Whether its block, under the numbers and lengths that it has, is written as it stands: no number has a leading
+    /// zero, and content has its length.
+    pub fn is_written(&self) -> bool
+        ensures { result ≡ are_written (record_item self.now).headers }
+    {
+        self.header.is_written
     }
 
     /// Its properties, where it has a length for them.

@@ -1,13 +1,14 @@
 -- The names that have a meaning: which bytes are one, and where it stands among them.
-use Rattle.std.proofs.Common.{◌≡◌, ℕ, ◌<◌, ◌||◌, Bool, true, false, List, [], ◌∷◌, length, map, get_or, refl, sym, ap, ◌∙◌, lit<, bytes_eq, Some, is_some}
+use Rattle.std.proofs.Common.{◌≡◌, ℕ, ◌<◌, ◌||◌, Bool, true, false, ◌==◌, List, [], ◌∷◌, length, map, filter, get_or, refl, sym, ap, ◌∙◌, lit<, bytes_eq, Some, is_some}
 use Rattle.std.specs.List.{list_any, find}
+use Rattle.std.proofs.lemmas.Bool.{eq-eqb}
 use Rattle.std.proofs.lemmas.Slice.Eq.{bytes_eq-Decides}
 use denote.Enum.Declared.{tag_of}
 use Rattle.dump_text.specs.contracts.names.HeaderName as enum
 use Rattle.dump_text.specs.declared.names.HeaderName.{HeaderName}
 use Rattle.dump_text.specs.declared.names.HeaderName.TheVariants.{FormatVersion, Uuid, RevisionNumber, NodePath, PropContentLength, TextContentLength, ContentLength, NodeCopyfromRev, NodeCopyfromPath, TextCopySourceMd5, TextCopySourceSha1, NodeKind, NodeAction, TextContentMd5, TextContentSha1}
 use Rattle.dump_text.specs.Names.{name_text}
-use Rattle.dump_text.specs.KnownValues.{all_names, name_place, known_name}
+use Rattle.dump_text.specs.KnownValues.{all_names, name_place, known_name, names_of_length}
 use Rattle.dump_text.specs.Scanning.{is_known}
 
 -- what is found among some elements, by the first of them
@@ -28,6 +29,25 @@ found p (x ∷ xs) y is = cases (p x) refl (found p xs y)
     cases : (b : Bool) → p x ≡ b → (find p xs ≡ Some y → p y ≡ true) → p y ≡ true
     cases true here more = ap p (sym (some_once (sym (find_here p x xs here) ∙ is))) ∙ here
     cases false other more = more (sym (find_behind p x xs other) ∙ is)
+
+-- what is found among those elements that alone can be it is what is found among all
+find_filtered : {X : Type 0} (p q : X → Bool) → ((x : X) → p x ≡ true → q x ≡ true) → (xs : List X)
+    → find p (filter q xs) ≡ find p xs
+find_filtered p q fits [] = refl
+find_filtered p q fits (x ∷ xs) = cases (p x) refl (q x) refl (find_filtered p q fits xs)
+  where
+    cases : (a : Bool) → p x ≡ a → (b : Bool) → q x ≡ b → find p (filter q xs) ≡ find p xs
+        → find p (filter q (x ∷ xs)) ≡ find p (x ∷ xs)
+    cases true is true can more = rw (can, is) refl
+    cases true is false cannot more = let bad : true ≡ false = sym (fits x is) ∙ cannot in cc
+    cases false other true can more = rw (can, other) more
+    cases false other false cannot more = rw (cannot, other) more
+
+-- bytes are sought among the names of their length
+pub known_by_length : (bytes : List ℕ)
+    → find (λ name. bytes_eq bytes (name_text name)) (names_of_length (length bytes)) ≡ known_name bytes
+known_by_length bytes = find_filtered (λ name. bytes_eq bytes (name_text name)) (λ name. length (name_text name) == length bytes)
+    (λ name same. eq-eqb (length (name_text name)) (length bytes) (ap length (sym ((bytes_eq-Decides bytes (name_text name)).0 same)))) all_names
 
 -- a name's bytes are known as that name
 pub known_itself : (name : HeaderName) → known_name (name_text name) ≡ Some name

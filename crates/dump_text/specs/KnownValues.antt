@@ -1,5 +1,5 @@
 -- The known names as the program has them, and their values among some header lines.
-use Rattle.std.specs.Prelude.{◌≡◌, ℕ, Bool, not, ◌&&◌, List, [], ◌∷◌, Option, None, option_copied, slice_index_or, bytes_eq, find}
+use Rattle.std.specs.Prelude.{◌≡◌, ◌==◌, ℕ, Bool, not, ◌&&◌, List, [], ◌∷◌, length, filter, Option, None, option_copied, slice_index_or, bytes_eq, find}
 use Rattle.std.specs.Borrow.{Bor}
 use Rattle.std.specs.List.{position_or_len}
 use Rattle.dump_text.specs.declared.names.HeaderName.{HeaderName}
@@ -14,6 +14,10 @@ all_names =
     FormatVersion ∷ Uuid ∷ RevisionNumber ∷ NodePath ∷ PropContentLength ∷ TextContentLength ∷
     ContentLength ∷ NodeCopyfromRev ∷ NodeCopyfromPath ∷ TextCopySourceMd5 ∷ TextCopySourceSha1 ∷ NodeKind ∷
     NodeAction ∷ TextContentMd5 ∷ TextContentSha1 ∷ []
+
+-- the names of so many bytes
+abbrev pub names_of_length : ℕ → List HeaderName
+names_of_length n = filter (λ name. length (name_text name) == n) all_names
 
 -- the name that these bytes are
 abbrev pub known_name : List ℕ → Option HeaderName

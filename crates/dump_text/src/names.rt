@@ -1,7 +1,7 @@
 //! The names that have a meaning, each at most once in a block.
 ghost use Rattle.std.specs.Prelude.{◌≡◌, bytes_eq, find};
 ghost use Rattle.dump_text.specs.Names.{name_text};
-ghost use Rattle.dump_text.specs.KnownValues.{known_name};
+ghost use Rattle.dump_text.specs.KnownValues.{known_name, names_of_length};
 
 /// A header name that has a meaning, which stands at most once in a block (this project's own rule).
 #[derive(Clone, Copy, Debug, PartialEq, Eq)]
@@ -25,25 +25,6 @@ pub enum HeaderName {
 
 /// How many names have a meaning.
 pub(crate) const COUNT: usize = HeaderName::TextContentSha1 as usize + 1;
-
-/// Each of them.
-const ALL: [HeaderName; COUNT] = [
-    HeaderName::FormatVersion,
-    HeaderName::Uuid,
-    HeaderName::RevisionNumber,
-    HeaderName::NodePath,
-    HeaderName::PropContentLength,
-    HeaderName::TextContentLength,
-    HeaderName::ContentLength,
-    HeaderName::NodeCopyfromRev,
-    HeaderName::NodeCopyfromPath,
-    HeaderName::TextCopySourceMd5,
-    HeaderName::TextCopySourceSha1,
-    HeaderName::NodeKind,
-    HeaderName::NodeAction,
-    HeaderName::TextContentMd5,
-    HeaderName::TextContentSha1,
-];
 
 impl HeaderName {
     /// The name as a line has it.
@@ -69,11 +50,32 @@ impl HeaderName {
         }
     }
 
+    /// The names of so many bytes.
+    fn of_length(length: usize) -> &'static [HeaderName]
+        ensures { result.now ≡ names_of_length length }
+    {
+        match length {
+            4 => &[HeaderName::Uuid],
+            9 => &[HeaderName::NodePath, HeaderName::NodeKind],
+            11 => &[HeaderName::NodeAction],
+            14 => &[HeaderName::ContentLength],
+            15 => &[HeaderName::RevisionNumber],
+            16 => &[HeaderName::TextContentMd5],
+            17 => &[HeaderName::NodeCopyfromRev, HeaderName::TextContentSha1],
+            18 => &[HeaderName::NodeCopyfromPath],
+            19 => &[HeaderName::PropContentLength, HeaderName::TextContentLength],
+            20 => &[HeaderName::TextCopySourceMd5],
+            21 => &[HeaderName::TextCopySourceSha1],
+            26 => &[HeaderName::FormatVersion],
+            _ => &[],
+        }
+    }
+
     /// The name that these bytes are.
     pub(crate) fn of(bytes: &[u8]) -> Option<HeaderName>
         ensures { result ≡ known_name bytes.now }
     {
-        find_name(&ALL, bytes)
+        find_name(HeaderName::of_length(bytes.len()), bytes)
     }
 }
 
