@@ -20,6 +20,9 @@ use dump_text::{Entry, Props, push_block_end, push_property};
 use dump_writer::{Chunk, Memory};
 use std::alloc::Global;
 
+/// The property that has the date of a revision.
+const DATE: &[u8] = b"svn:date";
+
 /// The log of an empty revision.
 const PADDING_LOG: &[u8] = b"This is an empty revision for padding.";
 
@@ -55,7 +58,7 @@ fn date_of<'a>(props: &Option<Props<'a>>) -> Option<&'a [u8]>
         → option_copied result ≡ property_value (codes "svn:date") ps }
 {
     match props {
-        Some(props) => props.get(b"svn:date"),
+        Some(props) => props.get(DATE),
         None => None,
     }
 }
@@ -66,7 +69,7 @@ fn write_padding(alloc: Global, date: Option<&[u8]>) -> Result<Vec<u8>, Memory>
 {
     let mut out = Vec::new(alloc);
     if let Some(date) = date {
-        push_property(&mut out, b"svn:date", date)?;
+        push_property(&mut out, DATE, date)?;
     }
     push_property(&mut out, b"svn:log", PADDING_LOG)?;
     push_block_end(&mut out)?;
