@@ -5,11 +5,13 @@
 //! this record's. Records don't depend on one another here, so they may be checked in any order.
 //!
 //! ```
-//! let done = Done::of(record, &options);
-//! let verdict = done.verdict();
-//! let fine = verdict.props_ok && verdict.md5_ok && verdict.sha1_ok && verdict.merge_ok;
-//! done.item().place();   // the record's place in the dump
+//! let done = Done::of(record(DUMP, REVISION)?, &options);
+//! assert_eq!(rt; done.verdict(), BAD_PROPERTIES);
+//! assert_eq!(rt; (done.item().number(), done.item().place()), (2, 40));
 //! ```
+//!
+//! `tests::a_done_keeps_its_record_and_verdict` runs this; the revision's property list doesn't end
+//! as it should.
 //!
 //! Of a node that the options keep, the properties, the two digests of its text and its mergeinfo
 //! are checked; of a revision, kept or not, its properties; of other records nothing. What isn't to

@@ -6,12 +6,30 @@
 //! [`Report`]. A step that finds a fault, or wants memory, closes the filter.
 //!
 //! ```
-//! let mut filter = Filter::new(alloc, &options);
-//! while let Cut::Item(record) = cutter.next() {
-//!     let piece = filter.step(alloc, Done::of(record, &options))?;
-//!     write_piece(&mut sink, &piece)?;
+//! let Cut::Item(record) = cutter.next() else {
+//!     return Err(None);
+//! };
+//! assert_eq!(rt; filter.expected(), record.number());
+//! let done = Done::of(record, options);
+//! match filter.step(alloc, done) {
+//!     Ok(piece) => {
+//!         assert_eq!(rt; out.add(&piece), Ok(()));
+//!         Ok(())
+//!     }
+//!     Err(fault) => {
+//!         assert_eq!(rt; filter.expected(), record.number());
+//!         let again = filter.step(alloc, done).err();
+//!         assert_eq!(rt; again, Some(StepFault::Closed));
+//!         Err(Some(fault))
+//!     }
 //! }
+//! ```
+//!
+//! `tests::pass` runs this for each record of the worked dumps, and `tests::run` then asks for the rest:
+//!
+//! ```
 //! let (piece, report) = filter.finish(alloc)?;
+//! assert_eq!(rt; out.add(&piece), Ok(()));
 //! ```
 //!
 //! A piece lends bytes of the dump where they stay as they stand; only what is new is made.

@@ -7,16 +7,21 @@
 //! both come together again, `settle` shows that what was taken is a prefix of what was put, and
 //! all of it if the receiving end was told that the lane is closed.
 //!
-//! ```text
-//! let Ok((mut input, mut output)) = lane::<u32>(rt.alloc(), 8) else {
-//!     return Err(AllocError);
-//! };
-//! input.put(&rt, 7);      // Ok(()), or Err(7): then it was not put
-//! let sent = input.close(&rt);
-//! output.take(&rt);       // Taken::Item(7)
-//! output.take(&rt);       // Taken::Closed, now and from then on
-//! output.settle(sent);    // what was taken is what was put
 //! ```
+//! let Ok((mut input, mut output)) = lane::<u32>(rt.alloc(), 2) else {
+//!     return Err(AllocError.into());
+//! };
+//! assert_eq!(rt; input.put(&rt, 1), Ok(()));
+//! assert_eq!(rt; input.put(&rt, 2), Ok(()));
+//! let sent = input.close(&rt);
+//! assert_eq!(rt; output.take(&rt), Taken::Item(1));
+//! assert_eq!(rt; output.take(&rt), Taken::Item(2));
+//! assert_eq!(rt; output.take(&rt), Taken::Closed);
+//! assert_eq!(rt; output.take(&rt), Taken::Closed);
+//! output.settle(sent);
+//! ```
+//!
+//! `tests::two_items_and_the_end` runs this.
 //!
 //! # The pool
 //!
@@ -28,18 +33,39 @@
 //! come together again, `settle` shows that each job was taken as often as it was put, each done as
 //! often as it was given, and that no more credits were drawn than there were at first and came back.
 //!
-//! ```text
-//! let Drawn::Credit(credit) = ports.cutter.draw(&rt, &word, &mut seat) else { return };
-//! ports.cutter.put(&rt, 7);
-//! ports.cutter.close(&rt);
-//! worker.take(&rt);                   // Some(7)
-//! worker.give(&rt, 8);
-//! worker.take(&rt);                   // None, now and from then on
-//! worker.close(&rt);
-//! ports.sequencer.take(&rt);          // Some(8)
-//! ports.writer.back(&rt, credit);
-//! ports.sequencer.take(&rt);          // None, now and from then on
+//! ```
+//! let Drawn::Credit(credit) = cutter.draw(rt, word, &mut seat) else {
+//!     return None;
+//! };
+//! cutter.put(rt, 7);
+//! cutter.close(rt);
+//! let workers = answer_all(rt, alloc, workers)?;
+//! let first = sequencer.take(rt);
+//! writer.back(rt, credit);
+//! if sequencer.take(rt).is_some() {
+//!     return None;
+//! }
+//! let ports = Ports {
+//!     cutter,
+//!     workers,
+//!     sequencer,
+//!     writer,
+//! };
 //! ports.settle();
+//! Some(first == Some(8))
+//! ```
+//!
+//! `tests::pooling::one_item_through_a_pool` runs this, and each worker that it has does this:
+//!
+//! ```
+//! if port.take(rt) != Some(7) {
+//!     return None;
+//! }
+//! port.give(rt, 8);
+//! if port.take(rt).is_some() {
+//!     return None;
+//! }
+//! port.close(rt);
 //! ```
 //!
 //! # The stop word
@@ -48,15 +74,33 @@
 //! it up before, finds it up. A seat that holds the whole word saw it up only where it was raised, which
 //! comes out where seats are joined. None of its calls waits.
 //!
+//! ```
+//! let (mut one, mut other) = word.split(seat);
+//! assert!(rt; !word.look(&mut one));
+//! word.raise(&mut other);
+//! assert!(rt; word.look(&mut one));
+//! word.raise(&mut other);
+//! let mut both = word.join(one, other);
+//! assert!(rt; word.look(&mut both));
+//! ```
+//!
+//! `tests::stopping::one_seat_raises_and_the_other_sees` runs this.
+//!
 //! # Slots
 //!
 //! `Slots` is a row of places for items with rising numbers, each in the place of its number's remainder.
 //! An item whose place is taken comes back.
 //!
-//! ```text
-//! slots.place(3, item);   // Ok(()), or Err(item): then its place is taken
-//! slots.lift(3);          // Some(item); now the place is free
 //! ```
+//! assert_eq!(rt; slots.place(0, 10), Ok(()));
+//! assert_eq!(rt; slots.place(2, 12), Err(12));
+//! assert_eq!(rt; slots.place(1, 11), Ok(()));
+//! assert_eq!(rt; slots.lift(0), Some(10));
+//! assert_eq!(rt; slots.lift(0), None);
+//! assert_eq!(rt; slots.place(2, 12), Ok(()));
+//! ```
+//!
+//! `slots::tests::three_items_in_two_places` runs this, in a row of two places.
 //!
 //! # The laws of the pool
 //!

@@ -1,16 +1,24 @@
 //! A whole run of the filter: from a dump to a sink and an answer.
 //!
-//! [`run_plain`] cuts a dump into its records, filters them and writes what stays, on one thread. The
-//! [`Answer`] is the counts of a clean run, or the first fault with its record's number and place, or
-//! the failure that broke the run off and how many bytes the sink took.
+//! [`run_plain`] cuts a dump into its records, filters them and writes what stays, on one thread, and
+//! [`run`] does so over the threads of a [`Plan`]. The [`Answer`] is the counts of a clean run, or the
+//! first fault with its record's number and place, or the failure that broke the run off and how many
+//! bytes the sink took.
 //!
 //! ```
-//! match run_plain(alloc, &dump, &options, &mut sink) {
-//!     Answer::Clean(report) => report.nodes_kept,
-//!     Answer::Fault { number, .. } => number,
-//!     Answer::Failed { written, .. } => written,
-//! };
+//! let mut sink = MemorySink::new(alloc, 1000, Trouble::Never);
+//! let answer = run_plain(alloc, DUMP, &options, &mut sink);
+//! assert!(rt; DUMP.starts_with(sink.taken()));
+//! match answer {
+//!     Answer::Failed { written, .. } => {
+//!         assert_eq!(rt; sink.taken().len() as u64, written);
+//!     }
+//!     _ => assert_eq!(rt; answer, report(2, 1)),
+//! }
 //! ```
+//!
+//! `tests::want_of_memory_leaves_a_first_part` runs this, and
+//! `tests::running::want_of_memory_leaves_a_first_part_over_threads` the same by [`run`].
 #![tactic(auto)]
 
 mod answer;

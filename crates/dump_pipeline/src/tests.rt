@@ -9,6 +9,7 @@ mod plans;
 mod running;
 mod soaking;
 
+use self::running::{HALF, hundred, renumbering};
 use crate::{Answer, Failure, run_plain};
 use dump_filter::Report;
 use dump_rules::{Empty, Options, Side};
@@ -16,6 +17,7 @@ use dump_text::FaultKind;
 use dump_writer::{MemorySink, Trouble};
 use std::alloc::Global;
 use std::io::Write;
+use std::process::Abort;
 use std::test::Fail;
 
 // Revision 1 adds `trunk`, `trunk/a` and `trunk2`, in this order.
@@ -78,6 +80,20 @@ fn options(alloc: Global, side: Side, empty: Empty) -> Result<Options, Fail> {
     Ok(Options::new(alloc, side, prefixes.as_slice(), empty, false, true, false)?)
 }
 
+// Runs on one thread, and compares the answer and what the sink took.
+fn assert_plain(
+    rt: &impl Abort,
+    alloc: Global,
+    dump: &[u8],
+    options: &Options,
+    mut sink: MemorySink,
+    answer: Answer,
+    taken: &[u8],
+) {
+    assert_eq!(rt; run_plain(alloc, dump, options, &mut sink), answer);
+    assert_eq!(rt; sink.taken(), taken);
+}
+
 fn report(kept: u64, dropped: u64) -> Answer {
     Answer::Clean(Report {
         revisions_kept: 2,
@@ -93,9 +109,9 @@ fn nodes_under_the_prefix_are_kept(rt: HostRuntime) -> Result<(), Fail> {
     let alloc = rt.alloc();
     let options = options(alloc, Side::Include, Empty::Pad)?;
     for most in [1, 7, 1000] {
-        let mut sink = MemorySink::new(alloc, most, Trouble::Never);
-        assert_eq!(rt; run_plain(alloc, DUMP, &options, &mut sink), report(2, 1));
-        assert_eq!(rt; sink.taken(), &DUMP[..TRUNK2]);
+        let sink = MemorySink::new(alloc, most, Trouble::Never);
+        let (answer, taken) = (report(2, 1), &DUMP[..TRUNK2]);
+        assert_plain(&rt, alloc, DUMP, &options, sink, answer, taken);
     }
     Ok(())
 }
@@ -144,10 +160,9 @@ fn what_stands_before_a_fault_is_written(rt: HostRuntime) -> Result<(), Fail> {
             number: 5,
             place: TRUNK2,
         };
-        let mut sink = MemorySink::new(alloc, 1000, Trouble::Never);
-        let answer = run_plain(alloc, &DUMP[..DUMP.len() - missing], &options, &mut sink);
-        assert_eq!(rt; answer, fault);
-        assert_eq!(rt; sink.taken(), &DUMP[..TRUNK2]);
+        let sink = MemorySink::new(alloc, 1000, Trouble::Never);
+        let (cut, taken) = (&DUMP[..DUMP.len() - missing], &DUMP[..TRUNK2]);
+        assert_plain(&rt, alloc, cut, &options, sink, fault, taken);
     }
     Ok(())
 }
@@ -174,42 +189,24 @@ fn write_revision(dump: &mut Vec<u8>, number: u64) -> Result<(), Fail> {
     Ok(())
 }
 
-#[test]
-fn every_second_revision_is_dropped_and_the_rest_renumbered(rt: HostRuntime) -> Result<(), Fail> {
-    let alloc = rt.alloc();
-    let mut dump = Vec::from_slice(alloc, b"SVN-fs-dump-format-version: 2\n\n")?;
-    write_revision(&mut dump, 0)?;
-    for number in 1..100 {
-        write_group(&mut dump, number)?;
-    }
-    let prefixes = [b"trunk".as_slice()];
-    let options = Options::new(
-        alloc,
-        Side::Include,
-        prefixes.as_slice(),
-        Empty::DropEmptied,
-        true,
-        false,
-        false,
-    )?;
-    let mut sink = MemorySink::new(alloc, 1000, Trouble::Never);
-    let counts = Report {
-        revisions_kept: 50,
-        revisions_dropped: 50,
-        nodes_kept: 49,
-        nodes_dropped: 50,
-        texts_checked: 0,
-    };
-    assert_eq!(rt;
-        run_plain(alloc, &dump, &options, &mut sink),
-        Answer::Clean(counts)
-    );
-    assert_eq!(rt; sink.taken().len(), 11_359);
+// The last revision that is written, with its new number, and its node.
+fn last_group(alloc: Global) -> Result<Vec<u8>, Fail> {
     let last = "Revision-number: 49\nProp-content-length: 56\nContent-length: 56\n\n";
     let mut end = Vec::from_slice(alloc, last.as_bytes())?;
     end.extend_from_slice(DATE.as_bytes())?;
     end.extend_from_slice(b"Node-path: trunk/98\nNode-kind: dir\nNode-action: add\n")?;
     end.extend_from_slice(b"Prop-content-length: 10\nContent-length: 10\n\nPROPS-END\n\n\n")?;
+    Ok(end)
+}
+
+#[test]
+fn every_second_revision_is_dropped_and_the_rest_renumbered(rt: HostRuntime) -> Result<(), Fail> {
+    let alloc = rt.alloc();
+    let (dump, options) = (hundred(alloc)?, renumbering(alloc)?);
+    let end = last_group(alloc)?;
+    let mut sink = MemorySink::new(alloc, 1000, Trouble::Never);
+    assert_eq!(rt; run_plain(alloc, &dump, &options, &mut sink), HALF);
+    assert_eq!(rt; sink.taken().len(), 11_359);
     assert!(rt; sink.taken().ends_with(&end));
     Ok(())
 }

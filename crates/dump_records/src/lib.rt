@@ -8,12 +8,21 @@
 //!
 //! ```
 //! let mut cutter = Cutter::new(dump);
-//! loop {
-//!     match cutter.next() {
-//!         Cut::Item(record) => show(record.number(), record.kind(), record.path()),
-//!         Cut::Finished => break,
-//!         Cut::Fault { kind, place } => return Err(complain(kind, place)),
-//!     }
+//! for number in 0..count {
+//!     assert_eq!(rt; seen_in(cutter.next()), Seen::Item(number), "{dump:?}");
+//! }
+//! for _ in 0..2 {
+//!     assert_eq!(rt; seen_in(cutter.next()), end, "{dump:?}");
+//! }
+//! ```
+//!
+//! `tests::the_end_is_told_again` runs this over some dumps; its `seen_in` tells the three answers apart:
+//!
+//! ```
+//! match cut {
+//!     Cut::Item(record) => Seen::Item(record.number()),
+//!     Cut::Finished => Seen::Finished,
+//!     Cut::Fault { kind, place } => Seen::Fault(kind, place),
 //! }
 //! ```
 //!

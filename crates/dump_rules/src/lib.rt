@@ -8,24 +8,43 @@
 //! a path; a prefix of slashes alone, or of nothing, matches every path.
 //!
 //! ```
-//! let options = Options::new(alloc, Side::Exclude, &[b"trunk"], Empty::Pad, false, false, false)?;
-//! keeps(&options, b"trunk/a");   // false
-//! keeps(&options, b"trunk2");    // true
-//! options.prefix(0);             // Some(b"trunk"), as it was handed in
+//! let rows = [
+//!     (b"trunk", b"trunk/a", true),
+//!     (b"trunk", b"trunk2", false),
+//!     (b"//trunk/", b"/trunk/a", true),
+//!     (b"/", b"trunk2", true),
+//! ];
+//! for (prefix, path, matched) in rows {
+//!     let include = options(rt.alloc(), Side::Include, &[prefix])?;
+//!     assert_eq!(rt; keeps(&include, path), matched, "{prefix:?} {path:?}");
+//!     let exclude = options(rt.alloc(), Side::Exclude, &[prefix])?;
+//!     assert_eq!(rt; keeps(&exclude, path), !matched, "{prefix:?} {path:?}");
+//! }
 //! ```
+//!
+//! `tests::prefixes_match_whole_names` runs this with more rows.
 //!
 //! A [`Reach`] is the table of the revisions that were kept so far. Renumbering closes the gaps:
 //! kept revisions count up from the dump's first number, whether that revision was kept or not. A
 //! revision that wasn't kept stands for the last kept one before it, if there is one.
 //!
 //! ```
-//! let mut reach = Reach::new(alloc, 5);
+//! let mut reach = Reach::new(rt.alloc(), 5);
 //! reach.push(6)?;
 //! reach.push(9)?;
-//! reach.reach(5);    // None
-//! reach.reach(8);    // Some(5), the new number of 6
-//! reach.reach(9);    // Some(6)
+//! let rows = [
+//!     (5, None),
+//!     (6, Some(5)),
+//!     (8, Some(5)),
+//!     (9, Some(6)),
+//!     (100, Some(6)),
+//! ];
+//! for (revision, image) in rows {
+//!     assert_eq!(rt; reach.reach(revision), image, "{revision}");
+//! }
 //! ```
+//!
+//! `tests::images_are_of_the_last_kept_revision` runs this.
 //!
 //! [`merge_reads`] tells whether a value of `svn:mergeinfo` is lines of a path, a colon and ranges
 //! of revisions, as `/trunk:1-4,6*`. In no line a revision may stand both with `*` and without.
@@ -37,9 +56,20 @@
 //! each [`new_value`].
 //!
 //! ```
-//! rewrite(alloc, b"/trunk:4,1-3", &options, &reach, 4)?;    // /trunk:1-4
-//! rewrite(alloc, b"/trunk:3,1-2*", &options, &reach, 4)?;   // /trunk:1-2*,3
+//! let rows = [
+//!     (b"trunk", b"/trunk:4,1-3", b"/trunk:1-4"),
+//!     (b"trunk", b"/trunk:3,1-2*", b"/trunk:1-2*,3"),
+//!     (b"/", b"/a:1\n/b:\n/a:2*", b"/a:1\n/a:2*"),
+//! ];
+//! for (prefix, value, wanted) in rows {
+//!     let options = rules(rt.alloc(), prefix, false, false)?;
+//!     let new = rewritten(rt.alloc(), value, &options, &reach, 1)??;
+//!     assert_eq!(rt; new.as_slice(), wanted, "{value:?}");
+//! }
 //! ```
+//!
+//! `tests::lines_of_kept_paths_are_written_as_runs` runs this with more rows; its `rewritten` is
+//! [`rewrite`], of a value that [`merge_reads`] takes.
 //!
 //! `Options::new` takes memory, for its copies of the prefixes, `Reach::push`, where its table
 //! grows, and `rewrite`; they say so where there is none. Prefixes are bytes: no pattern, no letter

@@ -9,19 +9,35 @@
 //! all that may be wrong with a record of a dump, with the number and the name that users see.
 //!
 //! ```
-//! let dump = b"Revision-number: 7\nNote: a\n\n";
-//! let headers = Headers::read(dump, 0)?;
-//! headers.value(HeaderName::RevisionNumber);   // Some(b"7"), of which `number` is Some(7)
-//! headers.has(HeaderName::NodePath);           // false
-//! let block = headers.block();
-//! block.get(b"Note");                          // Some(b"a"): a name without a meaning, sought in the lines
-//! block.get(b"note");                          // None: names are compared byte for byte
-//! block.after();                               // 28, the byte behind the empty line
-//! Headers::read(dump, 28).err();               // Some(FaultKind::HeaderCut)
+//! let text = b"Node-path: a: b\nNote: c\nNode-kind: \nnode-action: add\n\nbehind: it\n\n";
+//! let headers = Headers::read(text, 0)?;
+//! assert_eq!(rt; headers.block().after(), 54);
+//! let rows = [
+//!     (HeaderName::NodePath, Some(b"a: b".as_slice())),
+//!     (HeaderName::NodeKind, Some(b"")),
+//!     (HeaderName::NodeAction, None),
+//!     (HeaderName::TextContentSha1, None),
+//! ];
+//! for (name, value) in rows {
+//!     assert_eq!(rt; headers.value(name), value, "{name:?}");
+//!     assert_eq!(rt; headers.has(name), value.is_some(), "{name:?}");
+//!     assert_eq!(rt; headers.block().get(name.bytes()), value, "{name:?}");
+//! }
+//! ```
 //!
-//! let props = Props::read(b"K 3\nkey\nV 05\na\nb\nc\nPROPS-END\n")?;
-//! props.get(b"key");               // Some(b"a\nb\nc"): a value may hold any bytes
-//! props.spelled();                 // false: written, the length 5 has no leading zero
+//! `tests::values_of_known_names_are_found` runs this, and of properties
+//! `tests::leading_zeros_of_lengths_are_read` this:
+//!
+//! ```
+//! let props = Props::read(b"K 01\na\nV 0\n\nPROPS-END\n").ok_or("zeros are refused")?;
+//! let mut entries = props.entries();
+//! let entry = entries.next().ok_or("the entry is missing")?;
+//! assert_eq!(rt;
+//!     (entry.name, entry.value),
+//!     (b"a".as_slice(), b"".as_slice())
+//! );
+//! assert!(rt; entries.next().is_none());
+//! assert!(rt; !props.spelled());
 //! ```
 //!
 //! A name that has a meaning in a dump stands once in a block; any other may stand more often, and

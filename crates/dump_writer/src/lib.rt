@@ -7,17 +7,21 @@
 //! of its first bytes the sink took.
 //!
 //! ```
-//! // `dump` is a `&[u8]`, and `made` is a `Vec<u8>`.
 //! let mut piece = Piece::new(alloc);
-//! piece.push(Chunk::Lent(dump))?;
-//! piece.push(Chunk::Own(made))?;
+//! piece.push(Chunk::Lent(b"ab"))?;
+//! piece.push(Chunk::Lent(b""))?;
+//! piece.push(Chunk::Own(Vec::from_slice(alloc, b"cde")?))?;
 //!
-//! let buffer = Vec::with_capacity(alloc, 65536)?;
 //! let mut sink = OutMut::new(writer, buffer);
-//! let answer = write_piece(&mut sink, &piece);
-//! let flushed = sink.flush();
+//! let answer = match write_piece(&mut sink, piece) {
+//!     Ok(()) => sink.flush(),
+//!     Err(_) => Err(SinkDown),
+//! };
+//! let written = sink.written();
 //! let _ = sink.into_inner();
 //! ```
+//!
+//! `tests::a_lent_writer_is_written_and_counted` runs this, by its `five` and `write_through`.
 //!
 //! A failure is never tried again here: who holds the sink may go on behind the bytes that were
 //! taken. An [`Out`] buffers nothing, so each chunk makes a call of its writer or more. An [`OutMut`]

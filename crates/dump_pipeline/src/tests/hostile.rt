@@ -3,7 +3,7 @@ ghost use Rattle.std.specs.Prelude.{◌≤◌, Some, []};
 ghost use Rattle.dump_writer.specs.SinkWords.{greatest};
 
 use super::gates::Holding;
-use super::running::{SHA1_IN_RECORD_2, VERSION, everything, plan, wrong_in_2_and_5};
+use super::running::{SHA1_IN_RECORD_2, VERSION, assert_run, everything, plan, wrong_in_2_and_5};
 use super::{DUMP, TRUNK2, options, report};
 use crate::{Answer, Failure, FreeGate, run, run_plain};
 use dump_filter::Report;
@@ -190,19 +190,10 @@ fn a_cut_header_behind_a_wrong_digest_is_not_told(rt: HostRuntime) -> Result<(),
     let alloc = rt.alloc();
     let mut dump = wrong_in_2_and_5(alloc)?;
     dump.extend_from_slice(b"junk")?;
+    let options = everything(alloc)?;
     let gate = Holding::new(2, 1 << 5, 0);
-    let mut sink = MemorySink::new(alloc, 1000, Trouble::Never);
-    let answer = run(
-        &rt,
-        alloc,
-        &dump,
-        &everything(alloc)?,
-        plan(4, 64)?,
-        &gate,
-        &mut sink,
-    );
-    assert_eq!(rt; answer, SHA1_IN_RECORD_2);
-    assert_eq!(rt; sink.taken(), VERSION);
+    let wanted = (SHA1_IN_RECORD_2, VERSION);
+    assert_run(&rt, alloc, &dump, &options, plan(4, 64)?, &gate, wanted);
     assert!(rt; !gate.is_late());
     Ok(())
 }

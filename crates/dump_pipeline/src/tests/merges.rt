@@ -1,7 +1,8 @@
 //! Worked values of mergeinfo: what they become, and which are faults.
 
-use crate::tests::write_revision;
-use crate::{Answer, run_plain};
+use crate::Answer;
+use crate::tests::running::{VERSION, renumbering};
+use crate::tests::{assert_plain, write_revision};
 use dump_filter::Report;
 use dump_rules::{Empty, Options, Side};
 use dump_text::FaultKind;
@@ -49,7 +50,7 @@ fn write_directory(dump: &mut Vec<u8>, path: &str) -> Result<(), Fail> {
 
 // The revisions from the first one on, `trunk` in the second, and behind the last one nothing yet.
 fn front(alloc: Global, numbers: &[u64]) -> Result<Vec<u8>, Fail> {
-    let mut dump = Vec::from_slice(alloc, b"SVN-fs-dump-format-version: 2\n\n")?;
+    let mut dump = Vec::from_slice(alloc, VERSION)?;
     for (place, number) in numbers.iter().enumerate() {
         write_revision(&mut dump, *number)?;
         if place + 2 == numbers.len() {
@@ -92,6 +93,17 @@ fn answer_of(numbers: &[u64], place: usize, merged: &Merged<'_>) -> Answer {
     }
 }
 
+// What is written of it.
+fn written_of(alloc: Global, numbers: &[u64], merged: &Merged<'_>) -> Result<Vec<u8>, Fail> {
+    let mut written = front(alloc, numbers)?;
+    match merged.new {
+        Ok(values) => write_merges(&mut written, alloc, values)?,
+        // the node's revision, of 120 bytes, waited for it
+        Err(_) => written.truncate(written.len().saturating_sub(120)),
+    }
+    Ok(written)
+}
+
 // Runs a dump of these revisions, whose last one has the node.
 fn assert_merged(
     rt: &impl Abort,
@@ -102,17 +114,10 @@ fn assert_merged(
     let mut dump = front(alloc, numbers)?;
     let place = dump.len();
     write_merges(&mut dump, alloc, merged.values)?;
-    let options = options(alloc, merged)?;
-    let mut sink = MemorySink::new(alloc, 1000, Trouble::Never);
-    let answer = run_plain(alloc, &dump, &options, &mut sink);
-    assert_eq!(rt; answer, answer_of(numbers, place, merged));
-    let mut written = front(alloc, numbers)?;
-    match merged.new {
-        Ok(values) => write_merges(&mut written, alloc, values)?,
-        // the node's revision, of 120 bytes, waited for it
-        Err(_) => written.truncate(place.saturating_sub(120)),
-    }
-    assert_eq!(rt; sink.taken(), written.as_slice());
+    let (options, written) = (options(alloc, merged)?, written_of(alloc, numbers, merged)?);
+    let sink = MemorySink::new(alloc, 1000, Trouble::Never);
+    let answer = answer_of(numbers, place, merged);
+    assert_plain(rt, alloc, &dump, &options, sink, answer, &written);
     Ok(())
 }
 
@@ -228,35 +233,40 @@ fn write_gaps(dump: &mut Vec<u8>) -> Result<(), Fail> {
     Ok(())
 }
 
+// These revisions, and behind them the node with this value.
+fn dump_with_gaps(alloc: Global, value: &str) -> Result<Vec<u8>, Fail> {
+    let mut dump = Vec::from_slice(alloc, VERSION)?;
+    write_gaps(&mut dump)?;
+    write_merges(&mut dump, alloc, &[value])?;
+    Ok(dump)
+}
+
+// The six that are kept, with new numbers, and the node with this value.
+fn dump_without_gaps(alloc: Global, value: &str) -> Result<Vec<u8>, Fail> {
+    let mut dump = Vec::from_slice(alloc, VERSION)?;
+    for number in 0..6 {
+        write_revision(&mut dump, number)?;
+    }
+    write_merges(&mut dump, alloc, &[value])?;
+    Ok(dump)
+}
+
 #[test]
 fn dropped_revisions_go_from_mergeinfo(rt: HostRuntime) -> Result<(), Fail> {
     let alloc = rt.alloc();
-    let prefixes = [b"trunk".as_slice()];
-    let side = Side::Include;
-    let empty = Empty::DropEmptied;
-    let options = Options::new(alloc, side, prefixes.as_slice(), empty, true, false, false)?;
+    let options = renumbering(alloc)?;
+    let counts = Answer::Clean(Report {
+        revisions_kept: 6,
+        revisions_dropped: 3,
+        nodes_kept: 1,
+        nodes_dropped: 3,
+        texts_checked: 0,
+    });
     for (old, new) in [("/trunk:1-4,6*", "/trunk:1-2"), ("/trunk:2-3", "")] {
-        let mut dump = Vec::from_slice(alloc, b"SVN-fs-dump-format-version: 2\n\n")?;
-        let mut written = Vec::from_slice(alloc, &dump)?;
-        write_gaps(&mut dump)?;
-        write_merges(&mut dump, alloc, &[old])?;
-        for number in 0..6 {
-            write_revision(&mut written, number)?;
-        }
-        write_merges(&mut written, alloc, &[new])?;
-        let mut sink = MemorySink::new(alloc, 1000, Trouble::Never);
-        let counts = Report {
-            revisions_kept: 6,
-            revisions_dropped: 3,
-            nodes_kept: 1,
-            nodes_dropped: 3,
-            texts_checked: 0,
-        };
-        assert_eq!(rt;
-            run_plain(alloc, &dump, &options, &mut sink),
-            Answer::Clean(counts)
-        );
-        assert_eq!(rt; sink.taken(), written.as_slice());
+        let dump = dump_with_gaps(alloc, old)?;
+        let written = dump_without_gaps(alloc, new)?;
+        let sink = MemorySink::new(alloc, 1000, Trouble::Never);
+        assert_plain(&rt, alloc, &dump, &options, sink, counts, &written);
     }
     Ok(())
 }

@@ -2,15 +2,18 @@
 
 use super::gates::{Counting, Holding, Telling, Watching};
 use super::{DUMP, TRUNK2, options, report, write_group, write_revision};
-use crate::{Answer, Failure, FreeGate, Plan, run};
+use crate::{Answer, Failure, FreeGate, Gate, Plan, run};
 use dump_filter::Report;
 use dump_rules::{Empty, Options, Side};
 use dump_text::FaultKind;
 use dump_writer::{MemorySink, Trouble};
 use std::alloc::{AllocError, Global};
 use std::io::Write;
+use std::process::Abort;
+use std::sync::Wait;
 use std::sync::atomic::{AtomicU64, Ordering};
 use std::test::*;
+use std::thread::Threads;
 
 pub const VERSION: &[u8] = b"SVN-fs-dump-format-version: 2\n\n";
 
@@ -34,23 +37,30 @@ pub fn everything(alloc: Global) -> Result<Options, Fail> {
     )?)
 }
 
+/// Runs over threads into a sink that takes all, and compares the answer and what it took.
+pub fn assert_run<R: Threads + Wait + Sync + Abort, G: Gate>(
+    rt: &R,
+    alloc: Global,
+    dump: &[u8],
+    options: &Options,
+    plan: Plan,
+    gate: &G,
+    wanted: (Answer, &[u8]),
+) {
+    let mut sink = MemorySink::new(alloc, 1000, Trouble::Never);
+    let answer = run(rt, alloc, dump, options, plan, gate, &mut sink);
+    assert_eq!(rt; answer, wanted.0);
+    assert_eq!(rt; sink.taken(), wanted.1);
+}
+
 #[test]
 fn each_plan_gives_the_same(rt: HostRuntime) -> Result<(), Fail> {
     let alloc = rt.alloc();
     let options = options(alloc, Side::Include, Empty::Pad)?;
+    let wanted = (report(2, 1), &DUMP[..TRUNK2]);
     for (workers, window) in [(1, 1), (2, 4), (4, 64), (64, 4096)] {
-        let mut sink = MemorySink::new(alloc, 1000, Trouble::Never);
-        let answer = run(
-            &rt,
-            alloc,
-            DUMP,
-            &options,
-            plan(workers, window)?,
-            &FreeGate,
-            &mut sink,
-        );
-        assert_eq!(rt; answer, report(2, 1));
-        assert_eq!(rt; sink.taken(), &DUMP[..TRUNK2]);
+        let plan = plan(workers, window)?;
+        assert_run(&rt, alloc, DUMP, &options, plan, &FreeGate, wanted);
     }
     Ok(())
 }
@@ -61,9 +71,8 @@ fn records_are_checked_at_the_same_time(rt: HostRuntime) -> Result<(), Fail> {
     let alloc = rt.alloc();
     let options = options(alloc, Side::Include, Empty::Pad)?;
     let gate = Holding::new(0, 0b10, 0);
-    let mut sink = MemorySink::new(alloc, 1000, Trouble::Never);
-    let answer = run(&rt, alloc, DUMP, &options, plan(2, 64)?, &gate, &mut sink);
-    assert_eq!(rt; answer, report(2, 1));
+    let wanted = (report(2, 1), &DUMP[..TRUNK2]);
+    assert_run(&rt, alloc, DUMP, &options, plan(2, 64)?, &gate, wanted);
     assert!(rt; !gate.is_late());
     assert_eq!(rt; gate.passed(), 0b111111);
     Ok(())
@@ -137,19 +146,23 @@ fn the_first_fault_is_answered_and_not_the_one_found_first(rt: HostRuntime) -> R
     let dump = wrong_in_2_and_5(alloc)?;
     let options = everything(alloc)?;
     let gate = Holding::new(2, 1 << 5, 0);
-    let mut sink = MemorySink::new(alloc, 1000, Trouble::Never);
-    let answer = run(&rt, alloc, &dump, &options, plan(4, 64)?, &gate, &mut sink);
-    assert_eq!(rt; answer, SHA1_IN_RECORD_2);
-    assert_eq!(rt; sink.taken(), VERSION);
+    let wanted = (SHA1_IN_RECORD_2, VERSION);
+    assert_run(&rt, alloc, &dump, &options, plan(4, 64)?, &gate, wanted);
     assert!(rt; !gate.is_late());
     Ok(())
+}
+
+// The dump, and behind it a header that is cut.
+fn with_junk(alloc: Global) -> Result<Vec<u8>, Fail> {
+    let mut dump = Vec::from_slice(alloc, DUMP)?;
+    dump.extend_from_slice(b"junk")?;
+    Ok(dump)
 }
 
 #[test]
 fn a_broken_sink_gets_a_first_part(rt: HostRuntime) -> Result<(), Fail> {
     let alloc = rt.alloc();
-    let mut dump = Vec::from_slice(alloc, DUMP)?;
-    dump.extend_from_slice(b"junk")?;
+    let dump = with_junk(alloc)?;
     let options = options(alloc, Side::Include, Empty::Pad)?;
     let mut sink = MemorySink::new(alloc, 1000, Trouble::Once(100));
     let answer = run(
@@ -167,23 +180,21 @@ fn a_broken_sink_gets_a_first_part(rt: HostRuntime) -> Result<(), Fail> {
     };
     assert_eq!(rt; answer, failed);
     assert_eq!(rt; sink.taken(), &DUMP[..100]);
-    let mut sink = MemorySink::new(alloc, 1000, Trouble::Never);
-    let answer = run(
-        &rt,
-        alloc,
-        &dump,
-        &options,
-        plan(4, 64)?,
-        &FreeGate,
-        &mut sink,
-    );
+    Ok(())
+}
+
+#[test]
+fn what_stands_before_a_cut_header_is_written(rt: HostRuntime) -> Result<(), Fail> {
+    let alloc = rt.alloc();
+    let dump = with_junk(alloc)?;
+    let options = options(alloc, Side::Include, Empty::Pad)?;
     let fault = Answer::Fault {
         kind: FaultKind::HeaderCut,
         number: 6,
         place: 589,
     };
-    assert_eq!(rt; answer, fault);
-    assert_eq!(rt; sink.taken(), &DUMP[..TRUNK2]);
+    let wanted = (fault, &DUMP[..TRUNK2]);
+    assert_run(&rt, alloc, &dump, &options, plan(4, 64)?, &FreeGate, wanted);
     Ok(())
 }
 
@@ -210,7 +221,8 @@ pub fn renumbering(alloc: Global) -> Result<Options, Fail> {
     )?)
 }
 
-const HALF: Answer = Answer::Clean(Report {
+/// What comes of it.
+pub const HALF: Answer = Answer::Clean(Report {
     revisions_kept: 50,
     revisions_dropped: 50,
     nodes_kept: 49,
@@ -218,24 +230,26 @@ const HALF: Answer = Answer::Clean(Report {
     texts_checked: 0,
 });
 
+// Runs over it, through a gate.
+fn assert_half<R: Threads + Wait + Sync + Abort, G: Gate>(
+    rt: &R,
+    alloc: Global,
+    plan: Plan,
+    gate: &G,
+) -> Result<(), Fail> {
+    let (dump, options) = (hundred(alloc)?, renumbering(alloc)?);
+    let mut sink = MemorySink::new(alloc, 1000, Trouble::Never);
+    let answer = run(rt, alloc, &dump, &options, plan, gate, &mut sink);
+    assert_eq!(rt; answer, HALF);
+    assert_eq!(rt; sink.taken().len(), 11_359);
+    Ok(())
+}
+
 #[test]
 fn each_record_passes_the_gate_once(rt: HostRuntime) -> Result<(), Fail> {
-    let alloc = rt.alloc();
-    let (dump, options) = (hundred(alloc)?, renumbering(alloc)?);
     for (workers, window) in [(1, 1), (4, 64), (64, 4096)] {
         let gate = Counting::new();
-        let mut sink = MemorySink::new(alloc, 1000, Trouble::Never);
-        let answer = run(
-            &rt,
-            alloc,
-            &dump,
-            &options,
-            plan(workers, window)?,
-            &gate,
-            &mut sink,
-        );
-        assert_eq!(rt; answer, HALF);
-        assert_eq!(rt; sink.taken().len(), 11_359);
+        assert_half(&rt, rt.alloc(), plan(workers, window)?, &gate)?;
         assert_eq!(rt; gate.words(), [u64::MAX, u64::MAX, u64::MAX, 0xff]);
         assert_eq!(rt; gate.others(), 0);
     }
@@ -245,12 +259,8 @@ fn each_record_passes_the_gate_once(rt: HostRuntime) -> Result<(), Fail> {
 // A worker that holds record 0 holds no other record.
 #[test]
 fn any_worker_takes_any_record(rt: HostRuntime) -> Result<(), Fail> {
-    let alloc = rt.alloc();
-    let (dump, options) = (hundred(alloc)?, renumbering(alloc)?);
     let gate = Holding::new(0, 0b11_1111_1110, 0);
-    let mut sink = MemorySink::new(alloc, 1000, Trouble::Never);
-    let answer = run(&rt, alloc, &dump, &options, plan(4, 64)?, &gate, &mut sink);
-    assert_eq!(rt; answer, HALF);
+    assert_half(&rt, rt.alloc(), plan(4, 64)?, &gate)?;
     assert!(rt; !gate.is_late());
     Ok(())
 }
@@ -258,12 +268,8 @@ fn any_worker_takes_any_record(rt: HostRuntime) -> Result<(), Fail> {
 // While record 0 is held, only the window's records are under way.
 #[test]
 fn no_more_are_under_way_than_the_window_has(rt: HostRuntime) -> Result<(), Fail> {
-    let alloc = rt.alloc();
-    let (dump, options) = (hundred(alloc)?, renumbering(alloc)?);
     let gate = Holding::new(0, 0b1110, 100_000);
-    let mut sink = MemorySink::new(alloc, 1000, Trouble::Never);
-    let answer = run(&rt, alloc, &dump, &options, plan(2, 4)?, &gate, &mut sink);
-    assert_eq!(rt; answer, HALF);
+    assert_half(&rt, rt.alloc(), plan(2, 4)?, &gate)?;
     assert!(rt; !gate.is_late());
     assert_eq!(rt; gate.before(), 0b1110);
     Ok(())
@@ -285,10 +291,8 @@ fn a_fault_stops_the_cutting(rt: HostRuntime) -> Result<(), Fail> {
     let alloc = rt.alloc();
     let (dump, options) = (early_fault(alloc)?, everything(alloc)?);
     let gate = Holding::new(u64::MAX, 0, 0);
-    let mut sink = MemorySink::new(alloc, 1000, Trouble::Never);
-    let answer = run(&rt, alloc, &dump, &options, plan(1, 1)?, &gate, &mut sink);
-    assert_eq!(rt; answer, SHA1_IN_RECORD_2);
-    assert_eq!(rt; sink.taken(), VERSION);
+    let wanted = (SHA1_IN_RECORD_2, VERSION);
+    assert_run(&rt, alloc, &dump, &options, plan(1, 1)?, &gate, wanted);
     assert_eq!(rt; gate.passed(), 0b111);
     Ok(())
 }
