@@ -1,4 +1,4 @@
 pub mod CommandLine
 pub mod Drive
-pub mod Lines
 pub mod Words
+pub mod steps

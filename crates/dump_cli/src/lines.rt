@@ -2,7 +2,7 @@
 //! say so.
 ghost use Rattle.std.specs.Prelude.{OnOk};
 ghost use Rattle.std.specs.Io.KnownBytes.{Appends};
-ghost use Rattle.dump_cli.specs.Lines.{report_line};
+ghost use Rattle.dump_cli.specs.steps.Lines.{report_line};
 
 use dump_filter::Report;
 use dump_pipeline::Failure;

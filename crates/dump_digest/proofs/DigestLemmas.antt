@@ -3,11 +3,11 @@ use Rattle.std.proofs.Common.{◌≡◌, ◌↔◌, ℕ, Bool, true, false, ◌|
 use Rattle.dump_text.specs.Names.{text_length_name, md5_name, sha1_name}
 use Rattle.dump_text.specs.HeaderLine.{has_header, header_value}
 use Rattle.dump_records.specs.RecordText.{DumpRecord}
-use Rattle.dump_records.specs.RecordViews.{part_with}
+use Rattle.dump_records.specs.steps.RecordViews.{part_with}
 use Rattle.dump_text.proofs.BlockLemmas.{has_value}
 use Rattle.dump_text.proofs.ValueLemmas.{some_copied}
 use Rattle.dump_digest.specs.RecordParts.{has_text}
-use Rattle.dump_digest.specs.Checks.{TellsOther, HasOtherDigest, is_told_text}
+use Rattle.dump_digest.specs.steps.Checks.{TellsOther, HasOtherDigest, is_told_text}
 
 pub clash : {b : Bool} → b ≡ true → b ≡ false → ⊥
 clash e f = let bad : true ≡ false = sym e ∙ f in cc

@@ -8,11 +8,11 @@ use Rattle.dump_text.proofs.PropertyLemmas.{property_block_once}
 use Rattle.dump_records.specs.RecordText.{DumpRecord}
 use Rattle.dump_rules.specs.Settings.{Settings}
 use Rattle.dump_rules.specs.Mergeinfo.{HasMergeLines}
-use Rattle.dump_rules.specs.ReadMergeinfo.{value_reads}
+use Rattle.dump_rules.specs.steps.ReadMergeinfo.{value_reads}
 use Rattle.dump_rules.proofs.MergeinfoLemmas.{reads_exactly}
 use Rattle.dump_digest.specs.RecordParts.{is_kept_node, is_mergeinfo}
 use Rattle.dump_digest.specs.ContentFaults.{HasBadMergeinfo}
-use Rattle.dump_digest.specs.Checks.{property_reads, properties_read}
+use Rattle.dump_digest.specs.steps.Checks.{property_reads, properties_read}
 use Rattle.dump_digest.proofs.DigestLemmas.{clash}
 
 -- one property

@@ -4,25 +4,25 @@ use Rattle.std.specs.List.{list_any}
 use Rattle.std.specs.Option.{ForSome}
 use Rattle.dump_text.specs.declared.props.Props.{Props}
 use Rattle.dump_text.specs.PropertyList.{Property, IsPropertyBlock, HasProperties}
-use Rattle.dump_text.specs.PropertyViews.{props_bytes}
+use Rattle.dump_text.specs.steps.PropertyViews.{props_bytes}
 use Rattle.dump_text.proofs.BoolLemmas.{absurd_bool, both_true, either_second}
 use Rattle.dump_records.specs.RecordText.{DumpRecord}
 use Rattle.dump_rules.specs.declared.merged.Merged.{Merged}
 use Rattle.dump_rules.specs.Settings.{Settings}
 use Rattle.dump_rules.specs.Mergeinfo.{HasMergeLines}
-use Rattle.dump_rules.specs.Merged.{is_outside, nothing_merged}
-use Rattle.dump_rules.specs.NewLines.{value_misses, value_foreign}
-use Rattle.dump_rules.specs.ReadMergeinfo.{value_reads}
+use Rattle.dump_rules.specs.steps.Merged.{is_outside, nothing_merged}
+use Rattle.dump_rules.specs.steps.NewLines.{value_misses, value_foreign}
+use Rattle.dump_rules.specs.steps.ReadMergeinfo.{value_reads}
 use Rattle.dump_rules.proofs.MergedMeaning.{or_false, or_or}
 use Rattle.dump_digest.specs.declared.content.Content.{Content}
 use Rattle.dump_digest.specs.declared.verdict.Verdict.{Verdict}
-use Rattle.dump_digest.specs.VerdictMeaning.{IsVerdict}
+use Rattle.dump_digest.specs.steps.VerdictMeaning.{IsVerdict}
 use Rattle.dump_digest.specs.declared.mergeinfo.Mergeinfo.{Mergeinfo}
 use Rattle.dump_digest.specs.RecordParts.{is_revision, is_kept_node, is_mergeinfo}
-use Rattle.dump_digest.specs.Checks.{properties_read}
+use Rattle.dump_digest.specs.steps.Checks.{properties_read}
 use Rattle.dump_digest.specs.ContentFaults.{HasBadMergeinfo}
-use Rattle.dump_digest.specs.MergeFaults.{misses, is_foreign}
-use Rattle.dump_digest.specs.ContentViews.{IsSaidBy, IsContent, ArePropertiesOf, is_asked}
+use Rattle.dump_digest.specs.steps.MergeFaults.{misses, is_foreign}
+use Rattle.dump_digest.specs.steps.ContentViews.{IsSaidBy, IsContent, ArePropertiesOf, is_asked}
 use Rattle.dump_digest.proofs.MergeLemmas.{read_is, merge_means, merge_unread}
 
 -- what is said of the properties that were read, where the others are left

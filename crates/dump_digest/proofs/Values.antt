@@ -1,12 +1,16 @@
 -- Worked values of the definitions, computed by the kernel.
-use Rattle.std.proofs.Common.{◌≡◌, ℕ, refl, true, false, List, [], ◌∷◌, Ok, is_ok, codes}
+use Rattle.std.proofs.Common.{◌≡◌, ℕ, refl, ap, sym, ◌∙◌, true, false, inr, List, [], ◌∷◌, Some, Ok, is_ok, codes, unwrap_or, lit<}
+use Rattle.dump_text.specs.Names.{md5_name, sha1_name}
+use Rattle.dump_text.specs.PropertyList.{Property}
+use Rattle.dump_text.proofs.Values.{no_properties}
 use Rattle.dump_text.specs.HeaderLine.{Header}
 use Rattle.hex.specs.Hex.{decode_sized, decode_pairs}
 use Rattle.dump_rules.specs.declared.options.Side.TheVariants.{Include}
 use Rattle.dump_rules.specs.declared.options.Empty.TheVariants.{Pad}
 use Rattle.dump_rules.specs.Settings.{Settings}
 use Rattle.dump_records.specs.RecordText.{DumpRecord}
-use Rattle.dump_digest.specs.RecordParts.{is_checked_text}
+use Rattle.dump_digest.specs.RecordParts.{is_revision, is_node, node_path, is_kept_node, is_copy, has_lost_source, has_text, is_checked_text, is_mergeinfo}
+use Rattle.dump_digest.specs.ContentFaults.{HasBadProperties, DiffersFromDigest, HasBadMd5, HasBadSha1, IsMergeinfoValueOf, HasBadMergeinfo}
 
 -- a digest header has digits of either case, as many as the digest needs
 abbrev abc_md5 : List ℕ
@@ -52,7 +56,8 @@ abbrev file : List ℕ → List ℕ → DumpRecord
 file path length_header = record {
   place = 0;
   headers =
-      header (codes "Node-path") path ∷ header length_header (codes "3") ∷ header (codes "Text-content-md5") (codes "900150983cd24fb0d6963f7d28e17f72")
+      header (codes "Node-path") path ∷ header length_header (codes "3")
+      ∷ header (codes "Text-content-md5") (codes "900150983cd24fb0d6963f7d28e17f72")
       ∷ [];
   props = [];
   text = codes "abc";
@@ -66,3 +71,133 @@ no_text_length = refl
 
 not_kept : is_checked_text including_trunk (file (codes "other/f") (codes "Text-content-length")) ≡ false
 not_kept = refl
+
+-- what is read of a record
+
+abbrev counted_file : DumpRecord
+counted_file = file (codes "trunk/f") (codes "Text-content-length")
+
+abbrev copy : List ℕ → DumpRecord
+copy source = record {
+  place = 0;
+  headers = header (codes "Node-path") (codes "trunk/f") ∷ header (codes "Node-copyfrom-path") source ∷ [];
+  props = [];
+  text = [];
+}
+
+no_revision : is_revision counted_file ≡ false
+no_revision = refl
+
+a_node : is_node counted_file ≡ true
+a_node = refl
+
+its_path : node_path counted_file ≡ codes "trunk/f"
+its_path = refl
+
+kept : is_kept_node including_trunk counted_file ≡ true
+kept = refl
+
+a_text : has_text counted_file ≡ true
+a_text = refl
+
+a_copy : is_copy (copy (codes "trunk/e")) ≡ true
+a_copy = refl
+
+no_copy : is_copy counted_file ≡ false
+no_copy = refl
+
+kept_source : has_lost_source including_trunk (copy (codes "trunk/e")) ≡ false
+kept_source = refl
+
+lost_source : has_lost_source including_trunk (copy (codes "other/e")) ≡ true
+lost_source = refl
+
+abbrev merged : Property
+merged = record { name = codes "svn:mergeinfo"; value = codes "x" }
+
+tells_merges : is_mergeinfo merged ≡ true
+tells_merges = refl
+
+tells_no_merges : is_mergeinfo (record { name = codes "svn:mergeInfo"; value = codes "x" }) ≡ false
+tells_no_merges = refl
+
+-- the faults of a content
+
+no : ¬ (false ≡ true)
+no e = cc
+
+abbrev unended : List ℕ → DumpRecord
+unended path = record {
+  place = 0;
+  headers = header (codes "Node-path") path ∷ [];
+  props = codes "PROPS-END";
+  text = [];
+}
+
+bad_properties : HasBadProperties including_trunk (unended (codes "trunk/f"))
+bad_properties = (refl, no_properties)
+
+-- those of a node that isn't kept are not looked at
+passed_properties : ¬ HasBadProperties including_trunk (unended (codes "other/f"))
+passed_properties (e, _) = no e
+
+abbrev digested : List ℕ → List ℕ → DumpRecord
+digested name digits = record {
+  place = 0;
+  headers =
+      header (codes "Node-path") (codes "trunk/f") ∷ header (codes "Text-content-length") (codes "3")
+      ∷ header name digits ∷ [];
+  props = [];
+  text = codes "abc";
+}
+
+-- digits that are no digest differ from each digest
+any_differs : (name given digest : List ℕ) (size : ℕ) → is_ok (decode_sized given size) ≡ false
+    → (digits : List ℕ) → Some given ≡ Some digits → ¬ (decode_sized digits size ≡ Ok digest)
+any_differs name given digest size bad digits e is =
+    no (sym bad ∙ ap (λ o. is_ok (decode_sized (unwrap_or o []) size)) e ∙ ap is_ok is)
+
+short_differs : DiffersFromDigest md5_name (digested md5_name (codes "900150983cd24fb0d6963f7d28e17f7")) 16 abc_md5
+short_differs = (refl, any_differs md5_name (codes "900150983cd24fb0d6963f7d28e17f7") abc_md5 16 digits_31)
+
+upper_case_is_the_digest :
+    ¬ DiffersFromDigest md5_name (digested md5_name (codes "900150983CD24FB0D6963F7D28E17F72")) 16 abc_md5
+upper_case_is_the_digest (_, differs) = differs (codes "900150983CD24FB0D6963F7D28E17F72") refl upper_case
+
+bad_md5 : HasBadMd5 including_trunk (digested md5_name (codes "900150983cd24fb0d6963f7d28e17f7"))
+bad_md5 = (refl, refl, (refl, any_differs md5_name (codes "900150983cd24fb0d6963f7d28e17f7") _ 16 digits_31))
+
+no_sha1_digits : is_ok (decode_sized (codes "a9") 20) ≡ false
+unfolding decode_pairs
+no_sha1_digits = refl
+
+bad_sha1 : HasBadSha1 including_trunk (digested sha1_name (codes "a9"))
+bad_sha1 = (refl, refl, (refl, any_differs sha1_name (codes "a9") _ 20 no_sha1_digits))
+
+no_sha1 : ¬ HasBadSha1 including_trunk (digested md5_name (codes "a9"))
+no_sha1 (_, _, (e, _)) = no e
+
+abbrev merging : List ℕ → DumpRecord
+merging path = record {
+  place = 0;
+  headers = header (codes "Node-path") path ∷ [];
+  props = codes "K 13\nsvn:mergeinfo\nV 1\nx\nPROPS-END\n";
+  text = [];
+}
+
+abbrev merged_entry : List ℕ
+merged_entry = codes "K 13\nsvn:mergeinfo\nV 1\nx\n"
+
+its_value : IsMergeinfoValueOf including_trunk (merging (codes "trunk/f")) (codes "x")
+its_value = (
+  refl,
+  merged ∷ [],
+  inr (merged_entry, codes "PROPS-END\n", refl, (codes "13", codes "1", refl, refl, refl), refl),
+  merged,
+  (0, lit< tt, refl),
+  refl,
+  refl,
+)
+
+passed_value : ¬ HasBadMergeinfo including_trunk (merging (codes "other/f"))
+passed_value (_, (e, _, _, _, _, _, _), _) = no e

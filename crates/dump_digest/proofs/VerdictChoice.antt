@@ -12,8 +12,8 @@ use Rattle.dump_records.specs.RecordText.{DumpRecord}
 use Rattle.dump_rules.specs.Settings.{Settings}
 use Rattle.dump_digest.specs.RecordParts.{is_revision, is_kept_node, has_text, is_checked_text}
 use Rattle.dump_digest.specs.ContentFaults.{HasBadProperties, DiffersFromDigest, HasBadMd5, HasBadSha1, HasBadMergeinfo}
-use Rattle.dump_digest.specs.Checks.{properties_read}
-use Rattle.dump_digest.specs.VerdictMeaning.{IsVerdict}
+use Rattle.dump_digest.specs.steps.Checks.{properties_read}
+use Rattle.dump_digest.specs.steps.VerdictMeaning.{IsVerdict}
 use Rattle.dump_digest.specs.declared.verdict.Verdict.{Verdict}
 use Rattle.dump_digest.proofs.MergeLemmas.{bad_of, merge_means}
 use Rattle.md5.specs.Md5.{md5}

@@ -8,8 +8,8 @@ use Rattle.dump_rules.specs.Settings.{Settings}
 use Rattle.dump_digest.specs.declared.verdict.Verdict.{Verdict}
 use Rattle.dump_digest.specs.RecordParts.{is_revision, is_kept_node}
 use Rattle.dump_digest.specs.ContentFaults.{HasBadMergeinfo}
-use Rattle.dump_digest.specs.Checks.{HasOtherDigest, is_told_text}
-use Rattle.dump_digest.specs.VerdictMeaning.{IsVerdict}
+use Rattle.dump_digest.specs.steps.Checks.{HasOtherDigest, is_told_text}
+use Rattle.dump_digest.specs.steps.VerdictMeaning.{IsVerdict}
 use Rattle.dump_digest.proofs.DigestLemmas.{clash}
 use Rattle.dump_digest.proofs.MergeLemmas.{merge_other}
 use Rattle.md5.specs.Md5.{md5}

@@ -2,12 +2,12 @@
 ghost use Rattle.std.specs.Prelude.{◌≡◌, false, List, Some, MatchOption, IsFalse, IsTrue, IsNone, IsSome};
 ghost use Rattle.dump_text.specs.declared.props.Props.{Props};
 ghost use Rattle.dump_text.specs.PropertyList.{IsPropertyBlock, Property};
-ghost use Rattle.dump_text.specs.PropertyViews.{props_bytes};
+ghost use Rattle.dump_text.specs.steps.PropertyViews.{props_bytes};
 ghost use Rattle.dump_records.specs.RecordText.{DumpRecord};
-ghost use Rattle.dump_records.specs.RecordViews.{record_item};
+ghost use Rattle.dump_records.specs.steps.RecordViews.{record_item};
 ghost use Rattle.dump_rules.specs.Settings.{Settings};
-ghost use Rattle.dump_digest.specs.Checks.{properties_read};
-ghost use Rattle.dump_digest.specs.ContentViews.{IsContent, IsSaidBy};
+ghost use Rattle.dump_digest.specs.steps.Checks.{properties_read};
+ghost use Rattle.dump_digest.specs.steps.ContentViews.{IsContent, IsSaidBy};
 ghost use Rattle.dump_digest.specs.RecordParts.{has_lost_source, is_kept_node, is_node, is_revision};
 
 use crate::digests::text_check;

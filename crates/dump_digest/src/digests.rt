@@ -1,8 +1,8 @@
 //! The digests of a record's text.
 ghost use Rattle.std.specs.Prelude.{◌≡◌, ◌↔◌, ◌||◌, IsFalse, IsTrue, Ok, is_some, option_copied};
 ghost use Rattle.dump_text.specs.Names.{md5_name, sha1_name};
-ghost use Rattle.dump_records.specs.RecordViews.{record_item};
-ghost use Rattle.dump_digest.specs.Checks.{HasOtherDigest, TellsOther, is_told_text};
+ghost use Rattle.dump_records.specs.steps.RecordViews.{record_item};
+ghost use Rattle.dump_digest.specs.steps.Checks.{HasOtherDigest, TellsOther, is_told_text};
 ghost use Rattle.md5.specs.Md5.{md5};
 ghost use Rattle.sha1.specs.Sha1.{sha1};
 ghost use Rattle.hex.specs.Hex.{decode_sized};

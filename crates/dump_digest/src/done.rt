@@ -1,6 +1,6 @@
 //! A record that was checked.
-ghost use Rattle.dump_records.specs.RecordViews.{record_item};
-ghost use Rattle.dump_digest.specs.ContentViews.{IsContent};
+ghost use Rattle.dump_records.specs.steps.RecordViews.{record_item};
+ghost use Rattle.dump_digest.specs.steps.ContentViews.{IsContent};
 
 use crate::content::{Content, read_content};
 use crate::verdict::Verdict;
@@ -22,12 +22,12 @@ impl<'a> Done<'a> {
     ghost use Rattle.std.specs.Prelude.{◌≡◌, ◌&&◌, List, IfSome, IsTrue, is_some};
     ghost use Rattle.std.specs.List.{list_any};
     ghost use Rattle.dump_text.specs.PropertyList.{IsPropertyBlock, Property};
-    ghost use Rattle.dump_text.specs.PropertyViews.{props_bytes};
-    ghost use Rattle.dump_digest.specs.ContentViews.{is_asked, ArePropertiesOf};
-    ghost use Rattle.dump_digest.specs.DoneViews.{done_record, done_settings, done_verdict};
-    ghost use Rattle.dump_digest.specs.MergeFaults.{merge_fault};
+    ghost use Rattle.dump_text.specs.steps.PropertyViews.{props_bytes};
+    ghost use Rattle.dump_digest.specs.steps.ContentViews.{is_asked, ArePropertiesOf};
+    ghost use Rattle.dump_digest.specs.steps.DoneViews.{done_record, done_settings, done_verdict};
+    ghost use Rattle.dump_digest.specs.steps.MergeFaults.{merge_fault};
     ghost use Rattle.dump_digest.specs.RecordParts.{has_lost_source, is_kept_node, is_mergeinfo};
-    ghost use Rattle.dump_digest.specs.VerdictMeaning.{IsVerdict};
+    ghost use Rattle.dump_digest.specs.steps.VerdictMeaning.{IsVerdict};
 
     /// The record, checked under these options.
     pub fn of(item: Record<'a>, options: &'a Options) -> Done<'a>

@@ -1,6 +1,6 @@
 //! Which records the options keep.
 ghost use Rattle.std.specs.Prelude.{◌≡◌};
-ghost use Rattle.dump_records.specs.RecordViews.{record_item};
+ghost use Rattle.dump_records.specs.steps.RecordViews.{record_item};
 ghost use Rattle.dump_digest.specs.RecordParts.{is_kept_node};
 
 use dump_records::Record;

@@ -1,9 +1,9 @@
 //! The mergeinfo of a kept node.
 ghost use Rattle.std.specs.Prelude.{◌≡◌, List, MatchOption, false};
 ghost use Rattle.dump_text.specs.PropertyList.{IsPropertyBlock, Property};
-ghost use Rattle.dump_text.specs.PropertyViews.{entry_property, props_bytes};
-ghost use Rattle.dump_digest.specs.Checks.{properties_read};
-ghost use Rattle.dump_digest.specs.ContentViews.{IsSaidBy};
+ghost use Rattle.dump_text.specs.steps.PropertyViews.{entry_property, props_bytes};
+ghost use Rattle.dump_digest.specs.steps.Checks.{properties_read};
+ghost use Rattle.dump_digest.specs.steps.ContentViews.{IsSaidBy};
 ghost use Rattle.dump_digest.specs.RecordParts.{is_mergeinfo};
 
 use dump_rules::{Merged, Options};

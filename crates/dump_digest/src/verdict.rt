@@ -1,6 +1,6 @@
 //! The verdict on a record.
-ghost use Rattle.dump_records.specs.RecordViews.{record_item};
-ghost use Rattle.dump_digest.specs.VerdictMeaning.{IsVerdict};
+ghost use Rattle.dump_records.specs.steps.RecordViews.{record_item};
+ghost use Rattle.dump_digest.specs.steps.VerdictMeaning.{IsVerdict};
 
 use crate::content::read_content;
 use dump_records::Record;

@@ -21,14 +21,14 @@ use Rattle.dump_filter.specs.declared.report.Report.{Report}
 use Rattle.dump_filter.specs.Groups.{kept_revisions, revision_number}
 use Rattle.dump_filter.specs.RecordFaults.{AreFaultFree}
 use Rattle.dump_filter.specs.NewContent.{IsNewProperty, AreNewProperties}
-use Rattle.dump_digest.specs.MergeFaults.{HasLines}
-use Rattle.dump_filter.specs.OwnText.{revision_own, node_own}
+use Rattle.dump_digest.specs.steps.MergeFaults.{HasLines}
+use Rattle.dump_filter.specs.steps.OwnText.{revision_own, node_own}
 use Rattle.dump_filter.specs.Written.{IsWritten}
-use Rattle.dump_filter.specs.State.{PresentGroup, State, no_revisions, pending_count, revision_count}
-use Rattle.dump_filter.specs.State.PresentGroup.{NoGroup, Pending, Written}
-use Rattle.dump_filter.specs.Advance.{stays, pads, next_number, IsOwnRevision, IsOwnNode, IsEndText, IsFrontText, IsPiece, with_kept, front_kept, end_kept, with_kept_revision, with_dropped_revision, front_report, end_report, ended, emptied, started, text_count, next_state}
-use Rattle.dump_filter.specs.Knowledge.{Shape, AreRising, AreKept, Stands}
-use Rattle.dump_filter.specs.Knowledge.Shape.{Fresh, Idle, Passed, Waits}
+use Rattle.dump_filter.specs.steps.State.{PresentGroup, State, no_revisions, pending_count, revision_count}
+use Rattle.dump_filter.specs.steps.State.PresentGroup.{NoGroup, Pending, Written}
+use Rattle.dump_filter.specs.steps.Advance.{stays, pads, next_number, IsOwnRevision, IsOwnNode, IsEndText, IsFrontText, IsPiece, with_kept, front_kept, end_kept, with_kept_revision, with_dropped_revision, front_report, end_report, ended, emptied, started, text_count, next_state}
+use Rattle.dump_filter.specs.steps.Knowledge.{Shape, AreRising, AreKept, Stands}
+use Rattle.dump_filter.specs.steps.Knowledge.Shape.{Fresh, Idle, Passed, Waits}
 use Rattle.dump_text.proofs.BoolLemmas.{either_second}
 use Rattle.dump_filter.proofs.GroupLemmas.{plain_node}
 use Rattle.dump_filter.proofs.KeptLemmas.{front_rising}

@@ -13,7 +13,7 @@ use Rattle.dump_filter.specs.Groups.{group_of, keeps_group, revision_number, kep
 use Rattle.dump_filter.specs.NewHeaders.{written_number, is_whole_file}
 use Rattle.dump_digest.specs.RecordParts.{is_copy}
 use Rattle.dump_filter.specs.RecordFaults.{HoldsOfRecord, AreFaultFree}
-use Rattle.dump_filter.specs.Knowledge.{kept_numbers}
+use Rattle.dump_filter.specs.steps.Knowledge.{kept_numbers}
 use Rattle.dump_filter.specs.Written.{is_written}
 use Rattle.dump_filter.proofs.AgainNumbers.{kept_revision, dropped_revision, no_revision, new_number_rises}
 use Rattle.dump_filter.proofs.AgainOrder.{RisesFrom, present_behind, AreInOrder, in_order, order_fits}

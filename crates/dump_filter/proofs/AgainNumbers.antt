@@ -8,7 +8,7 @@ use Rattle.dump_rules.proofs.ReachLemmas.{below, below-cons, is_below}
 use Rattle.dump_digest.specs.RecordParts.{is_revision, is_node}
 use Rattle.dump_filter.specs.Groups.{group_of, keeps_group, revision_number, revision_numbers, first_number, kept_revisions}
 use Rattle.dump_filter.specs.RecordFaults.{AreFaultFree}
-use Rattle.dump_filter.specs.Knowledge.{kept_numbers}
+use Rattle.dump_filter.specs.steps.Knowledge.{kept_numbers}
 use Rattle.dump_filter.proofs.AgainOrder.{AreInOrder, in_order}
 use Rattle.dump_text.proofs.BoolLemmas.{absurd_bool}
 use Rattle.dump_filter.proofs.ReadAgain.{AtEach}

@@ -26,7 +26,7 @@ use Rattle.dump_filter.specs.Groups.{group_of, is_padded, revision_number}
 use Rattle.dump_filter.specs.NewContent.{IsNewProperty, AreNewProperties, revision_properties, new_block}
 use Rattle.dump_filter.specs.NewHeaders.{with_lengths, written_number, becomes_plain, without_copy_headers, IsWrittenCopyNumber, IsNewCopy}
 use Rattle.dump_digest.specs.RecordParts.{is_copy}
-use Rattle.dump_filter.specs.NewLines.{is_copy_line}
+use Rattle.dump_filter.specs.steps.NewLines.{is_copy_line}
 use Rattle.dump_filter.specs.RecordOutput.{whole_text, revision_text, IsRevisionOutput, IsNodeOutput, IsWrittenBlock}
 use Rattle.dump_text.proofs.BoolLemmas.{first_true, first_false, second_false, not_so, absurd_bool, false_true}
 use Rattle.dump_filter.proofs.HeaderLemmas.{no_value}

@@ -12,7 +12,7 @@ use Rattle.dump_records.specs.RecordText.{DumpRecord, is_lawful}
 use Rattle.dump_records.proofs.Unique.{Keeps, keeps}
 use Rattle.dump_filter.specs.NewContent.{new_block}
 use Rattle.dump_filter.specs.NewHeaders.{with_lengths, without_copy_headers}
-use Rattle.dump_filter.specs.NewLines.{is_copy_line}
+use Rattle.dump_filter.specs.steps.NewLines.{is_copy_line}
 use Rattle.dump_filter.specs.RecordOutput.{whole_text}
 use Rattle.dump_text.proofs.BoolLemmas.{first_false, second_false, not_so, absurd_bool}
 use Rattle.dump_filter.proofs.HeaderLemmas.{no_value}

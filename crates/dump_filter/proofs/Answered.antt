@@ -9,10 +9,10 @@ use Rattle.dump_filter.specs.declared.fate.Fate.{Fate}
 use Rattle.dump_filter.specs.Groups.{kept_revisions}
 use Rattle.dump_filter.specs.RecordFaults.{IsRecordFault, AreFaultFree}
 use Rattle.dump_filter.specs.Written.{IsWritten}
-use Rattle.dump_filter.specs.State.{State, new_state}
-use Rattle.dump_filter.specs.Advance.{next_state}
-use Rattle.dump_filter.specs.Decision.{decided}
-use Rattle.dump_filter.specs.Knowledge.{Stands}
+use Rattle.dump_filter.specs.steps.State.{State, new_state}
+use Rattle.dump_filter.specs.steps.Advance.{next_state}
+use Rattle.dump_filter.specs.steps.Decision.{decided}
+use Rattle.dump_filter.specs.steps.Knowledge.{Stands}
 use Rattle.dump_filter.proofs.StandsNext.{ended_text, becomes_ended}
 use Rattle.dump_filter.proofs.DecisionLemmas.{IsTaken, IsAnswer, answered}
 use Rattle.dump_digest.proofs.VerdictChoice.{verdict_exists}

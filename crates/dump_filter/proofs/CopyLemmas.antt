@@ -4,10 +4,10 @@ use Rattle.dump_rules.specs.Renumbering.{KeptRevisions, image}
 use Rattle.dump_rules.proofs.ReachLemmas.{image_pushed, image_at_pushed, length_fits}
 use Rattle.dump_filter.specs.Groups.{revision_number}
 use Rattle.dump_filter.specs.declared.revisions.Revisions.{Revisions}
-use Rattle.dump_filter.specs.State.{PendingRevision, no_revisions}
-use Rattle.dump_filter.specs.State.PresentGroup.{NoGroup, Pending}
-use Rattle.dump_filter.specs.Advance.{front_kept}
-use Rattle.dump_filter.specs.Knowledge.{AreRising, AreKept}
+use Rattle.dump_filter.specs.steps.State.{PendingRevision, no_revisions}
+use Rattle.dump_filter.specs.steps.State.PresentGroup.{NoGroup, Pending}
+use Rattle.dump_filter.specs.steps.Advance.{front_kept}
+use Rattle.dump_filter.specs.steps.Knowledge.{AreRising, AreKept}
 use Rattle.dump_filter.proofs.KeptLemmas.{below_pending}
 
 -- a pending revision is that of a group

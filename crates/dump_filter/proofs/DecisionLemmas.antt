@@ -13,7 +13,7 @@ use Rattle.dump_rules.specs.Renumbering.{KeptRevisions, image}
 use Rattle.dump_rules.specs.Rewriting.{HasForeignNumber}
 use Rattle.dump_digest.specs.RecordParts.{is_revision, is_node, is_kept_node, node_path}
 use Rattle.dump_digest.specs.ContentFaults.{HasBadMergeinfo}
-use Rattle.dump_digest.specs.VerdictMeaning.{IsVerdict}
+use Rattle.dump_digest.specs.steps.VerdictMeaning.{IsVerdict}
 use Rattle.dump_digest.specs.declared.verdict.Verdict.{Verdict}
 use Rattle.dump_filter.specs.declared.fate.CopyChange.{CopyChange}
 use Rattle.dump_filter.specs.declared.fate.Fate.{Fate}
@@ -21,14 +21,14 @@ use Rattle.dump_filter.specs.declared.fate.Fate.TheVariants as fates
 use Rattle.dump_filter.specs.Groups.{kept_revisions}
 use Rattle.dump_filter.specs.NewHeaders.{is_whole_file, stays_copy, IsNewCopy}
 use Rattle.dump_digest.specs.RecordParts.{has_lost_source}
-use Rattle.dump_filter.specs.OwnText.{copied_headers}
+use Rattle.dump_filter.specs.steps.OwnText.{copied_headers}
 use Rattle.dump_filter.specs.RecordFaults.{present_number, HasBadCopyRevision, HoldsOfRecord, IsRecordFault}
-use Rattle.dump_digest.specs.MergeFaults.{merge_fault}
-use Rattle.dump_filter.specs.State.{PresentGroup, State, node_revision}
-use Rattle.dump_filter.specs.State.PresentGroup.{NoGroup, Pending, Written}
-use Rattle.dump_filter.specs.Advance.{front_kept}
-use Rattle.dump_filter.specs.Decision.{is_in_order, is_orphan, HasNoSource, copy_change, with_fault, node_fate, fate_of, decided, AreAsked}
-use Rattle.dump_filter.specs.Knowledge.{is_plain, Stands}
+use Rattle.dump_digest.specs.steps.MergeFaults.{merge_fault}
+use Rattle.dump_filter.specs.steps.State.{PresentGroup, State, node_revision}
+use Rattle.dump_filter.specs.steps.State.PresentGroup.{NoGroup, Pending, Written}
+use Rattle.dump_filter.specs.steps.Advance.{front_kept}
+use Rattle.dump_filter.specs.steps.Decision.{is_in_order, is_orphan, HasNoSource, copy_change, with_fault, node_fate, fate_of, decided, AreAsked}
+use Rattle.dump_filter.specs.steps.Knowledge.{is_plain, Stands}
 use Rattle.dump_text.proofs.BoolLemmas.{first_true, second_true, both_true, absurd_bool}
 use Rattle.dump_filter.proofs.KindLemmas.{alone}
 use Rattle.dump_filter.proofs.MergeLemmas.{Misses, IsForeign, MergeJudged, merge_judged}

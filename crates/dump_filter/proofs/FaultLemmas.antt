@@ -9,7 +9,7 @@ use Rattle.dump_text.specs.Names.{deciding_names, length_names, revision_name, c
 use Rattle.dump_text.specs.HeaderLine.{has_header, with_header_value}
 use Rattle.dump_records.specs.HeaderRules.{header_number, is_one_alone, has_bad_kind, has_bad_number}
 use Rattle.dump_records.specs.RecordText.{DumpRecord, is_lawful}
-use Rattle.dump_records.specs.RecordViews.{part_of_node}
+use Rattle.dump_records.specs.steps.RecordViews.{part_of_node}
 use Rattle.dump_records.proofs.Unique.{keeps}
 use Rattle.dump_rules.specs.Settings.{Settings}
 use Rattle.dump_rules.specs.Renumbering.{KeptRevisions, image}
@@ -19,13 +19,13 @@ use Rattle.dump_filter.specs.declared.fate.CopyChange.TheVariants as copies
 use Rattle.dump_filter.specs.Groups.{revision_number, revision_numbers, first_number, kept_revisions}
 use Rattle.dump_filter.specs.NewHeaders.{is_whole_file, becomes_plain, stays_copy, IsWrittenCopyNumber, IsNewCopy}
 use Rattle.dump_digest.specs.RecordParts.{is_copy, has_lost_source}
-use Rattle.dump_filter.specs.OwnText.{copied_headers}
+use Rattle.dump_filter.specs.steps.OwnText.{copied_headers}
 use Rattle.dump_filter.specs.RecordFaults.{ends_in_group, IsOutOfOrder}
-use Rattle.dump_filter.specs.State.{State}
-use Rattle.dump_filter.specs.Advance.{front_kept}
-use Rattle.dump_filter.specs.Decision.{is_open, rises, is_in_order, is_orphan, HasNoSource, imaged, source_change, copy_change}
-use Rattle.dump_filter.specs.Knowledge.{is_plain, kept_numbers, Shape, Stands}
-use Rattle.dump_filter.specs.Knowledge.Shape.{Fresh, Idle, Passed, Waits}
+use Rattle.dump_filter.specs.steps.State.{State}
+use Rattle.dump_filter.specs.steps.Advance.{front_kept}
+use Rattle.dump_filter.specs.steps.Decision.{is_open, rises, is_in_order, is_orphan, HasNoSource, imaged, source_change, copy_change}
+use Rattle.dump_filter.specs.steps.Knowledge.{is_plain, kept_numbers, Shape, Stands}
+use Rattle.dump_filter.specs.steps.Knowledge.Shape.{Fresh, Idle, Passed, Waits}
 use Rattle.dump_filter.proofs.HeaderLemmas.{no_value}
 use Rattle.dump_text.proofs.BoolLemmas.{false_true, not_so, first_true, second_true, first_false, second_false, not_true, not_false, both_true, absurd_bool}
 use Rattle.dump_filter.proofs.GroupLemmas.{plain_other, plain_more, any_more}

@@ -9,16 +9,16 @@ use Rattle.dump_text.specs.PropertyList.{Property}
 use Rattle.dump_text.proofs.PropertyChoice.{properties_or_not}
 use Rattle.dump_records.specs.declared.record.Record.{Record}
 use Rattle.dump_records.specs.RecordText.{DumpRecord}
-use Rattle.dump_records.specs.RecordViews.{record_dump, record_number, record_item}
+use Rattle.dump_records.specs.steps.RecordViews.{record_dump, record_number, record_item}
 use Rattle.dump_records.specs.DumpText.{BeginsWithRecords, IsRecordOf}
 use Rattle.dump_records.proofs.CutLemmas.{strip}
 use Rattle.dump_records.proofs.Prefixes.{begins_once, one_more}
 use Rattle.dump_records.proofs.Unique.{least_once}
 use Rattle.dump_rules.specs.Settings.{Settings}
-use Rattle.dump_digest.specs.DoneViews.{done_record, done_settings, done_verdict}
+use Rattle.dump_digest.specs.steps.DoneViews.{done_record, done_settings, done_verdict}
 use Rattle.dump_digest.specs.declared.done.Done.{Done}
 use Rattle.dump_digest.specs.RecordParts.{is_revision, is_node, is_kept_node, is_checked_text}
-use Rattle.dump_digest.specs.VerdictMeaning.{IsVerdict}
+use Rattle.dump_digest.specs.steps.VerdictMeaning.{IsVerdict}
 use Rattle.dump_digest.specs.declared.verdict.Verdict.{Verdict}
 use Rattle.dump_filter.specs.declared.fate.CopyChange.{CopyChange}
 use Rattle.dump_filter.specs.declared.fate.Fate.{Fate}
@@ -29,16 +29,16 @@ use Rattle.dump_filter.specs.Groups.{groups, group_number, keeps_group, kept_rev
 use Rattle.dump_filter.specs.RecordFaults.{HoldsOfRecord, IsRecordFault, AreFaultFree}
 use Rattle.dump_filter.specs.Written.{IsWritten}
 use Rattle.dump_filter.specs.Counts.{report_of}
-use Rattle.dump_filter.specs.FilterState.{Seen, FilterState, count_up_to, AreAccepted, IsOfSameDump, Accepts, Refuses, Finishes}
-use Rattle.dump_filter.specs.State.{State, view_state, new_state, revision_count}
-use Rattle.dump_filter.specs.Advance.{IsEndText, IsPiece, ended, next_state}
-use Rattle.dump_filter.specs.Decision.{decided, AreAsked}
-use Rattle.dump_filter.specs.Knowledge.{Stands, AreUpTo, Knows}
-use Rattle.dump_filter.specs.Knowledge.Shape.{Fresh}
+use Rattle.dump_filter.specs.steps.FilterState.{Seen, FilterState, count_up_to, AreAccepted, IsOfSameDump, Accepts, Refuses, Finishes}
+use Rattle.dump_filter.specs.steps.State.{State, view_state, new_state, revision_count}
+use Rattle.dump_filter.specs.steps.Advance.{IsEndText, IsPiece, ended, next_state}
+use Rattle.dump_filter.specs.steps.Decision.{decided, AreAsked}
+use Rattle.dump_filter.specs.steps.Knowledge.{Stands, AreUpTo, Knows}
+use Rattle.dump_filter.specs.steps.Knowledge.Shape.{Fresh}
 use Rattle.dump_text.proofs.BoolLemmas.{absurd_bool, either_second, not_so, not_true}
 use Rattle.dump_filter.proofs.StandsNext.{IsReadable, ended_numbers, ended_dropped, ended_text, becomes_ended}
 use Rattle.std.proofs.Math.Logic.{∥∥₁_elim}
-use Rattle.dump_filter.specs.NewProperties.{IsReadNode}
+use Rattle.dump_filter.specs.steps.NewProperties.{IsReadNode}
 use Rattle.dump_filter.proofs.DecisionLemmas.{IsTaken, IsAnswer, answered, so}
 use Rattle.dump_filter.proofs.AdvanceLemmas.{pending_readable, next_stands, stands_written, stands_once, ended_counted, ended_others, next_counted, next_room, kept_nodes, dropped_nodes, next_texts}
 

@@ -10,7 +10,7 @@ use Rattle.dump_rules.specs.Renumbering.{KeptRevisions}
 use Rattle.dump_digest.specs.RecordParts.{is_revision, is_node, is_kept_node}
 use Rattle.dump_filter.specs.Groups.{Group, group_of, groups, group_number, has_kept_node, is_bare, is_pad, is_padded, keeps_group, keeps_empty, revision_number}
 use Rattle.dump_filter.specs.RecordOutput.{revision_text, IsRevisionOutput, IsNodeOutput, IsOutput}
-use Rattle.dump_filter.specs.Knowledge.{is_plain}
+use Rattle.dump_filter.specs.steps.Knowledge.{is_plain}
 use Rattle.dump_text.proofs.BoolLemmas.{first_true, second_true, first_false, second_false, not_true}
 use Rattle.dump_filter.specs.Written.{is_open, is_written, AreOutputs}
 

@@ -9,10 +9,10 @@ use Rattle.dump_rules.proofs.ReachLemmas.{new_number_above, new_number_pushed, i
 use Rattle.dump_filter.specs.Groups.{revision_number}
 use Rattle.dump_filter.specs.NewHeaders.{written_number}
 use Rattle.dump_filter.specs.declared.revisions.Revisions.{Revisions}
-use Rattle.dump_filter.specs.State.{PendingRevision, PresentGroup, no_revisions, node_revision}
-use Rattle.dump_filter.specs.State.PresentGroup.{NoGroup, Pending, Written}
-use Rattle.dump_filter.specs.Advance.{stays, next_number, with_kept, front_kept, end_kept}
-use Rattle.dump_filter.specs.Knowledge.{open_from, GoesOn, AreRising, AreKept}
+use Rattle.dump_filter.specs.steps.State.{PendingRevision, PresentGroup, no_revisions, node_revision}
+use Rattle.dump_filter.specs.steps.State.PresentGroup.{NoGroup, Pending, Written}
+use Rattle.dump_filter.specs.steps.Advance.{stays, next_number, with_kept, front_kept, end_kept}
+use Rattle.dump_filter.specs.steps.Knowledge.{open_from, GoesOn, AreRising, AreKept}
 
 -- the same claim of each number, weakened
 pub all_weaker : (P Q : ℕ → Type 0) (ns : List ℕ) → ((n : ℕ) → P n → Q n) → All P ns → All Q ns

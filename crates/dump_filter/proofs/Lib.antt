@@ -28,3 +28,4 @@ pub mod AgainNumbers
 pub mod AgainList
 pub mod AgainFree
 pub mod OwnTextLaw
+pub mod Values

@@ -15,7 +15,7 @@ use Rattle.dump_text.proofs.Unique.{lawful, lawful_lines}
 use Rattle.dump_text.proofs.PartLemmas.{number_of-spelled, spelled_spells}
 use Rattle.dump_records.specs.HeaderRules.{header_number, header_length}
 use Rattle.dump_filter.specs.NewHeaders.{with_length, without_copy_headers}
-use Rattle.dump_filter.specs.NewLines.{is_copy_line}
+use Rattle.dump_filter.specs.steps.NewLines.{is_copy_line}
 use Rattle.dump_filter.proofs.HeaderLemmas.{no_value}
 use Rattle.dump_text.proofs.BoolLemmas.{first_true, second_true, first_false, second_false, both_true, absurd_bool, not_so}
 

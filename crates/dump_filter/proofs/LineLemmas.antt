@@ -11,8 +11,8 @@ use Rattle.dump_filter.specs.declared.fate.CopyChange.{CopyChange}
 use Rattle.dump_filter.specs.declared.fate.CopyChange.TheVariants.{Same, Renumbered, Dropped}
 use Rattle.dump_filter.specs.declared.new_lines.Changes.{Changes}
 use Rattle.dump_filter.specs.NewHeaders.{with_length, with_lengths}
-use Rattle.dump_filter.specs.OwnText.{copied_headers}
-use Rattle.dump_filter.specs.NewLines.{copy_number, is_copy_line, is_dropped, lines_that_stay, numbered, with_number, renewed, added, new_headers, AreLengths, put_all}
+use Rattle.dump_filter.specs.steps.OwnText.{copied_headers}
+use Rattle.dump_filter.specs.steps.NewLines.{copy_number, is_copy_line, is_dropped, lines_that_stay, numbered, with_number, renewed, added, new_headers, AreLengths, put_all}
 
 -- the line, with this number where it has this name
 abbrev pub put : List ℕ → ℕ → Header → Header

@@ -11,17 +11,17 @@ use Rattle.dump_rules.specs.Settings.{Settings}
 use Rattle.dump_rules.specs.Renumbering.{KeptRevisions}
 use Rattle.dump_rules.specs.Mergeinfo.{HasMergeLines}
 use Rattle.dump_rules.specs.Rewriting.{HasMissingSource, HasForeignNumber}
-use Rattle.dump_rules.specs.NewLines.{value_misses, value_foreign}
+use Rattle.dump_rules.specs.steps.NewLines.{value_misses, value_foreign}
 use Rattle.dump_rules.proofs.FaultLemmas.{found, finds, missing_there, missing_back, foreign_there, foreign_back, has_lines}
-use Rattle.dump_records.specs.RecordViews.{record_item}
+use Rattle.dump_records.specs.steps.RecordViews.{record_item}
 use Rattle.dump_digest.specs.declared.done.Done.{Done}
-use Rattle.dump_digest.specs.DoneViews.{done_record, done_settings, done_verdict}
-use Rattle.dump_digest.specs.ContentViews.{is_asked}
+use Rattle.dump_digest.specs.steps.DoneViews.{done_record, done_settings, done_verdict}
+use Rattle.dump_digest.specs.steps.ContentViews.{is_asked}
 use Rattle.dump_digest.specs.RecordParts.{is_revision, is_kept_node, is_mergeinfo}
-use Rattle.dump_filter.specs.NewProperties.{IsReadNode}
+use Rattle.dump_filter.specs.steps.NewProperties.{IsReadNode}
 use Rattle.dump_digest.specs.ContentFaults.{IsMergeinfoValueOf, HasBadMergeinfo}
 use Rattle.dump_digest.proofs.VerdictChoice.{bad_choice}
-use Rattle.dump_digest.specs.MergeFaults.{misses, is_foreign, merge_fault, HasLines}
+use Rattle.dump_digest.specs.steps.MergeFaults.{misses, is_foreign, merge_fault, HasLines}
 use Rattle.dump_text.proofs.BoolLemmas.{first_true, second_true, both_true, false_true, absurd_bool, either_second}
 
 -- some element that passes a test

@@ -8,7 +8,7 @@ use Rattle.dump_records.specs.RecordText.{DumpRecord}
 use Rattle.dump_rules.specs.Settings.{Settings}
 use Rattle.dump_digest.specs.RecordParts.{is_revision, is_node, is_kept_node}
 use Rattle.dump_filter.specs.Groups.{Group, groups, group_number, keeps_group, keeps_empty, revision_number, revision_numbers, first_number, present_revision}
-use Rattle.dump_filter.specs.Knowledge.{is_plain, kept_numbers}
+use Rattle.dump_filter.specs.steps.Knowledge.{is_plain, kept_numbers}
 use Rattle.dump_filter.proofs.GroupLemmas.{groups_before, groups_revision, groups_other}
 
 -- one more record

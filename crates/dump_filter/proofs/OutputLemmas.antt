@@ -12,9 +12,9 @@ use Rattle.dump_filter.specs.declared.fate.CopyChange.TheVariants.{Same}
 use Rattle.dump_filter.specs.declared.new_lines.Changes.{Changes}
 use Rattle.dump_filter.specs.NewHeaders.{with_lengths}
 use Rattle.dump_filter.specs.NewContent.{revision_properties, new_block}
-use Rattle.dump_filter.specs.NewLines.{new_headers, AreLengths, new_record}
+use Rattle.dump_filter.specs.steps.NewLines.{new_headers, AreLengths, new_record}
 use Rattle.dump_filter.specs.RecordOutput.{whole_text}
-use Rattle.dump_filter.specs.OwnText.{copied_headers, revision_own, node_own}
+use Rattle.dump_filter.specs.steps.OwnText.{copied_headers, revision_own, node_own}
 use Rattle.dump_filter.proofs.LineLemmas.{revision_lines, node_lines}
 
 pub on_ok : {T E : Type 0} (r : Result T E) (P Q : Type 0) → (P → Q) → OnOk r P → OnOk r Q

@@ -19,10 +19,10 @@ use Rattle.dump_filter.specs.NewHeaders.{becomes_plain, stays_copy, without_copy
 use Rattle.dump_digest.specs.RecordParts.{is_copy}
 use Rattle.dump_filter.specs.NewContent.{AreNewProperties}
 use Rattle.dump_filter.specs.RecordOutput.{IsRevisionOutput, IsNodeOutput}
-use Rattle.dump_filter.specs.OwnText.{copied_headers, revision_own}
-use Rattle.dump_filter.specs.Advance.{pads, IsOwnRevision, IsOwnNode}
-use Rattle.dump_filter.specs.Decision.{HasNoSource}
-use Rattle.dump_filter.specs.Knowledge.{GoesOn}
+use Rattle.dump_filter.specs.steps.OwnText.{copied_headers, revision_own}
+use Rattle.dump_filter.specs.steps.Advance.{pads, IsOwnRevision, IsOwnNode}
+use Rattle.dump_filter.specs.steps.Decision.{HasNoSource}
+use Rattle.dump_filter.specs.steps.Knowledge.{GoesOn}
 use Rattle.dump_text.proofs.BoolLemmas.{both_true, not_false}
 use Rattle.dump_filter.proofs.KeptLemmas.{all_weaker, whole_is, next_written, image_kept}
 use Rattle.dump_filter.proofs.MergeLemmas.{IsForeign}

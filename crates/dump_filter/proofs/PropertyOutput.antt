@@ -7,7 +7,7 @@ use Rattle.std.proofs.lemmas.Slice.Eq.{bytes_eq-Decides}
 use Rattle.dump_text.specs.Number.{number_of}
 use Rattle.dump_text.specs.Names.{property_length_name}
 use Rattle.dump_text.specs.HeaderLine.{has_header}
-use Rattle.dump_text.specs.PropertyScan.{IsWritten}
+use Rattle.dump_text.specs.steps.PropertyScan.{IsWritten}
 use Rattle.dump_text.specs.PropertyList.{Property, IsEntry, IsPropertyBlock, HasProperties, block_end, entry_text, property_block_text, property_value}
 use Rattle.dump_text.proofs.PropertyLemmas.{entry_parts, left_of, property_block_once}
 use Rattle.dump_text.proofs.WrittenLemmas.{written_list}
@@ -19,11 +19,11 @@ use Rattle.dump_rules.specs.Mergeinfo.{HasMergeLines}
 use Rattle.dump_rules.specs.Rewriting.{IsNewMergeinfo}
 use Rattle.dump_digest.specs.RecordParts.{is_mergeinfo}
 use Rattle.dump_filter.specs.NewContent.{padding_log, padding_properties, IsNewProperty, AreNewProperties, new_block}
-use Rattle.dump_filter.specs.NewProperties.{property_of, dated_padding}
-use Rattle.dump_digest.specs.MergeFaults.{HasLines}
-use Rattle.dump_digest.specs.ContentViews.{ArePropertiesOf}
+use Rattle.dump_filter.specs.steps.NewProperties.{property_of, dated_padding}
+use Rattle.dump_digest.specs.steps.MergeFaults.{HasLines}
+use Rattle.dump_digest.specs.steps.ContentViews.{ArePropertiesOf}
 use Rattle.dump_text.specs.declared.props.Props.{Props}
-use Rattle.dump_text.specs.PropertyViews.{props_bytes}
+use Rattle.dump_text.specs.steps.PropertyViews.{props_bytes}
 use Rattle.dump_text.proofs.BoolLemmas.{false_true, first_false, second_false}
 use Rattle.dump_filter.proofs.HeaderLemmas.{no_value}
 

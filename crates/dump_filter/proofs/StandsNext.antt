@@ -16,14 +16,14 @@ use Rattle.dump_filter.specs.Groups.{keeps_group, revision_number, revision_numb
 use Rattle.dump_filter.specs.NewHeaders.{IsNewCopy}
 use Rattle.dump_filter.specs.RecordFaults.{ends_in_group}
 use Rattle.dump_filter.specs.RecordOutput.{IsNodeOutput}
-use Rattle.dump_filter.specs.OwnText.{copied_headers}
+use Rattle.dump_filter.specs.steps.OwnText.{copied_headers}
 use Rattle.dump_filter.specs.Written.{AreOutputs}
-use Rattle.dump_filter.specs.State.{PendingRevision, PresentGroup, State, no_revisions, node_revision}
-use Rattle.dump_filter.specs.State.PresentGroup.{NoGroup, Pending, Written}
-use Rattle.dump_filter.specs.Advance.{stays, pads, IsOwnRevision, IsOwnNode, IsEndText, IsFrontText, with_kept, front_kept, end_kept, with_kept_revision, with_dropped_revision, end_report, opened, ended, emptied, started, begun}
-use Rattle.dump_filter.specs.Decision.{is_open, HasNoSource}
-use Rattle.dump_filter.specs.Knowledge.{is_plain, kept_numbers, dropped_groups, in_group, Shape, GoesOn, MayBecome, AreRising, AreKept, Stands}
-use Rattle.dump_filter.specs.Knowledge.Shape.{Fresh, Idle, Passed, Waits}
+use Rattle.dump_filter.specs.steps.State.{PendingRevision, PresentGroup, State, no_revisions, node_revision}
+use Rattle.dump_filter.specs.steps.State.PresentGroup.{NoGroup, Pending, Written}
+use Rattle.dump_filter.specs.steps.Advance.{stays, pads, IsOwnRevision, IsOwnNode, IsEndText, IsFrontText, with_kept, front_kept, end_kept, with_kept_revision, with_dropped_revision, end_report, opened, ended, emptied, started, begun}
+use Rattle.dump_filter.specs.steps.Decision.{is_open, HasNoSource}
+use Rattle.dump_filter.specs.steps.Knowledge.{is_plain, kept_numbers, dropped_groups, in_group, Shape, GoesOn, MayBecome, AreRising, AreKept, Stands}
+use Rattle.dump_filter.specs.steps.Knowledge.Shape.{Fresh, Idle, Passed, Waits}
 use Rattle.dump_text.proofs.BoolLemmas.{false_true, first_true, second_true}
 use Rattle.dump_filter.proofs.GroupLemmas.{plain_node, plain_more, any_more, plain_other, passed_more, passed_end, waits_more, waits_on, waits_kept, waits_dropped, idle_end, revision_more, other_more, OwnOutput, unpadded}
 use Rattle.dump_filter.proofs.KeptLemmas.{lowered, front_reopened, end_reopened, front_rising, end_rising, next_rising, first_rising, below_pending}

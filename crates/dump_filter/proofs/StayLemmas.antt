@@ -9,14 +9,14 @@ use Rattle.dump_text.specs.HeaderBlock.{is_block}
 use Rattle.dump_text.proofs.BlockLemmas.{has_value}
 use Rattle.dump_text.proofs.BoolLemmas.{first_true, second_true, first_false, second_false, not_so, absurd_bool}
 use Rattle.dump_records.specs.HeaderRules.{header_number, header_length, property_length, text_length, has_bad_number, has_bad_lengths}
-use Rattle.dump_records.specs.HeaderReading.{are_spelled, is_spelled, are_written}
+use Rattle.dump_records.specs.steps.HeaderReading.{are_spelled, is_spelled, are_written}
 use Rattle.dump_records.specs.RecordText.{DumpRecord, BeginsWithRecord}
 use Rattle.dump_records.proofs.Unique.{keeps}
 use Rattle.dump_filter.specs.declared.fate.CopyChange.{CopyChange}
 use Rattle.dump_filter.specs.declared.fate.CopyChange.TheVariants.{Same, Renumbered, Dropped}
 use Rattle.dump_filter.specs.declared.new_lines.Changes.{Changes}
 use Rattle.dump_filter.specs.NewHeaders.{with_lengths}
-use Rattle.dump_filter.specs.NewLines.{AreLengths, StaysCopied, copy_number, lines_that_stay, new_headers, put_all}
+use Rattle.dump_filter.specs.steps.NewLines.{AreLengths, StaysCopied, copy_number, lines_that_stay, new_headers, put_all}
 use Rattle.dump_filter.proofs.HeaderLemmas.{no_value}
 use Rattle.dump_filter.proofs.LineChanges.{IsTold, put_same}
 use Rattle.dump_filter.proofs.AgainHeaders.{AreTold, known_once, lengths_again}
@@ -117,7 +117,7 @@ told_all number text r after b written =
     let lawful = keeps number r.headers b.lawful in
     let good = are_good r.headers (not_so (has_bad_number r.headers) lawful.number_ok) in
     let sum : length r.props + length r.text ≡ property_length r.headers + text_length r.headers
-        = ap (λ n. n + length r.text) b.props_fit ∙ ap (λ n. property_length r.headers + n) b.text_fits in
+    = ap (λ n. n + length r.text) b.props_fit ∙ ap (λ n. property_length r.headers + n) b.text_fits in
     record {
       props_told = told_of property_length_name (length r.props) r.headers parts.props good.props (λ has. sym b.props_fit)
           (λ none. b.props_fit ∙ no_length property_length_name r.headers none);

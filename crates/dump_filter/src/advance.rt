@@ -1,15 +1,15 @@
 //! Carries out the fate of a record: what is written of it, what is held behind it, and what is counted.
 ghost use Rattle.std.specs.Prelude.{◌≡◌, ◌<◌, ◌+◌, ◌^◌, Some, IfOk, IsTrue, OnOk, OnErr};
-ghost use Rattle.dump_records.specs.RecordViews.{record_item};
+ghost use Rattle.dump_records.specs.steps.RecordViews.{record_item};
 ghost use Rattle.dump_records.specs.RecordText.{DumpRecord};
 ghost use Rattle.dump_rules.specs.Settings.{Settings};
-ghost use Rattle.dump_digest.specs.DoneViews.{done_record, done_verdict};
+ghost use Rattle.dump_digest.specs.steps.DoneViews.{done_record, done_verdict};
 ghost use Rattle.dump_digest.specs.RecordParts.{is_revision};
-ghost use Rattle.dump_filter.specs.NewProperties.{IsReadNode};
-ghost use Rattle.dump_filter.specs.State.{view_pending, view_group, view_state, revision_count};
-ghost use Rattle.dump_filter.specs.State.PresentGroup.{Pending as IsPending};
-ghost use Rattle.dump_filter.specs.Advance.{IsOwnRevision, IsEndText, IsFrontText, IsPiece, with_kept, with_kept_revision, opened, ended, text_count, fate_state, next_state};
-ghost use Rattle.dump_filter.specs.Knowledge.{AreKept};
+ghost use Rattle.dump_filter.specs.steps.NewProperties.{IsReadNode};
+ghost use Rattle.dump_filter.specs.steps.State.{view_pending, view_group, view_state, revision_count};
+ghost use Rattle.dump_filter.specs.steps.State.PresentGroup.{Pending as IsPending};
+ghost use Rattle.dump_filter.specs.steps.Advance.{IsOwnRevision, IsEndText, IsFrontText, IsPiece, with_kept, with_kept_revision, opened, ended, text_count, fate_state, next_state};
+ghost use Rattle.dump_filter.specs.steps.Knowledge.{AreKept};
 ghost use Rattle.dump_filter.specs.declared.fate.CopyChange.{CopyChange as Change};
 
 use crate::fate::{CopyChange, Fate};

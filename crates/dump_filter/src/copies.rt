@@ -1,13 +1,13 @@
 //! What becomes of the copy source of a kept node.
 ghost use Rattle.std.specs.Prelude.{◌≡◌, IsTrue};
-ghost use Rattle.dump_records.specs.RecordViews.{record_item};
+ghost use Rattle.dump_records.specs.steps.RecordViews.{record_item};
 ghost use Rattle.dump_filter.specs.NewHeaders.{is_whole_file};
-ghost use Rattle.dump_digest.specs.DoneViews.{done_record, done_settings};
+ghost use Rattle.dump_digest.specs.steps.DoneViews.{done_record, done_settings};
 ghost use Rattle.dump_digest.specs.RecordParts.{is_kept_node};
-ghost use Rattle.dump_filter.specs.State.{view_group, node_revision};
-ghost use Rattle.dump_filter.specs.Advance.{front_kept};
-ghost use Rattle.dump_filter.specs.Decision.{source_change, copy_change};
-ghost use Rattle.dump_filter.specs.Knowledge.{AreKept};
+ghost use Rattle.dump_filter.specs.steps.State.{view_group, node_revision};
+ghost use Rattle.dump_filter.specs.steps.Advance.{front_kept};
+ghost use Rattle.dump_filter.specs.steps.Decision.{source_change, copy_change};
+ghost use Rattle.dump_filter.specs.steps.Knowledge.{AreKept};
 
 use crate::fate::CopyChange;
 use crate::state::State;

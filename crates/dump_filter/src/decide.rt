@@ -1,12 +1,12 @@
 //! Decides the fate of the record that comes next, or finds its fault.
 ghost use Rattle.std.specs.Prelude.{◌≡◌, List, IsTrue};
 ghost use Rattle.dump_text.specs.PropertyList.{Property, IsPropertyBlock};
-ghost use Rattle.dump_records.specs.RecordViews.{record_item};
+ghost use Rattle.dump_records.specs.steps.RecordViews.{record_item};
 ghost use Rattle.dump_digest.specs.RecordParts.{is_node, is_kept_node};
-ghost use Rattle.dump_digest.specs.DoneViews.{done_record, done_settings, done_verdict};
-ghost use Rattle.dump_filter.specs.State.{view_group, view_state};
-ghost use Rattle.dump_filter.specs.Decision.{is_in_order, node_fate, fate_of, decided, AreAsked};
-ghost use Rattle.dump_filter.specs.Knowledge.{AreKept};
+ghost use Rattle.dump_digest.specs.steps.DoneViews.{done_record, done_settings, done_verdict};
+ghost use Rattle.dump_filter.specs.steps.State.{view_group, view_state};
+ghost use Rattle.dump_filter.specs.steps.Decision.{is_in_order, node_fate, fate_of, decided, AreAsked};
+ghost use Rattle.dump_filter.specs.steps.Knowledge.{AreKept};
 
 use crate::copies::copy_change;
 use crate::fate::Fate;

@@ -31,10 +31,10 @@ pub struct Filter<'o, 'a> {
 
 impl<'o, 'a> Model for Filter<'o, 'a> {
     ghost use Rattle.std.specs.Prelude.{◌≡◌, true, option_map};
-    ghost use Rattle.dump_records.specs.RecordViews.{record_dump, record_number};
-    ghost use Rattle.dump_filter.specs.FilterState.{FilterState};
-    ghost use Rattle.dump_filter.specs.State.{view_state};
-    ghost use Rattle.dump_filter.specs.Knowledge.{Knows};
+    ghost use Rattle.dump_records.specs.steps.RecordViews.{record_dump, record_number};
+    ghost use Rattle.dump_filter.specs.steps.FilterState.{FilterState};
+    ghost use Rattle.dump_filter.specs.steps.State.{view_state};
+    ghost use Rattle.dump_filter.specs.steps.Knowledge.{Knows};
 
     ghost Value = { FilterState };
 
@@ -51,9 +51,9 @@ impl<'o, 'a> Filter<'o, 'a> {
     ghost use Rattle.std.specs.Prelude.{◌≡◌, ◌↔◌, ◌⊎◌, ◌<◌, ◌+◌, ◌^◌, List, Some, IfOk, IfErr, OnOk, OnErr, IsTrue, IsFalse, false};
     ghost use Rattle.dump_text.specs.declared.fault.FaultKind.{FaultKind as Kind};
     ghost use Rattle.dump_records.specs.RecordText.{DumpRecord};
-    ghost use Rattle.dump_records.specs.RecordViews.{record_dump, record_number, record_item};
-    ghost use Rattle.dump_digest.specs.DoneViews.{done_record, done_settings};
-    ghost use Rattle.dump_filter.specs.FilterState.{first_state, count_up_to, IsOfSameDump, AreAccepted, Accepts, Refuses, Finishes};
+    ghost use Rattle.dump_records.specs.steps.RecordViews.{record_dump, record_number, record_item};
+    ghost use Rattle.dump_digest.specs.steps.DoneViews.{done_record, done_settings};
+    ghost use Rattle.dump_filter.specs.steps.FilterState.{first_state, count_up_to, IsOfSameDump, AreAccepted, Accepts, Refuses, Finishes};
     ghost use Rattle.dump_filter.specs.Counts.{report_of};
 
     /// A filter that has accepted no record. It takes no memory.

@@ -3,11 +3,11 @@ ghost use Rattle.std.specs.Prelude.{◌≡◌, ◌++◌, ◌∷◌, [], ℕ, Som
 ghost use Rattle.dump_text.specs.Names.{revision_name};
 ghost use Rattle.dump_text.specs.HeaderLine.{header_text};
 ghost use Rattle.dump_text.specs.HeaderBlock.{lines_bytes, block_text};
-ghost use Rattle.dump_text.specs.Views.{block_headers, line_header};
-ghost use Rattle.dump_writer.specs.ChunkBytes.{chunk_bytes};
+ghost use Rattle.dump_text.specs.steps.Views.{block_headers, line_header};
+ghost use Rattle.dump_writer.specs.steps.ChunkBytes.{chunk_bytes};
 ghost use Rattle.dump_records.specs.HeaderRules.{header_number};
-ghost use Rattle.dump_records.specs.RecordViews.{record_item};
-ghost use Rattle.dump_filter.specs.NewLines.{AreLengths, StaysCopied, copy_number, is_copy_line, is_dropped, number_for, numbered, with_number, renewed_lines, added, new_headers};
+ghost use Rattle.dump_records.specs.steps.RecordViews.{record_item};
+ghost use Rattle.dump_filter.specs.steps.NewLines.{AreLengths, StaysCopied, copy_number, is_copy_line, is_dropped, number_for, numbered, with_number, renewed_lines, added, new_headers};
 
 use crate::fate::CopyChange;
 use dump_records::Record;
@@ -162,8 +162,18 @@ fn write_block(alloc: Global, block: &Block<'_>, changes: &Changes) -> Result<Ve
             push_line(&mut out, &line, number_for(changes, line.name))?;
         }
     }
-    push_missing(&mut out, block, HeaderName::PropContentLength.bytes(), changes.props)?;
-    push_missing(&mut out, block, HeaderName::ContentLength.bytes(), changes.content)?;
+    push_missing(
+        &mut out,
+        block,
+        HeaderName::PropContentLength.bytes(),
+        changes.props,
+    )?;
+    push_missing(
+        &mut out,
+        block,
+        HeaderName::ContentLength.bytes(),
+        changes.content,
+    )?;
     out.extend_from_slice(b"\n")?;
     Ok(out)
 }

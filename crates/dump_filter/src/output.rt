@@ -2,14 +2,14 @@
 ghost use Rattle.std.specs.Prelude.{◌≡◌, ℕ, ◌++◌, List, IsTrue, OnOk};
 ghost use Rattle.dump_text.specs.HeaderBlock.{block_text};
 ghost use Rattle.dump_text.specs.PropertyList.{Property, IsPropertyBlock};
-ghost use Rattle.dump_writer.specs.ChunkBytes.{chunk_bytes};
-ghost use Rattle.dump_records.specs.RecordViews.{record_item};
-ghost use Rattle.dump_filter.specs.OwnText.{revision_own};
-ghost use Rattle.dump_filter.specs.NewLines.{AreLengths, new_record};
-ghost use Rattle.dump_digest.specs.DoneViews.{done_record};
+ghost use Rattle.dump_writer.specs.steps.ChunkBytes.{chunk_bytes};
+ghost use Rattle.dump_records.specs.steps.RecordViews.{record_item};
+ghost use Rattle.dump_filter.specs.steps.OwnText.{revision_own};
+ghost use Rattle.dump_filter.specs.steps.NewLines.{AreLengths, new_record};
+ghost use Rattle.dump_digest.specs.steps.DoneViews.{done_record};
 ghost use Rattle.dump_digest.specs.RecordParts.{is_revision};
-ghost use Rattle.dump_filter.specs.NewProperties.{IsReadNode};
-ghost use Rattle.dump_filter.specs.Advance.{IsOwnNode};
+ghost use Rattle.dump_filter.specs.steps.NewProperties.{IsReadNode};
+ghost use Rattle.dump_filter.specs.steps.Advance.{IsOwnNode};
 
 use crate::fate::CopyChange;
 use crate::new_lines::{Changes, new_lines};

@@ -1,7 +1,7 @@
 //! A revision that is held back.
 ghost use Rattle.std.specs.Prelude.{IsTrue};
-ghost use Rattle.dump_records.specs.RecordViews.{record_item};
-ghost use Rattle.dump_digest.specs.DoneViews.{done_record};
+ghost use Rattle.dump_records.specs.steps.RecordViews.{record_item};
+ghost use Rattle.dump_digest.specs.steps.DoneViews.{done_record};
 ghost use Rattle.dump_digest.specs.RecordParts.{is_revision};
 
 use dump_digest::Done;

@@ -1,17 +1,17 @@
 //! The property block of a record that is written: lent where it stands as it is written, else made anew.
 ghost use Rattle.std.specs.Prelude.{◌≡◌, ◌++◌, List, false, IsTrue, OnOk, IfOk, codes, option_copied};
 ghost use Rattle.dump_text.specs.PropertyList.{Property, IsPropertyBlock, entry_text, property_value, property_block_text};
-ghost use Rattle.dump_text.specs.PropertyViews.{props_bytes, entry_property};
-ghost use Rattle.dump_writer.specs.ChunkBytes.{chunk_bytes};
+ghost use Rattle.dump_text.specs.steps.PropertyViews.{props_bytes, entry_property};
+ghost use Rattle.dump_writer.specs.steps.ChunkBytes.{chunk_bytes};
 ghost use Rattle.dump_records.specs.RecordText.{DumpRecord};
-ghost use Rattle.dump_records.specs.RecordViews.{record_item};
+ghost use Rattle.dump_records.specs.steps.RecordViews.{record_item};
 ghost use Rattle.dump_rules.specs.Mergeinfo.{HasMergeLines};
-ghost use Rattle.dump_digest.specs.ContentViews.{ArePropertiesOf};
-ghost use Rattle.dump_digest.specs.DoneViews.{done_record};
-ghost use Rattle.dump_digest.specs.MergeFaults.{HasLines};
+ghost use Rattle.dump_digest.specs.steps.ContentViews.{ArePropertiesOf};
+ghost use Rattle.dump_digest.specs.steps.DoneViews.{done_record};
+ghost use Rattle.dump_digest.specs.steps.MergeFaults.{HasLines};
 ghost use Rattle.dump_digest.specs.RecordParts.{is_mergeinfo};
 ghost use Rattle.dump_filter.specs.NewContent.{revision_properties, IsNewProperty, AreNewProperties, new_block};
-ghost use Rattle.dump_filter.specs.NewProperties.{IsReadNode, dated_padding};
+ghost use Rattle.dump_filter.specs.steps.NewProperties.{IsReadNode, dated_padding};
 
 use dump_digest::{Done, is_mergeinfo};
 use dump_records::Record;

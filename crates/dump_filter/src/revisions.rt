@@ -1,15 +1,15 @@
 //! The kept revisions, with the present one.
 ghost use Rattle.std.specs.Prelude.{◌≡◌, ◌<◌, ◌+◌, ◌^◌, OnOk, Some, length, IsTrue};
-ghost use Rattle.dump_records.specs.RecordViews.{record_item};
-ghost use Rattle.dump_digest.specs.DoneViews.{done_record};
+ghost use Rattle.dump_records.specs.steps.RecordViews.{record_item};
+ghost use Rattle.dump_digest.specs.steps.DoneViews.{done_record};
 ghost use Rattle.dump_digest.specs.RecordParts.{is_revision};
 ghost use Rattle.dump_rules.specs.Renumbering.{image};
 ghost use Rattle.dump_filter.specs.Groups.{revision_number};
-ghost use Rattle.dump_filter.specs.State.{view_pending, view_group, no_revisions, node_revision};
-ghost use Rattle.dump_filter.specs.State.PresentGroup.{Pending as IsPending};
-ghost use Rattle.dump_filter.specs.Advance.{next_number, with_kept, front_kept, started};
-ghost use Rattle.dump_filter.specs.Decision.{rises};
-ghost use Rattle.dump_filter.specs.Knowledge.{AreKept};
+ghost use Rattle.dump_filter.specs.steps.State.{view_pending, view_group, no_revisions, node_revision};
+ghost use Rattle.dump_filter.specs.steps.State.PresentGroup.{Pending as IsPending};
+ghost use Rattle.dump_filter.specs.steps.Advance.{next_number, with_kept, front_kept, started};
+ghost use Rattle.dump_filter.specs.steps.Decision.{rises};
+ghost use Rattle.dump_filter.specs.steps.Knowledge.{AreKept};
 
 use crate::pending::Pending;
 use crate::state::Group;

@@ -1,9 +1,9 @@
 //! What the filter holds of the records so far.
 ghost use Rattle.std.specs.Prelude.{◌≡◌, None};
 ghost use Rattle.dump_filter.specs.Groups.{keeps_empty};
-ghost use Rattle.dump_filter.specs.State.{view_pending, view_group, view_state, new_state};
-ghost use Rattle.dump_filter.specs.Advance.{stays, pads, emptied};
-ghost use Rattle.dump_filter.specs.Decision.{is_open};
+ghost use Rattle.dump_filter.specs.steps.State.{view_pending, view_group, view_state, new_state};
+ghost use Rattle.dump_filter.specs.steps.Advance.{stays, pads, emptied};
+ghost use Rattle.dump_filter.specs.steps.Decision.{is_open};
 
 use crate::pending::Pending;
 use crate::report::Report;

@@ -1,7 +1,7 @@
 //! What no clause says: worked dumps, a filter that stays closed behind a fault, and memory that is refused. Here is
 //! what the tests share.
 ghost use Rattle.std.specs.Prelude.{◌≡◌, OnOk};
-ghost use Rattle.dump_filter.specs.FilterState.{first_state, count_up_to, IsOfSameDump};
+ghost use Rattle.dump_filter.specs.steps.FilterState.{first_state, count_up_to, IsOfSameDump};
 
 mod blocks;
 mod dumps;

@@ -10,10 +10,10 @@ use Rattle.dump_lanes.specs.declared.ends.Told.TheVariants.{MayCome, Ended, Send
 use Rattle.dump_lanes.specs.declared.protocol.Log.{Log}
 use Rattle.dump_lanes.specs.declared.protocol.Mark.{Mark}
 use Rattle.dump_lanes.specs.declared.protocol.Mark.TheVariants.{Item, End}
-use Rattle.dump_lanes.specs.LaneEnds.{LaneEnd, IsWholeAtEnd}
+use Rattle.dump_lanes.specs.steps.LaneEnds.{LaneEnd, IsWholeAtEnd}
 use Rattle.dump_lanes.specs.LaneMarks.{items_of, AreItemsThen, IsPutting, IsTaking, mark_if, mark_of}
 use Rattle.dump_lanes.specs.LaneRule.{after_put, after_take}
-use Rattle.dump_lanes.specs.LaneViews.{lane_of, sending_of, receiving_of, told, ComesAgain}
+use Rattle.dump_lanes.specs.steps.LaneViews.{lane_of, sending_of, receiving_of, told, ComesAgain}
 use Rattle.dump_lanes.proofs.MarkLists.{items_of-then_item, items_of-then_end, then_item, then_end, is_whole, is_marked}
 
 -- an end that may still be given items has no end to tell again

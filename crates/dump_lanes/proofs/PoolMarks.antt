@@ -5,7 +5,7 @@ use Rattle.dump_lanes.specs.declared.pool.dones.Note.{Note}
 use Rattle.dump_lanes.specs.declared.protocol.Mark.{Mark}
 use Rattle.dump_lanes.specs.declared.protocol.Mark.TheVariants.{Item, End}
 use Rattle.dump_lanes.specs.LaneMarks.{items_of}
-use Rattle.dump_lanes.specs.PoolPasses.{count_ends, marks_in}
+use Rattle.dump_lanes.specs.steps.PoolPasses.{count_ends, marks_in}
 use Rattle.dump_lanes.proofs.MarkLists.{items_of-append}
 
 pub count_ends-replicate : (T : Type 0) (n : ℕ) → count_ends {T = T} (replicate n End) ≡ n

@@ -9,9 +9,9 @@ use Rattle.dump_lanes.specs.declared.protocol.Mark.TheVariants.{Item, End}
 use Rattle.dump_lanes.specs.DoneRule.{after_give, after_arrive}
 use Rattle.dump_lanes.specs.JobRule.{after_put, after_ends, after_take}
 use Rattle.dump_lanes.specs.LaneMarks.{items_of, AreItemsThen, mark_if}
-use Rattle.dump_lanes.specs.PoolPasses.{count_ends, marks_in, IsCutting, IsWorking, IsGiving, IsSequencing, HasRead}
+use Rattle.dump_lanes.specs.steps.PoolPasses.{count_ends, marks_in, IsCutting, IsWorking, IsGiving, IsSequencing, HasRead}
 use Rattle.dump_lanes.specs.PortSides.{PoolName, CutterSide, WorkerSide, SequencerSide}
-use Rattle.dump_lanes.specs.PortViews.{DoneStep}
+use Rattle.dump_lanes.specs.steps.PortViews.{DoneStep}
 use Rattle.dump_lanes.proofs.MarkLists.{items_of-then_item, items_of-then_end, then_item, then_end}
 use Rattle.dump_lanes.proofs.PoolMarks.{count_ends-append, count_ends-replicate, items_of-then_ends, marks_in-then}
 

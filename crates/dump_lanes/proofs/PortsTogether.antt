@@ -16,10 +16,10 @@ use Rattle.dump_lanes.specs.declared.protocol.Mark.TheVariants.{End}
 use Rattle.dump_lanes.specs.DoneRule as done_rule
 use Rattle.dump_lanes.specs.JobRule as job_rule
 use Rattle.dump_lanes.specs.LaneMarks.{items_of, AreItemsThen, mark_if}
-use Rattle.dump_lanes.specs.PoolNames.{name_of}
-use Rattle.dump_lanes.specs.PoolPasses.{count_ends, marks_in, IsCutting, IsSequencing}
+use Rattle.dump_lanes.specs.steps.PoolNames.{name_of}
+use Rattle.dump_lanes.specs.steps.PoolPasses.{count_ends, marks_in, IsCutting, IsSequencing}
 use Rattle.dump_lanes.specs.PortSides.{PoolName, PoolState, CutterSide, WorkerSide, new_cutter, new_worker, AreWorkersOf, IsDone, all_taken, all_given}
-use Rattle.dump_lanes.specs.PortViews.{worker_port, HasJobsOf, HasDonesOf, job_steps, done_steps}
+use Rattle.dump_lanes.specs.steps.PortViews.{worker_port, HasJobsOf, HasDonesOf, job_steps, done_steps}
 use Rattle.dump_lanes.proofs.MarkLists.{items_of-append}
 use Rattle.dump_lanes.proofs.PoolMarks.{count_ends-append}
 use Rattle.dump_lanes.proofs.Settling.{one_end, all_jobs, all_dones, HasEnded, marks_in-append, flat_map-then, map-then}

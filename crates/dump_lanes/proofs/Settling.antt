@@ -16,7 +16,7 @@ use Rattle.dump_lanes.specs.DoneRule as done_rule
 use Rattle.dump_lanes.specs.DoneRule.{notes_of}
 use Rattle.dump_lanes.specs.JobRule as job_rule
 use Rattle.dump_lanes.specs.LaneMarks.{items_of, AreItemsThen}
-use Rattle.dump_lanes.specs.PoolPasses.{count_ends, marks_in}
+use Rattle.dump_lanes.specs.steps.PoolPasses.{count_ends, marks_in}
 use Rattle.dump_lanes.proofs.PoolMarks.{count_ends-append}
 
 module _ {X Y : Type 0} where

@@ -67,7 +67,7 @@ enum Told {
 }
 
 impl<T: Drop> LaneIn<T> {
-    ghost use Rattle.dump_lanes.specs.LaneViews.{sending, sent};
+    ghost use Rattle.dump_lanes.specs.steps.LaneViews.{sending, sent};
 
     /// Puts an item at the back, and waits for a place. An item that comes back was not put: so a put
     /// ends once the receiving end is gone.
@@ -103,7 +103,7 @@ impl<T: Drop> LaneIn<T> {
 }
 
 impl<T: Drop> LaneOut<T> {
-    ghost use Rattle.dump_lanes.specs.LaneViews.{receiving, sent, Settles, TakeStep};
+    ghost use Rattle.dump_lanes.specs.steps.LaneViews.{receiving, sent, Settles, TakeStep};
 
     /// Takes the item at the front, and waits for one. After `Closed` or `Lost` the answer stays.
     pub fn take<R: Wait>(&mut self, rt: &R) -> Taken<T>

@@ -1,7 +1,7 @@
 //! A pool of threads: the queues between them, and their ports.
 ghost use Rattle.std.specs.Option.{ForSome};
 ghost use Rattle.std.specs.Arc.{arc_value};
-ghost use Rattle.dump_lanes.specs.PoolNames.{AreFirst};
+ghost use Rattle.dump_lanes.specs.steps.PoolNames.{AreFirst};
 
 use crate::ends::Memory;
 use bell::Bells;
@@ -60,7 +60,7 @@ impl<J: Drop, D: Drop> Pool<J, D> {
     ghost use Rattle.std.specs.Prelude.{◌≡◌, ◌≤◌, true, false, map, IfOk, OnOk, OnErr};
     ghost use Rattle.std.specs.List.{range_with_len};
     ghost use Rattle.dump_lanes.specs.PortSides.{new_cutter, new_worker, new_sequencer, new_writer};
-    ghost use Rattle.dump_lanes.specs.PortViews.{pool_state, job_port, worker_ports, done_port, credit_port};
+    ghost use Rattle.dump_lanes.specs.steps.PortViews.{pool_state, job_port, worker_ports, done_port, credit_port};
 
     /// Makes the queues, and puts as many credits as the window is wide.
     pub fn new<R: Wait>(

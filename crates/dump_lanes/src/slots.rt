@@ -5,7 +5,7 @@
 //! 3. An item whose place is taken comes back: nothing in the row is overwritten.
 //! 4. A lift gives what stands in the place of its number, and leaves the place free.
 ghost use Rattle.std.specs.Prelude.{◌≡◌, ◌<◌, ◌≤◌, ◌↔◌, ◌%◌, Some, None, length, replicate, IsOk, IsNone, IfSome, IfOk, IfErr, OnOk, OnErr};
-ghost use Rattle.dump_lanes.specs.SlotRow.{slot_item, with_slot_item};
+ghost use Rattle.dump_lanes.specs.steps.SlotRow.{slot_item, with_slot_item};
 
 use crate::ends::Memory;
 use std::alloc::Global;
@@ -31,7 +31,7 @@ pub struct Slots<T> {
 }
 
 impl<T: Drop> Slots<T> {
-    ghost use Rattle.dump_lanes.specs.SlotViews.{slot_places};
+    ghost use Rattle.dump_lanes.specs.steps.SlotViews.{slot_places};
 
     /// Makes the row, and takes all the memory that it ever has.
     pub fn new(alloc: Global, window: usize) -> Result<Slots<T>, Memory>

@@ -1,6 +1,6 @@
 //! The stop word and its seats.
 ghost use Rattle.std.specs.Prelude.{◌≡◌, ◌<◌, ◌%◌, [], true, IfOk, IsTrue};
-ghost use Rattle.dump_lanes.specs.StopSeats.{Seat as SeatMarks, first_seat, half_seat, joined_seat, SeesOnlyRaised};
+ghost use Rattle.dump_lanes.specs.steps.StopSeats.{Seat as SeatMarks, first_seat, half_seat, joined_seat, SeesOnlyRaised};
 ghost use Rattle.atomic_table.specs.Seated.{TableId};
 
 use crate::ends::Memory;

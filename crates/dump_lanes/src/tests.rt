@@ -1,5 +1,5 @@
 ghost use Rattle.std.specs.Prelude.{◌≡◌};
-ghost use Rattle.dump_lanes.specs.LaneViews.{sending, sent, receiving};
+ghost use Rattle.dump_lanes.specs.steps.LaneViews.{sending, sent, receiving};
 
 mod drawing;
 mod pooling;

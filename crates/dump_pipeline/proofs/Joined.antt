@@ -6,12 +6,12 @@ use Rattle.std.proofs.lemmas.List.Sums.{sum_by-cons}
 use Rattle.std.proofs.KnownBytes.{Appends-nil}
 use Rattle.dump_lanes.specs.Arrivals.{first_numbers, Clash, IsWaiting}
 use Rattle.dump_lanes.specs.PortSides.{CutterSide, WorkerSide, WeighsSame, all_taken, all_given}
-use Rattle.dump_lanes.specs.StopSeats.{Seat, joined_seat, SeesOnlyRaised}
+use Rattle.dump_lanes.specs.steps.StopSeats.{Seat, joined_seat, SeesOnlyRaised}
 use Rattle.dump_lanes.proofs.Arrivals.{no_clash, none_waits}
 use Rattle.dump_records.proofs.Prefixes.{within}
 use Rattle.dump_rules.specs.Settings.{Settings}
 use Rattle.dump_writer.specs.SinkWords.{IsPrefixOf}
-use Rattle.dump_filter.specs.FilterState.{first_state}
+use Rattle.dump_filter.specs.steps.FilterState.{first_state}
 use Rattle.dump_pipeline.specs.declared.answer.Answer.{Answer}
 use Rattle.dump_pipeline.specs.declared.answer.Answer.TheVariants as answers
 use Rattle.dump_pipeline.specs.declared.answer.Failure.{Failure}
@@ -22,8 +22,8 @@ use Rattle.dump_pipeline.specs.declared.message.Checked.{Checked}
 use Rattle.dump_pipeline.specs.declared.message.NumberedPiece.{NumberedPiece}
 use Rattle.dump_pipeline.specs.declared.stage.End.{End}
 use Rattle.dump_pipeline.specs.declared.stage.End.TheVariants as ends
-use Rattle.dump_pipeline.specs.Messages.{job_number, job_numbers, checked_number, checked_numbers, text_of}
-use Rattle.dump_pipeline.specs.Parts.{end_answer, HasCut, HasWorked, HasEndedWith, HasSequenced, HasReceived, IsEndOf}
+use Rattle.dump_pipeline.specs.steps.Messages.{job_number, job_numbers, checked_number, checked_numbers, text_of}
+use Rattle.dump_pipeline.specs.steps.Parts.{end_answer, HasCut, HasWorked, HasEndedWith, HasSequenced, HasReceived, IsEndOf}
 use Rattle.dump_pipeline.specs.RunAnswer.{IsFilterPrefix, RunLeaves, SinkFailsOnly, ThreadsFailFirst}
 use Rattle.dump_pipeline.proofs.Released.{begins, memory}
 use Rattle.dump_pipeline.proofs.RunLemmas.{prefix_trans}

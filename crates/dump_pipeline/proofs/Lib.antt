@@ -4,3 +4,4 @@ pub mod Receiving
 pub mod Released
 pub mod RunLemmas
 pub mod Steps
+pub mod Values

@@ -3,8 +3,8 @@ use Rattle.std.proofs.Common.{◌≡◌, ◌∙◌, ℕ, Bool, true, false, List
 use Rattle.std.proofs.lemmas.List.{take-append-drop, length-take}
 use Rattle.std.proofs.KnownBytes.{Appends-trans}
 use Rattle.dump_writer.specs.SinkWords.{IsPrefixOf}
-use Rattle.dump_pipeline.specs.Parts.{HasReceived}
-use Rattle.dump_pipeline.specs.Sending.{StopsShort}
+use Rattle.dump_pipeline.specs.steps.Parts.{HasReceived}
+use Rattle.dump_pipeline.specs.steps.Sending.{StopsShort}
 
 -- only its first bytes were taken
 pub part_received : (failed : Bool) (text piece : List ℕ) (first old new : Option (List ℕ)) (count more : ℕ) → failed ≡ false

@@ -4,22 +4,22 @@ use Rattle.std.proofs.lemmas.List.{append-nil, length-append}
 use Rattle.dump_text.specs.declared.fault.FaultKind.{FaultKind}
 use Rattle.dump_records.specs.declared.record.Record.{Record}
 use Rattle.dump_records.specs.RecordText.{DumpRecord}
-use Rattle.dump_records.specs.RecordViews.{record_dump, record_number, record_item}
-use Rattle.dump_records.specs.CutterState.{CutterState}
+use Rattle.dump_records.specs.steps.RecordViews.{record_dump, record_number, record_item}
+use Rattle.dump_records.specs.steps.CutterState.{CutterState}
 use Rattle.dump_records.specs.DumpText.{Ending, EndsAfter, IsRecordOf}
 use Rattle.dump_rules.specs.Settings.{Settings}
 use Rattle.dump_writer.specs.SinkWords.{capped}
 use Rattle.dump_filter.specs.Counts.{report_of}
-use Rattle.dump_filter.specs.FilterState.{FilterState, first_state, AreAccepted, Accepts, Refuses, Finishes}
+use Rattle.dump_filter.specs.steps.FilterState.{FilterState, first_state, AreAccepted, Accepts, Refuses, Finishes}
 use Rattle.dump_filter.specs.declared.report.Report.{Report}
 use Rattle.dump_pipeline.specs.declared.answer.Answer.TheVariants as answers
 use Rattle.dump_pipeline.specs.FilterAnswer.{IsFilterAnswer}
 use Rattle.dump_pipeline.specs.declared.message.NumberedPiece.{NumberedPiece}
 use Rattle.dump_pipeline.specs.declared.stage.End.{End}
 use Rattle.dump_pipeline.specs.declared.stage.End.TheVariants as ends
-use Rattle.dump_pipeline.specs.Endings.{ending_of}
-use Rattle.dump_pipeline.specs.Messages.{text_of}
-use Rattle.dump_pipeline.specs.Parts.{HasFiltered, IsEndOf}
+use Rattle.dump_pipeline.specs.steps.Endings.{ending_of}
+use Rattle.dump_pipeline.specs.steps.Messages.{text_of}
+use Rattle.dump_pipeline.specs.steps.Parts.{HasFiltered, IsEndOf}
 use Rattle.dump_pipeline.specs.RunAnswer.{IsFilterPrefix}
 use Rattle.dump_pipeline.proofs.Ends.{record_once, ends_once}
 use Rattle.dump_pipeline.proofs.RunLemmas.{begun, stepped, refused, broken, finished, no_memory}

@@ -8,8 +8,8 @@ use Rattle.dump_text.specs.FaultTable.{NoFault}
 use Rattle.dump_records.specs.declared.record.Record.{Record}
 use Rattle.dump_records.specs.declared.cutter.Cut.TheVariants as cuts
 use Rattle.dump_records.specs.RecordText.{DumpRecord}
-use Rattle.dump_records.specs.RecordViews.{record_dump, record_number, record_item, CutStep}
-use Rattle.dump_records.specs.CutterState.{CutterState}
+use Rattle.dump_records.specs.steps.RecordViews.{record_dump, record_number, record_item, CutStep}
+use Rattle.dump_records.specs.steps.CutterState.{CutterState}
 use Rattle.dump_records.specs.DumpText.{Ending, BeginsWithRecords, HasRecords, EndsAfter, IsRecordOf}
 use Rattle.dump_records.proofs.CutLemmas.{count_fits}
 use Rattle.dump_records.proofs.ListLaw.{each_dump_has_one_list}
@@ -17,7 +17,7 @@ use Rattle.dump_records.proofs.Prefixes.{is_front, one_more, whole_list, begins_
 use Rattle.dump_rules.specs.Settings.{Settings}
 use Rattle.dump_writer.specs.SinkWords.{capped, IsPrefixOf}
 use Rattle.dump_filter.specs.Counts.{report_of}
-use Rattle.dump_filter.specs.FilterState.{Seen, FilterState, first_state, count_up_to, AreAccepted, Accepts, Refuses, Finishes}
+use Rattle.dump_filter.specs.steps.FilterState.{Seen, FilterState, first_state, count_up_to, AreAccepted, Accepts, Refuses, Finishes}
 use Rattle.dump_filter.specs.RecordFaults.{AreFaultFree, HoldsOfRecord, IsRecordFault}
 use Rattle.dump_filter.specs.WholeText.{IsCleanText}
 use Rattle.dump_filter.specs.Groups.{kept_revisions}
@@ -29,9 +29,9 @@ use Rattle.dump_filter.proofs.Answered.Outcome.{Stops, Ends}
 use Rattle.dump_pipeline.specs.declared.answer.Answer.{Answer}
 use Rattle.dump_pipeline.specs.declared.answer.Answer.TheVariants as answers
 use Rattle.dump_pipeline.specs.declared.answer.Failure.TheVariants as failures
-use Rattle.dump_pipeline.specs.Progress.{Progress}
+use Rattle.dump_pipeline.specs.steps.Progress.{Progress}
 use Rattle.dump_pipeline.specs.RunAnswer.{IsFilterPrefix, RunLeaves}
-use Rattle.dump_pipeline.specs.Sending.{Sends, StopsShort, EndsRun}
+use Rattle.dump_pipeline.specs.steps.Sending.{Sends, StopsShort, EndsRun}
 
 pub prefix_trans : (a b c : List ℕ) → IsPrefixOf a b → IsPrefixOf b c → IsPrefixOf a c
 prefix_trans a b c (x, is) (y, at) = (x ++ y, at ∙ ap (λ t. t ++ y) is ∙ append_assoc a x y)

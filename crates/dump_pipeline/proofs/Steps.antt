@@ -4,14 +4,14 @@ use Rattle.std.proofs.lemmas.Bool.{false≢true}
 use Rattle.std.proofs.lemmas.List.{append-nil, map-append}
 use Rattle.std.proofs.lemmas.Grind.{flat_map-append}
 use Rattle.dump_lanes.specs.Arrivals.{first_numbers, Clash, IsWaiting, Row}
-use Rattle.dump_lanes.specs.LaneEnds.{Sending}
+use Rattle.dump_lanes.specs.steps.LaneEnds.{Sending}
 use Rattle.dump_lanes.specs.PortSides.{CutterSide}
-use Rattle.dump_lanes.specs.SlotRow.{slot_item, with_slot_item}
+use Rattle.dump_lanes.specs.steps.SlotRow.{slot_item, with_slot_item}
 use Rattle.dump_lanes.proofs.Arrivals.{first_more, empty_row, arrived_more, released_more, same_row, next_is_missing, wrong_item, taken_place, still_clash}
 use Rattle.dump_lanes.proofs.PortsTogether.{all_then}
-use Rattle.dump_records.specs.CutterState.{CutterState}
+use Rattle.dump_records.specs.steps.CutterState.{CutterState}
 use Rattle.dump_records.specs.DumpText.{Ending, EndsAfter}
-use Rattle.dump_records.specs.RecordViews.{record_number, CutStep}
+use Rattle.dump_records.specs.steps.RecordViews.{record_number, CutStep}
 use Rattle.dump_records.specs.declared.cutter.Cut.TheVariants as cuts
 use Rattle.dump_records.specs.declared.record.Record.{Record}
 use Rattle.dump_records.proofs.CutLemmas.{count_fits}
@@ -23,8 +23,8 @@ use Rattle.dump_pipeline.specs.declared.message.NumberedPiece.{NumberedPiece}
 use Rattle.dump_pipeline.specs.declared.stage.End.{End}
 use Rattle.dump_pipeline.specs.declared.stage.Stage.{Stage}
 use Rattle.dump_pipeline.specs.declared.stage.Stage.TheVariants.{Going, Ended}
-use Rattle.dump_pipeline.specs.Messages.{job_number, job_numbers, checked_number, checked_numbers, piece_numbers, text_of}
-use Rattle.dump_pipeline.specs.Parts.{HasPut, HasCut, HasReleased, HasEndedWith, HasSequenced, stage_end}
+use Rattle.dump_pipeline.specs.steps.Messages.{job_number, job_numbers, checked_number, checked_numbers, piece_numbers, text_of}
+use Rattle.dump_pipeline.specs.steps.Parts.{HasPut, HasCut, HasReleased, HasEndedWith, HasSequenced, stage_end}
 
 -- no more records than bytes
 pub ends_within : (dump : List ℕ) (number : ℕ) (ending : Ending) → EndsAfter dump number ending → number ≤ length dump

@@ -1,9 +1,4 @@
-pub mod Endings
 pub mod FilterAnswer
-pub mod JoinedNumbers
-pub mod Messages
-pub mod Parts
 pub mod PlanViews
-pub mod Progress
 pub mod RunAnswer
-pub mod Sending
+pub mod steps

@@ -1,7 +1,7 @@
 //! The cutter.
 ghost use Rattle.std.specs.Prelude.{◌≡◌, ◌<◌, ◌≤◌, ◌^◌, [], length, false, is_none, IfSome};
-ghost use Rattle.dump_lanes.specs.PortViews.{job_port};
-ghost use Rattle.dump_pipeline.specs.Parts.{HasCut};
+ghost use Rattle.dump_lanes.specs.steps.PortViews.{job_port};
+ghost use Rattle.dump_pipeline.specs.steps.Parts.{HasCut};
 
 use crate::message::{Checked, Job, Run};
 use dump_lanes::{Credit, Drawn, JobPort, StopSeat, StopWord};

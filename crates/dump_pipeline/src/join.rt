@@ -1,14 +1,14 @@
 //! The end of a run: its threads are joined, and what they brought back is put together.
 ghost use Rattle.std.specs.Prelude.{◌≡◌, ◌≢◌, ◌+◌, ◌≤◌, ℕ, List, Option, length, map, true, false, All, vec_capacity};
-ghost use Rattle.dump_lanes.specs.LaneEnds.{LaneEnd};
-ghost use Rattle.dump_lanes.specs.LaneViews.{sending, sent, receiving};
+ghost use Rattle.dump_lanes.specs.steps.LaneEnds.{LaneEnd};
+ghost use Rattle.dump_lanes.specs.steps.LaneViews.{sending, sent, receiving};
 ghost use Rattle.dump_lanes.specs.PortSides.{AreWorkersOf};
-ghost use Rattle.dump_lanes.specs.PortViews.{job_port, worker_port, done_port, credit_port};
-ghost use Rattle.dump_lanes.specs.SlotViews.{slot_places};
+ghost use Rattle.dump_lanes.specs.steps.PortViews.{job_port, worker_port, done_port, credit_port};
+ghost use Rattle.dump_lanes.specs.steps.SlotViews.{slot_places};
 ghost use Rattle.dump_writer.specs.SinkWords.{IsPrefixOf};
-ghost use Rattle.dump_pipeline.specs.JoinedNumbers.{AreFirstItems, sequenced_numbers, written_numbers};
-ghost use Rattle.dump_pipeline.specs.Messages.{text_of};
-ghost use Rattle.dump_pipeline.specs.Parts.{HasCut, HasWorked, HasSequenced, HasReceived, CountsFailed, is_failure};
+ghost use Rattle.dump_pipeline.specs.steps.JoinedNumbers.{AreFirstItems, sequenced_numbers, written_numbers};
+ghost use Rattle.dump_pipeline.specs.steps.Messages.{text_of};
+ghost use Rattle.dump_pipeline.specs.steps.Parts.{HasCut, HasWorked, HasSequenced, HasReceived, CountsFailed, is_failure};
 ghost use Rattle.dump_pipeline.specs.RunAnswer.{RunLeaves, SinkFailsOnly};
 
 use crate::answer::{Answer, Failure};

@@ -1,10 +1,10 @@
 //! What a run needs, made before any thread is started.
 ghost use Rattle.std.specs.Prelude.{◌≡◌, ◌≤◌, [], length, map, replicate, false, None, vec_capacity};
 ghost use Rattle.std.specs.List.{range_with_len};
-ghost use Rattle.dump_lanes.specs.LaneViews.{sending, receiving};
+ghost use Rattle.dump_lanes.specs.steps.LaneViews.{sending, receiving};
 ghost use Rattle.dump_lanes.specs.PortSides.{new_cutter, new_worker, new_sequencer, new_writer};
-ghost use Rattle.dump_lanes.specs.PortViews.{pool_state, job_port, worker_ports, done_port, credit_port};
-ghost use Rattle.dump_lanes.specs.SlotViews.{slot_places};
+ghost use Rattle.dump_lanes.specs.steps.PortViews.{pool_state, job_port, worker_ports, done_port, credit_port};
+ghost use Rattle.dump_lanes.specs.steps.SlotViews.{slot_places};
 
 use crate::message::{Checked, Job, NumberedPiece, Run};
 use crate::plan::Plan;

@@ -5,10 +5,10 @@
 ghost use Rattle.std.specs.Prelude.{◌≡◌, ◌+◌, ◌<◌, ◌≤◌, ◌^◌, ℕ, List, length, Ok, Err};
 ghost use Rattle.std.specs.Result.{ForOk, ForErr};
 ghost use Rattle.dump_records.specs.DumpText.{EndsAfter};
-ghost use Rattle.dump_records.specs.RecordViews.{record_dump, record_number};
-ghost use Rattle.dump_digest.specs.DoneViews.{done_record, done_settings};
+ghost use Rattle.dump_records.specs.steps.RecordViews.{record_dump, record_number};
+ghost use Rattle.dump_digest.specs.steps.DoneViews.{done_record, done_settings};
 ghost use Rattle.dump_rules.specs.Settings.{Settings};
-ghost use Rattle.dump_pipeline.specs.Endings.{ending_of};
+ghost use Rattle.dump_pipeline.specs.steps.Endings.{ending_of};
 
 use crate::gate::Gate;
 use dump_digest::Done;

@@ -2,7 +2,7 @@
 ghost use Rattle.std.specs.Prelude.{◌≡◌, ◌≢◌, ℕ, IfOk, IfErr, OnOk, OnErr, IsTrue};
 ghost use Rattle.dump_writer.specs.SinkWords.{HasFailedSince};
 ghost use Rattle.dump_pipeline.specs.RunAnswer.{RunLeaves, SinkFailsOnly};
-ghost use Rattle.dump_pipeline.specs.Sending.{Sends, StopsShort, EndsRun};
+ghost use Rattle.dump_pipeline.specs.steps.Sending.{Sends, StopsShort, EndsRun};
 
 use crate::answer::{Answer, Failure};
 use crate::count::piece_len;

@@ -2,15 +2,15 @@
 ghost use Rattle.std.specs.Prelude.{◌≡◌, ◌+◌, ◌++◌, ◌∷◌, [], ℕ, List, Option, length, replicate, true, false, None, Some, Ok, Err};
 ghost use Rattle.std.specs.Result.{ForOk, ForErr};
 ghost use Rattle.dump_records.specs.DumpText.{EndsAfter};
-ghost use Rattle.dump_records.specs.RecordViews.{record_dump, record_number};
-ghost use Rattle.dump_digest.specs.DoneViews.{done_record, done_settings};
-ghost use Rattle.dump_lanes.specs.LaneViews.{sending, sent};
-ghost use Rattle.dump_lanes.specs.PortViews.{done_port};
-ghost use Rattle.dump_lanes.specs.SlotViews.{slot_places};
-ghost use Rattle.dump_pipeline.specs.Endings.{ending_of};
-ghost use Rattle.dump_pipeline.specs.Messages.{checked_numbers, text_of};
+ghost use Rattle.dump_records.specs.steps.RecordViews.{record_dump, record_number};
+ghost use Rattle.dump_digest.specs.steps.DoneViews.{done_record, done_settings};
+ghost use Rattle.dump_lanes.specs.steps.LaneViews.{sending, sent};
+ghost use Rattle.dump_lanes.specs.steps.PortViews.{done_port};
+ghost use Rattle.dump_lanes.specs.steps.SlotViews.{slot_places};
+ghost use Rattle.dump_pipeline.specs.steps.Endings.{ending_of};
+ghost use Rattle.dump_pipeline.specs.steps.Messages.{checked_numbers, text_of};
 ghost use Rattle.dump_pipeline.specs.declared.stage.Stage.{Stage as Stages};
-ghost use Rattle.dump_pipeline.specs.Parts.{HasFiltered, HasReleased, HasSequenced, is_failure, stage_end};
+ghost use Rattle.dump_pipeline.specs.steps.Parts.{HasFiltered, HasReleased, HasSequenced, is_failure, stage_end};
 
 use crate::message::{Checked, Job, Last, NumberedPiece, Run};
 use crate::stage::{End, Stage};

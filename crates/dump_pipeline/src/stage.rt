@@ -1,6 +1,6 @@
 //! How far the sequencer has come.
 ghost use Rattle.std.specs.Prelude.{◌≡◌};
-ghost use Rattle.dump_pipeline.specs.Parts.{end_answer, stage_end};
+ghost use Rattle.dump_pipeline.specs.steps.Parts.{end_answer, stage_end};
 
 use crate::answer::{Answer, Failure};
 use dump_filter::{Filter, Report};

@@ -1,9 +1,9 @@
 //! The threads of a run, and what each is held to.
 ghost use Rattle.std.specs.Prelude.{◌≡◌, ◌≤◌, [], length, map, replicate, false, true, All, None, IfSome, IfNone, OnSome, IsNone, vec_capacity};
-ghost use Rattle.dump_lanes.specs.LaneViews.{sending, sent};
-ghost use Rattle.dump_lanes.specs.PortViews.{job_port, worker_port, done_port};
-ghost use Rattle.dump_lanes.specs.SlotViews.{slot_places};
-ghost use Rattle.dump_pipeline.specs.Parts.{HasCut, HasWorked, HasSequenced, is_failure};
+ghost use Rattle.dump_lanes.specs.steps.LaneViews.{sending, sent};
+ghost use Rattle.dump_lanes.specs.steps.PortViews.{job_port, worker_port, done_port};
+ghost use Rattle.dump_lanes.specs.steps.SlotViews.{slot_places};
+ghost use Rattle.dump_pipeline.specs.steps.Parts.{HasCut, HasWorked, HasSequenced, is_failure};
 
 use crate::cut::{CutterEnd, CutterPort, cut};
 use crate::gate::Gate;

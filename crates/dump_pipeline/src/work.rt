@@ -1,7 +1,7 @@
 //! A worker.
 ghost use Rattle.std.specs.Prelude.{◌≡◌, [], false};
-ghost use Rattle.dump_lanes.specs.PortViews.{worker_port};
-ghost use Rattle.dump_pipeline.specs.Parts.{HasWorked};
+ghost use Rattle.dump_lanes.specs.steps.PortViews.{worker_port};
+ghost use Rattle.dump_pipeline.specs.steps.Parts.{HasWorked};
 
 use crate::gate::Gate;
 use crate::message::{Checked, Job, Run};

@@ -1,10 +1,10 @@
 //! The writer.
 ghost use Rattle.std.specs.Prelude.{◌≡◌, [], ◌++◌, ℕ, List, Option, length, false};
-ghost use Rattle.dump_lanes.specs.LaneEnds.{LaneEnd};
-ghost use Rattle.dump_lanes.specs.LaneViews.{receiving};
-ghost use Rattle.dump_lanes.specs.PortViews.{credit_port};
-ghost use Rattle.dump_pipeline.specs.Messages.{text_of};
-ghost use Rattle.dump_pipeline.specs.Parts.{HasReceived, CountsFailed};
+ghost use Rattle.dump_lanes.specs.steps.LaneEnds.{LaneEnd};
+ghost use Rattle.dump_lanes.specs.steps.LaneViews.{receiving};
+ghost use Rattle.dump_lanes.specs.steps.PortViews.{credit_port};
+ghost use Rattle.dump_pipeline.specs.steps.Messages.{text_of};
+ghost use Rattle.dump_pipeline.specs.steps.Parts.{HasReceived, CountsFailed};
 
 use crate::message::{Checked, Job, NumberedPiece, Run};
 use crate::plain::send;

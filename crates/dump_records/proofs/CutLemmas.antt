@@ -6,11 +6,11 @@ use Rattle.dump_text.specs.declared.fault.FaultKind.{FaultKind}
 use Rattle.dump_text.specs.HeaderBlock.{block_text, lines_bytes, starts_with_lf}
 use Rattle.dump_records.specs.RecordText.{DumpRecord, record_text, BeginsWithRecord, IsCutFault}
 use Rattle.dump_records.specs.DumpText.{Ending, line_feeds, IsCutInto, EndsAfter, IsRecordOf}
-use Rattle.dump_records.specs.CutterState.{IsCutUpTo}
-use Rattle.dump_records.specs.Standing.{IsGap, AreInside, StandsAt}
+use Rattle.dump_records.specs.steps.CutterState.{IsCutUpTo}
+use Rattle.dump_records.specs.steps.Standing.{IsGap, AreInside, StandsAt}
 use Rattle.dump_records.specs.declared.parts.Parts.{Parts}
-use Rattle.dump_records.specs.RecordPlaces.{record_between}
-use Rattle.dump_text.specs.Views.{block_dump, block_place, block_after}
+use Rattle.dump_records.specs.steps.RecordPlaces.{record_between}
+use Rattle.dump_text.specs.steps.Views.{block_dump, block_place, block_after}
 
 lfs_add : (m n : ℕ) → line_feeds m ++ line_feeds n ≡ line_feeds (m + n)
 lfs_add zero n = let e : n ≡ 0 + n = omega arith in ap line_feeds e

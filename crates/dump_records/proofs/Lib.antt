@@ -5,3 +5,4 @@ pub mod CutLemmas
 pub mod ListLaw
 pub mod Prefixes
 pub mod RecordLemmas
+pub mod Values

@@ -9,7 +9,7 @@ use Rattle.dump_text.specs.declared.fault.FaultKind.TheVariants as faults
 use Rattle.dump_text.specs.HeaderLine as line
 use Rattle.dump_text.specs.HeaderLine.{has_byte, header_text, is_header, count_named}
 use Rattle.dump_text.specs.HeaderBlock.{is_block, lines_bytes, block_text, BeginsWithBlock, HasBlock, block_fault}
-use Rattle.dump_text.specs.Scanning.{IsFirstLine, IsCutAtColon, IsNoHeader, HasLines}
+use Rattle.dump_text.specs.steps.Scanning.{IsFirstLine, IsCutAtColon, IsNoHeader, HasLines}
 use Rattle.dump_text.proofs.Splits.{Split, split}
 use Rattle.dump_text.proofs.Splits.Split.{Cut, Lacks}
 use Rattle.dump_text.proofs.Unique.{lawful, split_once, lawful_lines, lines_once, regroup}
@@ -18,7 +18,7 @@ use Rattle.dump_records.specs.HeaderRules.{property_length, text_length}
 use Rattle.dump_records.specs.RecordText.{DumpRecord, record_text, BeginsWithRecord, is_lawful, IsCutFault}
 use Rattle.dump_records.specs.DumpText.{Ending, line_feeds, IsCutInto, HasEnding, HasRecords}
 use Rattle.dump_records.specs.RecordLaws.{EachDumpHasOneList}
-use Rattle.dump_records.specs.Lawful.{header_fault}
+use Rattle.dump_records.specs.steps.Lawful.{header_fault}
 use Rattle.dump_records.proofs.Unique.{EndsWith, records_once}
 use Rattle.dump_records.proofs.PartLemmas.{no_block, unlawful, cut_short}
 use Rattle.dump_records.proofs.CutLemmas.{Stripped, strip, lfs_length, record_some}

@@ -9,19 +9,19 @@ use Rattle.dump_text.specs.declared.fault.FaultKind.TheVariants as faults
 use Rattle.dump_text.specs.FaultTable.{fault_code}
 use Rattle.dump_text.specs.HeaderLine as line
 use Rattle.dump_text.specs.HeaderBlock.{block_text, starts_with_lf, has_empty_line, BeginsWithBlock, HasBlock, block_fault}
-use Rattle.dump_text.specs.ReadHeaders.{headers_between, IsBlockBetween}
+use Rattle.dump_text.specs.steps.ReadHeaders.{headers_between, IsBlockBetween}
 use Rattle.dump_text.proofs.Unique.{block_once}
 use Rattle.dump_records.specs.HeaderRules.{property_length, text_length, has_bad_kind, has_bad_version, has_bad_number, has_bad_lengths}
 use Rattle.dump_records.specs.RecordText.{BeginsWithRecord, is_lawful, HasBlockWith, HoldsOfText, IsCutFault}
-use Rattle.dump_records.specs.RecordPlaces.{record_between}
+use Rattle.dump_records.specs.steps.RecordPlaces.{record_between}
 use Rattle.dump_records.proofs.Unique.{keeps}
-use Rattle.dump_records.specs.Lawful.{header_fault, IsUnlawful, LengthsOf}
+use Rattle.dump_records.specs.steps.Lawful.{header_fault, IsUnlawful, LengthsOf}
 use Rattle.dump_records.specs.declared.readings.Lengths.{Lengths}
 use Rattle.dump_records.specs.declared.readings.RecordHeader.{RecordHeader}
-use Rattle.dump_records.specs.HeaderReading.{IsHeaderOf}
+use Rattle.dump_records.specs.steps.HeaderReading.{IsHeaderOf}
 use Rattle.dump_text.specs.declared.block.Block.{Block}
-use Rattle.dump_text.specs.Views.{block_dump, block_place, block_after, block_headers}
-use Rattle.dump_records.specs.Standing.{IsGap, StandsAt}
+use Rattle.dump_text.specs.steps.Views.{block_dump, block_place, block_after, block_headers}
+use Rattle.dump_records.specs.steps.Standing.{IsGap, StandsAt}
 
 no_less : (fault : FaultKind) → fault_code fault < 1 → ⊥
 no_less faults.HeaderCut low = omega arith

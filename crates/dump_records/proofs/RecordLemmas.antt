@@ -2,11 +2,11 @@
 use Rattle.std.proofs.Common.{◌≡◌, ℕ, Bool, true, false, if◌then◌else◌, List, Option, Some, None, Bor, sym, ◌∙◌, subst}
 use Rattle.std.specs.Option.{option_copied, IfSome}
 use Rattle.dump_text.specs.HeaderLine.{header_value}
-use Rattle.dump_text.specs.ReadHeaders.{IsPartBetween}
+use Rattle.dump_text.specs.steps.ReadHeaders.{IsPartBetween}
 use Rattle.dump_text.proofs.BlockLemmas.{block_size}
 use Rattle.dump_text.proofs.ValueLemmas.{value_lent, if_copied}
 use Rattle.dump_records.specs.declared.record.Record.{Record}
-use Rattle.dump_records.specs.RecordViews.{record_item, IsInBlock}
+use Rattle.dump_records.specs.steps.RecordViews.{record_item, IsInBlock}
 
 -- a header's value stands in the block
 pub value_in_block : (r : Record) (name : List ℕ) (value : List ℕ)

@@ -1,11 +1,5 @@
 pub mod HeaderRules
 pub mod RecordText
-pub mod Lawful
-pub mod KindReading
-pub mod HeaderReading
 pub mod DumpText
-pub mod RecordPlaces
-pub mod Standing
-pub mod CutterState
-pub mod RecordViews
 pub mod RecordLaws
+pub mod steps

@@ -23,7 +23,7 @@ pub struct Cutter<'a> {
 }
 
 impl<'a> Model for Cutter<'a> {
-    ghost use Rattle.dump_records.specs.CutterState.{CutterState, IsCutUpTo};
+    ghost use Rattle.dump_records.specs.steps.CutterState.{CutterState, IsCutUpTo};
 
     ghost Value = { CutterState };
 
@@ -34,7 +34,7 @@ impl<'a> Model for Cutter<'a> {
 
 impl<'a> Cutter<'a> {
     ghost use Rattle.std.specs.Prelude.{◌≡◌};
-    ghost use Rattle.dump_records.specs.RecordViews.{CutStep};
+    ghost use Rattle.dump_records.specs.steps.RecordViews.{CutStep};
 
     /// A cutter at the front of the dump.
     pub fn new(dump: &'a [u8]) -> Cutter<'a>

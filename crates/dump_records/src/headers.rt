@@ -3,9 +3,9 @@ ghost use Rattle.std.specs.Prelude.{◌≡◌, ◌<◌, ◌^◌, ◌&&◌, IfSom
 ghost use Rattle.dump_text.specs.Names.{name_text, node_kind_name, copy_path_name};
 ghost use Rattle.dump_text.specs.HeaderLine.{has_header, header_value};
 ghost use Rattle.dump_records.specs.HeaderRules.{header_number, has_bad_kind, has_bad_version, has_bad_number, has_bad_lengths};
-ghost use Rattle.dump_records.specs.KindReading.{IsKindOf};
-ghost use Rattle.dump_records.specs.HeaderReading.{lines_of, AreNumbers, is_spelled, are_written, IsHeaderOf};
-ghost use Rattle.dump_records.specs.Lawful.{LengthsOf, IsUnlawful};
+ghost use Rattle.dump_records.specs.steps.KindReading.{IsKindOf};
+ghost use Rattle.dump_records.specs.steps.HeaderReading.{lines_of, AreNumbers, is_spelled, are_written, IsHeaderOf};
+ghost use Rattle.dump_records.specs.steps.Lawful.{LengthsOf, IsUnlawful};
 
 use crate::kind::{CopySource, KindParts};
 use crate::readings::{Lengths, Numbers, RecordHeader};

@@ -1,7 +1,7 @@
 //! The parts of the record that stands at a place of a dump, or why none stands there.
 ghost use Rattle.std.specs.Prelude.{◌≡◌, IfOk, IfErr, drop};
 ghost use Rattle.dump_records.specs.RecordText.{IsCutFault};
-ghost use Rattle.dump_records.specs.Standing.{StandsAt, IsGap};
+ghost use Rattle.dump_records.specs.steps.Standing.{StandsAt, IsGap};
 
 use crate::headers::read_header;
 use crate::readings::RecordHeader;

@@ -1,11 +1,11 @@
 //! A record of a dump, as a view into it.
 ghost use Rattle.std.specs.Prelude.{drop, ◌+◌, ◌<◌, ◌^◌};
-ghost use Rattle.dump_text.specs.Views.{block_dump, block_place, block_after, block_headers};
+ghost use Rattle.dump_text.specs.steps.Views.{block_dump, block_place, block_after, block_headers};
 ghost use Rattle.dump_records.specs.RecordText.{BeginsWithRecord};
-ghost use Rattle.dump_records.specs.RecordPlaces.{record_between};
+ghost use Rattle.dump_records.specs.steps.RecordPlaces.{record_between};
 ghost use Rattle.dump_records.specs.DumpText.{IsRecordOf};
-ghost use Rattle.dump_records.specs.Standing.{AreInside};
-ghost use Rattle.dump_records.specs.HeaderReading.{are_written, IsHeaderOf};
+ghost use Rattle.dump_records.specs.steps.Standing.{AreInside};
+ghost use Rattle.dump_records.specs.steps.HeaderReading.{are_written, IsHeaderOf};
 
 use crate::kind::{CopySource, KindParts, RecordKind};
 use crate::readings::RecordHeader;
@@ -35,9 +35,9 @@ impl<'a> Record<'a> {
     ghost use Rattle.dump_text.specs.Names.{path_name, revision_name, copy_path_name, copy_revision_name, property_length_name, text_length_name, node_kind_name, md5_name, sha1_name};
     ghost use Rattle.dump_text.specs.HeaderLine.{has_header, header_value};
     ghost use Rattle.dump_records.specs.HeaderRules.{kind_of, header_number};
-    ghost use Rattle.dump_records.specs.KindReading.{copy_in};
-    ghost use Rattle.dump_records.specs.RecordPlaces.{props_place, text_place, place_after};
-    ghost use Rattle.dump_records.specs.RecordViews.{record_dump, record_number, record_item, part_with, part_of_node, IsInBlock};
+    ghost use Rattle.dump_records.specs.steps.KindReading.{copy_in};
+    ghost use Rattle.dump_records.specs.steps.RecordPlaces.{props_place, text_place, place_after};
+    ghost use Rattle.dump_records.specs.steps.RecordViews.{record_dump, record_number, record_item, part_with, part_of_node, IsInBlock};
 
     /// Its number in the dump, from 0.
     pub fn number(&self) -> u64

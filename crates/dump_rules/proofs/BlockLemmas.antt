@@ -8,9 +8,9 @@ use Rattle.std.proofs.lemmas.Bool.{or_cases, or_left, or_right, and_parts, and_f
 use Rattle.std.proofs.lemmas.Bool.Decides.{nat_tests}
 use Rattle.std.proofs.lemmas.List.{length-drop}
 use Rattle.dump_rules.specs.declared.blocks.Ends.{Ends}
-use Rattle.dump_rules.specs.Blocks.{block_agrees, block_contradicts, ends_range, kind_agrees, kind_part_agrees, meets, parts_agree, raised_ends}
+use Rattle.dump_rules.specs.steps.Blocks.{block_agrees, block_contradicts, ends_range, kind_agrees, kind_part_agrees, meets, parts_agree, raised_ends}
 use Rattle.dump_rules.specs.RangeList.{Range}
-use Rattle.dump_rules.specs.ReadRanges.{contradicts, is_other, range_of, range_parts, part_agrees, part_contradicts}
+use Rattle.dump_rules.specs.steps.ReadRanges.{contradicts, is_other, range_of, range_parts, part_agrees, part_contradicts}
 use Rattle.dump_rules.proofs.RangeLemmas.{position_split}
 
 -- the first part

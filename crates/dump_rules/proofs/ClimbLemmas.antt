@@ -6,7 +6,7 @@ use Rattle.std.proofs.Math.Seq.{take-length}
 use Rattle.std.proofs.lemmas.List.{length-drop}
 use Rattle.dump_rules.specs.declared.ranges.Tops.{Tops}
 use Rattle.dump_rules.specs.RangeList.{Range, HasNumber, IsConsistent}
-use Rattle.dump_rules.specs.ReadRanges.{range_of, range_parts, part_agrees, raised, raised_by, climbed}
+use Rattle.dump_rules.specs.steps.ReadRanges.{range_of, range_parts, part_agrees, raised, raised_by, climbed}
 use Rattle.dump_rules.proofs.RangeLemmas.{position_split, position_whole, text_of_range}
 use Rattle.dump_rules.proofs.RangeListLemmas.{Reads, all_agree}
 

@@ -7,12 +7,12 @@ use Rattle.dump_text.proofs.BoolLemmas.{either_second, both_true as both, not_tr
 use Rattle.dump_rules.specs.Settings.{Settings, keeps_path}
 use Rattle.dump_rules.specs.Renumbering.{KeptRevisions}
 use Rattle.dump_rules.specs.RangeList.{Range, HasNumber}
-use Rattle.dump_rules.specs.ReadRanges.{range_of, range_parts}
+use Rattle.dump_rules.specs.steps.ReadRanges.{range_of, range_parts}
 use Rattle.dump_rules.specs.Mergeinfo.{MergeLine, IsMergeLine, IsMergeinfo, HasMergeLines}
-use Rattle.dump_rules.specs.ReadMergeinfo.{without_lf, value_reads}
+use Rattle.dump_rules.specs.steps.ReadMergeinfo.{without_lf, value_reads}
 use Rattle.dump_rules.specs.Rewriting.{staying_lines, HasMissingSource, HasForeignNumber}
-use Rattle.dump_rules.specs.Runs.{HaveNumbers, ranges_of, list_ranges}
-use Rattle.dump_rules.specs.NewLines.{line_list, line_misses, text_misses, range_foreign, part_foreign, list_foreign, line_foreign, text_foreign}
+use Rattle.dump_rules.specs.steps.Runs.{HaveNumbers, ranges_of, list_ranges}
+use Rattle.dump_rules.specs.steps.NewLines.{line_list, line_misses, text_misses, range_foreign, part_foreign, list_foreign, line_foreign, text_foreign}
 use Rattle.dump_rules.proofs.MergeinfoLemmas.{reads_exactly}
 use Rattle.dump_rules.proofs.RunsLaw.{have_numbers}
 use Rattle.dump_rules.proofs.ValueLemmas.{line_parts, texts_are}

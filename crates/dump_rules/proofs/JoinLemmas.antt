@@ -3,10 +3,10 @@ use Rattle.std.proofs.Common.{◌≡◌, ◌≢◌, ℕ, ◌+◌, ◌<◌, ◌�
 use Rattle.std.proofs.lemmas.Bool.Decides.{nat_tests, leb_tells}
 use Rattle.std.proofs.lemmas.Bool.{and_parts}
 use Rattle.dump_rules.specs.RangeList.{Range, HasNumber, IsConsistent, AreRuns}
-use Rattle.dump_rules.specs.ReadRanges.{is_other}
+use Rattle.dump_rules.specs.steps.ReadRanges.{is_other}
 use Rattle.dump_rules.specs.Rewriting.{IsSameMap}
 use Rattle.dump_rules.proofs.Unique.{runs_once}
-use Rattle.dump_rules.specs.Runs.{touches, reaching, joined_from, joined, ordered_into, ordered, runs_of, HaveNumbers}
+use Rattle.dump_rules.specs.steps.Runs.{touches, reaching, joined_from, joined, ordered_into, ordered, runs_of, HaveNumbers}
 
 -- the ranges have numbers, and each begins no lower than the one before
 abbrev pub Rises : List Range → Type 0

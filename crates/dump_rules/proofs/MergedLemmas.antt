@@ -4,8 +4,8 @@ use Rattle.std.specs.List.{slice_split}
 use Rattle.dump_rules.specs.declared.merged.Bounds.{Bounds}
 use Rattle.dump_rules.specs.declared.merged.Merged.{Merged}
 use Rattle.dump_rules.specs.Settings.{Settings}
-use Rattle.dump_rules.specs.ReadRanges.{range_of, range_parts}
-use Rattle.dump_rules.specs.Merged.{widened_by, parts_bounds, list_bounds, line_merged, lines_merged}
+use Rattle.dump_rules.specs.steps.ReadRanges.{range_of, range_parts}
+use Rattle.dump_rules.specs.steps.Merged.{widened_by, parts_bounds, list_bounds, line_merged, lines_merged}
 use Rattle.dump_rules.proofs.RangeLemmas.{position_split}
 
 -- one part more

@@ -11,8 +11,8 @@ use Rattle.dump_text.specs.HeaderLine.{has_byte}
 use Rattle.dump_text.proofs.Unique.{has_byte-append}
 use Rattle.dump_text.proofs.ScanLemmas.{front_lacks}
 use Rattle.dump_rules.specs.Mergeinfo.{MergeLine, IsMergeLine, HasMergeLines}
-use Rattle.dump_rules.specs.ReadRanges.{list_reads}
-use Rattle.dump_rules.specs.ReadMergeinfo.{colon_end, line_reads, without_lf, lines_read, value_reads}
+use Rattle.dump_rules.specs.steps.ReadRanges.{list_reads}
+use Rattle.dump_rules.specs.steps.ReadMergeinfo.{colon_end, line_reads, without_lf, lines_read, value_reads}
 use Rattle.dump_rules.proofs.RangeLemmas.{no_end, ends_so, front_so, ends_parts}
 use Rattle.dump_rules.proofs.RangeListLemmas.{AllLack, none_all, split_joined, parts_lack, list_lacks, list_is_read, read_is_list}
 

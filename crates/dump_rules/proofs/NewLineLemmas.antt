@@ -3,13 +3,13 @@ use Rattle.std.proofs.Common.{◌≡◌, ℕ, ◌+◌, ◌<◌, Bool, true, fals
 use Rattle.std.specs.List.{list_all, slice_split}
 use Rattle.std.proofs.lemmas.Bool.{and_parts}
 use Rattle.dump_rules.specs.RangeList.{Range, IsConsistent, runs_text}
-use Rattle.dump_rules.specs.ReadRanges.{list_reads}
-use Rattle.dump_rules.specs.ReadMergeinfo.{colon_end, line_reads}
+use Rattle.dump_rules.specs.steps.ReadRanges.{list_reads}
+use Rattle.dump_rules.specs.steps.ReadMergeinfo.{colon_end, line_reads}
 use Rattle.dump_rules.specs.Renumbering.{KeptRevisions, RiseFrom}
 use Rattle.dump_rules.specs.Settings.{Settings}
-use Rattle.dump_rules.specs.Runs.{HaveNumbers, ordered_into, ordered, joined, runs_of, list_ranges}
-use Rattle.dump_rules.specs.NewRanges.{new_ranges, list_new}
-use Rattle.dump_rules.specs.NewLines.{line_list, with_break, with_runs, with_new_line, with_new_lines}
+use Rattle.dump_rules.specs.steps.Runs.{HaveNumbers, ordered_into, ordered, joined, runs_of, list_ranges}
+use Rattle.dump_rules.specs.steps.NewRanges.{new_ranges, list_new}
+use Rattle.dump_rules.specs.steps.NewLines.{line_list, with_break, with_runs, with_new_line, with_new_lines}
 use Rattle.dump_rules.proofs.RangeLemmas.{position_split, position_whole}
 use Rattle.dump_rules.proofs.RangeListLemmas.{read_is_list}
 use Rattle.dump_rules.proofs.RunsLaw.{have_numbers, list_is}

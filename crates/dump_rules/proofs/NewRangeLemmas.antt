@@ -3,11 +3,11 @@ use Rattle.std.proofs.Common.{◌≡◌, ◌⊎◌, ◌↔◌, ℕ, zero, suc, �
 use Rattle.std.proofs.lemmas.Bool.Decides.{leb_tells, nat_tests}
 use Rattle.std.proofs.lemmas.List.Elements.{Contains-get_or}
 use Rattle.dump_rules.specs.RangeList.{Range, HasNumber, IsConsistent}
-use Rattle.dump_rules.specs.ReadRanges.{range_of, range_parts}
+use Rattle.dump_rules.specs.steps.ReadRanges.{range_of, range_parts}
 use Rattle.dump_rules.specs.Renumbering.{KeptRevisions, RiseFrom, new_number}
 use Rattle.dump_rules.specs.Rewriting.{IsRenumberedMap}
-use Rattle.dump_rules.specs.Runs.{HaveNumbers, with_range, ranges_of, list_ranges}
-use Rattle.dump_rules.specs.NewRanges.{new_range, kept_range, new_ranges, parts_ranges, list_new}
+use Rattle.dump_rules.specs.steps.Runs.{HaveNumbers, with_range, ranges_of, list_ranges}
+use Rattle.dump_rules.specs.steps.NewRanges.{new_range, kept_range, new_ranges, parts_ranges, list_new}
 use Rattle.dump_rules.proofs.ReachLemmas.{below, up_to, below-cons, up_to-cons, is_below, none_below, from_first, image_of_some}
 
 -- counts and places

@@ -14,7 +14,7 @@ use Rattle.dump_text.specs.HeaderLine.{has_byte}
 use Rattle.dump_text.proofs.Unique.{has_byte-append}
 use Rattle.dump_text.proofs.ScanLemmas.{has_at, back_lacks}
 use Rattle.dump_rules.specs.RangeList.{Range, star, IsSingle, IsSpan, IsRangeText}
-use Rattle.dump_rules.specs.ReadRanges.{ends_in_star, without_star, both, ends_at, ends_of, range_between, range_of}
+use Rattle.dump_rules.specs.steps.ReadRanges.{ends_in_star, without_star, both, ends_at, ends_of, range_between, range_of}
 
 -- digits
 

@@ -10,7 +10,7 @@ use Rattle.dump_text.proofs.BoolLemmas.{equals_itself as same, first_false, seco
 use Rattle.dump_text.specs.HeaderLine.{has_byte}
 use Rattle.dump_text.proofs.Unique.{has_byte-append}
 use Rattle.dump_rules.specs.RangeList.{Range, HasNumber, IsConsistent, star, IsRangeText, IsRangeList}
-use Rattle.dump_rules.specs.ReadRanges.{range_of, range_parts, is_other, contradicts, part_contradicts, part_agrees, list_reads}
+use Rattle.dump_rules.specs.steps.ReadRanges.{range_of, range_parts, is_other, contradicts, part_contradicts, part_agrees, list_reads}
 use Rattle.dump_rules.proofs.RangeLemmas.{number_lacks, range_of_text, text_of_range}
 
 -- parts that lack the byte, joined by it, are cut into themselves

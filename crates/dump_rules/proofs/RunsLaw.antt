@@ -9,9 +9,9 @@ use Rattle.std.proofs.lemmas.Str.Parse.{IsNumeralModel, numerals_by_value, digit
 use Rattle.dump_text.specs.Number.{number_of, spelled_number}
 use Rattle.dump_text.proofs.PartLemmas.{number_of-spelled, number_spells}
 use Rattle.dump_rules.specs.RangeList.{Range, HasNumber, AreRuns, star, IsRangeText, IsRangeList, run_text, runs_text}
-use Rattle.dump_rules.specs.ReadRanges.{range_parts}
+use Rattle.dump_rules.specs.steps.ReadRanges.{range_parts}
 use Rattle.dump_rules.specs.RangeLaws.{EachMapHasOneSpelling}
-use Rattle.dump_rules.specs.Runs.{HaveNumbers, ranges_of, list_ranges, runs_of}
+use Rattle.dump_rules.specs.steps.Runs.{HaveNumbers, ranges_of, list_ranges, runs_of}
 use Rattle.dump_rules.proofs.RangeLemmas.{number_parts, range_of_text}
 use Rattle.dump_rules.proofs.RangeListLemmas.{split_joined, all_lack}
 use Rattle.dump_rules.proofs.JoinLemmas.{runs_are, same_trans, same_sym}

@@ -6,11 +6,11 @@ use Rattle.std.proofs.lemmas.List.Elements.{All-head, All-tail, All-cons}
 use Rattle.std.proofs.lemmas.List.Sorted.{IsPermutation-sym, IsPermutation-map, All-permutation, Contains-permutation}
 use Rattle.dump_rules.specs.declared.ranges.Span.{Span}
 use Rattle.dump_rules.specs.RangeList.{Range, HasNumber, IsConsistent, run_text, runs_text}
-use Rattle.dump_rules.specs.ReadRanges.{range_of, range_parts, span_range}
+use Rattle.dump_rules.specs.steps.ReadRanges.{range_of, range_parts, span_range}
 use Rattle.dump_rules.specs.Renumbering.{KeptRevisions}
 use Rattle.dump_rules.specs.Rewriting.{IsSameMap}
-use Rattle.dump_rules.specs.Runs.{touches, reaching, joined_from, joined, runs_of, HaveNumbers, with_range}
-use Rattle.dump_rules.specs.NewRanges.{part_range, parts_ranges}
+use Rattle.dump_rules.specs.steps.Runs.{touches, reaching, joined_from, joined, runs_of, HaveNumbers, with_range}
+use Rattle.dump_rules.specs.steps.NewRanges.{part_range, parts_ranges}
 use Rattle.dump_rules.proofs.RangeLemmas.{position_split, position_whole}
 use Rattle.dump_rules.proofs.JoinLemmas.{Rises, runs_any_order}
 

@@ -7,11 +7,11 @@ use Rattle.dump_rules.specs.Settings.{Settings, keeps_path}
 use Rattle.dump_rules.specs.Renumbering.{KeptRevisions, RiseFrom}
 use Rattle.dump_rules.specs.RangeList.{Range, runs_text}
 use Rattle.dump_rules.specs.Mergeinfo.{MergeLine, IsMergeLine, IsMergeinfo, merge_line_text}
-use Rattle.dump_rules.specs.ReadMergeinfo.{colon_end, without_lf}
+use Rattle.dump_rules.specs.steps.ReadMergeinfo.{colon_end, without_lf}
 use Rattle.dump_rules.specs.Rewriting.{IsNewLine, IsNewMergeinfo, staying_lines, nonempty_lines}
-use Rattle.dump_rules.specs.Runs.{runs_of, list_ranges}
-use Rattle.dump_rules.specs.NewRanges.{new_ranges, list_new}
-use Rattle.dump_rules.specs.NewLines.{line_path, line_list, text_lines, with_break, with_runs, with_new_line, with_new_lines}
+use Rattle.dump_rules.specs.steps.Runs.{runs_of, list_ranges}
+use Rattle.dump_rules.specs.steps.NewRanges.{new_ranges, list_new}
+use Rattle.dump_rules.specs.steps.NewLines.{line_path, line_list, text_lines, with_break, with_runs, with_new_line, with_new_lines}
 use Rattle.dump_rules.proofs.RangeListLemmas.{split_joined, list_lacks}
 use Rattle.dump_rules.proofs.MergeinfoLemmas.{colon_end_is, bare, all_read}
 use Rattle.dump_rules.proofs.JoinLemmas.{runs_are}

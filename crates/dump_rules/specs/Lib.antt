@@ -3,12 +3,6 @@ pub mod Settings
 pub mod Renumbering
 pub mod RangeList
 pub mod Mergeinfo
-pub mod ReadRanges
-pub mod Blocks
-pub mod ReadMergeinfo
 pub mod Rewriting
 pub mod RangeLaws
-pub mod Runs
-pub mod NewRanges
-pub mod NewLines
-pub mod Merged
+pub mod steps

@@ -5,8 +5,8 @@
 ghost use Rattle.std.specs.Prelude.{◌≡◌, ℕ, ◌+◌, ◌≤◌, ◌∷◌, IfSome, length, option_copied};
 ghost use Rattle.std.specs.List.{list_any};
 ghost use Rattle.std.specs.List.Sorted.{IsNonDecreasingBy};
-ghost use Rattle.dump_rules.specs.Blocks.{IsFilled, block_contradicts, meets, parts_agree, parts_left, raised_ends};
-ghost use Rattle.dump_rules.specs.ReadRanges.{range_of, range_parts};
+ghost use Rattle.dump_rules.specs.steps.Blocks.{IsFilled, block_contradicts, meets, parts_agree, parts_left, raised_ends};
+ghost use Rattle.dump_rules.specs.steps.ReadRanges.{range_of, range_parts};
 
 use crate::ranges::{find, range};
 

@@ -1,10 +1,10 @@
 //! What values of svn:mergeinfo say to the filter: whether a source is missing, and which numbers they name.
 ghost use Rattle.std.specs.Prelude.{◌≡◌, ◌↔◌, ◌==◌, ◌||◌, ℕ, IfSome, IsSome};
 ghost use Rattle.std.specs.List.{slice_split};
-ghost use Rattle.dump_rules.specs.Merged.{is_outside, line_merged, lines_merged, list_bounds, nothing_merged, widened, widened_by};
+ghost use Rattle.dump_rules.specs.steps.Merged.{is_outside, line_merged, lines_merged, list_bounds, nothing_merged, widened, widened_by};
 ghost use Rattle.dump_rules.specs.Mergeinfo.{HasMergeLines};
-ghost use Rattle.dump_rules.specs.NewLines.{text_lines, value_foreign, value_misses};
-ghost use Rattle.dump_rules.specs.ReadRanges.{range_of, span_range};
+ghost use Rattle.dump_rules.specs.steps.NewLines.{text_lines, value_foreign, value_misses};
+ghost use Rattle.dump_rules.specs.steps.ReadRanges.{range_of, span_range};
 
 use crate::mergeinfo::{colon_end, cut_lf};
 use crate::options::Options;

@@ -1,7 +1,7 @@
 //! The ranges of svn:mergeinfo, read where they lie.
 ghost use Rattle.std.specs.Prelude.{◌≡◌, ◌==◌, not, option_map, position};
-ghost use Rattle.dump_rules.specs.Blocks.{parts_agree};
-ghost use Rattle.dump_rules.specs.ReadRanges.{ends_in_star, climbed, ends_of, list_reads, raised, raised_by, range_parts, range_of, span_range, without_star};
+ghost use Rattle.dump_rules.specs.steps.Blocks.{parts_agree};
+ghost use Rattle.dump_rules.specs.steps.ReadRanges.{ends_in_star, climbed, ends_of, list_reads, raised, raised_by, range_parts, range_of, span_range, without_star};
 
 use crate::blocks::each_part_agrees;
 use dump_text::number;

@@ -1,7 +1,7 @@
 //! The revisions that are kept, and their new numbers.
 ghost use Rattle.std.specs.Prelude.{◌≡◌, ◌++◌, ◌<◌, ◌≤◌, [], ◌∷◌, All, OnErr, OnOk, count_by, length, nat_le, nat_lt, option_map};
-ghost use Rattle.dump_rules.specs.NewRanges.{new_range};
-ghost use Rattle.dump_rules.specs.ReadRanges.{span_range};
+ghost use Rattle.dump_rules.specs.steps.NewRanges.{new_range};
+ghost use Rattle.dump_rules.specs.steps.ReadRanges.{span_range};
 ghost use Rattle.dump_rules.specs.Renumbering.{RiseFrom, image};
 
 use crate::memory::Memory;

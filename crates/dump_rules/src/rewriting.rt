@@ -3,13 +3,13 @@ ghost use Rattle.std.specs.Prelude.{◌≡◌, ◌==◌, ◌≤◌, ◌↔◌, [
 ghost use Rattle.std.specs.List.{list_all, slice_split};
 ghost use Rattle.dump_rules.specs.declared.rewriting.RewriteFault.TheVariants as faults;
 ghost use Rattle.dump_rules.specs.Mergeinfo.{HasMergeLines};
-ghost use Rattle.dump_rules.specs.NewLines.{text_lines, with_break, with_new_line, with_new_lines, with_runs};
+ghost use Rattle.dump_rules.specs.steps.NewLines.{text_lines, with_break, with_new_line, with_new_lines, with_runs};
 ghost use Rattle.dump_rules.specs.RangeList.{IsConsistent};
 ghost use Rattle.dump_rules.specs.Renumbering.{RiseFrom};
-ghost use Rattle.dump_rules.specs.ReadMergeinfo.{line_reads, lines_read};
-ghost use Rattle.dump_rules.specs.ReadRanges.{span_range};
+ghost use Rattle.dump_rules.specs.steps.ReadMergeinfo.{line_reads, lines_read};
+ghost use Rattle.dump_rules.specs.steps.ReadRanges.{span_range};
 ghost use Rattle.dump_rules.specs.Rewriting.{IsNewMergeinfo, HasForeignNumber, HasMissingSource};
-ghost use Rattle.dump_rules.specs.Runs.{HaveNumbers, runs_of};
+ghost use Rattle.dump_rules.specs.steps.Runs.{HaveNumbers, runs_of};
 
 use crate::memory::Memory;
 use crate::merged::Merged;

@@ -1,10 +1,10 @@
 //! New ranges of a line of mergeinfo, and how they are written.
 ghost use Rattle.std.specs.Prelude.{◌≡◌, ◌+◌, ◌<◌, ◌++◌, ◌==◌, [], IfOk, OnOk, codes, drop, if◌then◌else◌, length, map, option_map, take};
 ghost use Rattle.dump_text.specs.Number.{spelled_number};
-ghost use Rattle.dump_rules.specs.NewRanges.{list_new, part_range, parts_ranges};
+ghost use Rattle.dump_rules.specs.steps.NewRanges.{list_new, part_range, parts_ranges};
 ghost use Rattle.dump_rules.specs.RangeList.{IsConsistent, run_text, runs_text};
-ghost use Rattle.dump_rules.specs.ReadRanges.{range_of, range_parts, span_range};
-ghost use Rattle.dump_rules.specs.Runs.{HaveNumbers, joined, joined_from, reaching, runs_of, touches, with_range};
+ghost use Rattle.dump_rules.specs.steps.ReadRanges.{range_of, range_parts, span_range};
+ghost use Rattle.dump_rules.specs.steps.Runs.{HaveNumbers, joined, joined_from, reaching, runs_of, touches, with_range};
 
 use crate::memory::Memory;
 use crate::ranges::{Span, find, range};

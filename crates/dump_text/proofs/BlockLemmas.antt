@@ -10,9 +10,9 @@ use Rattle.dump_text.specs.Names.{known_names}
 use Rattle.dump_text.specs.HeaderLine as line
 use Rattle.dump_text.specs.HeaderLine.{is_header, header_text, is_named, has_header, header_value, count_named}
 use Rattle.dump_text.specs.HeaderBlock.{is_block, lines_bytes, block_text, BeginsWithBlock, HasBlock}
-use Rattle.dump_text.specs.ReadHeaders.{headers_of, AreHeaderLines, IsBlockBetween, IsPartBetween}
-use Rattle.dump_text.specs.KnownValues.{may_follow}
-use Rattle.dump_text.specs.Scanning.{IsLinesEnd, IsBlockEnd, HasLines}
+use Rattle.dump_text.specs.steps.ReadHeaders.{headers_of, AreHeaderLines, IsBlockBetween, IsPartBetween}
+use Rattle.dump_text.specs.steps.KnownValues.{may_follow}
+use Rattle.dump_text.specs.steps.Scanning.{IsLinesEnd, IsBlockEnd, HasLines}
 use Rattle.dump_text.proofs.Unique.{lines_once, lawful_lines, ended}
 use Rattle.dump_text.proofs.BoolLemmas.{first_true, second_true, absurd_bool}
 use Rattle.dump_text.proofs.ScanLemmas.{headers_of-lines, lines_behind}

@@ -11,3 +11,4 @@ pub mod WrittenLemmas
 pub mod PropertyTruth
 pub mod Splits
 pub mod PropertyChoice
+pub mod Values

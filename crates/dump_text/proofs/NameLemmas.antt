@@ -8,8 +8,8 @@ use Rattle.dump_text.specs.contracts.names.HeaderName as enum
 use Rattle.dump_text.specs.declared.names.HeaderName.{HeaderName}
 use Rattle.dump_text.specs.declared.names.HeaderName.TheVariants.{FormatVersion, Uuid, RevisionNumber, NodePath, PropContentLength, TextContentLength, ContentLength, NodeCopyfromRev, NodeCopyfromPath, TextCopySourceMd5, TextCopySourceSha1, NodeKind, NodeAction, TextContentMd5, TextContentSha1}
 use Rattle.dump_text.specs.Names.{name_text}
-use Rattle.dump_text.specs.KnownValues.{all_names, name_place, known_name, names_of_length}
-use Rattle.dump_text.specs.Scanning.{is_known}
+use Rattle.dump_text.specs.steps.KnownValues.{all_names, name_place, known_name, names_of_length}
+use Rattle.dump_text.specs.steps.Scanning.{is_known}
 
 -- what is found among some elements, by the first of them
 pub find_behind : {X : Type 0} (p : X → Bool) (x : X) (xs : List X) → p x ≡ false → find p (x ∷ xs) ≡ find p xs

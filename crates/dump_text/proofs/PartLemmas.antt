@@ -9,8 +9,8 @@ use Rattle.std.proofs.lemmas.Str.Parse.{digit_from_value}
 use Rattle.dump_text.specs.HeaderLine.{has_byte}
 use Rattle.dump_text.specs.Number.{is_number, number_of, spelled_number}
 use Rattle.dump_text.specs.PropertyList.{sized_text}
-use Rattle.dump_text.specs.Scanning.{IsFirstLine}
-use Rattle.dump_text.specs.PropertyScan.{IsSized, HasSized, IsLetter}
+use Rattle.dump_text.specs.steps.Scanning.{IsFirstLine}
+use Rattle.dump_text.specs.steps.PropertyScan.{IsSized, HasSized, IsLetter}
 use Rattle.dump_text.proofs.Unique.{tail-eq, split_once, split_by_length}
 use Rattle.dump_text.proofs.BoolLemmas.{first_true, second_true}
 

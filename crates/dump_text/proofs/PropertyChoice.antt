@@ -6,8 +6,8 @@ use Rattle.std.proofs.lemmas.Slice.Eq.{bytes_eq-Decides}
 use borrow.Author.Tests.{ltb-true, ltb-false}
 use Rattle.dump_text.specs.Number.{number_of}
 use Rattle.dump_text.specs.PropertyList.{Property, HasProperties, block_end}
-use Rattle.dump_text.specs.Scanning.{IsFirstLine}
-use Rattle.dump_text.specs.PropertyScan.{IsSized, HasSized, HasEntry, HasEntries}
+use Rattle.dump_text.specs.steps.Scanning.{IsFirstLine}
+use Rattle.dump_text.specs.steps.PropertyScan.{IsSized, HasSized, HasEntry, HasEntries}
 use Rattle.dump_text.proofs.Unique.{tail-eq}
 use Rattle.dump_text.proofs.ScanLemmas.{clash}
 use Rattle.dump_text.proofs.Splits.{Split, split}

@@ -4,8 +4,8 @@ use Rattle.std.proofs.Math.Logic.{∥∥₁_elim}
 use Rattle.std.specs.Coded.{Coded-set, coded_list, coded_ℕ}
 use Rattle.std.proofs.lemmas.List.{append-nil}
 use Rattle.dump_text.specs.PropertyList.{Property, sized_text, IsEntry, AreEntries, IsPropertyBlock, HasProperties, block_end, property_value}
-use Rattle.dump_text.specs.ReadHeaders.{IsPartBetween}
-use Rattle.dump_text.specs.PropertyScan.{IsSized, HasSized, HasEntry, HasEntries}
+use Rattle.dump_text.specs.steps.ReadHeaders.{IsPartBetween}
+use Rattle.dump_text.specs.steps.PropertyScan.{IsSized, HasSized, HasEntry, HasEntries}
 use Rattle.dump_text.proofs.BlockLemmas.{part_of_part}
 use Rattle.dump_text.proofs.PartLemmas.{sized_cut, part_once, part_inside}
 

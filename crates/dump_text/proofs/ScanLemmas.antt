@@ -11,8 +11,8 @@ use Rattle.dump_text.proofs.BoolLemmas.{equals_itself as same, first_true, first
 use Rattle.dump_text.specs.HeaderLine as line
 use Rattle.dump_text.specs.HeaderLine.{has_byte, header_text, is_header}
 use Rattle.dump_text.specs.HeaderBlock.{lines_bytes, starts_with_lf, has_empty_line}
-use Rattle.dump_text.specs.ReadHeaders.{header_of, headers_of, AreHeaderLines}
-use Rattle.dump_text.specs.Scanning.{IsFirstAt, IsFirstLine, IsCutAtColon, IsNoHeader, IsLinesEnd}
+use Rattle.dump_text.specs.steps.ReadHeaders.{header_of, headers_of, AreHeaderLines}
+use Rattle.dump_text.specs.steps.Scanning.{IsFirstAt, IsFirstLine, IsCutAtColon, IsNoHeader, IsLinesEnd}
 use Rattle.dump_text.proofs.Unique.{split_once, Lawful, lawful, text_no_lf, regroup, all_first, all_rest, not_empty, or_right, ended}
 
 -- a byte that stands at no place of a text isn't in it

@@ -5,7 +5,7 @@ use Rattle.std.proofs.lemmas.List.Elements.{All-nil, All-cons, All-head, All-tai
 use Rattle.std.proofs.lemmas.Slice.Eq.{bytes_eq-Decides}
 use Rattle.dump_text.specs.Number.{spelled_number}
 use Rattle.dump_text.specs.PropertyList.{Property, sized_text, AreEntries, IsPropertyBlock, HasProperties, block_end, entry_text, property_block_text}
-use Rattle.dump_text.specs.PropertyScan.{IsWritten}
+use Rattle.dump_text.specs.steps.PropertyScan.{IsWritten}
 use Rattle.dump_text.proofs.BoolLemmas.{absurd_bool}
 use Rattle.dump_text.proofs.PartLemmas.{number_spells, spelled_spells, number_of-spelled, sized_once, part_inside}
 use Rattle.dump_text.proofs.PropertyLemmas.{EntryParts, entry_parts, entry_shorter, property-eq, apart, no_entry-end}

@@ -3,12 +3,6 @@ pub mod Names
 pub mod HeaderLine
 pub mod FaultTable
 pub mod HeaderBlock
-pub mod ReadHeaders
-pub mod Scanning
 pub mod PropertyList
-pub mod PropertyScan
-pub mod Views
-pub mod KnownValues
-pub mod HeadersViews
-pub mod PropertyViews
 pub mod WritingLaws
+pub mod steps

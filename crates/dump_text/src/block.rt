@@ -2,7 +2,7 @@
 ghost use Rattle.std.specs.Prelude.{◌≡◌, ◌↔◌, IfOk, IfErr, IfSome, IsOk, option_copied, drop, ◌-◌};
 ghost use Rattle.dump_text.specs.HeaderLine.{header_value, has_header};
 ghost use Rattle.dump_text.specs.HeaderBlock.{HasBlock, block_fault, block_text};
-ghost use Rattle.dump_text.specs.ReadHeaders.{IsBlockBetween, IsPartBetween};
+ghost use Rattle.dump_text.specs.steps.ReadHeaders.{IsBlockBetween, IsPartBetween};
 
 use crate::fault::FaultKind;
 use crate::headers::Headers;
@@ -18,7 +18,7 @@ pub struct Block<'a> {
 }
 
 impl<'a> Block<'a> {
-    ghost use Rattle.dump_text.specs.Views.{block_dump, block_place, block_after, block_headers, lines_left, lines_text};
+    ghost use Rattle.dump_text.specs.steps.Views.{block_dump, block_place, block_after, block_headers, lines_left, lines_text};
 
     /// The block at a place of the dump; `HeaderCut` where no empty line follows, also at the end and past it, else
     /// `Header`.

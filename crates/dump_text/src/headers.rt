@@ -2,10 +2,10 @@
 ghost use Rattle.std.specs.Prelude.{◌≡◌, ◌++◌, List, [], ◌∷◌, IsTrue, MatchOption, take};
 ghost use Rattle.dump_text.specs.HeaderLine.{Header};
 ghost use Rattle.dump_text.specs.HeaderBlock.{HasBlock, block_fault};
-ghost use Rattle.dump_text.specs.ReadHeaders.{headers_of};
-ghost use Rattle.dump_text.specs.Scanning.{IsBlockEnd};
-ghost use Rattle.dump_text.specs.KnownValues.{AreValues, may_follow};
-ghost use Rattle.dump_text.specs.Views.{block_headers};
+ghost use Rattle.dump_text.specs.steps.ReadHeaders.{headers_of};
+ghost use Rattle.dump_text.specs.steps.Scanning.{IsBlockEnd};
+ghost use Rattle.dump_text.specs.steps.KnownValues.{AreValues, may_follow};
+ghost use Rattle.dump_text.specs.steps.Views.{block_headers};
 
 use crate::block::Block;
 use crate::fault::FaultKind;
@@ -27,9 +27,9 @@ impl<'a> Headers<'a> {
     ghost use Rattle.std.specs.Prelude.{◌↔◌, IfOk, IfErr, IsOk, IfSome, option_copied, drop};
     ghost use Rattle.dump_text.specs.Names.{name_text};
     ghost use Rattle.dump_text.specs.HeaderLine.{header_value, has_header};
-    ghost use Rattle.dump_text.specs.ReadHeaders.{IsPartBetween};
-    ghost use Rattle.dump_text.specs.Views.{block_dump, block_place, block_after};
-    ghost use Rattle.dump_text.specs.HeadersViews.{headers_block};
+    ghost use Rattle.dump_text.specs.steps.ReadHeaders.{IsPartBetween};
+    ghost use Rattle.dump_text.specs.steps.Views.{block_dump, block_place, block_after};
+    ghost use Rattle.dump_text.specs.steps.HeadersViews.{headers_block};
 
     /// The block at a place of the dump with its values; `HeaderCut` where no empty line follows, also at the end and
     /// past it, else `Header`.

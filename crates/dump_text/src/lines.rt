@@ -1,6 +1,6 @@
 //! The header lines of a block, one after another.
 ghost use Rattle.std.specs.Prelude.{◌≡◌, ◌++◌, codes};
-ghost use Rattle.dump_text.specs.ReadHeaders.{AreHeaderLines};
+ghost use Rattle.dump_text.specs.steps.ReadHeaders.{AreHeaderLines};
 
 use crate::scan::{first_line, name_and_value};
 
@@ -22,7 +22,7 @@ pub struct Lines<'a> {
 
 impl<'a> Iterator for Lines<'a> {
     ghost use Rattle.std.specs.Iterator.{item_count};
-    ghost use Rattle.dump_text.specs.Views.{LineStep, lines_left};
+    ghost use Rattle.dump_text.specs.steps.Views.{LineStep, lines_left};
 
     type Item = Line<'a>;
 

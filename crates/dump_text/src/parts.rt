@@ -1,7 +1,7 @@
 //! The scan of a property block: a part of an entry, and a whole entry.
 ghost use Rattle.std.specs.Prelude.{◌≡◌, MatchOption, bytes_eq, length};
 ghost use Rattle.dump_text.specs.Number.{spelled_number};
-ghost use Rattle.dump_text.specs.PropertyScan.{IsLetter, HasLetter, HasSized, IsPartOf, HasEntry, IsEntryOf};
+ghost use Rattle.dump_text.specs.steps.PropertyScan.{IsLetter, HasLetter, HasSized, IsPartOf, HasEntry, IsEntryOf};
 
 use crate::numbers::{number, spell};
 use crate::scan::first_line;

@@ -1,8 +1,8 @@
 //! A property block, read where it stands.
 ghost use Rattle.std.specs.Prelude.{◌≡◌, ◌↔◌, List, length, bytes_eq, IsTrue, IsSome, IfSome, MatchOption, option_copied};
 ghost use Rattle.dump_text.specs.PropertyList.{Property, IsPropertyBlock, HasProperties, property_value, property_block_text};
-ghost use Rattle.dump_text.specs.PropertyScan.{HasEntries, IsWritten};
-ghost use Rattle.dump_text.specs.ReadHeaders.{IsPartBetween};
+ghost use Rattle.dump_text.specs.steps.PropertyScan.{HasEntries, IsWritten};
+ghost use Rattle.dump_text.specs.steps.ReadHeaders.{IsPartBetween};
 
 use crate::parts::{entry, is_shortest};
 
@@ -21,7 +21,7 @@ pub struct Props<'a> {
 }
 
 impl<'a> Props<'a> {
-    ghost use Rattle.dump_text.specs.PropertyViews.{props_bytes, entries_text, HasEntriesLeft};
+    ghost use Rattle.dump_text.specs.steps.PropertyViews.{props_bytes, entries_text, HasEntriesLeft};
 
     /// The property block that the bytes are, from the first to the last; no bytes at all are the empty list.
     pub fn read(block: &'a [u8]) -> Option<Props<'a>>
@@ -95,7 +95,7 @@ pub struct Entries<'a> {
 
 impl<'a> Iterator for Entries<'a> {
     ghost use Rattle.std.specs.Iterator.{item_count};
-    ghost use Rattle.dump_text.specs.PropertyViews.{EntryStep, entries_text};
+    ghost use Rattle.dump_text.specs.steps.PropertyViews.{EntryStep, entries_text};
 
     type Item = Entry<'a>;
 

@@ -2,7 +2,7 @@
 ghost use Rattle.std.specs.Prelude.{◌≡◌, MatchOption, IsFalse};
 ghost use Rattle.dump_text.specs.HeaderLine.{has_byte};
 ghost use Rattle.dump_text.specs.HeaderBlock.{starts_with_lf, has_empty_line};
-ghost use Rattle.dump_text.specs.Scanning.{IsFirstAt, IsFirstLine, IsCutAtColon, IsNoHeader};
+ghost use Rattle.dump_text.specs.steps.Scanning.{IsFirstAt, IsFirstLine, IsCutAtColon, IsNoHeader};
 
 use memchr::memchr;
 

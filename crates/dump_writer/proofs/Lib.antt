@@ -1,2 +1,3 @@
 pub mod SinkLemmas
 pub mod PieceLemmas
+pub mod Values

@@ -5,7 +5,7 @@ use Rattle.std.proofs.lemmas.Grind.{flat_map-append}
 use Rattle.std.specs.Io.KnownBytes.{Appends}
 use Rattle.std.proofs.KnownBytes.{Appends-trans}
 use Rattle.dump_writer.specs.declared.piece.Chunk.{Chunk}
-use Rattle.dump_writer.specs.ChunkBytes.{chunk_bytes, bytes_of_chunks}
+use Rattle.dump_writer.specs.steps.ChunkBytes.{chunk_bytes, bytes_of_chunks}
 use Rattle.dump_writer.specs.SinkWords.{TakesOnlyFirst, capped}
 use Rattle.dump_writer.proofs.SinkLemmas.{take-add}
 

@@ -1,7 +1,7 @@
 //! Pieces of what is written, in chunks, and how a piece goes into a sink.
 ghost use Rattle.std.specs.Prelude.{◌≡◌, ◌<◌, ◌≤◌, ◌++◌, [], length, take, OnOk, OnErr, IfErr};
 ghost use Rattle.std.specs.Io.KnownBytes.{Appends};
-ghost use Rattle.dump_writer.specs.ChunkBytes.{chunk_bytes, bytes_of_chunks};
+ghost use Rattle.dump_writer.specs.steps.ChunkBytes.{chunk_bytes, bytes_of_chunks};
 ghost use Rattle.dump_writer.specs.SinkWords.{TakesOnlyFirst, HasFailedSince};
 
 use crate::sink::{Sink, SinkDown, SinkFault};
@@ -53,7 +53,7 @@ pub struct Piece<'a> {
 
 impl<'a> Model for Piece<'a> {
     ghost use Rattle.std.specs.Prelude.{List, ℕ};
-    ghost use Rattle.dump_writer.specs.ChunkBytes.{bytes_of_chunks};
+    ghost use Rattle.dump_writer.specs.steps.ChunkBytes.{bytes_of_chunks};
 
     ghost Value = { List ℕ };
 

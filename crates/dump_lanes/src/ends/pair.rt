@@ -1,7 +1,7 @@
 //! How the two ends of a lane are made.
 ghost use Rattle.std.specs.Prelude.{◌≡◌, ◌≤◌, ◌+◌, [], IfOk};
-ghost use Rattle.dump_lanes.specs.LaneEnds.{LaneEnd};
-ghost use Rattle.dump_lanes.specs.LaneViews.{sending, receiving, places};
+ghost use Rattle.dump_lanes.specs.steps.LaneEnds.{LaneEnd};
+ghost use Rattle.dump_lanes.specs.steps.LaneViews.{sending, receiving, places};
 
 use super::{LaneIn, LaneOut, Told};
 use crate::protocol::{InOrder, Log, Mark, Roles};

@@ -3,8 +3,8 @@ ghost use Rattle.std.specs.Prelude.{◌≡◌, ◌+◌, [], ◌∷◌, ◌++◌,
 ghost use Rattle.std.specs.Arc.{arc_value};
 ghost use Rattle.crossbeam_queue.specs.Passes.{view, IsSamePass, IsPassOf};
 ghost use Rattle.dump_lanes.specs.JobRule.{after_ends};
-ghost use Rattle.dump_lanes.specs.PoolPasses.{IsCutting};
-ghost use Rattle.dump_lanes.specs.StopSeats.{SeesOnlyRaised};
+ghost use Rattle.dump_lanes.specs.steps.PoolPasses.{IsCutting};
+ghost use Rattle.dump_lanes.specs.steps.StopSeats.{SeesOnlyRaised};
 ghost use Rattle.dump_lanes.specs.declared.protocol.Mark.TheVariants.{End};
 
 use super::bell::Bells;
@@ -31,8 +31,8 @@ pub struct JobPort<J: Drop, D: Drop> {
 }
 
 impl<J: Drop, D: Drop> JobPort<J, D> {
-    ghost use Rattle.dump_lanes.specs.CreditViews.{is_stop};
-    ghost use Rattle.dump_lanes.specs.PortViews.{job_port, DrawStep};
+    ghost use Rattle.dump_lanes.specs.steps.CreditViews.{is_stop};
+    ghost use Rattle.dump_lanes.specs.steps.PortViews.{job_port, DrawStep};
 
     /// Puts a job at the back, and waits for a place.
     pub fn put<R: Wait>(&mut self, rt: &R, job: J)

@@ -5,9 +5,9 @@ ghost use Rattle.std.specs.Arc.{arc_value};
 ghost use Rattle.crossbeam_queue.specs.Passes.{view, IsPassOf};
 ghost use Rattle.dump_lanes.specs.DoneRule.{reader};
 ghost use Rattle.dump_lanes.specs.JobRule.{cutter_hand};
-ghost use Rattle.dump_lanes.specs.PoolNames.{AreFirst, AreShares, state_of};
+ghost use Rattle.dump_lanes.specs.steps.PoolNames.{AreFirst, AreShares, state_of};
 ghost use Rattle.dump_lanes.specs.PortSides.{new_cutter, new_worker, new_sequencer, new_writer};
-ghost use Rattle.dump_lanes.specs.PortViews.{job_port, worker_port, worker_ports, done_port, credit_port};
+ghost use Rattle.dump_lanes.specs.steps.PortViews.{job_port, worker_port, worker_ports, done_port, credit_port};
 
 use super::Ports;
 use super::credits::CreditRoles;

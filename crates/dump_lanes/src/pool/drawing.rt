@@ -2,8 +2,8 @@
 ghost use Rattle.std.specs.Prelude.{◌≡◌, true, []};
 ghost use Rattle.crossbeam_queue.specs.Passes.{view, IsSamePass, IsPassOf};
 ghost use Rattle.dump_lanes.specs.CreditRule.{purse};
-ghost use Rattle.dump_lanes.specs.CreditViews.{HasDrawn, is_stop};
-ghost use Rattle.dump_lanes.specs.StopSeats.{SeesOnlyRaised};
+ghost use Rattle.dump_lanes.specs.steps.CreditViews.{HasDrawn, is_stop};
+ghost use Rattle.dump_lanes.specs.steps.StopSeats.{SeesOnlyRaised};
 
 use super::bell::{Bells, Patience};
 use super::credits::{AddsFirst, CreditQueue, Draws, Purse, Token};

@@ -2,7 +2,7 @@
 ghost use Rattle.std.specs.Prelude.{◌≡◌, ◌+◌, ◌<◌, true, IfSome, IfNone, option_to_list};
 ghost use Rattle.std.specs.Arc.{arc_value};
 ghost use Rattle.crossbeam_queue.specs.Passes.{view, IsSamePass, IsPassOf};
-ghost use Rattle.dump_lanes.specs.PoolPasses.{IsSequencing, HasRead, count_ends, marks_in};
+ghost use Rattle.dump_lanes.specs.steps.PoolPasses.{IsSequencing, HasRead, count_ends, marks_in};
 
 use super::bell::Bells;
 use super::dones::{Desk, DoneQueue, Note, TakesNote};
@@ -23,7 +23,7 @@ pub struct DonePort<J: Drop, D: Drop> {
 }
 
 impl<J: Drop, D: Drop> DonePort<J, D> {
-    ghost use Rattle.dump_lanes.specs.PortViews.{done_port, DoneStep};
+    ghost use Rattle.dump_lanes.specs.steps.PortViews.{done_port, DoneStep};
 
     /// Takes the item at the front, and waits for one. `None`: each worker has closed its port, and the
     /// answer stays.

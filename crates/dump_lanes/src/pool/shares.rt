@@ -1,7 +1,7 @@
 //! The queues of a pool, shared by its ports.
 ghost use Rattle.std.specs.Prelude.{◌≡◌, length, All, IfSome};
 ghost use Rattle.std.specs.Arc.{arc_value};
-ghost use Rattle.dump_lanes.specs.PoolNames.{AreShares};
+ghost use Rattle.dump_lanes.specs.steps.PoolNames.{AreShares};
 
 use super::queues::Queues;
 use std::alloc::Global;

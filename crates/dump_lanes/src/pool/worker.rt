@@ -4,7 +4,7 @@ ghost use Rattle.std.specs.Arc.{arc_value};
 ghost use Rattle.crossbeam_queue.specs.Passes.{view, IsPassOf};
 ghost use Rattle.dump_lanes.specs.DoneRule.{sender};
 ghost use Rattle.dump_lanes.specs.JobRule.{worker_hand};
-ghost use Rattle.dump_lanes.specs.PoolPasses.{IsWorking, IsGiving};
+ghost use Rattle.dump_lanes.specs.steps.PoolPasses.{IsWorking, IsGiving};
 
 use super::dones::{Desk, Note, PutsNote};
 use super::jobs::{Hand, TakesJob};
@@ -30,9 +30,9 @@ pub struct WorkerPort<J: Drop, D: Drop> {
 }
 
 impl<J: Drop, D: Drop> WorkerPort<J, D> {
-    ghost use Rattle.dump_lanes.specs.PoolNames.{state_of};
+    ghost use Rattle.dump_lanes.specs.steps.PoolNames.{state_of};
     ghost use Rattle.dump_lanes.specs.PortSides.{new_worker};
-    ghost use Rattle.dump_lanes.specs.PortViews.{worker_port, JobStep};
+    ghost use Rattle.dump_lanes.specs.steps.PortViews.{worker_port, JobStep};
 
     pub(super) fn new(
         queues: Arc<Queues<J, D>>,

@@ -2,7 +2,7 @@
 ghost use Rattle.std.specs.Prelude.{◌≡◌, ◌+◌};
 ghost use Rattle.std.specs.Arc.{arc_value};
 ghost use Rattle.crossbeam_queue.specs.Passes.{view, IsPassOf};
-ghost use Rattle.dump_lanes.specs.PoolPasses.{IsGivingBack};
+ghost use Rattle.dump_lanes.specs.steps.PoolPasses.{IsGivingBack};
 
 use super::credits::{Gives, Purse, Token};
 use super::drawing::Credit;
@@ -21,7 +21,7 @@ pub struct CreditPort<J: Drop, D: Drop> {
 }
 
 impl<J: Drop, D: Drop> CreditPort<J, D> {
-    ghost use Rattle.dump_lanes.specs.PortViews.{credit_port};
+    ghost use Rattle.dump_lanes.specs.steps.PortViews.{credit_port};
 
     /// Gives a credit of this pool back, so that the cutter can draw it again. (One of another pool counts
     /// here as well, and is gone there.)

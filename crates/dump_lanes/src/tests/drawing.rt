@@ -1,6 +1,6 @@
 //! A draw that finds no credit looks at the stop word before it tries again.
 ghost use Rattle.std.specs.Prelude.{◌≡◌};
-ghost use Rattle.dump_lanes.specs.PortViews.{job_port};
+ghost use Rattle.dump_lanes.specs.steps.PortViews.{job_port};
 
 use crate::{Drawn, JobPort, Pool, StopSeat, StopWord};
 use std::alloc::AllocError;

@@ -1,9 +1,9 @@
 //! Items through a whole pool: each is cut under a credit, taken by some worker, put into a lane, and
 //! its credit is given back by the thread that takes it from there. Then all ports are settled.
 ghost use Rattle.std.specs.Prelude.{◌≡◌, ◌≤◌, ◌%◌, IfSome, All, map, length, vec_capacity, true, false};
-ghost use Rattle.dump_lanes.specs.LaneViews.{sending, sent, receiving};
+ghost use Rattle.dump_lanes.specs.steps.LaneViews.{sending, sent, receiving};
 ghost use Rattle.dump_lanes.specs.PortSides.{AreWorkersOf, IsDone};
-ghost use Rattle.dump_lanes.specs.PortViews.{job_port, worker_port, worker_ports, done_port, credit_port};
+ghost use Rattle.dump_lanes.specs.steps.PortViews.{job_port, worker_port, worker_ports, done_port, credit_port};
 
 use super::threads::{Cutter, Sequencer, Worker};
 use crate::{

@@ -1,9 +1,9 @@
 //! The threads of a run.
 ghost use Rattle.std.specs.Prelude.{◌≡◌, true, false};
 ghost use Rattle.std.specs.Result.{ForOk, ForErr};
-ghost use Rattle.dump_lanes.specs.LaneViews.{sending, sent};
+ghost use Rattle.dump_lanes.specs.steps.LaneViews.{sending, sent};
 ghost use Rattle.dump_lanes.specs.PortSides.{IsDone};
-ghost use Rattle.dump_lanes.specs.PortViews.{job_port, worker_port, done_port};
+ghost use Rattle.dump_lanes.specs.steps.PortViews.{job_port, worker_port, done_port};
 
 use super::running::{Piece, cut, sequence, work};
 use super::starting::{Run, start};

@@ -1,5 +1,5 @@
 use Rattle.std.proofs.Common.{ap, sym, ◌∙◌, is_some}
-use Rattle.dump_records.specs.RecordViews.{record_item}
+use Rattle.dump_records.specs.steps.RecordViews.{record_item}
 use Rattle.dump_digest.proofs.KeptLemmas.{revision_told}
 use Rattle.dump_digest.proofs.content.read_content.Goals as goal
 

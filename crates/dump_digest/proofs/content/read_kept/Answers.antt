@@ -1,5 +1,5 @@
 use Rattle.std.proofs.Common.{◌≡◌, ◌↔◌, Bool, IsFalse, subst, sym}
-use Rattle.dump_records.specs.RecordViews.{record_item}
+use Rattle.dump_records.specs.steps.RecordViews.{record_item}
 use Rattle.dump_text.proofs.BoolLemmas.{first_true}
 use Rattle.dump_digest.specs.RecordParts.{is_node}
 use Rattle.dump_digest.specs.ContentFaults.{HasBadMergeinfo}

@@ -1,5 +1,5 @@
 use Rattle.std.proofs.Common.{◌&&◌, ◌||◌, sym, ap, ◌∙◌}
-use Rattle.dump_records.specs.RecordViews.{record_item}
+use Rattle.dump_records.specs.steps.RecordViews.{record_item}
 use Rattle.dump_digest.specs.RecordParts.{is_kept_node}
 use Rattle.dump_digest.proofs.VerdictLemmas.{other_verdict, asked}
 use Rattle.dump_digest.proofs.SaidLemmas.{content_of_other, bytes_told}

@@ -1,10 +1,10 @@
 use Rattle.std.proofs.Common.{sym, ap, ◌∙◌}
-use Rattle.dump_records.specs.RecordViews.{record_item}
+use Rattle.dump_records.specs.steps.RecordViews.{record_item}
 use Rattle.dump_records.specs.declared.record.Record.{Record}
-use Rattle.dump_digest.specs.DoneViews.{done_record, done_verdict}
+use Rattle.dump_digest.specs.steps.DoneViews.{done_record, done_verdict}
 use Rattle.dump_digest.specs.declared.verdict.Verdict.{Verdict}
-use Rattle.dump_filter.specs.State.{view_state}
-use Rattle.dump_filter.specs.Decision.{is_in_order}
+use Rattle.dump_filter.specs.steps.State.{view_state}
+use Rattle.dump_filter.specs.steps.Decision.{is_in_order}
 use Rattle.dump_filter.proofs.DecisionLemmas.{so, decided_in_order}
 use Rattle.dump_filter.proofs.decide.decide.Goals as goal
 

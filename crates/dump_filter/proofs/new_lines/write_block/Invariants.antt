@@ -1,7 +1,7 @@
 use Rattle.std.proofs.Common.{◌≡◌, ◌++◌}
 use Rattle.dump_text.specs.HeaderBlock.{lines_bytes}
-use Rattle.dump_text.specs.Views.{lines_left, block_headers}
-use Rattle.dump_filter.specs.NewLines.{renewed_lines}
+use Rattle.dump_text.specs.steps.Views.{lines_left, block_headers}
+use Rattle.dump_filter.specs.steps.NewLines.{renewed_lines}
 use Rattle.dump_filter.proofs.new_lines.write_block.Given as goal
 
 abbrev pub invariant-loop-line : goal.invariant-loop-line

@@ -1,11 +1,11 @@
 use Rattle.std.proofs.Common.{◌≡◌, List, ℕ, false, sym, subst, ◌++◌, codes, OnOk}
 use Rattle.dump_text.specs.PropertyList.{Property, IsPropertyBlock}
-use Rattle.dump_writer.specs.ChunkBytes.{chunk_bytes}
-use Rattle.dump_records.specs.RecordViews.{record_item}
+use Rattle.dump_writer.specs.steps.ChunkBytes.{chunk_bytes}
+use Rattle.dump_records.specs.steps.RecordViews.{record_item}
 use Rattle.dump_records.specs.declared.record.Record.{Record}
-use Rattle.dump_filter.specs.Advance.{IsOwnNode}
+use Rattle.dump_filter.specs.steps.Advance.{IsOwnNode}
 use Rattle.dump_filter.specs.NewContent.{AreNewProperties, new_block}
-use Rattle.dump_filter.specs.NewLines.{new_record}
+use Rattle.dump_filter.specs.steps.NewLines.{new_record}
 use Rattle.dump_filter.proofs.OutputLemmas.{on_ok, node_is}
 use Rattle.dump_filter.proofs.output.push_node.Goals as goal
 

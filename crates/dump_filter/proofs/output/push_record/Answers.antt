@@ -1,8 +1,8 @@
 use Rattle.std.proofs.Common.{ap, ◌∙◌, ◌++◌}
 use Rattle.dump_text.specs.HeaderBlock.{block_text}
-use Rattle.dump_writer.specs.ChunkBytes.{chunk_bytes}
-use Rattle.dump_records.specs.RecordViews.{record_item}
-use Rattle.dump_filter.specs.NewLines.{new_headers}
+use Rattle.dump_writer.specs.steps.ChunkBytes.{chunk_bytes}
+use Rattle.dump_records.specs.steps.RecordViews.{record_item}
+use Rattle.dump_filter.specs.steps.NewLines.{new_headers}
 use Rattle.dump_filter.proofs.OutputLemmas.{on_ok, chunks_out}
 use Rattle.dump_filter.proofs.output.push_record.Goals as goal
 

@@ -1,9 +1,9 @@
 use Rattle.std.proofs.Common.{◌≡◌, List, ap, sym, subst, ◌∙◌, ◌++◌, OnOk}
 use Rattle.dump_text.specs.PropertyList.{Property, IsPropertyBlock}
-use Rattle.dump_records.specs.RecordViews.{record_item}
+use Rattle.dump_records.specs.steps.RecordViews.{record_item}
 use Rattle.dump_records.specs.declared.record.Record.{Record}
-use Rattle.dump_digest.specs.ContentViews.{ArePropertiesOf}
-use Rattle.dump_filter.specs.OwnText.{revision_own}
+use Rattle.dump_digest.specs.steps.ContentViews.{ArePropertiesOf}
+use Rattle.dump_filter.specs.steps.OwnText.{revision_own}
 use Rattle.dump_filter.proofs.MergeLemmas.{asked_revision}
 use Rattle.dump_filter.proofs.OutputLemmas.{on_ok, revision_is}
 use Rattle.dump_filter.proofs.output.push_revision.Goals as goal

@@ -1,10 +1,10 @@
 use Rattle.std.proofs.Common.{◌≡◌, List, false, IfOk, sym, subst, ◌∙◌}
 use Rattle.dump_text.specs.PropertyList.{Property, IsPropertyBlock}
-use Rattle.dump_writer.specs.ChunkBytes.{chunk_bytes}
-use Rattle.dump_records.specs.RecordViews.{record_item}
+use Rattle.dump_writer.specs.steps.ChunkBytes.{chunk_bytes}
+use Rattle.dump_records.specs.steps.RecordViews.{record_item}
 use Rattle.dump_records.specs.declared.record.Record.{Record}
-use Rattle.dump_digest.specs.ContentViews.{ArePropertiesOf}
-use Rattle.dump_digest.specs.MergeFaults.{HasLines}
+use Rattle.dump_digest.specs.steps.ContentViews.{ArePropertiesOf}
+use Rattle.dump_digest.specs.steps.MergeFaults.{HasLines}
 use Rattle.dump_filter.specs.NewContent.{AreNewProperties, new_block}
 use Rattle.dump_filter.proofs.OutputLemmas.{if_ok}
 use Rattle.dump_filter.proofs.MergeLemmas.{read_lines, asked_node}

@@ -1,5 +1,5 @@
 use Rattle.std.proofs.Common.{◌<◌, ◌^◌, length, ◌∙◌}
-use Rattle.dump_text.specs.PropertyViews.{props_bytes}
+use Rattle.dump_text.specs.steps.PropertyViews.{props_bytes}
 use Rattle.dump_filter.proofs.PropertyOutput.{own_spelling}
 use Rattle.dump_filter.proofs.props.respelled.Goals as goal
 

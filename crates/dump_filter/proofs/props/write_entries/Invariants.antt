@@ -1,4 +1,4 @@
-use Rattle.dump_text.specs.PropertyViews.{props_bytes, entries_text}
+use Rattle.dump_text.specs.steps.PropertyViews.{props_bytes, entries_text}
 use Rattle.dump_filter.proofs.PropertyOutput.{IsLeftOf}
 use Rattle.dump_filter.proofs.props.write_entries.Given as goal
 

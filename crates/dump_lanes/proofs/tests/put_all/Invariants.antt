@@ -1,5 +1,5 @@
 use Rattle.std.proofs.Common.{◌≡◌}
-use Rattle.dump_lanes.specs.LaneViews.{sending}
+use Rattle.dump_lanes.specs.steps.LaneViews.{sending}
 use Rattle.dump_lanes.proofs.tests.put_all.Given as goal
 
 abbrev pub invariant-loop-number : goal.invariant-loop-number

@@ -1,6 +1,6 @@
 use Rattle.std.proofs.Common.{◌≡◌}
-use Rattle.dump_lanes.specs.PortViews.{job_port}
-use Rattle.dump_pipeline.specs.Parts.{HasPut}
+use Rattle.dump_lanes.specs.steps.PortViews.{job_port}
+use Rattle.dump_pipeline.specs.steps.Parts.{HasPut}
 use Rattle.dump_pipeline.proofs.cut.cut_all.Given as goal
 
 abbrev pub invariant-loop : goal.invariant-loop

@@ -2,8 +2,8 @@ use Rattle.std.proofs.Common.{◌≡◌, sym, ap, ◌∙◌, subst, refl, Some, 
 use Rattle.dump_text.specs.declared.fault.FaultKind.{FaultKind}
 use Rattle.dump_records.specs.declared.cutter.Cut.{Cut}
 use Rattle.dump_records.specs.declared.record.Record.{Record}
-use Rattle.dump_records.specs.RecordViews.{record_dump, record_item, record_number, CutStep}
-use Rattle.dump_filter.specs.FilterState.{Accepts, Refuses}
+use Rattle.dump_records.specs.steps.RecordViews.{record_dump, record_item, record_number, CutStep}
+use Rattle.dump_filter.specs.steps.FilterState.{Accepts, Refuses}
 use Rattle.dump_pipeline.specs.declared.answer.Answer.TheVariants as answers
 use Rattle.dump_pipeline.specs.RunAnswer.{RunLeaves}
 use Rattle.dump_pipeline.proofs.RunLemmas.{begun, finished, broken, refused, no_memory, sink_failed, stepped, smaller}

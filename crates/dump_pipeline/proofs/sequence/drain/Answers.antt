@@ -1,8 +1,8 @@
 use Rattle.std.proofs.Common.{ap, ◌∙◌}
 use Rattle.dump_lanes.specs.PortSides.{SequencerSide}
-use Rattle.dump_lanes.specs.PortViews.{done_port}
+use Rattle.dump_lanes.specs.steps.PortViews.{done_port}
 use Rattle.dump_pipeline.specs.declared.message.Checked.{Checked}
-use Rattle.dump_pipeline.specs.Messages.{checked_numbers}
+use Rattle.dump_pipeline.specs.steps.Messages.{checked_numbers}
 use Rattle.dump_pipeline.proofs.Steps.{more_taken}
 use Rattle.dump_pipeline.proofs.sequence.drain.Goals as goal
 

@@ -1,5 +1,5 @@
 use Rattle.std.proofs.Common.{◌≡◌}
-use Rattle.dump_lanes.specs.LaneViews.{sending}
+use Rattle.dump_lanes.specs.steps.LaneViews.{sending}
 use Rattle.dump_pipeline.proofs.sequence.release.Given as goal
 
 abbrev pub invariant-loop : goal.invariant-loop

@@ -1,15 +1,15 @@
 use Rattle.std.proofs.Common.{rules, refl, sym, ap, subst, ◌≡◌, ◌∙◌, ℕ, List, length, true, false}
 use Rattle.std.proofs.lemmas.Bool.{false≢true}
 use Rattle.dump_lanes.specs.Arrivals.{IsWaiting}
-use Rattle.dump_lanes.specs.LaneEnds.{Sending}
-use Rattle.dump_lanes.specs.LaneViews.{sending}
+use Rattle.dump_lanes.specs.steps.LaneEnds.{Sending}
+use Rattle.dump_lanes.specs.steps.LaneViews.{sending}
 use Rattle.dump_lanes.specs.PortSides.{SequencerSide}
-use Rattle.dump_lanes.specs.PortViews.{done_port}
-use Rattle.dump_lanes.specs.SlotViews.{slot_places}
+use Rattle.dump_lanes.specs.steps.PortViews.{done_port}
+use Rattle.dump_lanes.specs.steps.SlotViews.{slot_places}
 use Rattle.dump_pipeline.specs.declared.message.Checked.{Checked}
 use Rattle.dump_pipeline.specs.declared.message.NumberedPiece.{NumberedPiece}
-use Rattle.dump_pipeline.specs.Messages.{checked_numbers, text_of}
-use Rattle.dump_pipeline.specs.Parts.{HasReleased}
+use Rattle.dump_pipeline.specs.steps.Messages.{checked_numbers, text_of}
+use Rattle.dump_pipeline.specs.steps.Parts.{HasReleased}
 use Rattle.dump_pipeline.proofs.Released.{begins_with}
 use Rattle.dump_pipeline.proofs.Steps.{row_first, row_unlifted, row_lifted, lifted_wrong, row_placed, place_clash, none_lifted, sequenced_so, text_released, count_released, numbers_released, ended_so, numbers_at_first}
 use Rattle.dump_pipeline.proofs.sequence.release_all.Goals as goal

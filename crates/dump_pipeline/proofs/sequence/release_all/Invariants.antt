@@ -1,10 +1,10 @@
 use Rattle.std.proofs.Common.{◌≡◌, length}
 use Rattle.dump_lanes.specs.Arrivals.{first_numbers, Row}
-use Rattle.dump_lanes.specs.LaneViews.{sending}
-use Rattle.dump_lanes.specs.PortViews.{done_port}
-use Rattle.dump_lanes.specs.SlotViews.{slot_places}
-use Rattle.dump_pipeline.specs.Messages.{checked_number, checked_numbers, piece_numbers, text_of}
-use Rattle.dump_pipeline.specs.Parts.{HasReleased, is_failure, stage_end}
+use Rattle.dump_lanes.specs.steps.LaneViews.{sending}
+use Rattle.dump_lanes.specs.steps.PortViews.{done_port}
+use Rattle.dump_lanes.specs.steps.SlotViews.{slot_places}
+use Rattle.dump_pipeline.specs.steps.Messages.{checked_number, checked_numbers, piece_numbers, text_of}
+use Rattle.dump_pipeline.specs.steps.Parts.{HasReleased, is_failure, stage_end}
 use Rattle.dump_pipeline.proofs.sequence.release_all.Given as goal
 
 abbrev pub invariant-loop : goal.invariant-loop

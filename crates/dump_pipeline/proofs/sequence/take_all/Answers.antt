@@ -1,6 +1,6 @@
-use Rattle.dump_lanes.specs.LaneViews.{sending}
-use Rattle.dump_lanes.specs.PortViews.{done_port}
-use Rattle.dump_lanes.specs.SlotViews.{slot_places}
+use Rattle.dump_lanes.specs.steps.LaneViews.{sending}
+use Rattle.dump_lanes.specs.steps.PortViews.{done_port}
+use Rattle.dump_lanes.specs.steps.SlotViews.{slot_places}
 use Rattle.std.proofs.Common.{length}
 use Rattle.dump_pipeline.proofs.Steps.{sequenced_more}
 use Rattle.dump_pipeline.proofs.sequence.take_all.Goals as goal

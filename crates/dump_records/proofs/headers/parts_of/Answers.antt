@@ -1,7 +1,7 @@
 use Rattle.std.proofs.Common.{◌≡◌, true, false, ap, sym, ◌∙◌, refl, is_some}
 use Rattle.dump_text.specs.Names.{uuid_name, revision_name, path_name}
 use Rattle.dump_text.specs.HeaderLine.{has_header}
-use Rattle.dump_records.specs.HeaderReading.{lines_of}
+use Rattle.dump_records.specs.steps.HeaderReading.{lines_of}
 use Rattle.dump_records.proofs.HeaderLemmas.{deciding, copy_both, copy_there, revision_there, no_number, value_there}
 use Rattle.dump_records.proofs.headers.parts_of.Goals as goal
 

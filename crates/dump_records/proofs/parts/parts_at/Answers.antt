@@ -1,9 +1,9 @@
 use Rattle.std.proofs.Common.{sym, subst, drop, arith, refl, ap, ◌∙◌}
 use Rattle.dump_text.specs.HeaderBlock.{HasBlock}
-use Rattle.dump_text.specs.Views.{block_dump, block_place, block_headers}
+use Rattle.dump_text.specs.steps.Views.{block_dump, block_place, block_headers}
 use Rattle.dump_records.specs.RecordText.{IsCutFault}
-use Rattle.dump_records.specs.HeaderReading.{IsHeaderOf}
-use Rattle.dump_records.specs.Lawful.{LengthsOf}
+use Rattle.dump_records.specs.steps.HeaderReading.{IsHeaderOf}
+use Rattle.dump_records.specs.steps.Lawful.{LengthsOf}
 use Rattle.dump_records.proofs.PartLemmas.{handed_on, no_block, unlawful_here, short_here, stands_here}
 use Rattle.dump_records.proofs.parts.parts_at.Goals as goal
 

@@ -1,5 +1,5 @@
 use Rattle.std.proofs.Common.{◌∙◌}
-use Rattle.dump_rules.specs.ReadRanges.{range_parts}
+use Rattle.dump_rules.specs.steps.ReadRanges.{range_parts}
 use Rattle.dump_rules.proofs.BlockLemmas.{alike_contradict}
 use Rattle.dump_rules.proofs.blocks.arranged_contradicts_some.Goals as goal
 

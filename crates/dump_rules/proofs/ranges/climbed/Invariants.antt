@@ -1,5 +1,5 @@
 use Rattle.std.proofs.Common.{◌≡◌, length}
-use Rattle.dump_rules.specs.ReadRanges.{climbed, range_parts}
+use Rattle.dump_rules.specs.steps.ReadRanges.{climbed, range_parts}
 use Rattle.dump_rules.proofs.ranges.climbed.Given as goal
 
 abbrev pub invariant-loop-comma : goal.invariant-loop-comma

@@ -1,7 +1,7 @@
 use Rattle.std.proofs.Common.{ℕ, List, [], sym, ap, subst, ◌∙◌}
 use Rattle.std.proofs.lemmas.Result.{IfOk-weaker}
-use Rattle.dump_rules.specs.ReadMergeinfo.{lines_read}
-use Rattle.dump_rules.specs.NewLines.{text_lines, with_new_lines}
+use Rattle.dump_rules.specs.steps.ReadMergeinfo.{lines_read}
+use Rattle.dump_rules.specs.steps.NewLines.{text_lines, with_new_lines}
 use Rattle.dump_rules.specs.Rewriting.{IsNewMergeinfo}
 use Rattle.dump_rules.proofs.MergeinfoLemmas.{reads_exactly}
 use Rattle.dump_rules.proofs.ValueLemmas.{new_value}

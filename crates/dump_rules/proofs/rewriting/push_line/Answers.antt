@@ -1,6 +1,6 @@
 use Rattle.std.proofs.Common.{ℕ, List, sym, ap, subst, ◌∙◌, map}
-use Rattle.dump_rules.specs.ReadRanges.{span_range}
-use Rattle.dump_rules.specs.NewRanges.{list_new}
+use Rattle.dump_rules.specs.steps.ReadRanges.{span_range}
+use Rattle.dump_rules.specs.steps.NewRanges.{list_new}
 use Rattle.dump_rules.proofs.NewLineLemmas.{AreFit, line_fits}
 use Rattle.dump_rules.proofs.rewriting.push_line.Goals as goal
 

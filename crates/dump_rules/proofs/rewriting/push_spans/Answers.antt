@@ -4,8 +4,8 @@ use Rattle.std.proofs.lemmas.Bool.Decides.{nat_tests}
 use Rattle.std.proofs.lemmas.Result.{on_ok_weaker}
 use Rattle.dump_rules.specs.declared.ranges.Span.{Span}
 use Rattle.dump_rules.specs.RangeList.{runs_text}
-use Rattle.dump_rules.specs.ReadRanges.{span_range}
-use Rattle.dump_rules.specs.Runs.{joined}
+use Rattle.dump_rules.specs.steps.ReadRanges.{span_range}
+use Rattle.dump_rules.specs.steps.Runs.{joined}
 use Rattle.dump_rules.proofs.NewLineLemmas.{written_runs}
 use Rattle.dump_rules.proofs.rewriting.push_spans.Goals as goal
 

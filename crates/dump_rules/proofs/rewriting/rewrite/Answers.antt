@@ -3,7 +3,7 @@ use Rattle.std.specs.Result.{IsErrAnd}
 use Rattle.dump_rules.specs.declared.rewriting.RewriteFault.{RewriteFault}
 use Rattle.dump_rules.specs.declared.rewriting.RewriteFault.TheVariants as faults
 use Rattle.dump_rules.specs.Rewriting.{HasMissingSource}
-use Rattle.dump_rules.specs.Merged.{is_outside}
+use Rattle.dump_rules.specs.steps.Merged.{is_outside}
 use Rattle.dump_rules.proofs.MergeFaults.{misses_means, foreign_means}
 use Rattle.dump_rules.proofs.MergedMeaning.{first_sources, first_numbers}
 use Rattle.dump_rules.proofs.rewriting.rewrite.Goals as goal

@@ -3,7 +3,7 @@ use Rattle.std.specs.List.{list_all}
 use Rattle.dump_text.specs.Names.{known_names}
 use Rattle.dump_text.specs.HeaderLine.{Header, is_header}
 use Rattle.dump_text.specs.HeaderBlock.{lines_bytes}
-use Rattle.dump_text.specs.KnownValues.{AreValues}
+use Rattle.dump_text.specs.steps.KnownValues.{AreValues}
 use Rattle.dump_text.proofs.BlockLemmas.{counts_once}
 use Rattle.dump_text.proofs.headers.block_at.Given as goal
 

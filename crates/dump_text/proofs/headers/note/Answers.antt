@@ -1,5 +1,5 @@
 use Rattle.std.proofs.Common.{ℕ, ◌<◌, ◌++◌, ◌∷◌, [], None, ap, sym, ◌∙◌, not, length, subst, is_some, slice_index_or, slice_set, Some}
-use Rattle.dump_text.specs.KnownValues.{name_place, AreValues}
+use Rattle.dump_text.specs.steps.KnownValues.{name_place, AreValues}
 use Rattle.dump_text.proofs.NameLemmas.{tag_place, place_inside}
 use Rattle.dump_text.proofs.ValueLemmas.{unknown_follows, unknown_noted, known_follows, known_noted, line_of}
 use Rattle.dump_text.proofs.headers.note.Goals as goal

@@ -1,5 +1,5 @@
 use Rattle.std.proofs.Common.{◌≡◌, ◌↔◌, ◌<◌, ◌^◌, true, length}
-use Rattle.dump_text.specs.PropertyScan.{HasEntries, IsWritten}
+use Rattle.dump_text.specs.steps.PropertyScan.{HasEntries, IsWritten}
 use Rattle.dump_text.proofs.props.read_entries.Given as goal
 
 abbrev pub invariant-loop-name : goal.invariant-loop-name

@@ -1,6 +1,6 @@
 use Rattle.std.proofs.Common.{◌≡◌, length, take}
 use Rattle.std.specs.Io.KnownBytes.{Appends}
-use Rattle.dump_writer.specs.ChunkBytes.{bytes_of_chunks}
+use Rattle.dump_writer.specs.steps.ChunkBytes.{bytes_of_chunks}
 use Rattle.dump_writer.specs.SinkWords.{capped}
 use Rattle.dump_writer.proofs.piece.write_piece.Given as goal
 

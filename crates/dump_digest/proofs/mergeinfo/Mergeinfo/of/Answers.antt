@@ -1,10 +1,10 @@
 use Rattle.std.proofs.Common.{◌≡◌, Option, List, [], false, sym, subst, ◌∙◌, inr, MatchOption}
 use Rattle.dump_text.specs.PropertyList.{Property}
-use Rattle.dump_text.specs.PropertyViews.{entry_property}
+use Rattle.dump_text.specs.steps.PropertyViews.{entry_property}
 use Rattle.dump_text.proofs.PropertyLemmas.{entry_parts, left_of, property_block_once}
 use Rattle.dump_digest.specs.declared.mergeinfo.Mergeinfo.{Mergeinfo}
-use Rattle.dump_digest.specs.Checks.{properties_read}
-use Rattle.dump_digest.specs.ContentViews.{IsSaidBy}
+use Rattle.dump_digest.specs.steps.Checks.{properties_read}
+use Rattle.dump_digest.specs.steps.ContentViews.{IsSaidBy}
 use Rattle.dump_digest.proofs.SaidLemmas.{IsSaidUpTo, said_at_first, said_of_other, said_of_value, not_said, said_at_last, unread_value, reads_value}
 use Rattle.dump_digest.proofs.mergeinfo.Mergeinfo.of.Goals as goal
 

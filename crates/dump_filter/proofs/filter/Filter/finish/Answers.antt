@@ -1,5 +1,5 @@
 use Rattle.std.proofs.Common.{ap, ◌∙◌}
-use Rattle.dump_filter.specs.State.{State}
+use Rattle.dump_filter.specs.steps.State.{State}
 use Rattle.dump_filter.proofs.FilterLemmas.{holds, finishes, reports}
 use Rattle.dump_filter.proofs.filter.Filter.finish.Goals as goal
 

@@ -1,10 +1,10 @@
 use Rattle.std.proofs.Common.{Some, ap, sym, ◌∙◌, subst, arith}
-use Rattle.dump_records.specs.RecordViews.{record_item}
+use Rattle.dump_records.specs.steps.RecordViews.{record_item}
 use Rattle.dump_rules.specs.Renumbering.{image}
 use Rattle.dump_filter.specs.Groups.{revision_number}
-use Rattle.dump_filter.specs.State.{view_pending, view_group}
-use Rattle.dump_filter.specs.Advance.{front_kept}
-use Rattle.dump_filter.specs.Knowledge.{AreKept}
+use Rattle.dump_filter.specs.steps.State.{view_pending, view_group}
+use Rattle.dump_filter.specs.steps.Advance.{front_kept}
+use Rattle.dump_filter.specs.steps.Knowledge.{AreKept}
 use Rattle.dump_filter.proofs.CopyLemmas.{next_fits, image_at_pending, image_before_pending}
 use Rattle.dump_filter.proofs.revisions.Revisions.image.Goals as goal
 

@@ -1,10 +1,10 @@
 use Rattle.std.proofs.Common.{sym, ap, ◌∙◌, subst}
 use Rattle.std.specs.Result.{IfOk}
-use Rattle.dump_records.specs.RecordViews.{record_item}
-use Rattle.dump_digest.specs.DoneViews.{done_record}
+use Rattle.dump_records.specs.steps.RecordViews.{record_item}
+use Rattle.dump_digest.specs.steps.DoneViews.{done_record}
 use Rattle.dump_filter.specs.declared.fate.Fate.{Fate}
-use Rattle.dump_filter.specs.State.{view_state}
-use Rattle.dump_filter.specs.Advance.{IsPiece, fate_state}
+use Rattle.dump_filter.specs.steps.State.{view_state}
+use Rattle.dump_filter.specs.steps.Advance.{IsPiece, fate_state}
 use Rattle.dump_filter.proofs.state.State.carry_out.Goals as goal
 
 pub keep_node-requires-clause-node : goal.keep_node-requires-clause-node

@@ -1,9 +1,9 @@
 use Rattle.std.proofs.Common.{ap, subst}
-use Rattle.dump_records.specs.RecordViews.{record_item}
+use Rattle.dump_records.specs.steps.RecordViews.{record_item}
 use Rattle.dump_rules.specs.Renumbering.{KeptRevisions}
-use Rattle.dump_digest.specs.DoneViews.{done_record}
-use Rattle.dump_filter.specs.State.{State}
-use Rattle.dump_filter.specs.Advance.{IsOwnNode}
+use Rattle.dump_digest.specs.steps.DoneViews.{done_record}
+use Rattle.dump_filter.specs.steps.State.{State}
+use Rattle.dump_filter.specs.steps.Advance.{IsOwnNode}
 use Rattle.dump_filter.proofs.state.State.keep_node.Goals as goal
 
 pub returns-clause-piece : goal.returns-clause-piece

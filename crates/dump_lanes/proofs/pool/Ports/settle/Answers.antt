@@ -6,10 +6,10 @@ use Rattle.dump_lanes.specs.declared.pool.queues.Queues.{Queues}
 use Rattle.dump_lanes.specs.declared.pool.worker.WorkerPort.{WorkerPort}
 use Rattle.dump_lanes.specs.CreditRule.{AreSteps}
 use Rattle.dump_lanes.specs.PartSteps.{steps_of}
-use Rattle.dump_lanes.specs.PoolNames.{name_of}
-use Rattle.dump_lanes.specs.PoolPasses.{IsSequencing}
+use Rattle.dump_lanes.specs.steps.PoolNames.{name_of}
+use Rattle.dump_lanes.specs.steps.PoolPasses.{IsSequencing}
 use Rattle.dump_lanes.specs.PortSides.{WorkerSide, IsDone}
-use Rattle.dump_lanes.specs.PortViews.{worker_port, job_port}
+use Rattle.dump_lanes.specs.steps.PortViews.{worker_port, job_port}
 use Rattle.dump_lanes.proofs.CreditSteps as credits
 use Rattle.dump_lanes.proofs.DoneSteps as dones
 use Rattle.dump_lanes.proofs.JobSteps as jobs

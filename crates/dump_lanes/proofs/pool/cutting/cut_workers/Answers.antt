@@ -9,9 +9,9 @@ use Rattle.dump_lanes.specs.declared.pool.jobs.Hand.{Hand}
 use Rattle.dump_lanes.specs.declared.pool.queues.Queues.{Queues}
 use Rattle.dump_lanes.specs.DoneRule.{reader, after_fork as dones_after_fork}
 use Rattle.dump_lanes.specs.JobRule.{cutter_hand, after_fork}
-use Rattle.dump_lanes.specs.PoolNames.{state_of}
+use Rattle.dump_lanes.specs.steps.PoolNames.{state_of}
 use Rattle.dump_lanes.specs.PortSides.{new_worker}
-use Rattle.dump_lanes.specs.PortViews.{worker_port}
+use Rattle.dump_lanes.specs.steps.PortViews.{worker_port}
 use Rattle.dump_lanes.proofs.DoneSteps as dones
 use Rattle.dump_lanes.proofs.JobSteps as jobs
 use Rattle.dump_lanes.proofs.Settling.{map-then, range-more}

@@ -3,9 +3,9 @@ use Rattle.std.specs.List.{range_with_len}
 use Rattle.crossbeam_queue.specs.Passes.{view, IsPassOf}
 use Rattle.dump_lanes.specs.DoneRule.{reader}
 use Rattle.dump_lanes.specs.JobRule.{cutter_hand}
-use Rattle.dump_lanes.specs.PoolNames.{state_of}
+use Rattle.dump_lanes.specs.steps.PoolNames.{state_of}
 use Rattle.dump_lanes.specs.PortSides.{new_worker}
-use Rattle.dump_lanes.specs.PortViews.{worker_port}
+use Rattle.dump_lanes.specs.steps.PortViews.{worker_port}
 use Rattle.dump_lanes.proofs.pool.cutting.cut_workers.Given as goal
 
 abbrev pub invariant-loop-share : goal.invariant-loop-share

@@ -1,5 +1,5 @@
 use Rattle.crossbeam_queue.specs.Passes.{view, IsPassOf}
-use Rattle.dump_lanes.specs.PortViews.{HasJobsOf, HasDonesOf}
+use Rattle.dump_lanes.specs.steps.PortViews.{HasJobsOf, HasDonesOf}
 use Rattle.dump_lanes.proofs.pool.settling.gather.Given as goal
 
 abbrev pub invariant-loop-worker : goal.invariant-loop-worker

@@ -1,4 +1,4 @@
-use Rattle.dump_lanes.specs.PortViews.{pool_state}
+use Rattle.dump_lanes.specs.steps.PortViews.{pool_state}
 use Rattle.dump_lanes.proofs.PortsTogether.{fresh_workers, none_closed}
 use Rattle.dump_lanes.proofs.tests.pooling.one_item_through_a_pool.Goals as goal
 

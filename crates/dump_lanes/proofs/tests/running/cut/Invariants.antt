@@ -1,5 +1,5 @@
 use Rattle.std.proofs.Common.{◌≡◌}
-use Rattle.dump_lanes.specs.PortViews.{job_port}
+use Rattle.dump_lanes.specs.steps.PortViews.{job_port}
 use Rattle.dump_lanes.proofs.tests.running.cut.Given as goal
 
 abbrev pub invariant-loop-number : goal.invariant-loop-number

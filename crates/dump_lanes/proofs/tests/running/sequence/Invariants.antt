@@ -1,6 +1,6 @@
 use Rattle.std.proofs.Common.{◌≡◌}
-use Rattle.dump_lanes.specs.LaneViews.{sending}
-use Rattle.dump_lanes.specs.PortViews.{done_port}
+use Rattle.dump_lanes.specs.steps.LaneViews.{sending}
+use Rattle.dump_lanes.specs.steps.PortViews.{done_port}
 use Rattle.dump_lanes.proofs.tests.running.sequence.Given as goal
 
 abbrev pub invariant-loop : goal.invariant-loop

@@ -1,5 +1,5 @@
 use Rattle.std.proofs.Common.{◌≡◌, ◌≤◌, map, length, vec_len, vec_capacity}
-use Rattle.dump_lanes.specs.PortViews.{worker_port}
+use Rattle.dump_lanes.specs.steps.PortViews.{worker_port}
 use Rattle.dump_lanes.proofs.tests.running.start_workers.Given as goal
 
 abbrev pub invariant-loop-port : goal.invariant-loop-port

@@ -1,5 +1,5 @@
 use Rattle.std.proofs.Common.{◌≡◌, false}
-use Rattle.dump_lanes.specs.PortViews.{worker_port}
+use Rattle.dump_lanes.specs.steps.PortViews.{worker_port}
 use Rattle.dump_lanes.proofs.tests.running.work.Given as goal
 
 abbrev pub invariant-loop : goal.invariant-loop

@@ -1,6 +1,6 @@
 use Rattle.std.proofs.Common.{◌≡◌}
-use Rattle.dump_lanes.specs.LaneViews.{receiving}
-use Rattle.dump_lanes.specs.PortViews.{credit_port}
+use Rattle.dump_lanes.specs.steps.LaneViews.{receiving}
+use Rattle.dump_lanes.specs.steps.PortViews.{credit_port}
 use Rattle.dump_lanes.proofs.tests.running.write.Given as goal
 
 abbrev pub invariant-loop : goal.invariant-loop

@@ -1,5 +1,5 @@
 use Rattle.std.proofs.Common.{◌≡◌, ◌+◌, ◌≤◌, length, subst, refl, arith}
-use Rattle.dump_records.specs.CutterState.{CutterState}
+use Rattle.dump_records.specs.steps.CutterState.{CutterState}
 use Rattle.dump_records.specs.DumpText.{Ending, EndsAfter}
 use Rattle.dump_records.proofs.CutLemmas.{gap_in, own_inside, own_stands, own_number, item_record, item_cut, item_room, room_behind, ends_whole, ends_broken}
 use Rattle.dump_records.proofs.cutter.Cutter.next.Goals as goal

@@ -2,7 +2,7 @@ use Rattle.std.proofs.Common.{ap, sym, ◌∙◌, option_map}
 use Rattle.dump_text.specs.Names.{path_name, copy_path_name}
 use Rattle.dump_text.specs.HeaderLine.{has_header}
 use Rattle.dump_records.specs.declared.kind.CopySource.{CopySource}
-use Rattle.dump_records.specs.RecordViews.{record_item}
+use Rattle.dump_records.specs.steps.RecordViews.{record_item}
 use Rattle.dump_records.proofs.RecordLemmas.{value_in_block, part_there}
 use Rattle.dump_records.proofs.record.Record.copy_path.Goals as goal
 

@@ -1,6 +1,6 @@
 use Rattle.std.proofs.Common.{ap, sym, ◌∙◌}
 use Rattle.dump_text.specs.Names.{path_name}
-use Rattle.dump_records.specs.KindReading.{path_in}
+use Rattle.dump_records.specs.steps.KindReading.{path_in}
 use Rattle.dump_records.proofs.RecordLemmas.{value_in_block}
 use Rattle.dump_records.proofs.record.Record.path.Goals as goal
 

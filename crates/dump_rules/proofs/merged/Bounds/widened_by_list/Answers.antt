@@ -1,6 +1,6 @@
 use Rattle.std.proofs.Common.{sym, ap, ◌∙◌}
-use Rattle.dump_rules.specs.ReadRanges.{range_parts}
-use Rattle.dump_rules.specs.Merged.{parts_bounds}
+use Rattle.dump_rules.specs.steps.ReadRanges.{range_parts}
+use Rattle.dump_rules.specs.steps.Merged.{parts_bounds}
 use Rattle.dump_rules.proofs.RangeLemmas.{position_whole}
 use Rattle.dump_rules.proofs.MergedLemmas.{bounds_first, list_bounds_is}
 use Rattle.dump_rules.proofs.NewLineLemmas.{parts_first}

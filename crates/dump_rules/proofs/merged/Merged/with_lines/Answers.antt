@@ -1,5 +1,5 @@
 use Rattle.std.proofs.Common.{sym, ap, ◌∙◌}
-use Rattle.dump_rules.specs.Merged.{lines_merged}
+use Rattle.dump_rules.specs.steps.Merged.{lines_merged}
 use Rattle.dump_rules.proofs.RangeLemmas.{position_whole}
 use Rattle.dump_rules.proofs.MergedLemmas.{lines_first, lines_bad, lines_last}
 use Rattle.dump_rules.proofs.NewLineLemmas.{parts_first}

@@ -1,6 +1,6 @@
 use Rattle.std.proofs.Common.{ap, ◌∙◌, is_some}
 use Rattle.dump_text.specs.Names.{name_text}
-use Rattle.dump_text.specs.Views.{block_headers}
+use Rattle.dump_text.specs.steps.Views.{block_headers}
 use Rattle.dump_text.proofs.BlockLemmas.{has_value}
 use Rattle.dump_text.proofs.ValueLemmas.{some_copied}
 use Rattle.dump_text.proofs.headers.Headers.has.Goals as goal

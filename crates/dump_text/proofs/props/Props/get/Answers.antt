@@ -1,6 +1,6 @@
 use Rattle.std.proofs.Common.{[], sym, ap, ◌∙◌, inr}
 use Rattle.dump_text.specs.PropertyList.{property_value}
-use Rattle.dump_text.specs.PropertyViews.{entry_property}
+use Rattle.dump_text.specs.steps.PropertyViews.{entry_property}
 use Rattle.dump_text.proofs.PropertyLemmas.{entry_parts, left_of, value_here, value_behind, value_between, rest_between, property_block_once}
 use Rattle.dump_text.proofs.props.Props.get.Goals as goal
 

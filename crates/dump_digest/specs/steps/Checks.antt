@@ -1,0 +1,32 @@
+-- What the checks tell, part by part.
+use Rattle.std.specs.Prelude.{◌≢◌, ℕ, Bool, ◌&&◌, ◌||◌, not, List, Option, is_some, IsTrue, Ok}
+use Rattle.std.specs.List.{list_all}
+use Rattle.std.specs.Option.{ForSome}
+use Rattle.dump_text.specs.Names.{md5_name, sha1_name}
+use Rattle.dump_text.specs.HeaderLine.{has_header}
+use Rattle.dump_text.specs.PropertyList.{Property}
+use Rattle.dump_records.specs.RecordText.{DumpRecord}
+use Rattle.dump_rules.specs.steps.ReadMergeinfo.{value_reads}
+use Rattle.dump_digest.specs.RecordParts.{has_text, is_mergeinfo}
+use Rattle.dump_digest.specs.ContentFaults.{DiffersFromDigest}
+use Rattle.hex.specs.Hex.{decode_sized}
+
+-- digits are told that aren't this digest
+abbrev pub TellsOther : Option (List ℕ) → ℕ → List ℕ → Type 0
+TellsOther told size digest = IsTrue (is_some told) × ForSome told (λ digits. decode_sized digits size ≢ Ok digest)
+
+-- the record has a text, and the header tells another digest of it
+abbrev pub HasOtherDigest : List ℕ → DumpRecord → ℕ → List ℕ → Type 0
+HasOtherDigest name r size digest = IsTrue (has_text r) × DiffersFromDigest name r size digest
+
+-- whether the record has a text and a digest of it
+abbrev pub is_told_text : DumpRecord → Bool
+is_told_text r = has_text r && (has_header md5_name r.headers || has_header sha1_name r.headers)
+
+-- whether the property tells what was merged only in a value that is mergeinfo
+abbrev pub property_reads : Property → Bool
+property_reads p = not (is_mergeinfo p) || value_reads p.value
+
+-- whether each property does
+abbrev pub properties_read : List Property → Bool
+properties_read ps = list_all property_reads ps

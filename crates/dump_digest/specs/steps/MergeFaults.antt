@@ -1,0 +1,32 @@
+-- The faults of the mergeinfo of a node, found over all its properties together.
+use Rattle.std.specs.Prelude.{ℕ, Bool, ◌&&◌, List, Contains, Option, Some, None, if◌then◌else◌, IsTrue}
+use Rattle.std.specs.List.{list_any}
+use Rattle.dump_text.specs.declared.fault.FaultKind.{FaultKind}
+use Rattle.dump_text.specs.declared.fault.FaultKind.TheVariants.{MergeInfo, MergeSource, MergeRange}
+use Rattle.dump_text.specs.PropertyList.{Property, IsPropertyBlock}
+use Rattle.dump_rules.specs.Settings.{Settings}
+use Rattle.dump_rules.specs.Mergeinfo.{HasMergeLines}
+use Rattle.dump_rules.specs.steps.NewLines.{value_misses, value_foreign}
+use Rattle.dump_digest.specs.RecordParts.{is_mergeinfo}
+
+-- whether the property is mergeinfo that misses a source
+abbrev pub misses : Settings → Property → Bool
+misses settings p = is_mergeinfo p && value_misses settings p.value
+
+-- whether the property is mergeinfo with a number that the dump can't have
+abbrev pub is_foreign : Settings → ℕ → ℕ → Property → Bool
+is_foreign settings first present p = is_mergeinfo p && value_foreign settings first present p.value
+
+-- the fault of the mergeinfo among the properties of a kept node; its values are ok or not
+abbrev pub merge_fault : Settings → ℕ → ℕ → Bool → List Property → Option FaultKind
+merge_fault settings first present ok ps =
+    if ok then
+    (if list_any (misses settings) ps then Some MergeSource
+    else if list_any (is_foreign settings first present) ps then Some MergeRange
+    else None)
+    else Some MergeInfo
+
+-- each value of mergeinfo in the block is some lines
+abbrev pub HasLines : List ℕ → Type 0
+HasLines block = (ps : List Property) → IsPropertyBlock block ps → (p : Property) → Contains ps p → IsTrue (is_mergeinfo p)
+    → ¬ ¬ HasMergeLines p.value

@@ -1,0 +1,21 @@
+-- The properties of a record as they are written.
+use Rattle.std.specs.Prelude.{ℕ, List, [], ◌∷◌, Option, Some, None, codes, IsTrue}
+use Rattle.dump_text.specs.PropertyList.{Property}
+use Rattle.dump_records.specs.steps.RecordViews.{record_item}
+use Rattle.dump_digest.specs.declared.done.Done.{Done}
+use Rattle.dump_digest.specs.steps.DoneViews.{done_record, done_settings, done_verdict}
+use Rattle.dump_digest.specs.RecordParts.{is_kept_node}
+use Rattle.dump_filter.specs.NewContent.{padding_log}
+
+-- the property of this name and value
+abbrev pub property_of : List ℕ → List ℕ → Property
+property_of name value = record { name = name; value = value }
+
+-- the properties of an empty revision that has this date, if it has one
+abbrev pub dated_padding : Option (List ℕ) → List Property
+dated_padding None = padding_log ∷ []
+dated_padding (Some date) = property_of (codes "svn:date") date ∷ padding_log ∷ []
+
+-- a checked record is a kept node, all mergeinfo of which can be read
+abbrev pub IsReadNode : Done → Type 0
+IsReadNode d = IsTrue (is_kept_node (done_settings d) (record_item (done_record d))) × IsTrue (done_verdict d).merge_ok

@@ -1,0 +1,10 @@
+pub mod CreditViews
+pub mod LaneEnds
+pub mod LaneViews
+pub mod PoolNames
+pub mod PoolPasses
+pub mod PortSteps
+pub mod PortViews
+pub mod SlotRow
+pub mod SlotViews
+pub mod StopSeats

@@ -1,0 +1,6 @@
+pub mod Endings
+pub mod JoinedNumbers
+pub mod Messages
+pub mod Parts
+pub mod Progress
+pub mod Sending

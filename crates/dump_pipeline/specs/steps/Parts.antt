@@ -1,0 +1,102 @@
+-- What each thread of a run gives back.
+use Rattle.std.specs.Prelude.{◌≡◌, ℕ, ◌+◌, ◌≤◌, Bool, true, false, List, [], length, Option, Some, None, MatchBool}
+use Rattle.std.specs.Io.KnownBytes.{Appends}
+use Rattle.dump_records.specs.DumpText.{Ending, EndsAfter}
+use Rattle.dump_rules.specs.Settings.{Settings}
+use Rattle.dump_writer.specs.SinkWords.{capped, IsPrefixOf, HasFailedSince}
+use Rattle.dump_filter.specs.steps.FilterState.{FilterState}
+use Rattle.dump_lanes.specs.Arrivals.{first_numbers, Clash, IsWaiting}
+use Rattle.dump_lanes.specs.PortSides.{CutterSide, WorkerSide, IsDone}
+use Rattle.dump_pipeline.specs.declared.answer.Answer.{Answer}
+use Rattle.dump_pipeline.specs.declared.answer.Answer.TheVariants as answers
+use Rattle.dump_pipeline.specs.declared.answer.Failure.TheVariants as failures
+use Rattle.dump_pipeline.specs.declared.message.Run.{Ghosts}
+use Rattle.dump_pipeline.specs.declared.message.Job.{Job}
+use Rattle.dump_pipeline.specs.declared.message.Checked.{Checked}
+use Rattle.dump_pipeline.specs.declared.message.NumberedPiece.{NumberedPiece}
+use Rattle.dump_pipeline.specs.declared.stage.End.{End}
+use Rattle.dump_pipeline.specs.declared.stage.End.TheVariants as ends
+use Rattle.dump_pipeline.specs.declared.stage.Stage.{Stage}
+use Rattle.dump_pipeline.specs.declared.stage.Stage.TheVariants.{Going, Ended}
+use Rattle.dump_pipeline.specs.FilterAnswer.{IsFilterAnswer}
+use Rattle.dump_pipeline.specs.steps.Messages.{job_numbers, checked_numbers, piece_numbers, text_of}
+use Rattle.dump_pipeline.specs.steps.Progress.{Progress}
+use Rattle.dump_pipeline.specs.RunAnswer.{IsFilterPrefix}
+
+-- a cutter's port that has put the first so many items, each under a credit
+pub record HasPut {D : Type 0} {run : Ghosts D} (count : ℕ) (old new : CutterSide (Job D run)) : Type 0 where
+  pub pool : new.pool ≡ old.pool
+  pub workers : new.workers ≡ old.workers
+  pub open_ : new.marks ≡ 0
+  pub numbers : job_numbers new.put ≡ first_numbers count
+  pub credits : count ≤ new.drawn
+
+-- what the cutter gives back: it put the first so many items, all the dump's records and the last word unless it saw
+-- the stop
+pub record HasCut {D : Type 0} {run : Ghosts D} (dump : List ℕ) (new : CutterSide (Job D run)) (seen : Bool) : Type 0 where
+  pub count : ℕ
+  pub numbers : job_numbers new.put ≡ first_numbers count
+  pub credits : count ≤ new.drawn
+  pub whole : seen ≡ false → (total : ℕ) × (ending : Ending) × EndsAfter dump total ending × (count ≡ total + 1)
+
+-- what a worker gives back: it has ended, and gave one checked item for each job that it took, with its number
+pub record HasWorked {D : Type 0} {run : Ghosts D} (worker : WorkerSide (Job D run) (Checked D run)) : Type 0 where
+  pub done : IsDone worker
+  pub numbers : checked_numbers worker.given ≡ job_numbers worker.taken
+
+-- what the sequencer ended with, if it did
+abbrev pub stage_end : Stage → Option End
+stage_end (Going filter) = None
+stage_end (Ended end) = Some end
+
+-- it ended with a fault or a failure of its own
+abbrev pub is_failure : Option End → Bool
+is_failure None = false
+is_failure (Some (ends.Clean report)) = false
+is_failure (Some (ends.Fault which number place)) = true
+is_failure (Some ends.Memory) = true
+
+-- the answer of a run whose sequencer ended so, where the sink took all
+abbrev pub end_answer : End → ℕ → Answer
+end_answer (ends.Clean report) count = answers.Clean report
+end_answer (ends.Fault which number place) count = answers.Fault which number place
+end_answer ends.Memory count = answers.Failed failures.Memory count
+
+-- the text that was released, where the sequencer ended so
+abbrev pub IsEndOf : Settings → List ℕ → End → List ℕ → Type 0
+IsEndOf settings dump (ends.Clean report) text = IsFilterAnswer settings dump text (answers.Clean report)
+IsEndOf settings dump (ends.Fault kind number place) text = IsFilterAnswer settings dump text (answers.Fault kind number place)
+IsEndOf settings dump ends.Memory text = IsFilterPrefix settings dump text
+
+-- as many records were taken by this filter, and this is their text
+abbrev pub HasFiltered : Settings → List ℕ → FilterState → ℕ → List ℕ → Type 0
+HasFiltered settings dump filter next text =
+    Progress settings dump (record { dump = dump; number = next }) filter (Some []) (Some text) (capped (length text))
+
+-- what was released, as far as the sequencer has come
+abbrev pub HasReleased : Settings → List ℕ → Stage → ℕ → List ℕ → Type 0
+HasReleased settings dump (Going filter) next text = HasFiltered settings dump filter next text
+HasReleased settings dump (Ended end) next text = IsEndOf settings dump end text
+
+-- what was released when the sequencer ended
+abbrev pub HasEndedWith : Settings → List ℕ → Option End → ℕ → List ℕ → Type 0
+HasEndedWith settings dump None next text = (filter : FilterState) × HasFiltered settings dump filter next text
+HasEndedWith settings dump (Some end) next text = IsEndOf settings dump end text
+
+-- what the sequencer gives back: pieces with the first numbers, their text, and what it found in the slots
+pub record HasSequenced {D : Type 0} {run : Ghosts D} (settings : Settings) (dump : List ℕ) (window : ℕ)
+    (taken : List (Checked D run)) (put : List NumberedPiece) (end : Option End) (stray : Bool) : Type 0 where
+  pub text : HasEndedWith settings dump end (length put) (text_of put)
+  pub numbered : piece_numbers put ≡ first_numbers (length put)
+  pub order : MatchBool stray (Clash window (length put) (checked_numbers taken)) (IsWaiting (length put) (checked_numbers taken))
+
+-- what the sink received of the pieces that the writer took: all, or after a failure their first bytes, and their count
+pub record HasReceived (failed : Bool) (text : List ℕ) (old new : Option (List ℕ)) (written : ℕ) : Type 0 where
+  pub received : List ℕ
+  pub appended : Appends old new received
+  pub part : MatchBool failed (IsPrefixOf received text) (received ≡ text)
+  pub sized : written ≡ capped (length received)
+
+-- the sink's count of failures rose where it failed, and else is as before
+abbrev pub CountsFailed : Bool → ℕ → ℕ → Type 0
+CountsFailed failed old new = MatchBool failed (HasFailedSince old new) (new ≡ old)

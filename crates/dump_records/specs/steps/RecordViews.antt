@@ -1,0 +1,44 @@
+-- What the contracts see of records and of the cutter.
+use Rattle.std.specs.Prelude.{◌≡◌, ℕ, ◌+◌, List, Option, Some, None, if◌then◌else◌}
+use Rattle.dump_text.specs.Names.{path_name}
+use Rattle.dump_text.specs.HeaderLine.{has_header}
+use Rattle.dump_text.specs.steps.ReadHeaders.{IsPartBetween}
+use Rattle.dump_text.specs.steps.Views.{block_dump, block_place, block_after}
+use Rattle.dump_records.specs.declared.record.Record.{Record}
+use Rattle.dump_records.specs.declared.cutter.Cut.{Cut}
+use Rattle.dump_records.specs.declared.cutter.Cut.TheVariants.{Item, Finished, Fault}
+use Rattle.dump_records.specs.RecordText.{DumpRecord}
+use Rattle.dump_records.specs.steps.RecordPlaces.{props_place, record_between}
+use Rattle.dump_records.specs.DumpText.{Ending, EndsAfter, IsRecordOf}
+use Rattle.dump_records.specs.steps.CutterState.{CutterState}
+
+-- the dump that a record stands in
+abbrev pub record_dump : Record → List ℕ
+record_dump r = block_dump r.block
+
+-- its number there
+abbrev pub record_number : Record → ℕ
+record_number r = r.number
+
+-- the record itself
+abbrev pub record_item : Record → DumpRecord
+record_item r = record_between (block_dump r.block) (block_place r.block) (block_after r.block) r.text_from r.after
+
+-- the bytes of a part, where its length header is there
+abbrev pub part_with : List ℕ → DumpRecord → List ℕ → Option (List ℕ)
+part_with name r bytes = if has_header name r.headers then Some bytes else None
+
+-- a part that a node alone has
+abbrev pub part_of_node : {T : Type 0} → DumpRecord → Option T → Option T
+part_of_node r part = if has_header path_name r.headers then part else None
+
+-- the bytes stand in the block of the record
+abbrev pub IsInBlock : Record → List ℕ → Type 0
+IsInBlock r bytes = IsPartBetween (record_dump r) (record_item r).place (props_place (record_item r)) bytes
+
+-- a cutter gives the next record, or tells again how the list of records ends
+abbrev pub CutStep : CutterState → Cut → CutterState → Type 0
+CutStep old (Item r) new = (record_dump r ≡ old.dump) × (record_number r ≡ old.number)
+    × IsRecordOf old.dump old.number (record_item r) × (new ≡ record old { number = old.number + 1 })
+CutStep old Finished new = EndsAfter old.dump old.number Ending.Whole × (new ≡ old)
+CutStep old (Fault kind place) new = EndsAfter old.dump old.number (Ending.Broken kind place) × (new ≡ old)

@@ -1,0 +1,7 @@
+pub mod ReadHeaders
+pub mod Scanning
+pub mod PropertyScan
+pub mod Views
+pub mod KnownValues
+pub mod HeadersViews
+pub mod PropertyViews

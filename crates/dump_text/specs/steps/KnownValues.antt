@@ -1,0 +1,40 @@
+-- The known names as the program has them, and their values among some header lines.
+use Rattle.std.specs.Prelude.{◌≡◌, ◌==◌, ℕ, Bool, not, ◌&&◌, List, [], ◌∷◌, length, filter, Option, None, option_copied, slice_index_or, bytes_eq, find}
+use Rattle.std.specs.Borrow.{Bor}
+use Rattle.std.specs.List.{position_or_len}
+use Rattle.dump_text.specs.declared.names.HeaderName.{HeaderName}
+use Rattle.dump_text.specs.declared.names.HeaderName.TheVariants.{FormatVersion, Uuid, RevisionNumber, NodePath, PropContentLength, TextContentLength, ContentLength, NodeCopyfromRev, NodeCopyfromPath, TextCopySourceMd5, TextCopySourceSha1, NodeKind, NodeAction, TextContentMd5, TextContentSha1}
+use Rattle.dump_text.specs.Names.{name_text}
+use Rattle.dump_text.specs.HeaderLine.{Header, has_header, header_value}
+use Rattle.dump_text.specs.steps.Scanning.{is_known}
+
+-- the known names in their order
+abbrev pub all_names : List HeaderName
+all_names =
+    FormatVersion ∷ Uuid ∷ RevisionNumber ∷ NodePath ∷ PropContentLength ∷ TextContentLength ∷
+    ContentLength ∷ NodeCopyfromRev ∷ NodeCopyfromPath ∷ TextCopySourceMd5 ∷ TextCopySourceSha1 ∷ NodeKind ∷
+    NodeAction ∷ TextContentMd5 ∷ TextContentSha1 ∷ []
+
+-- the names of so many bytes
+abbrev pub names_of_length : ℕ → List HeaderName
+names_of_length n = filter (λ name. length (name_text name) == n) all_names
+
+-- the name that these bytes are
+abbrev pub known_name : List ℕ → Option HeaderName
+known_name bytes = find (λ name. bytes_eq bytes (name_text name)) all_names
+
+-- the place of a name among them
+abbrev pub name_place : HeaderName → ℕ
+name_place name = position_or_len (λ other. bytes_eq (name_text other) (name_text name)) all_names
+
+-- the value that stands for a name
+abbrev pub noted_value : List (Option (Bor (List ℕ))) → HeaderName → Option (List ℕ)
+noted_value values name = option_copied (slice_index_or values (name_place name) None)
+
+-- for each name its value among these lines
+abbrev pub AreValues : List Header → List (Option (Bor (List ℕ))) → Type 0
+AreValues headers values = (name : HeaderName) → noted_value values name ≡ header_value (name_text name) headers
+
+-- whether a line of this name may follow these lines
+abbrev pub may_follow : List Header → List ℕ → Bool
+may_follow headers name = not (is_known name && has_header name headers)
