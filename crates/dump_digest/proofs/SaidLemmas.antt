@@ -13,7 +13,7 @@ use Rattle.dump_rules.specs.Mergeinfo.{HasMergeLines}
 use Rattle.dump_rules.specs.steps.Merged.{is_outside, nothing_merged}
 use Rattle.dump_rules.specs.steps.NewLines.{value_misses, value_foreign}
 use Rattle.dump_rules.specs.steps.ReadMergeinfo.{value_reads}
-use Rattle.dump_rules.proofs.MergedMeaning.{or_false, or_or}
+use Rattle.dump_rules.proofs.faults.MergedMeaning.{or_false, or_or}
 use Rattle.dump_digest.specs.declared.content.Content.{Content}
 use Rattle.dump_digest.specs.declared.verdict.Verdict.{Verdict}
 use Rattle.dump_digest.specs.steps.VerdictMeaning.{IsVerdict}

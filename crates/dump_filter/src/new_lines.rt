@@ -1,6 +1,6 @@
 //! The header lines of a record that is written: the old ones with new numbers, and lengths that were missing.
 ghost use Rattle.std.specs.Prelude.{◌≡◌, ◌++◌, ◌∷◌, [], ℕ, Some, OnOk, IfOk, IsTrue};
-ghost use Rattle.dump_text.specs.Names.{revision_name};
+ghost use Rattle.dump_text.specs.Names.{name_text, revision_name};
 ghost use Rattle.dump_text.specs.HeaderLine.{header_text};
 ghost use Rattle.dump_text.specs.HeaderBlock.{lines_bytes, block_text};
 ghost use Rattle.dump_text.specs.steps.Views.{block_headers, line_header};
@@ -88,13 +88,18 @@ fn push_line(out: &mut Vec<u8>, line: &Line<'_>, number: Option<u64>) -> Result<
 }
 
 /// Adds a length that isn't 0 where the block has no line for it.
-fn push_missing(out: &mut Vec<u8>, block: &Block<'_>, name: &[u8], n: u64) -> Result<(), Memory>
-    ensures { OnOk result (out.new.items ≡ out.old.items ++ lines_bytes (added name.now n (block_headers block.now))) }
+fn push_missing(
+    out: &mut Vec<u8>,
+    block: &Block<'_>,
+    name: HeaderName,
+    n: u64,
+) -> Result<(), Memory>
+    ensures { OnOk result (out.new.items ≡ out.old.items ++ lines_bytes (added (name_text name) n (block_headers block.now))) }
 {
-    if n == 0 || block.has(name) {
+    if n == 0 || block.has(name.bytes()) {
         return Ok(());
     }
-    Ok(push_header(out, name, n)?)
+    Ok(push_header(out, name.bytes(), n)?)
 }
 
 /// Whether a record that gets this number, if any, keeps its own.
@@ -165,15 +170,10 @@ fn write_block(alloc: Global, block: &Block<'_>, changes: &Changes) -> Result<Ve
     push_missing(
         &mut out,
         block,
-        HeaderName::PropContentLength.bytes(),
+        HeaderName::PropContentLength,
         changes.props,
     )?;
-    push_missing(
-        &mut out,
-        block,
-        HeaderName::ContentLength.bytes(),
-        changes.content,
-    )?;
+    push_missing(&mut out, block, HeaderName::ContentLength, changes.content)?;
     out.extend_from_slice(b"\n")?;
     Ok(out)
 }

@@ -8,8 +8,8 @@ use Rattle.std.proofs.Math.Nat.{mod-lt}
 use Rattle.std.proofs.lemmas.List.Sums.{sum_by-cons, sum_by-append, sum_by_push, sum_by-set}
 use Rattle.dump_lanes.specs.PortSides.{WeighsSame}
 use Rattle.dump_lanes.specs.steps.SlotRow.{slot_item, with_slot_item}
-use Rattle.dump_lanes.proofs.RunWeights.{weigh, weigh-append, only, only_itself, only_other, within_range, above_range}
-use Rattle.dump_lanes.proofs.RunSlots.{near}
+use Rattle.dump_lanes.proofs.core.Weights.{weigh, weigh-append, only, only_itself, only_other, within_range, above_range}
+use Rattle.dump_lanes.proofs.core.Slots.{near}
 use Rattle.dump_lanes.specs.Arrivals.{first_numbers, Lacks, IsWaiting, Clash, held, Row}
 use Rattle.dump_lanes.specs.Arrivals.Clash.{Taken, Wrong}
 

@@ -22,10 +22,10 @@ use Rattle.dump_filter.specs.RecordFaults.{AreFaultFree, HoldsOfRecord, IsRecord
 use Rattle.dump_filter.specs.WholeText.{IsCleanText}
 use Rattle.dump_filter.specs.Groups.{kept_revisions}
 use Rattle.dump_filter.specs.Written.{IsWritten}
-use Rattle.dump_filter.proofs.FilterLemmas.{free_more, free_none, begins_none}
-use Rattle.dump_filter.proofs.OnceLemmas.{outputs_once}
-use Rattle.dump_filter.proofs.Answered.{AllLawful, Reached, reached_written, all_lawful, lawful_front, lawful_behind, reach, reached_none, follow, Outcome}
-use Rattle.dump_filter.proofs.Answered.Outcome.{Stops, Ends}
+use Rattle.dump_filter.proofs.knowing.FilterLemmas.{free_more, free_none, begins_none}
+use Rattle.dump_filter.proofs.knowing.OnceLemmas.{outputs_once}
+use Rattle.dump_filter.proofs.knowing.Answered.{AllLawful, Reached, reached_written, all_lawful, lawful_front, lawful_behind, reach, reached_none, follow, Outcome}
+use Rattle.dump_filter.proofs.knowing.Answered.Outcome.{Stops, Ends}
 use Rattle.dump_pipeline.specs.declared.answer.Answer.{Answer}
 use Rattle.dump_pipeline.specs.declared.answer.Answer.TheVariants as answers
 use Rattle.dump_pipeline.specs.declared.answer.Failure.TheVariants as failures

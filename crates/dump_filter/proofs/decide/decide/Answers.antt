@@ -5,7 +5,7 @@ use Rattle.dump_digest.specs.steps.DoneViews.{done_record, done_verdict}
 use Rattle.dump_digest.specs.declared.verdict.Verdict.{Verdict}
 use Rattle.dump_filter.specs.steps.State.{view_state}
 use Rattle.dump_filter.specs.steps.Decision.{is_in_order}
-use Rattle.dump_filter.proofs.DecisionLemmas.{so, decided_in_order}
+use Rattle.dump_filter.proofs.answer.DecisionLemmas.{so, decided_in_order}
 use Rattle.dump_filter.proofs.decide.decide.Goals as goal
 
 pub returns : goal.returns

@@ -1,7 +1,7 @@
 use Rattle.std.proofs.Common.{ap, sym, ◌∙◌, subst, refl}
 use Rattle.dump_records.specs.steps.RecordViews.{record_item, record_number}
 use Rattle.dump_filter.specs.steps.Decision.{rises}
-use Rattle.dump_filter.proofs.KindLemmas.{IsOfKind, of_kind}
+use Rattle.dump_filter.proofs.groups.KindLemmas.{IsOfKind, of_kind}
 use Rattle.dump_filter.proofs.decide.is_in_order.Goals as goal
 
 pub returns-in-Revision : goal.returns-in-Revision

@@ -6,7 +6,7 @@ use Rattle.dump_records.specs.declared.record.Record.{Record}
 use Rattle.dump_filter.specs.steps.Advance.{IsOwnNode}
 use Rattle.dump_filter.specs.NewContent.{AreNewProperties, new_block}
 use Rattle.dump_filter.specs.steps.NewLines.{new_record}
-use Rattle.dump_filter.proofs.OutputLemmas.{on_ok, node_is}
+use Rattle.dump_filter.proofs.written.OutputLemmas.{on_ok, node_is}
 use Rattle.dump_filter.proofs.output.push_node.Goals as goal
 
 pub returns : goal.returns

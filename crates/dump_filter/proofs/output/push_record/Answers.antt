@@ -3,7 +3,7 @@ use Rattle.dump_text.specs.HeaderBlock.{block_text}
 use Rattle.dump_writer.specs.steps.ChunkBytes.{chunk_bytes}
 use Rattle.dump_records.specs.steps.RecordViews.{record_item}
 use Rattle.dump_filter.specs.steps.NewLines.{new_headers}
-use Rattle.dump_filter.proofs.OutputLemmas.{on_ok, chunks_out}
+use Rattle.dump_filter.proofs.written.OutputLemmas.{on_ok, chunks_out}
 use Rattle.dump_filter.proofs.output.push_record.Goals as goal
 
 pub returns : goal.returns

@@ -4,8 +4,8 @@ use Rattle.dump_records.specs.steps.RecordViews.{record_item}
 use Rattle.dump_records.specs.declared.record.Record.{Record}
 use Rattle.dump_digest.specs.steps.ContentViews.{ArePropertiesOf}
 use Rattle.dump_filter.specs.steps.OwnText.{revision_own}
-use Rattle.dump_filter.proofs.MergeLemmas.{asked_revision}
-use Rattle.dump_filter.proofs.OutputLemmas.{on_ok, revision_is}
+use Rattle.dump_filter.proofs.answer.MergeLemmas.{asked_revision}
+use Rattle.dump_filter.proofs.written.OutputLemmas.{on_ok, revision_is}
 use Rattle.dump_filter.proofs.output.push_revision.Goals as goal
 
 pub revision_properties-requires : goal.revision_properties-requires

@@ -6,9 +6,9 @@ use Rattle.dump_records.specs.declared.record.Record.{Record}
 use Rattle.dump_digest.specs.steps.ContentViews.{ArePropertiesOf}
 use Rattle.dump_digest.specs.steps.MergeFaults.{HasLines}
 use Rattle.dump_filter.specs.NewContent.{AreNewProperties, new_block}
-use Rattle.dump_filter.proofs.OutputLemmas.{if_ok}
-use Rattle.dump_filter.proofs.MergeLemmas.{read_lines, asked_node}
-use Rattle.dump_filter.proofs.PropertyOutput.{no_mergeinfo}
+use Rattle.dump_filter.proofs.written.OutputLemmas.{if_ok}
+use Rattle.dump_filter.proofs.answer.MergeLemmas.{read_lines, asked_node}
+use Rattle.dump_filter.proofs.written.PropertyOutput.{no_mergeinfo}
 use Rattle.dump_filter.proofs.props.node_properties.Goals as goal
 
 pub rewritten_block-requires-clause-read : goal.rewritten_block-requires-clause-read

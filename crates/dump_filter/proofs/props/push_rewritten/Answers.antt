@@ -2,7 +2,7 @@ use Rattle.std.proofs.Common.{sym, ◌∙◌, subst}
 use Rattle.dump_text.specs.steps.PropertyViews.{entry_property}
 use Rattle.dump_rules.specs.Rewriting.{IsNewMergeinfo}
 use Rattle.dump_filter.specs.steps.NewProperties.{property_of}
-use Rattle.dump_filter.proofs.PropertyOutput.{unchanged, with_new_value}
+use Rattle.dump_filter.proofs.written.PropertyOutput.{unchanged, with_new_value}
 use Rattle.dump_filter.proofs.props.push_rewritten.Goals as goal
 
 pub returns-then-not-is_mergeinfo : goal.returns-then-not-is_mergeinfo

@@ -1,6 +1,6 @@
 use Rattle.std.proofs.Common.{◌<◌, ◌^◌, length, ◌∙◌}
 use Rattle.dump_text.specs.steps.PropertyViews.{props_bytes}
-use Rattle.dump_filter.proofs.PropertyOutput.{own_spelling}
+use Rattle.dump_filter.proofs.written.PropertyOutput.{own_spelling}
 use Rattle.dump_filter.proofs.props.respelled.Goals as goal
 
 pub returns-then-spelled : goal.returns-then-spelled

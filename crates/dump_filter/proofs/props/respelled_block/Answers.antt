@@ -1,7 +1,7 @@
 use Rattle.std.proofs.Common.{sym, ◌∙◌}
 use Rattle.dump_records.specs.steps.RecordViews.{record_item}
-use Rattle.dump_filter.proofs.OutputLemmas.{if_ok}
-use Rattle.dump_filter.proofs.PropertyOutput.{read_block, none_read, block_with}
+use Rattle.dump_filter.proofs.written.OutputLemmas.{if_ok}
+use Rattle.dump_filter.proofs.written.PropertyOutput.{read_block, none_read, block_with}
 use Rattle.dump_filter.proofs.props.respelled_block.Goals as goal
 
 pub returns-then-has_props : goal.returns-then-has_props

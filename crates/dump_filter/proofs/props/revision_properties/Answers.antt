@@ -2,7 +2,7 @@ use Rattle.std.proofs.Common.{sym, ap, ◌∙◌}
 use Rattle.dump_text.specs.PropertyList.{property_block_text}
 use Rattle.dump_records.specs.steps.RecordViews.{record_item}
 use Rattle.dump_filter.specs.steps.NewProperties.{dated_padding}
-use Rattle.dump_filter.proofs.PropertyOutput.{padding_is}
+use Rattle.dump_filter.proofs.written.PropertyOutput.{padding_is}
 use Rattle.dump_filter.proofs.props.revision_properties.Goals as goal
 
 pub returns-then-padded : goal.returns-then-padded

@@ -1,7 +1,7 @@
 use Rattle.std.proofs.Common.{[], sym, subst, ◌∙◌}
 use Rattle.dump_records.specs.steps.RecordViews.{record_item}
 use Rattle.dump_digest.specs.steps.MergeFaults.{HasLines}
-use Rattle.dump_filter.proofs.PropertyOutput.{read_block, none_read, no_block, block_with, block_without}
+use Rattle.dump_filter.proofs.written.PropertyOutput.{read_block, none_read, no_block, block_with, block_without}
 use Rattle.dump_filter.proofs.props.rewritten_block.Goals as goal
 
 pub write_rewritten-requires : goal.write_rewritten-requires

@@ -1,5 +1,5 @@
 use Rattle.dump_text.specs.steps.PropertyViews.{entry_property}
-use Rattle.dump_filter.proofs.PropertyOutput.{next_left, none_left}
+use Rattle.dump_filter.proofs.written.PropertyOutput.{next_left, none_left}
 use Rattle.dump_filter.proofs.props.write_entries.Goals as goal
 
 pub loop-entry-preserved : goal.loop-entry-preserved

@@ -1,5 +1,5 @@
 use Rattle.dump_text.specs.steps.PropertyViews.{props_bytes, entries_text}
-use Rattle.dump_filter.proofs.PropertyOutput.{IsLeftOf}
+use Rattle.dump_filter.proofs.written.PropertyOutput.{IsLeftOf}
 use Rattle.dump_filter.proofs.props.write_entries.Given as goal
 
 abbrev pub invariant-loop-entry : goal.invariant-loop-entry

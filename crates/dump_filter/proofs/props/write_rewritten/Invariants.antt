@@ -1,6 +1,6 @@
 use Rattle.dump_text.specs.steps.PropertyViews.{props_bytes, entries_text}
 use Rattle.dump_digest.specs.steps.MergeFaults.{HasLines}
-use Rattle.dump_filter.proofs.PropertyOutput.{AreRewritten}
+use Rattle.dump_filter.proofs.written.PropertyOutput.{AreRewritten}
 use Rattle.dump_filter.proofs.props.write_rewritten.Given as goal
 
 abbrev pub invariant-loop-entry : goal.invariant-loop-entry

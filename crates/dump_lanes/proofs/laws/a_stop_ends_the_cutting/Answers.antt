@@ -1,4 +1,4 @@
-use Rattle.dump_lanes.proofs.RunSettling.{after_a_stop, ended_cuts_nothing}
+use Rattle.dump_lanes.proofs.core.Settling.{after_a_stop, ended_cuts_nothing}
 use Rattle.dump_lanes.proofs.laws.a_stop_ends_the_cutting.Goals as goal
 
 pub returns-clause-stop : goal.returns-clause-stop

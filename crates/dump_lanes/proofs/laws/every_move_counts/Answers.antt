@@ -1,4 +1,4 @@
-use Rattle.dump_lanes.proofs.RunProgress.{every_move_counts}
+use Rattle.dump_lanes.proofs.core.Progress.{every_move_counts}
 use Rattle.dump_lanes.proofs.laws.every_move_counts.Goals as goal
 
 pub returns : goal.returns

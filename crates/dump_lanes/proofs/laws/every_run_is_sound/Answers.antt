@@ -1,4 +1,4 @@
-use Rattle.dump_lanes.proofs.Runs.{every_run_is_sound}
+use Rattle.dump_lanes.proofs.core.Runs.{every_run_is_sound}
 use Rattle.dump_lanes.proofs.laws.every_run_is_sound.Goals as goal
 
 pub returns : goal.returns

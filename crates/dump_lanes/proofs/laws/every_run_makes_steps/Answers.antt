@@ -1,4 +1,4 @@
-use Rattle.dump_lanes.proofs.RunSteps.{every_run_makes_steps}
+use Rattle.dump_lanes.proofs.core.Steps.{every_run_makes_steps}
 use Rattle.dump_lanes.proofs.laws.every_run_makes_steps.Goals as goal
 
 pub returns : goal.returns

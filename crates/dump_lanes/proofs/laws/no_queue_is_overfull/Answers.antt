@@ -1,4 +1,4 @@
-use Rattle.dump_lanes.proofs.RunProgress.{never_full}
+use Rattle.dump_lanes.proofs.core.Progress.{never_full}
 use Rattle.dump_lanes.proofs.laws.no_queue_is_overfull.Goals as goal
 
 pub returns : goal.returns

@@ -1,4 +1,4 @@
-use Rattle.dump_lanes.proofs.RunEndings.{no_dead_end, only_done_stands_still, closed_keeps_nobody}
+use Rattle.dump_lanes.proofs.core.Endings.{no_dead_end, only_done_stands_still, closed_keeps_nobody}
 use Rattle.dump_lanes.proofs.laws.no_state_is_a_dead_end.Goals as goal
 
 pub returns-clause-next : goal.returns-clause-next

@@ -4,7 +4,7 @@ use Rattle.std.specs.List.Sorted.{IsNonDecreasingBy}
 use Rattle.std.proofs.lemmas.List.Sorted.{IsNonDecreasingBy-from_sort_by_key, list_any-IsPermutation}
 use Rattle.dump_rules.specs.declared.blocks.Ends.{Ends}
 use Rattle.dump_rules.specs.steps.Blocks.{meets}
-use Rattle.dump_rules.proofs.BlockLemmas.{from_rises, to_rises, raised_meets}
+use Rattle.dump_rules.proofs.reading.BlockLemmas.{from_rises, to_rises, raised_meets}
 use Rattle.dump_rules.proofs.blocks.arrange.Goals as goal
 
 pub returns-clause-from_rises : goal.returns-clause-from_rises

@@ -1,6 +1,6 @@
 use Rattle.std.proofs.Common.{sym, ◌∙◌}
-use Rattle.dump_rules.proofs.RangeLemmas.{position_whole}
-use Rattle.dump_rules.proofs.BlockLemmas.{cut_first}
+use Rattle.dump_rules.proofs.reading.RangeLemmas.{position_whole}
+use Rattle.dump_rules.proofs.reading.BlockLemmas.{cut_first}
 use Rattle.dump_rules.proofs.blocks.first_part.Goals as goal
 
 pub returns-in-Some-clause-parts : goal.returns-in-Some-clause-parts

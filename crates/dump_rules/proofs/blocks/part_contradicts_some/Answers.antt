@@ -3,7 +3,7 @@ use Rattle.std.specs.List.{list_any}
 use Rattle.std.proofs.lemmas.Bool.{and_left}
 use Rattle.dump_rules.specs.steps.Blocks.{block_contradicts, meets}
 use Rattle.dump_rules.specs.steps.ReadRanges.{range_of, span_range}
-use Rattle.dump_rules.proofs.BlockLemmas.{differ, none_contradicts, meets_contradicts}
+use Rattle.dump_rules.proofs.reading.BlockLemmas.{differ, none_contradicts, meets_contradicts}
 use Rattle.dump_rules.proofs.blocks.part_contradicts_some.Goals as goal
 
 pub returns-in-None : goal.returns-in-None

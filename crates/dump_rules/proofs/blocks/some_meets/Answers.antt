@@ -1,7 +1,7 @@
 use Rattle.std.proofs.Common.{nat_le, rules}
 use Rattle.std.proofs.lemmas.List.Sorted.{IsPartitionPoint-from_clause, IsPartitionedBy-leb}
 use Rattle.dump_rules.specs.declared.blocks.Ends.{Ends}
-use Rattle.dump_rules.proofs.BlockLemmas.{none_meets, last_meets}
+use Rattle.dump_rules.proofs.reading.BlockLemmas.{none_meets, last_meets}
 use Rattle.dump_rules.proofs.blocks.some_meets.Goals as goal
 
 pub returns-then-begun-gt0 : goal.returns-then-begun-gt0

@@ -1,5 +1,5 @@
 use Rattle.std.proofs.Common.{sym, ◌∙◌}
-use Rattle.dump_rules.proofs.ClimbLemmas.{climb_none, climb_some, climb_last}
+use Rattle.dump_rules.proofs.reading.ClimbLemmas.{climb_none, climb_some, climb_last}
 use Rattle.dump_rules.proofs.ranges.climbed.Goals as goal
 
 pub returns-in_default-raised_by : goal.returns-in_default-raised_by

@@ -1,6 +1,6 @@
 use Rattle.std.proofs.Common.{sym, ap, ◌∙◌, is_some}
 use Rattle.dump_rules.specs.steps.ReadRanges.{range_parts}
-use Rattle.dump_rules.proofs.ClimbLemmas.{some_agrees}
+use Rattle.dump_rules.proofs.reading.ClimbLemmas.{some_agrees}
 use Rattle.dump_rules.proofs.ranges.parts_agree.Goals as goal
 
 pub returns-then-is_some : goal.returns-then-is_some

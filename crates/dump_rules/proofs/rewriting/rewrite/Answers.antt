@@ -4,8 +4,8 @@ use Rattle.dump_rules.specs.declared.rewriting.RewriteFault.{RewriteFault}
 use Rattle.dump_rules.specs.declared.rewriting.RewriteFault.TheVariants as faults
 use Rattle.dump_rules.specs.Rewriting.{HasMissingSource}
 use Rattle.dump_rules.specs.steps.Merged.{is_outside}
-use Rattle.dump_rules.proofs.MergeFaults.{misses_means, foreign_means}
-use Rattle.dump_rules.proofs.MergedMeaning.{first_sources, first_numbers}
+use Rattle.dump_rules.proofs.faults.MergeFaults.{misses_means, foreign_means}
+use Rattle.dump_rules.proofs.faults.MergedMeaning.{first_sources, first_numbers}
 use Rattle.dump_rules.proofs.rewriting.rewrite.Goals as goal
 
 -- want of memory is no fault of the value

@@ -1,6 +1,6 @@
 use Rattle.std.proofs.Common.{ap, ◌∙◌}
 use Rattle.dump_filter.specs.steps.State.{State}
-use Rattle.dump_filter.proofs.FilterLemmas.{holds, finishes, reports}
+use Rattle.dump_filter.proofs.knowing.FilterLemmas.{holds, finishes, reports}
 use Rattle.dump_filter.proofs.filter.Filter.finish.Goals as goal
 
 pub returns-clause-piece : goal.returns-clause-piece

@@ -1,5 +1,5 @@
 use Rattle.std.proofs.Common.{None}
-use Rattle.dump_filter.proofs.FilterLemmas.{new_knows, knows_as}
+use Rattle.dump_filter.proofs.knowing.FilterLemmas.{new_knows, knows_as}
 use Rattle.dump_filter.proofs.filter.Filter.new.Goals as goal
 
 pub invariant_of-result : goal.invariant_of-result

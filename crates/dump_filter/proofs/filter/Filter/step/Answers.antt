@@ -1,7 +1,7 @@
 use Rattle.std.proofs.Common.{◌≡◌, sym, ap, ◌∙◌, arith}
 use Rattle.dump_digest.specs.steps.DoneViews.{done_record}
 use Rattle.dump_filter.specs.steps.FilterState.{FilterState}
-use Rattle.dump_filter.proofs.FilterLemmas.{holds, counts_fit, fault_told, never_refuses, node_is_read, held_is_revision, accepts, next_knows, knows_as}
+use Rattle.dump_filter.proofs.knowing.FilterLemmas.{holds, counts_fit, fault_told, never_refuses, node_is_read, held_is_revision, accepts, next_knows, knows_as}
 use Rattle.dump_filter.proofs.filter.Filter.step.Goals as goal
 
 pub returns-in-Err-clause-rule : goal.returns-in-Err-clause-rule

@@ -5,7 +5,7 @@ use Rattle.dump_filter.specs.Groups.{revision_number}
 use Rattle.dump_filter.specs.steps.State.{view_pending, view_group}
 use Rattle.dump_filter.specs.steps.Advance.{front_kept}
 use Rattle.dump_filter.specs.steps.Knowledge.{AreKept}
-use Rattle.dump_filter.proofs.CopyLemmas.{next_fits, image_at_pending, image_before_pending}
+use Rattle.dump_filter.proofs.written.CopyLemmas.{next_fits, image_at_pending, image_before_pending}
 use Rattle.dump_filter.proofs.revisions.Revisions.image.Goals as goal
 
 pub next_image-requires : goal.next_image-requires

@@ -3,7 +3,7 @@ use Rattle.dump_records.specs.steps.RecordViews.{record_item}
 use Rattle.dump_digest.specs.steps.DoneViews.{done_record}
 use Rattle.dump_filter.specs.steps.State.{PresentGroup, view_group}
 use Rattle.dump_filter.specs.steps.Advance.{IsOwnRevision, IsEndText}
-use Rattle.dump_filter.proofs.OutputLemmas.{if_ok}
+use Rattle.dump_filter.proofs.written.OutputLemmas.{if_ok}
 use Rattle.dump_filter.proofs.state.State.end_group.Goals as goal
 
 pub returns-then-stays-clause-piece : goal.returns-then-stays-clause-piece

@@ -1,0 +1,458 @@
+-- What is written of a record is read again as a record, of which the same is written.
+use Rattle.std.proofs.Common.{◌≡◌, ℕ, ◌+◌, ◌<◌, ◌≤◌, ◌^◌, Bool, true, false, ◌&&◌, ◌||◌, List, [], ◌∷◌, ◌++◌, length, refl, sym, ap, ◌∙◌, subst, arith, inl, codes, bytes_eq, Option, Some, None, is_some, option_and_then, append-nil, All, Contains, MatchBool, take_while, if◌then◌else◌}
+use Rattle.std.proofs.lemmas.List.Sums.{take_while-cons}
+use Rattle.std.proofs.lemmas.List.Elements.{All-nil, All-cons, All-contains}
+use Rattle.dump_text.specs.Number.{number_of, spelled_number}
+use Rattle.dump_text.specs.Names.{revision_name, path_name, copy_revision_name, copy_path_name, property_length_name, md5_name, sha1_name}
+use Rattle.dump_text.specs.HeaderLine.{Header, has_header, header_value, with_header_value}
+use Rattle.dump_text.specs.HeaderBlock.{is_block, block_text}
+use Rattle.dump_text.specs.PropertyList.{Property, IsPropertyBlock}
+use Rattle.dump_text.proofs.BlockLemmas.{has_value}
+use Rattle.dump_text.proofs.PartLemmas.{number_of-spelled}
+use Rattle.dump_text.proofs.PropertyLemmas.{property_block_once}
+use Rattle.dump_records.specs.HeaderRules.{header_number, property_length, text_length, has_bad_kind, has_bad_lengths}
+use Rattle.dump_records.specs.RecordText.{DumpRecord, is_lawful}
+use Rattle.dump_records.proofs.Unique.{Keeps, keeps}
+use Rattle.dump_rules.specs.Settings.{Settings}
+use Rattle.dump_rules.specs.Mergeinfo.{HasMergeLines}
+use Rattle.dump_rules.specs.Renumbering.{KeptRevisions, RiseFrom, image}
+use Rattle.dump_rules.specs.Rewriting.{IsNewMergeinfo}
+use Rattle.dump_rules.proofs.ReachLemmas.{image_fits}
+use Rattle.dump_rules.proofs.values.RunsLaw.{number_small}
+use Rattle.dump_digest.specs.RecordParts.{is_revision, is_node, is_kept_node, is_mergeinfo, mergeinfo_name}
+use Rattle.dump_digest.specs.ContentFaults.{HasBadMd5, HasBadSha1, HasBadMergeinfo, DiffersFromDigest}
+use Rattle.dump_filter.specs.FilterLaws.{keep_all}
+use Rattle.dump_filter.specs.Groups.{group_of, is_padded, revision_number}
+use Rattle.dump_filter.specs.NewContent.{IsNewProperty, AreNewProperties, revision_properties, new_block}
+use Rattle.dump_filter.specs.NewHeaders.{with_lengths, written_number, becomes_plain, without_copy_headers, IsWrittenCopyNumber, IsNewCopy}
+use Rattle.dump_digest.specs.RecordParts.{is_copy}
+use Rattle.dump_filter.specs.steps.NewLines.{is_copy_line}
+use Rattle.dump_filter.specs.RecordOutput.{whole_text, revision_text, IsRevisionOutput, IsNodeOutput, IsWrittenBlock}
+use Rattle.dump_text.proofs.BoolLemmas.{first_true, first_false, second_false, not_so, absurd_bool, false_true}
+use Rattle.dump_filter.proofs.written.HeaderLemmas.{no_value}
+use Rattle.dump_filter.proofs.again.LineChanges.{IsChange, same_has, spelled_line, no_change, put_has, put_change, go_change, gone, IsTold, told_later, told_put, told_reads, told_put_again}
+use Rattle.dump_filter.proofs.again.Headers.{is_length_name, lengths_change, told_lengths, known_once, StaysLawful}
+use Rattle.dump_filter.proofs.again.Record.{no_bytes, no_length, any_number, no_content, stays_same, stays_revision, stays_copy_number, stays_plain, again, told, new_stays, new_is_block, new_lawful, reads, same_text}
+use Rattle.dump_filter.proofs.again.ReadAgain.{IsReadAgain}
+
+-- where everything is kept
+
+never_padded : (s : DumpRecord) (after : List DumpRecord) → is_padded keep_all (group_of s after) ≡ false
+never_padded s [] = refl
+never_padded s (a ∷ after) = by_node (is_node a) refl
+  where
+    of_nodes : List DumpRecord → Bool
+    of_nodes nodes = is_padded keep_all (record { revision = s; nodes = nodes })
+
+    never : (b : Bool) → (b && false && true && true) ≡ false
+    never true = refl
+    never false = refl
+
+    cut : (b : Bool) → is_node a ≡ b → take_while is_node (a ∷ after) ≡ (if b then a ∷ take_while is_node after else [])
+    cut b is = take_while-cons is_node a after ∙ ap (λ c. if c then a ∷ take_while is_node after else []) is
+
+    by_node : (b : Bool) → is_node a ≡ b → is_padded keep_all (group_of s (a ∷ after)) ≡ false
+    by_node true is = ap of_nodes (cut true is) ∙ (let some : of_nodes (a ∷ take_while is_node after) ≡ false = rw is (never _) in some)
+    by_node false is = ap of_nodes (cut false is)
+
+-- one side of a choice
+chosen : (b : Bool) (A B : Type 0) → b ≡ true → MatchBool b A B → A
+chosen true A B is a = a
+chosen false A B is b = absurd (false_true is)
+
+pub header_small : (name : List ℕ) (headers : List Header) (n : ℕ) → header_number name headers ≡ Some n → n < 10 ^ 18
+header_small name headers n is = by_value (header_value name headers) is
+  where
+    by_value : (o : Option (List ℕ)) → option_and_then number_of o ≡ Some n → n < 10 ^ 18
+    by_value None e = cc
+    by_value (Some digits) e = number_small digits n e
+
+same_there : (name : List ℕ) (old new : List Header) → header_value name new ≡ header_value name old → has_header name new ≡ has_header name old
+same_there name old new same = sym (has_value name new) ∙ ap is_some same ∙ has_value name old
+
+-- a version or UUID record
+pub other_again : (settings : Settings) (kept : KeptRevisions) (number : ℕ) (r : DumpRecord) (front : List ℕ) → is_block r.headers ≡ true → is_lawful number r.headers ≡ true
+    → is_revision r ≡ false → is_node r ≡ false → front ≡ block_text r.headers → (place : ℕ) → (s : DumpRecord) × (s.place ≡ place) × IsReadAgain settings kept r front s
+other_again settings kept number r front block lawful no_revision no_node is place = (
+  record { place = place; headers = r.headers; props = []; text = [] },
+  refl,
+  record {
+    feeds = 0;
+    spelled = is ∙ sym (append-nil ((block_text r.headers ++ []) ++ []) ∙ append-nil (block_text r.headers ++ []) ∙ append-nil (block_text r.headers));
+    block = block;
+    lawful = λ m first. any_number number m r.headers lawful first;
+    props_fit = sym empty.0;
+    text_fits = sym empty.1;
+    revision = refl;
+    node = refl;
+    number = λ rev. absurd (absurd_bool (is_revision r) rev no_revision);
+    clean = record {
+      props = λ bad. absurd (absurd_bool (is_revision r || is_kept_node keep_all r) bad.0 (rw (no_revision, no_node) refl));
+      md5 = λ bad. no_kept bad.0;
+      sha1 = λ bad. no_kept bad.0;
+      merge = λ bad. no_kept bad.1.0;
+    };
+    output = λ again after. rw (no_revision, no_node) is;
+  },
+)
+  where
+    k : Keeps number r.headers
+    k = keeps number r.headers lawful
+
+    empty : (property_length r.headers ≡ 0) × (text_length r.headers ≡ 0)
+    empty = no_content r.headers (not_so (has_bad_kind r.headers) k.kind) (not_so (has_bad_lengths r.headers) k.lengths) no_revision no_node
+
+    no_kept : is_kept_node keep_all r ≡ true → ⊥
+    no_kept is_kept = absurd_bool (is_node r) (first_true (is_node r) _ is_kept) no_node
+
+-- a revision
+pub revision_again : (settings : Settings) (kept : KeptRevisions) (number : ℕ) (r : DumpRecord) (after : List DumpRecord) (front : List ℕ)
+    → is_block r.headers ≡ true → is_lawful number r.headers ≡ true → length r.props ≡ property_length r.headers → length r.text ≡ text_length r.headers
+    → is_revision r ≡ true → is_node r ≡ false → written_number settings kept (revision_number r) < 10 ^ 18
+    → ((block : List ℕ) → IsWrittenBlock settings kept r after block → length block + length r.text < 10 ^ 18)
+    → IsRevisionOutput settings kept (group_of r after) front → (place : ℕ) → (s : DumpRecord) × (s.place ≡ place) × IsReadAgain settings kept r front s
+revision_again settings kept number r after front block lawful props_fit text_fits rev no_node n_small fit (ps, is_ps, is) place = (
+  it place,
+  refl,
+  record {
+    feeds = 1;
+    spelled = is;
+    block = new_is_block number r block lawful text_fits either mid (bytes_eq revision_name) change stays props_there padded new small none;
+    lawful = new_lawful number r block lawful text_fits either mid (bytes_eq revision_name) change stays props_there padded new small none;
+    props_fit = lengths.0;
+    text_fits = lengths.1;
+    revision = lifted.revision;
+    node = lifted.node;
+    number = λ rev. number_is;
+    clean = record {
+      props = λ bad. bad.1 (new, here);
+      md5 = λ bad. no_kept bad.0;
+      sha1 = λ bad. no_kept bad.0;
+      merge = λ bad. no_kept bad.1.0;
+    };
+    output = λ again after. rw (lifted.revision ∙ rev) (new, here, written again after);
+  },
+)
+  where
+    padded : Bool
+    padded = is_padded settings (group_of r after)
+
+    new : List Property
+    new = revision_properties padded ps
+
+    n : ℕ
+    n = written_number settings kept (revision_number r)
+
+    mid : List Header
+    mid = with_header_value revision_name (spelled_number n) r.headers
+
+    props : List ℕ
+    props = new_block padded r new
+
+    change : IsChange (bytes_eq revision_name) r.headers mid
+    change = put_change revision_name (spelled_number n) r.headers (spelled_line n n_small)
+
+    stays : StaysLawful r.headers mid
+    stays = stays_revision r.headers n n_small rev (stays_same number r.headers lawful)
+
+    props_there : has_header property_length_name mid ≡ has_header property_length_name r.headers
+    props_there = put_has property_length_name revision_name (spelled_number n) r.headers
+
+    either : (has_header revision_name r.headers || has_header path_name r.headers) ≡ true
+    either = rw rev refl
+
+    small : length (new_block padded r new) + length r.text < 10 ^ 18
+    small = fit (new_block padded r new) (rw (rev, no_node) (ps, new, is_ps, refl, refl))
+
+    none : (padded || has_header property_length_name r.headers) ≡ false → new ≡ []
+    none missing =
+        let plain : padded ≡ false = first_false padded _ missing in
+        let empty : r.props ≡ [] = no_bytes r.props (props_fit ∙ no_length property_length_name r.headers (second_false padded _ missing)) in
+        rw plain (property_block_once r.props ps [] is_ps (inl (empty, refl)))
+
+    it : ℕ → DumpRecord
+    it = again number r block lawful text_fits either mid (bytes_eq revision_name) change stays props_there padded new small none
+
+    lines : List Header
+    lines = with_lengths props r.text mid
+
+    here : IsPropertyBlock props new
+    here = reads number r block lawful text_fits either mid (bytes_eq revision_name) change stays props_there padded new small none
+
+    lifted : StaysLawful r.headers lines
+    lifted = new_stays number r block lawful text_fits either mid (bytes_eq revision_name) change stays props_there padded new small none
+
+    lengths : (length props ≡ property_length lines) × (length r.text ≡ text_length lines)
+    lengths = told_lengths props r.text lines small (told number r block lawful text_fits either mid (bytes_eq revision_name) change stays props_there padded new small none)
+
+    number_told : IsTold revision_name n lines
+    number_told =
+        told_later revision_name n is_length_name mid lines (lengths_change props r.text mid small) refl
+        (told_put revision_name n r.headers (λ missing. absurd (absurd_bool (has_header revision_name r.headers) rev missing)))
+
+    number_is : revision_number (it place) ≡ n
+    number_is = (told_reads revision_name n lines n_small number_told).0
+
+    no_kept : is_kept_node keep_all (it place) ≡ true → ⊥
+    no_kept is_kept = absurd_bool (has_header path_name lines) (first_true (has_header path_name lines) _ is_kept) (lifted.node ∙ no_node)
+
+    same_number : with_header_value revision_name (spelled_number (revision_number (it place))) lines ≡ lines
+    same_number =
+        ap (λ m. with_header_value revision_name (spelled_number m) lines) number_is
+        ∙ told_put_again revision_name n lines
+        (known_once revision_name refl lines (new_is_block number r block lawful text_fits either mid (bytes_eq revision_name) change stays props_there padded new small none)) number_told
+
+    written : (again : KeptRevisions) (after : List DumpRecord) → front ≡ revision_text keep_all again (is_padded keep_all (group_of (it place) after)) (it place) new
+    written again after =
+        is ∙ sym (ap (λ p. revision_text keep_all again p (it place) new) (never_padded (it place) after)
+        ∙ ap (λ t. t ++ codes "\n") (same_text number r block lawful text_fits either mid (bytes_eq revision_name) change stays props_there padded new small none
+        (with_header_value revision_name (spelled_number (revision_number (it place))) lines) same_number))
+
+-- the lines of a kept node with its new copy source
+record IsNodeLines (old new : List Header) : Type 0 where
+  touches : List ℕ → Bool
+  change : IsChange touches old new
+  stays : StaysLawful old new
+  props_there : has_header property_length_name new ≡ has_header property_length_name old
+  md5 : header_value md5_name new ≡ header_value md5_name old
+  sha1 : header_value sha1_name new ≡ header_value sha1_name old
+  copied : has_header copy_path_name new ≡ true
+      → (n : ℕ) × (n < 10 ^ 18) × (has_header copy_revision_name new ≡ true) × IsTold copy_revision_name n new
+
+number_there : (name : List ℕ) (headers : List Header) (n : ℕ) → header_number name headers ≡ Some n → has_header name headers ≡ true
+number_there name headers n is = by_case (has_header name headers) refl
+  where
+    by_case : (b : Bool) → has_header name headers ≡ b → has_header name headers ≡ true
+    by_case true there = there
+    by_case false none = let bad : None ≡ Some n = sym (ap (option_and_then number_of) (no_value name headers none)) ∙ is in cc
+
+node_lines : (settings : Settings) (kept : KeptRevisions) (number : ℕ) (r : DumpRecord) (mid : List Header) → RiseFrom kept.first kept.numbers
+    → is_lawful number r.headers ≡ true → IsNewCopy settings kept r mid → IsNodeLines r.headers mid
+node_lines settings kept number r mid rise lawful copy = by_plain (becomes_plain settings r) copy
+  where
+    own : StaysLawful r.headers r.headers
+    own = stays_same number r.headers lawful
+
+    plain : IsNodeLines r.headers (without_copy_headers r.headers)
+    plain =
+        let change = go_change r.headers in
+        record {
+          touches = is_copy_line;
+          change = change;
+          stays = stays_plain r.headers own;
+          props_there = same_has is_copy_line r.headers (without_copy_headers r.headers) change property_length_name refl;
+          md5 = change.same md5_name refl;
+          sha1 = change.same sha1_name refl;
+          copied = λ there. absurd (absurd_bool (has_header copy_path_name (without_copy_headers r.headers)) there (gone copy_path_name refl r.headers));
+        }
+
+    same : is_copy r ≡ false → IsNodeLines r.headers r.headers
+    same none = record {
+      touches = λ name. false;
+      change = no_change (λ name. false) r.headers;
+      stays = own;
+      props_there = refl;
+      md5 = refl;
+      sha1 = refl;
+      copied = λ there. absurd (absurd_bool (has_header copy_path_name r.headers) there none);
+    }
+
+    new_fits : (old n : ℕ) → (b : Bool) → MatchBool b (image kept old ≡ Some n) (n ≡ old) → n ≤ old
+    new_fits old n true is = (image_fits kept old n rise is).1
+    new_fits old n false is = omega (arith, is)
+
+    numbered : (old n : ℕ) → header_number copy_revision_name r.headers ≡ Some old → IsWrittenCopyNumber settings kept old n
+        → IsNodeLines r.headers (with_header_value copy_revision_name (spelled_number n) r.headers)
+    numbered old n is new_is =
+        let before = header_small copy_revision_name r.headers old is in
+        let below = new_fits old n settings.renumber new_is in
+        let small : n < 10 ^ 18 = omega (arith, before, below) in
+        let there = number_there copy_revision_name r.headers old is in
+        let change = put_change copy_revision_name (spelled_number n) r.headers (spelled_line n small) in
+        record {
+          touches = bytes_eq copy_revision_name;
+          change = change;
+          stays = stays_copy_number r.headers n small there own;
+          props_there = put_has property_length_name copy_revision_name (spelled_number n) r.headers;
+          md5 = change.same md5_name refl;
+          sha1 = change.same sha1_name refl;
+          copied = λ copies. (
+            n,
+            small,
+            put_has copy_revision_name copy_revision_name (spelled_number n) r.headers ∙ there,
+            told_put copy_revision_name n r.headers (λ none. absurd (absurd_bool (has_header copy_revision_name r.headers) there none)),
+          );
+        }
+
+    by_copy : (b : Bool) → is_copy r ≡ b → MatchBool b ((old n : ℕ) × (header_number copy_revision_name r.headers ≡ Some old) × IsWrittenCopyNumber settings kept old n
+        × (mid ≡ with_header_value copy_revision_name (spelled_number n) r.headers)) (mid ≡ r.headers) → IsNodeLines r.headers mid
+    by_copy true is (old, n, read, new_is, lines) = subst (IsNodeLines r.headers) (sym lines) (numbered old n read new_is)
+    by_copy false is lines = subst (IsNodeLines r.headers) (sym lines) (same is)
+
+    by_plain : (b : Bool) → MatchBool b (mid ≡ without_copy_headers r.headers) (MatchBool (is_copy r) ((old n : ℕ) × (header_number copy_revision_name r.headers ≡ Some old)
+        × IsWrittenCopyNumber settings kept old n × (mid ≡ with_header_value copy_revision_name (spelled_number n) r.headers)) (mid ≡ r.headers)) → IsNodeLines r.headers mid
+    by_plain true lines = subst (IsNodeLines r.headers) (sym lines) plain
+    by_plain false is = by_copy (is_copy r) refl is
+
+-- each new value of mergeinfo is mergeinfo, and its own new value where everything is kept
+abbrev pub OwnValues : Settings → KeptRevisions → Type 0
+OwnValues settings kept = (old new : List ℕ) → IsNewMergeinfo settings kept old new
+    → HasMergeLines new × ((again : KeptRevisions) → IsNewMergeinfo keep_all again new new)
+
+-- the property is mergeinfo only with a value that is
+abbrev IsReadable : Property → Type 0
+IsReadable p = is_mergeinfo p ≡ true → HasMergeLines p.value
+
+own_property : (settings : Settings) (kept : KeptRevisions) → OwnValues settings kept → (p q : Property) → IsNewProperty settings kept p q
+    → IsReadable q × ((again : KeptRevisions) → IsNewProperty keep_all again q q)
+own_property settings kept values p q (name, value) = by_case (is_mergeinfo p) refl value
+  where
+    kind : is_mergeinfo q ≡ is_mergeinfo p
+    kind = ap (λ (n : List ℕ). bytes_eq n mergeinfo_name) name
+
+    by_case : (b : Bool) → is_mergeinfo p ≡ b → MatchBool b (IsNewMergeinfo settings kept p.value q.value) (q.value ≡ p.value)
+        → IsReadable q × ((again : KeptRevisions) → IsNewProperty keep_all again q q)
+    by_case true is new = let own = values p.value q.value new in ((λ merge. own.0), (λ again. (refl, rw (kind ∙ is) (own.1 again))))
+    by_case false is new = ((λ merge. absurd (absurd_bool (is_mergeinfo q) merge (kind ∙ is))), (λ again. (refl, rw (kind ∙ is) refl)))
+
+own_properties : (settings : Settings) (kept : KeptRevisions) → OwnValues settings kept → (ps qs : List Property) → AreNewProperties settings kept ps qs
+    → All IsReadable qs × ((again : KeptRevisions) → AreNewProperties keep_all again qs qs)
+own_properties settings kept values [] [] all = (All-nil IsReadable, λ again. tt)
+own_properties settings kept values [] (q ∷ qs) all = absurd all
+own_properties settings kept values (p ∷ ps) [] all = absurd all
+own_properties settings kept values (p ∷ ps) (q ∷ qs) all =
+    let one = own_property settings kept values p q all.0 in
+    let more = own_properties settings kept values ps qs all.1 in
+    (All-cons IsReadable q qs one.0 more.0, λ again. (one.1 again, more.1 again))
+
+none_new : (settings : Settings) (kept : KeptRevisions) (ps qs : List Property) → ps ≡ [] → AreNewProperties settings kept ps qs → qs ≡ []
+none_new settings kept [] [] none all = refl
+none_new settings kept [] (q ∷ qs) none all = absurd all
+none_new settings kept (p ∷ ps) qs none all = let bad : p ∷ ps ≡ [] = none in cc
+
+never_plain : (s : DumpRecord) → becomes_plain keep_all s ≡ false
+never_plain s = never (is_copy s) _
+  where
+    never : (b w : Bool) → ((b && false) && w) ≡ false
+    never true w = refl
+    never false w = refl
+
+-- the lines of a copy stay as they stand
+stays_copy : (again : KeptRevisions) (s : DumpRecord) → is_block s.headers ≡ true
+    → (has_header copy_path_name s.headers ≡ true → (n : ℕ) × (n < 10 ^ 18) × (has_header copy_revision_name s.headers ≡ true) × IsTold copy_revision_name n s.headers)
+    → IsNewCopy keep_all again s s.headers
+stays_copy again s block copied = rw (never_plain s) (by_copy (is_copy s) refl)
+  where
+    by_copy : (b : Bool) → is_copy s ≡ b → MatchBool (is_copy s) ((old new : ℕ) × (header_number copy_revision_name s.headers ≡ Some old) × IsWrittenCopyNumber keep_all again old new
+        × (s.headers ≡ with_header_value copy_revision_name (spelled_number new) s.headers)) (s.headers ≡ s.headers)
+    by_copy true is =
+        let (n, small, there, told) = copied is in
+        let value = chosen (has_header copy_revision_name s.headers) (header_value copy_revision_name s.headers ≡ Some (spelled_number n)) (n ≡ 0) there told in
+        rw is (
+          n,
+          n,
+          ap (option_and_then number_of) value ∙ number_of-spelled n small,
+          refl,
+          sym (told_put_again copy_revision_name n s.headers (known_once copy_revision_name refl s.headers block) told),
+        )
+    by_copy false is = rw is refl
+
+same_differs : (name : List ℕ) (r s : DumpRecord) (size : ℕ) (digest : List ℕ) → header_value name s.headers ≡ header_value name r.headers
+    → DiffersFromDigest name s size digest → DiffersFromDigest name r size digest
+same_differs name r s size digest same (there, differs) =
+    (sym (same_there name r.headers s.headers same) ∙ there, λ digits is. differs digits (same ∙ is))
+
+-- a kept node
+pub node_again : (settings : Settings) (kept : KeptRevisions) (number : ℕ) (r : DumpRecord) (after : List DumpRecord) (front : List ℕ)
+    → is_block r.headers ≡ true → is_lawful number r.headers ≡ true → length r.props ≡ property_length r.headers → length r.text ≡ text_length r.headers
+    → is_revision r ≡ false → is_kept_node settings r ≡ true → RiseFrom kept.first kept.numbers → OwnValues settings kept
+    → ¬ HasBadMd5 settings r → ¬ HasBadSha1 settings r
+    → ((block : List ℕ) → IsWrittenBlock settings kept r after block → length block + length r.text < 10 ^ 18)
+    → IsNodeOutput settings kept r front → (place : ℕ) → (s : DumpRecord) × (s.place ≡ place) × IsReadAgain settings kept r front s
+node_again settings kept number r after front block lawful props_fit text_fits no_revision is_kept rise values no_md5 no_sha1 fit (mid, old, new, copy, is_old, all, is) place = (
+  it place,
+  refl,
+  record {
+    feeds = 2;
+    spelled = is;
+    block = here_block;
+    lawful = new_lawful number r block lawful text_fits either mid l.touches l.change l.stays l.props_there false new small none;
+    props_fit = lengths.0;
+    text_fits = lengths.1;
+    revision = lifted.revision;
+    node = lifted.node;
+    number = λ rev. absurd (absurd_bool (is_revision r) rev no_revision);
+    clean = record {
+      props = λ bad. bad.1 (new, here);
+      md5 = λ bad. no_md5 (is_kept, sym lifted.text ∙ bad.1, same_differs md5_name r (it place) _ _ same_md5 bad.2);
+      sha1 = λ bad. no_sha1 (is_kept, sym lifted.text ∙ bad.1, same_differs sha1_name r (it place) _ _ same_sha1 bad.2);
+      merge = no_bad_merge;
+    };
+    output = λ again after. rw (lifted.revision ∙ no_revision, lifted.node ∙ node) (lines, new, new, stays_copy again (it place) here_block copied, here, own.1 again, written);
+  },
+)
+  where
+    node : is_node r ≡ true
+    node = first_true (is_node r) _ is_kept
+
+    l : IsNodeLines r.headers mid
+    l = node_lines settings kept number r mid rise lawful copy
+
+    props : List ℕ
+    props = new_block false r new
+
+    either : (has_header revision_name r.headers || has_header path_name r.headers) ≡ true
+    either = rw (no_revision, node) refl
+
+    small : length (new_block false r new) + length r.text < 10 ^ 18
+    small = fit (new_block false r new) (rw (no_revision, node) (old, new, is_old, all, refl))
+
+    none : (false || has_header property_length_name r.headers) ≡ false → new ≡ []
+    none missing =
+        let empty : r.props ≡ [] = no_bytes r.props (props_fit ∙ no_length property_length_name r.headers missing) in
+        none_new settings kept old new (property_block_once r.props old [] is_old (inl (empty, refl))) all
+
+    it : ℕ → DumpRecord
+    it = again number r block lawful text_fits either mid l.touches l.change l.stays l.props_there false new small none
+
+    lines : List Header
+    lines = with_lengths props r.text mid
+
+    here : IsPropertyBlock props new
+    here = reads number r block lawful text_fits either mid l.touches l.change l.stays l.props_there false new small none
+
+    here_block : is_block lines ≡ true
+    here_block = new_is_block number r block lawful text_fits either mid l.touches l.change l.stays l.props_there false new small none
+
+    lifted : StaysLawful r.headers lines
+    lifted = new_stays number r block lawful text_fits either mid l.touches l.change l.stays l.props_there false new small none
+
+    lengths : (length props ≡ property_length lines) × (length r.text ≡ text_length lines)
+    lengths = told_lengths props r.text lines small (told number r block lawful text_fits either mid l.touches l.change l.stays l.props_there false new small none)
+
+    others : IsChange is_length_name mid lines
+    others = lengths_change props r.text mid small
+
+    same_md5 : header_value md5_name lines ≡ header_value md5_name r.headers
+    same_md5 = others.same md5_name refl ∙ l.md5
+
+    same_sha1 : header_value sha1_name lines ≡ header_value sha1_name r.headers
+    same_sha1 = others.same sha1_name refl ∙ l.sha1
+
+    copied : has_header copy_path_name lines ≡ true → (n : ℕ) × (n < 10 ^ 18) × (has_header copy_revision_name lines ≡ true) × IsTold copy_revision_name n lines
+    copied there =
+        let (n, few, revision, told) = l.copied (sym (same_has is_length_name mid lines others copy_path_name refl) ∙ there) in
+        (n, few, same_has is_length_name mid lines others copy_revision_name refl ∙ revision, told_later copy_revision_name n is_length_name mid lines others refl told)
+
+    own : All IsReadable new × ((again : KeptRevisions) → AreNewProperties keep_all again new new)
+    own = own_properties settings kept values old new all
+
+    no_bad_merge : ¬ HasBadMergeinfo keep_all (it place)
+    no_bad_merge (value, (keep, qs, is_qs, p, within, merge, same), bad) =
+        let list : qs ≡ new = property_block_once props qs new is_qs here in
+        let good = All-contains IsReadable new p own.0 (subst (λ (ps : List Property). Contains ps p) list within) merge in
+        bad (subst HasMergeLines same good)
+
+    written : front ≡ whole_text lines (new_block false (it place) new) r.text ++ codes "\n\n"
+    written =
+        is ∙ sym (ap (λ t. t ++ codes "\n\n") (same_text number r block lawful text_fits either mid l.touches l.change l.stays l.props_there false new small none lines refl))

@@ -1,0 +1,233 @@
+-- What is written of a record is a record again.
+use Rattle.std.proofs.Common.{◌≡◌, ℕ, ◌+◌, ◌<◌, ◌^◌, ◌==◌, Bool, true, false, not, ◌&&◌, ◌||◌, List, [], ◌∷◌, ◌++◌, length, refl, sym, ap, ◌∙◌, subst, arith, inl, Some, unwrap_or, option_and_then, length-append, flat_map, MatchBool, if◌then◌else◌}
+use Rattle.std.proofs.lemmas.Bool.{eqb-true}
+use Rattle.dump_text.specs.Number.{number_of, spelled_number}
+use Rattle.dump_text.specs.Names.{version_name, uuid_name, revision_name, path_name, copy_revision_name, copy_path_name, property_length_name, text_length_name, content_length_name}
+use Rattle.dump_text.specs.HeaderLine.{Header, has_header, header_value, with_header_value}
+use Rattle.dump_text.specs.HeaderBlock.{is_block, block_text}
+use Rattle.dump_text.specs.PropertyList.{Property, IsPropertyBlock, block_end, entry_text, property_block_text}
+use Rattle.dump_text.proofs.WrittenLemmas.{short_block}
+use Rattle.dump_records.specs.HeaderRules.{header_length, property_length, text_length, has_bad_kind, has_bad_version, has_bad_number, has_bad_lengths}
+use Rattle.dump_records.specs.RecordText.{DumpRecord, is_lawful}
+use Rattle.dump_records.proofs.Unique.{Keeps, keeps}
+use Rattle.dump_filter.specs.NewContent.{new_block}
+use Rattle.dump_filter.specs.NewHeaders.{with_lengths, without_copy_headers}
+use Rattle.dump_filter.specs.steps.NewLines.{is_copy_line}
+use Rattle.dump_filter.specs.RecordOutput.{whole_text}
+use Rattle.dump_text.proofs.BoolLemmas.{first_false, second_false, not_so, absurd_bool}
+use Rattle.dump_filter.proofs.written.HeaderLemmas.{no_value}
+use Rattle.dump_filter.proofs.again.LineChanges.{IsChange, spelled_line, same_has, block_stays, both_changes, put_has, put_change, go_change, gone, IsTold, told_put, told_reads}
+use Rattle.dump_filter.proofs.again.Headers.{is_length_name, AreTold, lengths_change, text_stays, props_stay, lengths_told, lengths_again, StaysLawful, lawful_again}
+
+-- a part that has no length is empty
+pub no_bytes : (bytes : List ℕ) → length bytes ≡ 0 → bytes ≡ []
+no_bytes [] none = refl
+no_bytes (b ∷ bytes) none = absurd (omega (arith, none))
+
+pub no_length : (name : List ℕ) (headers : List Header) → has_header name headers ≡ false → header_length name headers ≡ 0
+no_length name headers none = ap (λ o. unwrap_or (option_and_then number_of o) 0) (no_value name headers none)
+
+-- version and UUID records
+
+-- lines that break no rule in one place of a dump break none in another, but that a version record stands first
+pub any_number : (number m : ℕ) (headers : List Header) → is_lawful number headers ≡ true → (m ≡ 0 → has_header version_name headers ≡ true) → is_lawful m headers ≡ true
+any_number number m headers lawful first =
+    rw (not_so (has_bad_kind headers) k.kind, version, not_so (has_bad_number headers) k.number_ok, not_so (has_bad_lengths headers) k.lengths) refl
+  where
+    k : Keeps number headers
+    k = keeps number headers lawful
+
+    by_zero : (b : Bool) → (m == 0) ≡ b → ((m == 0) && not (has_header version_name headers)) ≡ false
+    by_zero true is = rw (is, first (eqb-true m 0 is)) refl
+    by_zero false is = rw is refl
+
+    version : has_bad_version m headers ≡ false
+    version = rw (by_zero (m == 0) refl) (second_false _ _ (not_so (has_bad_version number headers) k.version))
+
+-- a record that is no revision and no node has no content
+module _ (headers : List Header) (good : has_bad_kind headers ≡ false) (fine : has_bad_lengths headers ≡ false)
+    (no_revision : has_header revision_name headers ≡ false) (no_node : has_header path_name headers ≡ false) where
+  one_of : (has_header version_name headers || has_header uuid_name headers) ≡ true
+  one_of = cases (has_header version_name headers) (has_header uuid_name headers) refl refl
+    where
+      cases : (v u : Bool) → has_header version_name headers ≡ v → has_header uuid_name headers ≡ u → (has_header version_name headers || has_header uuid_name headers) ≡ true
+      cases true u is-v is-u = rw is-v refl
+      cases false true is-v is-u = rw (is-v, is-u) refl
+      cases false false is-v is-u = absurd (absurd_bool (has_bad_kind headers) (rw (is-v, is-u, no_revision, no_node) refl) good)
+
+  no_lengths : (has_header property_length_name headers || (has_header text_length_name headers || (has_header content_length_name headers || false))) ≡ false
+  no_lengths = when_true _ _ one_of (second_false _ _ (first_false _ _ fine))
+    where
+      when_true : (a b : Bool) → a ≡ true → (a && b) ≡ false → b ≡ false
+      when_true true b is none = none
+      when_true false b is none = cc
+
+  pub no_content : (property_length headers ≡ 0) × (text_length headers ≡ 0)
+  no_content =
+      (no_length property_length_name headers (first_false _ _ no_lengths), no_length text_length_name headers (first_false _ _ (second_false _ _ no_lengths)))
+
+-- what the new lines of a revision or node keep
+
+pub stays_same : (number : ℕ) (headers : List Header) → is_lawful number headers ≡ true → StaysLawful headers headers
+stays_same number headers lawful =
+    let k = keeps number headers lawful in
+    let numbers = not_so (has_bad_number headers) k.number_ok in
+    record {
+      version = refl;
+      uuid = refl;
+      revision = refl;
+      node = refl;
+      text = refl;
+      copies = second_false _ _ (not_so (has_bad_kind headers) k.kind);
+      revision_number = first_false _ _ numbers;
+      copy_number = first_false _ _ (second_false _ _ numbers);
+    }
+
+pub stays_revision : (old : List Header) (n : ℕ) → n < 10 ^ 18 → has_header revision_name old ≡ true → StaysLawful old old → StaysLawful old (with_header_value revision_name (spelled_number n) old)
+stays_revision old n small has stays =
+    let v = spelled_number n in
+    let other = (put_change revision_name v old (spelled_line n small)).same in
+    let told = told_put revision_name n old (λ none. absurd (absurd_bool (has_header revision_name old) has none)) in
+    record {
+      version = put_has version_name revision_name v old;
+      uuid = put_has uuid_name revision_name v old;
+      revision = put_has revision_name revision_name v old;
+      node = put_has path_name revision_name v old;
+      text = put_has text_length_name revision_name v old;
+      copies = rw (put_has path_name revision_name v old, put_has copy_revision_name revision_name v old, put_has copy_path_name revision_name v old) stays.copies;
+      revision_number = (told_reads revision_name n (with_header_value revision_name v old) small told).1;
+      copy_number = rw (put_has copy_revision_name revision_name v old, other copy_revision_name refl) stays.copy_number;
+    }
+
+pub stays_copy_number : (old : List Header) (n : ℕ) → n < 10 ^ 18 → has_header copy_revision_name old ≡ true → StaysLawful old old
+    → StaysLawful old (with_header_value copy_revision_name (spelled_number n) old)
+stays_copy_number old n small has stays =
+    let v = spelled_number n in
+    let other = (put_change copy_revision_name v old (spelled_line n small)).same in
+    let told = told_put copy_revision_name n old (λ none. absurd (absurd_bool (has_header copy_revision_name old) has none)) in
+    record {
+      version = put_has version_name copy_revision_name v old;
+      uuid = put_has uuid_name copy_revision_name v old;
+      revision = put_has revision_name copy_revision_name v old;
+      node = put_has path_name copy_revision_name v old;
+      text = put_has text_length_name copy_revision_name v old;
+      copies = rw (put_has path_name copy_revision_name v old, put_has copy_revision_name copy_revision_name v old, put_has copy_path_name copy_revision_name v old) stays.copies;
+      revision_number = rw (put_has revision_name copy_revision_name v old, other revision_name refl) stays.revision_number;
+      copy_number = (told_reads copy_revision_name n (with_header_value copy_revision_name v old) small told).1;
+    }
+
+pub stays_plain : (old : List Header) → StaysLawful old old → StaysLawful old (without_copy_headers old)
+stays_plain old stays =
+    let change = go_change old in
+    record {
+      version = same_has is_copy_line old (without_copy_headers old) change version_name refl;
+      uuid = same_has is_copy_line old (without_copy_headers old) change uuid_name refl;
+      revision = same_has is_copy_line old (without_copy_headers old) change revision_name refl;
+      node = same_has is_copy_line old (without_copy_headers old) change path_name refl;
+      text = same_has is_copy_line old (without_copy_headers old) change text_length_name refl;
+      copies = rw (gone copy_revision_name refl old, gone copy_path_name refl old) (never (has_header path_name (without_copy_headers old)));
+      revision_number = rw (same_has is_copy_line old (without_copy_headers old) change revision_name refl, change.same revision_name refl) stays.revision_number;
+      copy_number = rw (gone copy_revision_name refl old) refl;
+    }
+  where
+    never : (b : Bool) → (b && false) ≡ false
+    never true = refl
+    never false = refl
+
+stays_lengths : (old mid : List Header) (props text : List ℕ) → length props + length text < 10 ^ 18 → StaysLawful old mid → StaysLawful old (with_lengths props text mid)
+stays_lengths old mid props text small stays =
+    let new = with_lengths props text mid in
+    let change = lengths_change props text mid small in
+    record {
+      version = same_has is_length_name mid new change version_name refl ∙ stays.version;
+      uuid = same_has is_length_name mid new change uuid_name refl ∙ stays.uuid;
+      revision = same_has is_length_name mid new change revision_name refl ∙ stays.revision;
+      node = same_has is_length_name mid new change path_name refl ∙ stays.node;
+      text = text_stays props text mid small ∙ stays.text;
+      copies = rw (
+        same_has is_length_name mid new change path_name refl,
+        same_has is_length_name mid new change copy_revision_name refl,
+        same_has is_length_name mid new change copy_path_name refl,
+      ) stays.copies;
+      revision_number = rw (same_has is_length_name mid new change revision_name refl, change.same revision_name refl) stays.revision_number;
+      copy_number = rw (same_has is_length_name mid new change copy_revision_name refl, change.same copy_revision_name refl) stays.copy_number;
+    }
+
+-- the record that is written of a revision or node r: under new lines, and with the lengths of its new properties
+module _ (number : ℕ) (r : DumpRecord) (is_lines : is_block r.headers ≡ true) (lawful : is_lawful number r.headers ≡ true) (fits : length r.text ≡ text_length r.headers)
+    (either : (has_header revision_name r.headers || has_header path_name r.headers) ≡ true) (mid : List Header) (touches : List ℕ → Bool) (change : IsChange touches r.headers mid)
+    (stays : StaysLawful r.headers mid) (props_there : has_header property_length_name mid ≡ has_header property_length_name r.headers) (padded : Bool) (new : List Property)
+    (small : length (new_block padded r new) + length r.text < 10 ^ 18) (none : (padded || has_header property_length_name r.headers) ≡ false → new ≡ []) where
+  abbrev pub props : List ℕ
+  props = new_block padded r new
+
+  abbrev pub lines : List Header
+  lines = with_lengths props r.text mid
+
+  abbrev pub again : ℕ → DumpRecord
+  again place = record { place = place; headers = lines; props = props; text = r.text }
+
+  no_text : has_header text_length_name mid ≡ false → length r.text ≡ 0
+  no_text missing = fits ∙ no_length text_length_name r.headers (sym stays.text ∙ missing)
+
+  pub told : AreTold props r.text lines
+  told = lengths_told props r.text mid small no_text
+
+  pub new_stays : StaysLawful r.headers lines
+  new_stays = stays_lengths r.headers mid props r.text small stays
+
+  pub new_is_block : is_block lines ≡ true
+  new_is_block = by_revision (has_header revision_name r.headers) refl
+    where
+      stay : (name : List ℕ) → has_header name lines ≡ true → is_block lines ≡ true
+      stay name has =
+          block_stays (λ other. touches other || is_length_name other) r.headers lines
+          (both_changes touches r.headers mid lines is_length_name change (lengths_change props r.text mid small)) name has is_lines
+
+      by_revision : (b : Bool) → has_header revision_name r.headers ≡ b → is_block lines ≡ true
+      by_revision true is = stay revision_name (new_stays.revision ∙ is)
+      by_revision false is = stay path_name (new_stays.node ∙ sym (ap (λ b. b || has_header path_name r.headers) is) ∙ either)
+
+  pub new_lawful : (m : ℕ) → (m ≡ 0 → has_header version_name r.headers ≡ true) → is_lawful m lines ≡ true
+  new_lawful = lawful_again number r.headers lines lawful either new_stays props r.text small told
+
+  -- the block of the new properties is one that is read again, and it stays as it stands
+  pub reads : IsPropertyBlock props new
+  reads = by_block (padded || has_header property_length_name r.headers) refl small
+    where
+      by_block : (b : Bool) → (padded || has_header property_length_name r.headers) ≡ b → length (if b then property_block_text new else []) + length r.text < 10 ^ 18
+          → IsPropertyBlock (if padded || has_header property_length_name r.headers then property_block_text new else []) new
+      by_block true is few = rw is (short_block new (omega (arith, few)))
+      by_block false is few = rw is (inl (refl, none is))
+
+  same_props : new_block false (again 0) new ≡ props
+  same_props = by_block (padded || has_header property_length_name r.headers) refl told.props_told
+    where
+      some_there : (b : Bool) → has_header property_length_name lines ≡ b → MatchBool b (header_value property_length_name lines ≡ Some (spelled_number (length (property_block_text new))))
+          (length (property_block_text new) ≡ 0) → has_header property_length_name lines ≡ true
+      some_there true is t = is
+      some_there false is t = absurd (some_bytes t)
+        where
+          some_bytes : length (flat_map entry_text new ++ block_end) ≡ 0 → ⊥
+          some_bytes empty = let size = length-append (flat_map entry_text new) block_end in omega (arith, size, empty)
+
+      by_block : (b : Bool) → (padded || has_header property_length_name r.headers) ≡ b
+          → IsTold property_length_name (length props) lines → new_block false (again 0) new ≡ props
+      by_block true is t =
+          let full : props ≡ property_block_text new = rw is refl in
+          let there = some_there (has_header property_length_name lines) refl (subst (λ (bytes : List ℕ). IsTold property_length_name (length bytes) lines) full t) in
+          rw there (sym full)
+      by_block false is t =
+          let empty : props ≡ [] = rw is refl in
+          let missing : has_header property_length_name lines ≡ false =
+          props_stay props r.text mid small (ap length empty) (props_there ∙ second_false padded (has_header property_length_name r.headers) is) in
+          rw missing (sym empty)
+
+  same_lines : with_lengths props r.text lines ≡ lines
+  same_lines = lengths_again props r.text lines new_is_block told
+
+  -- whatever lines are the same, what is written is the same
+  pub same_text : (headers : List Header) → headers ≡ lines → whole_text headers (new_block false (again 0) new) r.text ≡ whole_text mid props r.text
+  same_text headers same =
+      ap (λ (bytes : List ℕ). whole_text headers bytes r.text) same_props ∙ ap (λ (l : List Header). whole_text l props r.text) same
+      ∙ ap (λ (l : List Header). block_text l ++ props ++ r.text) same_lines

@@ -1,0 +1,295 @@
+-- Which fault a record has behind others.
+use Rattle.std.proofs.Common.{◌≡◌, ◌⊎◌, ℕ, ◌==◌, ◌<◌, nat_lt, Bool, true, false, not, ◌&&◌, ◌||◌, List, [], ◌∷◌, ◌++◌, refl, sym, ap, ◌∙◌, subst, arith, append_assoc, inl, inr, Option, Some, None, IsTrue, MatchBool, Result, Ok, Err, is_none, is_some, count_by, option_and_then, if◌then◌else◌}
+use Rattle.std.specs.List.{last_or, list_any}
+use borrow.Author.Tests.{ltb-true, ltb-false}
+use Rattle.dump_text.specs.declared.fault.FaultKind.{FaultKind}
+use Rattle.dump_text.specs.declared.fault.FaultKind.TheVariants as faults
+use Rattle.dump_text.specs.Number.{number_of, spelled_number}
+use Rattle.dump_text.specs.Names.{deciding_names, length_names, revision_name, copy_revision_name, copy_path_name}
+use Rattle.dump_text.specs.HeaderLine.{has_header, with_header_value}
+use Rattle.dump_records.specs.HeaderRules.{header_number, is_one_alone, has_bad_kind, has_bad_number}
+use Rattle.dump_records.specs.RecordText.{DumpRecord, is_lawful}
+use Rattle.dump_records.specs.steps.RecordViews.{part_of_node}
+use Rattle.dump_records.proofs.Unique.{keeps}
+use Rattle.dump_rules.specs.Settings.{Settings}
+use Rattle.dump_rules.specs.Renumbering.{KeptRevisions, image}
+use Rattle.dump_digest.specs.RecordParts.{is_revision, is_node, is_kept_node}
+use Rattle.dump_filter.specs.declared.fate.CopyChange.{CopyChange}
+use Rattle.dump_filter.specs.declared.fate.CopyChange.TheVariants as copies
+use Rattle.dump_filter.specs.Groups.{revision_number, revision_numbers, first_number, kept_revisions}
+use Rattle.dump_filter.specs.NewHeaders.{is_whole_file, becomes_plain, stays_copy, IsWrittenCopyNumber, IsNewCopy}
+use Rattle.dump_digest.specs.RecordParts.{is_copy, has_lost_source}
+use Rattle.dump_filter.specs.steps.OwnText.{copied_headers}
+use Rattle.dump_filter.specs.RecordFaults.{ends_in_group, IsOutOfOrder}
+use Rattle.dump_filter.specs.steps.State.{State}
+use Rattle.dump_filter.specs.steps.Advance.{front_kept}
+use Rattle.dump_filter.specs.steps.Decision.{is_open, rises, is_in_order, is_orphan, HasNoSource, imaged, source_change, copy_change}
+use Rattle.dump_filter.specs.steps.Knowledge.{is_plain, kept_numbers, Shape, Stands}
+use Rattle.dump_filter.specs.steps.Knowledge.Shape.{Fresh, Idle, Passed, Waits}
+use Rattle.dump_filter.proofs.written.HeaderLemmas.{no_value}
+use Rattle.dump_text.proofs.BoolLemmas.{false_true, not_so, first_true, second_true, first_false, second_false, not_true, not_false, both_true, absurd_bool}
+use Rattle.dump_filter.proofs.groups.GroupLemmas.{plain_other, plain_more, any_more}
+use Rattle.dump_filter.proofs.groups.NumberLemmas.{first_other, kept_group, passed_keeps}
+use Rattle.dump_filter.proofs.knowing.StandsNext.{ends_open}
+
+-- the order: a node follows where there is a group, and a revision where its number rises
+module _ (settings : Settings) (before : List DumpRecord) (s : State) (text : List ℕ)
+    (st : Stands settings before s text) (r : DumpRecord) where
+  -- whether a node may follow is told by the last record, too
+  ends_is : ends_in_group (last_or None before) ≡ is_open s.group
+  ends_is = ends_open settings before s st.shape
+
+  pub ordered : (is_node r ≡ true → is_revision r ≡ false) → is_in_order s r ≡ true → ¬ IsOutOfOrder before r
+  ordered alone good (inl bad) =
+      let node : is_node r ≡ true = first_true (is_node r) (not (ends_in_group (last_or None before))) bad in
+      let none : ends_in_group (last_or None before) ≡ false =
+      not_true (ends_in_group (last_or None before))
+      (second_true (is_node r) (not (ends_in_group (last_or None before))) bad) in
+      let some : is_open s.group ≡ true = sym (rw node refl) ∙ good in
+      absurd_bool (is_open s.group) some (sym ends_is ∙ none)
+  ordered alone good (inr (rev, present, at, low)) =
+      let other : is_node r ≡ false = not_so (is_node r) (λ node. absurd_bool (is_revision r) rev (alone node)) in
+      let up : rises s.revisions.present (revision_number r) ≡ true = sym (rw (other, rev) refl) ∙ good in
+      let above = ltb-true present (revision_number r)
+      (ap (λ p. rises p (revision_number r)) (sym (st.present_is ∙ at)) ∙ up) in
+      absurd (omega arith)
+
+  pub disordered : is_in_order s r ≡ false → IsOutOfOrder before r
+  disordered bad = by_kind (is_node r) (is_revision r) refl refl bad
+    where
+      impossible : true ≡ false → ⊥
+      impossible e = cc
+
+      by_present : is_revision r ≡ true → (p : Option ℕ) → s.revisions.present ≡ p → rises p (revision_number r) ≡ false
+          → IsOutOfOrder before r
+      by_present rev None is low = absurd (impossible low)
+      by_present rev (Some p) is low = inr (rev, p, sym st.present_is ∙ is, ltb-false p (revision_number r) low)
+
+      by_kind : (n v : Bool) → is_node r ≡ n → is_revision r ≡ v
+          → (if n then is_open s.group else if v then rises s.revisions.present (revision_number r) else true) ≡ false
+          → IsOutOfOrder before r
+      by_kind true v node is none =
+          inl (both_true (is_node r) (not (ends_in_group (last_or None before))) node
+          (not_false (ends_in_group (last_or None before)) (ends_is ∙ none)))
+      by_kind false true other rev low = by_present rev s.revisions.present refl low
+      by_kind false false other no_rev no_way = absurd (impossible no_way)
+
+-- a revision above the present one
+pub above_present : (s : State) (r : DumpRecord) → is_in_order s r ≡ true → is_node r ≡ false → is_revision r ≡ true
+    → (p : ℕ) → s.revisions.present ≡ Some p → p < revision_number r
+above_present s r good other rev p is =
+    ltb-true p (revision_number r) (ap (λ q. rises q (revision_number r)) (sym is) ∙ sym (rw (other, rev) refl) ∙ good)
+
+-- the kept revisions with a kept node's own
+pub kept_with_node : (settings : Settings) (before : List DumpRecord) (s : State) (r : DumpRecord)
+    → Shape settings before s → s.revisions.kept.first ≡ first_number (revision_numbers before)
+    → is_plain r ≡ true → is_kept_node settings r ≡ true → is_open s.group ≡ true
+    → kept_revisions settings (before ++ r ∷ []) ≡ front_kept s.revisions.kept s.group
+kept_with_node settings before s r (Fresh t c) first_is plain keep ends = absurd (false_true ends)
+kept_with_node settings before s r (Idle t closed y other no_rev c) first_is plain keep ends = absurd (false_true ends)
+kept_with_node settings before s r (Passed t closed y ns other rev all some c) first_is plain keep ends =
+    let more : list_any (is_kept_node settings) (ns ++ r ∷ []) ≡ true =
+    any_more settings ns r ∙ ap (λ b. b || is_kept_node settings r) some in
+    let firsts : first_number (revision_numbers ((closed ++ y ∷ ns) ++ r ∷ [])) ≡ t.revisions.kept.first =
+    first_other (closed ++ y ∷ ns) r (plain_other r plain) ∙ sym first_is in
+    let all_numbers : kept_numbers settings ((closed ++ y ∷ ns) ++ r ∷ []) ≡ t.revisions.kept.numbers =
+    ap (kept_numbers settings) (append_assoc closed (y ∷ ns) (r ∷ []))
+    ∙ kept_group settings closed (ns ++ r ∷ []) y other rev (plain_more ns r all plain)
+    ∙ ap (λ b. kept_numbers settings closed ++ (if b then revision_number y ∷ [] else []))
+    (passed_keeps settings y (ns ++ r ∷ []) more) ∙ sym c.numbers_are in
+    λ i. record { first = firsts i; numbers = all_numbers i }
+kept_with_node settings before s r (Waits t closed y ns other rev all none c) first_is plain keep ends =
+    let more : list_any (is_kept_node settings) (ns ++ r ∷ []) ≡ true =
+    any_more settings ns r ∙ ap (λ b. b || is_kept_node settings r) none ∙ keep in
+    let firsts : first_number (revision_numbers ((closed ++ y ∷ ns) ++ r ∷ [])) ≡ t.revisions.kept.first =
+    first_other (closed ++ y ∷ ns) r (plain_other r plain) ∙ sym first_is in
+    let all_numbers : kept_numbers settings ((closed ++ y ∷ ns) ++ r ∷ [])
+    ≡ t.revisions.kept.numbers ++ revision_number y ∷ [] =
+    ap (kept_numbers settings) (append_assoc closed (y ∷ ns) (r ∷ []))
+    ∙ kept_group settings closed (ns ++ r ∷ []) y other rev (plain_more ns r all plain)
+    ∙ ap (λ b. kept_numbers settings closed ++ (if b then revision_number y ∷ [] else []))
+    (passed_keeps settings y (ns ++ r ∷ []) more)
+    ∙ ap (λ (ns : List ℕ). ns ++ revision_number y ∷ []) (sym c.numbers_are) in
+    λ i. record { first = firsts i; numbers = all_numbers i }
+
+-- the copy source of a lawful node
+not_both : (a b : Bool) → is_one_alone a b ≡ false → a ≡ b
+not_both true true e = refl
+not_both true false e = cc
+not_both false true e = cc
+not_both false false e = refl
+
+some_number : (n : Option ℕ) → is_none n ≡ false → (m : ℕ) × (n ≡ Some m)
+some_number None e = absurd (false_true (sym e))
+some_number (Some m) e = (m, refl)
+
+module _ (number : ℕ) (r : DumpRecord) (lawful : IsTrue (is_lawful number r.headers)) (node : is_node r ≡ true) where
+  bad_kind : has_bad_kind r.headers ≡ false
+  bad_kind = not_so (has_bad_kind r.headers) (keeps number r.headers lawful).kind
+
+  bad_number : has_bad_number r.headers ≡ false
+  bad_number = not_so (has_bad_number r.headers) (keeps number r.headers lawful).number_ok
+
+  pair : has_header copy_revision_name r.headers ≡ has_header copy_path_name r.headers
+  pair = not_both (has_header copy_revision_name r.headers) (has_header copy_path_name r.headers)
+      (sym (ap (λ b. b && is_one_alone (has_header copy_revision_name r.headers) (has_header copy_path_name r.headers))
+      node)
+      ∙ second_false (not (count_by (λ name. has_header name r.headers) deciding_names == 1))
+      (is_node r && is_one_alone (has_header copy_revision_name r.headers) (has_header copy_path_name r.headers))
+      bad_kind)
+
+  copy_number : (has_header copy_revision_name r.headers && is_none (header_number copy_revision_name r.headers))
+      ≡ false
+  copy_number = first_false
+      (has_header copy_revision_name r.headers && is_none (header_number copy_revision_name r.headers))
+      (list_any (λ name. has_header name r.headers && is_none (header_number name r.headers)) length_names)
+      (second_false (has_header revision_name r.headers && is_none (header_number revision_name r.headers))
+      (list_any (λ name. has_header name r.headers && is_none (header_number name r.headers))
+      (copy_revision_name ∷ length_names)) bad_number)
+
+  part : part_of_node r (header_number copy_revision_name r.headers) ≡ header_number copy_revision_name r.headers
+  part = rw node refl
+
+  copied_from : is_copy r ≡ true → (n : ℕ) × (header_number copy_revision_name r.headers ≡ Some n)
+  copied_from is =
+      let has : has_header copy_revision_name r.headers ≡ true = pair ∙ is in
+      some_number (header_number copy_revision_name r.headers)
+      (sym (ap (λ b. b && is_none (header_number copy_revision_name r.headers)) has) ∙ copy_number)
+
+  not_copied : is_copy r ≡ false → header_number copy_revision_name r.headers ≡ None
+  not_copied is = ap (option_and_then number_of) (no_value copy_revision_name r.headers (pair ∙ is))
+
+-- what becomes of a kept node's copy source, or which fault it has
+abbrev pub CopyJudged : Settings → KeptRevisions → ℕ → DumpRecord → Result CopyChange FaultKind → Type 0
+CopyJudged settings kept present r (Ok copy) =
+    IsNewCopy settings kept r (copied_headers copy r.headers) × (¬ IsTrue (is_orphan settings r))
+    × (¬ HasNoSource settings kept present r)
+CopyJudged settings kept present r (Err fault) = ((fault ≡ faults.CopySource) × IsTrue (is_orphan settings r))
+    ⊎ ((fault ≡ faults.CopyRevision) × (¬ IsTrue (is_orphan settings r)) × HasNoSource settings kept present r)
+
+module _ (settings : Settings) (kept : KeptRevisions) (present : ℕ) (number : ℕ) (r : DumpRecord)
+    (lawful : IsTrue (is_lawful number r.headers))
+    (node : is_node r ≡ true) where
+  -- a copy whose source is kept, or no copy
+  module _ (lost : has_lost_source settings r ≡ false) where
+    plain_false : becomes_plain settings r ≡ false
+    plain_false = ap (λ b. b && is_whole_file r) lost
+
+    no_orphan : ¬ IsTrue (is_orphan settings r)
+    no_orphan h = absurd_bool (has_lost_source settings r)
+        (first_true (has_lost_source settings r) (not (is_whole_file r)) h) lost
+
+    source_judged : (found : Option ℕ) → header_number copy_revision_name r.headers ≡ found → is_copy r ≡ is_some found
+        → CopyJudged settings kept present r (source_change settings kept present found)
+    source_judged None at copy = (
+      rw (plain_false, copy) refl,
+      no_orphan,
+      λ h. absurd_bool (is_copy r)
+          (first_true (is_copy r) (not (becomes_plain settings r))
+          (second_true settings.renumber (stays_copy settings r) h.0)) copy,
+    )
+    source_judged (Some n) at copy = by_renumber settings.renumber refl
+      where
+        stays_so : stays_copy settings r ≡ true
+        stays_so = both_true (is_copy r) (not (becomes_plain settings r)) copy
+            (not_false (becomes_plain settings r) plain_false)
+
+        the_number : (m : ℕ) → header_number copy_revision_name r.headers ≡ Some m → m ≡ n
+        the_number m is = let same : Some m ≡ Some n = sym is ∙ at in cc
+
+        new : (m : ℕ) → IsWrittenCopyNumber settings kept n m
+            → IsNewCopy settings kept r (with_header_value copy_revision_name (spelled_number m) r.headers)
+        new m is = rw (plain_false, copy) (n, m, at, is, refl)
+
+        by_image : settings.renumber ≡ true → nat_lt present n ≡ false → (i : Option ℕ) → image kept n ≡ i
+            → CopyJudged settings kept present r (imaged i)
+        by_image renumber low None is =
+            inr (
+              refl,
+              no_orphan,
+              (
+                both_true settings.renumber
+                    (stays_copy settings r) renumber stays_so,
+                n,
+                at,
+                inl is,
+              ),
+            )
+        by_image renumber low (Some m) is =
+            (new m (subst (λ b. MatchBool b (image kept n ≡ Some m) (m ≡ n)) (sym renumber) is), no_orphan, none)
+          where
+            none : ¬ HasNoSource settings kept present r
+            none (on, m', at', inl no_image) = let same = the_number m' at' in let bad : None ≡ Some m =
+                sym no_image ∙ ap (image kept) same ∙ is in cc
+            none (on, m', at', inr above) = let same = the_number m' at' in let under =
+                ltb-false present n low in absurd (omega (arith, same, under, above))
+
+        by_place : settings.renumber ≡ true → (b : Bool) → nat_lt present n ≡ b
+            → CopyJudged settings kept present r (if b then Err faults.CopyRevision else imaged (image kept n))
+        by_place renumber true over =
+            inr (
+              refl,
+              no_orphan,
+              (
+                both_true settings.renumber (stays_copy settings r) renumber stays_so,
+                n,
+                at,
+                inr
+                    (ltb-true present n over),
+              ),
+            )
+        by_place renumber false low = by_image renumber low (image kept n) refl
+
+        by_renumber : (b : Bool) → settings.renumber ≡ b
+            → CopyJudged settings kept present r
+            (if b then (if nat_lt present n then Err faults.CopyRevision else imaged (image kept n))
+            else Ok (copies.Renumbered n))
+        by_renumber true renumber = by_place renumber (nat_lt present n) refl
+        by_renumber false renumber = (
+          new n (subst (λ b. MatchBool b (image kept n ≡ Some n) (n ≡ n)) (sym renumber) refl),
+          no_orphan,
+          λ h. absurd_bool settings.renumber (first_true settings.renumber (stays_copy settings r) h.0) renumber,
+        )
+
+  pub copy_judged : CopyJudged settings kept present r (copy_change settings kept present r)
+  copy_judged = by_lost (has_lost_source settings r) refl
+    where
+      by_whole : has_lost_source settings r ≡ true → (c : Bool) → is_whole_file r ≡ c
+          → CopyJudged settings kept present r (if c then Ok copies.Dropped else Err faults.CopySource)
+      by_whole lost true whole =
+          let plain : becomes_plain settings r ≡ true =
+          both_true (has_lost_source settings r) (is_whole_file r) lost whole in (
+            rw plain refl,
+            (λ h. absurd_bool (is_whole_file r) whole
+                (not_true (is_whole_file r) (second_true (has_lost_source settings r) (not (is_whole_file r)) h))),
+            λ h. absurd_bool (becomes_plain settings r) plain (not_true (becomes_plain settings r)
+                (second_true (is_copy r) (not (becomes_plain settings r))
+                (second_true settings.renumber (stays_copy settings r) h.0))),
+          )
+      by_whole lost false whole =
+          inl (
+            refl,
+            both_true (has_lost_source settings r) (not (is_whole_file r)) lost
+                (not_false (is_whole_file r) whole),
+          )
+
+      found : has_lost_source settings r ≡ false → (b : Bool) → is_copy r ≡ b
+          → CopyJudged settings kept present r
+          (source_change settings kept present (part_of_node r (header_number copy_revision_name r.headers)))
+      found lost true copy =
+          let from = copied_from number r lawful node copy in
+          subst (λ (n : Option ℕ). CopyJudged settings kept present r (source_change settings kept present n))
+          (sym (part number r lawful node ∙ from.1))
+          (source_judged lost (Some from.0) from.1 copy)
+      found lost false copy =
+          let none = not_copied number r lawful node copy in
+          subst (λ (n : Option ℕ). CopyJudged settings kept present r (source_change settings kept present n))
+          (sym (part number r lawful node ∙ none))
+          (source_judged lost None none copy)
+
+      by_lost : (b : Bool) → has_lost_source settings r ≡ b
+          → CopyJudged settings kept present r
+          (if b then (if is_whole_file r then Ok copies.Dropped else Err faults.CopySource)
+          else source_change settings kept present (part_of_node r (header_number copy_revision_name r.headers)))
+      by_lost true lost = by_whole lost (is_whole_file r) refl
+      by_lost false lost = found lost (is_copy r) refl

@@ -1,0 +1,48 @@
+-- The new copy source of a kept node, and the image of a number behind a pending revision.
+use Rattle.std.proofs.Common.{◌≡◌, ℕ, ◌+◌, ◌<◌, ◌≤◌, length, sym, subst, Option, Some, None, MatchOption}
+use Rattle.dump_rules.specs.Renumbering.{KeptRevisions, image}
+use Rattle.dump_rules.proofs.ReachLemmas.{image_pushed, image_at_pushed, length_fits}
+use Rattle.dump_filter.specs.Groups.{revision_number}
+use Rattle.dump_filter.specs.declared.revisions.Revisions.{Revisions}
+use Rattle.dump_filter.specs.steps.State.{PendingRevision, no_revisions}
+use Rattle.dump_filter.specs.steps.State.PresentGroup.{NoGroup, Pending}
+use Rattle.dump_filter.specs.steps.Advance.{front_kept}
+use Rattle.dump_filter.specs.steps.Knowledge.{AreRising, AreKept}
+use Rattle.dump_filter.proofs.groups.KeptLemmas.{below_pending}
+
+-- a pending revision is that of a group
+no_pending : (w : PendingRevision) → Pending w ≡ NoGroup → ⊥
+no_pending w e = cc
+
+-- where a revision is pending, it is the present one
+pub pending_rising : (revisions : Revisions) (w : PendingRevision) → AreKept revisions (Pending w)
+    → AreRising revisions.kept (revision_number w.revision) (Pending w)
+pending_rising revisions w = by_present revisions.present
+  where
+    by_present : (p : Option ℕ)
+        → MatchOption p ((revisions.kept ≡ no_revisions.kept) × (Pending w ≡ NoGroup))
+        (λ present. AreRising revisions.kept present (Pending w))
+        → AreRising revisions.kept (revision_number w.revision) (Pending w)
+    by_present None (none, group) = absurd (no_pending w group)
+    by_present (Some p) up = subst (λ n. AreRising revisions.kept n (Pending w)) (sym up.waits) up
+
+-- the number that a pending revision gets is at most its own
+pub next_fits : (revisions : Revisions) (w : PendingRevision) → AreKept revisions (Pending w)
+    → revisions.kept.first + length revisions.kept.numbers ≤ revision_number w.revision
+next_fits revisions w kept =
+    let up = pending_rising revisions w kept in
+    length_fits revisions.kept (revision_number w.revision) up.rise
+    (below_pending revisions.kept w (revision_number w.revision) up) up.low
+
+-- the image of a number from the pending revision on
+pub image_at_pending : (revisions : Revisions) (w : PendingRevision) (n : ℕ) → AreKept revisions (Pending w)
+    → revision_number w.revision ≤ n
+    → image (front_kept revisions.kept (Pending w)) n ≡ Some (revisions.kept.first + length revisions.kept.numbers)
+image_at_pending revisions w n kept low =
+    image_at_pushed revisions.kept (revision_number w.revision) n
+    (below_pending revisions.kept w (revision_number w.revision) (pending_rising revisions w kept)) low
+
+-- the image of a number below it
+pub image_before_pending : (kept : KeptRevisions) (w : PendingRevision) (n : ℕ) → n < revision_number w.revision
+    → image (front_kept kept (Pending w)) n ≡ image kept n
+image_before_pending kept w n low = image_pushed kept (revision_number w.revision) n low

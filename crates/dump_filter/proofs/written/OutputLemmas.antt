@@ -1,0 +1,58 @@
+-- What is written of a record, from its parts.
+use Rattle.std.proofs.Common.{◌≡◌, ℕ, Bool, false, List, ◌++◌, ap, ◌∙◌, subst, append_assoc, codes, Some, None, Result, Ok, Err}
+use Rattle.std.specs.Result.{OnOk, IfOk}
+use Rattle.dump_text.specs.Number.{spelled_number}
+use Rattle.dump_text.specs.Names.{revision_name}
+use Rattle.dump_text.specs.HeaderLine.{Header, with_header_value}
+use Rattle.dump_text.specs.HeaderBlock.{block_text}
+use Rattle.dump_text.specs.PropertyList.{Property}
+use Rattle.dump_records.specs.RecordText.{DumpRecord}
+use Rattle.dump_filter.specs.declared.fate.CopyChange.{CopyChange}
+use Rattle.dump_filter.specs.declared.fate.CopyChange.TheVariants.{Same}
+use Rattle.dump_filter.specs.declared.new_lines.Changes.{Changes}
+use Rattle.dump_filter.specs.NewHeaders.{with_lengths}
+use Rattle.dump_filter.specs.NewContent.{revision_properties, new_block}
+use Rattle.dump_filter.specs.steps.NewLines.{new_headers, AreLengths, new_record}
+use Rattle.dump_filter.specs.RecordOutput.{whole_text}
+use Rattle.dump_filter.specs.steps.OwnText.{copied_headers, revision_own, node_own}
+use Rattle.dump_filter.proofs.written.LineLemmas.{revision_lines, node_lines}
+
+pub on_ok : {T E : Type 0} (r : Result T E) (P Q : Type 0) → (P → Q) → OnOk r P → OnOk r Q
+on_ok (Ok x) P Q f p = f p
+on_ok (Err e) P Q f p = tt
+
+pub if_ok : {T E : Type 0} (r : Result T E) (P Q : T → Type 0) → ((x : T) → P x → Q x) → IfOk r P → IfOk r Q
+if_ok (Ok x) P Q f p = f x p
+if_ok (Err e) P Q f p = tt
+
+-- four chunks, one behind the other
+pub chunks_out : (old lines props text end one two three new : List ℕ) → one ≡ old ++ lines → two ≡ one ++ props → three ≡ two ++ text
+    → new ≡ three ++ end → new ≡ old ++ (lines ++ props ++ text ++ end)
+chunks_out old lines props text end one two three new one_is two_is three_is new_is =
+    new_is
+    ∙ ap (λ t. t ++ end) (three_is ∙ ap (λ t. t ++ text) (two_is ∙ ap (λ t. t ++ props) one_is ∙ append_assoc old lines props)
+    ∙ append_assoc old (lines ++ props) text)
+    ∙ append_assoc old (lines ++ props ++ text) end
+
+-- a record whose lines have the lengths of what follows them
+record_is : (c : Changes) (headers lines : List Header) (bytes props text : List ℕ) → new_headers c headers ≡ with_lengths bytes text lines
+    → bytes ≡ props → new_record c headers bytes text ≡ whole_text lines props text
+record_is c headers lines bytes props text lines_are bytes_are =
+    ap (λ h. block_text h ++ bytes ++ text) lines_are ∙ ap (λ b. whole_text lines b text) bytes_are
+
+pub revision_is : (c : Changes) (r : DumpRecord) (number : ℕ) (padded : Bool) (bytes text : List ℕ) (ps : List Property)
+    → c.revision ≡ Some number → c.copy ≡ Same → AreLengths bytes text c → text ≡ r.text
+    → bytes ≡ new_block padded r (revision_properties padded ps)
+    → new_record c r.headers bytes r.text ++ codes "\n" ≡ revision_own r number padded ps
+revision_is c r number padded bytes text ps revision copy lengths text_is bytes_are =
+    ap (λ t. t ++ codes "\n")
+    (record_is c r.headers (with_header_value revision_name (spelled_number number) r.headers) bytes (new_block padded r (revision_properties padded ps)) r.text
+    (revision_lines c r.headers number bytes r.text revision copy (subst (λ t. AreLengths bytes t c) text_is lengths)) bytes_are)
+
+pub node_is : (c : Changes) (r : DumpRecord) (copy : CopyChange) (bytes text : List ℕ) (ps : List Property)
+    → c.revision ≡ None → c.copy ≡ copy → AreLengths bytes text c → text ≡ r.text → bytes ≡ new_block false r ps
+    → new_record c r.headers bytes r.text ++ codes "\n\n" ≡ node_own r copy ps
+node_is c r copy bytes text ps revision copy_is lengths text_is bytes_are =
+    ap (λ t. t ++ codes "\n\n")
+    (record_is c r.headers (copied_headers copy r.headers) bytes (new_block false r ps) r.text
+    (node_lines c r.headers copy bytes r.text revision copy_is (subst (λ t. AreLengths bytes t c) text_is lengths)) bytes_are)

@@ -1,0 +1,171 @@
+-- What is written of the properties of a record.
+use Rattle.std.proofs.Common.{◌≡◌, ℕ, ◌<◌, ◌^◌, suc, Bool, true, false, List, [], ◌∷◌, ◌++◌, length, flat_map, refl, sym, ap, ◌∙◌, subst, arith, append_assoc, inl, inr, codes, bytes_eq, Option, Some, None, option_and_then, unwrap_or, is_some, IsTrue}
+use Rattle.std.specs.List.{list_any}
+use Rattle.std.proofs.lemmas.List.{append-nil}
+use Rattle.std.proofs.lemmas.Grind.{flat_map-append}
+use Rattle.std.proofs.lemmas.Slice.Eq.{bytes_eq-Decides}
+use Rattle.dump_text.specs.Number.{number_of}
+use Rattle.dump_text.specs.Names.{property_length_name}
+use Rattle.dump_text.specs.HeaderLine.{has_header}
+use Rattle.dump_text.specs.steps.PropertyScan.{IsWritten}
+use Rattle.dump_text.specs.PropertyList.{Property, IsEntry, IsPropertyBlock, HasProperties, block_end, entry_text, property_block_text, property_value}
+use Rattle.dump_text.proofs.PropertyLemmas.{entry_parts, left_of, property_block_once}
+use Rattle.dump_text.proofs.WrittenLemmas.{written_list}
+use Rattle.dump_records.specs.HeaderRules.{header_number, property_length}
+use Rattle.dump_records.specs.RecordText.{DumpRecord}
+use Rattle.dump_rules.specs.Settings.{Settings}
+use Rattle.dump_rules.specs.Renumbering.{KeptRevisions}
+use Rattle.dump_rules.specs.Mergeinfo.{HasMergeLines}
+use Rattle.dump_rules.specs.Rewriting.{IsNewMergeinfo}
+use Rattle.dump_digest.specs.RecordParts.{is_mergeinfo}
+use Rattle.dump_filter.specs.NewContent.{padding_log, padding_properties, IsNewProperty, AreNewProperties, new_block}
+use Rattle.dump_filter.specs.steps.NewProperties.{property_of, dated_padding}
+use Rattle.dump_digest.specs.steps.MergeFaults.{HasLines}
+use Rattle.dump_digest.specs.steps.ContentViews.{ArePropertiesOf}
+use Rattle.dump_text.specs.declared.props.Props.{Props}
+use Rattle.dump_text.specs.steps.PropertyViews.{props_bytes}
+use Rattle.dump_text.proofs.BoolLemmas.{false_true, first_false, second_false}
+use Rattle.dump_filter.proofs.written.HeaderLemmas.{no_value}
+
+-- the rest of a list is written behind what stands already
+abbrev pub IsLeftOf : List ℕ → List ℕ → List ℕ → Type 0
+IsLeftOf block out rest = (ps : List Property) → IsPropertyBlock block ps
+    → (qs : List Property) × IsPropertyBlock rest qs × (property_block_text ps ≡ out ++ property_block_text qs)
+
+pub next_left : (block out text rest new : List ℕ) (p : Property) (front : List ℕ) → IsLeftOf block out text
+    → text ≡ front ++ rest → IsEntry front p → new ≡ out ++ entry_text p → IsLeftOf block new rest
+next_left block out text rest new p front before cut one new_is = λ ps is.
+    let (qs, here, same) = before ps is in
+    let left = left_of text p rest qs (entry_parts text front rest p cut one) here in
+    let more = property_block_text left.others in (
+      left.others,
+      inr left.entries,
+      same ∙ ap (λ (l : List Property). out ++ property_block_text l) left.list
+          ∙ ap (λ t. out ++ t) (append_assoc (entry_text p) (flat_map entry_text left.others) block_end)
+          ∙ sym (append_assoc out (entry_text p) more) ∙ ap (λ t. t ++ more) (sym new_is),
+    )
+
+pub none_left : (block out rest new : List ℕ) → IsLeftOf block out rest → IsPropertyBlock rest [] → new ≡ out ++ block_end
+    → (ps : List Property) → IsPropertyBlock block ps → new ≡ property_block_text ps
+none_left block out rest new before end new_is = λ ps is.
+    let (qs, here, same) = before ps is in
+    let none : qs ≡ [] = property_block_once rest qs [] here end in
+    new_is ∙ sym (same ∙ ap (λ (l : List Property). out ++ property_block_text l) none)
+
+-- bytes that are spelled as they are written are the spelling of their own list
+pub own_spelling : (block : List ℕ) → length block < 2 ^ 64 → IsWritten block
+    → (ps : List Property) → IsPropertyBlock block ps → block ≡ property_block_text ps
+own_spelling block small (qs, spelled) = λ ps is.
+    spelled ∙ ap property_block_text (sym (written_list block ps qs small is spelled))
+
+pub padding_is : (ps : List Property) → padding_properties ps ≡ dated_padding (property_value (codes "svn:date") ps)
+padding_is [] = refl
+padding_is (p ∷ ps) = cases (padding_is ps) (bytes_eq p.name (codes "svn:date")) refl
+  where
+    cases : padding_properties ps ≡ dated_padding (property_value (codes "svn:date") ps)
+        → (b : Bool) → bytes_eq p.name (codes "svn:date") ≡ b
+        → padding_properties (p ∷ ps) ≡ dated_padding (property_value (codes "svn:date") (p ∷ ps))
+    cases others true is = rw is (ap (λ n. property_of n p.value ∷ padding_log ∷ []) ((bytes_eq-Decides p.name (codes "svn:date")).0 is))
+    cases others false is = rw is others
+
+-- the new property of one that isn't mergeinfo, and of one that is
+pub unchanged : (settings : Settings) (kept : KeptRevisions) (p : Property) → is_mergeinfo p ≡ false → IsNewProperty settings kept p p
+unchanged settings kept p other = (refl, rw other refl)
+
+pub with_new_value : (settings : Settings) (kept : KeptRevisions) (p : Property) (value : List ℕ) → is_mergeinfo p ≡ true → IsNewMergeinfo settings kept p.value value
+    → IsNewProperty settings kept p (property_of p.name value)
+with_new_value settings kept p value merge is = (refl, rw merge is)
+
+-- no property of the list is mergeinfo, so it is its own new list
+pub no_mergeinfo : (settings : Settings) (kept : KeptRevisions) (ps : List Property) → list_any is_mergeinfo ps ≡ false
+    → AreNewProperties settings kept ps ps
+no_mergeinfo settings kept [] none = tt
+no_mergeinfo settings kept (p ∷ ps) none = (
+  unchanged settings kept p (first_false (is_mergeinfo p) (list_any is_mergeinfo ps) none),
+  no_mergeinfo settings kept ps (second_false (is_mergeinfo p) (list_any is_mergeinfo ps) none),
+)
+
+-- the properties up to the rest of a block, with new values, are written behind what stands already
+abbrev pub AreRewritten : Settings → KeptRevisions → List ℕ → List ℕ → List ℕ → Type 0
+AreRewritten settings kept block out rest = (ps : List Property) → IsPropertyBlock block ps
+    → (qs done new : List Property) × IsPropertyBlock rest qs × (ps ≡ done ++ qs) × AreNewProperties settings kept done new
+    × (out ≡ flat_map entry_text new)
+
+pub none_rewritten : (settings : Settings) (kept : KeptRevisions) (block out rest : List ℕ) → out ≡ [] → rest ≡ block → AreRewritten settings kept block out rest
+none_rewritten settings kept block out rest empty same = λ ps is.
+    (ps, [], [], subst (λ (t : List ℕ). IsPropertyBlock t ps) (sym same) is, refl, tt, empty)
+
+one_more : (settings : Settings) (kept : KeptRevisions) (ps qs : List Property) (p q : Property) → AreNewProperties settings kept ps qs → IsNewProperty settings kept p q
+    → AreNewProperties settings kept (ps ++ p ∷ []) (qs ++ q ∷ [])
+one_more settings kept [] [] p q all one = (one, tt)
+one_more settings kept [] (y ∷ qs) p q all one = absurd all
+one_more settings kept (x ∷ ps) [] p q all one = absurd all
+one_more settings kept (x ∷ ps) (y ∷ qs) p q all one = (all.0, one_more settings kept ps qs p q all.1 one)
+
+pub next_rewritten : (settings : Settings) (kept : KeptRevisions) (block out text rest after : List ℕ) (p : Property) (front : List ℕ) → AreRewritten settings kept block out text
+    → text ≡ front ++ rest → IsEntry front p → (q : Property) → IsNewProperty settings kept p q → after ≡ out ++ entry_text q
+    → AreRewritten settings kept block after rest
+next_rewritten settings kept block out text rest after p front before cut one q is_new after_is = λ ps is.
+    let (qs, done, new, here, list, all, written) = before ps is in
+    let left = left_of text p rest qs (entry_parts text front rest p cut one) here in (
+      left.others,
+      done ++ p ∷ [],
+      new ++ q ∷ [],
+      inr left.entries,
+      list ∙ ap (λ (l : List Property). done ++ l) left.list ∙ sym (append_assoc done (p ∷ []) left.others),
+      one_more settings kept done new p q all is_new,
+      after_is ∙ ap (λ t. t ++ entry_text q) written ∙ ap (λ t. flat_map entry_text new ++ t) (sym (append-nil (entry_text q)))
+          ∙ sym (flat_map-append entry_text new (q ∷ [])),
+    )
+
+pub all_rewritten : (settings : Settings) (kept : KeptRevisions) (block out rest after : List ℕ) → AreRewritten settings kept block out rest → IsPropertyBlock rest []
+    → after ≡ out ++ block_end → (ps : List Property) → IsPropertyBlock block ps
+    → (new : List Property) × AreNewProperties settings kept ps new × (after ≡ property_block_text new)
+all_rewritten settings kept block out rest after before end after_is = λ ps is.
+    let (qs, done, new, here, list, all, written) = before ps is in
+    let none : qs ≡ [] = property_block_once rest qs [] here end in
+    let same : ps ≡ done = list ∙ ap (λ (l : List Property). done ++ l) none ∙ append-nil done in
+    (new, subst (λ (l : List Property). AreNewProperties settings kept l new) (sym same) all, after_is ∙ ap (λ t. t ++ block_end) written)
+
+-- the mergeinfo of what is left of a block is some lines
+pub left_lines : (block rest front : List ℕ) (p : Property) → HasLines block → block ≡ front ++ rest → IsEntry front p → HasLines rest
+left_lines block rest front p lines cut one ps is q (i, within, at) = elim is [
+  | inl (none, empty) ↦ absurd (let size : length ps ≡ 0 = ap length empty in omega arith)
+  | inr more ↦ lines (p ∷ ps) (inr (front, rest, cut, one, more)) q (suc i, omega arith, at)
+]
+
+pub entry_lines : (block rest front : List ℕ) (p : Property) → HasLines block → HasProperties block → block ≡ front ++ rest → IsEntry front p → IsTrue (is_mergeinfo p)
+    → ¬ ¬ HasMergeLines p.value
+entry_lines block rest front p lines (ps, is) cut one merge =
+    let left = left_of block p rest ps (entry_parts block front rest p cut one) is in
+    lines (p ∷ left.others) (inr (front, rest, cut, one, left.entries)) p (0, omega arith, refl) merge
+
+-- a record with a list of properties was read
+pub none_read : (r : DumpRecord) (found : Option Props) → ArePropertiesOf r found → found ≡ None → (ps : List Property)
+    → IsPropertyBlock r.props ps → ⊥
+none_read r found are is ps block = let bad : false ≡ true = sym (ap is_some is) ∙ are.there (ps, block) in false_true bad
+
+-- what was read is a block of the same list
+pub read_block : (r : DumpRecord) (found : Option Props) (p : Props) → ArePropertiesOf r found → found ≡ Some p → (ps : List Property)
+    → IsPropertyBlock r.props ps → IsPropertyBlock (props_bytes p) ps
+read_block r found p are is ps block = subst (λ (t : List ℕ). IsPropertyBlock t ps) (sym (are.bytes p is)) block
+
+-- the block of a record with a length for its properties, and without
+pub block_with : (r : DumpRecord) (ps : List Property) → has_header property_length_name r.headers ≡ true → property_block_text ps ≡ new_block false r ps
+block_with r ps has = rw has refl
+
+pub block_without : (r : DumpRecord) (ps : List Property) → has_header property_length_name r.headers ≡ false → [] ≡ new_block false r ps
+block_without r ps none = rw none refl
+
+-- a node without a length for its properties has none
+pub no_block : (settings : Settings) (kept : KeptRevisions) (r : DumpRecord) → has_header property_length_name r.headers ≡ false → length r.props ≡ property_length r.headers
+    → (ps : List Property) → IsPropertyBlock r.props ps → AreNewProperties settings kept ps []
+no_block settings kept r none size ps is =
+    let number : header_number property_length_name r.headers ≡ None = ap (option_and_then number_of) (no_value property_length_name r.headers none) in
+    let empty : r.props ≡ [] = no_bytes r.props (size ∙ ap (λ (n : Option ℕ). unwrap_or n 0) number) in
+    let same : ps ≡ [] = property_block_once [] ps [] (subst (λ (t : List ℕ). IsPropertyBlock t ps) empty is) (inl (refl, refl)) in
+    subst (λ (l : List Property). AreNewProperties settings kept l []) (sym same) tt
+  where
+    no_bytes : (bytes : List ℕ) → length bytes ≡ 0 → bytes ≡ []
+    no_bytes [] e = refl
+    no_bytes (b ∷ bytes) e = absurd (omega arith)

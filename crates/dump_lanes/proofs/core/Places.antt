@@ -1,0 +1,128 @@
+-- Each item that is cut is in one place, after each event.
+use Rattle.std.proofs.Common.{◌≡◌, ◌⊎◌, inl, inr, ℕ, zero, suc, ◌+◌, ◌<◌, ◌≤◌, ◌%◌, Bool, true, false, not, ◌&&◌, nat_lt, IsTrue, List, [], ◌∷◌, ◌++◌, length, get_or, Option, Some, None, is_some, is_none, option_to_list, slice_index_or, refl, ap, arith, mod-lt}
+use Rattle.std.specs.List.{concat, range_with_len}
+use Rattle.std.proofs.lemmas.Bool.{and_parts, not-true, ltb-true, cases_lt}
+use Rattle.dump_lanes.specs.PoolWorld.{PoolSize, Entry, World, opening, hand_of, slot_of, items_of, items_in_hands}
+use Rattle.dump_lanes.specs.PoolEvents.{Event, is_enabled, after_event, taken_by, arrived, written_next, has_next}
+use Rattle.dump_lanes.proofs.core.Weights.{weigh, only, without, weigh-append, weigh_entries, weigh_hand, hands_set, no_hands, slots_set, slot_le, no_slots, weighs, without_one, weigh_range, within_range, above_range}
+
+-- rows with a place for each worker, and a slot for each item that the window admits
+pub record AreSized (size : PoolSize) (hands : List (Option Entry)) (marks : List Bool) (slots : List (List ℕ)) : Type 0 where
+  pub each_hand : length hands ≡ size.workers
+  pub each_mark : length marks ≡ size.workers
+  pub each_slot : length slots ≡ size.window
+  pub some_slot : 0 < size.window
+
+abbrev pub IsSized : PoolSize → World → Type 0
+IsSized size w = AreSized size w.hands w.marks_taken w.slots
+
+-- what the items of a state weigh, in all places
+abbrev pub weight : (ℕ → ℕ) → World → ℕ
+weight f w = weigh f (items_of w.jobs) + weigh f (items_in_hands w.hands) + weigh f (items_of w.dones) + weigh f (concat w.slots)
+    + weigh f w.finished + weigh f (option_to_list w.writing) + weigh f w.lane
+
+-- the items of a state are those that are cut
+abbrev pub IsEachOnce : World → Type 0
+IsEachOnce w = (f : ℕ → ℕ) → weight f w ≡ weigh f (range_with_len 0 w.cut)
+
+pub is_none_from : {A : Type 0} (o : Option A) → is_none o ≡ true → o ≡ None
+is_none_from None e = refl
+is_none_from (Some x) e = cc
+
+-- what a worker that may take a job is
+pub record MayTake (size : PoolSize) (w : World) (k : ℕ) : Type 0 where
+  pub within : k < size.workers
+  pub empty : hand_of w k ≡ None
+  pub unmarked : slice_index_or w.marks_taken k false ≡ false
+
+pub may_take : (size : PoolSize) (w : World) (k : ℕ) → IsTrue (is_enabled size w (Event.Take k)) → MayTake size w k
+may_take size w k e =
+    let a = (and_parts (nat_lt k size.workers && is_none (hand_of w k) && not (slice_index_or w.marks_taken k false)) _ e).0 in
+    let b = and_parts (nat_lt k size.workers && is_none (hand_of w k)) _ a in
+    let c = and_parts (nat_lt k size.workers) _ b.0 in
+    record { within = ltb-true k size.workers c.0; empty = is_none_from (hand_of w k) c.1; unmarked = not-true (slice_index_or w.marks_taken k false) b.1 }
+
+-- a hand that holds something is a worker's
+pub hand_within : (hands : List (Option Entry)) (k : ℕ) → is_some (get_or hands k None) ≡ true → k < length hands
+hand_within [] k e = cc
+hand_within (h ∷ hands) zero e = omega arith
+hand_within (h ∷ hands) (suc k) e = let more = hand_within hands k e in omega arith
+
+take_once : (size : PoolSize) (w : World) (k : ℕ) (jobs : List Entry) → w.jobs ≡ jobs → k < length w.hands → hand_of w k ≡ None
+    → IsEachOnce w → IsEachOnce (taken_by w k jobs)
+take_once size w k [] e lt free h f = h f
+take_once size w k (Entry.Item n ∷ rest) e lt free h f =
+    let before : weigh f (items_of w.jobs) ≡ f n + weigh f (items_of rest) = ap (λ (js : List Entry). weigh f (items_of js)) e in
+    let empty : weigh_hand f (hand_of w k) ≡ 0 = ap (weigh_hand f) free in
+    omega (arith, h f, hands_set f w.hands k (Some (Entry.Item n)) lt)
+take_once size w k (Entry.Mark ∷ rest) e lt free h f =
+    let before : weigh f (items_of w.jobs) ≡ weigh f (items_of rest) = ap (λ (js : List Entry). weigh f (items_of js)) e in
+    let empty : weigh_hand f (hand_of w k) ≡ 0 = ap (weigh_hand f) free in
+    omega (arith, h f, hands_set f w.hands k (Some Entry.Mark) lt)
+
+arrive_once : (size : PoolSize) (w : World) (dones : List Entry) → w.dones ≡ dones → IsSized size w
+    → IsEachOnce w → IsEachOnce (arrived size w dones)
+arrive_once size w [] e s h f = h f
+arrive_once size w (Entry.Item n ∷ rest) e s h f =
+    let before : weigh f (items_of w.dones) ≡ f n + weigh f (items_of rest) = ap (λ (ds : List Entry). weigh f (items_of ds)) e in
+    let within : n % size.window < length w.slots = omega (arith, s.each_slot, mod-lt n s.some_slot) in
+    omega (arith, h f, slots_set f w.slots (n % size.window) (slot_of size w n ++ n ∷ []) within, weigh-append f (slot_of size w n) (n ∷ []))
+arrive_once size w (Entry.Mark ∷ rest) e s h f =
+    let before : weigh f (items_of w.dones) ≡ weigh f (items_of rest) = ap (λ (ds : List Entry). weigh f (items_of ds)) e in
+    omega (arith, h f)
+
+write_once : (w : World) (lane : List ℕ) → w.lane ≡ lane → w.writing ≡ None → IsEachOnce w → IsEachOnce (written_next w lane)
+write_once w [] e free h f = h f
+write_once w (n ∷ rest) e free h f =
+    let before : weigh f w.lane ≡ f n + weigh f rest = ap (weigh f) e in
+    let empty : weigh f (option_to_list w.writing) ≡ 0 = ap (λ (o : Option ℕ). weigh f (option_to_list o)) free in
+    omega (arith, h f)
+
+-- the next item is cut, and stands in its slot once
+pub record IsNext (size : PoolSize) (w : World) : Type 0 where
+  pub below : w.released < w.cut
+  pub single : weigh (only w.released) (slot_of size w w.released) ≡ 1
+
+by_order : (size : PoolSize) (w : World) → (w.released < w.cut) ⊎ (w.cut ≤ w.released) → 0 < weigh (only w.released) (slot_of size w w.released)
+    → weigh (only w.released) (slot_of size w w.released) ≤ weigh (only w.released) (range_with_len 0 w.cut) → IsNext size w
+by_order size w (inl lt) here all = record { below = lt; single = omega (arith, within_range w.released w.cut lt) }
+by_order size w (inr le) here all = absurd (omega (arith, above_range w.released w.cut le))
+
+pub is_next : (size : PoolSize) (w : World) → IsEachOnce w → IsTrue (has_next size w) → IsNext size w
+is_next size w h e =
+    let here : 0 < weigh (only w.released) (slot_of size w w.released) = weighs w.released (slot_of size w w.released) e in
+    let all : weigh (only w.released) (slot_of size w w.released) ≤ weigh (only w.released) (range_with_len 0 w.cut) =
+    omega (arith, h (only w.released), slot_le (only w.released) w.slots (w.released % size.window)) in
+    by_order size w (cases_lt w.released w.cut) here all
+
+release_once : (size : PoolSize) (w : World) → IsNext size w → IsSized size w → IsEachOnce w → IsEachOnce (after_event size w Event.Release)
+release_once size w next s h f =
+    let within : w.released % size.window < length w.slots = omega (arith, s.each_slot, mod-lt w.released s.some_slot) in
+    omega (arith, h f, slots_set f w.slots (w.released % size.window) (without w.released (slot_of size w w.released)) within, without_one f w.released (slot_of size w w.released) next.single, weigh-append f w.lane (w.released ∷ []))
+
+-- each event
+pub once_kept : (size : PoolSize) (w : World) (event : Event) → IsTrue (is_enabled size w event) → IsSized size w
+    → IsEachOnce w → IsEachOnce (after_event size w event)
+once_kept size w Event.Draw e s h = h
+once_kept size w (Event.Cut last) e s h =
+    λ f. omega (arith, h f, weigh_entries f w.jobs (Entry.Item w.cut ∷ []), weigh_range f w.cut)
+once_kept size w Event.CutMark e s h = λ f. omega (arith, h f, weigh_entries f w.jobs (Entry.Mark ∷ []))
+once_kept size w (Event.Take k) e s h =
+    let may = may_take size w k e in take_once size w k w.jobs refl (omega (arith, may.within, s.each_hand)) may.empty h
+once_kept size w (Event.Put k) e s h =
+    λ f. omega (arith, h f, weigh_entries f w.dones (option_to_list (hand_of w k)), hands_set f w.hands k None (hand_within w.hands k e))
+once_kept size w Event.Arrive e s h = arrive_once size w w.dones refl s h
+once_kept size w Event.SequencerNotes e s h = h
+once_kept size w Event.WriterNotes e s h = h
+once_kept size w Event.Release e s h = release_once size w (is_next size w h e) s h
+once_kept size w Event.Write e s h =
+    write_once w w.lane refl (is_none_from w.writing (and_parts (nat_lt 0 (length w.lane)) _ e).1) h
+once_kept size w Event.Give e s h = λ f. omega (arith, h f, weigh-append f w.finished (option_to_list w.writing))
+once_kept size w Event.SequencerRaises e s h = h
+once_kept size w Event.WriterRaises e s h = h
+once_kept size w Event.Look e s h = h
+once_kept size w Event.Shut e s h = h
+
+pub once_first : (size : PoolSize) → IsEachOnce (opening size)
+once_first size f =
+    omega (arith, ap (weigh f) (no_hands size.workers), ap (weigh f) (no_slots size.window))
