@@ -5,3 +5,4 @@ pub mod LineLemmas
 pub mod ProgramLemmas
 pub mod RowLemmas
 pub mod WordLemmas
+pub mod Values

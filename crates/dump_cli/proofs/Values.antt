@@ -1,0 +1,182 @@
+-- Worked values of the definitions, computed and proved by the kernel.
+use Rattle.std.proofs.Common.{◌≡◌, ℕ, refl, true, false, List, [], ◌∷◌, length, Some, None, Ok, Err, codes, inl, inr, ap, arith, lit<, lit≤}
+use base.Fml.{GName}
+use Rattle.clap.specs.Words.{Row}
+use Rattle.clap.specs.declared.builder.value_parser.Reading.TheVariants as reading
+use Rattle.dump_text.specs.declared.fault.FaultKind.TheVariants as faults
+use Rattle.dump_rules.specs.declared.options.Side.TheVariants.{Include, Exclude}
+use Rattle.dump_rules.specs.declared.options.Empty.TheVariants.{Pad, DropEmptied, DropAll}
+use Rattle.dump_writer.proofs.Values.{lent}
+use Rattle.dump_filter.specs.Counts.{report_of}
+use Rattle.dump_filter.proofs.Values.{padding}
+use Rattle.dump_pipeline.specs.declared.answer.Answer.TheVariants.{Clean, Fault, Failed}
+use Rattle.dump_pipeline.specs.declared.answer.Failure.TheVariants as failures
+use Rattle.dump_pipeline.proofs.Values.{empty_answer}
+use Rattle.dump_cli.specs.CommandLine.{switch, number, prefixes, side_app, program}
+use Rattle.dump_cli.specs.declared.words.Usage.TheVariants.{Words, BothDrops, Memory}
+use Rattle.dump_cli.specs.Words.{is_set, number_of, side_of, empty_of, order_of, AnswersTo, IsSwitch, IsNumber, AreFilled}
+use Rattle.dump_cli.specs.Drive.{status_of, IsSilent, BreaksOff, Ran, TellsBehind, FailsOnlyBehind, CarriesOut, refusal_status, Obeys, Drives}
+
+-- CommandLine
+
+spelled_flag : (switch (codes "quiet")).long ≡ Some (codes "quiet")
+spelled_flag = refl
+
+default_number : (number (codes "workers") 64 (codes "4")).defaults ≡ codes "4" ∷ []
+default_number = refl
+
+wanted_prefixes : prefixes.required ≡ true
+wanted_prefixes = refl
+
+-- eight flags, and the prefixes
+nine_rules : length (side_app (codes "include")).top.rules ≡ 9
+nine_rules = refl
+
+two_sides : length program.subs ≡ 2
+two_sides = refl
+
+-- Words
+
+abbrev row : List ℕ → List (List ℕ) → Row
+row name values = record { id = name; values = values; count = None; source = None; reading = reading.AsWritten }
+
+abbrev flags : List ℕ → List ℕ → List Row
+flags empty all =
+    row (codes "drop-empty-revs") (empty ∷ []) ∷ row (codes "drop-all-empty-revs") (all ∷ [])
+    ∷ row (codes "renumber-revs") (codes "false" ∷ []) ∷ row (codes "preserve-revprops") (codes "false" ∷ [])
+    ∷ row (codes "skip-missing-merge-sources") (codes "false" ∷ []) ∷ row (codes "quiet") (codes "true" ∷ [])
+    ∷ row (codes "workers") (codes "12" ∷ []) ∷ row (codes "window") (codes "64" ∷ [])
+    ∷ row (codes "PREFIX") (codes "trunk" ∷ []) ∷ []
+
+set : is_set (codes "quiet") (flags (codes "false") (codes "false")) ≡ true
+set = refl
+
+not_set : is_set (codes "renumber-revs") (flags (codes "false") (codes "false")) ≡ false
+not_set = refl
+
+twelve : number_of (codes "workers") (flags (codes "false") (codes "false")) ≡ 12
+twelve = refl
+
+includes : side_of (codes "include") ≡ Include
+includes = refl
+
+excludes : side_of (codes "exclude") ≡ Exclude
+excludes = refl
+
+pads : empty_of false false ≡ Some Pad
+pads = refl
+
+drops : empty_of true false ≡ Some DropEmptied
+drops = refl
+
+drops_all : empty_of false true ≡ Some DropAll
+drops_all = refl
+
+drops_both : empty_of true true ≡ None
+drops_both = refl
+
+order : order_of (codes "include", flags (codes "false") (codes "false"))
+    ≡ Ok (record { settings = padding; workers = 12; window = 64; quiet = true })
+order = refl
+
+both_drops : order_of (codes "include", flags (codes "true") (codes "true")) ≡ Err BothDrops
+both_drops = refl
+
+refused_for_its_words : AnswersTo (Err Words) (Err Words)
+refused_for_its_words = refl
+
+refused_for_others : ¬ AnswersTo (Err BothDrops) (Err Words)
+refused_for_others e = cc
+
+a_switch : IsSwitch (codes "quiet") (flags (codes "false") (codes "false"))
+a_switch = (codes "true", refl, inl refl)
+
+twelve_workers : IsNumber (codes "workers") 64 (flags (codes "false") (codes "false"))
+twelve_workers = (codes "12", refl, ((lit< tt, (lit< tt, (lit< tt, tt))), lit< tt, lit≤ tt, lit≤ tt))
+
+sixty_four : IsNumber (codes "window") 4096 (flags (codes "false") (codes "false"))
+sixty_four = (codes "64", refl, ((lit< tt, (lit< tt, (lit< tt, tt))), lit< tt, lit≤ tt, lit≤ tt))
+
+filled : AreFilled (flags (codes "false") (codes "false"))
+filled = record {
+  drop_empty = (codes "false", refl, inr refl);
+  drop_all = (codes "false", refl, inr refl);
+  renumber = (codes "false", refl, inr refl);
+  preserve = (codes "false", refl, inr refl);
+  skip_missing = (codes "false", refl, inr refl);
+  quiet = a_switch;
+  workers = twelve_workers;
+  window = sixty_four;
+}
+
+-- Drive
+
+broken_off : status_of (Failed failures.Sink 7) ≡ 1
+broken_off = refl
+
+well : status_of (Clean (report_of padding [])) ≡ 0
+well = refl
+
+silent : IsSilent (Clean (report_of padding [])) true
+silent = refl
+
+told : ¬ IsSilent (Clean (report_of padding [])) false
+told e = cc
+
+fault_is_told : ¬ IsSilent (Fault faults.HeaderCut 0 0) true
+fault_is_told is = is
+
+-- the writer took one byte of three
+one_of_three : BreaksOff (Some (codes "x")) (Some (codes "xa")) (codes "abc") (Failed failures.Sink 1)
+one_of_three = record {
+  part = codes "a";
+  written = 1;
+  begins = (codes "bc", refl);
+  appended = refl;
+  counted = (codes "a", refl, refl);
+  told_is = refl;
+}
+
+-- a sink with bytes that wait for the writer tells that it failed, and not the answer of the run
+broke_behind : (through : GName) → TellsBehind (lent through) (Fault faults.HeaderCut 0 0) (Failed failures.Sink 2)
+broke_behind through = inr (refl, (codes "ab", refl, refl))
+
+not_behind : (through : GName) → ¬ TellsBehind (lent through) (Fault faults.HeaderCut 0 0) (Fault faults.HeaderCut 0 0)
+not_behind through (inl (_, e)) = let same = ap length e in omega arith
+not_behind through (inr (e, _)) = cc
+
+failed_behind : FailsOnlyBehind 0 1 (Fault faults.HeaderCut 0 0) (Failed failures.Sink 2)
+failed_behind first e = inl (omega arith)
+
+did_not_fail : ¬ FailsOnlyBehind 0 0 (Fault faults.HeaderCut 0 0) (Failed failures.Sink 2)
+did_not_fail is = elim (is 0 refl) [
+  | inl less ↦ omega arith
+  | inr e ↦ omega arith
+]
+
+-- an empty input is an empty dump
+empty_input : Ran padding [] (Some []) (Some []) (Fault faults.HeaderCut 0 0)
+empty_input = record {
+  answer = Fault faults.HeaderCut 0 0;
+  sent = [];
+  answered = empty_answer;
+  arrived = inl (refl, refl);
+}
+
+no_input : CarriesOut padding None (Some []) (Some []) 1
+no_input = inr (refl, refl)
+
+words_refused : refusal_status Words ≡ 2
+words_refused = refl
+
+no_memory : refusal_status Memory ≡ 1
+no_memory = refl
+
+nothing_written : Obeys (Err Words) None (Some []) (Some []) 2
+nothing_written = (refl, refl)
+
+other_status : ¬ Obeys (Err Words) None (Some []) (Some []) 1
+other_status (_, e) = omega arith
+
+no_order : Drives (Err Words) None (Some []) (Some []) 2
+no_order = (Err Words, refl, (refl, refl))
