@@ -4,4 +4,4 @@ pub mod ReachLemmas
 pub mod Values
 pub mod reading
 pub mod faults
-pub mod values
+pub mod new_values

@@ -18,7 +18,7 @@ use Rattle.dump_rules.specs.Mergeinfo.{HasMergeLines}
 use Rattle.dump_rules.specs.Renumbering.{KeptRevisions, RiseFrom, image}
 use Rattle.dump_rules.specs.Rewriting.{IsNewMergeinfo}
 use Rattle.dump_rules.proofs.ReachLemmas.{image_fits}
-use Rattle.dump_rules.proofs.values.RunsLaw.{number_small}
+use Rattle.dump_rules.proofs.new_values.RunsLaw.{number_small}
 use Rattle.dump_digest.specs.RecordParts.{is_revision, is_node, is_kept_node, is_mergeinfo, mergeinfo_name}
 use Rattle.dump_digest.specs.ContentFaults.{HasBadMd5, HasBadSha1, HasBadMergeinfo, DiffersFromDigest}
 use Rattle.dump_filter.specs.FilterLaws.{keep_all}

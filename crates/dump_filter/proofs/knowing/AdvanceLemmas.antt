@@ -12,7 +12,7 @@ use Rattle.dump_rules.specs.Renumbering.{KeptRevisions, RiseFrom}
 use Rattle.dump_rules.specs.Mergeinfo.{HasMergeLines}
 use Rattle.dump_rules.specs.Rewriting.{IsNewMergeinfo}
 use Rattle.dump_rules.proofs.faults.FaultLemmas.{has_lines}
-use Rattle.dump_rules.proofs.values.ValueLemmas.{new_value}
+use Rattle.dump_rules.proofs.new_values.ValueLemmas.{new_value}
 use Rattle.dump_digest.specs.RecordParts.{is_revision, is_node, is_kept_node, is_mergeinfo, is_checked_text}
 use Rattle.dump_filter.specs.declared.fate.CopyChange.{CopyChange}
 use Rattle.dump_filter.specs.declared.fate.Fate.{Fate}

@@ -11,7 +11,7 @@ use Rattle.dump_records.specs.RecordText.{DumpRecord}
 use Rattle.dump_rules.specs.Settings.{Settings}
 use Rattle.dump_rules.specs.Renumbering.{KeptRevisions, image}
 use Rattle.dump_rules.specs.Rewriting.{IsNewMergeinfo}
-use Rattle.dump_rules.proofs.values.OneNewValue.{one_new_value}
+use Rattle.dump_rules.proofs.new_values.OneNewValue.{one_new_value}
 use Rattle.dump_digest.specs.RecordParts.{is_revision, is_node, is_mergeinfo}
 use Rattle.dump_filter.specs.Groups.{Group, group_of, is_padded}
 use Rattle.dump_filter.specs.NewHeaders.{becomes_plain, without_copy_headers, IsWrittenCopyNumber, IsNewCopy}

@@ -11,7 +11,7 @@ use Rattle.dump_records.specs.RecordText.{DumpRecord}
 use Rattle.dump_rules.specs.Settings.{Settings}
 use Rattle.dump_rules.specs.Renumbering.{KeptRevisions, image}
 use Rattle.dump_rules.specs.Rewriting.{IsNewMergeinfo, HasForeignNumber}
-use Rattle.dump_rules.proofs.values.LaterRevisions.{later_revisions}
+use Rattle.dump_rules.proofs.new_values.LaterRevisions.{later_revisions}
 use Rattle.dump_digest.specs.RecordParts.{is_kept_node, is_mergeinfo}
 use Rattle.dump_filter.specs.declared.fate.CopyChange.{CopyChange}
 use Rattle.dump_filter.specs.Groups.{is_bare, is_pad, is_padded, revision_number}

@@ -4,7 +4,7 @@ use Rattle.dump_rules.specs.steps.ReadMergeinfo.{lines_read}
 use Rattle.dump_rules.specs.steps.NewLines.{text_lines, with_new_lines}
 use Rattle.dump_rules.specs.Rewriting.{IsNewMergeinfo}
 use Rattle.dump_rules.proofs.reading.MergeinfoLemmas.{reads_exactly}
-use Rattle.dump_rules.proofs.values.ValueLemmas.{new_value}
+use Rattle.dump_rules.proofs.new_values.ValueLemmas.{new_value}
 use Rattle.dump_rules.proofs.faults.FaultLemmas.{has_lines}
 use Rattle.dump_rules.proofs.rewriting.new_value.Goals as goal
 

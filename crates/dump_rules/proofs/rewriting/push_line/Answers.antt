@@ -1,7 +1,7 @@
 use Rattle.std.proofs.Common.{ℕ, List, sym, ap, subst, ◌∙◌, map}
 use Rattle.dump_rules.specs.steps.ReadRanges.{span_range}
 use Rattle.dump_rules.specs.steps.NewRanges.{list_new}
-use Rattle.dump_rules.proofs.values.NewLineLemmas.{AreFit, line_fits}
+use Rattle.dump_rules.proofs.new_values.NewLineLemmas.{AreFit, line_fits}
 use Rattle.dump_rules.proofs.rewriting.push_line.Goals as goal
 
 fit : (c : goal.After-push_spans-arg-1) → AreFit (map span_range c.in_ok-spans.spans.items)

@@ -6,7 +6,7 @@ use Rattle.dump_rules.specs.declared.ranges.Span.{Span}
 use Rattle.dump_rules.specs.RangeList.{runs_text}
 use Rattle.dump_rules.specs.steps.ReadRanges.{span_range}
 use Rattle.dump_rules.specs.steps.Runs.{joined}
-use Rattle.dump_rules.proofs.values.NewLineLemmas.{written_runs}
+use Rattle.dump_rules.proofs.new_values.NewLineLemmas.{written_runs}
 use Rattle.dump_rules.proofs.rewriting.push_spans.Goals as goal
 
 pub returns : goal.returns

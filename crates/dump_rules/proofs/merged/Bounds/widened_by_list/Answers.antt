@@ -3,7 +3,7 @@ use Rattle.dump_rules.specs.steps.ReadRanges.{range_parts}
 use Rattle.dump_rules.specs.steps.Merged.{parts_bounds}
 use Rattle.dump_rules.proofs.reading.RangeLemmas.{position_whole}
 use Rattle.dump_rules.proofs.faults.MergedLemmas.{bounds_first, list_bounds_is}
-use Rattle.dump_rules.proofs.values.NewLineLemmas.{parts_first}
+use Rattle.dump_rules.proofs.new_values.NewLineLemmas.{parts_first}
 use Rattle.dump_rules.proofs.merged.Bounds.widened_by_list.Goals as goal
 
 pub loop-comma-preserved : goal.loop-comma-preserved

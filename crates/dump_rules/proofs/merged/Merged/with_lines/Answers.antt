@@ -2,7 +2,7 @@ use Rattle.std.proofs.Common.{sym, ap, ◌∙◌}
 use Rattle.dump_rules.specs.steps.Merged.{lines_merged}
 use Rattle.dump_rules.proofs.reading.RangeLemmas.{position_whole}
 use Rattle.dump_rules.proofs.faults.MergedLemmas.{lines_first, lines_bad, lines_last}
-use Rattle.dump_rules.proofs.values.NewLineLemmas.{parts_first}
+use Rattle.dump_rules.proofs.new_values.NewLineLemmas.{parts_first}
 use Rattle.dump_rules.proofs.merged.Merged.with_lines.Goals as goal
 
 pub returns-in_err-merged : goal.returns-in_err-merged

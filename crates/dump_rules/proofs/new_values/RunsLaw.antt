@@ -14,8 +14,8 @@ use Rattle.dump_rules.specs.RangeLaws.{EachMapHasOneSpelling}
 use Rattle.dump_rules.specs.steps.Runs.{HaveNumbers, ranges_of, list_ranges, runs_of}
 use Rattle.dump_rules.proofs.reading.RangeLemmas.{number_parts, range_of_text}
 use Rattle.dump_rules.proofs.reading.RangeListLemmas.{split_joined, all_lack}
-use Rattle.dump_rules.proofs.values.JoinLemmas.{runs_are, same_trans, same_sym}
-use Rattle.dump_rules.proofs.values.Unique.{runs_once}
+use Rattle.dump_rules.proofs.new_values.JoinLemmas.{runs_are, same_trans, same_sym}
+use Rattle.dump_rules.proofs.new_values.Unique.{runs_once}
 
 -- numbers are small
 

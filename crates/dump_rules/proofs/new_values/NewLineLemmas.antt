@@ -12,9 +12,9 @@ use Rattle.dump_rules.specs.steps.NewRanges.{new_ranges, list_new}
 use Rattle.dump_rules.specs.steps.NewLines.{line_list, with_break, with_runs, with_new_line, with_new_lines}
 use Rattle.dump_rules.proofs.reading.RangeLemmas.{position_split, position_whole}
 use Rattle.dump_rules.proofs.reading.RangeListLemmas.{read_is_list}
-use Rattle.dump_rules.proofs.values.RunsLaw.{have_numbers, list_is}
-use Rattle.dump_rules.proofs.values.RunsLemmas.{some_joined}
-use Rattle.dump_rules.proofs.values.NewRangeLemmas.{renumbered, unchanged, renumbered_consistent, new_have_numbers, list_new_is}
+use Rattle.dump_rules.proofs.new_values.RunsLaw.{have_numbers, list_is}
+use Rattle.dump_rules.proofs.new_values.RunsLemmas.{some_joined}
+use Rattle.dump_rules.proofs.new_values.NewRangeLemmas.{renumbered, unchanged, renumbered_consistent, new_have_numbers, list_new_is}
 
 -- ranges have runs
 

@@ -8,8 +8,8 @@ use Rattle.dump_rules.specs.RangeList.{Range, IsConsistent, AreRuns, run_text, r
 use Rattle.dump_rules.specs.Mergeinfo.{MergeLine, IsMergeLine, IsMergeinfo, HasMergeLines, merge_line_text, mergeinfo_text}
 use Rattle.dump_rules.specs.Rewriting.{IsSameMap, IsRenumberedMap, IsNewLine, IsNewMergeinfo, staying_lines, nonempty_lines}
 use Rattle.dump_rules.proofs.ReachLemmas.{new_number_fits, from_first}
-use Rattle.dump_rules.proofs.values.NewRangeLemmas.{renumbered_consistent}
-use Rattle.dump_rules.proofs.values.RunsLaw.{AreSmall, are_small, runs_spelled}
+use Rattle.dump_rules.proofs.new_values.NewRangeLemmas.{renumbered_consistent}
+use Rattle.dump_rules.proofs.new_values.RunsLaw.{AreSmall, are_small, runs_spelled}
 
 -- new numbers above 0
 abbrev pub KeepsPositive : KeptRevisions → Type 0

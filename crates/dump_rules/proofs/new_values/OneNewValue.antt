@@ -6,8 +6,8 @@ use Rattle.dump_rules.specs.Renumbering.{KeptRevisions}
 use Rattle.dump_rules.specs.RangeList.{Range}
 use Rattle.dump_rules.specs.Mergeinfo.{MergeLine, IsMergeLine, IsMergeinfo, mergeinfo_text}
 use Rattle.dump_rules.specs.Rewriting.{IsSameMap, IsRenumberedMap, IsNewLine, IsNewMergeinfo, staying_lines, nonempty_lines}
-use Rattle.dump_rules.proofs.values.Unique.{runs_once}
-use Rattle.dump_rules.proofs.values.ValueLemmas.{line_parts, texts_are}
+use Rattle.dump_rules.proofs.new_values.Unique.{runs_once}
+use Rattle.dump_rules.proofs.new_values.ValueLemmas.{line_parts, texts_are}
 
 line_eq : (a b : MergeLine) → a.path ≡ b.path → a.ranges ≡ b.ranges → a ≡ b
 line_eq a b path ranges = λ i. record { path = path i; ranges = ranges i }

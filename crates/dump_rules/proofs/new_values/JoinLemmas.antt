@@ -5,7 +5,7 @@ use Rattle.std.proofs.lemmas.Bool.{and_parts}
 use Rattle.dump_rules.specs.RangeList.{Range, HasNumber, IsConsistent, AreRuns}
 use Rattle.dump_rules.specs.steps.ReadRanges.{is_other}
 use Rattle.dump_rules.specs.Rewriting.{IsSameMap}
-use Rattle.dump_rules.proofs.values.Unique.{runs_once}
+use Rattle.dump_rules.proofs.new_values.Unique.{runs_once}
 use Rattle.dump_rules.specs.steps.Runs.{touches, reaching, joined_from, joined, ordered_into, ordered, runs_of, HaveNumbers}
 
 -- the ranges have numbers, and each begins no lower than the one before

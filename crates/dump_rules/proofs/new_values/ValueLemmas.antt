@@ -14,10 +14,10 @@ use Rattle.dump_rules.specs.steps.NewRanges.{new_ranges, list_new}
 use Rattle.dump_rules.specs.steps.NewLines.{line_path, line_list, text_lines, with_break, with_runs, with_new_line, with_new_lines}
 use Rattle.dump_rules.proofs.reading.RangeListLemmas.{split_joined, list_lacks}
 use Rattle.dump_rules.proofs.reading.MergeinfoLemmas.{colon_end_is, bare, all_read}
-use Rattle.dump_rules.proofs.values.JoinLemmas.{runs_are}
-use Rattle.dump_rules.proofs.values.RunsLaw.{have_numbers, list_is}
-use Rattle.dump_rules.proofs.values.NewRangeLemmas.{renumbered, unchanged, list_new_is}
-use Rattle.dump_rules.proofs.values.NewLineLemmas.{AreFit, new_ranges_fit}
+use Rattle.dump_rules.proofs.new_values.JoinLemmas.{runs_are}
+use Rattle.dump_rules.proofs.new_values.RunsLaw.{have_numbers, list_is}
+use Rattle.dump_rules.proofs.new_values.NewRangeLemmas.{renumbered, unchanged, list_new_is}
+use Rattle.dump_rules.proofs.new_values.NewLineLemmas.{AreFit, new_ranges_fit}
 
 -- one line
 

@@ -12,7 +12,7 @@ use Rattle.dump_rules.specs.Rewriting.{IsSameMap}
 use Rattle.dump_rules.specs.steps.Runs.{touches, reaching, joined_from, joined, runs_of, HaveNumbers, with_range}
 use Rattle.dump_rules.specs.steps.NewRanges.{part_range, parts_ranges}
 use Rattle.dump_rules.proofs.reading.RangeLemmas.{position_split, position_whole}
-use Rattle.dump_rules.proofs.values.JoinLemmas.{Rises, runs_any_order}
+use Rattle.dump_rules.proofs.new_values.JoinLemmas.{Rises, runs_any_order}
 
 -- parts
 
