@@ -1,12 +1,10 @@
 -- A block that is written as it stands: under its own numbers and lengths, spelled as they are written.
-use Rattle.std.proofs.Common.{◌≡◌, ℕ, ◌+◌, ◌==◌, nat_le, Bool, true, false, not, ◌&&◌, ◌||◌, List, [], ◌∷◌, length, refl, sym, ap, ◌∙◌, Option, Some, None, bytes_eq, is_none, unwrap_or, option_and_then, MatchBool}
+use Rattle.std.proofs.Common.{◌≡◌, ℕ, ◌+◌, ◌==◌, nat_le, Bool, true, false, not, ◌&&◌, ◌||◌, List, length, refl, sym, ap, ◌∙◌, Option, Some, None, is_none, unwrap_or, option_and_then}
 use Rattle.std.proofs.lemmas.Bool.{eqb-true}
 use Rattle.std.proofs.lemmas.Slice.Eq.{bytes_eq-Decides}
 use Rattle.dump_text.specs.Number.{number_of, spelled_number}
 use Rattle.dump_text.specs.Names.{revision_name, copy_revision_name, property_length_name, text_length_name, content_length_name}
 use Rattle.dump_text.specs.HeaderLine.{Header, has_header, count_named, header_value}
-use Rattle.dump_text.specs.HeaderBlock.{is_block}
-use Rattle.dump_text.proofs.BlockLemmas.{has_value}
 use Rattle.dump_text.proofs.BoolLemmas.{first_true, second_true, first_false, second_false, not_so, absurd_bool}
 use Rattle.dump_records.specs.HeaderRules.{header_number, header_length, property_length, text_length, has_bad_number, has_bad_lengths}
 use Rattle.dump_records.specs.steps.HeaderReading.{are_spelled, is_spelled, are_written}

@@ -1,5 +1,4 @@
-use Rattle.std.proofs.Common.{drop, sym, ◌∙◌, false, true}
-use Rattle.dump_text.specs.steps.Views.{block_dump, block_place}
+use Rattle.std.proofs.Common.{sym, ◌∙◌}
 use Rattle.dump_text.proofs.BoolLemmas.{absurd_bool}
 use Rattle.dump_records.specs.steps.RecordViews.{record_item, record_number}
 use Rattle.dump_filter.proofs.written.StayLemmas.{stands_as_written}
