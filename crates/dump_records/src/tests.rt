@@ -214,6 +214,49 @@ fn what_the_lines_of_a_node_say_is_read(rt: HostRuntime) -> Result<(), Fail> {
     Ok(())
 }
 
+// Whether the block of the first record behind the version is written as it stands.
+fn is_written(alloc: Global, lines: &[u8], content: &[u8]) -> Result<bool, Fail> {
+    let dump = joined(alloc, &[VERSION, lines, b"\n", content])?;
+    let mut cutter = Cutter::new(&dump);
+    next_record(&mut cutter)?;
+    Ok(next_record(&mut cutter)?.is_written())
+}
+
+#[test]
+fn a_block_is_written_as_it_stands(rt: HostRuntime) -> Result<(), Fail> {
+    let alloc = rt.alloc();
+    let rows = [
+        (
+            b"Node-path: f\nText-content-length: 3\nContent-length: 3\n".as_slice(),
+            b"abc".as_slice(),
+            true,
+        ),
+        (b"Node-path: f\nContent-length: 0\n", b"", true),
+        (
+            b"Node-path: f\nText-content-length: 03\nContent-length: 3\n",
+            b"abc",
+            false,
+        ),
+        (
+            b"Node-path: f\nText-content-length: 3\nContent-length: 03\n",
+            b"abc",
+            false,
+        ),
+        (b"Node-path: f\nText-content-length: 3\n", b"abc", false),
+        (b"Node-path: f\nText-content-length: 00\n", b"", false),
+        (
+            b"Node-path: f\nNode-copyfrom-rev: 01\nNode-copyfrom-path: g\n",
+            b"",
+            false,
+        ),
+        (b"Revision-number: 01\n", b"", false),
+    ];
+    for (lines, content, written) in rows {
+        assert_eq!(rt; is_written(alloc, lines, content)?, written);
+    }
+    Ok(())
+}
+
 #[test]
 fn the_laws_can_be_called() {
     no_record_begins_another();
