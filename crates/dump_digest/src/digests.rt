@@ -1,5 +1,5 @@
 //! The digests of a record's text.
-ghost use Rattle.std.specs.Prelude.{◌≡◌, ◌↔◌, ◌||◌, IsFalse, IsTrue, Ok, is_some, option_copied};
+ghost use Rattle.std.specs.Prelude.{◌≡◌, ◌↔◌, ◌||◌, IsFalse, IsTrue, Ok, is_some, length, option_copied};
 ghost use Rattle.dump_text.specs.Names.{md5_name, sha1_name};
 ghost use Rattle.dump_records.specs.steps.RecordViews.{record_item};
 ghost use Rattle.dump_digest.specs.steps.Checks.{HasOtherDigest, TellsOther, is_told_text};
@@ -8,7 +8,7 @@ ghost use Rattle.sha1.specs.Sha1.{sha1};
 ghost use Rattle.hex.specs.Hex.{decode_sized};
 
 use dump_records::Record;
-use hex::FromHex;
+use hex::{FromHex, encode_to_slice};
 use md5::{Digest, Md5};
 use sha1::Sha1;
 
@@ -21,12 +21,23 @@ pub(crate) struct TextCheck {
     pub(crate) checked: bool,
 }
 
+/// Whether the digits are those of the digest in lower case, as they mostly are: these are written faster than read.
+fn is_lower(digits: &[u8], digest: &[u8], room: &mut [u8]) -> bool
+    ensures { IsTrue result → decode_sized digits.now (length digest.now) ≡ Ok digest.now }
+{
+    encode_to_slice(digest, room).is_ok() && digits == &*room
+}
+
 /// Whether the digits, of either case, are the MD5 digest of the text.
 fn is_md5(digits: &[u8], text: &[u8]) -> bool
     ensures { IsTrue result ↔ (decode_sized digits.now 16 ≡ Ok (md5 text.now)) }
 {
+    let digest = Md5::digest(text);
+    if is_lower(digits, &digest, &mut [0; 32]) {
+        return true;
+    }
     match <[u8; 16] as FromHex>::from_hex(digits) {
-        Ok(digest) => digest == Md5::digest(text),
+        Ok(told) => told == digest,
         Err(_) => false,
     }
 }
@@ -35,8 +46,12 @@ fn is_md5(digits: &[u8], text: &[u8]) -> bool
 fn is_sha1(digits: &[u8], text: &[u8]) -> bool
     ensures { IsTrue result ↔ (decode_sized digits.now 20 ≡ Ok (sha1 text.now)) }
 {
+    let digest = Sha1::digest(text);
+    if is_lower(digits, &digest, &mut [0; 40]) {
+        return true;
+    }
     match <[u8; 20] as FromHex>::from_hex(digits) {
-        Ok(digest) => digest == Sha1::digest(text),
+        Ok(told) => told == digest,
         Err(_) => false,
     }
 }
