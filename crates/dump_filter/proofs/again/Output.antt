@@ -29,10 +29,10 @@ use Rattle.dump_digest.specs.RecordParts.{is_copy}
 use Rattle.dump_filter.specs.steps.NewLines.{is_copy_line}
 use Rattle.dump_filter.specs.RecordOutput.{whole_text, revision_text, IsRevisionOutput, IsNodeOutput, IsWrittenBlock}
 use Rattle.dump_text.proofs.BoolLemmas.{first_true, first_false, second_false, not_so, absurd_bool, false_true}
-use Rattle.dump_filter.proofs.written.HeaderLemmas.{no_value}
+use Rattle.dump_filter.proofs.written.HeaderLemmas.{no_value, no_length}
 use Rattle.dump_filter.proofs.again.LineChanges.{IsChange, same_has, spelled_line, no_change, put_has, put_change, go_change, gone, IsTold, told_later, told_put, told_reads, told_put_again}
 use Rattle.dump_filter.proofs.again.Headers.{is_length_name, lengths_change, told_lengths, known_once, StaysLawful}
-use Rattle.dump_filter.proofs.again.Record.{no_bytes, no_length, any_number, no_content, stays_same, stays_revision, stays_copy_number, stays_plain, again, told, new_stays, new_is_block, new_lawful, reads, same_text}
+use Rattle.dump_filter.proofs.again.Record.{no_bytes, any_number, no_content, stays_same, stays_revision, stays_copy_number, stays_plain, again, told, new_stays, new_is_block, new_lawful, reads, same_text}
 use Rattle.dump_filter.proofs.again.ReadAgain.{IsReadAgain}
 
 -- where everything is kept

@@ -1,13 +1,13 @@
 -- What is written of a record is a record again.
-use Rattle.std.proofs.Common.{◌≡◌, ℕ, ◌+◌, ◌<◌, ◌^◌, ◌==◌, Bool, true, false, not, ◌&&◌, ◌||◌, List, [], ◌∷◌, ◌++◌, length, refl, sym, ap, ◌∙◌, subst, arith, inl, Some, unwrap_or, option_and_then, length-append, flat_map, MatchBool, if◌then◌else◌}
+use Rattle.std.proofs.Common.{◌≡◌, ℕ, ◌+◌, ◌<◌, ◌^◌, ◌==◌, Bool, true, false, not, ◌&&◌, ◌||◌, List, [], ◌∷◌, ◌++◌, length, refl, sym, ap, ◌∙◌, subst, arith, inl, Some, length-append, flat_map, MatchBool, if◌then◌else◌}
 use Rattle.std.proofs.lemmas.Bool.{eqb-true}
-use Rattle.dump_text.specs.Number.{number_of, spelled_number}
+use Rattle.dump_text.specs.Number.{spelled_number}
 use Rattle.dump_text.specs.Names.{version_name, uuid_name, revision_name, path_name, copy_revision_name, copy_path_name, property_length_name, text_length_name, content_length_name}
 use Rattle.dump_text.specs.HeaderLine.{Header, has_header, header_value, with_header_value}
 use Rattle.dump_text.specs.HeaderBlock.{is_block, block_text}
 use Rattle.dump_text.specs.PropertyList.{Property, IsPropertyBlock, block_end, entry_text, property_block_text}
 use Rattle.dump_text.proofs.WrittenLemmas.{short_block}
-use Rattle.dump_records.specs.HeaderRules.{header_length, property_length, text_length, has_bad_kind, has_bad_version, has_bad_number, has_bad_lengths}
+use Rattle.dump_records.specs.HeaderRules.{property_length, text_length, has_bad_kind, has_bad_version, has_bad_number, has_bad_lengths}
 use Rattle.dump_records.specs.RecordText.{DumpRecord, is_lawful}
 use Rattle.dump_records.proofs.Unique.{Keeps, keeps}
 use Rattle.dump_filter.specs.NewContent.{new_block}
@@ -15,7 +15,7 @@ use Rattle.dump_filter.specs.NewHeaders.{with_lengths, without_copy_headers}
 use Rattle.dump_filter.specs.steps.NewLines.{is_copy_line}
 use Rattle.dump_filter.specs.RecordOutput.{whole_text}
 use Rattle.dump_text.proofs.BoolLemmas.{first_false, second_false, not_so, absurd_bool}
-use Rattle.dump_filter.proofs.written.HeaderLemmas.{no_value}
+use Rattle.dump_filter.proofs.written.HeaderLemmas.{no_length}
 use Rattle.dump_filter.proofs.again.LineChanges.{IsChange, spelled_line, same_has, block_stays, both_changes, put_has, put_change, go_change, gone, IsTold, told_put, told_reads}
 use Rattle.dump_filter.proofs.again.Headers.{is_length_name, AreTold, lengths_change, text_stays, props_stay, lengths_told, lengths_again, StaysLawful, lawful_again}
 
@@ -23,9 +23,6 @@ use Rattle.dump_filter.proofs.again.Headers.{is_length_name, AreTold, lengths_ch
 pub no_bytes : (bytes : List ℕ) → length bytes ≡ 0 → bytes ≡ []
 no_bytes [] none = refl
 no_bytes (b ∷ bytes) none = absurd (omega (arith, none))
-
-pub no_length : (name : List ℕ) (headers : List Header) → has_header name headers ≡ false → header_length name headers ≡ 0
-no_length name headers none = ap (λ o. unwrap_or (option_and_then number_of o) 0) (no_value name headers none)
 
 -- version and UUID records
 

@@ -1,6 +1,6 @@
 -- A block that is written as it stands: under its own numbers and lengths, spelled as they are written.
 use Rattle.std.proofs.Common.{◌≡◌, ℕ, ◌+◌, ◌==◌, nat_le, Bool, true, false, not, ◌&&◌, ◌||◌, List, length, refl, sym, ap, ◌∙◌, Option, Some, None, is_none, unwrap_or, option_and_then}
-use Rattle.std.proofs.lemmas.Bool.{eqb-true}
+use Rattle.std.proofs.lemmas.Bool.{eqb-true, not-false}
 use Rattle.std.proofs.lemmas.Slice.Eq.{bytes_eq-Decides}
 use Rattle.dump_text.specs.Number.{number_of, spelled_number}
 use Rattle.dump_text.specs.Names.{revision_name, copy_revision_name, property_length_name, text_length_name, content_length_name}
@@ -15,7 +15,7 @@ use Rattle.dump_filter.specs.declared.fate.CopyChange.TheVariants.{Same, Renumbe
 use Rattle.dump_filter.specs.declared.new_lines.Changes.{Changes}
 use Rattle.dump_filter.specs.NewHeaders.{with_lengths}
 use Rattle.dump_filter.specs.steps.NewLines.{AreLengths, StaysCopied, copy_number, lines_that_stay, new_headers, put_all}
-use Rattle.dump_filter.proofs.written.HeaderLemmas.{no_value}
+use Rattle.dump_filter.proofs.written.HeaderLemmas.{no_length}
 use Rattle.dump_filter.proofs.again.LineChanges.{IsTold, put_same}
 use Rattle.dump_filter.proofs.again.Headers.{AreTold, known_once, lengths_again}
 use Rattle.dump_filter.proofs.written.LineLemmas.{lines_are, all_stay}
@@ -103,10 +103,6 @@ parts_of headers written =
       there = second_true (r && c && p && t && k) h written;
     }
 
--- a header that isn't there gives no length
-no_length : (name : List ℕ) (headers : List Header) → has_header name headers ≡ false → header_length name headers ≡ 0
-no_length name headers none = ap (λ o. unwrap_or (option_and_then number_of o) 0) (no_value name headers none)
-
 -- the lengths of a record whose block is written as it stands are told
 told_all : (number : ℕ) (text : List ℕ) (r : DumpRecord) (after : List ℕ) → BeginsWithRecord number text r after
     → are_written r.headers ≡ true → AreTold r.props r.text r.headers
@@ -127,16 +123,12 @@ told_all number text r after b written =
           (sym (ap (λ b. b || property_length r.headers + text_length r.headers == 0) none) ∙ parts.there));
     }
   where
-    was_true : (b : Bool) → not b ≡ false → b ≡ true
-    was_true true is = refl
-    was_true false is = sym is
-
     adds_up : has_header content_length_name r.headers ≡ true
         → (has_header content_length_name r.headers
         && not (header_length content_length_name r.headers == property_length r.headers + text_length r.headers)) ≡ false
         → header_length content_length_name r.headers ≡ property_length r.headers + text_length r.headers
     adds_up has ok = eqb-true (header_length content_length_name r.headers) (property_length r.headers + text_length r.headers)
-        (was_true (header_length content_length_name r.headers == property_length r.headers + text_length r.headers)
+        (not-false (header_length content_length_name r.headers == property_length r.headers + text_length r.headers)
         (sym (ap (λ b. b && not (header_length content_length_name r.headers == property_length r.headers + text_length r.headers)) has) ∙ ok))
 
 -- a number that stands already is put to no effect
