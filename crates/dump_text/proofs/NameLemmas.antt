@@ -6,7 +6,7 @@ use Rattle.std.proofs.lemmas.Slice.Eq.{bytes_eq-Decides}
 use denote.Enum.Declared.{tag_of}
 use Rattle.dump_text.specs.contracts.names.HeaderName as enum
 use Rattle.dump_text.specs.declared.names.HeaderName.{HeaderName}
-use Rattle.dump_text.specs.declared.names.HeaderName.TheVariants.{FormatVersion, Uuid, RevisionNumber, NodePath, PropContentLength, TextContentLength, ContentLength, NodeCopyfromRev, NodeCopyfromPath, TextCopySourceMd5, TextCopySourceSha1, NodeKind, NodeAction, TextContentMd5, TextContentSha1}
+use Rattle.dump_text.specs.declared.names.HeaderName.TheVariants.{FormatVersion, Uuid, RevisionNumber, NodePath, PropContentLength, TextContentLength, ContentLength, NodeCopyfromRev, NodeCopyfromPath, TextCopySourceMd5, TextCopySourceSha1, NodeKind, NodeAction, TextContentMd5, TextContentSha1, TextDelta, PropDelta}
 use Rattle.dump_text.specs.Names.{name_text}
 use Rattle.dump_text.specs.steps.KnownValues.{all_names, name_place, known_name, names_of_length}
 use Rattle.dump_text.specs.steps.Scanning.{is_known}
@@ -66,6 +66,8 @@ known_itself NodeKind = refl
 known_itself NodeAction = refl
 known_itself TextContentMd5 = refl
 known_itself TextContentSha1 = refl
+known_itself TextDelta = refl
+known_itself PropDelta = refl
 
 -- bytes that are known as a name are its bytes
 pub known_text : (bytes : List ℕ) (name : HeaderName) → known_name bytes ≡ Some name → bytes ≡ name_text name
@@ -113,6 +115,8 @@ at_place NodeKind = refl
 at_place NodeAction = refl
 at_place TextContentMd5 = refl
 at_place TextContentSha1 = refl
+at_place TextDelta = refl
+at_place PropDelta = refl
 
 -- two names at one place are one
 pub place_once : (m n : HeaderName) → name_place m ≡ name_place n → m ≡ n
@@ -135,6 +139,8 @@ tag_place NodeKind = refl
 tag_place NodeAction = refl
 tag_place TextContentMd5 = refl
 tag_place TextContentSha1 = refl
+tag_place TextDelta = refl
+tag_place PropDelta = refl
 
 pub place_inside : (name : HeaderName) → name_place name < length all_names
 place_inside FormatVersion = lit< tt
@@ -152,3 +158,5 @@ place_inside NodeKind = lit< tt
 place_inside NodeAction = lit< tt
 place_inside TextContentMd5 = lit< tt
 place_inside TextContentSha1 = lit< tt
+place_inside TextDelta = lit< tt
+place_inside PropDelta = lit< tt

@@ -69,8 +69,8 @@ of_a_copy = refl
 not_of_a_copy : list_any (bytes_eq (codes "Text-content-md5")) copy_names ≡ false
 not_of_a_copy = refl
 
-fifteen_names : length known_names ≡ 15
-fifteen_names = refl
+seventeen_names : length known_names ≡ 17
+seventeen_names = refl
 
 -- names are compared byte for byte
 small_letters : list_any (bytes_eq (codes "uuid")) known_names ≡ false

@@ -9,14 +9,15 @@
 //! all that may be wrong with a record of a dump, with the number and the name that users see.
 //!
 //! ```
-//! let text = b"Node-path: a: b\nNote: c\nNode-kind: \nnode-action: add\n\nbehind: it\n\n";
+//! let text = b"Node-path: a: b\nNote: c\nNode-kind: \nProp-delta: true\n\nbehind: it\n\n";
 //! let headers = Headers::read(text, 0)?;
 //! assert_eq!(rt; headers.block().after(), 54);
 //! let rows = [
 //!     (HeaderName::NodePath, Some(b"a: b".as_slice())),
 //!     (HeaderName::NodeKind, Some(b"")),
+//!     (HeaderName::PropDelta, Some(b"true")),
+//!     (HeaderName::TextDelta, None),
 //!     (HeaderName::NodeAction, None),
-//!     (HeaderName::TextContentSha1, None),
 //! ];
 //! for (name, value) in rows {
 //!     assert_eq!(rt; headers.value(name), value, "{name:?}");

@@ -21,10 +21,12 @@ pub enum HeaderName {
     NodeAction,
     TextContentMd5,
     TextContentSha1,
+    TextDelta,
+    PropDelta,
 }
 
 /// How many names have a meaning.
-pub(crate) const COUNT: usize = HeaderName::TextContentSha1 as usize + 1;
+pub(crate) const COUNT: usize = HeaderName::PropDelta as usize + 1;
 
 impl HeaderName {
     /// The name as a line has it.
@@ -47,6 +49,8 @@ impl HeaderName {
             HeaderName::NodeAction => b"Node-action",
             HeaderName::TextContentMd5 => b"Text-content-md5",
             HeaderName::TextContentSha1 => b"Text-content-sha1",
+            HeaderName::TextDelta => b"Text-delta",
+            HeaderName::PropDelta => b"Prop-delta",
         }
     }
 
@@ -57,6 +61,7 @@ impl HeaderName {
         match length {
             4 => &[HeaderName::Uuid],
             9 => &[HeaderName::NodePath, HeaderName::NodeKind],
+            10 => &[HeaderName::TextDelta, HeaderName::PropDelta],
             11 => &[HeaderName::NodeAction],
             14 => &[HeaderName::ContentLength],
             15 => &[HeaderName::RevisionNumber],

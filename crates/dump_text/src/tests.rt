@@ -80,14 +80,15 @@ fn lines_are_given_in_their_order(rt: HostRuntime) -> Result<(), Fail> {
 
 #[test]
 fn values_of_known_names_are_found(rt: HostRuntime) -> Result<(), Fail> {
-    let text = b"Node-path: a: b\nNote: c\nNode-kind: \nnode-action: add\n\nbehind: it\n\n";
+    let text = b"Node-path: a: b\nNote: c\nNode-kind: \nProp-delta: true\n\nbehind: it\n\n";
     let headers = Headers::read(text, 0)?;
     assert_eq!(rt; headers.block().after(), 54);
     let rows = [
         (HeaderName::NodePath, Some(b"a: b".as_slice())),
         (HeaderName::NodeKind, Some(b"")),
+        (HeaderName::PropDelta, Some(b"true")),
+        (HeaderName::TextDelta, None),
         (HeaderName::NodeAction, None),
-        (HeaderName::TextContentSha1, None),
     ];
     for (name, value) in rows {
         assert_eq!(rt; headers.value(name), value, "{name:?}");

@@ -3,7 +3,7 @@ use Rattle.std.specs.Prelude.{◌≡◌, ◌==◌, ℕ, Bool, not, ◌&&◌, Lis
 use Rattle.std.specs.Borrow.{Bor}
 use Rattle.std.specs.List.{position_or_len}
 use Rattle.dump_text.specs.declared.names.HeaderName.{HeaderName}
-use Rattle.dump_text.specs.declared.names.HeaderName.TheVariants.{FormatVersion, Uuid, RevisionNumber, NodePath, PropContentLength, TextContentLength, ContentLength, NodeCopyfromRev, NodeCopyfromPath, TextCopySourceMd5, TextCopySourceSha1, NodeKind, NodeAction, TextContentMd5, TextContentSha1}
+use Rattle.dump_text.specs.declared.names.HeaderName.TheVariants.{FormatVersion, Uuid, RevisionNumber, NodePath, PropContentLength, TextContentLength, ContentLength, NodeCopyfromRev, NodeCopyfromPath, TextCopySourceMd5, TextCopySourceSha1, NodeKind, NodeAction, TextContentMd5, TextContentSha1, TextDelta, PropDelta}
 use Rattle.dump_text.specs.Names.{name_text}
 use Rattle.dump_text.specs.HeaderLine.{Header, has_header, header_value}
 use Rattle.dump_text.specs.steps.Scanning.{is_known}
@@ -13,7 +13,7 @@ abbrev pub all_names : List HeaderName
 all_names =
     FormatVersion ∷ Uuid ∷ RevisionNumber ∷ NodePath ∷ PropContentLength ∷ TextContentLength ∷
     ContentLength ∷ NodeCopyfromRev ∷ NodeCopyfromPath ∷ TextCopySourceMd5 ∷ TextCopySourceSha1 ∷ NodeKind ∷
-    NodeAction ∷ TextContentMd5 ∷ TextContentSha1 ∷ []
+    NodeAction ∷ TextContentMd5 ∷ TextContentSha1 ∷ TextDelta ∷ PropDelta ∷ []
 
 -- the names of so many bytes
 abbrev pub names_of_length : ℕ → List HeaderName
