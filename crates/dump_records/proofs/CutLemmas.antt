@@ -4,12 +4,15 @@ use Rattle.std.proofs.lemmas.List.{append-nil, length-drop, drop_at, drop-drop, 
 use Rattle.std.proofs.lemmas.Bool.{eqb-true, eqb-false}
 use Rattle.dump_text.specs.declared.fault.FaultKind.{FaultKind}
 use Rattle.dump_text.specs.HeaderBlock.{block_text, lines_bytes, starts_with_lf}
+use Rattle.dump_records.specs.HeaderRules.{version_from}
 use Rattle.dump_records.specs.RecordText.{DumpRecord, record_text, BeginsWithRecord, IsCutFault}
-use Rattle.dump_records.specs.DumpText.{Ending, line_feeds, IsCutInto, EndsAfter, IsRecordOf}
-use Rattle.dump_records.specs.steps.CutterState.{IsCutUpTo}
+use Rattle.dump_records.specs.DumpText.{Ending, line_feeds, IsCutInto, HaveVersions, EndsAfter, IsRecordOf}
+use Rattle.dump_records.specs.steps.CutterState.{last_version, IsCutUpTo}
 use Rattle.dump_records.specs.steps.Standing.{IsGap, AreInside, StandsAt}
 use Rattle.dump_records.specs.declared.parts.Parts.{Parts}
 use Rattle.dump_records.specs.steps.RecordPlaces.{record_between}
+use Rattle.dump_records.proofs.Versions.{last_append, versions_append}
+use Rattle.dump_text.specs.steps.ReadHeaders.{headers_between}
 use Rattle.dump_text.specs.steps.Views.{block_dump, block_place, block_after}
 
 lfs_add : (m n : ℕ) → line_feeds m ++ line_feeds n ≡ line_feeds (m + n)
@@ -97,52 +100,61 @@ count_fits number place text rest (r ∷ rs) (lfs, front, behind, is, at, b, mor
     omega arith
 
 -- what a cutter at a place has before it and behind it
-pub record CutAt (dump : List ℕ) (number place : ℕ) : Type 0 where
+pub record CutAt (dump : List ℕ) (number place version : ℕ) : Type 0 where
   pub records : List DumpRecord
   pub before : List ℕ
   pub is : dump ≡ before ++ drop place dump
   pub size : length before ≡ place
   pub cut : IsCutInto 0 0 before records []
   pub count : length records ≡ number
+  pub versions : HaveVersions 0 records
+  pub version_is : version ≡ last_version 0 records
 
-pub cut_at : (dump : List ℕ) (number place : ℕ) → IsCutUpTo dump number place → CutAt dump number place
-cut_at dump number place (records, before, after, rest, is, size, cut, none, count) = record {
+pub cut_at : (dump : List ℕ) (number place version : ℕ) → IsCutUpTo dump number place version → CutAt dump number place version
+cut_at dump number place version (records, before, after, rest, is, size, cut, none, count, versions, version_is) = record {
   records = records;
   before = before;
   is = is ∙ ap (λ t. before ++ t) (sym (drop_at before after place size) ∙ ap (drop place) (sym is));
   size = size;
   cut = subst (IsCutInto 0 0 before records) none cut;
   count = count;
+  versions = versions;
+  version_is = version_is;
 }
 
-pub number_fits : (dump : List ℕ) (number place : ℕ) → IsCutUpTo dump number place → number ≤ place
-number_fits dump number place up =
-    let at = cut_at dump number place up in
+pub number_fits : (dump : List ℕ) (number place version : ℕ) → IsCutUpTo dump number place version → number ≤ place
+number_fits dump number place version up =
+    let at = cut_at dump number place version up in
     let fits = count_fits 0 0 at.before [] at.records at.cut in
     let size = at.size in
     let count = at.count in
     omega arith
 
 -- the records before a place, and what is cut behind it
-go_on : (dump : List ℕ) (number place : ℕ) (at : CutAt dump number place) (after rest : List ℕ) (ss : List DumpRecord)
+go_on : (dump : List ℕ) (number place version : ℕ) (at : CutAt dump number place version) (after rest : List ℕ) (ss : List DumpRecord)
     → IsCutInto number place after ss rest → IsCutInto 0 0 (at.before ++ after) (at.records ++ ss) rest
-go_on dump number place at after rest ss more =
+go_on dump number place version at after rest ss more =
     let count : number ≡ 0 + length at.records = sym at.count ∙ omega arith in
     let size : place ≡ 0 + length at.before = sym at.size ∙ omega arith in
     cut_append 0 0 at.before after rest at.records ss at.cut
     (subst (λ (n : ℕ). IsCutInto n (0 + length at.before) after ss rest) count
     (subst (λ (p : ℕ). IsCutInto number p after ss rest) size more))
 
-module _ (dump : List ℕ) (number place gap : ℕ) (up : IsCutUpTo dump number place) (lfs : IsGap (drop place dump) gap) where
-  at : CutAt dump number place
-  at = cut_at dump number place up
+module _ (dump : List ℕ) (number place version gap : ℕ) (up : IsCutUpTo dump number place version)
+    (lfs : IsGap (drop place dump) gap) where
+  at : CutAt dump number place version
+  at = cut_at dump number place version up
 
   behind : drop place dump ≡ line_feeds gap ++ drop (place + gap) dump
   behind = lfs.spelled ∙ ap (λ t. line_feeds gap ++ t) (drop-drop gap place dump)
 
   -- a record stands behind the LFs
-  module _ (r : DumpRecord) (after : ℕ) (r_at : r.place ≡ place + gap)
+  module _ (r : DumpRecord) (after : ℕ) (r_at : r.place ≡ place + gap) (in_force : r.version ≡ version_from version r.headers)
       (b : BeginsWithRecord number (drop (place + gap) dump) r (drop after dump)) where
+    versions : HaveVersions 0 (at.records ++ r ∷ [])
+    versions = versions_append 0 at.records (r ∷ []) at.versions
+        (in_force ∙ ap (λ v. version_from v r.headers) at.version_is, tt)
+
     pub is_record : IsRecordOf dump number r
     is_record =
         let end = strip (drop after dump) in (
@@ -150,13 +162,14 @@ module _ (dump : List ℕ) (number place gap : ℕ) (up : IsCutUpTo dump number 
           (
             end.rest,
             subst (λ (t : List ℕ). IsCutInto 0 0 t (at.records ++ r ∷ []) end.rest) (sym at.is)
-                (go_on dump number place at (drop place dump) end.rest (r ∷ [])
+                (go_on dump number place version at (drop place dump) end.rest (r ∷ [])
                 (gap, drop (place + gap) dump, drop after dump, behind, r_at, b, (end.count, end.is, end.stop))),
+            versions,
           ),
           at.count,
         )
 
-    pub cut_on : after ≤ length dump → IsCutUpTo dump (number + 1) after
+    pub cut_on : after ≤ length dump → IsCutUpTo dump (number + 1) after r.version
     cut_on fits =
         let piece = line_feeds gap ++ record_text r in
         let whole : dump ≡ (at.before ++ piece) ++ drop after dump =
@@ -177,9 +190,11 @@ module _ (dump : List ℕ) (number place gap : ℕ) (up : IsCutUpTo dump number 
           [],
           whole,
           omega arith,
-          go_on dump number place at piece [] (r ∷ []) (gap, record_text r, [], refl, r_at, alone, (0, refl, refl)),
+          go_on dump number place version at piece [] (r ∷ []) (gap, record_text r, [], refl, r_at, alone, (0, refl, refl)),
           refl,
           length-append at.records (r ∷ []) ∙ ap (λ n. n + 1) at.count,
+          versions,
+          sym (last_append 0 at.records (r ∷ [])),
         )
 
   -- only LFs are left
@@ -192,7 +207,8 @@ module _ (dump : List ℕ) (number place gap : ℕ) (up : IsCutUpTo dump number 
           [],
           subst (λ (t : List ℕ). IsCutInto 0 0 t at.records []) (sym at.is)
               (subst (λ (rs : List DumpRecord). IsCutInto 0 0 (at.before ++ drop place dump) rs []) (append-nil at.records)
-              (go_on dump number place at (drop place dump) [] [] (gap, behind ∙ ap (λ t. line_feeds gap ++ t) none, refl))),
+              (go_on dump number place version at (drop place dump) [] [] (gap, behind ∙ ap (λ t. line_feeds gap ++ t) none, refl))),
+          at.versions,
           (refl, omega arith),
         ),
         at.count,
@@ -211,7 +227,8 @@ module _ (dump : List ℕ) (number place gap : ℕ) (up : IsCutUpTo dump number 
           rest,
           subst (λ (t : List ℕ). IsCutInto 0 0 t at.records rest) (sym at.is)
               (subst (λ (rs : List DumpRecord). IsCutInto 0 0 (at.before ++ drop place dump) rs rest) (append-nil at.records)
-              (go_on dump number place at (drop place dump) rest [] (gap, behind, stop))),
+              (go_on dump number place version at (drop place dump) rest [] (gap, behind, stop))),
+          at.versions,
           (some_left, omega arith, subst (λ (n : ℕ). IsCutFault n rest fault) (sym at.count) cause),
         ),
         at.count,
@@ -234,45 +251,52 @@ gap_in dump place gap lfs = subst (λ (t : List ℕ). IsGap t gap) (take_rest du
 -- the record of the parts that stand at a place of a dump, in the dump of its own block
 abbrev pub item_of : Parts → DumpRecord
 item_of parts =
-    record_between (block_dump parts.block) (block_place parts.block) (block_after parts.block) parts.text_from parts.after
+    record_between (block_dump parts.block) (block_place parts.block) (block_after parts.block) parts.text_from parts.after parts.version
 
-module _ (dump : List ℕ) (place number : ℕ) (parts : Parts) (at : StandsAt dump place number parts) where
+module _ (dump : List ℕ) (place number before : ℕ) (parts : Parts) (at : StandsAt dump place number before parts) where
   pub own_inside : AreInside (block_dump parts.block) (block_after parts.block) parts.text_from parts.after
   own_inside = subst (λ (d : List ℕ). AreInside d (block_after parts.block) parts.text_from parts.after) (sym at.dump_is) at.inside
 
   pub own_stands : BeginsWithRecord number (drop (block_place parts.block) (block_dump parts.block)) (item_of parts) (drop parts.after (block_dump parts.block))
   own_stands =
       subst (λ (d : List ℕ). BeginsWithRecord number (drop (block_place parts.block) d)
-      (record_between d (block_place parts.block) (block_after parts.block) parts.text_from parts.after) (drop parts.after d)) (sym at.dump_is)
+      (record_between d (block_place parts.block) (block_after parts.block) parts.text_from parts.after parts.version) (drop parts.after d)) (sym at.dump_is)
       (subst (λ (p : ℕ). BeginsWithRecord number (drop p dump)
-      (record_between dump p (block_after parts.block) parts.text_from parts.after) (drop parts.after dump)) (sym at.place_is) at.stands)
+      (record_between dump p (block_after parts.block) parts.text_from parts.after parts.version) (drop parts.after dump)) (sym at.place_is) at.stands)
 
-  pub item_is : record_between dump place (block_after parts.block) parts.text_from parts.after ≡ item_of parts
+  pub item_is : record_between dump place (block_after parts.block) parts.text_from parts.after parts.version ≡ item_of parts
   item_is =
-      ap (λ p. record_between dump p (block_after parts.block) parts.text_from parts.after) (sym at.place_is)
-      ∙ ap (λ d. record_between d (block_place parts.block) (block_after parts.block) parts.text_from parts.after) (sym at.dump_is)
+      ap (λ p. record_between dump p (block_after parts.block) parts.text_from parts.after parts.version) (sym at.place_is)
+      ∙ ap (λ d. record_between d (block_place parts.block) (block_after parts.block) parts.text_from parts.after parts.version) (sym at.dump_is)
 
   pub own_number : IsRecordOf dump number (item_of parts) → IsRecordOf (block_dump parts.block) number (item_of parts)
   own_number is = subst (λ (d : List ℕ). IsRecordOf d number (item_of parts)) (sym at.dump_is) is
 
-module _ (dump : List ℕ) (number place gap : ℕ) (parts : Parts) (up : IsCutUpTo dump number place) (lfs : IsGap (drop place dump) gap)
-    (at : StandsAt dump (place + gap) number parts) where
-  pub item_record : IsRecordOf dump number (item_of parts)
-  item_record = subst (IsRecordOf dump number) (item_is dump (place + gap) number parts at)
-      (is_record dump number place gap up lfs _ parts.after refl at.stands)
+module _ (dump : List ℕ) (number place version gap : ℕ) (parts : Parts) (up : IsCutUpTo dump number place version)
+    (lfs : IsGap (drop place dump) gap) (at : StandsAt dump (place + gap) number version parts) where
+  stands_as : record_between dump (place + gap) (block_after parts.block) parts.text_from parts.after parts.version ≡ item_of parts
+  stands_as = item_is dump (place + gap) number version parts at
 
-  pub item_cut : IsCutUpTo dump (number + 1) parts.after
-  item_cut = cut_on dump number place gap up lfs _ parts.after refl at.stands at.inside.end
+  in_force : parts.version ≡ version_from version (headers_between dump (place + gap) (block_after parts.block))
+  in_force = at.version_is ∙ ap (λ (r : DumpRecord). version_from version r.headers) (sym stands_as)
+
+  pub item_record : IsRecordOf dump number (item_of parts)
+  item_record = subst (IsRecordOf dump number) stands_as
+      (is_record dump number place version gap up lfs _ parts.after refl in_force at.stands)
+
+  pub item_cut : IsCutUpTo dump (number + 1) parts.after parts.version
+  item_cut = cut_on dump number place version gap up lfs _ parts.after refl in_force at.stands at.inside.end
 
   pub item_room : number + 1 ≤ length dump
   item_room =
-      let fits = number_fits dump (number + 1) parts.after item_cut in
+      let fits = number_fits dump (number + 1) parts.after parts.version item_cut in
       let end = at.inside.end in
       omega arith
 
-pub room_behind : (dump : List ℕ) (number place gap : ℕ) → IsCutUpTo dump number place → IsGap (drop place dump) gap → place + gap ≤ length dump
-room_behind dump number place gap up lfs =
-    let at = cut_at dump number place up in
+pub room_behind : (dump : List ℕ) (number place version gap : ℕ) → IsCutUpTo dump number place version → IsGap (drop place dump) gap
+    → place + gap ≤ length dump
+room_behind dump number place version gap up lfs =
+    let at = cut_at dump number place version up in
     let sizes = ap length at.is ∙ length-append at.before (drop place dump) in
     let size = at.size in
     let bound = lfs.bound in

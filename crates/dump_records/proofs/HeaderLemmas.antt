@@ -1,19 +1,23 @@
 -- What lawful header lines tell of their record's kind and numbers.
-use Rattle.std.proofs.Common.{◌≡◌, ℕ, ◌==◌, ◌&&◌, not, Bool, true, false, List, [], ◌∷◌, refl, sym, ap, ◌∙◌, Option, Some, None, is_some, is_none, count_by, option_and_then}
+use Rattle.std.proofs.Common.{◌≡◌, ℕ, ◌==◌, ◌&&◌, not, Bool, true, false, List, [], ◌∷◌, refl, sym, ap, ◌∙◌, Option, Some, None, is_some, is_none, count_by, option_and_then, unwrap_or}
 use Rattle.dump_text.specs.Names.{version_name, uuid_name, revision_name, path_name, copy_revision_name, copy_path_name, deciding_names, length_names}
 use Rattle.std.specs.List.{list_any}
 use Rattle.dump_text.specs.Number.{number_of}
 use Rattle.dump_text.specs.HeaderLine.{Header, has_header, header_value}
 use Rattle.dump_text.proofs.BoolLemmas.{first_false, second_false, false_true}
 use Rattle.dump_text.proofs.BlockLemmas.{has_value}
-use Rattle.dump_records.specs.HeaderRules.{header_number, is_one_alone, has_bad_kind, has_bad_number}
+use Rattle.dump_records.specs.HeaderRules.{header_number, version_from, is_one_alone, has_bad_kind, is_read_version, has_bad_version, has_bad_number}
+use Rattle.dump_records.specs.declared.kind.KindParts.{KindParts}
+use Rattle.dump_records.specs.declared.kind.KindParts.TheVariants.{Version, Uuid, Revision, Node}
+use Rattle.dump_records.specs.steps.KindReading.{version_in, IsKindOf}
 
 -- of four names exactly one is there
 pub record OneKind (v u s n : Bool) : Type 0 where
   pub node : n ≡ true → (v ≡ false) × (u ≡ false) × (s ≡ false)
   pub uuid : u ≡ true → (v ≡ false) × (s ≡ false) × (n ≡ false)
   pub revision : s ≡ true → (v ≡ false) × (u ≡ false) × (n ≡ false)
-  pub version : u ≡ false → s ≡ false → n ≡ false → v ≡ true
+  pub version : v ≡ true → (u ≡ false) × (s ≡ false) × (n ≡ false)
+  pub left : v ≡ false → s ≡ false → n ≡ false → u ≡ true
 
 one_kind : (v u s n : Bool) → not (count_by (λ (b : Bool). b) (v ∷ u ∷ s ∷ n ∷ []) == 1) ≡ false → OneKind v u s n
 one_kind true true true true bad = absurd (false_true (sym bad))
@@ -27,7 +31,8 @@ one_kind true false false false good = record {
   node = λ is. absurd (false_true is);
   uuid = λ is. absurd (false_true is);
   revision = λ is. absurd (false_true is);
-  version = λ no_uuid no_revision no_node. refl;
+  version = λ is. (refl, refl, refl);
+  left = λ no_version no_revision no_node. absurd (false_true (sym no_version));
 }
 one_kind false true true true bad = absurd (false_true (sym bad))
 one_kind false true true false bad = absurd (false_true (sym bad))
@@ -36,20 +41,23 @@ one_kind false true false false good = record {
   node = λ is. absurd (false_true is);
   uuid = λ is. (refl, refl, refl);
   revision = λ is. absurd (false_true is);
-  version = λ no_uuid no_revision no_node. absurd (false_true (sym no_uuid));
+  version = λ is. absurd (false_true is);
+  left = λ no_version no_revision no_node. refl;
 }
 one_kind false false true true bad = absurd (false_true (sym bad))
 one_kind false false true false good = record {
   node = λ is. absurd (false_true is);
   uuid = λ is. absurd (false_true is);
   revision = λ is. (refl, refl, refl);
-  version = λ no_uuid no_revision no_node. absurd (false_true (sym no_revision));
+  version = λ is. absurd (false_true is);
+  left = λ no_version no_revision no_node. absurd (false_true (sym no_revision));
 }
 one_kind false false false true good = record {
   node = λ is. (refl, refl, refl);
   uuid = λ is. absurd (false_true is);
   revision = λ is. absurd (false_true is);
-  version = λ no_uuid no_revision no_node. absurd (false_true (sym no_node));
+  version = λ is. absurd (false_true is);
+  left = λ no_version no_revision no_node. absurd (false_true (sym no_node));
 }
 one_kind false false false false bad = absurd (false_true (sym bad))
 
@@ -125,3 +133,37 @@ module _ (headers : List Header) (good : has_bad_number headers ≡ false) where
   copy_there = number_there copy_revision_name headers
       (first_false _ (list_any (λ name. has_header name headers && is_none
       (header_number name headers)) length_names) rest)
+
+-- a version that is read is a number
+pub version_there : (number : ℕ) (headers : List Header) → has_bad_version number headers ≡ false
+    → is_some (header_number version_name headers) ≡ has_header version_name headers
+version_there number headers good = cases (has_header version_name headers) refl (header_number version_name headers) refl
+  where
+    read : (has_header version_name headers
+        && not (is_read_version (unwrap_or (header_number version_name headers) 0))) ≡ false
+    read = second_false (number == 0 && not (has_header version_name headers)) _ good
+
+    cases : (b : Bool) → has_header version_name headers ≡ b → (n : Option ℕ) → header_number version_name headers ≡ n
+        → is_some n ≡ b
+    cases true has (Some n) found = refl
+    cases true has None found = absurd (false_true (sym read ∙ rw (has, found) refl))
+    cases false has None found = refl
+    cases false has (Some n) found = absurd (no_some (no_number version_name headers has ∙ found))
+      where
+        no_some : None ≡ Some n → ⊥
+        no_some e = cc
+
+-- the version in force is that of the parts that the lines say, where they have one
+pub version_said : (headers : List Header) (parts : KindParts) (before : ℕ) → IsKindOf headers parts
+    → unwrap_or (version_in parts) before ≡ version_from before headers
+version_said headers (Version number) before said =
+    let has : has_header version_name headers ≡ true = sym said.version in
+    let found : header_number version_name headers ≡ Some number = sym said.version_number in
+    rw (has, found) refl
+version_said headers Uuid before said = let has : has_header version_name headers ≡ false = sym said.version in rw has refl
+version_said headers (Revision number) before said =
+    let has : has_header version_name headers ≡ false = sym said.version in
+    rw has refl
+version_said headers (Node path copy) before said =
+    let has : has_header version_name headers ≡ false = sym said.version in
+    rw has refl

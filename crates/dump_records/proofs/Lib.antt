@@ -1,4 +1,5 @@
 pub mod HeaderLemmas
+pub mod Versions
 pub mod Unique
 pub mod PartLemmas
 pub mod CutLemmas

@@ -14,9 +14,9 @@ use Rattle.dump_text.proofs.Splits.{Split, split}
 use Rattle.dump_text.proofs.Splits.Split.{Cut, Lacks}
 use Rattle.dump_text.proofs.Unique.{lawful, split_once, lawful_lines, lines_once, regroup}
 use Rattle.dump_text.proofs.ScanLemmas.{clash, lines_behind, no_line_here, header_text-is, is_line}
-use Rattle.dump_records.specs.HeaderRules.{property_length, text_length}
+use Rattle.dump_records.specs.HeaderRules.{version_from, property_length, text_length}
 use Rattle.dump_records.specs.RecordText.{DumpRecord, record_text, BeginsWithRecord, is_lawful, IsCutFault}
-use Rattle.dump_records.specs.DumpText.{Ending, line_feeds, IsCutInto, HasEnding, HasRecords}
+use Rattle.dump_records.specs.DumpText.{Ending, line_feeds, IsCutInto, HaveVersions, HasEnding, HasRecords}
 use Rattle.dump_records.specs.RecordLaws.{EachDumpHasOneList}
 use Rattle.dump_records.specs.steps.Lawful.{header_fault}
 use Rattle.dump_records.proofs.Unique.{EndsWith, records_once}
@@ -118,20 +118,22 @@ find_block text = by_lines (scan (length text) text (omega arith))
             let no_way : false ≡ true = sym bad ∙ ap is_block same ∙ b.block in
             cc)
 
--- the record with this number at the front of a text that stands at this place, or why there is none
-data Stands (number place : ℕ) (text : List ℕ) : Type 0 where
-  Here : (r : DumpRecord) (after : List ℕ) → r.place ≡ place → BeginsWithRecord number text r after → Stands number place text
-  Broken : (fault : FaultKind) → IsCutFault number text fault → Stands number place text
+-- the record with this number at the front of a text that stands at this place, where this version was in force before;
+-- or why there is none
+data Stands (number place version : ℕ) (text : List ℕ) : Type 0 where
+  Here : (r : DumpRecord) (after : List ℕ) → r.place ≡ place → r.version ≡ version_from version r.headers
+      → BeginsWithRecord number text r after → Stands number place version text
+  Broken : (fault : FaultKind) → IsCutFault number text fault → Stands number place version text
 
-stand : (number place : ℕ) (text : List ℕ) → Stands number place text
-stand number place text = by_block (find_block text)
+stand : (number place version : ℕ) (text : List ℕ) → Stands number place version text
+stand number place version text = by_block (find_block text)
   where
-    by_block : Found text → Stands number place text
+    by_block : Found text → Stands number place version text
     by_block (NoBlock none) = Broken (block_fault text) (no_block number text none)
     by_block (Block headers rest b) = by_rules (is_lawful number headers) refl (nat_lt (length rest) (property_length headers + text_length headers)) refl
       where
         by_rules : (t : Bool) → is_lawful number headers ≡ t → (short : Bool) → nat_lt (length rest) (property_length headers + text_length headers) ≡ short
-            → Stands number place text
+            → Stands number place version text
         by_rules false bad short is = Broken (header_fault number headers) (unlawful number text headers rest b bad)
         by_rules true good true is = Broken faults.ContentCut (cut_short number text headers rest b good (ltb-true _ _ is))
         by_rules true good false is =
@@ -139,7 +141,8 @@ stand number place text = by_block (find_block text)
             let size = text_length headers in
             let room : props + size ≤ length rest = ltb-false (length rest) (props + size) is in
             let behind = length-drop props rest in
-            Here (record { place = place; headers = headers; props = take props rest; text = take size (drop props rest) }) (drop size (drop props rest)) refl record {
+            Here (record { place = place; version = version_from version headers; headers = headers; props = take props rest; text = take size (drop props rest) })
+            (drop size (drop props rest)) refl refl record {
               block = b.block;
               lawful = good;
               props_fit = length-take-le props rest (omega arith);
@@ -151,20 +154,21 @@ stand number place text = by_block (find_block text)
             }
 
 -- the records from a place on, and how they end
-record Listed (size number place : ℕ) (text : List ℕ) : Type 0 where
+record Listed (size number place version : ℕ) (text : List ℕ) : Type 0 where
   records : List DumpRecord
   rest : List ℕ
   ending : Ending
   cut : IsCutInto number place text records rest
+  versions : HaveVersions version records
   ends : EndsWith size (number + length records) rest ending
 
-list_step : (size number place : ℕ) (text : List ℕ) → place + length text ≡ size
-    → ((at : ℕ) (rest : List ℕ) → at + length rest ≡ size → length rest < length text → Listed size (number + 1) at rest)
-    → Listed size number place text
-list_step size number place text fits more = by_gap (strip text)
+list_step : (size number place version : ℕ) (text : List ℕ) → place + length text ≡ size
+    → ((at before : ℕ) (rest : List ℕ) → at + length rest ≡ size → length rest < length text → Listed size (number + 1) at before rest)
+    → Listed size number place version text
+list_step size number place version text fits more = by_gap (strip text)
   where
-    by_gap : Stripped text → Listed size number place text
-    by_gap gap = by_stand (stand number (place + gap.count) gap.rest)
+    by_gap : Stripped text → Listed size number place version text
+    by_gap gap = by_stand (stand number (place + gap.count) version gap.rest)
       where
         sizes : length text ≡ gap.count + length gap.rest
         sizes = ap length gap.is ∙ length-append (line_feeds gap.count) gap.rest ∙ ap (λ n. n + length gap.rest) (lfs_length gap.count)
@@ -172,30 +176,32 @@ list_step size number place text fits more = by_gap (strip text)
         nothing : IsCutInto number place text [] gap.rest
         nothing = (gap.count, gap.is, gap.stop)
 
-        by_stand : Stands number (place + gap.count) gap.rest → Listed size number place text
-        by_stand (Here r after at b) =
+        by_stand : Stands number (place + gap.count) version gap.rest → Listed size number place version text
+        by_stand (Here r after at in_force b) =
             let parts = ap length b.spelled ∙ length-append (record_text r) after in
             let some = record_some r in
-            let left = more (r.place + length (record_text r)) after (let s = sizes in omega arith) (let s = sizes in omega arith) in
+            let left = more (r.place + length (record_text r)) r.version after (let s = sizes in omega arith) (let s = sizes in omega arith) in
             record {
               records = r ∷ left.records;
               rest = left.rest;
               ending = left.ending;
               cut = (gap.count, gap.rest, after, gap.is, at, b, left.cut);
+              versions = (in_force, left.versions);
               ends = subst (λ (n : ℕ). EndsWith size n left.rest left.ending) (omega arith) left.ends;
             }
         by_stand (Broken fault cause) = by_end gap.rest refl number refl
           where
-            broken : (gap.rest ≢ []) ⊎ (number + 0 ≡ 0) → Listed size number place text
+            broken : (gap.rest ≢ []) ⊎ (number + 0 ≡ 0) → Listed size number place version text
             broken why = record {
               records = [];
               rest = gap.rest;
               ending = Ending.Broken fault (place + gap.count);
               cut = nothing;
+              versions = tt;
               ends = (why, (let s = sizes in omega arith), subst (λ (n : ℕ). IsCutFault n gap.rest fault) (let e : number ≡ number + 0 = omega arith in e) cause);
             }
 
-            by_end : (rest : List ℕ) → gap.rest ≡ rest → (n : ℕ) → number ≡ n → Listed size number place text
+            by_end : (rest : List ℕ) → gap.rest ≡ rest → (n : ℕ) → number ≡ n → Listed size number place version text
             by_end (c ∷ rest) is n count = broken (inl (λ none. let bad = sym is ∙ none in cc))
             by_end [] is zero count = broken (inr (omega arith))
             by_end [] is (suc n) count = record {
@@ -203,18 +209,21 @@ list_step size number place text fits more = by_gap (strip text)
               rest = gap.rest;
               ending = Ending.Whole;
               cut = nothing;
+              versions = tt;
               ends = (is, omega arith);
             }
 
-list : (fuel size number place : ℕ) (text : List ℕ) → place + length text ≡ size → length text ≤ fuel → Listed size number place text
-list zero size number place text fits small = list_step size number place text fits (λ at rest fits' less. absurd (omega arith))
-list (suc fuel) size number place text fits small =
-    list_step size number place text fits (λ at rest fits' less. list fuel size (number + 1) at rest fits' (omega arith))
+list : (fuel size number place version : ℕ) (text : List ℕ) → place + length text ≡ size → length text ≤ fuel
+    → Listed size number place version text
+list zero size number place version text fits small =
+    list_step size number place version text fits (λ at before rest fits' less. absurd (omega arith))
+list (suc fuel) size number place version text fits small = list_step size number place version text fits
+    (λ at before rest fits' less. list fuel size (number + 1) at before rest fits' (omega arith))
 
 pub each_dump_has_one_list : EachDumpHasOneList
 each_dump_has_one_list dump =
-    let l = list (length dump) (length dump) 0 0 dump (omega arith) (omega arith) in
-    let has : HasRecords dump l.records l.ending = (l.rest, l.cut, has_ending l.records l.rest l.ending l.ends) in
+    let l = list (length dump) (length dump) 0 0 0 dump (omega arith) (omega arith) in
+    let has : HasRecords dump l.records l.ending = (l.rest, l.cut, l.versions, has_ending l.records l.rest l.ending l.ends) in
     (l.records, l.ending, has, λ others end other. records_once dump others l.records end l.ending other has)
   where
     no_records : (rs : List DumpRecord) → 0 + length rs ≡ 0 → rs ≡ []

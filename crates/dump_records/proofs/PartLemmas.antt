@@ -1,5 +1,5 @@
 -- Why no record stands at a place, and what stands there else.
-use Rattle.std.proofs.Common.{◌≡◌, ◌≢◌, ℕ, ◌+◌, ◌-◌, ◌<◌, ◌≤◌, get_or, Bool, true, false, List, ◌++◌, take, drop, length, slice_range, refl, sym, ap, ◌∙◌, subst, arith, append_assoc, Result, Ok, Err}
+use Rattle.std.proofs.Common.{◌≡◌, ◌≢◌, ℕ, ◌+◌, ◌-◌, ◌<◌, ◌≤◌, get_or, Bool, true, false, List, ◌++◌, take, drop, length, slice_range, refl, sym, ap, ◌∙◌, subst, arith, append_assoc, unwrap_or, Result, Ok, Err}
 use Rattle.std.proofs.lemmas.List.{take-append-drop, length-drop, length-take-le, drop-drop, drop_more, drop_all}
 use Rattle.std.proofs.lemmas.Bool.{ne_eqb}
 use Rattle.std.specs.Result.{IsErrAnd, IfErr}
@@ -15,6 +15,8 @@ use Rattle.dump_records.specs.HeaderRules.{property_length, text_length, has_bad
 use Rattle.dump_records.specs.RecordText.{BeginsWithRecord, is_lawful, HasBlockWith, HoldsOfText, IsCutFault}
 use Rattle.dump_records.specs.steps.RecordPlaces.{record_between}
 use Rattle.dump_records.proofs.Unique.{keeps}
+use Rattle.dump_records.proofs.HeaderLemmas.{version_said}
+use Rattle.dump_records.specs.steps.KindReading.{version_in}
 use Rattle.dump_records.specs.steps.Lawful.{header_fault, IsUnlawful, LengthsOf}
 use Rattle.dump_records.specs.declared.readings.Lengths.{Lengths}
 use Rattle.dump_records.specs.declared.readings.RecordHeader.{RecordHeader}
@@ -122,14 +124,15 @@ module _ (number : ℕ) (text : List ℕ) (headers : List line.Header) (after : 
       not-true false no_way = refl
 
 -- the record between the places that its lengths give
-pub standing : (dump : List ℕ) (number place props_from text_from after props text : ℕ)
+pub standing : (dump : List ℕ) (number place props_from text_from after version props text : ℕ)
     → IsBlockBetween dump place props_from
     → is_lawful number (headers_between dump place props_from) ≡ true
     → props ≡ property_length (headers_between dump place props_from)
     → text ≡ text_length (headers_between dump place props_from)
     → text_from ≡ props_from + props → after ≡ text_from + text → after ≤ length dump
-    → BeginsWithRecord number (drop place dump) (record_between dump place props_from text_from after) (drop after dump)
-standing dump number place props_from text_from after props text stands lawful props_is text_is text_at after_at end =
+    → BeginsWithRecord number (drop place dump) (record_between dump place props_from text_from after version)
+    (drop after dump)
+standing dump number place props_from text_from after version props text stands lawful props_is text_is text_at after_at end =
     let b = stands.block in
     let headers = headers_between dump place props_from in
     let props_count : text_from - props_from ≡ props = omega arith in
@@ -199,19 +202,21 @@ module _ (dump : List ℕ) (place number : ℕ) (b : Block) (dump_is : block_dum
       cut_short number (drop place dump) headers (drop (block_after b) dump) here.block
       (ap (is_lawful number) (sym headers_here) ∙ found.lawful) (omega arith)
 
-  pub stands_here : (header : RecordHeader) (lengths : Lengths) (text_from after : ℕ)
+  pub stands_here : (header : RecordHeader) (lengths : Lengths) (before version text_from after : ℕ)
       → IsHeaderOf (block_headers b) header → LengthsOf number (block_headers b) lengths
+      → version ≡ unwrap_or (version_in header.parts) before
       → lengths.props + lengths.text ≤ length dump - block_after b
       → text_from ≡ block_after b + lengths.props → after ≡ text_from + lengths.text
-      → StandsAt dump place number (record { block = b; header = header; text_from = text_from; after = after })
-  stands_here header lengths text_from after says found fits text_at after_at =
+      → StandsAt dump place number before (record { block = b; header = header; version = version; text_from = text_from; after = after })
+  stands_here header lengths before version text_from after says found in_force fits text_at after_at =
       let inside = here.inside in
       record {
         dump_is = dump_is;
         place_is = place_is;
         header = says;
+        version_is = in_force ∙ version_said (block_headers b) header.parts before says.kind;
         inside = record { props = omega arith; text = omega arith; end = omega arith };
-        stands = standing dump number place (block_after b) text_from after lengths.props lengths.text here
+        stands = standing dump number place (block_after b) text_from after version lengths.props lengths.text here
             (ap (is_lawful number) (sym headers_here) ∙ found.lawful)
             (found.props_is ∙ ap property_length headers_here) (found.text_is ∙ ap text_length headers_here)
             text_at after_at (omega arith);

@@ -5,11 +5,12 @@ use Rattle.std.specs.Coded.{Coded, Coded-set, coded_ℕ, coded_list}
 use base.Stored.{coded×, coded_via}
 use Rattle.std.proofs.lemmas.List.{take-append-drop, length-take-le, take_all}
 use Rattle.dump_text.specs.HeaderLine as line
-use Rattle.dump_text.specs.HeaderBlock.{starts_with_lf}
+use Rattle.dump_text.specs.HeaderBlock.{block_text, starts_with_lf}
 use Rattle.dump_text.proofs.Unique.{block_front, blank_once, header-eq}
 use Rattle.dump_records.specs.RecordText.{DumpRecord, record_text, BeginsWithRecord}
-use Rattle.dump_records.specs.DumpText.{Ending, IsCutInto, HasRecords, BeginsWithRecords, EndsAfter, IsRecordOf}
-use Rattle.dump_records.proofs.Unique.{content, begins, record_once, record-eq, goes_on, EndsWith, ending_of}
+use Rattle.dump_records.specs.DumpText.{Ending, IsCutInto, HaveVersions, HasRecords, BeginsWithRecords, EndsAfter, IsRecordOf}
+use Rattle.dump_records.proofs.Unique.{content, begins, parts_once, record_once, version_once, record-eq, goes_on, EndsWith, ending_of}
+use Rattle.dump_records.proofs.Versions.{versions_prefix}
 use Rattle.dump_records.proofs.ListLaw.{each_dump_has_one_list}
 
 header_coded : Coded line.Header
@@ -17,9 +18,9 @@ header_coded = coded_via (coded× (coded_list coded_ℕ) (coded_list coded_ℕ))
     (λ x y e. header-eq x y (ap (λ p. p.0) e) (ap (λ p. p.1) e))
 
 pub record_coded : Coded DumpRecord
-record_coded = coded_via (coded× coded_ℕ (coded× (coded_list header_coded) (coded× (coded_list coded_ℕ) (coded_list coded_ℕ))))
-    (λ (r : DumpRecord). (r.place, (r.headers, (r.props, r.text))))
-    (λ x y e. record-eq x y (ap (λ p. p.0) e) (ap (λ p. p.1.0) e) (ap (λ p. p.1.1.0) e) (ap (λ p. p.1.1.1) e))
+record_coded = coded_via (coded× coded_ℕ (coded× coded_ℕ (coded× (coded_list header_coded) (coded× (coded_list coded_ℕ) (coded_list coded_ℕ)))))
+    (λ (r : DumpRecord). (r.place, (r.version, (r.headers, (r.props, r.text)))))
+    (λ x y e. record-eq x y (ap (λ p. p.0) e) (ap (λ p. p.1.0) e) (ap (λ p. p.1.1.0) e) (ap (λ p. p.1.1.1.0) e) (ap (λ p. p.1.1.1.1) e))
 
 pub same_records : (rs ss : List DumpRecord) → IsProp (rs ≡ ss)
 same_records rs ss = Coded-set (coded_list record_coded) rs ss
@@ -38,25 +39,30 @@ cut_prefix number place text rest (r ∷ rs) ss (lfs, front, after, is, at, b, m
     (left.0, (lfs, front, after, is, at, b, left.1))
 
 pub begins_prefix : (dump : List ℕ) (rs ss : List DumpRecord) → BeginsWithRecords dump (rs ++ ss) → BeginsWithRecords dump rs
-begins_prefix dump rs ss (rest, cut) = cut_prefix 0 0 dump rest rs ss cut
+begins_prefix dump rs ss (rest, cut, have) =
+    let front = cut_prefix 0 0 dump rest rs ss cut in
+    (front.0, front.1, versions_prefix 0 rs ss have)
 
 -- two lists of the first records of a text, of one length, are one
-cut_once : (number place : ℕ) (text x y : List ℕ) (rs ss : List DumpRecord) → length rs ≡ length ss
-    → IsCutInto number place text rs x → IsCutInto number place text ss y → rs ≡ ss
-cut_once number place text x y [] [] same cut cut' = refl
-cut_once number place text x y [] (s ∷ ss) same cut cut' = absurd (omega arith)
-cut_once number place text x y (r ∷ rs) [] same cut cut' = absurd (omega arith)
-cut_once number place text x y (r ∷ rs) (s ∷ ss) same (lfs, start, after, at, is, b, more) (lfs', start', after', at', is', c, more') =
+cut_once : (number place before : ℕ) (text x y : List ℕ) (rs ss : List DumpRecord) → length rs ≡ length ss
+    → IsCutInto number place text rs x → IsCutInto number place text ss y → HaveVersions before rs → HaveVersions before ss → rs ≡ ss
+cut_once number place before text x y [] [] same cut cut' have have' = refl
+cut_once number place before text x y [] (s ∷ ss) same cut cut' have have' = absurd (omega arith)
+cut_once number place before text x y (r ∷ rs) [] same cut cut' have have' = absurd (omega arith)
+cut_once number place before text x y (r ∷ rs) (s ∷ ss) same (lfs, start, after, at, is, b, more) (lfs', start', after', at', is', c, more') (v, have) (v', have') =
     let gaps = blank_once lfs lfs' start start' (front_of number start r after b) (front_of number start' s after' c) (sym at ∙ at') in
     let places : r.place ≡ s.place = is ∙ ap (λ (k : ℕ). place + k) gaps.0 ∙ sym is' in
-    let one = record_once number start' r s after after' places (subst (λ (t : List ℕ). BeginsWithRecord number t r after) gaps.1 b) c in
+    let b' = subst (λ (t : List ℕ). BeginsWithRecord number t r after) gaps.1 b in
+    let versions = version_once number before start' r s after after' v v' b' c in
+    let one = record_once number start' r s after after' places versions b' c in
     let ends : s.place + length (record_text s) ≡ r.place + length (record_text r) = ap (λ (d : DumpRecord). d.place + length (record_text d)) (sym one.0) in
     let moved = subst (λ (k : ℕ). IsCutInto (number + 1) k after ss y) ends (subst (λ (t : List ℕ). IsCutInto (number + 1) (s.place + length (record_text s)) t ss y) (sym one.1) more') in
-    let rest = cut_once (number + 1) (r.place + length (record_text r)) after x y rs ss (omega arith) more moved in
+    let have_same = subst (λ (w : ℕ). HaveVersions w ss) (sym versions) have' in
+    let rest = cut_once (number + 1) (r.place + length (record_text r)) r.version after x y rs ss (omega arith) more moved have have_same in
     (λ i. one.0 i ∷ rest i)
 
 pub begins_once : (dump : List ℕ) (rs ss : List DumpRecord) → length rs ≡ length ss → BeginsWithRecords dump rs → BeginsWithRecords dump ss → rs ≡ ss
-begins_once dump rs ss same (x, cut) (y, cut') = cut_once 0 0 dump x y rs ss same cut cut'
+begins_once dump rs ss same (x, cut, have) (y, cut', have') = cut_once 0 0 0 dump x y rs ss same cut cut' have have'
 
 -- no list of records is longer than one that ends
 cut_within : (size number place : ℕ) (text x y : List ℕ) (all rs : List DumpRecord) (e : Ending)
@@ -70,23 +76,27 @@ cut_within size number place text x y [] (s ∷ ss) e (lfs, at, stop) ends (lfs'
 cut_within size number place text x y (r ∷ all) (s ∷ ss) e (lfs, start, after, at, is, b, more) ends (lfs', start', after', at', is', c, more') =
     let gaps = blank_once lfs lfs' start start' (front_of number start r after b) (front_of number start' s after' c) (sym at ∙ at') in
     let places : r.place ≡ s.place = is ∙ ap (λ (k : ℕ). place + k) gaps.0 ∙ sym is' in
-    let one = record_once number start' r s after after' places (subst (λ (t : List ℕ). BeginsWithRecord number t r after) gaps.1 b) c in
-    let at_end : s.place + length (record_text s) ≡ r.place + length (record_text r) = ap (λ (d : DumpRecord). d.place + length (record_text d)) (sym one.0) in
-    let moved = subst (λ (k : ℕ). IsCutInto (number + 1) k after ss y) at_end (subst (λ (t : List ℕ). IsCutInto (number + 1) (s.place + length (record_text s)) t ss y) (sym one.1) more') in
+    let one = parts_once number start' r s after after' (subst (λ (t : List ℕ). BeginsWithRecord number t r after) gaps.1 b) c in
+    let sizes : length (record_text r) ≡ length (record_text s) = λ i. length (block_text (one.0 i) ++ one.1 i ++ one.2 i) in
+    let at_end : s.place + length (record_text s) ≡ r.place + length (record_text r) = omega arith in
+    let moved = subst (λ (k : ℕ). IsCutInto (number + 1) k after ss y) at_end (subst (λ (t : List ℕ). IsCutInto (number + 1) (s.place + length (record_text s)) t ss y) (sym one.3) more') in
     let count : number + length (r ∷ all) ≡ number + 1 + length all = omega arith in
     let left = cut_within size (number + 1) (r.place + length (record_text r)) after x y all ss e more (subst (λ (k : ℕ). EndsWith size k x e) count ends) moved in
     omega arith
 
 module _ (dump : List ℕ) (all : List DumpRecord) (ending : Ending) (has : HasRecords dump all ending) where
   pub within : (rs : List DumpRecord) → BeginsWithRecords dump rs → length rs ≤ length all
-  within rs (y, cut) =
+  within rs (y, cut, have) =
       let count : length all ≡ 0 + length all = omega arith in
       cut_within (length dump) 0 0 dump has.0 y all rs ending has.1
-      (subst (λ (k : ℕ). EndsWith (length dump) k has.0 ending) count (ending_of dump all has.0 ending has.2)) cut
+      (subst (λ (k : ℕ). EndsWith (length dump) k has.0 ending) count (ending_of dump all has.0 ending has.3)) cut
 
   whole_front : (n : ℕ) → BeginsWithRecords dump (take n all)
-  whole_front n = begins_prefix dump (take n all) (drop n all)
-      (has.0, subst (λ (rs : List DumpRecord). IsCutInto 0 0 dump rs has.0) (sym (take-append-drop n all)) has.1)
+  whole_front n = begins_prefix dump (take n all) (drop n all) (
+    has.0,
+    subst (λ (rs : List DumpRecord). IsCutInto 0 0 dump rs has.0) (sym (take-append-drop n all)) has.1,
+    subst (HaveVersions 0) (sym (take-append-drop n all)) has.2,
+  )
 
   pub is_front : (rs : List DumpRecord) → BeginsWithRecords dump rs → rs ≡ take (length rs) all
   is_front rs b = begins_once dump rs (take (length rs) all) (sym (length-take-le (length rs) all (within rs b))) b (whole_front (length rs))

@@ -5,16 +5,19 @@ use Rattle.dump_text.specs.HeaderLine.{Header}
 use Rattle.dump_text.specs.HeaderBlock.{BeginsWithBlock}
 use Rattle.dump_text.proofs.Unique.{block_some}
 use Rattle.dump_records.specs.declared.kind.RecordKind.TheVariants as kinds
-use Rattle.dump_records.specs.HeaderRules.{kind_of, header_number, header_length, property_length, text_length, is_one_alone, has_bad_kind, has_bad_version, has_bad_number, has_bad_lengths}
-use Rattle.dump_records.specs.RecordText.{DumpRecord, record_text, is_lawful, BeginsWithRecord, HasBlockWith, HoldsOfText, IsCutFault}
+use Rattle.dump_records.specs.HeaderRules.{kind_of, header_number, header_length, property_length, text_length, version_from, says_true, is_one_alone, has_bad_kind, is_read_version, has_bad_version, has_bad_number, has_bad_lengths}
+use Rattle.dump_records.specs.RecordText.{DumpRecord, record_text, is_delta, has_text_delta, has_prop_delta, is_lawful, BeginsWithRecord, HasBlockWith, HoldsOfText, IsCutFault}
 use Rattle.dump_records.proofs.PartLemmas.{no_block}
-use Rattle.dump_records.specs.DumpText.{Ending, line_feeds, IsCutInto, HasEnding, BeginsWithRecords, HasRecords, EndsAfter, IsRecordOf}
+use Rattle.dump_records.specs.DumpText.{Ending, line_feeds, IsCutInto, HaveVersions, HasEnding, BeginsWithRecords, HasRecords, EndsAfter, IsRecordOf}
 
 abbrev header : List ℕ → List ℕ → Header
 header name value = record { name = name; value = value }
 
+abbrev versioned : List ℕ → List Header
+versioned number = header (codes "SVN-fs-dump-format-version") number ∷ []
+
 abbrev version : List Header
-version = header (codes "SVN-fs-dump-format-version") (codes "2") ∷ []
+version = versioned (codes "2")
 
 abbrev uuid : List Header
 uuid = header (codes "UUID") (codes "7bf7a5ef") ∷ []
@@ -68,6 +71,22 @@ of_all = refl
 missing_length : text_length version ≡ 0
 missing_length = refl
 
+from_a_version_record : version_from 3 version ≡ 2
+from_a_version_record = refl
+
+from_what_was_before : version_from 3 file ≡ 3
+from_what_was_before = refl
+
+true_is_said : says_true (codes "Text-delta") (header (codes "Text-delta") (codes "true") ∷ []) ≡ true
+true_is_said = refl
+
+-- in lower case alone
+capital_true : says_true (codes "Text-delta") (header (codes "Text-delta") (codes "True") ∷ []) ≡ false
+capital_true = refl
+
+true_of_another_name : says_true (codes "Text-delta") (header (codes "Prop-delta") (codes "true") ∷ []) ≡ false
+true_of_another_name = refl
+
 alone : is_one_alone true false ≡ true
 alone = refl
 
@@ -100,8 +119,21 @@ first_is_no_version = refl
 second_is_no_version : has_bad_version 1 uuid ≡ false
 second_is_no_version = refl
 
-version_three : has_bad_version 1 (header (codes "SVN-fs-dump-format-version") (codes "3") ∷ []) ≡ true
+version_two : has_bad_version 1 version ≡ false
+version_two = refl
+
+version_three : has_bad_version 1 (versioned (codes "3")) ≡ false
 version_three = refl
+
+version_four : has_bad_version 1 (versioned (codes "4")) ≡ true
+version_four = refl
+
+version_is_no_number : has_bad_version 1 (versioned (codes "two")) ≡ true
+version_is_no_number = refl
+
+read_versions : (is_read_version 1 ≡ false) × (is_read_version 2 ≡ true) × (is_read_version 3 ≡ true)
+    × (is_read_version 4 ≡ false)
+read_versions = (refl, refl, refl, refl)
 
 numbers : has_bad_number file ≡ false
 numbers = refl
@@ -125,7 +157,7 @@ revision_with_a_text = refl
 -- RecordText
 
 abbrev file_record : DumpRecord
-file_record = record { place = 31; headers = file; props = codes "PROPS-END\n"; text = codes "abc" }
+file_record = record { place = 31; version = 2; headers = file; props = codes "PROPS-END\n"; text = codes "abc" }
 
 abbrev file_bytes : List ℕ
 file_bytes =
@@ -134,6 +166,26 @@ file_bytes =
 
 file_spelled : record_text file_record ≡ file_bytes
 file_spelled = refl
+
+-- lines with both delta headers, under a version
+abbrev delta : ℕ → List Header → List ℕ → DumpRecord
+delta number lines value = record file_record {
+  version = number;
+  headers = lines ++ header (codes "Text-delta") value ∷ header (codes "Prop-delta") (codes "true") ∷ [];
+}
+
+delta_under_three : (has_text_delta (delta 3 node (codes "true")) ≡ true) × (has_prop_delta (delta 3 node (codes "true")) ≡ true)
+delta_under_three = (refl, refl)
+
+no_delta_under_two : (has_text_delta (delta 2 node (codes "true")) ≡ false)
+    × (has_prop_delta (delta 2 node (codes "true")) ≡ false)
+no_delta_under_two = (refl, refl)
+
+only_a_node_has_a_delta : is_delta (codes "Prop-delta") (delta 3 (revision (codes "7")) (codes "true")) ≡ false
+only_a_node_has_a_delta = refl
+
+delta_says_false : has_text_delta (delta 3 node (codes "false")) ≡ false
+delta_says_false = refl
 
 lawful : is_lawful 1 file ≡ true
 lawful = refl
@@ -178,7 +230,7 @@ empty_is_cut = no_block 0 [] empty_rest.0
 -- DumpText
 
 abbrev version_record : ℕ → DumpRecord
-version_record place = record { place = place; headers = version; props = []; text = [] }
+version_record place = record { place = place; version = 2; headers = version; props = []; text = [] }
 
 abbrev version_bytes : List ℕ
 version_bytes = codes "SVN-fs-dump-format-version: 2\n\n"
@@ -209,11 +261,30 @@ place_behind_line_feeds (lfs, front, after, e, at, is, _) =
     let none : lfs ≡ 0 = omega arith in
     apart (ap first (e ∙ ap (λ n. line_feeds n ++ front) none ∙ is.spelled))
 
+-- a dump that is joined from version 2, version 3 and version 2: each version record, and a node behind it
+abbrev version_of_three : DumpRecord
+version_of_three = record (version_record 118) { version = 3; headers = versioned (codes "3") }
+
+abbrev file_under : ℕ → DumpRecord
+file_under number = record file_record { version = number }
+
+joined_versions : HaveVersions 0 (version_record 0 ∷ file_under 2 ∷ version_of_three ∷ file_under 3 ∷ version_record 234
+    ∷ file_under 2 ∷ [])
+joined_versions = (refl, (refl, (refl, (refl, (refl, (refl, tt))))))
+
+-- the first version isn't in force behind the second version record
+first_version_is_over : ¬ HaveVersions 0 (version_record 0 ∷ version_of_three ∷ file_under 2 ∷ [])
+first_version_is_over (_, (_, (same, _))) = omega arith
+
+-- and a version record's own is in force for itself
+own_version : ¬ HaveVersions 0 (version_record 0 ∷ record version_of_three { version = 2 } ∷ [])
+own_version (_, (same, _)) = omega arith
+
 to_the_end : HasRecords dump (version_record 1 ∷ []) Ending.Whole
-to_the_end = ([], cut_into, (refl, lit< tt))
+to_the_end = ([], cut_into, (refl, tt), (refl, lit< tt))
 
 front : BeginsWithRecords dump (version_record 1 ∷ [])
-front = ([], cut_into)
+front = ([], cut_into, (refl, tt))
 
 one_record : EndsAfter dump 1 Ending.Whole
 one_record = (version_record 1 ∷ [], to_the_end, refl)
@@ -223,7 +294,7 @@ first_record = ([], front, refl)
 
 -- a dump without a record breaks off at once
 empty_dump : HasRecords [] [] (Ending.Broken faults.HeaderCut 0)
-empty_dump = ([], (0, refl, refl), (inr refl, refl, empty_is_cut))
+empty_dump = ([], (0, refl, refl), tt, (inr refl, refl, empty_is_cut))
 
 not_whole : ¬ HasEnding [] [] [] Ending.Whole
 not_whole (_, some) = omega arith

@@ -20,6 +20,8 @@ pub struct Cutter<'a> {
     dump: &'a [u8],
     number: u64,
     place: usize,
+    /// The format version in force behind the records up to the place.
+    version: u64,
 }
 
 impl<'a> Model for Cutter<'a> {
@@ -29,7 +31,7 @@ impl<'a> Model for Cutter<'a> {
 
     ghost view = { λ c. record { dump = c.dump.now; number = c.number } };
 
-    ghost invariant = { λ c. IsCutUpTo c.dump.now c.number c.place };
+    ghost invariant = { λ c. IsCutUpTo c.dump.now c.number c.place c.version };
 }
 
 impl<'a> Cutter<'a> {
@@ -44,6 +46,7 @@ impl<'a> Cutter<'a> {
             dump,
             number: 0,
             place: 0,
+            version: 0,
         }
     }
 
@@ -55,16 +58,18 @@ impl<'a> Cutter<'a> {
         if place == self.dump.len() && self.number > 0 {
             return Cut::Finished;
         }
-        match parts_at(self.dump, place, self.number) {
+        match parts_at(self.dump, place, self.number, self.version) {
             Ok(parts) => {
                 let record = Record {
                     block: parts.block,
                     number: self.number,
                     header: parts.header,
+                    version: parts.version,
                     text_from: parts.text_from,
                     after: parts.after,
                 };
                 self.place = parts.after;
+                self.version = parts.version;
                 self.number += 1;
                 Cut::Item(record)
             }

@@ -1,8 +1,8 @@
 //! What the header lines of a block say of their record, and the rules that they may break.
 ghost use Rattle.std.specs.Prelude.{◌≡◌, ◌<◌, ◌^◌, ◌&&◌, IfSome, IsFalse, MatchResult, is_none, is_some, option_map, bytes_eq, unwrap_or, codes, []};
-ghost use Rattle.dump_text.specs.Names.{name_text, node_kind_name, copy_path_name};
+ghost use Rattle.dump_text.specs.Names.{name_text, version_name, node_kind_name, copy_path_name};
 ghost use Rattle.dump_text.specs.HeaderLine.{has_header, header_value};
-ghost use Rattle.dump_records.specs.HeaderRules.{header_number, has_bad_kind, has_bad_version, has_bad_number, has_bad_lengths};
+ghost use Rattle.dump_records.specs.HeaderRules.{header_number, says_true, has_bad_kind, has_bad_version, has_bad_number, has_bad_lengths};
 ghost use Rattle.dump_records.specs.steps.KindReading.{IsKindOf};
 ghost use Rattle.dump_records.specs.steps.HeaderReading.{lines_of, AreNumbers, is_spelled, are_written, IsHeaderOf};
 ghost use Rattle.dump_records.specs.steps.Lawful.{LengthsOf, IsUnlawful};
@@ -50,13 +50,14 @@ fn breaks_kind(headers: &Headers<'_>) -> bool
     deciding != 1 || (is_node && half_copy)
 }
 
-/// Whether the first record of the dump is no version record, or a version isn't 2.
+/// Whether the first record of the dump is no version record, or a version isn't 2 or 3.
 fn breaks_version(headers: &Headers<'_>, numbers: &Numbers, number: u64) -> bool
     requires { AreNumbers (lines_of headers.now) numbers.now }
     ensures { result ≡ has_bad_version number (lines_of headers.now) }
 {
     if headers.has(HeaderName::FormatVersion) {
-        numbers.version.unwrap_or(0) != 2
+        let version = numbers.version.unwrap_or(0);
+        version != 2 && version != 3
     } else {
         number == 0
     }
@@ -131,6 +132,7 @@ fn copy_source<'a>(headers: &Headers<'a>, revision: Option<u64>) -> Option<CopyS
 fn parts_of<'a>(headers: &Headers<'a>, numbers: &Numbers) -> KindParts<'a>
     requires numbers { AreNumbers (lines_of headers.now) numbers.now }
     requires kind { IsFalse (has_bad_kind (lines_of headers.now)) }
+    requires version { is_some numbers.now.version ≡ has_header version_name (lines_of headers.now) }
     requires number { IsFalse (has_bad_number (lines_of headers.now)) }
     ensures { IsKindOf (lines_of headers.now) result }
 {
@@ -141,11 +143,10 @@ fn parts_of<'a>(headers: &Headers<'a>, numbers: &Numbers) -> KindParts<'a>
     if let Some(number) = numbers.revision {
         return KindParts::Revision { number };
     }
-    if headers.has(HeaderName::Uuid) {
-        KindParts::Uuid
-    } else {
-        KindParts::Version
+    if let Some(number) = numbers.version {
+        return KindParts::Version { number };
     }
+    KindParts::Uuid
 }
 
 /// Whether the lines say that the node is a file.
@@ -154,6 +155,16 @@ fn says_file(headers: &Headers<'_>) -> bool
 {
     match headers.value(HeaderName::NodeKind) {
         Some(kind) => kind == b"file".as_slice(),
+        None => false,
+    }
+}
+
+/// Whether the value of the header of this name is `true`.
+fn says_true(headers: &Headers<'_>, name: HeaderName) -> bool
+    ensures { result ≡ says_true (name_text name) (lines_of headers.now) }
+{
+    match headers.value(name) {
+        Some(value) => value == b"true".as_slice(),
         None => false,
     }
 }
@@ -212,6 +223,8 @@ pub(crate) fn read_header<'a>(
         has_text: headers.has(HeaderName::TextContentLength),
         md5: headers.value(HeaderName::TextContentMd5),
         sha1: headers.value(HeaderName::TextContentSha1),
+        text_delta: says_true(headers, HeaderName::TextDelta),
+        prop_delta: says_true(headers, HeaderName::PropDelta),
         is_written: are_written(headers, &numbers),
     };
     Ok((header, lengths_of(&numbers)))

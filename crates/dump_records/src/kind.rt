@@ -1,4 +1,6 @@
 //! What a record is.
+ghost use Rattle.std.specs.Prelude.{◌≡◌, unwrap_or};
+ghost use Rattle.dump_records.specs.steps.KindReading.{version_in};
 
 /// What a record is, by the one deciding name that its block has.
 #[derive(Clone, Copy, Debug, PartialEq, Eq)]
@@ -12,7 +14,9 @@ pub enum RecordKind {
 /// What a record is, with what only a record of its kind has.
 #[derive(Clone, Copy)]
 pub(crate) enum KindParts<'a> {
-    Version,
+    Version {
+        number: u64,
+    },
     Uuid,
     Revision {
         number: u64,
@@ -21,6 +25,18 @@ pub(crate) enum KindParts<'a> {
         path: &'a [u8],
         copy: Option<CopySource<'a>>,
     },
+}
+
+impl KindParts<'_> {
+    /// The format version in force for a record with these parts, where this one was in force before.
+    pub(crate) fn version_from(&self, before: u64) -> u64
+        ensures { result ≡ unwrap_or (version_in self.now) before }
+    {
+        match self {
+            KindParts::Version { number } => *number,
+            _ => before,
+        }
+    }
 }
 
 /// What a node is copied from.

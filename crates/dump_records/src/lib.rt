@@ -28,8 +28,8 @@
 //!
 //! [`laws`] states two laws of dumps: no record begins another, and each dump has exactly one list
 //! of records. What a record may be is asked by itself: the order of nodes and revisions, property
-//! blocks, digests, copy sources and mergeinfo are not looked at here. Format version 2 is read, and
-//! no other. No memory is taken.
+//! blocks, digests, copy sources and mergeinfo are not looked at here. Format versions 2 and 3 are
+//! read, and no other; a dump may be joined from both. No memory is taken.
 #![tactic(auto)]
 
 mod cutter;

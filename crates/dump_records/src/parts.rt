@@ -7,11 +7,13 @@ use crate::headers::read_header;
 use crate::readings::RecordHeader;
 use dump_text::{Block, FaultKind, Headers};
 
-/// A record's block, what its lines say, and where its text and what follows it begin.
+/// A record's block, what its lines say, the format version in force for it, and where its text and what follows it
+/// begin.
 #[derive(Clone, Copy)]
 pub(crate) struct Parts<'a> {
     pub(crate) block: Block<'a>,
     pub(crate) header: RecordHeader<'a>,
+    pub(crate) version: u64,
     pub(crate) text_from: usize,
     pub(crate) after: usize,
 }
@@ -28,9 +30,15 @@ pub(crate) fn count_line_feeds(text: &[u8]) -> usize
     text.len()
 }
 
-/// The record with this number at a place of the dump, or the first fault that holds there.
-pub(crate) fn parts_at(dump: &[u8], place: usize, number: u64) -> Result<Parts<'_>, FaultKind>
-    ensures stands { IfOk result (StandsAt dump.now place number) }
+/// The record with this number at a place of the dump, where this format version was in force before; or the first fault
+/// that holds there.
+pub(crate) fn parts_at(
+    dump: &[u8],
+    place: usize,
+    number: u64,
+    version: u64,
+) -> Result<Parts<'_>, FaultKind>
+    ensures stands { IfOk result (StandsAt dump.now place number version) }
     ensures fault { IfErr result (IsCutFault number (drop place dump.now)) }
 {
     let headers = Headers::read(dump, place)?;
@@ -45,6 +53,7 @@ pub(crate) fn parts_at(dump: &[u8], place: usize, number: u64) -> Result<Parts<'
     Ok(Parts {
         block,
         header: found.0,
+        version: found.0.parts.version_from(version),
         text_from,
         after: text_from + lengths.text as usize,
     })

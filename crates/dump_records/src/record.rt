@@ -11,30 +11,32 @@ use crate::kind::{CopySource, KindParts, RecordKind};
 use crate::readings::RecordHeader;
 use dump_text::Block;
 
-/// A record of a dump, with its number there and what its header lines say. Every slice that it lends is a part of the
-/// dump.
+/// A record of a dump, with its number there, what its header lines say and the format version in force for it. Every
+/// slice that it lends is a part of the dump.
 #[derive(Clone, Copy)]
 pub struct Record<'a> {
     pub(crate) block: Block<'a>,
     pub(crate) number: u64,
     pub(crate) header: RecordHeader<'a>,
+    pub(crate) version: u64,
     pub(crate) text_from: usize,
     pub(crate) after: usize,
     pub ghost says: { IsHeaderOf (block_headers block) header },
     pub ghost counted: { number + 1 < 2 ^ 64 },
     pub ghost inside: { AreInside (block_dump block) (block_after block) text_from after },
     pub ghost stands: { BeginsWithRecord number (drop (block_place block) (block_dump block))
-        (record_between (block_dump block) (block_place block) (block_after block) text_from after)
+        (record_between (block_dump block) (block_place block) (block_after block) text_from after version)
         (drop after (block_dump block)) },
     pub ghost numbered: { ∥ IsRecordOf (block_dump block) number
-        (record_between (block_dump block) (block_place block) (block_after block) text_from after) ∥₁ },
+        (record_between (block_dump block) (block_place block) (block_after block) text_from after version) ∥₁ },
 }
 
 impl<'a> Record<'a> {
-    ghost use Rattle.std.specs.Prelude.{◌≡◌, List, [], IfSome, option_copied, slice_range, bytes_eq, unwrap_or, codes};
+    ghost use Rattle.std.specs.Prelude.{◌≡◌, ◌==◌, ◌&&◌, List, [], IfSome, option_copied, slice_range, bytes_eq, unwrap_or, codes};
     ghost use Rattle.dump_text.specs.Names.{path_name, revision_name, copy_path_name, copy_revision_name, property_length_name, text_length_name, node_kind_name, md5_name, sha1_name};
     ghost use Rattle.dump_text.specs.HeaderLine.{has_header, header_value};
     ghost use Rattle.dump_records.specs.HeaderRules.{kind_of, header_number};
+    ghost use Rattle.dump_records.specs.RecordText.{has_text_delta, has_prop_delta};
     ghost use Rattle.dump_records.specs.steps.KindReading.{copy_in};
     ghost use Rattle.dump_records.specs.steps.RecordPlaces.{props_place, text_place, place_after};
     ghost use Rattle.dump_records.specs.steps.RecordViews.{record_dump, record_number, record_item, part_with, part_of_node, IsInBlock};
@@ -60,12 +62,19 @@ impl<'a> Record<'a> {
         self.after
     }
 
+    /// The format version in force for it: that of the last version record up to it; of a version record its own.
+    pub fn version(&self) -> u64
+        ensures { result ≡ (record_item self.now).version }
+    {
+        self.version
+    }
+
     /// What it is.
     pub fn kind(&self) -> RecordKind
         ensures { result ≡ kind_of (record_item self.now).headers }
     {
         match self.header.parts {
-            KindParts::Version => RecordKind::Version,
+            KindParts::Version { .. } => RecordKind::Version,
             KindParts::Uuid => RecordKind::Uuid,
             KindParts::Revision { .. } => RecordKind::Revision,
             KindParts::Node { .. } => RecordKind::Node,
@@ -142,6 +151,30 @@ impl<'a> Record<'a> {
             (codes "file") }
     {
         self.header.is_file
+    }
+
+    /// Whether its text is a delta: only of a node under version 3 whose header says `true`.
+    pub fn text_delta(&self) -> bool
+        ensures { result ≡ has_text_delta (record_item self.now) }
+    {
+        self.may_have_delta() && self.header.text_delta
+    }
+
+    /// Whether its property block is a delta: only of a node under version 3 whose header says `true`.
+    pub fn prop_delta(&self) -> bool
+        ensures { result ≡ has_prop_delta (record_item self.now) }
+    {
+        self.may_have_delta() && self.header.prop_delta
+    }
+
+    /// Whether it is a node under version 3, which a delta may be part of.
+    fn may_have_delta(&self) -> bool
+        ensures { let r = record_item self.now in result ≡ (has_header path_name r.headers && r.version == 3) }
+    {
+        match self.header.parts {
+            KindParts::Node { .. } => self.version == 3,
+            _ => false,
+        }
     }
 
     /// The MD5 digest that its lines tell of its text.

@@ -8,6 +8,10 @@ use std::test::Fail;
 
 const VERSION: &[u8] = b"SVN-fs-dump-format-version: 2\n\n";
 
+const VERSION_THREE: &[u8] = b"SVN-fs-dump-format-version: 3\n\n";
+
+const VERSION_FOUR: &[u8] = b"SVN-fs-dump-format-version: 4\n\n";
+
 const UUID: &[u8] = b"UUID: 7bf7a5ef-cabf-0310-b7d4-93df341afa7e\n\n";
 
 // A revision, with one LF behind it.
@@ -82,10 +86,98 @@ fn the_end_is_told_again(rt: HostRuntime) -> Result<(), Fail> {
 
 #[test]
 fn the_first_record_is_a_version_record(rt: HostRuntime) {
-    for dump in [b"SVN-fs-dump-format-version: 3\n\n".as_slice(), REVISION] {
+    for dump in [UUID, REVISION] {
         let first = seen_in(Cutter::new(dump).next());
         assert_eq!(rt; first, Seen::Fault(FaultKind::Version, 0), "{dump:?}");
     }
+}
+
+#[test]
+fn no_version_but_two_and_three_is_read(rt: HostRuntime) -> Result<(), Fail> {
+    for first in [VERSION, VERSION_THREE] {
+        let dump = joined(rt.alloc(), &[first, VERSION_FOUR])?;
+        let mut cutter = Cutter::new(&dump);
+        assert_eq!(rt; seen_in(cutter.next()), Seen::Item(0));
+        assert_eq!(rt; seen_in(cutter.next()), Seen::Fault(FaultKind::Version, 31));
+    }
+    for dump in [
+        VERSION_FOUR,
+        b"SVN-fs-dump-format-version: 1\n\n",
+        b"SVN-fs-dump-format-version: x\n\n",
+    ] {
+        let first = seen_in(Cutter::new(dump).next());
+        assert_eq!(rt; first, Seen::Fault(FaultKind::Version, 0), "{dump:?}");
+    }
+    Ok(())
+}
+
+#[test]
+fn the_last_version_up_to_a_record_is_in_force(rt: HostRuntime) -> Result<(), Fail> {
+    let parts = [
+        VERSION,
+        UUID,
+        NODE,
+        VERSION_THREE,
+        COPYING_REVISION,
+        NODE,
+        VERSION,
+        NODE,
+    ];
+    let dump = joined(rt.alloc(), &parts)?;
+    let mut cutter = Cutter::new(&dump);
+    for version in [2, 2, 2, 3, 3, 3, 2, 2] {
+        assert_eq!(rt; next_record(&mut cutter)?.version(), version);
+    }
+    assert_eq!(rt; seen_in(cutter.next()), Seen::Finished);
+    Ok(())
+}
+
+// Whether the text and the properties of the second record are deltas.
+fn deltas_behind(alloc: Global, version: &[u8], lines: &[u8]) -> Result<(bool, bool), Fail> {
+    let dump = joined(alloc, &[version, lines, b"\n"])?;
+    let mut cutter = Cutter::new(&dump);
+    next_record(&mut cutter)?;
+    let record = next_record(&mut cutter)?;
+    Ok((record.text_delta(), record.prop_delta()))
+}
+
+#[test]
+fn only_a_node_under_version_three_has_a_delta(rt: HostRuntime) -> Result<(), Fail> {
+    let alloc = rt.alloc();
+    let both = b"Node-path: f\nText-delta: true\nProp-delta: true\n".as_slice();
+    let rows = [
+        (VERSION_THREE, both, (true, true)),
+        (VERSION, both, (false, false)),
+        (
+            VERSION_THREE,
+            b"Node-path: f\nText-delta: true\n",
+            (true, false),
+        ),
+        (
+            VERSION_THREE,
+            b"Node-path: f\nProp-delta: true\n",
+            (false, true),
+        ),
+        (
+            VERSION_THREE,
+            b"Node-path: f\nText-delta: True\nProp-delta: false\n",
+            (false, false),
+        ),
+        (VERSION_THREE, b"Node-path: f\n", (false, false)),
+        (
+            VERSION_THREE,
+            b"Revision-number: 1\nText-delta: true\nProp-delta: true\n",
+            (false, false),
+        ),
+    ];
+    for (version, lines, deltas) in rows {
+        assert_eq!(rt;
+            deltas_behind(alloc, version, lines)?,
+            deltas,
+            "{version:?} {lines:?}"
+        );
+    }
+    Ok(())
 }
 
 #[test]

@@ -2,13 +2,13 @@
 use Rattle.std.specs.Prelude.{◌≡◌, ◌<◌, ◌+◌, ◌==◌, ◌^◌, ℕ, Bool, true, ◌&&◌, ◌||◌, List, [], Option, Some, None, bytes_eq, codes, unwrap_or, option_copied}
 use Rattle.dump_text.specs.declared.headers.Headers.{Headers}
 use Rattle.dump_text.specs.Number.{spelled_number}
-use Rattle.dump_text.specs.Names.{version_name, revision_name, copy_revision_name, property_length_name, text_length_name, content_length_name, node_kind_name, md5_name, sha1_name}
+use Rattle.dump_text.specs.Names.{version_name, revision_name, copy_revision_name, property_length_name, text_length_name, content_length_name, node_kind_name, md5_name, sha1_name, text_delta_name, prop_delta_name}
 use Rattle.dump_text.specs.HeaderLine.{Header, has_header, header_value}
 use Rattle.dump_text.specs.steps.Views.{block_headers}
 use Rattle.dump_text.specs.steps.HeadersViews.{headers_block}
 use Rattle.dump_records.specs.declared.readings.Numbers.{Numbers}
 use Rattle.dump_records.specs.declared.readings.RecordHeader.{RecordHeader}
-use Rattle.dump_records.specs.HeaderRules.{header_number, property_length, text_length}
+use Rattle.dump_records.specs.HeaderRules.{header_number, says_true, property_length, text_length}
 use Rattle.dump_records.specs.steps.KindReading.{IsKindOf}
 
 -- the lines of a block with its values
@@ -51,4 +51,6 @@ pub record IsHeaderOf (headers : List Header) (h : RecordHeader) : Type 0 where
   pub text : h.has_text ≡ has_header text_length_name headers
   pub md5 : option_copied h.md5 ≡ header_value md5_name headers
   pub sha1 : option_copied h.sha1 ≡ header_value sha1_name headers
+  pub text_delta : h.text_delta ≡ says_true text_delta_name headers
+  pub prop_delta : h.prop_delta ≡ says_true prop_delta_name headers
   pub written : h.is_written ≡ are_written headers

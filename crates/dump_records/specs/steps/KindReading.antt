@@ -7,23 +7,30 @@ use Rattle.dump_records.specs.declared.kind.KindParts.TheVariants.{Version, Uuid
 use Rattle.dump_records.specs.declared.kind.CopySource.{CopySource}
 use Rattle.dump_records.specs.HeaderRules.{header_number}
 
+-- the number of a version record
+abbrev pub version_in : KindParts → Option ℕ
+version_in (Version number) = Some number
+version_in Uuid = None
+version_in (Revision number) = None
+version_in (Node path copy) = None
+
 -- the number of a revision
 abbrev pub revision_in : KindParts → Option ℕ
-revision_in Version = None
+revision_in (Version number) = None
 revision_in Uuid = None
 revision_in (Revision number) = Some number
 revision_in (Node path copy) = None
 
 -- the path of a node
 abbrev pub path_in : KindParts → Option (List ℕ)
-path_in Version = None
+path_in (Version number) = None
 path_in Uuid = None
 path_in (Revision number) = None
 path_in (Node path copy) = Some path.now
 
 -- what a node is copied from
 abbrev pub copy_in : KindParts → Option CopySource
-copy_in Version = None
+copy_in (Version number) = None
 copy_in Uuid = None
 copy_in (Revision number) = None
 copy_in (Node path copy) = copy
@@ -37,19 +44,19 @@ copy_revision_in parts = option_map (λ (c : CopySource). c.revision) (copy_in p
 
 -- whether a record is a version record, a UUID record, or a revision
 abbrev pub is_version : KindParts → Bool
-is_version Version = true
+is_version (Version number) = true
 is_version Uuid = false
 is_version (Revision number) = false
 is_version (Node path copy) = false
 
 abbrev pub is_uuid : KindParts → Bool
-is_uuid Version = false
+is_uuid (Version number) = false
 is_uuid Uuid = true
 is_uuid (Revision number) = false
 is_uuid (Node path copy) = false
 
 abbrev pub is_revision : KindParts → Bool
-is_revision Version = false
+is_revision (Version number) = false
 is_revision Uuid = false
 is_revision (Revision number) = true
 is_revision (Node path copy) = false
@@ -59,6 +66,7 @@ pub record IsKindOf (headers : List Header) (parts : KindParts) : Type 0 where
   pub version : is_version parts ≡ has_header version_name headers
   pub uuid : is_uuid parts ≡ has_header uuid_name headers
   pub revision : is_revision parts ≡ has_header revision_name headers
+  pub version_number : version_in parts ≡ header_number version_name headers
   pub number : revision_in parts ≡ header_number revision_name headers
   pub path : path_in parts ≡ header_value path_name headers
   pub copy_path : copy_path_in parts

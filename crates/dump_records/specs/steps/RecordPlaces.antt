@@ -16,10 +16,11 @@ text_place r = props_place r + length r.props
 abbrev pub place_after : DumpRecord → ℕ
 place_after r = text_place r + length r.text
 
--- the record between these places of a dump: its block, its properties, its text
-abbrev pub record_between : List ℕ → ℕ → ℕ → ℕ → ℕ → DumpRecord
-record_between dump place props_from text_from after = record {
+-- the record between these places of a dump, with its block, its properties and its text, under this version
+abbrev pub record_between : List ℕ → ℕ → ℕ → ℕ → ℕ → ℕ → DumpRecord
+record_between dump place props_from text_from after version = record {
   place = place;
+  version = version;
   headers = headers_between dump place props_from;
   props = slice_range dump props_from text_from;
   text = slice_range dump text_from after;

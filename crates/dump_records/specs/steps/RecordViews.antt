@@ -22,7 +22,8 @@ record_number r = r.number
 
 -- the record itself
 abbrev pub record_item : Record → DumpRecord
-record_item r = record_between (block_dump r.block) (block_place r.block) (block_after r.block) r.text_from r.after
+record_item r =
+    record_between (block_dump r.block) (block_place r.block) (block_after r.block) r.text_from r.after r.version
 
 -- the bytes of a part, where its length header is there
 abbrev pub part_with : List ℕ → DumpRecord → List ℕ → Option (List ℕ)

@@ -1,5 +1,5 @@
 use Rattle.std.proofs.Common.{◌≡◌, true, false, ap, sym, ◌∙◌, refl, is_some}
-use Rattle.dump_text.specs.Names.{uuid_name, revision_name, path_name}
+use Rattle.dump_text.specs.Names.{version_name, revision_name, path_name}
 use Rattle.dump_text.specs.HeaderLine.{has_header}
 use Rattle.dump_records.specs.steps.HeaderReading.{lines_of}
 use Rattle.dump_records.proofs.HeaderLemmas.{deciding, copy_both, copy_there, revision_there, no_number, value_there}
@@ -21,6 +21,7 @@ returns-in-Some c =
       version = sym others.0;
       uuid = sym others.1;
       revision = sym others.2;
+      version_number = no_number version_name lines others.0;
       number = no_number revision_name lines others.2;
       path = c.in-Some.ensures.value;
       copy_path = c.copy_source-copy.ensures.path ∙ sym (rw node refl);
@@ -37,40 +38,42 @@ returns-in-Some-revision c =
       version = sym others.0;
       uuid = sym others.1;
       revision = sym there;
+      version_number = no_number version_name lines others.0;
       number = sym is;
       path = c.in_default.ensures.value;
       copy_path = sym (let none = others.2 in rw none refl);
       copy_revision = sym (let none = others.2 in rw none refl);
     }
 
-pub returns-else-has : goal.returns-else-has
-returns-else-has c =
+pub returns-in-Some-version : goal.returns-in-Some-version
+returns-in-Some-version c =
     let lines = lines_of c.args.headers.now in
-    let is = sym c.requires.numbers.revision ∙ c.in_default-revision.is in
-    let no_revision : has_header revision_name lines ≡ false = revision_there lines c.requires.number ∙ ap is_some is in
-    let no_node : has_header path_name lines ≡ false = value_there path_name lines _ c.in_default.ensures.value in
-    let no_uuid = sym c.has.ensures ∙ c.if-has.false in
+    let is = sym c.requires.numbers.version ∙ c.in-Some-version.is in
+    let there : has_header version_name lines ≡ true = sym c.requires.version ∙ ap is_some c.in-Some-version.is in
+    let others = (deciding lines c.requires.kind).version there in
     record {
-      version = sym ((deciding lines c.requires.kind).version no_uuid no_revision no_node);
-      uuid = sym no_uuid;
-      revision = sym no_revision;
-      number = sym is;
+      version = sym there;
+      uuid = sym others.0;
+      revision = sym others.1;
+      version_number = sym is;
+      number = no_number revision_name lines others.1;
       path = c.in_default.ensures.value;
-      copy_path = sym (rw no_node refl);
-      copy_revision = sym (rw no_node refl);
+      copy_path = sym (let none = others.2 in rw none refl);
+      copy_revision = sym (let none = others.2 in rw none refl);
     }
 
-pub returns-then-has : goal.returns-then-has
-returns-then-has c =
+pub returns : goal.returns
+returns c =
     let lines = lines_of c.args.headers.now in
     let is = sym c.requires.numbers.revision ∙ c.in_default-revision.is in
     let no_revision : has_header revision_name lines ≡ false = revision_there lines c.requires.number ∙ ap is_some is in
     let no_node : has_header path_name lines ≡ false = value_there path_name lines _ c.in_default.ensures.value in
-    let there : has_header uuid_name lines ≡ true = sym c.has.ensures ∙ c.if-has.true in
+    let no_version : has_header version_name lines ≡ false = sym c.requires.version ∙ ap is_some c.in_default-version.is in
     record {
-      version = sym ((deciding lines c.requires.kind).uuid there).0;
-      uuid = sym there;
+      version = sym no_version;
+      uuid = sym ((deciding lines c.requires.kind).left no_version no_revision no_node);
       revision = sym no_revision;
+      version_number = no_number version_name lines no_version;
       number = sym is;
       path = c.in_default.ensures.value;
       copy_path = sym (rw no_node refl);

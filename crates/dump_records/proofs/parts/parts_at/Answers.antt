@@ -42,7 +42,7 @@ returns-clause-stands c =
     let again = c.after-2.ensures in
     stands_here c.args.dump.now c.args.place c.args.number c.block-block.result (ap block_dump same ∙ h.ensures.dump)
     (ap block_place same ∙ h.ensures.place)
-    c.in_ok-found.found.0 c.in_ok-found.found.1 _ _
+    c.in_ok-found.found.0 c.in_ok-found.found.1 c.args.version _ _ _
     (subst (λ b. IsHeaderOf (block_headers b) c.in_ok-found.found.0) (sym same) c.in_ok-found.ensures.0)
     (subst (λ b. LengthsOf c.args.number (block_headers b) c.in_ok-found.found.1) (sym same) c.in_ok-found.ensures.1)
-    (omega arith) (omega arith) refl
+    c.version_from.ensures (omega arith) (omega arith) refl
