@@ -110,16 +110,17 @@ pub record CutAt (dump : List ℕ) (number place version : ℕ) : Type 0 where
   pub versions : HaveVersions 0 records
   pub version_is : version ≡ last_version 0 records
 
-pub cut_at : (dump : List ℕ) (number place version : ℕ) → IsCutUpTo dump number place version → CutAt dump number place version
-cut_at dump number place version (records, before, after, rest, is, size, cut, none, count, versions, version_is) = record {
+pub cut_at : (dump : List ℕ) (number place version : ℕ) → IsCutUpTo dump number place version
+    → CutAt dump number place version
+cut_at dump number place version (records, before, after, rest, is, size, cut, none, count, have, in_force) = record {
   records = records;
   before = before;
   is = is ∙ ap (λ t. before ++ t) (sym (drop_at before after place size) ∙ ap (drop place) (sym is));
   size = size;
   cut = subst (IsCutInto 0 0 before records) none cut;
   count = count;
-  versions = versions;
-  version_is = version_is;
+  versions = have;
+  version_is = in_force;
 }
 
 pub number_fits : (dump : List ℕ) (number place version : ℕ) → IsCutUpTo dump number place version → number ≤ place
@@ -131,7 +132,8 @@ number_fits dump number place version up =
     omega arith
 
 -- the records before a place, and what is cut behind it
-go_on : (dump : List ℕ) (number place version : ℕ) (at : CutAt dump number place version) (after rest : List ℕ) (ss : List DumpRecord)
+go_on : (dump : List ℕ) (number place version : ℕ) (at : CutAt dump number place version) (after rest : List ℕ)
+    (ss : List DumpRecord)
     → IsCutInto number place after ss rest → IsCutInto 0 0 (at.before ++ after) (at.records ++ ss) rest
 go_on dump number place version at after rest ss more =
     let count : number ≡ 0 + length at.records = sym at.count ∙ omega arith in
@@ -149,7 +151,8 @@ module _ (dump : List ℕ) (number place version gap : ℕ) (up : IsCutUpTo dump
   behind = lfs.spelled ∙ ap (λ t. line_feeds gap ++ t) (drop-drop gap place dump)
 
   -- a record stands behind the LFs
-  module _ (r : DumpRecord) (after : ℕ) (r_at : r.place ≡ place + gap) (in_force : r.version ≡ version_from version r.headers)
+  module _ (r : DumpRecord) (after : ℕ) (r_at : r.place ≡ place + gap)
+      (in_force : r.version ≡ version_from version r.headers)
       (b : BeginsWithRecord number (drop (place + gap) dump) r (drop after dump)) where
     versions : HaveVersions 0 (at.records ++ r ∷ [])
     versions = versions_append 0 at.records (r ∷ []) at.versions
@@ -190,7 +193,8 @@ module _ (dump : List ℕ) (number place version gap : ℕ) (up : IsCutUpTo dump
           [],
           whole,
           omega arith,
-          go_on dump number place version at piece [] (r ∷ []) (gap, record_text r, [], refl, r_at, alone, (0, refl, refl)),
+          go_on dump number place version at piece [] (r ∷ [])
+              (gap, record_text r, [], refl, r_at, alone, (0, refl, refl)),
           refl,
           length-append at.records (r ∷ []) ∙ ap (λ n. n + 1) at.count,
           versions,
@@ -207,7 +211,8 @@ module _ (dump : List ℕ) (number place version gap : ℕ) (up : IsCutUpTo dump
           [],
           subst (λ (t : List ℕ). IsCutInto 0 0 t at.records []) (sym at.is)
               (subst (λ (rs : List DumpRecord). IsCutInto 0 0 (at.before ++ drop place dump) rs []) (append-nil at.records)
-              (go_on dump number place version at (drop place dump) [] [] (gap, behind ∙ ap (λ t. line_feeds gap ++ t) none, refl))),
+              (go_on dump number place version at (drop place dump) [] []
+              (gap, behind ∙ ap (λ t. line_feeds gap ++ t) none, refl))),
           at.versions,
           (refl, omega arith),
         ),
@@ -251,7 +256,8 @@ gap_in dump place gap lfs = subst (λ (t : List ℕ). IsGap t gap) (take_rest du
 -- the record of the parts that stand at a place of a dump, in the dump of its own block
 abbrev pub item_of : Parts → DumpRecord
 item_of parts =
-    record_between (block_dump parts.block) (block_place parts.block) (block_after parts.block) parts.text_from parts.after parts.version
+    record_between (block_dump parts.block) (block_place parts.block) (block_after parts.block) parts.text_from parts.after
+    parts.version
 
 module _ (dump : List ℕ) (place number before : ℕ) (parts : Parts) (at : StandsAt dump place number before parts) where
   pub own_inside : AreInside (block_dump parts.block) (block_after parts.block) parts.text_from parts.after
@@ -260,21 +266,27 @@ module _ (dump : List ℕ) (place number before : ℕ) (parts : Parts) (at : Sta
   pub own_stands : BeginsWithRecord number (drop (block_place parts.block) (block_dump parts.block)) (item_of parts) (drop parts.after (block_dump parts.block))
   own_stands =
       subst (λ (d : List ℕ). BeginsWithRecord number (drop (block_place parts.block) d)
-      (record_between d (block_place parts.block) (block_after parts.block) parts.text_from parts.after parts.version) (drop parts.after d)) (sym at.dump_is)
+      (record_between d (block_place parts.block) (block_after parts.block) parts.text_from parts.after parts.version)
+      (drop parts.after d)) (sym at.dump_is)
       (subst (λ (p : ℕ). BeginsWithRecord number (drop p dump)
-      (record_between dump p (block_after parts.block) parts.text_from parts.after parts.version) (drop parts.after dump)) (sym at.place_is) at.stands)
+      (record_between dump p (block_after parts.block) parts.text_from parts.after parts.version)
+      (drop parts.after dump)) (sym at.place_is) at.stands)
 
-  pub item_is : record_between dump place (block_after parts.block) parts.text_from parts.after parts.version ≡ item_of parts
+  pub item_is : record_between dump place (block_after parts.block) parts.text_from parts.after parts.version
+      ≡ item_of parts
   item_is =
-      ap (λ p. record_between dump p (block_after parts.block) parts.text_from parts.after parts.version) (sym at.place_is)
-      ∙ ap (λ d. record_between d (block_place parts.block) (block_after parts.block) parts.text_from parts.after parts.version) (sym at.dump_is)
+      ap (λ p. record_between dump p (block_after parts.block) parts.text_from parts.after parts.version)
+      (sym at.place_is)
+      ∙ ap (λ d. record_between d (block_place parts.block) (block_after parts.block) parts.text_from parts.after
+      parts.version) (sym at.dump_is)
 
   pub own_number : IsRecordOf dump number (item_of parts) → IsRecordOf (block_dump parts.block) number (item_of parts)
   own_number is = subst (λ (d : List ℕ). IsRecordOf d number (item_of parts)) (sym at.dump_is) is
 
 module _ (dump : List ℕ) (number place version gap : ℕ) (parts : Parts) (up : IsCutUpTo dump number place version)
     (lfs : IsGap (drop place dump) gap) (at : StandsAt dump (place + gap) number version parts) where
-  stands_as : record_between dump (place + gap) (block_after parts.block) parts.text_from parts.after parts.version ≡ item_of parts
+  stands_as : record_between dump (place + gap) (block_after parts.block) parts.text_from parts.after parts.version
+      ≡ item_of parts
   stands_as = item_is dump (place + gap) number version parts at
 
   in_force : parts.version ≡ version_from version (headers_between dump (place + gap) (block_after parts.block))
@@ -293,8 +305,8 @@ module _ (dump : List ℕ) (number place version gap : ℕ) (parts : Parts) (up 
       let end = at.inside.end in
       omega arith
 
-pub room_behind : (dump : List ℕ) (number place version gap : ℕ) → IsCutUpTo dump number place version → IsGap (drop place dump) gap
-    → place + gap ≤ length dump
+pub room_behind : (dump : List ℕ) (number place version gap : ℕ) → IsCutUpTo dump number place version
+    → IsGap (drop place dump) gap → place + gap ≤ length dump
 room_behind dump number place version gap up lfs =
     let at = cut_at dump number place version up in
     let sizes = ap length at.is ∙ length-append at.before (drop place dump) in

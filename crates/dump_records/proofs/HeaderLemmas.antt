@@ -137,7 +137,8 @@ module _ (headers : List Header) (good : has_bad_number headers ≡ false) where
 -- a version that is read is a number
 pub version_there : (number : ℕ) (headers : List Header) → has_bad_version number headers ≡ false
     → is_some (header_number version_name headers) ≡ has_header version_name headers
-version_there number headers good = cases (has_header version_name headers) refl (header_number version_name headers) refl
+version_there number headers good =
+    cases (has_header version_name headers) refl (header_number version_name headers) refl
   where
     read : (has_header version_name headers
         && not (is_read_version (unwrap_or (header_number version_name headers) 0))) ≡ false
@@ -160,7 +161,9 @@ version_said headers (Version number) before said =
     let has : has_header version_name headers ≡ true = sym said.version in
     let found : header_number version_name headers ≡ Some number = sym said.version_number in
     rw (has, found) refl
-version_said headers Uuid before said = let has : has_header version_name headers ≡ false = sym said.version in rw has refl
+version_said headers Uuid before said =
+    let has : has_header version_name headers ≡ false = sym said.version in
+    rw has refl
 version_said headers (Revision number) before said =
     let has : has_header version_name headers ≡ false = sym said.version in
     rw has refl

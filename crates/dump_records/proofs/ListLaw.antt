@@ -141,8 +141,13 @@ stand number place version text = by_block (find_block text)
             let size = text_length headers in
             let room : props + size ≤ length rest = ltb-false (length rest) (props + size) is in
             let behind = length-drop props rest in
-            Here (record { place = place; version = version_from version headers; headers = headers; props = take props rest; text = take size (drop props rest) })
-            (drop size (drop props rest)) refl refl record {
+            Here (record {
+              place = place;
+              version = version_from version headers;
+              headers = headers;
+              props = take props rest;
+              text = take size (drop props rest);
+            }) (drop size (drop props rest)) refl refl record {
               block = b.block;
               lawful = good;
               props_fit = length-take-le props rest (omega arith);
@@ -163,7 +168,8 @@ record Listed (size number place version : ℕ) (text : List ℕ) : Type 0 where
   ends : EndsWith size (number + length records) rest ending
 
 list_step : (size number place version : ℕ) (text : List ℕ) → place + length text ≡ size
-    → ((at before : ℕ) (rest : List ℕ) → at + length rest ≡ size → length rest < length text → Listed size (number + 1) at before rest)
+    → ((at before : ℕ) (rest : List ℕ) → at + length rest ≡ size → length rest < length text
+    → Listed size (number + 1) at before rest)
     → Listed size number place version text
 list_step size number place version text fits more = by_gap (strip text)
   where
@@ -180,7 +186,8 @@ list_step size number place version text fits more = by_gap (strip text)
         by_stand (Here r after at in_force b) =
             let parts = ap length b.spelled ∙ length-append (record_text r) after in
             let some = record_some r in
-            let left = more (r.place + length (record_text r)) r.version after (let s = sizes in omega arith) (let s = sizes in omega arith) in
+            let left = more (r.place + length (record_text r)) r.version after (let s = sizes in omega arith)
+            (let s = sizes in omega arith) in
             record {
               records = r ∷ left.records;
               rest = left.rest;
@@ -223,7 +230,8 @@ list (suc fuel) size number place version text fits small = list_step size numbe
 pub each_dump_has_one_list : EachDumpHasOneList
 each_dump_has_one_list dump =
     let l = list (length dump) (length dump) 0 0 0 dump (omega arith) (omega arith) in
-    let has : HasRecords dump l.records l.ending = (l.rest, l.cut, l.versions, has_ending l.records l.rest l.ending l.ends) in
+    let has : HasRecords dump l.records l.ending =
+    (l.rest, l.cut, l.versions, has_ending l.records l.rest l.ending l.ends) in
     (l.records, l.ending, has, λ others end other. records_once dump others l.records end l.ending other has)
   where
     no_records : (rs : List DumpRecord) → 0 + length rs ≡ 0 → rs ≡ []

@@ -132,7 +132,8 @@ pub standing : (dump : List ℕ) (number place props_from text_from after versio
     → text_from ≡ props_from + props → after ≡ text_from + text → after ≤ length dump
     → BeginsWithRecord number (drop place dump) (record_between dump place props_from text_from after version)
     (drop after dump)
-standing dump number place props_from text_from after version props text stands lawful props_is text_is text_at after_at end =
+standing dump number place props_from text_from after version props text stands lawful props_is text_is text_at
+    after_at end =
     let b = stands.block in
     let headers = headers_between dump place props_from in
     let props_count : text_from - props_from ≡ props = omega arith in
@@ -207,7 +208,8 @@ module _ (dump : List ℕ) (place number : ℕ) (b : Block) (dump_is : block_dum
       → version ≡ unwrap_or (version_in header.parts) before
       → lengths.props + lengths.text ≤ length dump - block_after b
       → text_from ≡ block_after b + lengths.props → after ≡ text_from + lengths.text
-      → StandsAt dump place number before (record { block = b; header = header; version = version; text_from = text_from; after = after })
+      → StandsAt dump place number before
+      (record { block = b; header = header; version = version; text_from = text_from; after = after })
   stands_here header lengths before version text_from after says found in_force fits text_at after_at =
       let inside = here.inside in
       record {

@@ -18,9 +18,11 @@ header_coded = coded_via (coded× (coded_list coded_ℕ) (coded_list coded_ℕ))
     (λ x y e. header-eq x y (ap (λ p. p.0) e) (ap (λ p. p.1) e))
 
 pub record_coded : Coded DumpRecord
-record_coded = coded_via (coded× coded_ℕ (coded× coded_ℕ (coded× (coded_list header_coded) (coded× (coded_list coded_ℕ) (coded_list coded_ℕ)))))
+record_coded = coded_via (coded× coded_ℕ (coded× coded_ℕ (coded× (coded_list header_coded)
+    (coded× (coded_list coded_ℕ) (coded_list coded_ℕ)))))
     (λ (r : DumpRecord). (r.place, (r.version, (r.headers, (r.props, r.text)))))
-    (λ x y e. record-eq x y (ap (λ p. p.0) e) (ap (λ p. p.1.0) e) (ap (λ p. p.1.1.0) e) (ap (λ p. p.1.1.1.0) e) (ap (λ p. p.1.1.1.1) e))
+    (λ x y e. record-eq x y (ap (λ p. p.0) e) (ap (λ p. p.1.0) e) (ap (λ p. p.1.1.0) e) (ap (λ p. p.1.1.1.0) e)
+    (ap (λ p. p.1.1.1.1) e))
 
 pub same_records : (rs ss : List DumpRecord) → IsProp (rs ≡ ss)
 same_records rs ss = Coded-set (coded_list record_coded) rs ss
@@ -45,11 +47,13 @@ begins_prefix dump rs ss (rest, cut, have) =
 
 -- two lists of the first records of a text, of one length, are one
 cut_once : (number place before : ℕ) (text x y : List ℕ) (rs ss : List DumpRecord) → length rs ≡ length ss
-    → IsCutInto number place text rs x → IsCutInto number place text ss y → HaveVersions before rs → HaveVersions before ss → rs ≡ ss
+    → IsCutInto number place text rs x → IsCutInto number place text ss y
+    → HaveVersions before rs → HaveVersions before ss → rs ≡ ss
 cut_once number place before text x y [] [] same cut cut' have have' = refl
 cut_once number place before text x y [] (s ∷ ss) same cut cut' have have' = absurd (omega arith)
 cut_once number place before text x y (r ∷ rs) [] same cut cut' have have' = absurd (omega arith)
-cut_once number place before text x y (r ∷ rs) (s ∷ ss) same (lfs, start, after, at, is, b, more) (lfs', start', after', at', is', c, more') (v, have) (v', have') =
+cut_once number place before text x y (r ∷ rs) (s ∷ ss) same (lfs, start, after, at, is, b, more)
+    (lfs', start', after', at', is', c, more') (v, have) (v', have') =
     let gaps = blank_once lfs lfs' start start' (front_of number start r after b) (front_of number start' s after' c) (sym at ∙ at') in
     let places : r.place ≡ s.place = is ∙ ap (λ (k : ℕ). place + k) gaps.0 ∙ sym is' in
     let b' = subst (λ (t : List ℕ). BeginsWithRecord number t r after) gaps.1 b in
@@ -58,7 +62,8 @@ cut_once number place before text x y (r ∷ rs) (s ∷ ss) same (lfs, start, af
     let ends : s.place + length (record_text s) ≡ r.place + length (record_text r) = ap (λ (d : DumpRecord). d.place + length (record_text d)) (sym one.0) in
     let moved = subst (λ (k : ℕ). IsCutInto (number + 1) k after ss y) ends (subst (λ (t : List ℕ). IsCutInto (number + 1) (s.place + length (record_text s)) t ss y) (sym one.1) more') in
     let have_same = subst (λ (w : ℕ). HaveVersions w ss) (sym versions) have' in
-    let rest = cut_once (number + 1) (r.place + length (record_text r)) r.version after x y rs ss (omega arith) more moved have have_same in
+    let rest = cut_once (number + 1) (r.place + length (record_text r)) r.version after x y rs ss (omega arith)
+    more moved have have_same in
     (λ i. one.0 i ∷ rest i)
 
 pub begins_once : (dump : List ℕ) (rs ss : List DumpRecord) → length rs ≡ length ss → BeginsWithRecords dump rs → BeginsWithRecords dump ss → rs ≡ ss
@@ -76,10 +81,13 @@ cut_within size number place text x y [] (s ∷ ss) e (lfs, at, stop) ends (lfs'
 cut_within size number place text x y (r ∷ all) (s ∷ ss) e (lfs, start, after, at, is, b, more) ends (lfs', start', after', at', is', c, more') =
     let gaps = blank_once lfs lfs' start start' (front_of number start r after b) (front_of number start' s after' c) (sym at ∙ at') in
     let places : r.place ≡ s.place = is ∙ ap (λ (k : ℕ). place + k) gaps.0 ∙ sym is' in
-    let one = parts_once number start' r s after after' (subst (λ (t : List ℕ). BeginsWithRecord number t r after) gaps.1 b) c in
-    let sizes : length (record_text r) ≡ length (record_text s) = λ i. length (block_text (one.0 i) ++ one.1 i ++ one.2 i) in
+    let one = parts_once number start' r s after after'
+    (subst (λ (t : List ℕ). BeginsWithRecord number t r after) gaps.1 b) c in
+    let sizes : length (record_text r) ≡ length (record_text s) =
+    λ i. length (block_text (one.0 i) ++ one.1 i ++ one.2 i) in
     let at_end : s.place + length (record_text s) ≡ r.place + length (record_text r) = omega arith in
-    let moved = subst (λ (k : ℕ). IsCutInto (number + 1) k after ss y) at_end (subst (λ (t : List ℕ). IsCutInto (number + 1) (s.place + length (record_text s)) t ss y) (sym one.3) more') in
+    let moved = subst (λ (k : ℕ). IsCutInto (number + 1) k after ss y) at_end
+    (subst (λ (t : List ℕ). IsCutInto (number + 1) (s.place + length (record_text s)) t ss y) (sym one.3) more') in
     let count : number + length (r ∷ all) ≡ number + 1 + length all = omega arith in
     let left = cut_within size (number + 1) (r.place + length (record_text r)) after x y all ss e more (subst (λ (k : ℕ). EndsWith size k x e) count ends) moved in
     omega arith

@@ -27,8 +27,8 @@ begins number text r after b = record {
   spelled = b.spelled ∙ append_assoc (block_text r.headers ++ r.props) r.text after ∙ append_assoc (block_text r.headers) r.props (r.text ++ after);
 }
 
-pub record-eq : (r s : DumpRecord) → r.place ≡ s.place → r.version ≡ s.version → r.headers ≡ s.headers → r.props ≡ s.props
-    → r.text ≡ s.text → r ≡ s
+pub record-eq : (r s : DumpRecord) → r.place ≡ s.place → r.version ≡ s.version → r.headers ≡ s.headers
+    → r.props ≡ s.props → r.text ≡ s.text → r ≡ s
 record-eq r s p v h q t = λ i. record { place = p i; version = v i; headers = h i; props = q i; text = t i }
 
 -- a text begins with the parts of at most one record
@@ -42,7 +42,8 @@ parts_once number text r s x y b c =
     (blocks.0, contents.0, texts.0, texts.1)
 
 -- at a place, under a version, stands at most one record
-pub record_once : (number : ℕ) (text : List ℕ) (r s : DumpRecord) (x y : List ℕ) → r.place ≡ s.place → r.version ≡ s.version
+pub record_once : (number : ℕ) (text : List ℕ) (r s : DumpRecord) (x y : List ℕ)
+    → r.place ≡ s.place → r.version ≡ s.version
     → BeginsWithRecord number text r x → BeginsWithRecord number text s y → (r ≡ s) × (x ≡ y)
 record_once number text r s x y place version b c =
     let same = parts_once number text r s x y b c in
@@ -180,20 +181,28 @@ goes_on size count x Ending.Whole r after b a =
 goes_on size count x (Ending.Broken fault place) r after b a = none_holds count x r after b fault a.2.holds
 
 -- two lists of records of one text, which end, are one
-cuts_once : (size number place before count other : ℕ) (text : List ℕ) (rs ss : List DumpRecord) (x y : List ℕ) (e f : Ending) → count ≡ number + length rs → other ≡ number + length ss → IsCutInto number place text rs x → IsCutInto number place text ss y → HaveVersions before rs → HaveVersions before ss → EndsWith size count x e → EndsWith size other y f → (rs ≡ ss) × (e ≡ f)
-cuts_once size number place before count other text [] [] x y e f n m (lfs, at, front) (lfs', at', front') have have' a b =
+cuts_once : (size number place before count other : ℕ) (text : List ℕ) (rs ss : List DumpRecord) (x y : List ℕ)
+    (e f : Ending) → count ≡ number + length rs → other ≡ number + length ss
+    → IsCutInto number place text rs x → IsCutInto number place text ss y
+    → HaveVersions before rs → HaveVersions before ss
+    → EndsWith size count x e → EndsWith size other y f → (rs ≡ ss) × (e ≡ f)
+cuts_once size number place before count other text [] [] x y e f n m (lfs, at, front) (lfs', at', front') have have'
+    a b =
     let same = blank_once lfs lfs' x y front front' (sym at ∙ at') in
     let counts : other ≡ count = omega arith in
     (refl, ends_once size count x y e f same.1 a (subst (λ (k : ℕ). EndsWith size k y f) counts b))
-cuts_once size number place before count other text [] (s ∷ ss) x y e f n m (lfs, at, front) (lfs', start, after, at', is, b, more) have have' a z =
+cuts_once size number place before count other text [] (s ∷ ss) x y e f n m (lfs, at, front)
+    (lfs', start, after, at', is, b, more) have have' a z =
     let same = blank_once lfs lfs' x start front (block_front start s.headers (content s after) (begins number start s after b)) (sym at ∙ at') in
     let counts : number ≡ count = omega arith in
     absurd (goes_on size count x e s after (subst (λ (k : ℕ). BeginsWithRecord k x s after) counts (subst (λ (t : List ℕ). BeginsWithRecord number t s after) (sym same.1) b)) a)
-cuts_once size number place before count other text (r ∷ rs) [] x y e f n m (lfs, start, after, at, is, b, more) (lfs', at', front') have have' a z =
+cuts_once size number place before count other text (r ∷ rs) [] x y e f n m (lfs, start, after, at, is, b, more)
+    (lfs', at', front') have have' a z =
     let same = blank_once lfs lfs' start y (block_front start r.headers (content r after) (begins number start r after b)) front' (sym at ∙ at') in
     let counts : number ≡ other = omega arith in
     absurd (goes_on size other y f r after (subst (λ (k : ℕ). BeginsWithRecord k y r after) counts (subst (λ (t : List ℕ). BeginsWithRecord number t r after) same.1 b)) z)
-cuts_once size number place before count other text (r ∷ rs) (s ∷ ss) x y e f n m (lfs, start, after, at, is, b, more) (lfs', start', after', at', is', c, more') (v, have) (v', have') a z =
+cuts_once size number place before count other text (r ∷ rs) (s ∷ ss) x y e f n m
+    (lfs, start, after, at, is, b, more) (lfs', start', after', at', is', c, more') (v, have) (v', have') a z =
     let same = blank_once lfs lfs' start start' (block_front start r.headers (content r after) (begins number start r after b)) (block_front start' s.headers (content s after') (begins number start' s after' c)) (sym at ∙ at') in
     let places : r.place ≡ s.place = is ∙ ap (λ (k : ℕ). place + k) same.0 ∙ sym is' in
     let b' = subst (λ (t : List ℕ). BeginsWithRecord number t r after) same.1 b in
@@ -202,7 +211,8 @@ cuts_once size number place before count other text (r ∷ rs) (s ∷ ss) x y e 
     let ends : s.place + length (record_text s) ≡ r.place + length (record_text r) = ap (λ (d : DumpRecord). d.place + length (record_text d)) (sym one.0) in
     let moved = subst (λ (k : ℕ). IsCutInto (number + 1) k after ss y) ends (subst (λ (t : List ℕ). IsCutInto (number + 1) (s.place + length (record_text s)) t ss y) (sym one.1) more') in
     let have_same = subst (λ (w : ℕ). HaveVersions w ss) (sym versions) have' in
-    let rest = cuts_once size (number + 1) (r.place + length (record_text r)) r.version count other after rs ss x y e f (omega arith) (omega arith) more moved have have_same a z in
+    let rest = cuts_once size (number + 1) (r.place + length (record_text r)) r.version count other after rs ss x y e f
+    (omega arith) (omega arith) more moved have have_same a z in
     ((λ i. one.0 i ∷ rest.0 i), rest.1)
 
 pub ending_of : (dump : List ℕ) (records : List DumpRecord) (rest : List ℕ) (e : Ending) → HasEnding dump records rest e → EndsWith (length dump) (length records) rest e
@@ -213,7 +223,8 @@ ending_of dump records rest (Ending.Broken fault place) h =
 -- a dump has at most one list of records, which ends in one way
 pub records_once : (dump : List ℕ) (rs ss : List DumpRecord) (e f : Ending) → HasRecords dump rs e → HasRecords dump ss f → (rs ≡ ss) × (e ≡ f)
 records_once dump rs ss e f (x, cut, have, ends) (y, cut', have', ends') =
-    cuts_once (length dump) 0 0 0 (length rs) (length ss) dump rs ss x y e f (omega arith) (omega arith) cut cut' have have'
+    cuts_once (length dump) 0 0 0 (length rs) (length ss) dump rs ss x y e f (omega arith) (omega arith) cut cut'
+    have have'
     (ending_of dump rs x e ends) (ending_of dump ss y f ends')
 
 -- no record's bytes are a proper prefix of another record's

@@ -174,7 +174,8 @@ delta number lines value = record file_record {
   headers = lines ++ header (codes "Text-delta") value ∷ header (codes "Prop-delta") (codes "true") ∷ [];
 }
 
-delta_under_three : (has_text_delta (delta 3 node (codes "true")) ≡ true) × (has_prop_delta (delta 3 node (codes "true")) ≡ true)
+delta_under_three : (has_text_delta (delta 3 node (codes "true")) ≡ true)
+    × (has_prop_delta (delta 3 node (codes "true")) ≡ true)
 delta_under_three = (refl, refl)
 
 no_delta_under_two : (has_text_delta (delta 2 node (codes "true")) ≡ false)

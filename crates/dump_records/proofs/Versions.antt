@@ -17,6 +17,7 @@ versions_append version [] ss have more = more
 versions_append version (r ∷ rs) ss (is, have) more = (is, versions_append r.version rs ss have more)
 
 -- the first of some records with their versions have theirs
-pub versions_prefix : (version : ℕ) (rs ss : List DumpRecord) → HaveVersions version (rs ++ ss) → HaveVersions version rs
+pub versions_prefix : (version : ℕ) (rs ss : List DumpRecord) → HaveVersions version (rs ++ ss)
+    → HaveVersions version rs
 versions_prefix version [] ss have = tt
 versions_prefix version (r ∷ rs) ss (is, have) = (is, versions_prefix r.version rs ss have)

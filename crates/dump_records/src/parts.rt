@@ -30,8 +30,8 @@ pub(crate) fn count_line_feeds(text: &[u8]) -> usize
     text.len()
 }
 
-/// The record with this number at a place of the dump, where this format version was in force before; or the first fault
-/// that holds there.
+/// The record with this number at a place of the dump, where this format version was in force before; or the first
+/// fault that holds there.
 pub(crate) fn parts_at(
     dump: &[u8],
     place: usize,

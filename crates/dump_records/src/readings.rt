@@ -28,8 +28,9 @@ pub(crate) struct RecordHeader<'a> {
     pub(crate) has_text: bool,
     pub(crate) md5: Option<&'a [u8]>,
     pub(crate) sha1: Option<&'a [u8]>,
-    /// Whether the lines say `true` of this; it counts in a node under version 3 alone.
+    /// Whether the header of a delta says `true`, which counts in a node under version 3 alone.
     pub(crate) text_delta: bool,
+    /// The same of the property block.
     pub(crate) prop_delta: bool,
     pub(crate) is_written: bool,
 }

@@ -68,7 +68,8 @@ returns c =
     let is = sym c.requires.numbers.revision ∙ c.in_default-revision.is in
     let no_revision : has_header revision_name lines ≡ false = revision_there lines c.requires.number ∙ ap is_some is in
     let no_node : has_header path_name lines ≡ false = value_there path_name lines _ c.in_default.ensures.value in
-    let no_version : has_header version_name lines ≡ false = sym c.requires.version ∙ ap is_some c.in_default-version.is in
+    let no_version : has_header version_name lines ≡ false =
+    sym c.requires.version ∙ ap is_some c.in_default-version.is in
     record {
       version = sym no_version;
       uuid = sym ((deciding lines c.requires.kind).left no_version no_revision no_node);

@@ -6,4 +6,5 @@ use Rattle.dump_records.proofs.headers.read_header.Goals as goal
 pub parts_of-requires-clause-version : goal.parts_of-requires-clause-version
 parts_of-requires-clause-version c =
     ap is_some c.numbers_of-numbers.ensures.version
-    ∙ version_there c.args.number (lines_of c.args.headers.now) (sym c.breaks_version.ensures ∙ c.if-breaks_version.false)
+    ∙ version_there c.args.number (lines_of c.args.headers.now)
+    (sym c.breaks_version.ensures ∙ c.if-breaks_version.false)
