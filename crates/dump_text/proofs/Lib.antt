@@ -8,7 +8,6 @@ pub mod ValueLemmas
 pub mod PartLemmas
 pub mod PropertyLemmas
 pub mod WrittenLemmas
-pub mod PropertyTruth
 pub mod Splits
 pub mod PropertyChoice
 pub mod Values

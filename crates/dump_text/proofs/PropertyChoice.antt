@@ -1,11 +1,12 @@
 -- Each text is a property block or is none, so one that can't be none is one.
 use Rattle.std.proofs.Common.{◌≡◌, ◌⊎◌, ℕ, zero, suc, ◌+◌, ◌<◌, ◌≤◌, nat_lt, Bool, true, false, ◌==◌, List, [], ◌∷◌, ◌++◌, take, drop, length, get_or, refl, sym, ap, ◌∙◌, arith, Option, Some, None, inl, inr, bytes_eq}
+use Rattle.std.proofs.Math.Logic.{∥∥₁_elim}
 use Rattle.std.proofs.lemmas.List.{take-append-drop, drop_more, length-take-le}
 use Rattle.std.proofs.lemmas.Bool.{eqb-true, eqb-false}
 use Rattle.std.proofs.lemmas.Slice.Eq.{bytes_eq-Decides}
 use borrow.Author.Tests.{ltb-true, ltb-false}
 use Rattle.dump_text.specs.Number.{number_of}
-use Rattle.dump_text.specs.PropertyList.{Property, HasProperties, block_end}
+use Rattle.dump_text.specs.PropertyList.{Property, IsPropertyBlock, HasProperties, HasPropertyChanges, has_deletes, block_end}
 use Rattle.dump_text.specs.steps.Scanning.{IsFirstLine}
 use Rattle.dump_text.specs.steps.PropertyScan.{IsSized, HasSized, HasEntry, HasEntries}
 use Rattle.dump_text.proofs.Unique.{tail-eq}
@@ -13,7 +14,7 @@ use Rattle.dump_text.proofs.ScanLemmas.{clash}
 use Rattle.dump_text.proofs.Splits.{Split, split}
 use Rattle.dump_text.proofs.Splits.Split.{Cut, Lacks}
 use Rattle.dump_text.proofs.PartLemmas.{sized_cut, line_of, no_sized-number, sized_room}
-use Rattle.dump_text.proofs.PropertyLemmas.{EntryParts, entry_parts, entry_of, no_entry-value, entry_shorter, entries_more, entries_end}
+use Rattle.dump_text.proofs.PropertyLemmas.{EntryParts, no_entry-name, no_entry-value, entry_shorter, entries_more, entries_end, property_block_once}
 
 -- the part of this letter at the front of a text, or that there is none
 data Sized (letter : ℕ) (text : List ℕ) : Type 0 where
@@ -82,13 +83,25 @@ front_choice : (text : List ℕ) → Front text
 front_choice text = by_name (sized_choice 75 text)
   where
     by_name : Sized 75 text → Front text
-    by_name (NoPart none) = NoEntry (λ (p, entry, rest, is, one).
-        let parts = entry_parts text entry rest p is one in none (parts.name_digits, p.name, parts.behind, parts.name))
+    by_name (NoPart no_set) = by_deleted (sized_choice 68 text)
+      where
+        by_deleted : Sized 68 text → Front text
+        by_deleted (NoPart no_delete) = NoEntry (no_entry-name text no_set no_delete)
+        by_deleted (Part d b x named) =
+            Entry (record { name = b; value = None }) x (inr (record { digits = d; none = refl; name = named }))
     by_name (Part d b x named) = by_value (sized_choice 86 x)
       where
         by_value : Sized 86 x → Front text
         by_value (NoPart none) = NoEntry (no_entry-value text d b x named none)
-        by_value (Part e c y valued) = Entry (record { name = b; value = c }) y (entry_of text d b x e c y named valued)
+        by_value (Part e c y valued) = Entry (record { name = b; value = Some c }) y (inl (record {
+          name_digits = d;
+          value_digits = e;
+          bytes = c;
+          behind = x;
+          set = refl;
+          name = named;
+          value = valued;
+        }))
 
 -- entries up to their end, or that there are none such
 entries_step : (text : List ℕ) → ((rest : List ℕ) → length rest < length text → HasEntries rest ⊎ (¬ HasEntries rest))
@@ -113,9 +126,10 @@ entries_choice : (fuel : ℕ) (text : List ℕ) → length text ≤ fuel → Has
 entries_choice zero text small = entries_step text (λ rest less. absurd (omega arith))
 entries_choice (suc fuel) text small = entries_step text (λ rest less. entries_choice fuel rest (omega arith))
 
-pub properties_or_not : (text : List ℕ) → HasProperties text ⊎ (¬ HasProperties text)
-properties_or_not [] = inl ([], inl (refl, refl))
-properties_or_not (c ∷ text) = elim (entries_choice (length (c ∷ text)) (c ∷ text) (omega arith)) [
+-- a text is a property block or is none
+pub changes_or_not : (text : List ℕ) → HasPropertyChanges text ⊎ (¬ HasPropertyChanges text)
+changes_or_not [] = inl ([], inl (refl, refl))
+changes_or_not (c ∷ text) = elim (entries_choice (length (c ∷ text)) (c ∷ text) (omega arith)) [
   | inl (ps, all) ↦ inl (ps, inr all)
   | inr none ↦ inr (λ (ps, b). elim b [
     | inl empty ↦ let bad : c ∷ text ≡ [] = empty.0 in cc
@@ -123,8 +137,32 @@ properties_or_not (c ∷ text) = elim (entries_choice (length (c ∷ text)) (c �
   ])
 ]
 
+-- and the same of one without deleted properties
+pub properties_or_not : (text : List ℕ) → HasProperties text ⊎ (¬ HasProperties text)
+properties_or_not text = elim (changes_or_not text) [
+  | inl (ps, block) ↦ by_deletes ps block (has_deletes ps) refl
+  | inr none ↦ inr (λ (ps, block, kept). none (ps, block))
+]
+  where
+    by_deletes : (ps : List Property) → IsPropertyBlock text ps → (b : Bool) → has_deletes ps ≡ b
+        → HasProperties text ⊎ (¬ HasProperties text)
+    by_deletes ps block false kept = inl (ps, block, kept)
+    by_deletes ps block true deletes = inr (λ (qs, other, kept).
+        let bad : true ≡ false = sym deletes ∙ ap has_deletes (property_block_once text ps qs block other) ∙ kept in cc)
+
+-- a text that can't be no property block is one
 pub properties_stable : (text : List ℕ) → ¬ ¬ HasProperties text → HasProperties text
 properties_stable text possible = elim (properties_or_not text) [
   | inl has ↦ has
   | inr none ↦ absurd (possible none)
 ]
+
+pub changes_stable : (text : List ℕ) → ¬ ¬ HasPropertyChanges text → HasPropertyChanges text
+changes_stable text possible = elim (changes_or_not text) [
+  | inl has ↦ has
+  | inr none ↦ absurd (possible none)
+]
+
+-- a truncated proof that a text is a property block is one
+pub untruncated : (text : List ℕ) → ∥ HasPropertyChanges text ∥₁ → HasPropertyChanges text
+untruncated text reads = changes_stable text (λ none. ∥∥₁_elim reads (λ x y. absurd x) none)

@@ -1,5 +1,5 @@
 -- Worked values of the definitions, computed and proved by the kernel.
-use Rattle.std.proofs.Common.{◌≡◌, ℕ, ◌⊎◌, refl, ap, ◌∙◌, true, false, List, [], ◌∷◌, ◌++◌, length, Some, None, codes, inl, inr, arith, lit<, bytes_eq}
+use Rattle.std.proofs.Common.{◌≡◌, ℕ, ◌<◌, ◌⊎◌, refl, ap, ◌∙◌, true, false, List, [], ◌∷◌, ◌++◌, length, Some, None, codes, inl, inr, arith, lit<, bytes_eq}
 use Rattle.std.specs.Fmt.{digits}
 use Rattle.std.specs.List.{list_any}
 use Rattle.dump_text.specs.declared.fault.FaultKind.{FaultKind}
@@ -10,8 +10,9 @@ use Rattle.dump_text.specs.Names.{name_text, deciding_names, length_names, copy_
 use Rattle.dump_text.specs.HeaderLine.{Header, header_text, has_byte, is_header, is_named, has_header, count_named, header_value, with_header_value}
 use Rattle.dump_text.specs.HeaderBlock.{is_block, lines_bytes, block_text, BeginsWithBlock, HasBlock, starts_with_lf, has_empty_line, block_fault}
 use Rattle.dump_text.specs.Number.{is_number, number_of, spelled_number}
-use Rattle.dump_text.specs.PropertyList.{Property, sized_text, IsEntry, AreEntries, IsPropertyBlock, HasProperties, entry_text, property_block_text, property_value}
+use Rattle.dump_text.specs.PropertyList.{Property, sized_text, IsSetting, IsDeletion, IsEntry, AreEntries, IsPropertyBlock, has_deletes, HasProperties, HasPropertyChanges, change_text, entry_text, property_block_text, property_value}
 use Rattle.dump_text.proofs.Unique.{block_some}
+use Rattle.dump_text.proofs.PropertyLemmas.{property_block_once}
 
 -- FaultTable
 
@@ -206,7 +207,10 @@ spelled = refl
 -- PropertyList
 
 abbrev property : List ℕ → List ℕ → Property
-property name value = record { name = name; value = value }
+property name value = record { name = name; value = Some value }
+
+abbrev deleted : List ℕ → Property
+deleted name = record { name = name; value = None }
 
 abbrev log : Property
 log = property (codes "svn:log") (codes "hi")
@@ -218,11 +222,24 @@ log_text : entry_text log ≡ codes "K 7\nsvn:log\nV 2\nhi\n"
 unfolding digits
 log_text = refl
 
+deletion_text : entry_text (deleted (codes "svn:log")) ≡ codes "D 7\nsvn:log\n"
+unfolding digits
+deletion_text = refl
+
+log_setting : IsSetting (codes "K 7\nsvn:log\nV 2\nhi\n") (codes "svn:log") (codes "hi")
+log_setting = (codes "7", codes "2", refl, refl, refl)
+
 log_entry : IsEntry (codes "K 007\nsvn:log\nV 2\nhi\n") log
-log_entry = (codes "007", codes "2", refl, refl, refl)
+log_entry = inl (codes "hi", refl, (codes "007", codes "2", refl, refl, refl))
+
+log_deletion : IsDeletion (codes "D 07\nsvn:log\n") (codes "svn:log")
+log_deletion = (codes "07", refl, refl)
+
+deleted_entry : IsEntry (codes "D 07\nsvn:log\n") (deleted (codes "svn:log"))
+deleted_entry = inr (refl, log_deletion)
 
 one_entry : AreEntries (codes "K 7\nsvn:log\nV 2\nhi\nPROPS-END\n") (log ∷ [])
-one_entry = (codes "K 7\nsvn:log\nV 2\nhi\n", codes "PROPS-END\n", refl, (codes "7", codes "2", refl, refl, refl), refl)
+one_entry = (codes "K 7\nsvn:log\nV 2\nhi\n", codes "PROPS-END\n", refl, inl (codes "hi", refl, log_setting), refl)
 
 no_end : ¬ AreEntries (codes "PROPS-END") []
 no_end e = let same = ap length e in omega arith
@@ -234,28 +251,62 @@ end_alone : IsPropertyBlock (codes "PROPS-END\n") []
 end_alone = inr refl
 
 has_properties : HasProperties (codes "K 7\nsvn:log\nV 2\nhi\nPROPS-END\n")
-has_properties = (log ∷ [], inr one_entry)
+has_properties = (log ∷ [], inr one_entry, refl)
+
+deletion_block : AreEntries (codes "D 7\nsvn:log\nPROPS-END\n") (deleted (codes "svn:log") ∷ [])
+deletion_block =
+    (codes "D 7\nsvn:log\n", codes "PROPS-END\n", refl, inr (refl, (codes "7", refl, refl)), refl)
+
+has_changes : HasPropertyChanges (codes "D 7\nsvn:log\nPROPS-END\n")
+has_changes = (deleted (codes "svn:log") ∷ [], inr deletion_block)
+
+one_deleted : has_deletes (log ∷ deleted (codes "a") ∷ []) ≡ true
+one_deleted = refl
+
+none_deleted : has_deletes (log ∷ []) ≡ false
+none_deleted = refl
+
+-- a deleted property is no property
+not_without : ¬ HasProperties (codes "D 7\nsvn:log\nPROPS-END\n")
+not_without (ps, block, kept) =
+    let bad : true ≡ false = ap has_deletes (property_block_once _ (deleted (codes "svn:log") ∷ []) ps (inr deletion_block) block) ∙ kept in cc
 
 abbrev first : List ℕ → ℕ
 first [] = 0
 first (b ∷ text) = b
 
-apart : ¬ (◌≡◌ {A = ℕ} 80 75)
-apart e = omega arith
+apart : (c : ℕ) → c < 80 → ¬ (◌≡◌ {A = ℕ} 80 c)
+apart c below e = omega arith
+
+no_changes : ¬ HasPropertyChanges (codes "PROPS-END")
+no_changes ([], inl (e, _)) = let same = ap length e in omega arith
+no_changes ([], inr e) = no_end e
+no_changes (p ∷ ps, inl (_, e)) = let same = ap length e in omega arith
+no_changes (p ∷ ps, inr (entry, rest, e, inl (_, _, (_, _, _, _, spelled)), _)) =
+    apart 75 (lit< tt) (ap first (e ∙ ap (λ text. text ++ rest) spelled))
+no_changes (p ∷ ps, inr (entry, rest, e, inr (_, (_, _, spelled)), _)) =
+    apart 68 (lit< tt) (ap first (e ∙ ap (λ text. text ++ rest) spelled))
 
 pub no_properties : ¬ HasProperties (codes "PROPS-END")
-no_properties ([], inl (e, _)) = let same = ap length e in omega arith
-no_properties ([], inr e) = no_end e
-no_properties (p ∷ ps, inl (_, e)) = let same = ap length e in omega arith
-no_properties (p ∷ ps, inr (entry, rest, e, (_, _, _, _, spelled), _)) =
-    apart (ap first (e ∙ ap (λ text. text ++ rest) spelled))
+no_properties (ps, block, kept) = no_changes (ps, block)
 
 block_spelled : property_block_text (log ∷ []) ≡ codes "K 7\nsvn:log\nV 2\nhi\nPROPS-END\n"
 unfolding digits
 block_spelled = refl
 
+setting_spelled : change_text (codes "svn:log") (Some (codes "hi")) ≡ codes "K 7\nsvn:log\nV 2\nhi\n"
+unfolding digits
+setting_spelled = refl
+
 first_value : property_value (codes "svn:log") (log ∷ property (codes "svn:log") (codes "ho") ∷ []) ≡ Some (codes "hi")
 first_value = refl
 
+-- a deleted one is passed over
+value_behind_deletion : property_value (codes "svn:log") (deleted (codes "svn:log") ∷ log ∷ []) ≡ Some (codes "hi")
+value_behind_deletion = refl
+
 no_such_value : property_value (codes "svn:date") (log ∷ []) ≡ None
 no_such_value = refl
+
+deleted_value : property_value (codes "svn:log") (deleted (codes "svn:log") ∷ []) ≡ None
+deleted_value = refl

@@ -1,4 +1,5 @@
 pub mod ReadHeaders
+pub mod ScannedEntries
 pub mod Scanning
 pub mod PropertyScan
 pub mod Views

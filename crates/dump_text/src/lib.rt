@@ -5,7 +5,8 @@
 //! what is wrong there: it walks the lines once, and each [`HeaderName`] is then looked up without a
 //! walk. A block lends its lines and its values as parts of the dump: nothing is copied, and no
 //! memory is taken. [`number`] reads a number as headers have it, and [`spell`] writes one. [`Props`]
-//! is a property block: names and values, each behind its length, and their end. [`FaultKind`] names
+//! is a property block: names and values, each behind its length, and their end; under format version 3
+//! a node's block may delete properties too. [`FaultKind`] names
 //! all that may be wrong with a record of a dump, with the number and the name that users see.
 //!
 //! ```
@@ -67,7 +68,7 @@ pub use lines::{Line, Lines};
 pub use names::HeaderName;
 pub use numbers::{Digits, number, spell};
 pub use props::{Entries, Entry, Props};
-pub use writing::{push_block_end, push_header, push_property};
+pub use writing::{push_block_end, push_deletion, push_header, push_property};
 
 #[cfg(test)]
 mod tests;

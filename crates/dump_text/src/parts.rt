@@ -1,9 +1,9 @@
 //! The scan of a property block: a part of an entry, and a whole entry.
-ghost use Rattle.std.specs.Prelude.{◌≡◌, MatchOption, bytes_eq, length};
-ghost use Rattle.dump_text.specs.Number.{spelled_number};
-ghost use Rattle.dump_text.specs.steps.PropertyScan.{IsLetter, HasLetter, HasSized, IsPartOf, HasEntry, IsEntryOf};
+ghost use Rattle.std.specs.Prelude.{◌≡◌, MatchOption};
+ghost use Rattle.dump_text.specs.steps.PropertyScan.{IsLetter, HasLetter, HasSized, IsPartOf, HasEntry, IsEntryOf, is_shortest};
 
 use crate::numbers::{number, spell};
+use crate::props::Entry;
 use crate::scan::first_line;
 
 /// A part of an entry: the digits of its length, its bytes, and what stands behind it.
@@ -12,6 +12,56 @@ pub(crate) struct Part<'a> {
     pub(crate) digits: &'a [u8],
     pub(crate) bytes: &'a [u8],
     pub(crate) rest: &'a [u8],
+}
+
+/// The parts of an entry.
+#[derive(Clone, Copy)]
+pub(crate) enum Parts<'a> {
+    Set { name: Part<'a>, value: Part<'a> },
+    Deleted { name: Part<'a> },
+}
+
+impl<'a> Parts<'a> {
+    ghost use Rattle.dump_text.specs.steps.PropertyScan.{parts_property, parts_rest, are_shortest};
+    ghost use Rattle.dump_text.specs.steps.PropertyViews.{entry_property};
+
+    /// The entry.
+    pub(crate) fn entry(&self) -> Entry<'a>
+        ensures { entry_property result ≡ parts_property self.now }
+    {
+        match *self {
+            Parts::Set { name, value } => Entry {
+                name: name.bytes,
+                value: value.bytes,
+                gone: false,
+            },
+            Parts::Deleted { name } => Entry {
+                name: name.bytes,
+                value: &[],
+                gone: true,
+            },
+        }
+    }
+
+    /// What stands behind the entry.
+    pub(crate) fn rest(&self) -> &'a [u8]
+        ensures { result.now ≡ parts_rest self.now }
+    {
+        match *self {
+            Parts::Set { value, .. } => value.rest,
+            Parts::Deleted { name } => name.rest,
+        }
+    }
+
+    /// Whether no length has leading zeros.
+    pub(crate) fn are_shortest(&self) -> bool
+        ensures { result ≡ are_shortest self.now }
+    {
+        match self {
+            Parts::Set { name, value } => is_shortest(name) && is_shortest(value),
+            Parts::Deleted { name } => is_shortest(name),
+        }
+    }
 }
 
 /// What stands behind the letter and a space at the front of a text.
@@ -48,22 +98,25 @@ fn sized_part(letter: u8, text: &[u8]) -> Option<Part<'_>>
     })
 }
 
-/// The name and the value of the entry at the front of a text.
-pub(crate) fn entry(text: &[u8]) -> Option<(Part<'_>, Part<'_>)>
-    ensures { MatchOption result (¬ HasEntry text.now) (λ parts. IsEntryOf text.now parts.0 parts.1) }
+/// The parts of the entry at the front of a text.
+pub(crate) fn entry(text: &[u8]) -> Option<Parts<'_>>
+    ensures { MatchOption result (¬ HasEntry text.now) (λ parts. IsEntryOf text.now parts) }
 {
     let Some(name) = sized_part(b'K', text) else {
-        return None;
+        let Some(name) = sized_part(b'D', text) else {
+            return None;
+        };
+        return Some(Parts::Deleted { name });
     };
     let Some(value) = sized_part(b'V', name.rest) else {
         return None;
     };
-    Some((name, value))
+    Some(Parts::Set { name, value })
 }
 
 /// Whether the length has no leading zeros.
-pub(crate) fn is_shortest(part: &Part<'_>) -> bool
-    ensures { result ≡ bytes_eq part.now.digits.now (spelled_number (length part.now.bytes.now)) }
+fn is_shortest(part: &Part<'_>) -> bool
+    ensures { result ≡ is_shortest part.now }
 {
     part.digits == spell(part.bytes.len() as u64).bytes()
 }

@@ -1,13 +1,23 @@
 //! A property block, read where it stands.
-ghost use Rattle.std.specs.Prelude.{◌≡◌, ◌↔◌, List, length, bytes_eq, IsTrue, IsSome, IfSome, MatchOption, option_copied};
-ghost use Rattle.dump_text.specs.PropertyList.{Property, IsPropertyBlock, HasProperties, property_value, property_block_text};
-ghost use Rattle.dump_text.specs.steps.PropertyScan.{HasEntries, IsWritten};
+ghost use Rattle.std.specs.Prelude.{◌≡◌, ◌↔◌, List, [], length, bytes_eq, IsTrue, IsSome, IfSome, MatchOption, option_copied};
+ghost use Rattle.dump_text.specs.PropertyList.{Property, IsPropertyBlock, HasProperties, HasPropertyChanges, has_deletes, property_value, property_block_text};
+ghost use Rattle.dump_text.specs.steps.PropertyScan.{HasEntries};
+ghost use Rattle.dump_text.specs.steps.ScannedEntries.{IsScanOf};
 ghost use Rattle.dump_text.specs.steps.ReadHeaders.{IsPartBetween};
 
-use crate::parts::{entry, is_shortest};
+use crate::parts::entry;
 
 /// The line that ends a property block.
 pub(crate) const BLOCK_END: &[u8] = b"PROPS-END\n";
+
+/// What the entries of a property block are like.
+#[derive(Clone, Copy)]
+struct Scan {
+    /// Whether their text is as it is written.
+    spelled: bool,
+    /// Whether one of them deletes a property.
+    deletes: bool,
+}
 
 /// A property block.
 #[derive(Clone, Copy)]
@@ -15,27 +25,44 @@ pub struct Props<'a> {
     bytes: &'a [u8],
     /// Whether the bytes are as they are written.
     spelled: bool,
-    pub ghost reads: { ∥ HasProperties bytes.now ∥₁ },
+    /// Whether a property is deleted.
+    deletes: bool,
+    pub ghost reads: { ∥ HasPropertyChanges bytes.now ∥₁ },
     pub ghost written: { (ps : List Property) → IsPropertyBlock bytes.now ps
         → spelled ≡ bytes_eq bytes.now (property_block_text ps) },
+    pub ghost deleting: { (ps : List Property) → IsPropertyBlock bytes.now ps → deletes ≡ has_deletes ps },
 }
 
 impl<'a> Props<'a> {
     ghost use Rattle.dump_text.specs.steps.PropertyViews.{props_bytes, entries_text, HasEntriesLeft};
 
-    /// The property block that the bytes are, from the first to the last; no bytes at all are the empty list.
+    /// The property block that the bytes are, from the first to the last, with no deleted property in it; no bytes at
+    /// all are the empty list.
     pub fn read(block: &'a [u8]) -> Option<Props<'a>>
         ensures found { IsSome result ↔ HasProperties block.now }
         ensures bytes { IfSome result (λ props. props_bytes props ≡ block.now) }
     {
-        let spelled = if block.is_empty() {
-            false
+        let props = Props::read_with_deletes(block)?;
+        if props.deletes { None } else { Some(props) }
+    }
+
+    /// The same, where properties may be deleted too, as in a node of format version 3.
+    pub fn read_with_deletes(block: &'a [u8]) -> Option<Props<'a>>
+        ensures found { IsSome result ↔ HasPropertyChanges block.now }
+        ensures bytes { IfSome result (λ props. props_bytes props ≡ block.now) }
+    {
+        let scan = if block.is_empty() {
+            Scan {
+                spelled: false,
+                deletes: false,
+            }
         } else {
             read_entries(block)?
         };
         Some(Props {
             bytes: block,
-            spelled,
+            spelled: scan.spelled,
+            deletes: scan.deletes,
         })
     }
 
@@ -54,7 +81,7 @@ impl<'a> Props<'a> {
         Entries { rest: self.bytes }
     }
 
-    /// The value of the first property of that name.
+    /// The value of the first property of that name that isn't deleted.
     pub fn get(&self, name: &[u8]) -> Option<&'a [u8]>
         ensures value { (ps : List Property) → IsPropertyBlock (props_bytes self.now) ps
             → option_copied result ≡ property_value name.now ps }
@@ -63,7 +90,7 @@ impl<'a> Props<'a> {
     {
         let mut entries = self.entries();
         while let Some(entry) = entries.next() {
-            if entry.name == name {
+            if !entry.gone && entry.name == name {
                 return Some(entry.value);
             }
         }
@@ -83,14 +110,18 @@ impl<'a> Props<'a> {
 #[derive(Clone, Copy)]
 pub struct Entry<'a> {
     pub name: &'a [u8],
+    /// No bytes where the property is gone.
     pub value: &'a [u8],
+    /// Whether the property is deleted.
+    pub gone: bool,
+    pub ghost empty: { IsTrue gone → value.now ≡ [] },
 }
 
 /// The properties of a block, in their order.
 #[derive(Drop)]
 pub struct Entries<'a> {
     rest: &'a [u8],
-    pub ghost reads: { ∥ HasProperties rest.now ∥₁ },
+    pub ghost reads: { ∥ HasPropertyChanges rest.now ∥₁ },
 }
 
 impl<'a> Iterator for Entries<'a> {
@@ -104,32 +135,28 @@ impl<'a> Iterator for Entries<'a> {
     ghost remaining = { item_count entries_text };
 
     fn next(&mut self) -> Option<Entry<'a>> {
-        let Some((name, value)) = entry(self.rest) else {
+        let Some(parts) = entry(self.rest) else {
             return None;
         };
-        self.rest = value.rest;
-        Some(Entry {
-            name: name.bytes,
-            value: value.bytes,
-        })
+        self.rest = parts.rest();
+        Some(parts.entry())
     }
 }
 
-/// Whether the lengths of a text of entries and their end have no leading zero; None for any other text.
-fn read_entries(text: &[u8]) -> Option<bool>
-    ensures { MatchOption result (¬ HasEntries text.now)
-        (λ spelled. HasEntries text.now × (IsTrue spelled ↔ IsWritten text.now)) }
+/// What the entries of a text of entries and their end are like; None for any other text.
+fn read_entries(text: &[u8]) -> Option<Scan>
+    ensures { MatchOption result (¬ HasEntries text.now) (λ scan. IsScanOf text.now scan) }
 {
     let mut rest = text;
     let mut spelled = true;
-    while let Some((name, value)) = entry(rest) {
-        if !is_shortest(&name) || !is_shortest(&value) {
-            spelled = false;
-        }
-        rest = value.rest;
+    let mut deletes = false;
+    while let Some(parts) = entry(rest) {
+        spelled &= parts.are_shortest();
+        deletes |= parts.entry().gone;
+        rest = parts.rest();
     }
     if rest == BLOCK_END {
-        Some(spelled)
+        Some(Scan { spelled, deletes })
     } else {
         None
     }

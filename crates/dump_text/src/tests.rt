@@ -1,8 +1,8 @@
 //! What no clause says: worked examples, and each call once.
 use crate::laws::{blocks_are_read_as_written, properties_are_read_as_written};
 use crate::{
-    Block, FaultKind, HeaderName, Headers, Props, number, push_block_end, push_header,
-    push_property, spell,
+    Block, FaultKind, HeaderName, Headers, Props, number, push_block_end, push_deletion,
+    push_header, push_property, spell,
 };
 use std::alloc::{AllocError, Global};
 use std::test::Fail;
@@ -176,10 +176,54 @@ fn no_property_block_is_cut_short_or_malformed(rt: HostRuntime) {
         b"K 1\na\nPROPS-END\n",
         b"K 1\na\nV 2\nb\nPROPS-END\n",
         b"K 0000000000000000001\na\nV 0\n\nPROPS-END\n",
+        b"D 2\na\nPROPS-END\n",
+        b"D 1\na\nV 0\n\nPROPS-END\n",
+        b"d 1\na\nPROPS-END\n",
     ];
     for block in rows {
         assert!(rt; Props::read(block).is_none(), "{block:?}");
+        assert!(rt; Props::read_with_deletes(block).is_none(), "{block:?}");
     }
+}
+
+#[test]
+fn deleted_properties_are_read_where_they_may_stand(rt: HostRuntime) -> Result<(), Fail> {
+    let block = b"D 1\na\nK 1\na\nV 1\nb\nD 1\nc\nPROPS-END\n".as_slice();
+    assert!(rt; Props::read(block).is_none(), "without deletes");
+    let props = Props::read_with_deletes(block).ok_or("deletes are refused")?;
+    assert_eq!(rt;
+        props.get(b"a"),
+        Some(b"b".as_slice()),
+        "the first that isn't deleted"
+    );
+    assert_eq!(rt; props.get(b"c"), None, "a deleted one");
+    assert!(rt; props.spelled());
+    let mut entries = props.entries();
+    let rows = [
+        (b"a".as_slice(), b"".as_slice(), true),
+        (b"a", b"b", false),
+        (b"c", b"", true),
+    ];
+    for row in rows {
+        let entry = entries.next().ok_or("an entry is missing")?;
+        assert_eq!(rt; (entry.name, entry.value, entry.gone), row);
+    }
+    assert!(rt; entries.next().is_none());
+    Ok(())
+}
+
+#[test]
+fn deletions_have_one_spelling(rt: HostRuntime) -> Result<(), Fail> {
+    for (block, spelled) in [
+        (b"D 1\na\nPROPS-END\n".as_slice(), true),
+        (b"D 01\na\nPROPS-END\n", false),
+        (b"PROPS-END\n", true),
+        (b"", false),
+    ] {
+        let props = Props::read_with_deletes(block).ok_or("the block is refused")?;
+        assert_eq!(rt; props.spelled(), spelled, "{block:?}");
+    }
+    Ok(())
 }
 
 #[test]
@@ -212,6 +256,7 @@ fn written(alloc: Global) -> Result<Vec<u8>, AllocError> {
     let mut out = Vec::new(alloc);
     push_header(&mut out, HeaderName::NodeCopyfromRev.bytes(), 7)?;
     push_property(&mut out, b"svn:log", b"a\n")?;
+    push_deletion(&mut out, b"svn:mergeinfo")?;
     push_block_end(&mut out)?;
     Ok(out)
 }
@@ -221,7 +266,8 @@ fn lines_and_properties_are_written(rt: HostRuntime) -> Result<(), Fail> {
     blocks_are_read_as_written();
     properties_are_read_as_written();
     let out = written(rt.alloc())?;
-    let wanted = b"Node-copyfrom-rev: 7\nK 7\nsvn:log\nV 2\na\n\nPROPS-END\n".as_slice();
+    let wanted =
+        b"Node-copyfrom-rev: 7\nK 7\nsvn:log\nV 2\na\n\nD 13\nsvn:mergeinfo\nPROPS-END\n".as_slice();
     assert_eq!(rt; out.as_slice(), wanted);
     Ok(())
 }
@@ -229,6 +275,6 @@ fn lines_and_properties_are_written(rt: HostRuntime) -> Result<(), Fail> {
 #[test]
 fn written_or_no_memory(rt: HostRuntime) {
     if let Ok(out) = written(rt.alloc()) {
-        assert_eq!(rt; out.len(), 50);
+        assert_eq!(rt; out.len(), 69);
     }
 }

@@ -1,5 +1,5 @@
 //! Header lines and property blocks as the filter writes them, which are read again as what they were.
-ghost use Rattle.std.specs.Prelude.{◌≡◌, ◌++◌, ◌∷◌, [], OnOk, length};
+ghost use Rattle.std.specs.Prelude.{◌≡◌, ◌++◌, ◌∷◌, [], OnOk, Some, None, length};
 ghost use Rattle.dump_text.specs.HeaderLine.{header_text};
 ghost use Rattle.dump_text.specs.Number.{spelled_number};
 ghost use Rattle.dump_text.specs.PropertyList.{block_end, entry_text, sized_text};
@@ -35,10 +35,17 @@ fn push_sized(out: &mut Vec<u8>, letter: &[u8], bytes: &[u8]) -> Result<(), Allo
 /// Adds a property.
 pub fn push_property(out: &mut Vec<u8>, name: &[u8], value: &[u8]) -> Result<(), AllocError>
     ensures { OnOk result (out.new.items
-        ≡ out.old.items ++ entry_text (record { name = name.now; value = value.now })) }
+        ≡ out.old.items ++ entry_text (record { name = name.now; value = Some value.now })) }
 {
     push_sized(out, b"K", name)?;
     push_sized(out, b"V", value)
+}
+
+/// Adds that the property of this name is deleted.
+pub fn push_deletion(out: &mut Vec<u8>, name: &[u8]) -> Result<(), AllocError>
+    ensures { OnOk result (out.new.items ≡ out.old.items ++ entry_text (record { name = name.now; value = None })) }
+{
+    push_sized(out, b"D", name)
 }
 
 /// Adds the line that ends a property block.

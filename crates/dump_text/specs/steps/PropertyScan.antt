@@ -1,7 +1,9 @@
 -- What the parts of the scan of a property block find.
-use Rattle.std.specs.Prelude.{◌≡◌, ℕ, List, [], ◌∷◌, ◌++◌, length, Some}
+use Rattle.std.specs.Prelude.{◌≡◌, ℕ, Bool, ◌&&◌, List, [], ◌∷◌, ◌++◌, length, Some, None, bytes_eq}
 use Rattle.dump_text.specs.declared.parts.Part.{Part}
-use Rattle.dump_text.specs.Number.{number_of}
+use Rattle.dump_text.specs.declared.parts.Parts.{Parts}
+use Rattle.dump_text.specs.declared.parts.Parts.TheVariants.{Set, Deleted}
+use Rattle.dump_text.specs.Number.{number_of, spelled_number}
 use Rattle.dump_text.specs.PropertyList.{Property, sized_text, IsEntry, AreEntries, property_block_text}
 
 -- the text begins with a part: this letter, a length in these digits, and that many bytes
@@ -29,9 +31,29 @@ HasLetter letter text = (behind : List ℕ) × IsLetter letter text behind
 abbrev pub HasEntry : List ℕ → Type 0
 HasEntry text = (p : Property) × (entry rest : List ℕ) × (text ≡ entry ++ rest) × IsEntry entry p
 
--- the text begins with an entry of these two parts
-abbrev pub IsEntryOf : List ℕ → Part → Part → Type 0
-IsEntryOf text name value = IsPartOf 75 text name × IsPartOf 86 name.rest.now value
+-- the text begins with an entry of these parts
+abbrev pub IsEntryOf : List ℕ → Parts → Type 0
+IsEntryOf text (Set name value) = IsPartOf 75 text name × IsPartOf 86 name.rest.now value
+IsEntryOf text (Deleted name) = IsPartOf 68 text name
+
+-- the property of an entry's parts
+abbrev pub parts_property : Parts → Property
+parts_property (Set name value) = record { name = name.bytes.now; value = Some value.bytes.now }
+parts_property (Deleted name) = record { name = name.bytes.now; value = None }
+
+-- what stands behind them
+abbrev pub parts_rest : Parts → List ℕ
+parts_rest (Set name value) = value.rest.now
+parts_rest (Deleted name) = name.rest.now
+
+-- whether the length of a part has no leading zeros
+abbrev pub is_shortest : Part → Bool
+is_shortest part = bytes_eq part.digits.now (spelled_number (length part.bytes.now))
+
+-- whether each length of an entry has none
+abbrev pub are_shortest : Parts → Bool
+are_shortest (Set name value) = is_shortest name && is_shortest value
+are_shortest (Deleted name) = is_shortest name
 
 -- the text is entries of some list, and then the end
 abbrev pub HasEntries : List ℕ → Type 0

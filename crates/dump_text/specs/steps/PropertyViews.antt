@@ -1,5 +1,5 @@
 -- What the contracts see of property blocks.
-use Rattle.std.specs.Prelude.{◌≡◌, ℕ, List, [], ◌++◌, Option, Some, None}
+use Rattle.std.specs.Prelude.{◌≡◌, ℕ, List, [], ◌++◌, Option, Some, None, if◌then◌else◌}
 use Rattle.dump_text.specs.declared.props.Props.{Props}
 use Rattle.dump_text.specs.declared.props.Entry.{Entry}
 use Rattle.dump_text.specs.declared.props.Entries.{Entries}
@@ -9,9 +9,9 @@ use Rattle.dump_text.specs.PropertyList.{Property, IsEntry, IsPropertyBlock}
 abbrev pub props_bytes : Props → List ℕ
 props_bytes p = p.bytes.now
 
--- an entry as its name and value
+-- an entry as its name and value, if it has one
 abbrev pub entry_property : Entry → Property
-entry_property e = record { name = e.name.now; value = e.value.now }
+entry_property e = record { name = e.name.now; value = if e.gone then None else Some e.value.now }
 
 -- the bytes that an iterator over properties has left
 abbrev pub entries_text : Entries → List ℕ

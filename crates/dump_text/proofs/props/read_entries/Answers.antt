@@ -1,41 +1,50 @@
-use Rattle.std.proofs.Common.{sym, ◌∙◌, arith}
+use Rattle.std.proofs.Common.{refl, sym, ap, ◌∙◌, ◌||◌, Bool, true, false, arith, List, [], ◌≡◌}
 use Rattle.std.proofs.lemmas.Slice.Eq.{bytes_eq-Decides}
-use Rattle.dump_text.specs.PropertyList.{block_end}
+use Rattle.dump_text.specs.PropertyList.{Property, block_end, has_deletes}
 use Rattle.dump_text.proofs.BoolLemmas.{absurd_bool}
-use Rattle.dump_text.proofs.PropertyLemmas.{entry_of, entry_shorter, entries_more, entries_end}
-use Rattle.dump_text.proofs.WrittenLemmas.{written_short, written_long, not_equal, equal}
+use Rattle.dump_text.proofs.PropertyLemmas.{scanned_parts, entry_shorter, entries_more, entries_end, entries_once, deletes_step, gone_is}
+use Rattle.dump_text.proofs.WrittenLemmas.{scanned_shortest, written_step}
 use Rattle.dump_text.proofs.props.read_entries.Goals as goal
-use Rattle.dump_text.proofs.props.read_entries.Goals.{then-not-is_shortest, then-not-is_shortest-via-then-not-is_shortest, then-not-is_shortest-via-else-not-is_shortest+then-not-is_shortest-2, else-not-is_shortest+else-not-is_shortest-2}
 
-pub loop-name-preserved : goal.loop-name-preserved
-loop-name-preserved c =
-    let before = c.loop-name.invariant in
+pub loop-parts-preserved : goal.loop-parts-preserved
+loop-parts-preserved c =
+    let before = c.loop-parts.invariant in
     let small = before.small in
-    let parts = entry_of _ _ _ _ _ _ _ c.in-Some.ensures.0 c.in-Some.ensures.1 in
+    let parts = scanned_parts _ _ _ c.in-Some.ensures c.rest-rest.ensures in
     let step = entries_more _ _ _ parts in
     let shorter = entry_shorter _ _ _ parts in
+    let gone = gone_is c.entry-in-Some.result _ c.entry-in-Some.ensures in
+    let short = scanned_shortest _ _ _ c.in-Some.ensures c.rest-rest.ensures in
     record {
       entries = (λ has. step.0 (before.entries.0 has), λ has. before.entries.1 (step.1 has));
       small = omega arith;
-      written = elim c.if-not-is_shortest.branch [
-        | then-not-is_shortest w ↦ written_long _ _ _ _ parts c.loop-name.spelled _ small
-            (λ short. elim w.then-not-is_shortest.branch [
-              | then-not-is_shortest-via-then-not-is_shortest v ↦
-                  not_equal _ _ (sym c.is_shortest.ensures ∙ v.if-not-is_shortest.true) short.name
-              | then-not-is_shortest-via-else-not-is_shortest+then-not-is_shortest-2 v ↦
-                  not_equal _ _ (sym v.is_shortest-else-not-is_shortest.ensures ∙ v.if-not-is_shortest-2.true)
-                  short.value
-            ]) w.spelled-is before.written
-        | else-not-is_shortest+else-not-is_shortest-2 w ↦ written_short _ _ _ _ parts c.loop-name.spelled _ small
-            (record {
-              name = equal _ _ (sym c.is_shortest.ensures ∙ w.if-not-is_shortest.false);
-              value = equal _ _ (sym w.is_shortest-else-not-is_shortest.ensures ∙ w.if-not-is_shortest-2.false);
-            })
-            w.spelled-is before.written
-      ];
+      written = written_step _ _ _ _ parts c.loop-parts.spelled _ small
+          (λ is. short.0 (sym c.are_shortest-spelled.ensures ∙ is), λ is. c.are_shortest-spelled.ensures ∙ short.1 is)
+          before.written;
+      deletes = λ ps all.
+          let (qs, left, is) = deletes_step ps c.loop-parts.deletes _ _ _ parts (before.deletes ps all) in
+          (qs, left, is ∙ ap (λ (b : Bool). (c.loop-parts.deletes || b) || has_deletes qs) (sym gone));
     }
+
+pub returns-then-eq : goal.returns-then-eq
+returns-then-eq c =
+    let end : c.loop-parts.rest.now ≡ block_end = (bytes_eq-Decides _ block_end).0 (sym c.eq.ensures ∙ c.if-eq.true) in
+    let before = c.loop-parts.invariant in
+    let left = (entries_end _ c.in_default.ensures).1 end in
+    record {
+      entries = before.entries.1 left;
+      spelled = (λ so. before.written.1 (so, ([], end)), λ written. (before.written.0 written).0);
+      deletes = λ ps all.
+          let (qs, more, is) = before.deletes ps all in
+          sym (is ∙ ap (λ (l : List Property). c.loop-parts.deletes || has_deletes l)
+          (entries_once _ qs [] more end) ∙ or_false c.loop-parts.deletes);
+    }
+  where
+    or_false : (b : Bool) → (b || false) ≡ b
+    or_false true = refl
+    or_false false = refl
 
 pub returns-else-eq : goal.returns-else-eq
 returns-else-eq c = λ has.
-    absurd_bool _ (c.eq.ensures ∙ (bytes_eq-Decides c.loop-name.rest.now block_end).1
-    ((entries_end _ c.in_default.ensures).0 (c.loop-name.invariant.entries.0 has))) c.if-eq.false
+    absurd_bool _ (c.eq.ensures ∙ (bytes_eq-Decides c.loop-parts.rest.now block_end).1
+    ((entries_end _ c.in_default.ensures).0 (c.loop-parts.invariant.entries.0 has))) c.if-eq.false

@@ -1,5 +1,5 @@
 use Rattle.std.proofs.Common.{rules}
-use Rattle.dump_text.proofs.PropertyTruth.{untruncated}
+use Rattle.dump_text.proofs.PropertyChoice.{untruncated}
 use Rattle.dump_text.proofs.WrittenLemmas.{written_is}
 use Rattle.dump_text.proofs.props.Props.spelled.Goals as goal
 
