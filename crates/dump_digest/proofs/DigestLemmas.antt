@@ -1,12 +1,12 @@
 -- A header tells another digest than the text's exactly where it stands there, and isn't it.
-use Rattle.std.proofs.Common.{◌≡◌, ◌↔◌, ℕ, Bool, true, false, ◌||◌, List, refl, sym, ap, ◌∙◌, Option, Some, None, is_some, option_copied, Bor, IsFalse}
+use Rattle.std.proofs.Common.{◌≡◌, ◌↔◌, ℕ, Bool, true, false, ◌&&◌, ◌||◌, List, refl, sym, ap, ◌∙◌, Option, Some, None, is_some, option_copied, Bor, IsFalse, if◌then◌else◌}
 use Rattle.dump_text.specs.Names.{text_length_name, md5_name, sha1_name}
 use Rattle.dump_text.specs.HeaderLine.{has_header, header_value}
-use Rattle.dump_records.specs.RecordText.{DumpRecord}
+use Rattle.dump_records.specs.RecordText.{DumpRecord, has_text_delta}
 use Rattle.dump_records.specs.steps.RecordViews.{part_with}
 use Rattle.dump_text.proofs.BlockLemmas.{has_value}
 use Rattle.dump_text.proofs.ValueLemmas.{some_copied}
-use Rattle.dump_digest.specs.RecordParts.{has_text}
+use Rattle.dump_digest.specs.RecordParts.{has_text, has_whole_text}
 use Rattle.dump_digest.specs.steps.Checks.{TellsOther, HasOtherDigest, is_told_text}
 
 pub clash : {b : Bool} → b ≡ true → b ≡ false → ⊥
@@ -15,23 +15,41 @@ clash e f = let bad : true ≡ false = sym e ∙ f in cc
 same_digits : (a b : List ℕ) → Some a ≡ Some b → a ≡ b
 same_digits a b e = cc
 
--- the headers of a record
+-- the text of a record, where it has one that isn't a delta
+abbrev pub whole_part : DumpRecord → Option (List ℕ)
+whole_part r = if has_whole_text r then Some r.text else None
 
-pub text_there : (r : DumpRecord) (text : List ℕ) → Some text ≡ part_with text_length_name r r.text → (has_text r ≡ true) × (text ≡ r.text)
-text_there r text is = by_length (has_text r) refl
+-- a text that isn't a delta is the record's text
+pub whole_there : (r : DumpRecord) → has_text_delta r ≡ false → part_with text_length_name r r.text ≡ whole_part r
+whole_there r whole = rw whole (by_length (has_text r))
   where
-    by_length : (b : Bool) → has_text r ≡ b → (has_text r ≡ true) × (text ≡ r.text)
-    by_length true e = (e, same_digits text r.text (is ∙ rw e refl))
-    by_length false e = let bad : Some text ≡ None = is ∙ rw e refl in cc
+    by_length : (b : Bool) → (if b then Some r.text else None) ≡ (if b && true then Some r.text else None)
+    by_length true = refl
+    by_length false = refl
 
-pub no_text : (r : DumpRecord) → None ≡ part_with text_length_name r r.text → has_text r ≡ false
-no_text r is = by_length (has_text r) refl
+-- and of a delta there is none
+pub no_whole_there : (r : DumpRecord) → has_text_delta r ≡ true → None ≡ whole_part r
+no_whole_there r delta = rw delta (by_length (has_text r))
   where
-    by_length : (b : Bool) → has_text r ≡ b → has_text r ≡ false
-    by_length true e = let bad : None ≡ Some r.text = is ∙ rw e refl in cc
-    by_length false e = e
+    by_length : (b : Bool) → None ≡ (if b && false then Some r.text else None)
+    by_length true = refl
+    by_length false = refl
 
-pub digest_told : (name : List ℕ) (r : DumpRecord) (size : ℕ) (digest : List ℕ) (ok : Bool) (told : Option (List ℕ)) → has_text r ≡ true
+pub text_there : (r : DumpRecord) (text : List ℕ) → Some text ≡ whole_part r → (has_whole_text r ≡ true) × (text ≡ r.text)
+text_there r text is = by_whole (has_whole_text r) refl
+  where
+    by_whole : (b : Bool) → has_whole_text r ≡ b → (has_whole_text r ≡ true) × (text ≡ r.text)
+    by_whole true e = (e, same_digits text r.text (is ∙ rw e refl))
+    by_whole false e = let bad : Some text ≡ None = is ∙ rw e refl in cc
+
+pub no_text : (r : DumpRecord) → None ≡ whole_part r → has_whole_text r ≡ false
+no_text r is = by_whole (has_whole_text r) refl
+  where
+    by_whole : (b : Bool) → has_whole_text r ≡ b → has_whole_text r ≡ false
+    by_whole true e = let bad : None ≡ Some r.text = is ∙ rw e refl in cc
+    by_whole false e = e
+
+pub digest_told : (name : List ℕ) (r : DumpRecord) (size : ℕ) (digest : List ℕ) (ok : Bool) (told : Option (List ℕ)) → has_whole_text r ≡ true
     → told ≡ header_value name r.headers → (IsFalse ok ↔ TellsOther told size digest) → IsFalse ok ↔ HasOtherDigest name r size digest
 digest_told name r size digest ok told text is means =
     let there : is_some told ≡ has_header name r.headers = ap is_some is ∙ has_value name r.headers in (
@@ -39,7 +57,7 @@ digest_told name r size digest ok told text is means =
       λ other. means.1 (there ∙ other.1.0, λ digits h. other.1.1 digits (sym is ∙ h)),
     )
 
-pub text_told : (r : DumpRecord) (checked : Bool) (md5 sha1 : Option (Bor (List ℕ))) → has_text r ≡ true → option_copied md5 ≡ header_value md5_name r.headers
+pub text_told : (r : DumpRecord) (checked : Bool) (md5 sha1 : Option (Bor (List ℕ))) → has_whole_text r ≡ true → option_copied md5 ≡ header_value md5_name r.headers
     → option_copied sha1 ≡ header_value sha1_name r.headers → checked ≡ (is_some md5 || is_some sha1) → checked ≡ is_told_text r
 text_told r checked md5 sha1 text first second is =
     let one : is_some md5 ≡ has_header md5_name r.headers = some_copied md5 ∙ ap is_some first ∙ has_value md5_name r.headers in

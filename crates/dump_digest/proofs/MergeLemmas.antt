@@ -3,14 +3,14 @@ use Rattle.std.proofs.Common.{◌≡◌, ◌↔◌, ℕ, zero, suc, Bool, true, 
 use Rattle.std.proofs.Math.Bool.{Bool-set}
 use Rattle.std.proofs.Math.Logic.{∥∥₁_elim}
 use Rattle.std.proofs.lemmas.Bool.{and_parts}
-use Rattle.dump_text.specs.PropertyList.{Property, IsPropertyBlock, HasProperties}
+use Rattle.dump_text.specs.PropertyList.{Property}
 use Rattle.dump_text.proofs.PropertyLemmas.{property_block_once}
 use Rattle.dump_records.specs.RecordText.{DumpRecord}
 use Rattle.dump_rules.specs.Settings.{Settings}
 use Rattle.dump_rules.specs.Mergeinfo.{HasMergeLines}
 use Rattle.dump_rules.specs.steps.ReadMergeinfo.{value_reads}
 use Rattle.dump_rules.proofs.reading.MergeinfoLemmas.{reads_exactly}
-use Rattle.dump_digest.specs.RecordParts.{is_kept_node, is_mergeinfo}
+use Rattle.dump_digest.specs.RecordParts.{is_kept_node, is_mergeinfo, value_of, HasPropertyList, HasPropertyBlock}
 use Rattle.dump_digest.specs.ContentFaults.{HasBadMergeinfo}
 use Rattle.dump_digest.specs.steps.Checks.{property_reads, properties_read}
 use Rattle.dump_digest.proofs.DigestLemmas.{clash}
@@ -28,7 +28,7 @@ read_is value reads means = by_reads reads refl (value_reads value) refl
 
 pub record BadEntry (p : Property) : Type 0 where
   pub named : IsTrue (is_mergeinfo p)
-  pub none : ¬ HasMergeLines p.value
+  pub none : ¬ HasMergeLines (value_of p)
 
 bad_entry : (p : Property) → property_reads p ≡ false → BadEntry p
 bad_entry p bad = by_name (is_mergeinfo p) refl
@@ -36,15 +36,15 @@ bad_entry p bad = by_name (is_mergeinfo p) refl
     by_name : (b : Bool) → is_mergeinfo p ≡ b → BadEntry p
     by_name true e = record {
       named = e;
-      none = λ has. clash ((reads_exactly p.value).1 has) (let unread : value_reads p.value ≡ property_reads p = rw e refl in unread ∙ bad);
+      none = λ has. clash ((reads_exactly (value_of p)).1 has) (let unread : value_reads (value_of p) ≡ property_reads p = rw e refl in unread ∙ bad);
     }
     by_name false e = let read : true ≡ property_reads p = rw e refl in absurd (clash (sym read) bad)
 
 entry_bad : (p : Property) → BadEntry p → property_reads p ≡ false
-entry_bad p bad = by_value (value_reads p.value) refl
+entry_bad p bad = by_value (value_reads (value_of p)) refl
   where
-    by_value : (b : Bool) → value_reads p.value ≡ b → property_reads p ≡ false
-    by_value true e = absurd (bad.none ((reads_exactly p.value).0 e))
+    by_value : (b : Bool) → value_reads (value_of p) ≡ b → property_reads p ≡ false
+    by_value true e = absurd (bad.none ((reads_exactly (value_of p)).0 e))
     by_value false e = let named = bad.named in rw (named, e) refl
 
 -- all properties
@@ -73,12 +73,12 @@ read_none (q ∷ ps) p read (suc i, within, is) =
 
 -- a kept node
 
-pub merge_means : (settings : Settings) (r : DumpRecord) (ok : Bool) (ps : List Property) → IsTrue (is_kept_node settings r) → IsPropertyBlock r.props ps
+pub merge_means : (settings : Settings) (r : DumpRecord) (ok : Bool) (ps : List Property) → IsTrue (is_kept_node settings r) → HasPropertyList r ps
     → ok ≡ properties_read ps → IsFalse ok ↔ ∥ HasBadMergeinfo settings r ∥₁
 merge_means settings r ok ps kept block is = (
   λ e.
       let (p, within, bad) = bad_of ps (sym is ∙ e) in
-      ∣ (p.value, (kept, ps, block, p, within, bad.named, refl), bad.none) ∣₁,
+      ∣ (value_of p, (kept, ps, block, p, within, bad.named, refl), bad.none) ∣₁,
   λ bad. ∥∥₁_elim bad (Bool-set ok false) found,
 )
   where
@@ -88,13 +88,13 @@ merge_means settings r ok ps kept block is = (
         by_ok : (b : Bool) → ok ≡ b → IsFalse ok
         by_ok false e = e
         by_ok true e =
-            let lists = property_block_once r.props qs ps other block in
+            let lists = property_block_once r.props qs ps other.0 block.0 in
             let here = subst (λ (l : List Property). Contains l p) lists within in
             let read = read_none ps p (sym is ∙ e) here in
             let entry : BadEntry p = record { named = named; none = λ has. none (subst HasMergeLines same has) } in
             absurd (clash read (entry_bad p entry))
 
-pub merge_unread : (settings : Settings) (r : DumpRecord) → ¬ HasProperties r.props → IsFalse true ↔ ∥ HasBadMergeinfo settings r ∥₁
+pub merge_unread : (settings : Settings) (r : DumpRecord) → ¬ HasPropertyBlock r → IsFalse true ↔ ∥ HasBadMergeinfo settings r ∥₁
 merge_unread settings r none = (
   λ e. cc,
   λ bad. ∥∥₁_elim bad (Bool-set true false) (λ (value, mine, lines). absurd (none (mine.1, mine.2))),

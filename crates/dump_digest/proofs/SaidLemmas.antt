@@ -1,10 +1,11 @@
 -- What the mergeinfo of some properties says, property by property.
-use Rattle.std.proofs.Common.{◌≡◌, ◌↔◌, ℕ, Bool, true, false, ◌&&◌, ◌||◌, List, [], ◌∷◌, refl, sym, ap, subst, ◌∙◌, Option, Some, None, IsSome, IsNone, IfSome, is_some, MatchOption, IsTrue, IsFalse}
+use Rattle.std.proofs.Common.{◌≡◌, ◌↔◌, ℕ, Bool, true, false, ◌&&◌, ◌||◌, List, [], ◌∷◌, refl, sym, ap, subst, ◌∙◌, Option, Some, None, IsSome, IsNone, IfSome, is_some, unwrap_or, if◌then◌else◌, MatchOption, IsTrue, IsFalse}
 use Rattle.std.specs.List.{list_any}
 use Rattle.std.specs.Option.{ForSome}
 use Rattle.dump_text.specs.declared.props.Props.{Props}
-use Rattle.dump_text.specs.PropertyList.{Property, IsPropertyBlock, HasProperties}
-use Rattle.dump_text.specs.steps.PropertyViews.{props_bytes}
+use Rattle.dump_text.specs.PropertyList.{Property, IsPropertyBlock}
+use Rattle.dump_text.specs.declared.props.Entry.{Entry}
+use Rattle.dump_text.specs.steps.PropertyViews.{props_bytes, entry_property}
 use Rattle.dump_text.proofs.BoolLemmas.{absurd_bool, both_true, either_second}
 use Rattle.dump_records.specs.RecordText.{DumpRecord}
 use Rattle.dump_rules.specs.declared.merged.Merged.{Merged}
@@ -18,7 +19,7 @@ use Rattle.dump_digest.specs.declared.content.Content.{Content}
 use Rattle.dump_digest.specs.declared.verdict.Verdict.{Verdict}
 use Rattle.dump_digest.specs.steps.VerdictMeaning.{IsVerdict}
 use Rattle.dump_digest.specs.declared.mergeinfo.Mergeinfo.{Mergeinfo}
-use Rattle.dump_digest.specs.RecordParts.{is_revision, is_kept_node, is_mergeinfo}
+use Rattle.dump_digest.specs.RecordParts.{is_revision, is_kept_node, is_mergeinfo, value_of, HasPropertyList, HasPropertyBlock}
 use Rattle.dump_digest.specs.steps.Checks.{properties_read}
 use Rattle.dump_digest.specs.ContentFaults.{HasBadMergeinfo}
 use Rattle.dump_digest.specs.steps.MergeFaults.{misses, is_foreign}
@@ -60,27 +61,27 @@ said_of_other s ps qs others p found said is other up = record {
 
 -- one more property that is
 pub said_of_value : (s : Settings) (ps qs others : List Property) (p : Property) (found : Bool) (said next : Merged) → qs ≡ p ∷ others
-    → is_mergeinfo p ≡ true → value_reads p.value ≡ true
-    → next.misses ≡ (said.misses || value_misses s p.value)
+    → is_mergeinfo p ≡ true → value_reads (value_of p) ≡ true
+    → next.misses ≡ (said.misses || value_misses s (value_of p))
     → ((first present : ℕ) → is_outside s first present next.numbers
-    ≡ (is_outside s first present said.numbers || value_foreign s first present p.value))
+    ≡ (is_outside s first present said.numbers || value_foreign s first present (value_of p)))
     → IsSaidUpTo s ps qs found said → IsSaidUpTo s ps others true next
 said_of_value s ps qs others p found said next is named reads sources numbers up = record {
   read = up.read ∙ ap properties_read is ∙ rw (named, reads) refl;
   found_is = up.found_is ∙ ap (λ (l : List Property). found || list_any is_mergeinfo l) is ∙ rw named (or_true found (list_any is_mergeinfo others));
   sources = up.sources ∙ ap (λ (l : List Property). said.misses || list_any (misses s) l) is
-      ∙ rw named (sym (or_or said.misses (value_misses s p.value) (list_any (misses s) others)))
+      ∙ rw named (sym (or_or said.misses (value_misses s (value_of p)) (list_any (misses s) others)))
       ∙ ap (λ b. b || list_any (misses s) others) (sym sources);
   numbers = λ first present. up.numbers first present
       ∙ ap (λ (l : List Property). is_outside s first present said.numbers || list_any (is_foreign s first present) l) is
-      ∙ rw named (sym (or_or (is_outside s first present said.numbers) (value_foreign s first present p.value)
+      ∙ rw named (sym (or_or (is_outside s first present said.numbers) (value_foreign s first present (value_of p))
       (list_any (is_foreign s first present) others)))
       ∙ ap (λ b. b || list_any (is_foreign s first present) others) (sym (numbers first present));
 }
 
 -- a property whose value can't be read
 pub not_said : (s : Settings) (ps qs others : List Property) (p : Property) (found : Bool) (said : Merged) → qs ≡ p ∷ others
-    → is_mergeinfo p ≡ true → value_reads p.value ≡ false → IsSaidUpTo s ps qs found said → properties_read ps ≡ false
+    → is_mergeinfo p ≡ true → value_reads (value_of p) ≡ false → IsSaidUpTo s ps qs found said → properties_read ps ≡ false
 not_said s ps qs others p found said is named bad up = up.read ∙ ap properties_read is ∙ rw (named, bad) refl
 
 -- behind the last property all is said
@@ -92,6 +93,14 @@ said_at_last s ps found said up = record {
   sources = sym (up.sources ∙ sym (or_false said.misses));
   numbers = λ first present. sym (up.numbers first present ∙ sym (or_false (is_outside s first present said.numbers)));
 }
+
+-- the value of an entry is that of its property
+pub entry_value : (e : Entry) → value_of (entry_property e) ≡ e.value.now
+entry_value e = by_gone e.gone refl
+  where
+    by_gone : (b : Bool) → e.gone ≡ b → unwrap_or (if b then None else Some e.value.now) [] ≡ e.value.now
+    by_gone true gone = sym (e.empty gone)
+    by_gone false set = refl
 
 -- what the reader of a value answers
 pub unread_value : (value : List ℕ) (o : Option Merged) → (IsSome o ↔ HasMergeLines value) → o ≡ None → value_reads value ≡ false
@@ -113,36 +122,35 @@ said_ok s ps None bad = sym bad
 said_ok s ps (Some m) said = sym said.read
 
 -- a kept node's mergeinfo can be read exactly where it isn't bad
-pub merge_told : (s : Settings) (r : DumpRecord) (bytes : List ℕ) (found : Option Props) (o : Option Mergeinfo)
-    → IsTrue (is_kept_node s r) → bytes ≡ r.props → (IsSome found ↔ HasProperties bytes) → IfSome found (λ p. props_bytes p ≡ bytes)
+pub merge_told : (s : Settings) (r : DumpRecord) (found : Option Props) (o : Option Mergeinfo) → IsTrue (is_kept_node s r)
+    → (IsSome found ↔ HasPropertyBlock r) → IfSome found (λ p. props_bytes p ≡ r.props)
     → AreSaid s found o → (IsNone found → IsSome o) → IsFalse (is_some o) ↔ ∥ HasBadMergeinfo s r ∥₁
-merge_told s r bytes None o kept same means is said none =
-    let unread = merge_unread s r (λ has. let bad : false ≡ true = means.1 (subst HasProperties (sym same) has) in cc) in
+merge_told s r None o kept means is said none =
+    let unread = merge_unread s r (λ has. let bad : false ≡ true = means.1 has in cc) in
     subst (λ (b : Bool). IsFalse b ↔ ∥ HasBadMergeinfo s r ∥₁) (sym (none refl)) unread
-merge_told s r bytes (Some p) o kept same means is said none =
-    let (ps, block) = means.0 refl in
-    merge_means s r (is_some o) ps kept (subst (λ (t : List ℕ). IsPropertyBlock t ps) same block)
-    (said_ok s ps o (said ps p refl (subst (λ (t : List ℕ). IsPropertyBlock t ps) (sym is) block)))
+merge_told s r (Some p) o kept means is said none =
+    let (ps, list) = means.0 refl in
+    merge_means s r (is_some o) ps kept list
+    (said_ok s ps o (said ps p refl (subst (λ (t : List ℕ). IsPropertyBlock t ps) (sym is) list.0)))
 
 -- what mergeinfo says is what the properties say
-pub values_told : (s : Settings) (r : DumpRecord) (bytes : List ℕ) (found : Option Props) (o : Option Mergeinfo)
-    → bytes ≡ r.props → (IsSome found ↔ HasProperties bytes) → IfSome found (λ p. props_bytes p ≡ bytes) → AreSaid s found o
-    → (ps : List Property) → IsPropertyBlock r.props ps → ForSome o (λ m. IsSaidBy s ps m)
-values_told s r bytes None o same means is said ps block =
-    let has : HasProperties bytes = (ps, subst (λ (t : List ℕ). IsPropertyBlock t ps) (sym same) block) in
-    let bad : false ≡ true = means.1 has in cc
-values_told s r bytes (Some p) o same means is said ps block =
-    by_option o (said ps p refl (subst (λ (t : List ℕ). IsPropertyBlock t ps) (sym (is ∙ same)) block))
+pub values_told : (s : Settings) (r : DumpRecord) (found : Option Props) (o : Option Mergeinfo)
+    → (IsSome found ↔ HasPropertyBlock r) → IfSome found (λ p. props_bytes p ≡ r.props) → AreSaid s found o
+    → (ps : List Property) → HasPropertyList r ps → ForSome o (λ m. IsSaidBy s ps m)
+values_told s r None o means is said ps list = let bad : false ≡ true = means.1 (ps, list) in cc
+values_told s r (Some p) o means is said ps list =
+    by_option o (said ps p refl (subst (λ (t : List ℕ). IsPropertyBlock t ps) (sym is) list.0))
   where
-    by_option : (o : Option Mergeinfo) → MatchOption o (properties_read ps ≡ false) (λ m. IsSaidBy s ps m) → ForSome o (λ m. IsSaidBy s ps m)
+    by_option : (o : Option Mergeinfo) → MatchOption o (properties_read ps ≡ false) (λ m. IsSaidBy s ps m)
+        → ForSome o (λ m. IsSaidBy s ps m)
     by_option None bad = λ m e. absurd (let no : None ≡ Some m = e in cc)
     by_option (Some m) told = λ n e. subst (IsSaidBy s ps) (let one : m ≡ n = cc in one) told
 
 -- a block's bytes are the record's
-pub bytes_told : (r : DumpRecord) (bytes : List ℕ) (found : Option Props) → bytes ≡ r.props → IfSome found (λ p. props_bytes p ≡ bytes)
+pub bytes_told : (r : DumpRecord) (found : Option Props) → IfSome found (λ p. props_bytes p ≡ r.props)
     → ForSome found (λ p. props_bytes p ≡ r.props)
-bytes_told r bytes None same is = λ p e. absurd (let no : None ≡ Some p = e in cc)
-bytes_told r bytes (Some p) same is = λ q e. ap props_bytes (let one : q ≡ p = cc in one) ∙ is ∙ same
+bytes_told r None is = λ p e. absurd (let no : None ≡ Some p = e in cc)
+bytes_told r (Some p) is = λ q e. ap props_bytes (let one : q ≡ p = cc in one) ∙ is
 
 -- a kept node's properties are asked
 pub asked_kept : (s : Settings) (r : DumpRecord) (found : Option Props) (ok : Bool) → IsTrue (is_kept_node s r) → ok ≡ is_some found

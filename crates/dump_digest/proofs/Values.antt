@@ -1,15 +1,16 @@
 -- Worked values of the definitions, computed by the kernel.
-use Rattle.std.proofs.Common.{◌≡◌, ℕ, refl, ap, sym, ◌∙◌, true, false, inr, List, [], ◌∷◌, Some, Ok, is_ok, codes, unwrap_or, lit<}
+use Rattle.std.proofs.Common.{◌≡◌, ℕ, refl, ap, sym, ◌∙◌, true, false, inl, inr, List, [], ◌∷◌, Some, None, Ok, is_ok, codes, unwrap_or, lit<}
 use Rattle.dump_text.specs.Names.{md5_name, sha1_name}
-use Rattle.dump_text.specs.PropertyList.{Property}
-use Rattle.dump_text.proofs.Values.{no_properties}
+use Rattle.dump_text.specs.PropertyList.{Property, IsPropertyBlock, has_deletes}
+use Rattle.dump_text.proofs.PropertyLemmas.{property_block_once}
+use Rattle.dump_text.proofs.Values.{no_changes}
 use Rattle.dump_text.specs.HeaderLine.{Header}
 use Rattle.hex.specs.Hex.{decode_sized, decode_pairs}
 use Rattle.dump_rules.specs.declared.options.Side.TheVariants.{Include}
 use Rattle.dump_rules.specs.declared.options.Empty.TheVariants.{Pad}
 use Rattle.dump_rules.specs.Settings.{Settings}
 use Rattle.dump_records.specs.RecordText.{DumpRecord}
-use Rattle.dump_digest.specs.RecordParts.{is_revision, is_node, node_path, is_kept_node, is_copy, has_lost_source, has_text, is_checked_text, is_mergeinfo}
+use Rattle.dump_digest.specs.RecordParts.{is_revision, is_node, node_path, is_kept_node, is_copy, has_lost_source, has_text, has_whole_text, is_checked_text, takes_deletes, HasPropertyList, HasPropertyBlock, is_mergeinfo, value_of}
 use Rattle.dump_digest.specs.ContentFaults.{HasBadProperties, DiffersFromDigest, HasBadMd5, HasBadSha1, IsMergeinfoValueOf, HasBadMergeinfo}
 
 -- a digest header has digits of either case, as many as the digest needs
@@ -55,6 +56,7 @@ header name value = record { name = name; value = value }
 abbrev file : List ℕ → List ℕ → DumpRecord
 file path length_header = record {
   place = 0;
+  version = 2;
   headers =
       header (codes "Node-path") path ∷ header length_header (codes "3")
       ∷ header (codes "Text-content-md5") (codes "900150983cd24fb0d6963f7d28e17f72")
@@ -80,6 +82,7 @@ counted_file = file (codes "trunk/f") (codes "Text-content-length")
 abbrev copy : List ℕ → DumpRecord
 copy source = record {
   place = 0;
+  version = 2;
   headers = header (codes "Node-path") (codes "trunk/f") ∷ header (codes "Node-copyfrom-path") source ∷ [];
   props = [];
   text = [];
@@ -100,6 +103,58 @@ kept = refl
 a_text : has_text counted_file ≡ true
 a_text = refl
 
+its_whole_text : has_whole_text counted_file ≡ true
+its_whole_text = refl
+
+-- a delta, under version 3 and under version 2
+abbrev delta : ℕ → DumpRecord
+delta version = record counted_file {
+  version = version;
+  headers = header (codes "Text-delta") (codes "true") ∷ counted_file.headers;
+}
+
+no_whole_text : has_whole_text (delta 3) ≡ false
+no_whole_text = refl
+
+no_delta : has_whole_text (delta 2) ≡ true
+no_delta = refl
+
+delta_not_counted : is_checked_text including_trunk (delta 3) ≡ false
+delta_not_counted = refl
+
+-- where properties may be deleted
+
+node_3 : takes_deletes (delta 3) ≡ true
+node_3 = refl
+
+node_2 : takes_deletes (delta 2) ≡ false
+node_2 = refl
+
+revision_3 : takes_deletes (record counted_file {
+  version = 3;
+  headers = header (codes "Revision-number") (codes "1") ∷ [];
+}) ≡ false
+revision_3 = refl
+
+abbrev deleting : ℕ → DumpRecord
+deleting version = record counted_file { version = version; props = codes "D 7\nsvn:log\nPROPS-END\n" }
+
+abbrev unlogged : List Property
+unlogged = record { name = codes "svn:log"; value = None } ∷ []
+
+unlogged_block : IsPropertyBlock (codes "D 7\nsvn:log\nPROPS-END\n") unlogged
+unlogged_block = inr (codes "D 7\nsvn:log\n", codes "PROPS-END\n", refl, inr (refl, (codes "7", refl, refl)), refl)
+
+deleted_in_3 : HasPropertyList (deleting 3) unlogged
+deleted_in_3 = (unlogged_block, λ deletes. refl)
+
+readable_in_3 : HasPropertyBlock (deleting 3)
+readable_in_3 = (unlogged, deleted_in_3)
+
+unreadable_in_2 : ¬ HasPropertyBlock (deleting 2)
+unreadable_in_2 (ps, (block, deletes)) =
+    let bad : false ≡ true = deletes (sym (ap has_deletes (property_block_once _ unlogged ps unlogged_block block))) in cc
+
 a_copy : is_copy (copy (codes "trunk/e")) ≡ true
 a_copy = refl
 
@@ -113,13 +168,26 @@ lost_source : has_lost_source including_trunk (copy (codes "other/e")) ≡ true
 lost_source = refl
 
 abbrev merged : Property
-merged = record { name = codes "svn:mergeinfo"; value = codes "x" }
+merged = record { name = codes "svn:mergeinfo"; value = Some (codes "x") }
 
 tells_merges : is_mergeinfo merged ≡ true
 tells_merges = refl
 
-tells_no_merges : is_mergeinfo (record { name = codes "svn:mergeInfo"; value = codes "x" }) ≡ false
+tells_no_merges : is_mergeinfo (record { name = codes "svn:mergeInfo"; value = Some (codes "x") }) ≡ false
 tells_no_merges = refl
+
+abbrev unmerged : Property
+unmerged = record { name = codes "svn:mergeinfo"; value = None }
+
+-- deleted mergeinfo is none
+deleted_merges : is_mergeinfo unmerged ≡ false
+deleted_merges = refl
+
+its_bytes : value_of merged ≡ codes "x"
+its_bytes = refl
+
+no_bytes : value_of unmerged ≡ []
+no_bytes = refl
 
 -- the faults of a content
 
@@ -129,13 +197,14 @@ no e = cc
 abbrev unended : List ℕ → DumpRecord
 unended path = record {
   place = 0;
+  version = 2;
   headers = header (codes "Node-path") path ∷ [];
   props = codes "PROPS-END";
   text = [];
 }
 
 bad_properties : HasBadProperties including_trunk (unended (codes "trunk/f"))
-bad_properties = (refl, no_properties)
+bad_properties = (refl, λ (ps, (block, deletes)). no_changes (ps, block))
 
 -- those of a node that isn't kept are not looked at
 passed_properties : ¬ HasBadProperties including_trunk (unended (codes "other/f"))
@@ -144,6 +213,7 @@ passed_properties (e, _) = no e
 abbrev digested : List ℕ → List ℕ → DumpRecord
 digested name digits = record {
   place = 0;
+  version = 2;
   headers =
       header (codes "Node-path") (codes "trunk/f") ∷ header (codes "Text-content-length") (codes "3")
       ∷ header name digits ∷ [];
@@ -180,6 +250,7 @@ no_sha1 (_, _, (e, _)) = no e
 abbrev merging : List ℕ → DumpRecord
 merging path = record {
   place = 0;
+  version = 2;
   headers = header (codes "Node-path") path ∷ [];
   props = codes "K 13\nsvn:mergeinfo\nV 1\nx\nPROPS-END\n";
   text = [];
@@ -188,11 +259,14 @@ merging path = record {
 abbrev merged_entry : List ℕ
 merged_entry = codes "K 13\nsvn:mergeinfo\nV 1\nx\n"
 
+no_deletes : false ≡ true → false ≡ true
+no_deletes e = e
+
 its_value : IsMergeinfoValueOf including_trunk (merging (codes "trunk/f")) (codes "x")
 its_value = (
   refl,
   merged ∷ [],
-  inr (merged_entry, codes "PROPS-END\n", refl, (codes "13", codes "1", refl, refl, refl), refl),
+  (inr (merged_entry, codes "PROPS-END\n", refl, inl (codes "x", refl, (codes "13", codes "1", refl, refl, refl)), refl), no_deletes),
   merged,
   (0, lit< tt, refl),
   refl,

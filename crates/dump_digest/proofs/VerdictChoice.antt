@@ -5,24 +5,24 @@ use Rattle.std.proofs.Math.Logic.{∥∥₁_elim}
 use Rattle.std.proofs.lemmas.Slice.Eq.{bytes_eq-Decides}
 use Rattle.dump_text.specs.Names.{md5_name, sha1_name}
 use Rattle.dump_text.specs.HeaderLine.{has_header, header_value}
-use Rattle.dump_text.specs.PropertyList.{Property, IsPropertyBlock, HasProperties}
+use Rattle.dump_text.specs.PropertyList.{Property}
 use Rattle.dump_text.proofs.BoolLemmas.{absurd_bool, false_true, not_so}
-use Rattle.dump_text.proofs.PropertyChoice.{properties_or_not}
 use Rattle.dump_records.specs.RecordText.{DumpRecord}
 use Rattle.dump_rules.specs.Settings.{Settings}
-use Rattle.dump_digest.specs.RecordParts.{is_revision, is_kept_node, has_text, is_checked_text}
+use Rattle.dump_digest.specs.RecordParts.{is_revision, is_kept_node, has_whole_text, is_checked_text, value_of, HasPropertyList, HasPropertyBlock}
 use Rattle.dump_digest.specs.ContentFaults.{HasBadProperties, DiffersFromDigest, HasBadMd5, HasBadSha1, HasBadMergeinfo}
 use Rattle.dump_digest.specs.steps.Checks.{properties_read}
 use Rattle.dump_digest.specs.steps.VerdictMeaning.{IsVerdict}
 use Rattle.dump_digest.specs.declared.verdict.Verdict.{Verdict}
 use Rattle.dump_digest.proofs.MergeLemmas.{bad_of, merge_means}
+use Rattle.dump_digest.proofs.PropertyBlocks.{block_or_not}
 use Rattle.md5.specs.Md5.{md5}
 use Rattle.sha1.specs.Sha1.{sha1}
 use Rattle.hex.specs.Hex.{decode_sized}
 use Rattle.hex.specs.declared.error.FromHexError.{FromHexError}
 
 -- where a kept node has bad mergeinfo, it can be found
-pub bad_choice : (settings : Settings) (r : DumpRecord) → IsTrue (is_kept_node settings r) → (ps : List Property) → IsPropertyBlock r.props ps
+pub bad_choice : (settings : Settings) (r : DumpRecord) → IsTrue (is_kept_node settings r) → (ps : List Property) → HasPropertyList r ps
     → HasBadMergeinfo settings r ⊎ (¬ HasBadMergeinfo settings r)
 bad_choice settings r keep ps block = by_read (properties_read ps) refl
   where
@@ -30,7 +30,7 @@ bad_choice settings r keep ps block = by_read (properties_read ps) refl
     by_read true read = inr (λ bad. absurd_bool (properties_read ps) read ((merge_means settings r (properties_read ps) ps keep block refl).1 ∣ bad ∣₁))
     by_read false bad =
         let (p, within, entry) = bad_of ps bad in
-        inl (p.value, (keep, ps, block, p, within, entry.named, refl), entry.none)
+        inl (value_of p, (keep, ps, block, p, within, entry.named, refl), entry.none)
 
 -- what holds or doesn't is told by a truth value
 abbrev IsTold : Type 0 → Type 0
@@ -56,10 +56,12 @@ so true = inl refl
 so false = inr false_true
 
 properties_choice : (settings : Settings) (r : DumpRecord) → HasBadProperties settings r ⊎ (¬ HasBadProperties settings r)
-properties_choice settings r = both (IsTrue (is_revision r || is_kept_node settings r)) (¬ HasProperties r.props) (so (is_revision r || is_kept_node settings r)) (elim (properties_or_not r.props) [
-  | inl has ↦ inr (λ none. none has)
-  | inr none ↦ inl none
-])
+properties_choice settings r =
+    both (IsTrue (is_revision r || is_kept_node settings r)) (¬ HasPropertyBlock r)
+    (so (is_revision r || is_kept_node settings r)) (elim (block_or_not r) [
+      | inl has ↦ inr (λ none. none has)
+      | inr none ↦ inl none
+    ])
 
 same_bytes : (a b : List ℕ) → (a ≢ b) ⊎ (¬ (a ≢ b))
 same_bytes a b = by_case (bytes_eq a b) refl
@@ -95,20 +97,20 @@ digest_choice name r size digest =
 
 md5_choice : (settings : Settings) (r : DumpRecord) → HasBadMd5 settings r ⊎ (¬ HasBadMd5 settings r)
 md5_choice settings r =
-    each (IsTrue (is_kept_node settings r)) (IsTrue (has_text r)) (DiffersFromDigest md5_name r 16 (md5 r.text))
-    (so (is_kept_node settings r)) (so (has_text r)) (digest_choice md5_name r 16 (md5 r.text))
+    each (IsTrue (is_kept_node settings r)) (IsTrue (has_whole_text r)) (DiffersFromDigest md5_name r 16 (md5 r.text))
+    (so (is_kept_node settings r)) (so (has_whole_text r)) (digest_choice md5_name r 16 (md5 r.text))
 
 sha1_choice : (settings : Settings) (r : DumpRecord) → HasBadSha1 settings r ⊎ (¬ HasBadSha1 settings r)
 sha1_choice settings r =
-    each (IsTrue (is_kept_node settings r)) (IsTrue (has_text r)) (DiffersFromDigest sha1_name r 20 (sha1 r.text))
-    (so (is_kept_node settings r)) (so (has_text r)) (digest_choice sha1_name r 20 (sha1 r.text))
+    each (IsTrue (is_kept_node settings r)) (IsTrue (has_whole_text r)) (DiffersFromDigest sha1_name r 20 (sha1 r.text))
+    (so (is_kept_node settings r)) (so (has_whole_text r)) (digest_choice sha1_name r 20 (sha1 r.text))
 
 merge_choice : (settings : Settings) (r : DumpRecord) → HasBadMergeinfo settings r ⊎ (¬ HasBadMergeinfo settings r)
 merge_choice settings r = by_kept (is_kept_node settings r) refl
   where
     by_kept : (b : Bool) → is_kept_node settings r ≡ b → HasBadMergeinfo settings r ⊎ (¬ HasBadMergeinfo settings r)
-    by_kept true keep = elim (properties_or_not r.props) [
-      | inl (ps, block) ↦ bad_choice settings r keep ps block
+    by_kept true keep = elim (block_or_not r) [
+      | inl (ps, list) ↦ bad_choice settings r keep ps list
       | inr none ↦ inr (λ (value, of, bad). none (of.1, of.2))
     ]
     by_kept false drop = inr (λ (value, of, bad). absurd_bool (is_kept_node settings r) of.0 drop)

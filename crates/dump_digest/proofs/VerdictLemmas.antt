@@ -1,12 +1,11 @@
 -- What a verdict's parts mean together.
-use Rattle.std.proofs.Common.{◌≡◌, ◌↔◌, ℕ, Bool, true, false, ◌||◌, List, refl, sym, subst, ◌∙◌, Option, is_some, IsTrue, IsFalse, IsSome}
+use Rattle.std.proofs.Common.{◌≡◌, ◌↔◌, Bool, true, false, ◌||◌, refl, sym, ◌∙◌, Option, is_some, IsTrue, IsFalse, IsSome}
 use Rattle.dump_text.specs.Names.{md5_name, sha1_name}
-use Rattle.dump_text.specs.PropertyList.{HasProperties}
 use Rattle.dump_text.proofs.BoolLemmas.{either_second}
 use Rattle.dump_records.specs.RecordText.{DumpRecord}
 use Rattle.dump_rules.specs.Settings.{Settings}
 use Rattle.dump_digest.specs.declared.verdict.Verdict.{Verdict}
-use Rattle.dump_digest.specs.RecordParts.{is_revision, is_kept_node}
+use Rattle.dump_digest.specs.RecordParts.{is_revision, is_kept_node, HasPropertyBlock}
 use Rattle.dump_digest.specs.ContentFaults.{HasBadMergeinfo}
 use Rattle.dump_digest.specs.steps.Checks.{HasOtherDigest, is_told_text}
 use Rattle.dump_digest.specs.steps.VerdictMeaning.{IsVerdict}
@@ -19,34 +18,32 @@ or_none : (a b : Bool) → b ≡ false → (a || b) ≡ a
 or_none true b e = refl
 or_none false b e = e
 
-pub unread : (props : List ℕ) (found : Bool) → (IsTrue found ↔ HasProperties props) → IsFalse found ↔ (¬ HasProperties props)
-unread props found means = (λ none has. clash (means.1 has) none, λ none. by_found found refl none)
+unread : (r : DumpRecord) (ok : Bool) → (IsTrue ok ↔ HasPropertyBlock r) → IsFalse ok ↔ (¬ HasPropertyBlock r)
+unread r ok means = (λ none has. clash (means.1 has) none, λ none. by_ok ok refl none)
   where
-    by_found : (b : Bool) → found ≡ b → ¬ HasProperties props → IsFalse found
-    by_found true e none = absurd (none (means.0 e))
-    by_found false e none = e
+    by_ok : (b : Bool) → ok ≡ b → ¬ HasPropertyBlock r → IsFalse ok
+    by_ok true e none = absurd (none (means.0 e))
+    by_ok false e none = e
 
--- properties that aren't asked, and properties that are
-
-pub not_asked : (r : DumpRecord) → IsFalse (is_revision r) → IsFalse true ↔ (IsTrue (is_revision r) × ¬ HasProperties r.props)
+-- properties that aren't asked
+pub not_asked : (r : DumpRecord) → IsFalse (is_revision r) → IsFalse true ↔ (IsTrue (is_revision r) × ¬ HasPropertyBlock r)
 not_asked r none = (λ e. cc, λ bad. absurd (clash bad.0 none))
 
-pub found_properties : {T : Type 0} (props bytes : List ℕ) (found : Option T) (ok : Bool) → bytes ≡ props → ok ≡ is_some found
-    → (IsSome found ↔ HasProperties bytes) → IsFalse ok ↔ (¬ HasProperties props)
-found_properties props bytes found ok same is means = unread props ok (
-  λ e. subst HasProperties same (means.0 (sym is ∙ e)),
-  λ has. is ∙ means.1 (subst HasProperties (sym same) has),
-)
+-- properties that are, of a node
+pub found_properties : {T : Type 0} (r : DumpRecord) (found : Option T) (ok : Bool) → ok ≡ is_some found
+    → (IsSome found ↔ HasPropertyBlock r) → IsFalse ok ↔ (¬ HasPropertyBlock r)
+found_properties r found ok is means = unread r ok (λ e. means.0 (sym is ∙ e), λ has. is ∙ means.1 has)
 
-pub asked : {T : Type 0} (r : DumpRecord) (bytes : List ℕ) (ok : Bool) (found : Option T) → IsTrue (is_revision r) → bytes ≡ r.props → ok ≡ is_some found
-    → (IsSome found ↔ HasProperties bytes) → IsFalse ok ↔ (IsTrue (is_revision r) × ¬ HasProperties r.props)
-asked r bytes ok found revision same is means =
-    let read = found_properties r.props bytes found ok same is means in
+-- and of a revision
+pub asked : {T : Type 0} (r : DumpRecord) (ok : Bool) (found : Option T) → IsTrue (is_revision r) → ok ≡ is_some found
+    → (IsSome found ↔ HasPropertyBlock r) → IsFalse ok ↔ (IsTrue (is_revision r) × ¬ HasPropertyBlock r)
+asked r ok found revision is means =
+    let read = found_properties r found ok is means in
     (λ e. (revision, read.0 e), λ bad. read.1 bad.1)
 
 -- a node that is kept
 pub kept_verdict : (settings : Settings) (r : DumpRecord) (v : Verdict) → IsTrue (is_kept_node settings r)
-    → (IsFalse v.props_ok ↔ (¬ HasProperties r.props))
+    → (IsFalse v.props_ok ↔ (¬ HasPropertyBlock r))
     → (IsFalse v.md5_ok ↔ HasOtherDigest md5_name r 16 (md5 r.text))
     → (IsFalse v.sha1_ok ↔ HasOtherDigest sha1_name r 20 (sha1 r.text))
     → (IsFalse v.merge_ok ↔ ∥ HasBadMergeinfo settings r ∥₁)
@@ -62,7 +59,7 @@ kept_verdict settings r v kept props first second merge checked = record {
 
 -- another record
 pub other_verdict : (settings : Settings) (r : DumpRecord) (props_ok : Bool) → IsFalse (is_kept_node settings r)
-    → (IsFalse props_ok ↔ (IsTrue (is_revision r) × ¬ HasProperties r.props))
+    → (IsFalse props_ok ↔ (IsTrue (is_revision r) × ¬ HasPropertyBlock r))
     → IsVerdict settings r (record { props_ok = props_ok; md5_ok = true; sha1_ok = true; merge_ok = true; checked = false })
 other_verdict settings r props_ok other props = record {
   props =

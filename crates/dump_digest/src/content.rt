@@ -1,5 +1,5 @@
 //! What a check reads of a record: its verdict, and what the filter asks of its properties and its copy source.
-ghost use Rattle.std.specs.Prelude.{◌≡◌, false, List, Some, MatchOption, IsFalse, IsTrue, IsNone, IsSome};
+ghost use Rattle.std.specs.Prelude.{◌≡◌, ◌↔◌, false, List, Some, MatchOption, IsFalse, IsTrue, IsNone, IsSome, IfSome};
 ghost use Rattle.dump_text.specs.declared.props.Props.{Props};
 ghost use Rattle.dump_text.specs.PropertyList.{IsPropertyBlock, Property};
 ghost use Rattle.dump_text.specs.steps.PropertyViews.{props_bytes};
@@ -8,7 +8,7 @@ ghost use Rattle.dump_records.specs.steps.RecordViews.{record_item};
 ghost use Rattle.dump_rules.specs.Settings.{Settings};
 ghost use Rattle.dump_digest.specs.steps.Checks.{properties_read};
 ghost use Rattle.dump_digest.specs.steps.ContentViews.{IsContent, IsSaidBy};
-ghost use Rattle.dump_digest.specs.RecordParts.{has_lost_source, is_kept_node, is_node, is_revision};
+ghost use Rattle.dump_digest.specs.RecordParts.{HasPropertyBlock, has_lost_source, is_kept_node, is_node, is_revision, takes_deletes};
 
 use crate::digests::text_check;
 use crate::kept::is_kept;
@@ -56,13 +56,33 @@ fn mergeinfo_of(props: &Option<Props<'_>>, options: &Options) -> Option<Mergeinf
     }
 }
 
+/// Whether properties may be deleted in the record's block: in a node under version 3.
+fn takes_deletes(item: &Record<'_>) -> bool
+    ensures { result ≡ takes_deletes (record_item item.now) }
+{
+    item.path().is_some() && item.version() == 3
+}
+
+/// The properties of the record, where they are a property block.
+fn properties_of<'a>(item: &Record<'a>) -> Option<Props<'a>>
+    ensures found { IsSome result ↔ HasPropertyBlock (record_item item.now) }
+    ensures bytes { IfSome result (λ props. props_bytes props ≡ (record_item item.now).props) }
+{
+    let bytes = item.property_bytes();
+    if takes_deletes(item) {
+        Props::read_with_deletes(bytes)
+    } else {
+        Props::read(bytes)
+    }
+}
+
 /// What is read of a node that is kept.
 fn read_kept<'a>(item: &Record<'a>, options: &Options) -> Content<'a>
     requires { IsTrue (is_kept_node options.now (record_item item.now)) }
     ensures { IsContent options.now (record_item item.now) result }
 {
     let text = text_check(item);
-    let props = Props::read(item.property_bytes());
+    let props = properties_of(item);
     let mergeinfo = mergeinfo_of(&props, options);
     Content {
         verdict: Verdict {
@@ -85,7 +105,7 @@ fn read_revision<'a>(item: &Record<'a>) -> Content<'a>
     ensures { (settings : Settings) → IsFalse (is_kept_node settings (record_item item.now))
         → IsContent settings (record_item item.now) result }
 {
-    let props = Props::read(item.property_bytes());
+    let props = properties_of(item);
     Content {
         verdict: Verdict {
             props_ok: props.is_some(),

@@ -1,7 +1,8 @@
 //! The digests of a record's text.
-ghost use Rattle.std.specs.Prelude.{◌≡◌, ◌↔◌, ◌||◌, IsFalse, IsTrue, Ok, is_some, length, option_copied};
+ghost use Rattle.std.specs.Prelude.{◌≡◌, ◌↔◌, ◌||◌, IsFalse, IsTrue, Ok, Some, None, is_some, length, option_copied, if◌then◌else◌};
 ghost use Rattle.dump_text.specs.Names.{md5_name, sha1_name};
 ghost use Rattle.dump_records.specs.steps.RecordViews.{record_item};
+ghost use Rattle.dump_digest.specs.RecordParts.{has_whole_text};
 ghost use Rattle.dump_digest.specs.steps.Checks.{HasOtherDigest, TellsOther, is_told_text};
 ghost use Rattle.md5.specs.Md5.{md5};
 ghost use Rattle.sha1.specs.Sha1.{sha1};
@@ -83,8 +84,16 @@ fn is_told(md5: Option<&[u8]>, sha1: Option<&[u8]>) -> bool
     md5.is_some() || sha1.is_some()
 }
 
+/// The text of the record's file, where it has one that isn't a delta.
+fn whole_text<'a>(item: &Record<'a>) -> Option<&'a [u8]>
+    ensures { let r = record_item item.now in
+        option_copied result ≡ (if has_whole_text r then Some r.text else None) }
+{
+    if item.text_delta() { None } else { item.text() }
+}
+
 /// What the digest headers of the record tell. The text is read where it lies, once for each
-/// digest; where there is no text length, no header is read.
+/// digest; where there is no text length, or the text is a delta, no header is read.
 pub(crate) fn text_check(item: &Record<'_>) -> TextCheck
     ensures md5 { let r = record_item item.now in
         IsFalse result.md5_ok ↔ HasOtherDigest md5_name r 16 (md5 r.text) }
@@ -92,7 +101,7 @@ pub(crate) fn text_check(item: &Record<'_>) -> TextCheck
         IsFalse result.sha1_ok ↔ HasOtherDigest sha1_name r 20 (sha1 r.text) }
     ensures checked { result.checked ≡ is_told_text (record_item item.now) }
 {
-    let Some(text) = item.text() else {
+    let Some(text) = whole_text(item) else {
         return TextCheck {
             md5_ok: true,
             sha1_ok: true,

@@ -21,12 +21,12 @@ pub struct Done<'a> {
 impl<'a> Done<'a> {
     ghost use Rattle.std.specs.Prelude.{◌≡◌, ◌&&◌, List, IfSome, IsTrue, is_some};
     ghost use Rattle.std.specs.List.{list_any};
-    ghost use Rattle.dump_text.specs.PropertyList.{IsPropertyBlock, Property};
+    ghost use Rattle.dump_text.specs.PropertyList.{Property};
     ghost use Rattle.dump_text.specs.steps.PropertyViews.{props_bytes};
     ghost use Rattle.dump_digest.specs.steps.ContentViews.{is_asked, ArePropertiesOf};
     ghost use Rattle.dump_digest.specs.steps.DoneViews.{done_record, done_settings, done_verdict};
     ghost use Rattle.dump_digest.specs.steps.MergeFaults.{merge_fault};
-    ghost use Rattle.dump_digest.specs.RecordParts.{has_lost_source, is_kept_node, is_mergeinfo};
+    ghost use Rattle.dump_digest.specs.RecordParts.{HasPropertyList, has_lost_source, is_kept_node, is_mergeinfo};
     ghost use Rattle.dump_digest.specs.steps.VerdictMeaning.{IsVerdict};
 
     /// The record, checked under these options.
@@ -77,7 +77,7 @@ impl<'a> Done<'a> {
     /// Whether a kept node has mergeinfo; its verdict says whether all of it can be read.
     pub fn has_mergeinfo(&self) -> bool
         ensures { let r = record_item (done_record self.now) in IsTrue (is_kept_node (done_settings self.now) r)
-            → IsTrue (done_verdict self.now).merge_ok → (ps : List Property) → IsPropertyBlock r.props ps
+            → IsTrue (done_verdict self.now).merge_ok → (ps : List Property) → HasPropertyList r ps
             → result ≡ list_any is_mergeinfo ps }
     {
         match self.content.mergeinfo {
@@ -90,7 +90,7 @@ impl<'a> Done<'a> {
     /// revision `present`.
     pub fn merge_fault(&self, first: u64, present: u64) -> Option<FaultKind>
         ensures { let r = record_item (done_record self.now) in IsTrue (is_kept_node (done_settings self.now) r)
-            → (ps : List Property) → IsPropertyBlock r.props ps
+            → (ps : List Property) → HasPropertyList r ps
             → result ≡ merge_fault (done_settings self.now) first present (done_verdict self.now).merge_ok ps }
     {
         let Some(mergeinfo) = self.content.mergeinfo else {

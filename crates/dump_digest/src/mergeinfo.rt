@@ -12,11 +12,11 @@ use dump_text::{Entry, Props};
 /// The name of the property that tells what was merged.
 const MERGEINFO: &[u8] = b"svn:mergeinfo";
 
-/// Whether the property tells what was merged.
+/// Whether the property tells what was merged; one that is gone doesn't.
 pub fn is_mergeinfo(entry: &Entry<'_>) -> bool
     ensures { result ≡ is_mergeinfo (entry_property entry.now) }
 {
-    entry.name == MERGEINFO
+    !entry.gone && entry.name == MERGEINFO
 }
 
 /// The mergeinfo among some properties, where each value of it can be read.

@@ -10,10 +10,10 @@ use dump_rules::Options;
 /// revision nor a kept node nothing is, and of a revision only the properties are.
 #[derive(Clone, Copy, Debug, PartialEq, Eq)]
 pub struct Verdict {
-    /// Whether the properties are a property block.
+    /// Whether the properties are a property block, in which a node under version 3 may delete some.
     pub props_ok: bool,
     /// Whether the MD5 header, if there is one, is the digest of the text, in 32 hexadecimal digits
-    /// of either case. Without a text length there is no text to check.
+    /// of either case. Without a text length, or of a delta, there is no text to check.
     pub md5_ok: bool,
     /// The same of the SHA-1 header and its 40 digits.
     pub sha1_ok: bool,

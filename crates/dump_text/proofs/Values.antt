@@ -278,7 +278,7 @@ first (b ∷ text) = b
 apart : (c : ℕ) → c < 80 → ¬ (◌≡◌ {A = ℕ} 80 c)
 apart c below e = omega arith
 
-no_changes : ¬ HasPropertyChanges (codes "PROPS-END")
+pub no_changes : ¬ HasPropertyChanges (codes "PROPS-END")
 no_changes ([], inl (e, _)) = let same = ap length e in omega arith
 no_changes ([], inr e) = no_end e
 no_changes (p ∷ ps, inl (_, e)) = let same = ap length e in omega arith
@@ -287,7 +287,7 @@ no_changes (p ∷ ps, inr (entry, rest, e, inl (_, _, (_, _, _, _, spelled)), _)
 no_changes (p ∷ ps, inr (entry, rest, e, inr (_, (_, _, spelled)), _)) =
     apart 68 (lit< tt) (ap first (e ∙ ap (λ text. text ++ rest) spelled))
 
-pub no_properties : ¬ HasProperties (codes "PROPS-END")
+no_properties : ¬ HasProperties (codes "PROPS-END")
 no_properties (ps, block, kept) = no_changes (ps, block)
 
 block_spelled : property_block_text (log ∷ []) ≡ codes "K 7\nsvn:log\nV 2\nhi\nPROPS-END\n"

@@ -7,7 +7,7 @@ use Rattle.dump_text.specs.HeaderLine.{has_header}
 use Rattle.dump_text.specs.PropertyList.{Property}
 use Rattle.dump_records.specs.RecordText.{DumpRecord}
 use Rattle.dump_rules.specs.steps.ReadMergeinfo.{value_reads}
-use Rattle.dump_digest.specs.RecordParts.{has_text, is_mergeinfo}
+use Rattle.dump_digest.specs.RecordParts.{has_whole_text, is_mergeinfo, value_of}
 use Rattle.dump_digest.specs.ContentFaults.{DiffersFromDigest}
 use Rattle.hex.specs.Hex.{decode_sized}
 
@@ -15,17 +15,17 @@ use Rattle.hex.specs.Hex.{decode_sized}
 abbrev pub TellsOther : Option (List ℕ) → ℕ → List ℕ → Type 0
 TellsOther told size digest = IsTrue (is_some told) × ForSome told (λ digits. decode_sized digits size ≢ Ok digest)
 
--- the record has a text, and the header tells another digest of it
+-- the record has its file's text, and the header tells another digest of it
 abbrev pub HasOtherDigest : List ℕ → DumpRecord → ℕ → List ℕ → Type 0
-HasOtherDigest name r size digest = IsTrue (has_text r) × DiffersFromDigest name r size digest
+HasOtherDigest name r size digest = IsTrue (has_whole_text r) × DiffersFromDigest name r size digest
 
--- whether the record has a text and a digest of it
+-- whether the record has its file's text and a digest of it
 abbrev pub is_told_text : DumpRecord → Bool
-is_told_text r = has_text r && (has_header md5_name r.headers || has_header sha1_name r.headers)
+is_told_text r = has_whole_text r && (has_header md5_name r.headers || has_header sha1_name r.headers)
 
 -- whether the property tells what was merged only in a value that is mergeinfo
 abbrev pub property_reads : Property → Bool
-property_reads p = not (is_mergeinfo p) || value_reads p.value
+property_reads p = not (is_mergeinfo p) || value_reads (value_of p)
 
 -- whether each property does
 abbrev pub properties_read : List Property → Bool

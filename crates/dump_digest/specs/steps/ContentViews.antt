@@ -3,7 +3,7 @@ use Rattle.std.specs.Prelude.{◌≡◌, ℕ, Bool, true, ◌&&◌, ◌||◌, Li
 use Rattle.std.specs.List.{list_any}
 use Rattle.std.specs.Option.{ForSome}
 use Rattle.dump_text.specs.declared.props.Props.{Props}
-use Rattle.dump_text.specs.PropertyList.{Property, IsPropertyBlock, HasProperties}
+use Rattle.dump_text.specs.PropertyList.{Property}
 use Rattle.dump_text.specs.steps.PropertyViews.{props_bytes}
 use Rattle.dump_records.specs.RecordText.{DumpRecord}
 use Rattle.dump_rules.specs.Settings.{Settings}
@@ -12,7 +12,7 @@ use Rattle.dump_digest.specs.declared.content.Content.{Content}
 use Rattle.dump_digest.specs.declared.mergeinfo.Mergeinfo.{Mergeinfo}
 use Rattle.dump_digest.specs.steps.Checks.{properties_read}
 use Rattle.dump_digest.specs.steps.MergeFaults.{misses, is_foreign}
-use Rattle.dump_digest.specs.RecordParts.{is_revision, is_kept_node, is_mergeinfo, has_lost_source}
+use Rattle.dump_digest.specs.RecordParts.{is_revision, is_kept_node, HasPropertyList, HasPropertyBlock, is_mergeinfo, has_lost_source}
 use Rattle.dump_digest.specs.steps.VerdictMeaning.{IsVerdict}
 
 -- this is the mergeinfo among the properties, each value of which can be read
@@ -30,7 +30,7 @@ is_asked settings r = is_revision r || is_kept_node settings r
 -- these are the record's properties, where it has any
 pub record ArePropertiesOf (r : DumpRecord) (found : Option Props) : Type 0 where
   pub bytes : ForSome found (λ props. props_bytes props ≡ r.props)
-  pub there : HasProperties r.props → IsSome found
+  pub there : HasPropertyBlock r → IsSome found
 
 -- what was read is the record's: its verdict, whether it is kept, its properties, its mergeinfo and its copy source
 pub record IsContent (settings : Settings) (r : DumpRecord) (c : Content) : Type 0 where
@@ -39,6 +39,6 @@ pub record IsContent (settings : Settings) (r : DumpRecord) (c : Content) : Type
   pub asked : is_some c.props ≡ (is_asked settings r && c.verdict.props_ok)
   pub bytes : ForSome c.props (λ props. props_bytes props ≡ r.props)
   pub read : IsTrue (is_kept_node settings r) → is_some c.mergeinfo ≡ c.verdict.merge_ok
-  pub said : IsTrue (is_kept_node settings r) → (ps : List Property) → IsPropertyBlock r.props ps
+  pub said : IsTrue (is_kept_node settings r) → (ps : List Property) → HasPropertyList r ps
       → ForSome c.mergeinfo (λ m. IsSaidBy settings ps m)
   pub lost : IsTrue (is_kept_node settings r) → c.lost_source ≡ has_lost_source settings r

@@ -7,15 +7,15 @@ use Rattle.dump_text.specs.PropertyList.{Property, IsPropertyBlock}
 use Rattle.dump_rules.specs.Settings.{Settings}
 use Rattle.dump_rules.specs.Mergeinfo.{HasMergeLines}
 use Rattle.dump_rules.specs.steps.NewLines.{value_misses, value_foreign}
-use Rattle.dump_digest.specs.RecordParts.{is_mergeinfo}
+use Rattle.dump_digest.specs.RecordParts.{is_mergeinfo, value_of}
 
 -- whether the property is mergeinfo that misses a source
 abbrev pub misses : Settings → Property → Bool
-misses settings p = is_mergeinfo p && value_misses settings p.value
+misses settings p = is_mergeinfo p && value_misses settings (value_of p)
 
 -- whether the property is mergeinfo with a number that the dump can't have
 abbrev pub is_foreign : Settings → ℕ → ℕ → Property → Bool
-is_foreign settings first present p = is_mergeinfo p && value_foreign settings first present p.value
+is_foreign settings first present p = is_mergeinfo p && value_foreign settings first present (value_of p)
 
 -- the fault of the mergeinfo among the properties of a kept node; its values are ok or not
 abbrev pub merge_fault : Settings → ℕ → ℕ → Bool → List Property → Option FaultKind
@@ -29,4 +29,4 @@ merge_fault settings first present ok ps =
 -- each value of mergeinfo in the block is some lines
 abbrev pub HasLines : List ℕ → Type 0
 HasLines block = (ps : List Property) → IsPropertyBlock block ps → (p : Property) → Contains ps p → IsTrue (is_mergeinfo p)
-    → ¬ ¬ HasMergeLines p.value
+    → ¬ ¬ HasMergeLines (value_of p)

@@ -1,4 +1,4 @@
-use Rattle.std.proofs.Common.{◌≡◌, ◌↔◌, Bool, IsFalse, subst, sym}
+use Rattle.std.proofs.Common.{◌↔◌, Bool, IsFalse, subst, sym}
 use Rattle.dump_records.specs.steps.RecordViews.{record_item}
 use Rattle.dump_text.proofs.BoolLemmas.{first_true}
 use Rattle.dump_digest.specs.RecordParts.{is_node}
@@ -15,23 +15,21 @@ returns c =
     let s = c.args.options.now in
     let r = record_item c.args.item.now in
     let kept = c.requires in
-    let bytes = c.property_bytes.result.now in
-    let same : bytes ≡ r.props = c.property_bytes.ensures in
-    let found = c.read-props.result in
-    let read = c.read-props.ensures in
+    let found = c.properties_of-props.result in
+    let read = c.properties_of-props.ensures in
     let said = c.mergeinfo_of-mergeinfo.ensures in
-    let told = merge_told s r bytes found c.mergeinfo_of-mergeinfo.result kept same read.found read.bytes said.some said.none in
+    let told = merge_told s r found c.mergeinfo_of-mergeinfo.result kept read.found read.bytes said.some said.none in
     record {
       verdict_is = kept_verdict s r _ kept
-          (found_properties r.props bytes found c.is_some.result same c.is_some.ensures read.found)
+          (found_properties r found c.is_some.result c.is_some.ensures read.found)
           c.text_check-text.ensures.md5
           c.text_check-text.ensures.sha1
           (subst (λ (b : Bool). IsFalse b ↔ ∥ HasBadMergeinfo s r ∥₁) (sym c.is_some-2.ensures) told)
           c.text_check-text.ensures.checked;
       kept_is = sym kept;
       asked = asked_kept s r found c.is_some.result kept c.is_some.ensures;
-      bytes = bytes_told r bytes found same read.bytes;
+      bytes = bytes_told r found read.bytes;
       read = λ k. sym c.is_some-2.ensures;
-      said = λ k ps block. values_told s r bytes found c.mergeinfo_of-mergeinfo.result same read.found read.bytes said.some ps block;
+      said = λ k ps block. values_told s r found c.mergeinfo_of-mergeinfo.result read.found read.bytes said.some ps block;
       lost = λ k. c.has_lost_source.ensures;
     }

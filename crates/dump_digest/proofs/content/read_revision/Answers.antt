@@ -8,10 +8,9 @@ use Rattle.dump_digest.proofs.content.read_revision.Goals as goal
 pub returns : goal.returns
 returns c settings other =
     let r = record_item c.args.item.now in
-    let bytes = c.property_bytes.result.now in
-    let found = c.read-props.result in
-    let read = c.read-props.ensures in
+    let found = c.properties_of-props.result in
+    let read = c.properties_of-props.ensures in
     content_of_other settings r _ found other
-    (other_verdict settings r c.is_some.result other (asked r bytes c.is_some.result found c.requires c.property_bytes.ensures c.is_some.ensures read.found))
+    (other_verdict settings r c.is_some.result other (asked r c.is_some.result found c.requires c.is_some.ensures read.found))
     (sym c.is_some.ensures ∙ ap (λ b. (b || is_kept_node settings r) && c.is_some.result) (sym c.requires))
-    (bytes_told r bytes found c.property_bytes.ensures read.bytes)
+    (bytes_told r found read.bytes)

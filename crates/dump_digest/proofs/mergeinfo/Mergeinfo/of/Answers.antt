@@ -1,11 +1,14 @@
-use Rattle.std.proofs.Common.{◌≡◌, Option, List, [], false, sym, subst, ◌∙◌, inr, MatchOption}
+use Rattle.std.proofs.Common.{◌≡◌, ◌||◌, Option, List, [], false, sym, ap, subst, ◌∙◌, inr, MatchOption}
 use Rattle.dump_text.specs.PropertyList.{Property}
 use Rattle.dump_text.specs.steps.PropertyViews.{entry_property}
 use Rattle.dump_text.proofs.PropertyLemmas.{entry_parts, left_of, property_block_once}
 use Rattle.dump_digest.specs.declared.mergeinfo.Mergeinfo.{Mergeinfo}
 use Rattle.dump_digest.specs.steps.Checks.{properties_read}
 use Rattle.dump_digest.specs.steps.ContentViews.{IsSaidBy}
-use Rattle.dump_digest.proofs.SaidLemmas.{IsSaidUpTo, said_at_first, said_of_other, said_of_value, not_said, said_at_last, unread_value, reads_value}
+use Rattle.dump_rules.specs.steps.Merged.{is_outside}
+use Rattle.dump_rules.specs.steps.NewLines.{value_misses, value_foreign}
+use Rattle.dump_rules.specs.steps.ReadMergeinfo.{value_reads}
+use Rattle.dump_digest.proofs.SaidLemmas.{entry_value, IsSaidUpTo, said_at_first, said_of_other, said_of_value, not_said, said_at_last, unread_value, reads_value}
 use Rattle.dump_digest.proofs.mergeinfo.Mergeinfo.of.Goals as goal
 
 pub loop-entry-init : goal.loop-entry-init
@@ -19,7 +22,8 @@ returns-in_err-said c = λ ps is.
     let (text, cut, one) = c.in-Some.ensures.steps in
     let left = left_of _ p _ qs (entry_parts _ text _ p cut one) here in
     let named = sym c.is_mergeinfo.ensures ∙ c.if-is_mergeinfo.true in
-    let bad = unread_value p.value c.with.result c.with.ensures.read c.in_err-said.was in
+    let bad = ap value_reads (entry_value c.in-Some.entry)
+    ∙ unread_value c.in-Some.entry.value.now c.with.result c.with.ensures.read c.in_err-said.was in
     subst (λ (o : Option Mergeinfo). MatchOption o (properties_read ps ≡ false) (λ m. IsSaidBy c.args.options.now ps m))
     (sym c.from_residual.ensures)
     (not_said c.args.options.now ps qs left.others p c.loop-entry.found c.loop-entry.said left.list named bad up)
@@ -29,7 +33,9 @@ loop-entry-preserved-then-is_mergeinfo c =
     let p = entry_property c.in-Some.entry in
     let (text, cut, one) = c.in-Some.ensures.steps in
     let named = sym c.is_mergeinfo.ensures ∙ c.if-is_mergeinfo.true in
-    let reads = reads_value p.value c.with.result c.in_ok-said.said c.with.ensures.read c.in_ok-said.was in (
+    let same = entry_value c.in-Some.entry in
+    let reads = ap value_reads same
+    ∙ reads_value c.in-Some.entry.value.now c.with.result c.in_ok-said.said c.with.ensures.read c.in_ok-said.was in (
       tt,
       tt,
       λ ps is.
@@ -38,7 +44,11 @@ loop-entry-preserved-then-is_mergeinfo c =
             left.others,
             inr left.entries,
             said_of_value c.args.options.now ps qs left.others p c.loop-entry.found c.loop-entry.said c.in_ok-said.said left.list named reads
-                c.in_ok-said.ensures.sources (λ first present. c.in_ok-said.ensures.numbers first present) up,
+                (c.in_ok-said.ensures.sources
+                ∙ ap (λ v. c.loop-entry.said.misses || value_misses c.args.options.now v) (sym same))
+                (λ first present. c.in_ok-said.ensures.numbers first present
+                ∙ ap (λ v. is_outside c.args.options.now first present c.loop-entry.said.numbers
+                || value_foreign c.args.options.now first present v) (sym same)) up,
           ),
     )
 

@@ -1,0 +1,46 @@
+-- A record's properties can be read or can't, and which list they are.
+use Rattle.std.proofs.Common.{◌≡◌, ◌⊎◌, ◌↔◌, Bool, true, false, List, refl, sym, ap, ◌∙◌, inl, inr}
+use Rattle.dump_text.specs.PropertyList.{Property, IsPropertyBlock, HasProperties, HasPropertyChanges, has_deletes}
+use Rattle.dump_text.proofs.BoolLemmas.{absurd_bool}
+use Rattle.dump_text.proofs.PropertyLemmas.{property_block_once}
+use Rattle.dump_text.proofs.PropertyChoice.{changes_or_not}
+use Rattle.dump_records.specs.RecordText.{DumpRecord}
+use Rattle.dump_digest.specs.RecordParts.{takes_deletes, HasPropertyBlock}
+
+-- where deleted properties may stand, any property block is the record's
+pub with_deletes : (r : DumpRecord) → takes_deletes r ≡ true → HasPropertyChanges r.props ↔ HasPropertyBlock r
+with_deletes r takes = (λ (ps, block). (ps, (block, λ deletes. takes)), λ (ps, list). (ps, list.0))
+
+-- and elsewhere one without them
+pub without_deletes : (r : DumpRecord) → takes_deletes r ≡ false → HasProperties r.props ↔ HasPropertyBlock r
+without_deletes r takes = (
+  λ (ps, block, kept). (ps, (block, λ deletes. absurd (absurd_bool (has_deletes ps) deletes kept))),
+  λ (ps, list). (ps, list.0, by_deletes ps list.1 (has_deletes ps) refl),
+)
+  where
+    by_deletes : (ps : List Property) → (has_deletes ps ≡ true → takes_deletes r ≡ true) → (b : Bool) → has_deletes ps ≡ b
+        → has_deletes ps ≡ false
+    by_deletes ps may true deletes = absurd (absurd_bool (takes_deletes r) (may deletes) takes)
+    by_deletes ps may false kept = kept
+
+-- a record's properties can be read, or can't
+pub block_or_not : (r : DumpRecord) → HasPropertyBlock r ⊎ (¬ HasPropertyBlock r)
+block_or_not r = elim (changes_or_not r.props) [
+  | inl (ps, block) ↦ by_deletes ps block (has_deletes ps) refl (takes_deletes r) refl
+  | inr none ↦ inr (λ (ps, list). none (ps, list.0))
+]
+  where
+    by_deletes : (ps : List Property) → IsPropertyBlock r.props ps → (b : Bool) → has_deletes ps ≡ b → (c : Bool)
+        → takes_deletes r ≡ c → HasPropertyBlock r ⊎ (¬ HasPropertyBlock r)
+    by_deletes ps block true deletes true takes = inl (ps, (block, λ e. takes))
+    by_deletes ps block true deletes false takes = inr (λ (qs, list).
+        let same = property_block_once r.props ps qs block list.0 in
+        absurd_bool (takes_deletes r) (list.1 (sym (ap has_deletes same) ∙ deletes)) takes)
+    by_deletes ps block false kept c takes = inl (ps, (block, λ e. absurd (absurd_bool (has_deletes ps) e kept)))
+
+-- those that can't be no property block are one
+pub block_stable : (r : DumpRecord) → ¬ ¬ HasPropertyBlock r → HasPropertyBlock r
+block_stable r possible = elim (block_or_not r) [
+  | inl has ↦ has
+  | inr none ↦ absurd (possible none)
+]
