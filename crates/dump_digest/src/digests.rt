@@ -18,7 +18,7 @@ use sha1::Sha1;
 pub(crate) struct TextCheck {
     pub(crate) md5_ok: bool,
     pub(crate) sha1_ok: bool,
-    /// Whether there is a text, and a digest of it.
+    /// Whether there is a text that is no delta, and a digest of it.
     pub(crate) checked: bool,
 }
 

@@ -15,9 +15,10 @@
 //!
 //! Of a node that the options keep, the properties, the two digests of its text and its mergeinfo
 //! are checked; of a revision, kept or not, its properties; of other records nothing. What isn't to
-//! be checked is ok. A text is checked where the record has a length for it, and digested where it
-//! lies: nothing is copied, no memory is taken, and nothing waits. What depends on other records,
-//! as the order of revisions, copy sources and the numbers in mergeinfo, isn't asked here.
+//! be checked is ok. A text is checked where the record has a length for it and it is no delta, and
+//! digested where it lies: nothing is copied, no memory is taken, and nothing waits. A node under
+//! format version 3 may delete properties, and deleted mergeinfo is none. What depends on other
+//! records, as the order of revisions, copy sources and the numbers in mergeinfo, isn't asked here.
 #![tactic(auto)]
 
 mod content;

@@ -1,5 +1,5 @@
 //! Each call once, worked digests of either kind, and whose parts a verdict tells of.
-use crate::{Done, Verdict, check, is_kept};
+use crate::{Done, Verdict, check, is_kept, is_mergeinfo};
 use dump_records::{Cut, Cutter, Record};
 use dump_rules::{Empty, Options, Side};
 use dump_text::FaultKind;
@@ -49,6 +49,11 @@ const BAD_MD5: Verdict = Verdict {
 const BAD_SHA1: Verdict = Verdict {
     sha1_ok: false,
     ..CHECKED
+};
+
+const BAD_DIGESTS: Verdict = Verdict {
+    sha1_ok: false,
+    ..BAD_MD5
 };
 
 const BAD_MERGEINFO: Verdict = Verdict {
@@ -112,19 +117,30 @@ fn nodes_are_kept_by_their_paths(rt: HostRuntime) -> Result<(), Fail> {
     Ok(())
 }
 
-// The verdict on the record that is alone in a dump.
-fn verdict_on(alloc: Global, text: &str) -> Result<Verdict, Fail> {
+// The verdict on the record that is alone in a dump of this version.
+fn verdict_under(alloc: Global, version: u64, text: &str) -> Result<Verdict, Fail> {
     let options = include_trunk(alloc)?;
-    let dump = format!(in alloc; "SVN-fs-dump-format-version: 2\n\n{text}")?;
+    let dump = format!(in alloc; "SVN-fs-dump-format-version: {version}\n\n{text}")?;
     Ok(check(&record(dump.as_bytes(), 1)?, &options))
+}
+
+// The verdict on the record that is alone in a dump of version 2.
+fn verdict_on(alloc: Global, text: &str) -> Result<Verdict, Fail> {
+    verdict_under(alloc, 2, text)
+}
+
+// A file with the text `abc` and these lines.
+fn abc_file(alloc: Global, path: &str, lines: &str) -> Result<String, Fail> {
+    let file = format!(in alloc;
+        "Node-path: {path}\nNode-kind: file\nNode-action: add\n\
+Text-content-length: 3\n{lines}Content-length: 3\n\nabc\n\n"
+    )?;
+    Ok(file)
 }
 
 // The verdict on a file with the text `abc` and these digest lines.
 fn verdict_on_abc(alloc: Global, path: &str, digests: &str) -> Result<Verdict, Fail> {
-    let file = format!(in alloc;
-        "Node-path: {path}\nNode-kind: file\nNode-action: add\n\
-Text-content-length: 3\n{digests}Content-length: 3\n\nabc\n\n"
-    )?;
+    let file = abc_file(alloc, path, digests)?;
     verdict_on(alloc, file.as_str())
 }
 
@@ -189,15 +205,55 @@ fn digests_are_those_of_the_text(rt: HostRuntime) -> Result<(), Fail> {
     Ok(())
 }
 
+const RIGHT_DIGESTS: &str = "Text-content-sha1: a9993e364706816aba3e25717850c26c9cd0d89d\n\
+Text-content-md5: 900150983cd24fb0d6963f7d28e17f72\n";
+
+const WRONG_DIGESTS: &str = "Text-content-sha1: a9993e364706816aba3e25717850c26c9cd0d89e\n\
+Text-content-md5: 900150983cd24fb0d6963f7d28e17f73\n";
+
 #[test]
 fn both_digests_are_told(rt: HostRuntime) -> Result<(), Fail> {
-    let wrong = "Text-content-sha1: a9993e364706816aba3e25717850c26c9cd0d89e\n\
-Text-content-md5: 900150983cd24fb0d6963f7d28e17f73\n";
-    let both = Verdict {
-        sha1_ok: false,
-        ..BAD_MD5
-    };
-    assert_eq!(rt; verdict_on_abc(rt.alloc(), "trunk/f", wrong)?, both);
+    let found = verdict_on_abc(rt.alloc(), "trunk/f", WRONG_DIGESTS)?;
+    assert_eq!(rt; found, BAD_DIGESTS);
+    Ok(())
+}
+
+#[test]
+fn deltas_are_not_digested(rt: HostRuntime) -> Result<(), Fail> {
+    let alloc = rt.alloc();
+    let rows = [
+        (3, "Text-delta: true\n", OK, OK),
+        (3, "Text-delta: false\n", CHECKED, BAD_DIGESTS),
+        (3, "Prop-delta: true\n", CHECKED, BAD_DIGESTS),
+        (3, "", CHECKED, BAD_DIGESTS),
+        (2, "Text-delta: true\n", CHECKED, BAD_DIGESTS),
+        (2, "Text-delta: false\n", CHECKED, BAD_DIGESTS),
+    ];
+    for (version, delta, right, wrong) in rows {
+        for (digests, verdict) in [(RIGHT_DIGESTS, right), (WRONG_DIGESTS, wrong)] {
+            let lines = format!(in alloc; "{delta}{digests}")?;
+            let file = abc_file(alloc, "trunk/f", lines.as_str())?;
+            let found = verdict_under(alloc, version, file.as_str())?;
+            assert_eq!(rt; found, verdict, "{version} {lines}");
+        }
+    }
+    Ok(())
+}
+
+#[test]
+fn the_version_in_force_says_what_a_delta_is(rt: HostRuntime) -> Result<(), Fail> {
+    let alloc = rt.alloc();
+    let options = include_trunk(alloc)?;
+    let lines = format!(in alloc; "Text-delta: true\n{WRONG_DIGESTS}")?;
+    let file = abc_file(alloc, "trunk/f", lines.as_str())?;
+    let dump = format!(in alloc;
+        "SVN-fs-dump-format-version: 2\n\n{file}\
+SVN-fs-dump-format-version: 3\n\n{file}SVN-fs-dump-format-version: 2\n\n{file}"
+    )?;
+    for (number, verdict) in [(1, BAD_DIGESTS), (3, OK), (5, BAD_DIGESTS)] {
+        let found = check(&record(dump.as_bytes(), number)?, &options);
+        assert_eq!(rt; found, verdict, "{number}");
+    }
     Ok(())
 }
 
@@ -250,6 +306,68 @@ fn mergeinfo_of_kept_nodes_is_checked(rt: HostRuntime) -> Result<(), Fail> {
     for (header, first, second, end, verdict) in rows {
         let found = verdict_on_values(rt.alloc(), header, first, second, end)?;
         assert_eq!(rt; found, verdict, "{header} {first} {second} {end}");
+    }
+    Ok(())
+}
+
+// A record with a property block of these entries.
+fn record_with_entries(alloc: Global, header: &str, entries: &str) -> Result<String, Fail> {
+    let length = entries.len() + 10;
+    let text = format!(in alloc;
+        "{header}\nProp-content-length: {length}\nContent-length: {length}\n\n{entries}PROPS-END\n\n"
+    )?;
+    Ok(text)
+}
+
+#[test]
+fn nodes_under_version_three_may_delete_properties(rt: HostRuntime) -> Result<(), Fail> {
+    let alloc = rt.alloc();
+    let kept = "Node-path: trunk";
+    let rows = [
+        (3, kept, OK),
+        (3, "Node-path: trunk\nProp-delta: true", OK),
+        (3, "Revision-number: 1", BAD_PROPERTIES),
+        (3, "Node-path: tags", OK),
+        (2, kept, BAD_PROPERTIES),
+        (2, "Node-path: trunk\nProp-delta: true", BAD_PROPERTIES),
+        (2, "Revision-number: 1", BAD_PROPERTIES),
+        (2, "Node-path: tags", OK),
+    ];
+    for (version, header, verdict) in rows {
+        let deleting = record_with_entries(alloc, header, "K 1\na\nV 1\nb\nD 1\nc\n")?;
+        let found = verdict_under(alloc, version, deleting.as_str())?;
+        assert_eq!(rt; found, verdict, "{version} {header}");
+        let setting = record_with_entries(alloc, header, "K 1\na\nV 1\nb\n")?;
+        let found = verdict_under(alloc, version, setting.as_str())?;
+        assert_eq!(rt; found, OK, "{version} {header}");
+    }
+    Ok(())
+}
+
+#[test]
+fn deleted_mergeinfo_is_none(rt: HostRuntime) -> Result<(), Fail> {
+    let alloc = rt.alloc();
+    let options = include_trunk(alloc)?;
+    let deleted = "D 13\nsvn:mergeinfo\n";
+    let set = "K 13\nsvn:mergeinfo\nV 8\n/trunk:1\n";
+    let bad = "K 13\nsvn:mergeinfo\nV 8\n/trunk:0\n";
+    let rows = [
+        (deleted, "", false, false, OK),
+        (deleted, deleted, false, false, OK),
+        (deleted, set, false, true, OK),
+        (set, deleted, true, true, OK),
+        (deleted, bad, false, false, BAD_MERGEINFO),
+    ];
+    for (first, second, first_is, has, verdict) in rows {
+        let entries = format!(in alloc; "{first}{second}")?;
+        let node = record_with_entries(alloc, "Node-path: trunk", entries.as_str())?;
+        let dump = format!(in alloc; "SVN-fs-dump-format-version: 3\n\n{node}")?;
+        let done = Done::of(record(dump.as_bytes(), 1)?, &options);
+        assert_eq!(rt; done.verdict(), verdict, "{entries}");
+        assert_eq!(rt; done.has_mergeinfo(), has, "{entries}");
+        let props = done.props().ok_or("no properties")?;
+        let entry = props.entries().next().ok_or("no entry")?;
+        assert_eq!(rt; is_mergeinfo(&entry), first_is, "{entries}");
     }
     Ok(())
 }
