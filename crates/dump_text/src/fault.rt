@@ -10,7 +10,7 @@ pub enum FaultKind {
     Header,
     /// Not exactly one name says what record it is, or one copyfrom header stands alone in a node.
     Kind,
-    /// The dump doesn't begin with a version record, or a version isn't 2.
+    /// The dump doesn't begin with a version record, or a version isn't 2 or 3.
     Version,
     /// A revision number, a copy revision or a length isn't a number.
     Number,
