@@ -20,7 +20,7 @@ pub enum FaultKind {
     ContentCut,
     /// A node follows neither a revision nor a node, or a revision's number isn't above the one before.
     Order,
-    /// The properties aren't a property block.
+    /// The properties aren't a property block, or one is deleted where none may be.
     Props,
     /// The text has another MD5 digest than its header says.
     Md5,
