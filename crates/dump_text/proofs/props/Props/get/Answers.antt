@@ -1,4 +1,4 @@
-use Rattle.std.proofs.Common.{◌≡◌, ◌&&◌, true, false, [], refl, sym, ap, ◌∙◌, inr, is_some, bytes_eq}
+use Rattle.std.proofs.Common.{◌≡◌, ◌&&◌, false, [], sym, ap, ◌∙◌, inr, is_some, bytes_eq}
 use Rattle.dump_text.specs.PropertyList.{property_value}
 use Rattle.dump_text.specs.steps.PropertyViews.{entry_property}
 use Rattle.dump_text.proofs.BoolLemmas.{both_true}
