@@ -8,7 +8,8 @@ ghost use Rattle.std.specs.List.Sorted.{IsNonDecreasingBy};
 ghost use Rattle.dump_rules.specs.steps.Blocks.{IsFilled, block_contradicts, meets, parts_agree, parts_left, raised_ends};
 ghost use Rattle.dump_rules.specs.steps.ReadRanges.{range_of, range_parts};
 
-use crate::ranges::{find, range};
+use crate::ranges::range;
+use dump_text::find;
 
 /// How many ranges are held at a time: 64 KiB of the stack.
 const BLOCK_SIZE: usize = 4096;

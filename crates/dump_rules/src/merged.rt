@@ -9,8 +9,9 @@ ghost use Rattle.dump_rules.specs.steps.ReadRanges.{range_of, span_range};
 use crate::mergeinfo::{colon_end, cut_lf};
 use crate::options::Options;
 use crate::paths::keeps;
-use crate::ranges::{Span, find, list_reads, range};
+use crate::ranges::{Span, list_reads, range};
 use crate::runs::cut_at;
+use dump_text::find;
 
 /// The least and the greatest number of some ranges.
 #[derive(Clone, Copy, Debug, PartialEq, Eq)]

@@ -4,7 +4,7 @@ ghost use Rattle.dump_rules.specs.steps.Blocks.{parts_agree};
 ghost use Rattle.dump_rules.specs.steps.ReadRanges.{ends_in_star, climbed, ends_of, list_reads, raised, raised_by, range_parts, range_of, span_range, without_star};
 
 use crate::blocks::each_part_agrees;
-use dump_text::number;
+use dump_text::{find, number};
 
 /// The revisions from one number to another, all inheritable or all not.
 #[derive(Clone, Copy)]
@@ -12,13 +12,6 @@ pub(crate) struct Span {
     pub(crate) from: u64,
     pub(crate) to: u64,
     pub(crate) inheritable: bool,
-}
-
-/// Where the byte stands first.
-pub(crate) fn find(byte: u8, text: &[u8]) -> Option<usize>
-    ensures { result ≡ position (λ b. b == byte) text.now }
-{
-    text.iter().position(|b| *b == byte)
 }
 
 /// The text without a star at its end, and whether there is none.

@@ -16,9 +16,10 @@ use crate::merged::Merged;
 use crate::mergeinfo::{cut_lf, list_of, path_of};
 use crate::options::Options;
 use crate::paths::keeps;
-use crate::ranges::{Span, find, range};
+use crate::ranges::{Span, range};
 use crate::reach::Reach;
 use crate::runs::{cut_at, new_spans, push_bytes, push_runs, sort};
+use dump_text::find;
 use std::alloc::Global;
 
 /// Why a value of svn:mergeinfo can't be rewritten.

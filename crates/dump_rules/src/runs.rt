@@ -7,9 +7,9 @@ ghost use Rattle.dump_rules.specs.steps.ReadRanges.{range_of, range_parts, span_
 ghost use Rattle.dump_rules.specs.steps.Runs.{HaveNumbers, joined, joined_from, reaching, runs_of, touches, with_range};
 
 use crate::memory::Memory;
-use crate::ranges::{Span, find, range};
+use crate::ranges::{Span, range};
 use crate::reach::Reach;
-use dump_text::spell;
+use dump_text::{find, spell};
 use std::alloc::Global;
 
 impl Span {

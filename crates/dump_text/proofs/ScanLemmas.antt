@@ -1,13 +1,16 @@
 -- A text is cut at a byte in one way, and so into header lines.
-use Rattle.std.proofs.Common.{◌≡◌, ℕ, suc, ◌+◌, ◌-◌, ◌<◌, ◌≤◌, nat_lt, Bool, true, false, ◌||◌, ◌==◌, List, [], ◌∷◌, ◌++◌, take, drop, map, filter, length, get_or, slice_index, refl, sym, ap, ◌∙◌, arith, append_assoc, length-append, codes, Option, Some, None, MatchOption}
+use Rattle.std.proofs.Common.{◌≡◌, ℕ, suc, ◌+◌, ◌-◌, ◌<◌, ◌≤◌, nat_lt, Bool, true, false, ◌||◌, ◌==◌, List, [], ◌∷◌, ◌++◌, take, drop, map, filter, length, get_or, slice_index, refl, sym, ap, ◌∙◌, arith, append_assoc, length-append, codes, Option, Some, None, MatchOption, position}
 use Rattle.std.specs.List.{list_all, position_or_len, All}
 use Rattle.std.proofs.lemmas.List.{take-append-drop, drop_more, get_or-take, get_or-drop, length-drop, length-take-le, take_at, drop_at, append-nil, flat_map_more}
 use Rattle.std.proofs.lemmas.List.Elements.{All-cons}
+use Rattle.std.proofs.lemmas.List.Quantifiers.{position-Some}
+use Rattle.std.proofs.lemmas.List.Sums.{position_or_len_is, fails_before_first}
 use Rattle.std.proofs.lemmas.List.Splits.{slice_split_at}
 use Rattle.std.proofs.lemmas.Bool.{eqb-true}
+use Rattle.std.proofs.lemmas.Bool.Decides.{nat_tests}
 use Rattle.std.proofs.lemmas.List.Folds.{list_all-append}
 use Rattle.memchr.specs.Find.{IsFirstByte, is_byte}
-use Rattle.dump_text.proofs.BoolLemmas.{equals_itself as same, first_true, first_false, second_false}
+use Rattle.dump_text.proofs.BoolLemmas.{equals_itself as same, absurd_bool, not_so, first_true, first_false, second_false}
 use Rattle.dump_text.specs.HeaderLine as line
 use Rattle.dump_text.specs.HeaderLine.{has_byte, header_text, is_header}
 use Rattle.dump_text.specs.HeaderBlock.{lines_bytes, starts_with_lf, has_empty_line}
@@ -34,17 +37,56 @@ has_at b (c ∷ front) rest = or_right (c == b) (has_byte b (front ++ b ∷ rest
 pub clash : (b : ℕ) (front rest text : List ℕ) → has_byte b text ≡ false → text ≡ front ++ b ∷ rest → ⊥
 clash b front rest text none is = let bad : false ≡ true = sym none ∙ ap (has_byte b) is ∙ has_at b front rest in cc
 
-pub first_at : (b : ℕ) (text : List ℕ) (r : Option ℕ) → IsFirstByte (is_byte b) text r
-    → MatchOption r (has_byte b text ≡ false) (λ k. IsFirstAt b text k)
-first_at b text None nowhere = lacks b text (λ k small is. nowhere k (omega arith) small is)
-first_at b text (Some k) (none, here) =
+-- the place where a byte is found is the first one
+pub found_place : (b : ℕ) (text : List ℕ) (r : Option ℕ) → IsFirstByte (is_byte b) text r → r ≡ position (λ c. c == b) text
+found_place b text None nowhere =
+    let place = position_or_len_is (λ c. c == b) text (length text) 0 (omega arith)
+    (λ k small. not_so (get_or text k 0 == b) (λ is. nowhere k (omega arith) small is)) (λ over. absurd (omega arith)) in
+    let end : nat_lt (length text) (length text) ≡ false = grind arith in
+    rw place (rw end refl)
+found_place b text (Some k) (none, here) =
     let below = none.high in
-    let is = eqb-true (slice_index text k) b here in
+    let place = position_or_len_is (λ c. c == b) text k 0 (omega arith)
+    (λ j small. not_so (get_or text j 0 == b) (λ is. none.before j (omega arith) small is)) (λ under. here) in
+    let inside : nat_lt k (length text) ≡ true = grind (arith, below) in
+    rw place (rw inside refl)
+
+-- where a byte has no place, it isn't in the text
+pub no_place : (b : ℕ) (text : List ℕ) → None ≡ position (λ c. c == b) text → has_byte b text ≡ false
+no_place b text is = lacks b text (λ k small here. absurd_bool (get_or text k 0 == b) here (other k small))
+  where
+    other : (k : ℕ) → k < length text → (get_or text k 0 == b) ≡ false
+    other k small = by_inside (nat_lt (position_or_len (λ c. c == b) text) (length text)) refl
+      where
+        by_inside : (t : Bool) → nat_lt (position_or_len (λ c. c == b) text) (length text) ≡ t → (get_or text k 0 == b) ≡ false
+        by_inside true e = let bad : None ≡ Some (position_or_len (λ c. c == b) text) = is ∙ rw e refl in cc
+        by_inside false e =
+            let over : length text ≤ position_or_len (λ c. c == b) text = grind (arith, nat_tests) in
+            fails_before_first (λ c. c == b) text k 0 (omega arith)
+
+-- and its place is that where it stands first
+pub at_place : (b : ℕ) (text : List ℕ) (k : ℕ) → Some k ≡ position (λ c. c == b) text → IsFirstAt b text k
+at_place b text k is =
+    let (below, here, before) = position-Some (λ c. c == b) text k 0 (sym is) in
     let size = length-take-le k text (omega arith) in
     record {
       below = below;
-      cut = sym (take-append-drop k text) ∙ ap (λ t. take k text ++ t) (drop_more text k 0 below ∙ ap (λ c. c ∷ drop (k + 1) text) is);
-      before = lacks b (take k text) (λ j small is. none.before j (omega arith) (omega arith) (sym (ap (λ c. c == b) (get_or-take k text j 0 (omega arith))) ∙ is));
+      cut = sym (take-append-drop k text) ∙ ap (λ t. take k text ++ t)
+          (drop_more text k 0 below ∙ ap (λ c. c ∷ drop (k + 1) text) (eqb-true (get_or text k 0) b here));
+      before = lacks b (take k text) (λ j small is. absurd_bool (get_or text j 0 == b)
+          (sym (ap (λ c. c == b) (get_or-take k text j 0 (omega arith))) ∙ is) (before j (omega arith)));
+    }
+
+-- a line is cut at its first colon, where a name stands before it and a space behind it
+pub cut_at_colon : (whole : List ℕ) (k : ℕ) → IsFirstAt 58 whole k → 0 < k → k + 1 < length whole → get_or whole (k + 1) 0 ≡ 32
+    → IsCutAtColon whole (take k whole) (drop (k + 2) whole)
+cut_at_colon whole k at some room space =
+    let size = length-take-le k whole (omega arith) in
+    record {
+      spelled = at.cut ∙ ap (λ t. take k whole ++ 58 ∷ t)
+          (drop_more whole (k + 1) 0 room ∙ ap (λ c. c ∷ drop (k + 1 + 1) whole) space ∙ ap (λ n. 32 ∷ drop n whole) (omega arith));
+      named = grind (arith, size, some);
+      no_colon = at.before;
     }
 
 -- a line, read at its first colon

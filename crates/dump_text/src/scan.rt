@@ -1,14 +1,14 @@
 //! The scan of header lines: where a line ends, where its name ends, and where the lines end.
-ghost use Rattle.std.specs.Prelude.{◌≡◌, MatchOption, IsFalse};
+ghost use Rattle.std.specs.Prelude.{◌≡◌, ◌==◌, MatchOption, IsFalse, position};
 ghost use Rattle.dump_text.specs.HeaderLine.{has_byte};
 ghost use Rattle.dump_text.specs.HeaderBlock.{starts_with_lf, has_empty_line};
-ghost use Rattle.dump_text.specs.steps.Scanning.{IsFirstAt, IsFirstLine, IsCutAtColon, IsNoHeader};
+ghost use Rattle.dump_text.specs.steps.Scanning.{IsFirstLine, IsCutAtColon, IsNoHeader};
 
 use memchr::memchr;
 
 /// Where the byte stands first.
-fn find(byte: u8, text: &[u8]) -> Option<usize>
-    ensures { MatchOption result (IsFalse (has_byte byte text.now)) (λ k. IsFirstAt byte text.now k) }
+pub fn find(byte: u8, text: &[u8]) -> Option<usize>
+    ensures { result ≡ position (λ b. b == byte) text.now }
 {
     memchr(byte, text)
 }
@@ -17,7 +17,9 @@ fn find(byte: u8, text: &[u8]) -> Option<usize>
 pub(crate) fn first_line(text: &[u8]) -> Option<(&[u8], &[u8])>
     ensures { MatchOption result (IsFalse (has_byte 10 text.now)) (λ r. IsFirstLine text.now r.0.now r.1.now) }
 {
-    let at = find(b'\n', text)?;
+    let Some(at) = find(b'\n', text) else {
+        return None;
+    };
     Some((&text[..at], &text[at + 1..]))
 }
 
