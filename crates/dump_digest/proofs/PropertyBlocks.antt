@@ -5,7 +5,11 @@ use Rattle.dump_text.proofs.BoolLemmas.{absurd_bool}
 use Rattle.dump_text.proofs.PropertyLemmas.{property_block_once}
 use Rattle.dump_text.proofs.PropertyChoice.{changes_or_not}
 use Rattle.dump_records.specs.RecordText.{DumpRecord}
-use Rattle.dump_digest.specs.RecordParts.{takes_deletes, HasPropertyBlock}
+use Rattle.dump_digest.specs.RecordParts.{takes_deletes, HasPropertyList, HasPropertyBlock}
+
+-- a record's properties are one list
+pub property_list_once : (r : DumpRecord) (ps qs : List Property) → HasPropertyList r ps → HasPropertyList r qs → ps ≡ qs
+property_list_once r ps qs list other = property_block_once r.props ps qs list.0 other.0
 
 -- where deleted properties may stand, any property block is the record's
 pub with_deletes : (r : DumpRecord) → takes_deletes r ≡ true → HasPropertyChanges r.props ↔ HasPropertyBlock r

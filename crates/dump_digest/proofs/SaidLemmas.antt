@@ -6,7 +6,7 @@ use Rattle.dump_text.specs.declared.props.Props.{Props}
 use Rattle.dump_text.specs.PropertyList.{Property, IsPropertyBlock}
 use Rattle.dump_text.specs.declared.props.Entry.{Entry}
 use Rattle.dump_text.specs.steps.PropertyViews.{props_bytes, entry_property}
-use Rattle.dump_text.proofs.BoolLemmas.{absurd_bool, both_true, either_second}
+use Rattle.dump_text.proofs.BoolLemmas.{absurd_bool, both_true, second_true, either_second}
 use Rattle.dump_records.specs.RecordText.{DumpRecord}
 use Rattle.dump_rules.specs.declared.merged.Merged.{Merged}
 use Rattle.dump_rules.specs.Settings.{Settings}
@@ -25,6 +25,7 @@ use Rattle.dump_digest.specs.ContentFaults.{HasBadMergeinfo}
 use Rattle.dump_digest.specs.steps.MergeFaults.{misses, is_foreign}
 use Rattle.dump_digest.specs.steps.ContentViews.{IsSaidBy, IsContent, ArePropertiesOf, is_asked}
 use Rattle.dump_digest.proofs.MergeLemmas.{read_is, merge_means, merge_unread}
+use Rattle.dump_digest.proofs.PropertyBlocks.{block_stable}
 
 -- what is said of the properties that were read, where the others are left
 pub record IsSaidUpTo (s : Settings) (ps qs : List Property) (found : Bool) (said : Merged) : Type 0 where
@@ -179,6 +180,10 @@ not_so_false false bad = absurd (bad refl)
 pub properties_of : (s : Settings) (r : DumpRecord) (c : Content) → IsContent s r c → IsTrue (is_asked s r) → ArePropertiesOf r c.props
 properties_of s r c is asked = record {
   bytes = is.bytes;
-  there = λ has. is.asked ∙ both_true (is_asked s r) c.verdict.props_ok asked
-      (not_so_false c.verdict.props_ok (λ bad. (is.verdict_is.props.0 bad).1 has));
+  there = (
+    λ some. block_stable r (λ none. absurd_bool c.verdict.props_ok
+        (second_true (is_asked s r) c.verdict.props_ok (sym is.asked ∙ some)) (is.verdict_is.props.1 (asked, none))),
+    λ has. is.asked ∙ both_true (is_asked s r) c.verdict.props_ok asked
+        (not_so_false c.verdict.props_ok (λ bad. (is.verdict_is.props.0 bad).1 has)),
+  );
 }

@@ -26,10 +26,13 @@ abbrev header : List ℕ → List ℕ → Header
 header name value = record { name = name; value = value }
 
 abbrev property : List ℕ → List ℕ → Property
-property name value = record { name = name; value = value }
+property name value = record { name = name; value = Some value }
+
+abbrev deleted : List ℕ → Property
+deleted name = record { name = name; value = None }
 
 abbrev bare_record : List Header → DumpRecord
-bare_record headers = record { place = 0; headers = headers; props = []; text = [] }
+bare_record headers = record { place = 0; version = 2; headers = headers; props = []; text = [] }
 
 abbrev pub version : DumpRecord
 version = bare_record (header (codes "SVN-fs-dump-format-version") (codes "2") ∷ [])
@@ -215,6 +218,22 @@ kept_file = file_copy (codes "trunk/e") []
 whole : is_whole_file lost_file ≡ true
 whole = refl
 
+-- deltas can't stand without their copy source, and under version 2 there are none
+abbrev delta : List ℕ → ℕ → List ℕ → DumpRecord
+delta name version value = record lost_file { version = version; headers = header name value ∷ lost_file.headers }
+
+text_delta : is_whole_file (delta (codes "Text-delta") 3 (codes "true")) ≡ false
+text_delta = refl
+
+prop_delta : is_whole_file (delta (codes "Prop-delta") 3 (codes "true")) ≡ false
+prop_delta = refl
+
+no_delta : is_whole_file (delta (codes "Text-delta") 3 (codes "false")) ≡ true
+no_delta = refl
+
+no_delta_in_2 : is_whole_file (delta (codes "Text-delta") 2 (codes "true")) ≡ true
+no_delta_in_2 = refl
+
 without_a_text : is_whole_file kept_file ≡ false
 without_a_text = refl
 
@@ -369,7 +388,11 @@ abbrev merged : Property
 merged = property (codes "svn:mergeinfo") []
 
 empty_mergeinfo : IsNewProperty padding kept merged merged
-empty_mergeinfo = (refl, ([], [], ([], tt, inl refl), tt, refl))
+empty_mergeinfo = (refl, ([], refl, ([], [], ([], tt, inl refl), tt, refl)))
+
+-- deleted mergeinfo stays deleted
+still_deleted : IsNewProperty padding kept (deleted (codes "svn:mergeinfo")) (deleted (codes "svn:mergeinfo"))
+still_deleted = (refl, refl)
 
 two_properties : AreNewProperties padding kept (author ∷ merged ∷ []) (author ∷ merged ∷ [])
 two_properties = (same_property, (empty_mergeinfo, tt))
@@ -391,7 +414,7 @@ file_lines content =
     ∷ []
 
 abbrev file : DumpRecord
-file = record { place = 0; headers = file_lines (codes "03"); props = []; text = codes "abc" }
+file = record { place = 0; version = 2; headers = file_lines (codes "03"); props = []; text = codes "abc" }
 
 abbrev file_text : List ℕ
 file_text = codes "Node-path: trunk/f\nText-content-length: 3\nContent-length: 3\n\nabc"
@@ -413,13 +436,16 @@ padded : revision_text padding kept true (revision (codes "6")) [] ≡ padded_te
 unfolding digits
 padded = refl
 
+no_deletes : false ≡ true → false ≡ true
+no_deletes e = e
+
 revision_output : IsRevisionOutput padding kept emptied_group padded_text
 unfolding digits
-revision_output = ([], inl (refl, refl), refl)
+revision_output = ([], (inl (refl, refl), no_deletes), refl)
 
 node_output : IsNodeOutput padding kept file (file_text ++ codes "\n\n")
 unfolding digits
-node_output = (file_lines (codes "03"), [], [], refl, inl (refl, refl), tt, refl)
+node_output = (file_lines (codes "03"), [], [], refl, (inl (refl, refl), no_deletes), tt, refl)
 
 of_a_revision : IsOutput padding kept (revision (codes "6")) (other ∷ []) padded_text
 unfolding digits
@@ -433,7 +459,7 @@ of_a_uuid : IsOutput padding kept uuid [] (codes "UUID: 7bf7a5ef\n\n")
 of_a_uuid = refl
 
 block_of_a_file : IsWrittenBlock padding kept file [] []
-block_of_a_file = ([], [], inl (refl, refl), tt, refl)
+block_of_a_file = ([], [], (inl (refl, refl), no_deletes), tt, refl)
 
 -- Written
 
@@ -482,6 +508,7 @@ version_alone = (
     record { block = refl; lawful = refl; props_fit = refl; text_fits = refl; spelled = refl },
     (0, refl, refl),
   ),
+  (refl, tt),
   (refl, lit< tt),
 )
 

@@ -16,11 +16,11 @@ use dump_records::Record;
 use dump_rules::Options;
 use dump_text::FaultKind;
 
-/// Whether the record is a file with its text, so that it can stand without its copy source.
+/// Whether the record is a file with its text and its properties, so that it can stand without its copy source.
 fn is_whole_file(item: &Record<'_>) -> bool
     ensures { result ≡ is_whole_file (record_item item.now) }
 {
-    item.is_file() && item.has_text()
+    item.is_file() && item.has_text() && !item.text_delta() && !item.prop_delta()
 }
 
 /// What becomes of the source of a kept node that stays a copy of this revision, if it is one.

@@ -1,8 +1,8 @@
 //! Decides the fate of the record that comes next, or finds its fault.
 ghost use Rattle.std.specs.Prelude.{◌≡◌, List, IsTrue};
-ghost use Rattle.dump_text.specs.PropertyList.{Property, IsPropertyBlock};
+ghost use Rattle.dump_text.specs.PropertyList.{Property};
 ghost use Rattle.dump_records.specs.steps.RecordViews.{record_item};
-ghost use Rattle.dump_digest.specs.RecordParts.{is_node, is_kept_node};
+ghost use Rattle.dump_digest.specs.RecordParts.{is_node, is_kept_node, HasPropertyList};
 ghost use Rattle.dump_digest.specs.steps.DoneViews.{done_record, done_settings, done_verdict};
 ghost use Rattle.dump_filter.specs.steps.State.{view_group, view_state};
 ghost use Rattle.dump_filter.specs.steps.Decision.{is_in_order, node_fate, fate_of, decided, AreAsked};
@@ -33,7 +33,7 @@ fn node_fate(options: &Options, state: &State<'_>, done: &Done<'_>) -> Result<Fa
     requires kept { AreKept state.now.revisions (view_group state.now.group) }
     requires options { done_settings done.now ≡ options.now }
     requires node { IsTrue (is_kept_node options.now (record_item (done_record done.now))) }
-    ensures { let r = record_item (done_record done.now) in (ps : List Property) → IsPropertyBlock r.props ps
+    ensures { let r = record_item (done_record done.now) in (ps : List Property) → HasPropertyList r ps
         → result ≡ node_fate options.now (view_state state.now) r (done_verdict done.now).merge_ok ps }
 {
     let copy = copy_change(options, state, done)?;
@@ -49,7 +49,7 @@ fn fate_of(options: &Options, state: &State<'_>, done: &Done<'_>) -> Result<Fate
     requires kept { AreKept state.now.revisions (view_group state.now.group) }
     requires options { done_settings done.now ≡ options.now }
     ensures { let r = record_item (done_record done.now) in
-        (ps : List Property) → (IsTrue (is_kept_node options.now r) → IsPropertyBlock r.props ps)
+        (ps : List Property) → (IsTrue (is_kept_node options.now r) → HasPropertyList r ps)
         → result ≡ fate_of options.now (view_state state.now) r (done_verdict done.now).merge_ok ps }
 {
     match done.item().kind() {

@@ -1,13 +1,13 @@
 //! What is written of a record, as chunks of a piece.
 ghost use Rattle.std.specs.Prelude.{◌≡◌, ℕ, ◌++◌, List, IsTrue, OnOk};
 ghost use Rattle.dump_text.specs.HeaderBlock.{block_text};
-ghost use Rattle.dump_text.specs.PropertyList.{Property, IsPropertyBlock};
+ghost use Rattle.dump_text.specs.PropertyList.{Property};
 ghost use Rattle.dump_writer.specs.steps.ChunkBytes.{chunk_bytes};
 ghost use Rattle.dump_records.specs.steps.RecordViews.{record_item};
 ghost use Rattle.dump_filter.specs.steps.OwnText.{revision_own};
 ghost use Rattle.dump_filter.specs.steps.NewLines.{AreLengths, new_record};
 ghost use Rattle.dump_digest.specs.steps.DoneViews.{done_record};
-ghost use Rattle.dump_digest.specs.RecordParts.{is_revision};
+ghost use Rattle.dump_digest.specs.RecordParts.{is_revision, HasPropertyList};
 ghost use Rattle.dump_filter.specs.steps.NewProperties.{IsReadNode};
 ghost use Rattle.dump_filter.specs.steps.Advance.{IsOwnNode};
 
@@ -76,7 +76,7 @@ pub(crate) fn push_revision<'a>(
     padded: bool,
 ) -> Result<(), Memory>
     requires { IsTrue (is_revision (record_item (done_record done.now))) }
-    ensures { let r = record_item (done_record done.now) in OnOk result ((ps : List Property) → IsPropertyBlock r.props ps
+    ensures { let r = record_item (done_record done.now) in OnOk result ((ps : List Property) → HasPropertyList r ps
         → piece.new ≡ piece.old ++ revision_own r number padded ps) }
 {
     let item = done.item();

@@ -9,22 +9,33 @@ ghost use Rattle.dump_rules.specs.Mergeinfo.{HasMergeLines};
 ghost use Rattle.dump_digest.specs.steps.ContentViews.{ArePropertiesOf};
 ghost use Rattle.dump_digest.specs.steps.DoneViews.{done_record};
 ghost use Rattle.dump_digest.specs.steps.MergeFaults.{HasLines};
-ghost use Rattle.dump_digest.specs.RecordParts.{is_mergeinfo};
+ghost use Rattle.dump_digest.specs.RecordParts.{is_mergeinfo, value_of, HasPropertyList, HasPropertyBlock};
 ghost use Rattle.dump_filter.specs.NewContent.{revision_properties, IsNewProperty, AreNewProperties, new_block};
 ghost use Rattle.dump_filter.specs.steps.NewProperties.{IsReadNode, dated_padding};
 
 use dump_digest::{Done, is_mergeinfo};
 use dump_records::Record;
 use dump_rules::{Options, Reach, new_value};
-use dump_text::{Entry, Props, push_block_end, push_property};
+use dump_text::{Entry, Props, push_block_end, push_deletion, push_property};
 use dump_writer::{Chunk, Memory};
-use std::alloc::Global;
+use std::alloc::{AllocError, Global};
 
 /// The property that has the date of a revision.
 const DATE: &[u8] = b"svn:date";
 
 /// The log of an empty revision.
 const PADDING_LOG: &[u8] = b"This is an empty revision for padding.";
+
+/// Adds an entry as it stands.
+fn push_entry(out: &mut Vec<u8>, entry: &Entry<'_>) -> Result<(), AllocError>
+    ensures { OnOk result (out.new.items ≡ out.old.items ++ entry_text (entry_property entry.now)) }
+{
+    if entry.gone {
+        push_deletion(out, entry.name)
+    } else {
+        push_property(out, entry.name, entry.value)
+    }
+}
 
 /// The properties of a block, written anew.
 fn write_entries(alloc: Global, props: &Props<'_>) -> Result<Vec<u8>, Memory>
@@ -34,7 +45,7 @@ fn write_entries(alloc: Global, props: &Props<'_>) -> Result<Vec<u8>, Memory>
     let mut out = Vec::new(alloc);
     let mut entries = props.entries();
     while let Some(entry) = entries.next() {
-        push_property(&mut out, entry.name, entry.value)?;
+        push_entry(&mut out, &entry)?;
     }
     push_block_end(&mut out)?;
     Ok(out)
@@ -54,7 +65,7 @@ fn respelled<'a>(alloc: Global, props: &Props<'a>) -> Result<Chunk<'a>, Memory>
 
 /// The first date among some properties.
 fn date_of<'a>(props: &Option<Props<'a>>) -> Option<&'a [u8]>
-    ensures { (r : DumpRecord) → ArePropertiesOf r props.now → (ps : List Property) → IsPropertyBlock r.props ps
+    ensures { (r : DumpRecord) → ArePropertiesOf r props.now → (ps : List Property) → HasPropertyList r ps
         → option_copied result ≡ property_value (codes "svn:date") ps }
 {
     match props {
@@ -83,7 +94,7 @@ fn respelled_block<'a>(
     props: &Option<Props<'a>>,
 ) -> Result<Chunk<'a>, Memory>
     requires { ArePropertiesOf (record_item item.now) props.now }
-    ensures { let r = record_item item.now in IfOk result (λ chunk. (ps : List Property) → IsPropertyBlock r.props ps
+    ensures { let r = record_item item.now in IfOk result (λ chunk. (ps : List Property) → HasPropertyList r ps
         → chunk_bytes chunk ≡ new_block false r ps) }
 {
     match props {
@@ -106,7 +117,7 @@ pub(crate) fn revision_properties<'a>(
     padded: bool,
 ) -> Result<Chunk<'a>, Memory>
     requires { ArePropertiesOf (record_item item.now) props.now }
-    ensures { let r = record_item item.now in IfOk result (λ chunk. (ps : List Property) → IsPropertyBlock r.props ps
+    ensures { let r = record_item item.now in IfOk result (λ chunk. (ps : List Property) → HasPropertyList r ps
         → chunk_bytes chunk ≡ new_block padded r (revision_properties padded ps)) }
 {
     if padded {
@@ -124,12 +135,12 @@ fn push_rewritten(
     kept: &Reach,
     entry: &Entry<'_>,
 ) -> Result<(), Memory>
-    requires { IsTrue (is_mergeinfo (entry_property entry.now)) → ¬ ¬ HasMergeLines (entry_property entry.now).value }
+    requires { IsTrue (is_mergeinfo (entry_property entry.now)) → ¬ ¬ HasMergeLines (value_of (entry_property entry.now)) }
     ensures { OnOk result ((new : Property) × IsNewProperty options.now kept.now (entry_property entry.now) new
         × (out.new.items ≡ out.old.items ++ entry_text new)) }
 {
     if !is_mergeinfo(entry) {
-        return Ok(push_property(out, entry.name, entry.value)?);
+        return Ok(push_entry(out, entry)?);
     }
     match new_value(alloc, entry.value, options, kept) {
         Ok(value) => Ok(push_property(out, entry.name, &value)?),
@@ -166,8 +177,8 @@ fn rewritten_block<'a>(
     props: &Option<Props<'a>>,
 ) -> Result<Chunk<'a>, Memory>
     requires read { ArePropertiesOf (record_item item.now) props.now }
-    requires lines { HasLines (record_item item.now).props }
-    ensures { let r = record_item item.now in IfOk result (λ chunk. (ps : List Property) → IsPropertyBlock r.props ps
+    requires lines { HasPropertyBlock (record_item item.now) → HasLines (record_item item.now).props }
+    ensures { let r = record_item item.now in IfOk result (λ chunk. (ps : List Property) → HasPropertyList r ps
         → (new : List Property) × AreNewProperties options.now kept.now ps new × (chunk_bytes chunk ≡ new_block false r new)) }
 {
     match props {
@@ -191,7 +202,7 @@ pub(crate) fn node_properties<'a>(
     done: &Done<'a>,
 ) -> Result<Chunk<'a>, Memory>
     requires node { IsReadNode done.now }
-    ensures { let r = record_item (done_record done.now) in IfOk result (λ chunk. (ps : List Property) → IsPropertyBlock r.props ps
+    ensures { let r = record_item (done_record done.now) in IfOk result (λ chunk. (ps : List Property) → HasPropertyList r ps
         → (new : List Property) × AreNewProperties options.now kept.now ps new × (chunk_bytes chunk ≡ new_block false r new)) }
 {
     let item = done.item();

@@ -1,13 +1,13 @@
 -- Which record has a number, and how the list of records ends, is known as soon as it is known that it is known: a dump has one list.
-use Rattle.std.proofs.Common.{◌≡◌, ℕ, List, length, sym, ap, ◌∙◌, subst, Result, Ok, Err, ◌++◌, ◌∷◌, [], take, drop, arith}
+use Rattle.std.proofs.Common.{◌≡◌, ℕ, List, length, sym, ap, ◌∙◌, subst, Result, Ok, Err, ◌++◌, ◌∷◌, [], take, arith}
 use Rattle.std.specs.Result.{ForErr}
 use Rattle.std.proofs.Math.Logic.{∥∥₁_elim}
 use Rattle.std.proofs.Props.{props}
 use Rattle.std.specs.Coded.{Coded-set, coded_ℕ}
 use Rattle.dump_records.specs.RecordText.{DumpRecord}
-use Rattle.std.proofs.lemmas.List.{take-append-drop, length-take-le, length-append}
-use Rattle.dump_records.specs.DumpText.{Ending, IsCutInto, HasRecords, BeginsWithRecords, EndsAfter, IsRecordOf}
-use Rattle.dump_records.proofs.Prefixes.{begins_prefix, one_more, within}
+use Rattle.std.proofs.lemmas.List.{length-take-le, length-append}
+use Rattle.dump_records.specs.DumpText.{Ending, HasRecords, BeginsWithRecords, EndsAfter, IsRecordOf}
+use Rattle.dump_records.proofs.Prefixes.{whole_front, one_more, within}
 use Rattle.dump_records.proofs.ListLaw.{each_dump_has_one_list}
 
 same_count : (m n : ℕ) → IsProp (m ≡ n)
@@ -47,8 +47,7 @@ record_once dump number r t = by (each_dump_has_one_list dump)
         front = take number all
 
         begins : BeginsWithRecords dump front
-        begins = begins_prefix dump front (drop number all)
-            (has.0, subst (λ (rs : List DumpRecord). IsCutInto 0 0 dump rs has.0) (sym (take-append-drop number all)) has.1)
+        begins = whole_front dump all end has number
 
         long : length front ≡ number
         long = ∥∥₁_elim t (same_count (length front) number) (λ (c : IsRecordOf dump number r).

@@ -70,7 +70,7 @@ goes_on settings dump before text begins free written = by_law (each_dump_has_on
         by_outcome : Outcome settings before rest reached.text → IsFilterPrefix settings dump text
         by_outcome (Stops mid after r which at free' fault more out) =
             let listed : BeginsWithRecords dump (((before ++ mid) ++ r ∷ []) ++ after) =
-            subst (BeginsWithRecords dump) (split ∙ ap (λ (l : List DumpRecord). before ++ l) at ∙ sym (append_assoc before mid (r ∷ after)) ∙ sym (append_assoc (before ++ mid) (r ∷ []) after)) (has.0, has.1) in (
+            subst (BeginsWithRecords dump) (split ∙ ap (λ (l : List DumpRecord). before ++ l) at ∙ sym (append_assoc before mid (r ∷ after)) ∙ sym (append_assoc (before ++ mid) (r ∷ []) after)) (has.0, has.1, has.2) in (
               reached.text ++ more,
               answers.Fault which (length (before ++ mid)) r.place,
               (before ++ mid, (free', inl (r, begins_prefix dump ((before ++ mid) ++ r ∷ []) after listed, fault, refl)), out, refl),

@@ -28,7 +28,7 @@ use Rattle.dump_pipeline.specs.steps.Parts.{HasPut, HasCut, HasReleased, HasEnde
 
 -- no more records than bytes
 pub ends_within : (dump : List ℕ) (number : ℕ) (ending : Ending) → EndsAfter dump number ending → number ≤ length dump
-ends_within dump number ending (records, (rest, cut, _), count) =
+ends_within dump number ending (records, (rest, cut, _, _), count) =
     let fits = count_fits 0 0 dump rest records cut in omega arith
 
 -- a cutter's step, by the number of records that it has given

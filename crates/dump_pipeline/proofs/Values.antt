@@ -26,6 +26,7 @@ empty_dump = (
   inr (
     [],
     (0, refl, refl),
+    tt,
     (inr refl, refl, no_block 0 [] (λ (headers, rest, is). block_some headers rest is)),
   ),
 )

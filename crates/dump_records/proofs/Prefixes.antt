@@ -99,7 +99,8 @@ module _ (dump : List ℕ) (all : List DumpRecord) (ending : Ending) (has : HasR
       cut_within (length dump) 0 0 dump has.0 y all rs ending has.1
       (subst (λ (k : ℕ). EndsWith (length dump) k has.0 ending) count (ending_of dump all has.0 ending has.3)) cut
 
-  whole_front : (n : ℕ) → BeginsWithRecords dump (take n all)
+  -- a dump begins with the first of its records
+  pub whole_front : (n : ℕ) → BeginsWithRecords dump (take n all)
   whole_front n = begins_prefix dump (take n all) (drop n all) (
     has.0,
     subst (λ (rs : List DumpRecord). IsCutInto 0 0 dump rs has.0) (sym (take-append-drop n all)) has.1,

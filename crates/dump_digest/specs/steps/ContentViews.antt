@@ -1,5 +1,5 @@
 -- What a check reads of a record beside its verdict.
-use Rattle.std.specs.Prelude.{◌≡◌, ℕ, Bool, true, ◌&&◌, ◌||◌, List, Option, is_some, IsSome, IsTrue}
+use Rattle.std.specs.Prelude.{◌≡◌, ◌↔◌, ℕ, Bool, true, ◌&&◌, ◌||◌, List, Option, is_some, IsSome, IsTrue}
 use Rattle.std.specs.List.{list_any}
 use Rattle.std.specs.Option.{ForSome}
 use Rattle.dump_text.specs.declared.props.Props.{Props}
@@ -27,10 +27,10 @@ pub record IsSaidBy (settings : Settings) (ps : List Property) (m : Mergeinfo) :
 abbrev pub is_asked : Settings → DumpRecord → Bool
 is_asked settings r = is_revision r || is_kept_node settings r
 
--- these are the record's properties, where it has any
+-- these are the record's properties, where they can be read
 pub record ArePropertiesOf (r : DumpRecord) (found : Option Props) : Type 0 where
   pub bytes : ForSome found (λ props. props_bytes props ≡ r.props)
-  pub there : HasPropertyBlock r → IsSome found
+  pub there : IsSome found ↔ HasPropertyBlock r
 
 -- what was read is the record's: its verdict, whether it is kept, its properties, its mergeinfo and its copy source
 pub record IsContent (settings : Settings) (r : DumpRecord) (c : Content) : Type 0 where

@@ -1,15 +1,14 @@
 -- What is written of a record is read again as a record, of which the same is written.
-use Rattle.std.proofs.Common.{◌≡◌, ℕ, ◌+◌, ◌<◌, ◌≤◌, ◌^◌, Bool, true, false, ◌&&◌, ◌||◌, List, [], ◌∷◌, ◌++◌, length, refl, sym, ap, ◌∙◌, subst, arith, inl, codes, bytes_eq, Option, Some, None, is_some, option_and_then, append-nil, All, Contains, MatchBool, take_while, if◌then◌else◌}
+use Rattle.std.proofs.Common.{◌≡◌, ℕ, ◌+◌, ◌<◌, ◌≤◌, ◌^◌, Bool, true, false, ◌&&◌, ◌||◌, List, [], ◌∷◌, ◌++◌, length, refl, sym, ap, ◌∙◌, subst, arith, inl, codes, bytes_eq, Option, Some, None, is_some, is_none, option_and_then, append-nil, All, Contains, MatchBool, take_while, unwrap_or, if◌then◌else◌}
 use Rattle.std.proofs.lemmas.List.Sums.{take_while-cons}
 use Rattle.std.proofs.lemmas.List.Elements.{All-nil, All-cons, All-contains}
 use Rattle.dump_text.specs.Number.{number_of, spelled_number}
-use Rattle.dump_text.specs.Names.{revision_name, path_name, copy_revision_name, copy_path_name, property_length_name, md5_name, sha1_name}
+use Rattle.dump_text.specs.Names.{revision_name, path_name, copy_revision_name, copy_path_name, property_length_name, md5_name, sha1_name, text_delta_name}
 use Rattle.dump_text.specs.HeaderLine.{Header, has_header, header_value, with_header_value}
 use Rattle.dump_text.specs.HeaderBlock.{is_block, block_text}
-use Rattle.dump_text.specs.PropertyList.{Property, IsPropertyBlock}
+use Rattle.dump_text.specs.PropertyList.{Property, has_deletes}
 use Rattle.dump_text.proofs.BlockLemmas.{has_value}
 use Rattle.dump_text.proofs.PartLemmas.{number_of-spelled}
-use Rattle.dump_text.proofs.PropertyLemmas.{property_block_once}
 use Rattle.dump_records.specs.HeaderRules.{header_number, property_length, text_length, has_bad_kind, has_bad_lengths}
 use Rattle.dump_records.specs.RecordText.{DumpRecord, is_lawful}
 use Rattle.dump_records.proofs.Unique.{Keeps, keeps}
@@ -19,20 +18,21 @@ use Rattle.dump_rules.specs.Renumbering.{KeptRevisions, RiseFrom, image}
 use Rattle.dump_rules.specs.Rewriting.{IsNewMergeinfo}
 use Rattle.dump_rules.proofs.ReachLemmas.{image_fits}
 use Rattle.dump_rules.proofs.new_values.RunsLaw.{number_small}
-use Rattle.dump_digest.specs.RecordParts.{is_revision, is_node, is_kept_node, is_mergeinfo, mergeinfo_name}
+use Rattle.dump_digest.specs.RecordParts.{is_revision, is_node, is_kept_node, is_mergeinfo, mergeinfo_name, value_of, has_whole_text, HasPropertyList}
 use Rattle.dump_digest.specs.ContentFaults.{HasBadMd5, HasBadSha1, HasBadMergeinfo, DiffersFromDigest}
+use Rattle.dump_digest.proofs.PropertyBlocks.{property_list_once}
 use Rattle.dump_filter.specs.FilterLaws.{keep_all}
 use Rattle.dump_filter.specs.Groups.{group_of, is_padded, revision_number}
-use Rattle.dump_filter.specs.NewContent.{IsNewProperty, AreNewProperties, revision_properties, new_block}
+use Rattle.dump_filter.specs.NewContent.{IsNewProperty, AreNewProperties, is_date, padding_properties, revision_properties, new_block}
 use Rattle.dump_filter.specs.NewHeaders.{with_lengths, written_number, becomes_plain, without_copy_headers, IsWrittenCopyNumber, IsNewCopy}
 use Rattle.dump_digest.specs.RecordParts.{is_copy}
 use Rattle.dump_filter.specs.steps.NewLines.{is_copy_line}
 use Rattle.dump_filter.specs.RecordOutput.{whole_text, revision_text, IsRevisionOutput, IsNodeOutput, IsWrittenBlock}
-use Rattle.dump_text.proofs.BoolLemmas.{first_true, first_false, second_false, not_so, absurd_bool, false_true}
+use Rattle.dump_text.proofs.BoolLemmas.{first_true, second_true, first_false, second_false, not_so, absurd_bool, false_true}
 use Rattle.dump_filter.proofs.written.HeaderLemmas.{no_value, no_length}
 use Rattle.dump_filter.proofs.again.LineChanges.{IsChange, same_has, spelled_line, no_change, put_has, put_change, go_change, gone, IsTold, told_later, told_put, told_reads, told_put_again}
 use Rattle.dump_filter.proofs.again.Headers.{is_length_name, lengths_change, told_lengths, known_once, StaysLawful}
-use Rattle.dump_filter.proofs.again.Record.{no_bytes, any_number, no_content, stays_same, stays_revision, stays_copy_number, stays_plain, again, told, new_stays, new_is_block, new_lawful, reads, same_text}
+use Rattle.dump_filter.proofs.again.Record.{no_bytes, any_number, no_content, stays_same, stays_revision, stays_copy_number, stays_plain, again, told, new_stays, new_is_block, new_lawful, new_version_line, reads_list, same_text}
 use Rattle.dump_filter.proofs.again.ReadAgain.{IsReadAgain}
 
 -- where everything is kept
@@ -60,6 +60,15 @@ chosen : (b : Bool) (A B : Type 0) → b ≡ true → MatchBool b A B → A
 chosen true A B is a = a
 chosen false A B is b = absurd (false_true is)
 
+-- a choice whose first or second side is so
+first_side : (b : Bool) (A B : Type 0) → b ≡ true → A → MatchBool b A B
+first_side true A B is a = a
+first_side false A B is a = absurd (false_true is)
+
+second_side : (b : Bool) (A B : Type 0) → b ≡ false → B → MatchBool b A B
+second_side true A B is b = absurd (false_true (sym is))
+second_side false A B is b = b
+
 pub header_small : (name : List ℕ) (headers : List Header) (n : ℕ) → header_number name headers ≡ Some n → n < 10 ^ 18
 header_small name headers n is = by_value (header_value name headers) is
   where
@@ -74,7 +83,7 @@ same_there name old new same = sym (has_value name new) ∙ ap is_some same ∙ 
 pub other_again : (settings : Settings) (kept : KeptRevisions) (number : ℕ) (r : DumpRecord) (front : List ℕ) → is_block r.headers ≡ true → is_lawful number r.headers ≡ true
     → is_revision r ≡ false → is_node r ≡ false → front ≡ block_text r.headers → (place : ℕ) → (s : DumpRecord) × (s.place ≡ place) × IsReadAgain settings kept r front s
 other_again settings kept number r front block lawful no_revision no_node is place = (
-  record { place = place; headers = r.headers; props = []; text = [] },
+  record { place = place; version = r.version; headers = r.headers; props = []; text = [] },
   refl,
   record {
     feeds = 0;
@@ -83,6 +92,8 @@ other_again settings kept number r front block lawful no_revision no_node is pla
     lawful = λ m first. any_number number m r.headers lawful first;
     props_fit = sym empty.0;
     text_fits = sym empty.1;
+    version = refl;
+    version_line = λ before. refl;
     revision = refl;
     node = refl;
     number = λ rev. absurd (absurd_bool (is_revision r) rev no_revision);
@@ -105,6 +116,32 @@ other_again settings kept number r front block lawful no_revision no_node is pla
     no_kept : is_kept_node keep_all r ≡ true → ⊥
     no_kept is_kept = absurd_bool (is_node r) (first_true (is_node r) _ is_kept) no_node
 
+-- no bytes are no properties
+no_list : (r : DumpRecord) → r.props ≡ [] → HasPropertyList r []
+no_list r empty = (inl (empty, refl), λ deletes. absurd (false_true deletes))
+
+-- a property that passes such a test isn't deleted
+set_value : (b : Bool) (value : Option (List ℕ)) → (b && is_some value) ≡ true → is_none value ≡ false
+set_value b (Some bytes) is = refl
+set_value true None is = cc
+set_value false None is = cc
+
+-- padding deletes no property
+padding_keeps : (ps : List Property) → has_deletes (padding_properties ps) ≡ false
+padding_keeps [] = refl
+padding_keeps (p ∷ ps) = by_date (padding_keeps ps) (is_date p) refl
+  where
+    by_date : has_deletes (padding_properties ps) ≡ false → (b : Bool) → is_date p ≡ b
+        → has_deletes (padding_properties (p ∷ ps)) ≡ false
+    by_date more true is = let set = set_value (bytes_eq p.name (codes "svn:date")) p.value is in rw is (rw set refl)
+    by_date more false is = rw is more
+
+-- what is written of a revision's properties deletes one only where one of them was deleted
+padding_deletes : (padded : Bool) (ps : List Property) → has_deletes (revision_properties padded ps) ≡ true
+    → has_deletes ps ≡ true
+padding_deletes true ps deletes = absurd (absurd_bool (has_deletes (padding_properties ps)) deletes (padding_keeps ps))
+padding_deletes false ps deletes = deletes
+
 -- a revision
 pub revision_again : (settings : Settings) (kept : KeptRevisions) (number : ℕ) (r : DumpRecord) (after : List DumpRecord) (front : List ℕ)
     → is_block r.headers ≡ true → is_lawful number r.headers ≡ true → length r.props ≡ property_length r.headers → length r.text ≡ text_length r.headers
@@ -121,6 +158,9 @@ revision_again settings kept number r after front block lawful props_fit text_fi
     lawful = new_lawful number r block lawful text_fits either mid (bytes_eq revision_name) change stays props_there padded new small none;
     props_fit = lengths.0;
     text_fits = lengths.1;
+    version = refl;
+    version_line = new_version_line number r block lawful text_fits either mid (bytes_eq revision_name) change stays
+        props_there padded new small none;
     revision = lifted.revision;
     node = lifted.node;
     number = λ rev. number_is;
@@ -162,13 +202,13 @@ revision_again settings kept number r after front block lawful props_fit text_fi
     either = rw rev refl
 
     small : length (new_block padded r new) + length r.text < 10 ^ 18
-    small = fit (new_block padded r new) (rw (rev, no_node) (ps, new, is_ps, refl, refl))
+    small = fit (new_block padded r new) (ps, new, is_ps, rw (rev, no_node) refl, rw rev refl)
 
     none : (padded || has_header property_length_name r.headers) ≡ false → new ≡ []
     none missing =
         let plain : padded ≡ false = first_false padded _ missing in
         let empty : r.props ≡ [] = no_bytes r.props (props_fit ∙ no_length property_length_name r.headers (second_false padded _ missing)) in
-        rw plain (property_block_once r.props ps [] is_ps (inl (empty, refl)))
+        rw plain (property_list_once r ps [] is_ps (no_list r empty))
 
     it : ℕ → DumpRecord
     it = again number r block lawful text_fits either mid (bytes_eq revision_name) change stays props_there padded new small none
@@ -176,8 +216,10 @@ revision_again settings kept number r after front block lawful props_fit text_fi
     lines : List Header
     lines = with_lengths props r.text mid
 
-    here : IsPropertyBlock props new
-    here = reads number r block lawful text_fits either mid (bytes_eq revision_name) change stays props_there padded new small none
+    here : HasPropertyList (it place) new
+    here =
+        reads_list number r block lawful text_fits either mid (bytes_eq revision_name) change stays props_there padded
+        new small none (λ deletes. is_ps.1 (padding_deletes padded ps deletes)) place
 
     lifted : StaysLawful r.headers lines
     lifted = new_stays number r block lawful text_fits either mid (bytes_eq revision_name) change stays props_there padded new small none
@@ -216,6 +258,7 @@ record IsNodeLines (old new : List Header) : Type 0 where
   props_there : has_header property_length_name new ≡ has_header property_length_name old
   md5 : header_value md5_name new ≡ header_value md5_name old
   sha1 : header_value sha1_name new ≡ header_value sha1_name old
+  text_delta : header_value text_delta_name new ≡ header_value text_delta_name old
   copied : has_header copy_path_name new ≡ true
       → (n : ℕ) × (n < 10 ^ 18) × (has_header copy_revision_name new ≡ true) × IsTold copy_revision_name n new
 
@@ -243,6 +286,7 @@ node_lines settings kept number r mid rise lawful copy = by_plain (becomes_plain
           props_there = same_has is_copy_line r.headers (without_copy_headers r.headers) change property_length_name refl;
           md5 = change.same md5_name refl;
           sha1 = change.same sha1_name refl;
+          text_delta = change.same text_delta_name refl;
           copied = λ there. absurd (absurd_bool (has_header copy_path_name (without_copy_headers r.headers)) there (gone copy_path_name refl r.headers));
         }
 
@@ -254,6 +298,7 @@ node_lines settings kept number r mid rise lawful copy = by_plain (becomes_plain
       props_there = refl;
       md5 = refl;
       sha1 = refl;
+      text_delta = refl;
       copied = λ there. absurd (absurd_bool (has_header copy_path_name r.headers) there none);
     }
 
@@ -276,6 +321,7 @@ node_lines settings kept number r mid rise lawful copy = by_plain (becomes_plain
           props_there = put_has property_length_name copy_revision_name (spelled_number n) r.headers;
           md5 = change.same md5_name refl;
           sha1 = change.same sha1_name refl;
+          text_delta = change.same text_delta_name refl;
           copied = λ copies. (
             n,
             small,
@@ -301,19 +347,54 @@ OwnValues settings kept = (old new : List ℕ) → IsNewMergeinfo settings kept 
 
 -- the property is mergeinfo only with a value that is
 abbrev IsReadable : Property → Type 0
-IsReadable p = is_mergeinfo p ≡ true → HasMergeLines p.value
+IsReadable p = is_mergeinfo p ≡ true → HasMergeLines (value_of p)
+
+-- the value is what a property's was or, of mergeinfo, a new value
+abbrev IsNewValue : Settings → KeptRevisions → Property → Property → Bool → Type 0
+IsNewValue settings kept p q b =
+    MatchBool b
+    ((value : List ℕ) × (q.value ≡ Some value) × IsNewMergeinfo settings kept (value_of p) value)
+    (q.value ≡ p.value)
 
 own_property : (settings : Settings) (kept : KeptRevisions) → OwnValues settings kept → (p q : Property) → IsNewProperty settings kept p q
     → IsReadable q × ((again : KeptRevisions) → IsNewProperty keep_all again q q)
 own_property settings kept values p q (name, value) = by_case (is_mergeinfo p) refl value
   where
-    kind : is_mergeinfo q ≡ is_mergeinfo p
-    kind = ap (λ (n : List ℕ). bytes_eq n mergeinfo_name) name
+    kind : is_some q.value ≡ is_some p.value → is_mergeinfo q ≡ is_mergeinfo p
+    kind set = λ i. bytes_eq (name i) mergeinfo_name && set i
 
-    by_case : (b : Bool) → is_mergeinfo p ≡ b → MatchBool b (IsNewMergeinfo settings kept p.value q.value) (q.value ≡ p.value)
+    by_case : (b : Bool) → is_mergeinfo p ≡ b → IsNewValue settings kept p q b
         → IsReadable q × ((again : KeptRevisions) → IsNewProperty keep_all again q q)
-    by_case true is new = let own = values p.value q.value new in ((λ merge. own.0), (λ again. (refl, rw (kind ∙ is) (own.1 again))))
-    by_case false is new = ((λ merge. absurd (absurd_bool (is_mergeinfo q) merge (kind ∙ is))), (λ again. (refl, rw (kind ∙ is) refl)))
+    by_case true is (bytes, set, new) =
+        let own = values (value_of p) bytes new in
+        let same : value_of q ≡ bytes = ap (λ (o : Option (List ℕ)). unwrap_or o []) set in
+        let had : is_some p.value ≡ true = second_true (bytes_eq p.name mergeinfo_name) (is_some p.value) is in
+        let still = kind (ap is_some set ∙ sym had) ∙ is in
+        let again_new = λ (again : KeptRevisions).
+        subst (λ (old : List ℕ). IsNewMergeinfo keep_all again old bytes) (sym same) (own.1 again) in (
+          (λ merge. subst HasMergeLines (sym same) own.0),
+          (λ again. (refl, rw still (bytes, set, again_new again))),
+        )
+    by_case false is same =
+        let still = kind (ap is_some same) ∙ is in
+        ((λ merge. absurd (absurd_bool (is_mergeinfo q) merge still)), (λ again. (refl, rw still refl)))
+
+-- a deleted property stays one, and no other becomes one
+same_deleted : (settings : Settings) (kept : KeptRevisions) (p q : Property) → IsNewProperty settings kept p q
+    → is_none q.value ≡ is_none p.value
+same_deleted settings kept p q (name, value) = by_case (is_mergeinfo p) refl value
+  where
+    by_case : (b : Bool) → is_mergeinfo p ≡ b → IsNewValue settings kept p q b → is_none q.value ≡ is_none p.value
+    by_case true is (bytes, set, new) = ap is_none set ∙ sym (set_value (bytes_eq p.name mergeinfo_name) p.value is)
+    by_case false is same = ap is_none same
+
+same_deletes : (settings : Settings) (kept : KeptRevisions) (ps qs : List Property)
+    → AreNewProperties settings kept ps qs → has_deletes qs ≡ has_deletes ps
+same_deletes settings kept [] [] all = refl
+same_deletes settings kept [] (q ∷ qs) all = absurd all
+same_deletes settings kept (p ∷ ps) [] all = absurd all
+same_deletes settings kept (p ∷ ps) (q ∷ qs) all =
+    λ i. same_deleted settings kept p q all.0 i || same_deletes settings kept ps qs all.1 i
 
 own_properties : (settings : Settings) (kept : KeptRevisions) → OwnValues settings kept → (ps qs : List Property) → AreNewProperties settings kept ps qs
     → All IsReadable qs × ((again : KeptRevisions) → AreNewProperties keep_all again qs qs)
@@ -379,16 +460,23 @@ node_again settings kept number r after front block lawful props_fit text_fits n
     lawful = new_lawful number r block lawful text_fits either mid l.touches l.change l.stays l.props_there false new small none;
     props_fit = lengths.0;
     text_fits = lengths.1;
+    version = refl;
+    version_line = new_version_line number r block lawful text_fits either mid l.touches l.change l.stays l.props_there
+        false new small none;
     revision = lifted.revision;
     node = lifted.node;
     number = λ rev. absurd (absurd_bool (is_revision r) rev no_revision);
     clean = record {
       props = λ bad. bad.1 (new, here);
-      md5 = λ bad. no_md5 (is_kept, sym lifted.text ∙ bad.1, same_differs md5_name r (it place) _ _ same_md5 bad.2);
-      sha1 = λ bad. no_sha1 (is_kept, sym lifted.text ∙ bad.1, same_differs sha1_name r (it place) _ _ same_sha1 bad.2);
+      md5 = λ bad. no_md5 (is_kept, sym same_whole ∙ bad.1, same_differs md5_name r (it place) _ _ same_md5 bad.2);
+      sha1 = λ bad. no_sha1 (is_kept, sym same_whole ∙ bad.1, same_differs sha1_name r (it place) _ _ same_sha1 bad.2);
       merge = no_bad_merge;
     };
-    output = λ again after. rw (lifted.revision ∙ no_revision, lifted.node ∙ node) (lines, new, new, stays_copy again (it place) here_block copied, here, own.1 again, written);
+    output = λ again after.
+        second_side (is_revision (it place)) (IsRevisionOutput keep_all again (group_of (it place) after) front) _
+        (lifted.revision ∙ no_revision)
+        (first_side (is_node (it place)) (IsNodeOutput keep_all again (it place) front) _ (lifted.node ∙ node)
+        (lines, new, new, stays_copy again (it place) here_block copied, here, own.1 again, written));
   },
 )
   where
@@ -405,12 +493,12 @@ node_again settings kept number r after front block lawful props_fit text_fits n
     either = rw (no_revision, node) refl
 
     small : length (new_block false r new) + length r.text < 10 ^ 18
-    small = fit (new_block false r new) (rw (no_revision, node) (old, new, is_old, all, refl))
+    small = fit (new_block false r new) (old, new, is_old, rw node all, rw no_revision refl)
 
     none : (false || has_header property_length_name r.headers) ≡ false → new ≡ []
     none missing =
         let empty : r.props ≡ [] = no_bytes r.props (props_fit ∙ no_length property_length_name r.headers missing) in
-        none_new settings kept old new (property_block_once r.props old [] is_old (inl (empty, refl))) all
+        none_new settings kept old new (property_list_once r old [] is_old (no_list r empty)) all
 
     it : ℕ → DumpRecord
     it = again number r block lawful text_fits either mid l.touches l.change l.stays l.props_there false new small none
@@ -418,8 +506,10 @@ node_again settings kept number r after front block lawful props_fit text_fits n
     lines : List Header
     lines = with_lengths props r.text mid
 
-    here : IsPropertyBlock props new
-    here = reads number r block lawful text_fits either mid l.touches l.change l.stays l.props_there false new small none
+    here : HasPropertyList (it place) new
+    here =
+        reads_list number r block lawful text_fits either mid l.touches l.change l.stays l.props_there false new small
+        none (λ deletes. is_old.1 (sym (same_deletes settings kept old new all) ∙ deletes)) place
 
     here_block : is_block lines ≡ true
     here_block = new_is_block number r block lawful text_fits either mid l.touches l.change l.stays l.props_there false new small none
@@ -439,6 +529,12 @@ node_again settings kept number r after front block lawful props_fit text_fits n
     same_sha1 : header_value sha1_name lines ≡ header_value sha1_name r.headers
     same_sha1 = others.same sha1_name refl ∙ l.sha1
 
+    same_delta : header_value text_delta_name lines ≡ header_value text_delta_name r.headers
+    same_delta = others.same text_delta_name refl ∙ l.text_delta
+
+    same_whole : has_whole_text (it place) ≡ has_whole_text r
+    same_whole = rw (lifted.text, lifted.node, same_delta) refl
+
     copied : has_header copy_path_name lines ≡ true → (n : ℕ) × (n < 10 ^ 18) × (has_header copy_revision_name lines ≡ true) × IsTold copy_revision_name n lines
     copied there =
         let (n, few, revision, told) = l.copied (sym (same_has is_length_name mid lines others copy_path_name refl) ∙ there) in
@@ -449,7 +545,7 @@ node_again settings kept number r after front block lawful props_fit text_fits n
 
     no_bad_merge : ¬ HasBadMergeinfo keep_all (it place)
     no_bad_merge (value, (keep, qs, is_qs, p, within, merge, same), bad) =
-        let list : qs ≡ new = property_block_once props qs new is_qs here in
+        let list : qs ≡ new = property_list_once (it place) qs new is_qs here in
         let good = All-contains IsReadable new p own.0 (subst (λ (ps : List Property). Contains ps p) list within) merge in
         bad (subst HasMergeLines same good)
 

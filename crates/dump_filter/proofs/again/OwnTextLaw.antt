@@ -21,7 +21,7 @@ use Rattle.dump_filter.proofs.groups.KindLemmas.{alone}
 use Rattle.dump_filter.proofs.again.ReadAgain.{IsReadAgain, AtEach}
 use Rattle.dump_filter.proofs.again.Output.{header_small, other_again, revision_again, OwnValues, node_again}
 use Rattle.dump_filter.proofs.again.Numbers.{kept_rise, positive, revisions_above}
-use Rattle.dump_filter.proofs.again.RecordList.{at_each, HasAgain, records_again, some_again, all_paths, outputs_again}
+use Rattle.dump_filter.proofs.again.RecordList.{at_each, versions_again, HasAgain, records_again, some_again, all_paths, outputs_again}
 use Rattle.dump_filter.proofs.again.Free.{free_again}
 use Rattle.dump_text.specs.declared.fault.FaultKind.TheVariants as faults
 
@@ -51,7 +51,7 @@ module _ (settings : Settings) (dump text : List ℕ) (records : List DumpRecord
   kept = kept_revisions settings records
 
   cut : IsCutInto 0 0 dump records []
-  cut = subst (λ (rest : List ℕ). IsCutInto 0 0 dump records rest) clean.whole.2.0 clean.whole.1
+  cut = subst (λ (rest : List ℕ). IsCutInto 0 0 dump records rest) clean.whole.3.0 clean.whole.1
 
   rise : RiseFrom kept.first kept.numbers
   rise = kept_rise settings records clean.fault_free
@@ -99,11 +99,14 @@ module _ (settings : Settings) (dump text : List ℕ) (records : List DumpRecord
   pub whole_again : (again : List DumpRecord) × IsCleanText keep_all text again text
   whole_again =
       let each = at_each (λ before r after. HasAgain settings kept r after) records record_again in
-      let found = records_again settings kept dump text records cut each clean.written in (
+      let found = records_again settings kept dump text records cut each clean.written in
+      let lawful = all_lawful 0 0 dump [] records cut in
+      let have = versions_again settings kept 0 records text found.0 lawful clean.whole.2 found.2 in
+      let some = some_again settings kept dump text records found.0 cut clean.whole.3.1 found.2 in (
         found.0,
         record {
-          whole = ([], found.1, (refl, some_again settings kept dump text records found.0 cut clean.whole.2.1 found.2));
-          fault_free = free_again settings records text found.0 (all_lawful 0 0 dump [] records cut) clean.fault_free found.2;
+          whole = ([], found.1, have, (refl, some));
+          fault_free = free_again settings records text found.0 lawful clean.fault_free found.2;
           written = outputs_again settings kept records text found.0 found.2 (kept_revisions keep_all found.0);
         },
       )

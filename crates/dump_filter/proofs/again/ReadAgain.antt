@@ -4,7 +4,7 @@ use Rattle.dump_text.specs.Names.{version_name}
 use Rattle.dump_text.specs.HeaderLine.{has_header}
 use Rattle.dump_text.specs.HeaderBlock.{is_block}
 use Rattle.dump_records.specs.DumpText.{line_feeds}
-use Rattle.dump_records.specs.HeaderRules.{property_length, text_length}
+use Rattle.dump_records.specs.HeaderRules.{version_from, property_length, text_length}
 use Rattle.dump_records.specs.RecordText.{DumpRecord, record_text, is_lawful}
 use Rattle.dump_rules.specs.Settings.{Settings}
 use Rattle.dump_rules.specs.Renumbering.{KeptRevisions}
@@ -24,7 +24,7 @@ pub record IsClean (r : DumpRecord) : Type 0 where
   pub merge : ¬ HasBadMergeinfo keep_all r
 
 -- what is written of a record r is this record s, and some LFs; where everything is kept it stays as it stands. As the
--- first record of a dump it is lawful where r is a version record
+-- first record of a dump it is lawful where r is a version record. The version in force for it is that for r
 pub record IsReadAgain (settings : Settings) (kept : KeptRevisions) (r : DumpRecord) (front : List ℕ) (s : DumpRecord) : Type 0 where
   pub feeds : ℕ
   pub spelled : front ≡ record_text s ++ line_feeds feeds
@@ -32,6 +32,8 @@ pub record IsReadAgain (settings : Settings) (kept : KeptRevisions) (r : DumpRec
   pub lawful : (number : ℕ) → (number ≡ 0 → has_header version_name r.headers ≡ true) → is_lawful number s.headers ≡ true
   pub props_fit : length s.props ≡ property_length s.headers
   pub text_fits : length s.text ≡ text_length s.headers
+  pub version : s.version ≡ r.version
+  pub version_line : (before : ℕ) → version_from before s.headers ≡ version_from before r.headers
   pub revision : is_revision s ≡ is_revision r
   pub node : is_node s ≡ is_node r
   pub number : is_revision r ≡ true → revision_number s ≡ written_number settings kept (revision_number r)

@@ -5,11 +5,12 @@ use Rattle.dump_text.specs.Number.{spelled_number}
 use Rattle.dump_text.specs.Names.{version_name, uuid_name, revision_name, path_name, copy_revision_name, copy_path_name, property_length_name, text_length_name, content_length_name}
 use Rattle.dump_text.specs.HeaderLine.{Header, has_header, header_value, with_header_value}
 use Rattle.dump_text.specs.HeaderBlock.{is_block, block_text}
-use Rattle.dump_text.specs.PropertyList.{Property, IsPropertyBlock, block_end, entry_text, property_block_text}
+use Rattle.dump_text.specs.PropertyList.{Property, IsPropertyBlock, has_deletes, block_end, entry_text, property_block_text}
 use Rattle.dump_text.proofs.WrittenLemmas.{short_block}
-use Rattle.dump_records.specs.HeaderRules.{property_length, text_length, has_bad_kind, has_bad_version, has_bad_number, has_bad_lengths}
+use Rattle.dump_records.specs.HeaderRules.{version_from, property_length, text_length, has_bad_kind, has_bad_version, has_bad_number, has_bad_lengths}
 use Rattle.dump_records.specs.RecordText.{DumpRecord, is_lawful}
 use Rattle.dump_records.proofs.Unique.{Keeps, keeps}
+use Rattle.dump_digest.specs.RecordParts.{takes_deletes, HasPropertyList}
 use Rattle.dump_filter.specs.NewContent.{new_block}
 use Rattle.dump_filter.specs.NewHeaders.{with_lengths, without_copy_headers}
 use Rattle.dump_filter.specs.steps.NewLines.{is_copy_line}
@@ -17,7 +18,7 @@ use Rattle.dump_filter.specs.RecordOutput.{whole_text}
 use Rattle.dump_text.proofs.BoolLemmas.{first_false, second_false, not_so, absurd_bool}
 use Rattle.dump_filter.proofs.written.HeaderLemmas.{no_length}
 use Rattle.dump_filter.proofs.again.LineChanges.{IsChange, spelled_line, same_has, block_stays, both_changes, put_has, put_change, go_change, gone, IsTold, told_put, told_reads}
-use Rattle.dump_filter.proofs.again.Headers.{is_length_name, AreTold, lengths_change, text_stays, props_stay, lengths_told, lengths_again, StaysLawful, lawful_again}
+use Rattle.dump_filter.proofs.again.Headers.{is_length_name, AreTold, lengths_change, text_stays, props_stay, lengths_told, lengths_again, no_others, StaysLawful, lawful_again}
 
 -- a part that has no length is empty
 pub no_bytes : (bytes : List ℕ) → length bytes ≡ 0 → bytes ≡ []
@@ -162,7 +163,7 @@ module _ (number : ℕ) (r : DumpRecord) (is_lines : is_block r.headers ≡ true
   lines = with_lengths props r.text mid
 
   abbrev pub again : ℕ → DumpRecord
-  again place = record { place = place; headers = lines; props = props; text = r.text }
+  again place = record { place = place; version = r.version; headers = lines; props = props; text = r.text }
 
   no_text : has_header text_length_name mid ≡ false → length r.text ≡ 0
   no_text missing = fits ∙ no_length text_length_name r.headers (sym stays.text ∙ missing)
@@ -188,14 +189,24 @@ module _ (number : ℕ) (r : DumpRecord) (is_lines : is_block r.headers ≡ true
   pub new_lawful : (m : ℕ) → (m ≡ 0 → has_header version_name r.headers ≡ true) → is_lawful m lines ≡ true
   new_lawful = lawful_again number r.headers lines lawful either new_stays props r.text small told
 
+  -- there is no version line, neither before nor now
+  pub new_version_line : (before : ℕ) → version_from before lines ≡ version_from before r.headers
+  new_version_line before =
+      let good = not_so (has_bad_kind r.headers) (keeps number r.headers lawful).kind in
+      rw (new_stays.version, (no_others r.headers good either).0) refl
+
   -- the block of the new properties is one that is read again, and it stays as it stands
-  pub reads : IsPropertyBlock props new
+  reads : IsPropertyBlock props new
   reads = by_block (padded || has_header property_length_name r.headers) refl small
     where
       by_block : (b : Bool) → (padded || has_header property_length_name r.headers) ≡ b → length (if b then property_block_text new else []) + length r.text < 10 ^ 18
           → IsPropertyBlock (if padded || has_header property_length_name r.headers then property_block_text new else []) new
       by_block true is few = rw is (short_block new (omega (arith, few)))
       by_block false is few = rw is (inl (refl, none is))
+
+  -- the new properties are those of the record, if deleted ones may stand among them
+  pub reads_list : (has_deletes new ≡ true → takes_deletes r ≡ true) → (place : ℕ) → HasPropertyList (again place) new
+  reads_list may place = (reads, λ deletes. ap (λ node. node && r.version == 3) new_stays.node ∙ may deletes)
 
   same_props : new_block false (again 0) new ≡ props
   same_props = by_block (padded || has_header property_length_name r.headers) refl told.props_told

@@ -2,9 +2,9 @@
 use Rattle.std.proofs.Common.{◌≡◌, ℕ, ◌+◌, ◌<◌, ◌==◌, Bool, true, false, ◌||◌, MatchBool, List, [], ◌∷◌, ◌++◌, length, refl, sym, ap, ◌∙◌, subst, arith, append_assoc}
 use Rattle.dump_text.specs.Names.{version_name}
 use Rattle.dump_text.specs.HeaderLine.{has_header}
-use Rattle.dump_records.specs.DumpText.{line_feeds, IsCutInto}
+use Rattle.dump_records.specs.DumpText.{line_feeds, IsCutInto, HaveVersions}
 use Rattle.dump_records.specs.RecordText.{DumpRecord, record_text, is_lawful, BeginsWithRecord}
-use Rattle.dump_records.specs.HeaderRules.{kind_of}
+use Rattle.dump_records.specs.HeaderRules.{kind_of, version_from}
 use Rattle.dump_records.specs.declared.kind.RecordKind.{RecordKind}
 use Rattle.dump_records.specs.declared.kind.RecordKind.TheVariants as kinds
 use Rattle.dump_records.proofs.Unique.{keeps}
@@ -15,8 +15,9 @@ use Rattle.dump_filter.specs.FilterLaws.{keep_all}
 use Rattle.dump_filter.specs.Groups.{Group, group_of, group_number, has_kept_node, keeps_group}
 use Rattle.dump_filter.specs.RecordOutput.{IsOutput}
 use Rattle.dump_filter.specs.Written.{is_written, AreOutputs}
-use Rattle.dump_text.proofs.BoolLemmas.{absurd_bool, both_true, either_second}
+use Rattle.dump_text.proofs.BoolLemmas.{absurd_bool, both_true, either_second, not_so}
 use Rattle.dump_filter.proofs.groups.KindLemmas.{IsOfKind, of_kind}
+use Rattle.dump_filter.proofs.knowing.Answered.{AllLawful}
 use Rattle.dump_filter.proofs.again.ReadAgain.{IsReadAgain, AreReadAgain, AtEach}
 
 -- of each record
@@ -42,14 +43,58 @@ version_first r lawful = cases (has_header version_name r.headers) refl
     cases true is = refl
     cases false is = absurd ((keeps 0 r.headers lawful).version (rw is refl))
 
-version_written : (settings : Settings) (r : DumpRecord) (after : List DumpRecord) → is_lawful 0 r.headers ≡ true → is_written settings true r after ≡ true
-version_written settings r after lawful =
-    let first = version_first r lawful in
-    let kind : kind_of r.headers ≡ kinds.Version = rw first refl in
-    let of = subst (λ (which : RecordKind). IsOfKind r which) kind (of_kind 0 r lawful) in
+-- a version record is written
+version_written : (settings : Settings) (number : ℕ) (r : DumpRecord) (after : List DumpRecord)
+    → is_lawful number r.headers ≡ true → has_header version_name r.headers ≡ true
+    → is_written settings true r after ≡ true
+version_written settings number r after lawful has =
+    let kind : kind_of r.headers ≡ kinds.Version = rw has refl in
+    let of = subst (λ (which : RecordKind). IsOfKind r which) kind (of_kind number r lawful) in
     let no_node : is_node r ≡ false = of.0 in
     let no_revision : is_revision r ≡ false = of.1 in
     rw (no_revision, no_node) refl
+
+first_written : (settings : Settings) (r : DumpRecord) (after : List DumpRecord) → is_lawful 0 r.headers ≡ true
+    → is_written settings true r after ≡ true
+first_written settings r after lawful = version_written settings 0 r after lawful (version_first r lawful)
+
+-- the versions in force
+
+-- a record that isn't written leaves the version in force
+dropped_version : (settings : Settings) (number before : ℕ) (r : DumpRecord) (after : List DumpRecord)
+    → is_lawful number r.headers ≡ true → is_written settings true r after ≡ false
+    → version_from before r.headers ≡ before
+dropped_version settings number before r after lawful dropped =
+    let written = version_written settings number r after lawful in
+    let none : has_header version_name r.headers ≡ false = not_so (has_header version_name r.headers)
+    (λ has. absurd_bool (is_written settings true r after) (written has) dropped) in
+    rw none refl
+
+-- the records that are read again have the versions in force
+pub versions_again : (settings : Settings) (kept : KeptRevisions) (before : ℕ) (records : List DumpRecord)
+    (text : List ℕ) (again : List DumpRecord) → AllLawful records → HaveVersions before records
+    → AreReadAgain settings kept records text again → HaveVersions before again
+versions_again settings kept before [] text again lawful have (none, no_more) =
+    subst (HaveVersions before) (sym no_more) tt
+versions_again settings kept before (r ∷ rest) text again lawful (version, have) (front, behind, is, this) =
+    cases (is_written settings true r rest) refl this
+    (λ more reads. versions_again settings kept r.version rest behind more lawful.1 have reads)
+  where
+    cases : (w : Bool) → is_written settings true r rest ≡ w
+        → MatchBool w
+        ((s : DumpRecord) × (more : List DumpRecord) × (again ≡ s ∷ more) × IsReadAgain settings kept r front s
+        × AreReadAgain settings kept rest behind more)
+        ((front ≡ []) × AreReadAgain settings kept rest behind again)
+        → ((more : List DumpRecord) → AreReadAgain settings kept rest behind more → HaveVersions r.version more)
+        → HaveVersions before again
+    cases true written (s, more, same, read, reads) later =
+        subst (HaveVersions before) (sym same) (
+          read.version ∙ version ∙ sym (read.version_line before),
+          subst (λ (v : ℕ). HaveVersions v more) (sym read.version) (later more reads),
+        )
+    cases false dropped (none, reads) later =
+        let stays = version ∙ dropped_version settings lawful.0.0 before r rest lawful.0.1 dropped in
+        subst (λ (v : ℕ). HaveVersions v again) stays (later again reads)
 
 -- the records that are written, with the LFs between them
 
@@ -102,7 +147,7 @@ module _ (settings : Settings) (kept : KeptRevisions) where
       first_stays : number ≡ 0 → old + 1 ≡ 0
       first_stays first =
           absurd (absurd_bool (is_written settings true r rest)
-          (version_written settings r rest (subst (λ (n : ℕ). is_lawful n r.headers ≡ true) (low first) lawful)) dropped)
+          (first_written settings r rest (subst (λ (n : ℕ). is_lawful n r.headers ≡ true) (low first) lawful)) dropped)
 
   records_behind : (old old_place : ℕ) (dump : List ℕ) (before records : List DumpRecord) → IsCutInto old old_place dump records []
       → AtEach (λ done r after. HasAgain settings kept r after) before records → (text : List ℕ) → AreOutputs settings true kept records text
@@ -130,7 +175,7 @@ pub some_again : (settings : Settings) (kept : KeptRevisions) (dump text : List 
     → 0 < length records → AreReadAgain settings kept records text again → 0 < length again
 some_again settings kept dump text [] again cut some read = absurd (omega arith)
 some_again settings kept dump text (r ∷ rest) again (lfs, start, end, cut_is, at, b, cut) some (front, behind, is, this) =
-    let found = rw (version_written settings r rest b.lawful) at this in
+    let found = rw (first_written settings r rest b.lawful) at this in
     let same : again ≡ found.0 ∷ found.1 = found.2 in
     subst (λ (l : List DumpRecord). 0 < length l) (sym same) (omega arith)
 

@@ -5,13 +5,13 @@ use Rattle.dump_text.specs.declared.fault.FaultKind.{FaultKind}
 use Rattle.dump_text.specs.declared.fault.FaultKind.TheVariants as faults
 use Rattle.dump_text.specs.FaultTable.{fault_code, NoFault}
 use Rattle.dump_text.specs.PropertyList.{Property, IsPropertyBlock, HasProperties}
-use Rattle.dump_text.proofs.PropertyChoice.{properties_stable}
+use Rattle.dump_digest.proofs.PropertyBlocks.{block_stable}
 use Rattle.dump_records.specs.RecordText.{DumpRecord, is_lawful}
 use Rattle.dump_records.proofs.Unique.{code_once}
 use Rattle.dump_rules.specs.Settings.{Settings, keeps_path}
 use Rattle.dump_rules.specs.Renumbering.{KeptRevisions, image}
 use Rattle.dump_rules.specs.Rewriting.{HasForeignNumber}
-use Rattle.dump_digest.specs.RecordParts.{is_revision, is_node, is_kept_node, node_path}
+use Rattle.dump_digest.specs.RecordParts.{is_revision, is_node, is_kept_node, node_path, HasPropertyList, HasPropertyBlock}
 use Rattle.dump_digest.specs.ContentFaults.{HasBadMergeinfo}
 use Rattle.dump_digest.specs.steps.VerdictMeaning.{IsVerdict}
 use Rattle.dump_digest.specs.declared.verdict.Verdict.{Verdict}
@@ -27,7 +27,7 @@ use Rattle.dump_digest.specs.steps.MergeFaults.{merge_fault}
 use Rattle.dump_filter.specs.steps.State.{PresentGroup, State, node_revision}
 use Rattle.dump_filter.specs.steps.State.PresentGroup.{NoGroup, Pending, Written}
 use Rattle.dump_filter.specs.steps.Advance.{front_kept}
-use Rattle.dump_filter.specs.steps.Decision.{is_in_order, is_orphan, HasNoSource, copy_change, with_fault, node_fate, fate_of, decided, AreAsked}
+use Rattle.dump_filter.specs.steps.Decision.{is_in_order, is_orphan, HasNoSource, copy_change, kept_unless, with_fault, node_fate, fate_of, decided, AreAsked}
 use Rattle.dump_filter.specs.steps.Knowledge.{is_plain, Stands}
 use Rattle.dump_text.proofs.BoolLemmas.{first_true, second_true, both_true, absurd_bool}
 use Rattle.dump_filter.proofs.groups.KindLemmas.{alone}
@@ -49,7 +49,7 @@ pub record IsTaken (settings : Settings) (before : List DumpRecord) (s : State) 
     (fate : Fate) : Type 0 where
   pub free : NoFault (HoldsOfRecord settings before r)
   pub in_order : is_in_order s r ≡ true
-  pub readable : (is_revision r || is_kept_node settings r) ≡ true → HasProperties r.props
+  pub readable : (is_revision r || is_kept_node settings r) ≡ true → HasPropertyBlock r
   pub is : IsFate settings s r fate
 
 abbrev pub IsAnswer : Settings → List DumpRecord → State → DumpRecord → Result Fate FaultKind → Type 0
@@ -144,9 +144,9 @@ other_none settings before r drop below faults.MergeSource = λ h. absurd_bool (
 other_none settings before r drop below faults.MergeRange = λ h. absurd_bool (is_kept_node settings r) h.1.0 drop
 
 readable_is : (settings : Settings) (before : List DumpRecord) (r : DumpRecord) → NoneBelow settings before r 10
-    → (is_revision r || is_kept_node settings r) ≡ true → HasProperties r.props
+    → (is_revision r || is_kept_node settings r) ≡ true → HasPropertyBlock r
 readable_is settings before r none asked =
-    properties_stable r.props (λ bad. none faults.Props (omega arith) (asked, bad))
+    block_stable r (λ bad. none faults.Props (omega arith) (asked, bad))
 
 module _ (settings : Settings) (before : List DumpRecord) (s : State) (text : List ℕ)
     (st : Stands settings before s text)
@@ -296,7 +296,7 @@ module _ (settings : Settings) (before : List DumpRecord) (s : State) (text : Li
 
   fate_answer : is_in_order s r ≡ true → NoneBelow settings before r 12 → (ok : Bool)
       → IsFalse ok ↔ ∥ HasBadMergeinfo settings r ∥₁
-      → (ps : List Property) → (is_kept_node settings r ≡ true → IsPropertyBlock r.props ps)
+      → (ps : List Property) → (is_kept_node settings r ≡ true → HasPropertyList r ps)
       → IsAnswer settings before s r (fate_of settings s r ok ps)
   fate_answer good none ok means ps block = by_kind (is_node r) (is_kept_node settings r) (is_revision r) refl refl refl
     where
@@ -363,6 +363,42 @@ module _ (settings : Settings) (before : List DumpRecord) (s : State) (text : Li
 pub so : (b : Bool) → not b ≡ false → b ≡ true
 so true e = refl
 so false e = cc
+
+-- the fault of mergeinfo is the same under equal settings and numbers
+same_merge_fault : (settings : Settings) (first present : ℕ) (options : Settings) (from at : ℕ) (ok : Bool) (ps : List Property)
+    → settings ≡ options → first ≡ from → present ≡ at
+    → merge_fault settings first present ok ps ≡ merge_fault options from at ok ps
+same_merge_fault settings first present options from at ok ps e f g =
+    ap (λ (s : Settings). merge_fault s first present ok ps) e ∙ ap (λ n. merge_fault options n present ok ps) f
+    ∙ ap (λ n. merge_fault options from n ok ps) g
+
+-- the fate of a kept node, by what its copy source becomes and by the fault that was found of its mergeinfo
+pub node_fate_is : (settings options : Settings) (s : State) (r : DumpRecord) (ok : Bool) (ps : List Property) (first present : ℕ)
+    (copy : CopyChange) (found : Option FaultKind)
+    → settings ≡ options → first ≡ s.revisions.kept.first → present ≡ node_revision s.revisions
+    → copy_change options (front_kept s.revisions.kept s.group) (node_revision s.revisions) r ≡ Ok copy
+    → found ≡ merge_fault settings first present ok ps
+    → kept_unless found copy ≡ node_fate options s r ok ps
+node_fate_is settings options s r ok ps first present copy found e f g copied is =
+    ap (λ (fault : Option FaultKind). kept_unless fault copy)
+    (is ∙ same_merge_fault settings first present options s.revisions.kept.first (node_revision s.revisions) ok ps e f g)
+    ∙ sym (ap (λ (c : Result CopyChange FaultKind). with_fault c (merge_fault options s.revisions.kept.first (node_revision s.revisions) ok ps))
+    copied)
+
+-- a kept node has the fate of a node, and a revision is held
+pub fate_of_node : (settings : Settings) (s : State) (r : DumpRecord) (ok : Bool) (ps : List Property)
+    → is_kept_node settings r ≡ true → fate_of settings s r ok ps ≡ node_fate settings s r ok ps
+fate_of_node settings s r ok ps keep =
+    let kept : Result Fate FaultKind = if is_kept_node settings r then node_fate settings s r ok ps else Ok fates.Drop in
+    ap (λ b. if b then kept else if is_revision r then Ok fates.Hold else Ok fates.Pass) (first_true (is_node r) _ keep)
+    ∙ ap (λ b. if b then node_fate settings s r ok ps else Ok fates.Drop) keep
+
+pub fate_of_revision : (settings : Settings) (s : State) (r : DumpRecord) (ok : Bool) (ps : List Property)
+    → is_node r ≡ false → is_revision r ≡ true → Ok fates.Hold ≡ fate_of settings s r ok ps
+fate_of_revision settings s r ok ps no_node revision =
+    let kept : Result Fate FaultKind = if is_kept_node settings r then node_fate settings s r ok ps else Ok fates.Drop in
+    sym (ap (λ b. if b then kept else if is_revision r then Ok fates.Hold else Ok fates.Pass) no_node
+    ∙ ap (λ b. if b then Ok fates.Hold else Ok fates.Pass) revision)
 
 -- a record in order that can be read has its fate
 pub decided_in_order : (settings : Settings) (s : State) (r : DumpRecord) (v : Verdict) (ps : List Property)

@@ -17,12 +17,13 @@ use Rattle.dump_records.specs.steps.RecordViews.{record_item}
 use Rattle.dump_digest.specs.declared.done.Done.{Done}
 use Rattle.dump_digest.specs.steps.DoneViews.{done_record, done_settings, done_verdict}
 use Rattle.dump_digest.specs.steps.ContentViews.{is_asked}
-use Rattle.dump_digest.specs.RecordParts.{is_revision, is_kept_node, is_mergeinfo}
+use Rattle.dump_digest.specs.RecordParts.{is_revision, is_kept_node, is_mergeinfo, value_of, HasPropertyList, HasPropertyBlock}
 use Rattle.dump_filter.specs.steps.NewProperties.{IsReadNode}
 use Rattle.dump_digest.specs.ContentFaults.{IsMergeinfoValueOf, HasBadMergeinfo}
 use Rattle.dump_digest.proofs.VerdictChoice.{bad_choice}
 use Rattle.dump_digest.specs.steps.MergeFaults.{misses, is_foreign, merge_fault, HasLines}
 use Rattle.dump_text.proofs.BoolLemmas.{first_true, second_true, both_true, false_true, absurd_bool, either_second}
+use Rattle.dump_digest.proofs.PropertyBlocks.{property_list_once}
 
 -- some element that passes a test
 -- a kept node has mergeinfo that misses a source
@@ -41,40 +42,40 @@ MergeJudged settings kept present r (Some fault) = ((fault ≡ faults.MergeInfo)
     ⊎ ((fault ≡ faults.MergeRange) × (¬ HasBadMergeinfo settings r) × (¬ Misses settings r) × IsForeign settings kept present r)
 
 -- the properties of a kept node
-module _ (settings : Settings) (r : DumpRecord) (keep : is_kept_node settings r ≡ true) (ps : List Property) (block : IsPropertyBlock r.props ps) where
-  value_of : (p : Property) → Contains ps p → is_mergeinfo p ≡ true → IsMergeinfoValueOf settings r p.value
-  value_of p within is = (keep, ps, block, p, within, is, refl)
+module _ (settings : Settings) (r : DumpRecord) (keep : is_kept_node settings r ≡ true) (ps : List Property) (block : HasPropertyList r ps) where
+  own_value : (p : Property) → Contains ps p → is_mergeinfo p ≡ true → IsMergeinfoValueOf settings r (value_of p)
+  own_value p within is = (keep, ps, block, p, within, is, refl)
 
-  none_passes : (passes : Property → Bool) → list_any passes ps ≡ false → (qs : List Property) → IsPropertyBlock r.props qs → (p : Property) → Contains qs p → passes p ≡ true → ⊥
+  none_passes : (passes : Property → Bool) → list_any passes ps ≡ false → (qs : List Property) → HasPropertyList r qs → (p : Property) → Contains qs p → passes p ≡ true → ⊥
   none_passes passes none qs other p within so =
-      let same : qs ≡ ps = property_block_once r.props qs ps other block in
+      let same : qs ≡ ps = property_list_once r qs ps other block in
       absurd_bool (list_any passes ps) (finds passes ps p (subst (λ (l : List Property). Contains l p) same within) so) none
 
   module _ (kept : KeptRevisions) (present : ℕ) (fine : ¬ HasBadMergeinfo settings r) where
-    lines_of : (p : Property) → Contains ps p → is_mergeinfo p ≡ true → HasMergeLines p.value
-    lines_of p within is = has_lines p.value (λ none. fine (p.value, value_of p within is, none))
+    lines_of : (p : Property) → Contains ps p → is_mergeinfo p ≡ true → HasMergeLines (value_of p)
+    lines_of p within is = has_lines (value_of p) (λ none. fine (value_of p, own_value p within is, none))
 
     some_misses : list_any (misses settings) ps ≡ true → Misses settings r
     some_misses some =
         let (p, within, so) = found (misses settings) ps some in
-        let is = first_true (is_mergeinfo p) (value_misses settings p.value) so in
-        (p.value, value_of p within is, missing_there settings p.value (lines_of p within is) (second_true (is_mergeinfo p) (value_misses settings p.value) so))
+        let is = first_true (is_mergeinfo p) (value_misses settings (value_of p)) so in
+        (value_of p, own_value p within is, missing_there settings (value_of p) (lines_of p within is) (second_true (is_mergeinfo p) (value_misses settings (value_of p)) so))
 
     none_misses : list_any (misses settings) ps ≡ false → ¬ Misses settings r
     none_misses none (value, (kept, qs, other, p, within, is, same), missing) =
         none_passes (misses settings) none qs other p within
-        (both_true (is_mergeinfo p) (value_misses settings p.value) is (missing_back settings p.value (subst (HasMissingSource settings) (sym same) missing)))
+        (both_true (is_mergeinfo p) (value_misses settings (value_of p)) is (missing_back settings (value_of p) (subst (HasMissingSource settings) (sym same) missing)))
 
     some_is_foreign : list_any (is_foreign settings kept.first present) ps ≡ true → IsForeign settings kept present r
     some_is_foreign some =
         let (p, within, so) = found (is_foreign settings kept.first present) ps some in
-        let is = first_true (is_mergeinfo p) (value_foreign settings kept.first present p.value) so in
-        (p.value, value_of p within is, foreign_there settings kept present p.value (lines_of p within is) (second_true (is_mergeinfo p) (value_foreign settings kept.first present p.value) so))
+        let is = first_true (is_mergeinfo p) (value_foreign settings kept.first present (value_of p)) so in
+        (value_of p, own_value p within is, foreign_there settings kept present (value_of p) (lines_of p within is) (second_true (is_mergeinfo p) (value_foreign settings kept.first present (value_of p)) so))
 
     none_is_foreign : list_any (is_foreign settings kept.first present) ps ≡ false → ¬ IsForeign settings kept present r
     none_is_foreign none (value, (keeps, qs, other, p, within, is, same), bad) =
         none_passes (is_foreign settings kept.first present) none qs other p within
-        (both_true (is_mergeinfo p) (value_foreign settings kept.first present p.value) is (foreign_back settings kept present p.value (subst (HasForeignNumber settings kept present) (sym same) bad)))
+        (both_true (is_mergeinfo p) (value_foreign settings kept.first present (value_of p)) is (foreign_back settings kept present (value_of p) (subst (HasForeignNumber settings kept present) (sym same) bad)))
 
     values_judged : MergeJudged settings kept present r (merge_fault settings kept.first present true ps)
     values_judged = by_source (list_any (misses settings) ps) refl
@@ -101,15 +102,20 @@ module _ (settings : Settings) (r : DumpRecord) (keep : is_kept_node settings r 
       ]
 
 -- a kept node without bad mergeinfo has lines in each value
-pub lines_told : (settings : Settings) (r : DumpRecord) → is_kept_node settings r ≡ true → ¬ HasBadMergeinfo settings r → HasLines r.props
-lines_told settings r keep fine ps block p within is none = fine (p.value, (keep, ps, block, p, within, is, refl), none)
+pub lines_told : (settings : Settings) (r : DumpRecord) → is_kept_node settings r ≡ true → ¬ HasBadMergeinfo settings r
+    → HasPropertyBlock r → HasLines r.props
+lines_told settings r keep fine (qs, list) ps block p within is none =
+    let same : ps ≡ qs = property_block_once r.props ps qs block list.0 in
+    let here = subst (λ (l : List Property). Contains l p) same within in
+    fine (value_of p, (keep, qs, list, p, here, is, refl), none)
 
 -- a kept node's properties are asked for
 pub asked_node : (d : Done) → IsReadNode d → IsTrue (is_asked (done_settings d) (record_item (done_record d)))
 asked_node d (kept, ok) = either_second (is_revision (record_item (done_record d))) (is_kept_node (done_settings d) (record_item (done_record d))) kept
 
 -- each value of its mergeinfo is some lines
-pub read_lines : (d : Done) → IsReadNode d → HasLines (record_item (done_record d)).props
+pub read_lines : (d : Done) → IsReadNode d → HasPropertyBlock (record_item (done_record d))
+    → HasLines (record_item (done_record d)).props
 read_lines d (kept, ok) =
     lines_told (done_settings d) (record_item (done_record d)) kept
     (λ bad. absurd_bool (done_verdict d).merge_ok ok (d.judged.verdict_is.merge.1 ∣ bad ∣₁))

@@ -5,7 +5,7 @@ use Rattle.dump_text.specs.declared.fault.FaultKind.TheVariants as faults
 use Rattle.dump_text.specs.HeaderBlock.{block_text}
 use Rattle.dump_text.specs.PropertyList.{Property, HasProperties}
 use Rattle.dump_text.proofs.PropertyLemmas.{property_block_once}
-use Rattle.dump_text.proofs.PropertyChoice.{properties_stable}
+use Rattle.dump_digest.proofs.PropertyBlocks.{block_stable}
 use Rattle.dump_records.specs.RecordText.{DumpRecord}
 use Rattle.dump_rules.specs.Settings.{Settings}
 use Rattle.dump_rules.specs.Renumbering.{KeptRevisions, RiseFrom}
@@ -13,7 +13,7 @@ use Rattle.dump_rules.specs.Mergeinfo.{HasMergeLines}
 use Rattle.dump_rules.specs.Rewriting.{IsNewMergeinfo}
 use Rattle.dump_rules.proofs.faults.FaultLemmas.{has_lines}
 use Rattle.dump_rules.proofs.new_values.ValueLemmas.{new_value}
-use Rattle.dump_digest.specs.RecordParts.{is_revision, is_node, is_kept_node, is_mergeinfo, is_checked_text}
+use Rattle.dump_digest.specs.RecordParts.{is_revision, is_node, is_kept_node, is_mergeinfo, is_checked_text, value_of, HasPropertyBlock}
 use Rattle.dump_filter.specs.declared.fate.CopyChange.{CopyChange}
 use Rattle.dump_filter.specs.declared.fate.Fate.{Fate}
 use Rattle.dump_filter.specs.declared.fate.Fate.TheVariants as fates
@@ -38,6 +38,7 @@ use Rattle.dump_filter.proofs.answer.FaultLemmas.{above_present}
 use Rattle.dump_filter.proofs.answer.MergeLemmas.{lines_told}
 use Rattle.dump_filter.proofs.answer.DecisionLemmas.{IsTaken}
 use Rattle.dump_filter.proofs.knowing.OnceLemmas.{outputs_once}
+use Rattle.dump_digest.proofs.PropertyBlocks.{property_list_once}
 
 -- a pending revision's properties can be read
 pub pending_readable : (settings : Settings) (before : List DumpRecord) (s : State) → Shape settings before s
@@ -46,7 +47,7 @@ pending_readable settings before s (Fresh t c) free = tt
 pending_readable settings before s (Idle t closed y other no_rev c) free = tt
 pending_readable settings before s (Passed t closed y ns other rev all some c) free = tt
 pending_readable settings before s (Waits t closed y ns other rev all none c) free =
-    properties_stable y.props
+    block_stable y
     (λ none. free closed ns y refl faults.Props (ap (λ b. b || is_kept_node settings y) rev, none))
 
 -- the count of dropped revisions is that of an ended group, or stays
@@ -88,28 +89,30 @@ next_stands settings before s text r fates.Pass checked piece st readable taken 
     (pass_stands settings before s r other next.report text front st readable ends refl no_rev)
 
 -- each record that is taken has its text
-revision_exists : (settings : Settings) (kept : KeptRevisions) (r : DumpRecord) (padded : Bool) → HasProperties r.props
+revision_exists : (settings : Settings) (kept : KeptRevisions) (r : DumpRecord) (padded : Bool) → HasPropertyBlock r
     → (text : List ℕ) × IsOwnRevision settings kept r padded text
 revision_exists settings kept r padded (ps, block) = (
   revision_own r (next_number settings kept r) padded ps,
   λ qs other. ap
       (λ (l : List Property). revision_own r (next_number settings kept r) padded l)
-      (property_block_once r.props ps qs block other),
+      (property_list_once r ps qs block other),
 )
 
 -- each value has a new one
 value_exists : (settings : Settings) (kept : KeptRevisions) → RiseFrom kept.first kept.numbers → (p : Property)
-    → (is_mergeinfo p ≡ true → ¬ ¬ HasMergeLines p.value) → (q : Property) × IsNewProperty settings kept p q
+    → (is_mergeinfo p ≡ true → ¬ ¬ HasMergeLines (value_of p)) → (q : Property) × IsNewProperty settings kept p q
 value_exists settings kept rise p lines =
     let (value, is) = by_case (is_mergeinfo p) refl in (record { name = p.name; value = value }, (refl, is))
   where
-    by_case : (b : Bool) → is_mergeinfo p ≡ b → (value : List ℕ)
-        × MatchBool b (IsNewMergeinfo settings kept p.value value) (value ≡ p.value)
-    by_case true is = let has = has_lines p.value (lines is) in (_, new_value settings kept rise p.value has.0 has.1)
+    by_case : (b : Bool) → is_mergeinfo p ≡ b → (value : Option (List ℕ))
+        × MatchBool b ((v : List ℕ) × (value ≡ Some v) × IsNewMergeinfo settings kept (value_of p) v) (value ≡ p.value)
+    by_case true is =
+        let has = has_lines (value_of p) (lines is) in
+        (Some _, (_, refl, new_value settings kept rise (value_of p) has.0 has.1))
     by_case false is = (p.value, refl)
 
 properties_exist : (settings : Settings) (kept : KeptRevisions) → RiseFrom kept.first kept.numbers
-    → (ps : List Property) → ((p : Property) → Contains ps p → is_mergeinfo p ≡ true → ¬ ¬ HasMergeLines p.value)
+    → (ps : List Property) → ((p : Property) → Contains ps p → is_mergeinfo p ≡ true → ¬ ¬ HasMergeLines (value_of p))
     → (new : List Property) × AreNewProperties settings kept ps new
 properties_exist settings kept rise [] lines = ([], tt)
 properties_exist settings kept rise (p ∷ ps) lines =
@@ -118,15 +121,15 @@ properties_exist settings kept rise (p ∷ ps) lines =
     (q ∷ new, (one, all))
 
 node_exists : (settings : Settings) (kept : KeptRevisions) (r : DumpRecord) (copy : CopyChange)
-    → RiseFrom kept.first kept.numbers → HasProperties r.props → HasLines r.props
+    → RiseFrom kept.first kept.numbers → HasPropertyBlock r → HasLines r.props
     → (text : List ℕ) × IsOwnNode settings kept r copy text
 node_exists settings kept r copy rise (ps, block) lines =
-    let (new, all) = properties_exist settings kept rise ps (lines ps block) in (
+    let (new, all) = properties_exist settings kept rise ps (lines ps block.0) in (
       node_own r copy new,
       λ qs other. (
         new,
         subst (λ (l : List Property). AreNewProperties settings kept l new)
-            (property_block_once r.props ps qs block other) all,
+            (property_list_once r ps qs block other) all,
         refl,
       ),
     )
@@ -168,9 +171,9 @@ pub piece_exists : (settings : Settings) (before : List DumpRecord) (s : State) 
 piece_exists settings before s r (fates.Keep copy) up readable taken =
     let keep = taken.is.1 in
     let front = front_exists settings s.revisions.kept s.group readable in
-    let own = node_exists settings (front_kept s.revisions.kept s.group) r copy (rising s up)
-    (taken.readable (either_second (is_revision r) (is_kept_node settings r) keep))
-    (lines_told settings r keep (taken.free faults.MergeInfo)) in
+    let block = taken.readable (either_second (is_revision r) (is_kept_node settings r) keep) in
+    let own = node_exists settings (front_kept s.revisions.kept s.group) r copy (rising s up) block
+    (lines_told settings r keep (taken.free faults.MergeInfo) block) in
     (front.0 ++ own.0, (front.0, own.0, refl, front.1, own.1))
 piece_exists settings before s r fates.Drop up readable taken = ([], refl)
 piece_exists settings before s r fates.Hold up readable taken = end_exists settings s.revisions.kept s.group readable

@@ -6,7 +6,7 @@ use Rattle.dump_text.specs.declared.fault.FaultKind.{FaultKind}
 use Rattle.dump_text.specs.declared.fault.FaultKind.TheVariants as faults
 use Rattle.dump_text.specs.FaultTable.{NoFault}
 use Rattle.dump_text.specs.PropertyList.{Property}
-use Rattle.dump_text.proofs.PropertyChoice.{properties_or_not}
+use Rattle.dump_digest.proofs.PropertyBlocks.{block_or_not}
 use Rattle.dump_records.specs.declared.record.Record.{Record}
 use Rattle.dump_records.specs.RecordText.{DumpRecord}
 use Rattle.dump_records.specs.steps.RecordViews.{record_dump, record_number, record_item}
@@ -104,7 +104,7 @@ free_more settings before r free last b a x is fault h =
 
 -- the records up to the next one
 pub begins_none : (dump : List ℕ) → BeginsWithRecords dump []
-begins_none dump = let s = strip dump in (s.rest, (s.count, s.is, s.stop))
+begins_none dump = let s = strip dump in (s.rest, (s.count, s.is, s.stop), tt)
 
 pub up_to_next : (settings : Settings) (active : Bool) (last : Option Record) (before : List DumpRecord) (r : Record)
     → AreUpTo last before
@@ -165,8 +165,8 @@ knows_as settings last last' s s' knows l e =
 -- the properties that are asked of a record
 pub asked_properties : (settings : Settings) (r : DumpRecord) (v : Verdict) → IsVerdict settings r v
     → (ps : List Property) × AreAsked settings r v ps
-asked_properties settings r v means = elim (properties_or_not r.props) [
-  | inl (ps, block) ↦ (ps, λ keep ok. block)
+asked_properties settings r v means = elim (block_or_not r) [
+  | inl (ps, list) ↦ (ps, λ keep ok. list)
   | inr none ↦ (
     [],
     λ keep ok. absurd

@@ -12,13 +12,14 @@ use Rattle.dump_rules.specs.Settings.{Settings}
 use Rattle.dump_rules.specs.Renumbering.{KeptRevisions, image}
 use Rattle.dump_rules.specs.Rewriting.{IsNewMergeinfo}
 use Rattle.dump_rules.proofs.new_values.OneNewValue.{one_new_value}
-use Rattle.dump_digest.specs.RecordParts.{is_revision, is_node, is_mergeinfo}
+use Rattle.dump_digest.specs.RecordParts.{is_revision, is_node, is_mergeinfo, value_of}
 use Rattle.dump_filter.specs.Groups.{Group, group_of, is_padded}
 use Rattle.dump_filter.specs.NewHeaders.{becomes_plain, without_copy_headers, IsWrittenCopyNumber, IsNewCopy}
 use Rattle.dump_digest.specs.RecordParts.{is_copy}
 use Rattle.dump_filter.specs.NewContent.{new_block, AreNewProperties}
 use Rattle.dump_filter.specs.RecordOutput.{revision_text, whole_text, IsRevisionOutput, IsNodeOutput, IsOutput}
 use Rattle.dump_filter.specs.Written.{is_written, AreOutputs}
+use Rattle.dump_digest.proofs.PropertyBlocks.{property_list_once}
 
 same_number : (settings : Settings) (k : KeptRevisions) (old a b : ℕ) → IsWrittenCopyNumber settings k old a → IsWrittenCopyNumber settings k old b → a ≡ b
 same_number settings k old a b = cases settings.renumber
@@ -62,20 +63,21 @@ properties_once settings k (o ∷ old) (p ∷ a) (q ∷ b) ((name, value), all) 
     ap₂ (λ (x : Property) (xs : List Property). x ∷ xs) (property-eq p q (name ∙ sym name') (by_case (is_mergeinfo o) value value'))
     (properties_once settings k old a b all all')
   where
-    by_case : (c : Bool) → MatchBool c (IsNewMergeinfo settings k o.value p.value) (p.value ≡ o.value)
-        → MatchBool c (IsNewMergeinfo settings k o.value q.value) (q.value ≡ o.value) → p.value ≡ q.value
-    by_case true x y = one_new_value settings k o.value p.value q.value x y
+    by_case : (c : Bool) → MatchBool c ((v : List ℕ) × (p.value ≡ Some v) × IsNewMergeinfo settings k (value_of o) v) (p.value ≡ o.value)
+        → MatchBool c ((v : List ℕ) × (q.value ≡ Some v) × IsNewMergeinfo settings k (value_of o) v) (q.value ≡ o.value)
+        → p.value ≡ q.value
+    by_case true (v, set, x) (w, set', y) = set ∙ ap (λ (t : List ℕ). Some t) (one_new_value settings k (value_of o) v w x y) ∙ sym set'
     by_case false x y = x ∙ sym y
 
 node_once : (settings : Settings) (k : KeptRevisions) (r : DumpRecord) (x y : List ℕ) → IsNodeOutput settings k r x → IsNodeOutput settings k r y → x ≡ y
 node_once settings k r x y (g, old, new, copy, block, props, is) (h, old', new', copy', block', props', is') =
-    let olds : old' ≡ old = property_block_once r.props old' old block' block in
+    let olds : old' ≡ old = property_list_once r old' old block' block in
     let news : new ≡ new' = properties_once settings k old new new' props (subst (λ (l : List Property). AreNewProperties settings k l new') olds props') in
     is ∙ ap₂ (λ (l : List Header) (ps : List Property). whole_text l (new_block false r ps) r.text ++ codes "\n\n") (copy_once settings k r g h copy copy') news ∙ sym is'
 
 revision_once : (settings : Settings) (k : KeptRevisions) (g : Group) (x y : List ℕ) → IsRevisionOutput settings k g x → IsRevisionOutput settings k g y → x ≡ y
 revision_once settings k g x y (ps, block, is) (qs, block', is') =
-    is ∙ ap (λ (l : List Property). revision_text settings k (is_padded settings g) g.revision l) (property_block_once g.revision.props ps qs block block') ∙ sym is'
+    is ∙ ap (λ (l : List Property). revision_text settings k (is_padded settings g) g.revision l) (property_list_once g.revision ps qs block block') ∙ sym is'
 
 output_once : (settings : Settings) (k : KeptRevisions) (r : DumpRecord) (after : List DumpRecord) (x y : List ℕ) → IsOutput settings k r after x → IsOutput settings k r after y → x ≡ y
 output_once settings k r after x y = cases (is_revision r) (is_node r)

@@ -9,7 +9,7 @@ use Rattle.dump_text.specs.PropertyList.{HasProperties}
 use Rattle.dump_records.specs.RecordText.{DumpRecord}
 use Rattle.dump_rules.specs.Settings.{Settings}
 use Rattle.dump_rules.specs.Renumbering.{KeptRevisions}
-use Rattle.dump_digest.specs.RecordParts.{is_revision, is_node, is_kept_node}
+use Rattle.dump_digest.specs.RecordParts.{is_revision, is_node, is_kept_node, HasPropertyBlock}
 use Rattle.dump_filter.specs.declared.fate.CopyChange.{CopyChange}
 use Rattle.dump_filter.specs.declared.report.Report.{Report}
 use Rattle.dump_filter.specs.Groups.{keeps_group, revision_number, revision_numbers, first_number, present_revision, kept_revisions, keeps_empty}
@@ -33,7 +33,7 @@ use Rattle.dump_filter.proofs.groups.NumberLemmas.{present_other, present_group,
 
 -- the properties of a pending revision can be read
 abbrev pub IsReadable : PresentGroup → Type 0
-IsReadable (Pending w) = HasProperties w.revision.props
+IsReadable (Pending w) = HasPropertyBlock w.revision
 IsReadable _ = Unit {0}
 
 -- the number of the group's revision, where it is kept
@@ -197,7 +197,7 @@ module _ (settings : Settings) (r : DumpRecord) (plain : is_plain r ≡ true) (t
       → Shape settings before s → Stands settings before s text → is_kept_node settings r ≡ true
       → is_open s.group ≡ true
       → report.revisions_dropped ≡ s.report.revisions_dropped → IsReadable s.group
-      → HasProperties r.props → IsNewCopy settings (front_kept s.revisions.kept s.group) r
+      → HasPropertyBlock r → IsNewCopy settings (front_kept s.revisions.kept s.group) r
       (copied_headers copy r.headers)
       → ¬ HasNoSource settings (front_kept s.revisions.kept s.group) (node_revision s.revisions) r
       → ¬ IsForeign settings (front_kept s.revisions.kept s.group) (node_revision s.revisions) r

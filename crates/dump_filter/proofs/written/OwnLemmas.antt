@@ -12,7 +12,7 @@ use Rattle.dump_rules.specs.Settings.{Settings}
 use Rattle.dump_rules.specs.Renumbering.{KeptRevisions, image}
 use Rattle.dump_rules.specs.Rewriting.{IsNewMergeinfo, HasForeignNumber}
 use Rattle.dump_rules.proofs.new_values.LaterRevisions.{later_revisions}
-use Rattle.dump_digest.specs.RecordParts.{is_kept_node, is_mergeinfo}
+use Rattle.dump_digest.specs.RecordParts.{is_kept_node, is_mergeinfo, value_of, HasPropertyBlock}
 use Rattle.dump_filter.specs.declared.fate.CopyChange.{CopyChange}
 use Rattle.dump_filter.specs.Groups.{is_bare, is_pad, is_padded, revision_number}
 use Rattle.dump_filter.specs.NewHeaders.{becomes_plain, stays_copy, without_copy_headers, IsWrittenCopyNumber, IsNewCopy}
@@ -30,7 +30,7 @@ use Rattle.dump_filter.proofs.answer.MergeLemmas.{IsForeign}
 pub revision_out : (settings : Settings) (kept : KeptRevisions) (from : ℕ) (whole : KeptRevisions) (y : DumpRecord)
     (ns : List DumpRecord) (padded : Bool) (text : List ℕ)
     → GoesOn kept from whole → revision_number y ≤ from → All (λ n. n < revision_number y) kept.numbers
-    → HasProperties y.props
+    → HasPropertyBlock y
     → is_padded settings (record { revision = y; nodes = ns }) ≡ padded
     → IsOwnRevision settings kept y padded text
     → IsRevisionOutput settings whole (record { revision = y; nodes = ns }) text
@@ -107,7 +107,7 @@ new_copy_kept settings kept whole present r headers g good new = by_plain (becom
 -- new values of mergeinfo where the dump goes on
 properties_kept : (settings : Settings) (kept whole : KeptRevisions) (present : ℕ) → GoesOn kept (present + 1) whole
     → (ps new : List Property)
-    → ((p : Property) → Contains ps p → is_mergeinfo p ≡ true → ¬ HasForeignNumber settings kept present p.value)
+    → ((p : Property) → Contains ps p → is_mergeinfo p ≡ true → ¬ HasForeignNumber settings kept present (value_of p))
     → AreNewProperties settings kept ps new → AreNewProperties settings whole ps new
 properties_kept settings kept whole present g [] [] known all = tt
 properties_kept settings kept whole present g [] (q ∷ new) known all = absurd all
@@ -117,24 +117,24 @@ properties_kept settings kept whole present g (p ∷ ps) (q ∷ new) known ((nam
   properties_kept settings kept whole present g ps new (λ x (i, within, at). known x (suc i, omega arith, at)) all,
 )
   where
-    moved : ¬ HasForeignNumber settings kept present p.value → IsNewMergeinfo settings kept p.value q.value
-        → IsNewMergeinfo settings whole p.value q.value
-    moved fine is = subst (λ (k : KeptRevisions). IsNewMergeinfo settings k p.value q.value)
+    moved : ¬ HasForeignNumber settings kept present (value_of p) → (v : List ℕ) → IsNewMergeinfo settings kept (value_of p) v
+        → IsNewMergeinfo settings whole (value_of p) v
+    moved fine v is = subst (λ (k : KeptRevisions). IsNewMergeinfo settings k (value_of p) v)
         (sym (whole_is kept (present + 1) whole g))
-        (later_revisions settings kept g.later present p.value q.value
+        (later_revisions settings kept g.later present (value_of p) v
         (λ on. all_weaker (λ n. present + 1 ≤ n) (λ n. present < n) g.later (λ n up. omega (arith, up)) g.behind)
         fine is)
 
     by_case : (b : Bool) → is_mergeinfo p ≡ b
-        → MatchBool b (IsNewMergeinfo settings kept p.value q.value) (q.value ≡ p.value)
-        → MatchBool b (IsNewMergeinfo settings whole p.value q.value) (q.value ≡ p.value)
-    by_case true is new_value = moved (known p (0, omega arith, refl) is) new_value
+        → MatchBool b ((v : List ℕ) × (q.value ≡ Some v) × IsNewMergeinfo settings kept (value_of p) v) (q.value ≡ p.value)
+        → MatchBool b ((v : List ℕ) × (q.value ≡ Some v) × IsNewMergeinfo settings whole (value_of p) v) (q.value ≡ p.value)
+    by_case true is (v, set, new_value) = (v, set, moved (known p (0, omega arith, refl) is) v new_value)
     by_case false is new_value = new_value
 
 pub node_out : (settings : Settings) (kept whole : KeptRevisions) (present : ℕ) (r : DumpRecord) (copy : CopyChange)
     (text : List ℕ) → GoesOn kept (present + 1) whole
     → is_kept_node settings r ≡ true → ¬ HasNoSource settings kept present r → ¬ IsForeign settings kept present r
-    → HasProperties r.props → IsNewCopy settings kept r (copied_headers copy r.headers)
+    → HasPropertyBlock r → IsNewCopy settings kept r (copied_headers copy r.headers)
     → IsOwnNode settings kept r copy text
     → IsNodeOutput settings whole r text
 node_out settings kept whole present r copy text g keep good known (ps, block) copied own =
@@ -145,6 +145,6 @@ node_out settings kept whole present r copy text g keep good known (ps, block) c
       new_copy_kept settings kept whole present r (copied_headers copy r.headers) g good copied,
       block,
       properties_kept settings kept whole present g ps new
-          (λ p within merge foreign. known (p.value, (keep, ps, block, p, within, merge, refl), foreign)) properties,
+          (λ p within merge foreign. known (value_of p, (keep, ps, block, p, within, merge, refl), foreign)) properties,
       is,
     )

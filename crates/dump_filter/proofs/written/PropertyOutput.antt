@@ -8,7 +8,7 @@ use Rattle.dump_text.specs.Number.{number_of}
 use Rattle.dump_text.specs.Names.{property_length_name}
 use Rattle.dump_text.specs.HeaderLine.{has_header}
 use Rattle.dump_text.specs.steps.PropertyScan.{IsWritten}
-use Rattle.dump_text.specs.PropertyList.{Property, IsEntry, IsPropertyBlock, HasProperties, block_end, entry_text, property_block_text, property_value}
+use Rattle.dump_text.specs.PropertyList.{Property, IsEntry, IsPropertyBlock, HasPropertyChanges, block_end, entry_text, property_block_text, property_value}
 use Rattle.dump_text.proofs.PropertyLemmas.{entry_parts, left_of, property_block_once}
 use Rattle.dump_text.proofs.WrittenLemmas.{written_list}
 use Rattle.dump_records.specs.HeaderRules.{header_number, property_length}
@@ -17,7 +17,7 @@ use Rattle.dump_rules.specs.Settings.{Settings}
 use Rattle.dump_rules.specs.Renumbering.{KeptRevisions}
 use Rattle.dump_rules.specs.Mergeinfo.{HasMergeLines}
 use Rattle.dump_rules.specs.Rewriting.{IsNewMergeinfo}
-use Rattle.dump_digest.specs.RecordParts.{is_mergeinfo}
+use Rattle.dump_digest.specs.RecordParts.{is_mergeinfo, value_of, HasPropertyList}
 use Rattle.dump_filter.specs.NewContent.{padding_log, padding_properties, IsNewProperty, AreNewProperties, new_block}
 use Rattle.dump_filter.specs.steps.NewProperties.{property_of, dated_padding}
 use Rattle.dump_digest.specs.steps.MergeFaults.{HasLines}
@@ -58,23 +58,26 @@ pub own_spelling : (block : List ℕ) → length block < 2 ^ 64 → IsWritten bl
 own_spelling block small (qs, spelled) = λ ps is.
     spelled ∙ ap property_block_text (sym (written_list block ps qs small is spelled))
 
+-- the properties of an empty revision are those of the first date that there is
 pub padding_is : (ps : List Property) → padding_properties ps ≡ dated_padding (property_value (codes "svn:date") ps)
 padding_is [] = refl
-padding_is (p ∷ ps) = cases (padding_is ps) (bytes_eq p.name (codes "svn:date")) refl
+padding_is (p ∷ ps) = cases (padding_is ps) (bytes_eq p.name (codes "svn:date")) refl p.value refl
   where
     cases : padding_properties ps ≡ dated_padding (property_value (codes "svn:date") ps)
-        → (b : Bool) → bytes_eq p.name (codes "svn:date") ≡ b
+        → (b : Bool) → bytes_eq p.name (codes "svn:date") ≡ b → (v : Option (List ℕ)) → p.value ≡ v
         → padding_properties (p ∷ ps) ≡ dated_padding (property_value (codes "svn:date") (p ∷ ps))
-    cases others true is = rw is (ap (λ n. property_of n p.value ∷ padding_log ∷ []) ((bytes_eq-Decides p.name (codes "svn:date")).0 is))
-    cases others false is = rw is others
+    cases others true is (Some value) set = rw (is, set) (ap (λ name. property_of name value ∷ padding_log ∷ [])
+        ((bytes_eq-Decides p.name (codes "svn:date")).0 is))
+    cases others true is None none = rw (is, none) others
+    cases others false is v any = rw is others
 
 -- the new property of one that isn't mergeinfo, and of one that is
 pub unchanged : (settings : Settings) (kept : KeptRevisions) (p : Property) → is_mergeinfo p ≡ false → IsNewProperty settings kept p p
 unchanged settings kept p other = (refl, rw other refl)
 
-pub with_new_value : (settings : Settings) (kept : KeptRevisions) (p : Property) (value : List ℕ) → is_mergeinfo p ≡ true → IsNewMergeinfo settings kept p.value value
-    → IsNewProperty settings kept p (property_of p.name value)
-with_new_value settings kept p value merge is = (refl, rw merge is)
+pub with_new_value : (settings : Settings) (kept : KeptRevisions) (p : Property) (value : List ℕ) → is_mergeinfo p ≡ true
+    → IsNewMergeinfo settings kept (value_of p) value → IsNewProperty settings kept p (property_of p.name value)
+with_new_value settings kept p value merge is = (refl, rw merge (value, refl, is))
 
 -- no property of the list is mergeinfo, so it is its own new list
 pub no_mergeinfo : (settings : Settings) (kept : KeptRevisions) (ps : List Property) → list_any is_mergeinfo ps ≡ false
@@ -134,21 +137,21 @@ left_lines block rest front p lines cut one ps is q (i, within, at) = elim is [
   | inr more ↦ lines (p ∷ ps) (inr (front, rest, cut, one, more)) q (suc i, omega arith, at)
 ]
 
-pub entry_lines : (block rest front : List ℕ) (p : Property) → HasLines block → HasProperties block → block ≡ front ++ rest → IsEntry front p → IsTrue (is_mergeinfo p)
-    → ¬ ¬ HasMergeLines p.value
+pub entry_lines : (block rest front : List ℕ) (p : Property) → HasLines block → HasPropertyChanges block
+    → block ≡ front ++ rest → IsEntry front p → IsTrue (is_mergeinfo p) → ¬ ¬ HasMergeLines (value_of p)
 entry_lines block rest front p lines (ps, is) cut one merge =
     let left = left_of block p rest ps (entry_parts block front rest p cut one) is in
     lines (p ∷ left.others) (inr (front, rest, cut, one, left.entries)) p (0, omega arith, refl) merge
 
 -- a record with a list of properties was read
 pub none_read : (r : DumpRecord) (found : Option Props) → ArePropertiesOf r found → found ≡ None → (ps : List Property)
-    → IsPropertyBlock r.props ps → ⊥
-none_read r found are is ps block = let bad : false ≡ true = sym (ap is_some is) ∙ are.there (ps, block) in false_true bad
+    → HasPropertyList r ps → ⊥
+none_read r found are is ps list = let bad : false ≡ true = sym (ap is_some is) ∙ are.there.1 (ps, list) in false_true bad
 
 -- what was read is a block of the same list
 pub read_block : (r : DumpRecord) (found : Option Props) (p : Props) → ArePropertiesOf r found → found ≡ Some p → (ps : List Property)
-    → IsPropertyBlock r.props ps → IsPropertyBlock (props_bytes p) ps
-read_block r found p are is ps block = subst (λ (t : List ℕ). IsPropertyBlock t ps) (sym (are.bytes p is)) block
+    → HasPropertyList r ps → IsPropertyBlock (props_bytes p) ps
+read_block r found p are is ps list = subst (λ (t : List ℕ). IsPropertyBlock t ps) (sym (are.bytes p is)) list.0
 
 -- the block of a record with a length for its properties, and without
 pub block_with : (r : DumpRecord) (ps : List Property) → has_header property_length_name r.headers ≡ true → property_block_text ps ≡ new_block false r ps
@@ -159,11 +162,11 @@ block_without r ps none = rw none refl
 
 -- a node without a length for its properties has none
 pub no_block : (settings : Settings) (kept : KeptRevisions) (r : DumpRecord) → has_header property_length_name r.headers ≡ false → length r.props ≡ property_length r.headers
-    → (ps : List Property) → IsPropertyBlock r.props ps → AreNewProperties settings kept ps []
+    → (ps : List Property) → HasPropertyList r ps → AreNewProperties settings kept ps []
 no_block settings kept r none size ps is =
     let number : header_number property_length_name r.headers ≡ None = ap (option_and_then number_of) (no_value property_length_name r.headers none) in
     let empty : r.props ≡ [] = no_bytes r.props (size ∙ ap (λ (n : Option ℕ). unwrap_or n 0) number) in
-    let same : ps ≡ [] = property_block_once [] ps [] (subst (λ (t : List ℕ). IsPropertyBlock t ps) empty is) (inl (refl, refl)) in
+    let same : ps ≡ [] = property_block_once [] ps [] (subst (λ (t : List ℕ). IsPropertyBlock t ps) empty is.0) (inl (refl, refl)) in
     subst (λ (l : List Property). AreNewProperties settings kept l []) (sym same) tt
   where
     no_bytes : (bytes : List ℕ) → length bytes ≡ 0 → bytes ≡ []

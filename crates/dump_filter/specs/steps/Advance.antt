@@ -1,7 +1,7 @@
 -- What the fate of one record does to a filter: what is written, what is held behind the record, and what is counted.
 use Rattle.std.specs.Prelude.{◌≡◌, ℕ, ◌+◌, ◌==◌, Bool, true, false, not, ◌&&◌, ◌||◌, List, [], ◌∷◌, ◌++◌, length, Option, Some, None, if◌then◌else◌, MatchBool}
 use Rattle.dump_text.specs.HeaderBlock.{block_text}
-use Rattle.dump_text.specs.PropertyList.{Property, IsPropertyBlock}
+use Rattle.dump_text.specs.PropertyList.{Property}
 use Rattle.dump_records.specs.RecordText.{DumpRecord}
 use Rattle.dump_rules.specs.Settings.{Settings}
 use Rattle.dump_rules.specs.Renumbering.{KeptRevisions}
@@ -14,6 +14,7 @@ use Rattle.dump_filter.specs.declared.fate.CopyChange.{CopyChange}
 use Rattle.dump_filter.specs.declared.fate.Fate.{Fate}
 use Rattle.dump_filter.specs.declared.fate.Fate.TheVariants as fates
 use Rattle.dump_filter.specs.declared.report.Report.{Report}
+use Rattle.dump_digest.specs.RecordParts.{HasPropertyList}
 
 -- whether the options keep a revision whose group ends so
 abbrev pub stays : Settings → PendingRevision → Bool
@@ -29,12 +30,12 @@ next_number settings kept r = if settings.renumber then kept.first + length kept
 
 -- the text is a revision, of whatever properties it has
 abbrev pub IsOwnRevision : Settings → KeptRevisions → DumpRecord → Bool → List ℕ → Type 0
-IsOwnRevision settings kept r padded text = (ps : List Property) → IsPropertyBlock r.props ps
+IsOwnRevision settings kept r padded text = (ps : List Property) → HasPropertyList r ps
     → text ≡ revision_own r (next_number settings kept r) padded ps
 
 -- the text is a node with new values of mergeinfo, of whatever properties it has
 abbrev pub IsOwnNode : Settings → KeptRevisions → DumpRecord → CopyChange → List ℕ → Type 0
-IsOwnNode settings kept r copy text = (ps : List Property) → IsPropertyBlock r.props ps
+IsOwnNode settings kept r copy text = (ps : List Property) → HasPropertyList r ps
     → (new : List Property) × AreNewProperties settings kept ps new × (text ≡ node_own r copy new)
 
 -- what is written where the present group ends

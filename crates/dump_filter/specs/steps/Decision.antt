@@ -3,13 +3,13 @@ use Rattle.std.specs.Prelude.{◌≡◌, ◌⊎◌, ℕ, ◌<◌, Bool, true, fa
 use Rattle.dump_text.specs.declared.fault.FaultKind.{FaultKind}
 use Rattle.dump_text.specs.declared.fault.FaultKind.TheVariants.{Order, Props, Md5, Sha1, CopySource, CopyRevision}
 use Rattle.dump_text.specs.Names.{copy_revision_name}
-use Rattle.dump_text.specs.PropertyList.{Property, IsPropertyBlock}
+use Rattle.dump_text.specs.PropertyList.{Property}
 use Rattle.dump_records.specs.HeaderRules.{header_number}
 use Rattle.dump_records.specs.RecordText.{DumpRecord}
 use Rattle.dump_records.specs.steps.RecordViews.{part_of_node}
 use Rattle.dump_rules.specs.Settings.{Settings}
 use Rattle.dump_rules.specs.Renumbering.{KeptRevisions, image}
-use Rattle.dump_digest.specs.RecordParts.{is_revision, is_node, is_kept_node}
+use Rattle.dump_digest.specs.RecordParts.{is_revision, is_node, is_kept_node, HasPropertyList}
 use Rattle.dump_digest.specs.declared.verdict.Verdict.{Verdict}
 use Rattle.dump_filter.specs.Groups.{revision_number}
 use Rattle.dump_filter.specs.NewHeaders.{is_whole_file, stays_copy}
@@ -104,4 +104,4 @@ decided settings s r v ps =
 
 -- the properties are those of the record, where they are asked
 abbrev pub AreAsked : Settings → DumpRecord → Verdict → List Property → Type 0
-AreAsked settings r v ps = is_kept_node settings r ≡ true → v.props_ok ≡ true → IsPropertyBlock r.props ps
+AreAsked settings r v ps = is_kept_node settings r ≡ true → v.props_ok ≡ true → HasPropertyList r ps

@@ -9,7 +9,7 @@ use Rattle.dump_filter.specs.NewContent.{padding_log}
 
 -- the property of this name and value
 abbrev pub property_of : List ℕ → List ℕ → Property
-property_of name value = record { name = name; value = value }
+property_of name value = record { name = name; value = Some value }
 
 -- the properties of an empty revision that has this date, if it has one
 abbrev pub dated_padding : Option (List ℕ) → List Property

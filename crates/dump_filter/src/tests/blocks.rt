@@ -2,6 +2,8 @@
 
 pub(crate) const VERSION: &[u8] = b"SVN-fs-dump-format-version: 2\n\n";
 
+pub(crate) const VERSION_3: &[u8] = b"SVN-fs-dump-format-version: 3\n\n";
+
 pub(crate) const UUID: &[u8] = b"UUID: 7bf7a5ef-cabf-0310-b7d4-93df341afa7e\n\n";
 
 pub(crate) const REVISION_0: &[u8] =
@@ -79,6 +81,20 @@ pub(crate) const SPELLED_TRUNK: &[u8] =
 
 pub(crate) const RESPELLED_TRUNK: &[u8] =
     b"Node-path: trunk\nNode-kind: dir\nNode-action: add\nProp-content-length: 21\nContent-length: 21\n\nK 1\na\nV 0\n\nPROPS-END\n\n\n";
+
+// The same, where a property is deleted too.
+pub(crate) const SPELLED_DELETION: &[u8] =
+    b"Node-path: trunk\nNode-kind: dir\nNode-action: change\nProp-delta: true\nProp-content-length: 29\nContent-length: 29\n\nK 01\na\nV 0\n\nD 01\nb\nPROPS-END\n\n\n";
+
+pub(crate) const RESPELLED_DELETION: &[u8] =
+    b"Node-path: trunk\nNode-kind: dir\nNode-action: change\nProp-delta: true\nProp-content-length: 27\nContent-length: 27\n\nK 1\na\nV 0\n\nD 1\nb\nPROPS-END\n\n\n";
+
+// Mergeinfo is deleted and set, and as it is written where revision 7 becomes 1.
+pub(crate) const MERGED_DELETION_7: &[u8] =
+    b"Node-path: trunk\nNode-kind: dir\nNode-action: change\nProp-content-length: 61\nContent-length: 61\n\nD 13\nsvn:mergeinfo\nK 13\nsvn:mergeinfo\nV 8\n/trunk:7\nPROPS-END\n\n\n";
+
+pub(crate) const MERGED_DELETION_1: &[u8] =
+    b"Node-path: trunk\nNode-kind: dir\nNode-action: change\nProp-content-length: 61\nContent-length: 61\n\nD 13\nsvn:mergeinfo\nK 13\nsvn:mergeinfo\nV 8\n/trunk:1\nPROPS-END\n\n\n";
 
 pub(crate) const FILE: &[u8] =
     b"Node-path: trunk/f\nNode-kind: file\nNode-action: add\nText-content-length: 3\nContent-length: 3\n\nabc\n\n";

@@ -1,10 +1,11 @@
 //! Worked dumps, and what is written of them.
 
 use crate::tests::blocks::{
-    BLOCKLESS_TRUNK, COPIED_FILE, DATELESS_PADDING_1, FILE, OTHER, PADDING_1, RESPELLED_TRUNK,
-    REVISION_0, REVISION_1, REVISION_2, REVISION_3, REVISION_4, REVISION_7, ROOT, SHORT_REVISION_1,
+    BLOCKLESS_TRUNK, COPIED_FILE, DATELESS_PADDING_1, FILE, MERGED_DELETION_1, MERGED_DELETION_7,
+    OTHER, PADDING_1, RESPELLED_DELETION, RESPELLED_TRUNK, REVISION_0, REVISION_1, REVISION_2,
+    REVISION_3, REVISION_4, REVISION_7, ROOT, SHORT_REVISION_1, SPELLED_DELETION,
     SPELLED_REVISION_7, SPELLED_TRUNK, TAG_OF_TRUNK_1, TAG_OF_TRUNK_3, TEXTLESS_COPIED_FILE, TRUNK,
-    TRUNK_2, TRUNK_A, UUID, VERSION, X, X_Y,
+    TRUNK_2, TRUNK_A, UUID, VERSION, VERSION_3, X, X_Y,
 };
 use crate::tests::{
     Asked, Refused, Worked, Written, assert_refused, assert_worked, include, joined, options,
@@ -174,6 +175,24 @@ fn numbers_are_spelled_anew(rt: HostRuntime) -> Result<(), Fail> {
         counts: (1, 0, 1, 0),
     };
     assert_worked(&rt, rt.alloc(), &property)
+}
+
+#[test]
+fn deleted_properties_are_written(rt: HostRuntime) -> Result<(), Fail> {
+    let worked = Worked {
+        asked: include(b"/"),
+        dump: &[VERSION_3, REVISION_0, SPELLED_DELETION],
+        written: &[VERSION_3, REVISION_0, RESPELLED_DELETION],
+        counts: (1, 0, 1, 0),
+    };
+    assert_worked(&rt, rt.alloc(), &worked)?;
+    let merged = Worked {
+        asked: renumber(b"trunk"),
+        dump: &[VERSION_3, REVISION_0, REVISION_7, MERGED_DELETION_7],
+        written: &[VERSION_3, REVISION_0, REVISION_1, MERGED_DELETION_1],
+        counts: (2, 0, 1, 0),
+    };
+    assert_worked(&rt, rt.alloc(), &merged)
 }
 
 #[test]

@@ -2,9 +2,9 @@
 
 use crate::StepFault;
 use crate::tests::blocks::{
-    OTHER, PADDING_1, RESPELLED_TRUNK, REVISION_0, REVISION_1, REVISION_2, REVISION_3, REVISION_7,
-    REVISION_9, SPELLED_TRUNK, TAG_OF_TRUNK_2, TAG_OF_TRUNK_7, TRUNK, TRUNK_MERGED_1,
-    TRUNK_MERGED_1_TO_7, VERSION,
+    OTHER, PADDING_1, RESPELLED_DELETION, RESPELLED_TRUNK, REVISION_0, REVISION_1, REVISION_2,
+    REVISION_3, REVISION_7, REVISION_9, SPELLED_DELETION, SPELLED_TRUNK, TAG_OF_TRUNK_2,
+    TAG_OF_TRUNK_7, TRUNK, TRUNK_MERGED_1, TRUNK_MERGED_1_TO_7, VERSION, VERSION_3,
 };
 use crate::tests::{
     Asked, Worked, Written, include, joined, options, preserve, renumber, report, run,
@@ -78,6 +78,18 @@ fn a_refused_allocation_closes_the_filter_that_pads(rt: HostRuntime) {
             TAG_OF_TRUNK_2,
         ],
         counts: (4, 0, 2, 1),
+    };
+    assert_whole_or_closed(&rt, rt.alloc(), &worked);
+}
+
+// The same, where properties are deleted.
+#[test]
+fn a_refused_allocation_closes_the_filter_of_deletions(rt: HostRuntime) {
+    let worked = Worked {
+        asked: include(b"/"),
+        dump: &[VERSION_3, REVISION_0, SPELLED_DELETION],
+        written: &[VERSION_3, REVISION_0, RESPELLED_DELETION],
+        counts: (1, 0, 1, 0),
     };
     assert_whole_or_closed(&rt, rt.alloc(), &worked);
 }

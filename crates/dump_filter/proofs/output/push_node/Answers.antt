@@ -7,6 +7,7 @@ use Rattle.dump_filter.specs.steps.Advance.{IsOwnNode}
 use Rattle.dump_filter.specs.NewContent.{AreNewProperties, new_block}
 use Rattle.dump_filter.specs.steps.NewLines.{new_record}
 use Rattle.dump_filter.proofs.written.OutputLemmas.{on_ok, node_is}
+use Rattle.dump_digest.specs.RecordParts.{HasPropertyList}
 use Rattle.dump_filter.proofs.output.push_node.Goals as goal
 
 pub returns : goal.returns
@@ -15,7 +16,7 @@ returns c =
     let r = record_item item in
     let changes = c.changes_of-changes in
     let own = new_record changes.result r.headers (chunk_bytes c.in_ok-props.props) r.text ++ codes "\n\n" in
-    let written = subst (λ (x : Record). (ps : List Property) → IsPropertyBlock (record_item x).props ps
+    let written = subst (λ (x : Record). (ps : List Property) → HasPropertyList (record_item x) ps
     → (new : List Property) × AreNewProperties c.args.options.now c.args.kept.now ps new
     × (chunk_bytes c.in_ok-props.props ≡ new_block false (record_item x) new)) (sym c.item-item.ensures) c.in_ok-props.ensures in
     subst (λ (x : Record). OnOk c.push_record.result ((text : List ℕ) × (c.push_record.new.piece ≡ c.args.piece.now ++ text)

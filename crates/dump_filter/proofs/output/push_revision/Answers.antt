@@ -6,6 +6,7 @@ use Rattle.dump_digest.specs.steps.ContentViews.{ArePropertiesOf}
 use Rattle.dump_filter.specs.steps.OwnText.{revision_own}
 use Rattle.dump_filter.proofs.answer.MergeLemmas.{asked_revision}
 use Rattle.dump_filter.proofs.written.OutputLemmas.{on_ok, revision_is}
+use Rattle.dump_digest.specs.RecordParts.{HasPropertyList}
 use Rattle.dump_filter.proofs.output.push_revision.Goals as goal
 
 pub revision_properties-requires : goal.revision_properties-requires
@@ -17,7 +18,7 @@ pub returns : goal.returns
 returns c =
     let changes = c.changes_of-changes in
     let item = c.item-item.result in
-    subst (λ (r : Record). OnOk c.push_record.result ((ps : List Property) → IsPropertyBlock (record_item r).props ps
+    subst (λ (r : Record). OnOk c.push_record.result ((ps : List Property) → HasPropertyList (record_item r) ps
     → c.push_record.new.piece ≡ c.args.piece.now ++ revision_own (record_item r) c.args.number c.args.padded ps)) c.item-item.ensures
     (on_ok c.push_record.result _ _ (λ pushed ps is.
     pushed ∙ ap (λ t. c.args.piece.now ++ t)

@@ -9,6 +9,7 @@ use Rattle.dump_filter.specs.NewContent.{AreNewProperties, new_block}
 use Rattle.dump_filter.proofs.written.OutputLemmas.{if_ok}
 use Rattle.dump_filter.proofs.answer.MergeLemmas.{read_lines, asked_node}
 use Rattle.dump_filter.proofs.written.PropertyOutput.{no_mergeinfo}
+use Rattle.dump_digest.specs.RecordParts.{HasPropertyList, HasPropertyBlock}
 use Rattle.dump_filter.proofs.props.node_properties.Goals as goal
 
 pub rewritten_block-requires-clause-read : goal.rewritten_block-requires-clause-read
@@ -18,7 +19,8 @@ rewritten_block-requires-clause-read c =
 
 pub rewritten_block-requires-clause-lines : goal.rewritten_block-requires-clause-lines
 rewritten_block-requires-clause-lines c =
-    subst (λ (r : Record). HasLines (record_item r).props) (sym c.item-item.ensures) (read_lines c.args.done.now c.requires.node)
+    subst (λ (r : Record). HasPropertyBlock (record_item r) → HasLines (record_item r).props) (sym c.item-item.ensures)
+    (read_lines c.args.done.now c.requires.node)
 
 pub respelled_block-requires : goal.respelled_block-requires
 respelled_block-requires c =
@@ -27,7 +29,7 @@ respelled_block-requires c =
 
 pub returns-then-has_mergeinfo : goal.returns-then-has_mergeinfo
 returns-then-has_mergeinfo c =
-    subst (λ (r : Record). IfOk c.rewritten_block.result (λ chunk. (ps : List Property) → IsPropertyBlock (record_item r).props ps
+    subst (λ (r : Record). IfOk c.rewritten_block.result (λ chunk. (ps : List Property) → HasPropertyList (record_item r) ps
     → (new : List Property) × AreNewProperties c.args.options.now c.args.kept.now ps new
     × (chunk_bytes chunk ≡ new_block false (record_item r) new)))
     c.item-item.ensures c.rewritten_block.ensures
@@ -41,6 +43,6 @@ returns-else-has_mergeinfo c =
           (sym (c.has_mergeinfo.ensures kept ok ps is) ∙ c.if-has_mergeinfo.false),
       written ps is,
     ))
-    (subst (λ (r : Record). IfOk c.respelled_block.result (λ chunk. (ps : List Property) → IsPropertyBlock (record_item r).props ps
+    (subst (λ (r : Record). IfOk c.respelled_block.result (λ chunk. (ps : List Property) → HasPropertyList (record_item r) ps
     → chunk_bytes chunk ≡ new_block false (record_item r) ps))
     c.item-item.ensures c.respelled_block.ensures)

@@ -1,11 +1,13 @@
-use Rattle.std.proofs.Common.{[], sym, subst, ◌∙◌}
+use Rattle.std.proofs.Common.{[], ap, is_some, sym, subst, ◌∙◌}
 use Rattle.dump_records.specs.steps.RecordViews.{record_item}
 use Rattle.dump_digest.specs.steps.MergeFaults.{HasLines}
 use Rattle.dump_filter.proofs.written.PropertyOutput.{read_block, none_read, no_block, block_with, block_without}
 use Rattle.dump_filter.proofs.props.rewritten_block.Goals as goal
 
 pub write_rewritten-requires : goal.write_rewritten-requires
-write_rewritten-requires c = subst HasLines (sym (c.requires.read.bytes c.in-Some.props c.in-Some.is)) c.requires.lines
+write_rewritten-requires c =
+    let block = c.requires.read.there.0 (ap is_some c.in-Some.is) in
+    subst HasLines (sym (c.requires.read.bytes c.in-Some.props c.in-Some.is)) (c.requires.lines block)
 
 pub returns-in_ok-bytes-in-Some : goal.returns-in_ok-bytes-in-Some
 returns-in_ok-bytes-in-Some c = λ ps is.

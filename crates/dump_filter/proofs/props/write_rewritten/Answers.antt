@@ -1,6 +1,6 @@
 use Rattle.std.proofs.Common.{sym, subst}
 use Rattle.dump_text.specs.steps.PropertyViews.{props_bytes, entry_property}
-use Rattle.dump_text.proofs.PropertyTruth.{untruncated}
+use Rattle.dump_text.proofs.PropertyChoice.{untruncated}
 use Rattle.dump_digest.specs.steps.MergeFaults.{HasLines}
 use Rattle.dump_filter.proofs.written.PropertyOutput.{none_rewritten, next_rewritten, all_rewritten, left_lines, entry_lines}
 use Rattle.dump_filter.proofs.props.write_rewritten.Goals as goal

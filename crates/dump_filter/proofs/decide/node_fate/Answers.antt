@@ -1,0 +1,29 @@
+use Rattle.std.proofs.Common.{◌≡◌, true, sym, ap, ◌∙◌, subst}
+use Rattle.dump_rules.specs.Settings.{Settings}
+use Rattle.dump_records.specs.steps.RecordViews.{record_item}
+use Rattle.dump_digest.specs.RecordParts.{is_kept_node}
+use Rattle.dump_digest.specs.steps.DoneViews.{done_record, done_settings, done_verdict}
+use Rattle.dump_filter.specs.steps.State.{view_state}
+use Rattle.dump_filter.specs.steps.Decision.{kept_unless}
+use Rattle.dump_filter.proofs.answer.DecisionLemmas.{node_fate_is}
+use Rattle.dump_filter.proofs.decide.node_fate.Goals as goal
+
+pub returns-in-Some : goal.returns-in-Some
+returns-in-Some c = λ ps list.
+    let d = c.args.done.now in
+    let r = record_item (done_record d) in
+    let keep = subst (λ (s : Settings). is_kept_node s r ≡ true) (sym c.requires.options) c.requires.node in
+    ap (λ fault. kept_unless fault c.in_ok-copy.copy) (sym c.in-Some.is)
+    ∙ node_fate_is (done_settings d) c.args.options.now (view_state c.args.state.now) r (done_verdict d).merge_ok ps c.first.result
+    c.node_revision-present.result c.in_ok-copy.copy c.merge_fault.result c.requires.options c.first.ensures.first
+    c.node_revision-present.ensures (sym c.copy_change.ensures ∙ c.in_ok-copy.was) (c.merge_fault.ensures keep ps list)
+
+pub returns-in-None : goal.returns-in-None
+returns-in-None c = λ ps list.
+    let d = c.args.done.now in
+    let r = record_item (done_record d) in
+    let keep = subst (λ (s : Settings). is_kept_node s r ≡ true) (sym c.requires.options) c.requires.node in
+    ap (λ fault. kept_unless fault c.in_ok-copy.copy) (sym c.in-None.is)
+    ∙ node_fate_is (done_settings d) c.args.options.now (view_state c.args.state.now) r (done_verdict d).merge_ok ps c.first.result
+    c.node_revision-present.result c.in_ok-copy.copy c.merge_fault.result c.requires.options c.first.ensures.first
+    c.node_revision-present.ensures (sym c.copy_change.ensures ∙ c.in_ok-copy.was) (c.merge_fault.ensures keep ps list)
