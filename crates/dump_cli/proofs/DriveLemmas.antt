@@ -24,15 +24,24 @@ to_none (Some xs) None bytes more = more
 to_none (Some xs) (Some ys) bytes more = sym (append-nil ys) ∙ more
 
 -- of the bytes that were sent the writer took those that don't wait
-arrived : (a c : Option (List ℕ)) (waiting sent : List ℕ) (n : ℕ) → GrowsBy a c n → Appends a (append_known c waiting) sent
+arrived : (a c : Option (List ℕ)) (waiting sent : List ℕ) (n : ℕ) → GrowsBy a c n
+    → Appends a (append_known c waiting) sent
     → (part : List ℕ) × IsPrefixOf part sent × Appends a c part
 arrived None c waiting sent n grown all = ([], (sent, refl), tt)
 arrived (Some xs) None waiting sent n grown all = absurd all
-arrived (Some xs) (Some ys) waiting sent n grown all =
-    (grown.0, (waiting, append_cancel_left xs sent (grown.0 ++ waiting) (sym all ∙ ap (λ t. t ++ waiting) grown.1 ∙ append_assoc xs grown.0 waiting)), grown.1)
+arrived (Some xs) (Some ys) waiting sent n grown all = (
+  grown.0,
+  (
+    waiting,
+    append_cancel_left xs sent (grown.0 ++ waiting)
+        (sym all ∙ ap (λ t. t ++ waiting) grown.1 ∙ append_assoc xs grown.0 waiting),
+  ),
+  grown.1,
+)
 
 -- a run whose last bytes wait for a writer that failed
-pub broke_off : (settings : Settings) (input : List ℕ) (answer : Answer) (a b c : Option (List ℕ)) (waiting : List ℕ) (n : ℕ)
+pub broke_off : (settings : Settings) (input : List ℕ) (answer : Answer) (a b c : Option (List ℕ)) (waiting : List ℕ)
+    (n : ℕ)
     → RunLeaves settings input (append_known a []) b answer → Keeps b (append_known c waiting) → GrowsBy a c n
     → Ran settings input a c (Failed failures.Sink n)
 broke_off settings input answer a b c waiting n ran kept grown =
@@ -42,17 +51,21 @@ broke_off settings input answer a b c waiting n ran kept grown =
       answer = answer;
       sent = ran.received;
       answered = ran.answered;
-      arrived = inr (record { part = part.0; written = n; begins = part.1; appended = part.2; counted = grown; told_is = refl });
+      arrived = inr
+          (record { part = part.0; written = n; begins = part.1; appended = part.2; counted = grown; told_is = refl });
     }
 
 -- a run with what is told behind it
-pub ran_and_told : (settings : Settings) (input : List ℕ) (answer told : Answer) (a b : Option (List ℕ)) (sink : LentState)
-    → RunLeaves settings input (append_known a []) b answer → Keeps b (lent_taken sink) → sink.out.start ≡ a → TellsBehind sink answer told
+pub ran_and_told : (settings : Settings) (input : List ℕ) (answer told : Answer) (a b : Option (List ℕ))
+    (sink : LentState)
+    → RunLeaves settings input (append_known a []) b answer → Keeps b (lent_taken sink) → sink.out.start ≡ a
+    → TellsBehind sink answer told
     → Ran settings input a sink.out.taken told
 ran_and_told settings input answer told a b sink ran kept start (inl all) =
     let appended : Appends a sink.out.taken ran.received =
     from_none a sink.out.taken ran.received (to_none (append_known a []) sink.out.taken ran.received
-    (Appends-kept (append_known a []) b (append_known sink.out.taken []) ran.received ran.appended (subst (λ w. Keeps b (append_known sink.out.taken w)) all.1 kept))) in
+    (Appends-kept (append_known a []) b (append_known sink.out.taken []) ran.received ran.appended
+    (subst (λ w. Keeps b (append_known sink.out.taken w)) all.1 kept))) in
     record {
       answer = answer;
       sent = ran.received;
@@ -61,4 +74,5 @@ ran_and_told settings input answer told a b sink ran kept start (inl all) =
     }
 ran_and_told settings input answer told a b sink ran kept start (inr down) =
     subst (λ t. Ran settings input a sink.out.taken t) (sym down.0)
-    (broke_off settings input answer a b sink.out.taken sink.waiting sink.out.written ran kept (subst (λ s. GrowsBy s sink.out.taken sink.out.written) start down.1))
+    (broke_off settings input answer a b sink.out.taken sink.waiting sink.out.written ran kept
+    (subst (λ s. GrowsBy s sink.out.taken sink.out.written) start down.1))

@@ -20,7 +20,8 @@ use Rattle.dump_cli.specs.declared.words.Usage.TheVariants.{Words, BothDrops, Me
 use Rattle.dump_cli.proofs.RowLemmas.{is_filled, same_id}
 use Rattle.dump_cli.proofs.ProgramLemmas.{lawful_line}
 
-pub flag_is : (m : Found) (name : Text) (b : Bool) → IsSwitch name (rows_of m) → (one_text m name ≡ Some (codes "true") → b ≡ true)
+pub flag_is : (m : Found) (name : Text) (b : Bool) → IsSwitch name (rows_of m)
+    → (one_text m name ≡ Some (codes "true") → b ≡ true)
     → (one_text m name ≡ Some (codes "false") → b ≡ false) → b ≡ is_set name (rows_of m)
 flag_is m name b switch on off = go switch.2
   where
@@ -33,10 +34,12 @@ flag_is m name b switch on off = go switch.2
     go (inr f) =
         let is : text ≡ codes "false" = same_id text (codes "false") f in
         off (one_text-rows m name ∙ switch.1 ∙ ap Some is)
-        ∙ sym (ap (λ o. option_map_or (λ x. bytes_eq x (codes "true")) o false) switch.1 ∙ ap (λ x. bytes_eq x (codes "true")) is)
+        ∙ sym (ap (λ o. option_map_or (λ x. bytes_eq x (codes "true")) o false) switch.1
+        ∙ ap (λ x. bytes_eq x (codes "true")) is)
 
 -- a number that stands in its range is read as it stands
-pub number_is : (E : Type 0) (G : List ℕ → Result ℕ E → Type 0) (m : Found) (name : Text) (most : ℕ) (r : Option ℕ) → ((u : List ℕ) (x : Result ℕ E) → G u x → ParsesUnsigned 64 10 u x)
+pub number_is : (E : Type 0) (G : List ℕ → Result ℕ E → Type 0) (m : Found) (name : Text) (most : ℕ) (r : Option ℕ)
+    → ((u : List ℕ) (x : Result ℕ E) → G u x → ParsesUnsigned 64 10 u x)
     → IsNumber name most (rows_of m) → ((t : Text) → one_text m name ≡ Some t → ReadsOne G t r)
     → (n : ℕ) × (r ≡ Some n) × (n ≡ number_of name (rows_of m)) × (1 ≤ n) × (n ≤ most)
 number_is E G m name most r only number reads = go r (reads text (one_text-rows m name ∙ number.1))
@@ -50,35 +53,49 @@ number_is E G m name most r only number reads = go r (reads text (one_text-rows 
     means : digits ≡ number_of name (rows_of m)
     means = ap (λ o. digits_value 10 (without_leading_plus (unwrap_or o []))) (sym number.1)
 
-    go : (o : Option ℕ) → ReadsOne G text o → (n : ℕ) × (o ≡ Some n) × (n ≡ number_of name (rows_of m)) × (1 ≤ n) × (n ≤ most)
+    go : (o : Option ℕ) → ReadsOne G text o → (n : ℕ) × (o ≡ Some n) × (n ≡ number_of name (rows_of m)) × (1 ≤ n)
+        × (n ≤ most)
     go (Some v) read =
-        let parsed = only text (Ok v) read in
-        (v, refl, parsed.1 ∙ means, subst (λ x. 1 ≤ x) (sym parsed.1) number.2.2, subst (λ x. x ≤ most) (sym parsed.1) number.2.3)
+        let parsed = only text (Ok v) read in (
+          v,
+          refl,
+          parsed.1 ∙ means,
+          subst (λ x. 1 ≤ x) (sym parsed.1) number.2.2,
+          subst (λ x. x ≤ most)
+              (sym parsed.1) number.2.3,
+        )
     go None read = absurd (only text (Err read.0) read.1 (number.2.0, number.2.1))
 
 -- ---- the parse
 
 -- what a parse without a fault entered
-pub entered_line : (m : ArgMatches) (words : List Text) → fault_of program words ≡ [] → subcommand_rows_of m ≡ subcommand_of program words
-    → (line : Text × List Row) × (subcommand_rows_of m ≡ Some line) × (meaning_of words ≡ order_of line) × AreFilled line.1
+pub entered_line : (m : ArgMatches) (words : List Text) → fault_of program words ≡ []
+    → subcommand_rows_of m ≡ subcommand_of program words
+    → (line : Text × List Row) × (subcommand_rows_of m ≡ Some line) × (meaning_of words ≡ order_of line)
+    × AreFilled line.1
 entered_line m words ok is =
     let line = lawful_line words ok in (
       line.0,
       is ∙ line.1,
-      ap (λ (k : Kinds). cond (is_empty k) (option_map_or order_of (subcommand_of program words) (Err Words)) (Err Words)) ok
+      ap (λ (k : Kinds). cond (is_empty k) (option_map_or order_of (subcommand_of program words) (Err Words))
+          (Err Words)) ok
           ∙ ap (λ o. option_map_or order_of o (Err Words)) line.1,
       line.2,
     )
 
 -- other words than a lawful line mean none
-refused : (words : List Text) (kinds : Kinds) → fault_of program words ≡ kinds → is_empty kinds ≡ false → meaning_of words ≡ Err Words
-refused words kinds is some = ap (λ (k : Kinds). cond (is_empty k) (option_map_or order_of (subcommand_of program words) (Err Words)) (Err Words)) is
+refused : (words : List Text) (kinds : Kinds) → fault_of program words ≡ kinds → is_empty kinds ≡ false
+    → meaning_of words ≡ Err Words
+refused words kinds is some = ap (λ (k : Kinds). cond (is_empty k)
+    (option_map_or order_of (subcommand_of program words) (Err Words)) (Err Words)) is
     ∙ ap (λ (b : Bool). cond b (option_map_or order_of (subcommand_of program words) (Err Words)) (Err Words)) some
 
-pub refusal_answers : (words : List Text) (e : Error) (u : Usage) → HasKind (fault_of program words) e → (kind_of e ≡ OutOfMemory → u ≡ Memory) → ((u ≡ Words) ⊎ (u ≡ Memory))
+pub refusal_answers : (words : List Text) (e : Error) (u : Usage) → HasKind (fault_of program words) e
+    → (kind_of e ≡ OutOfMemory → u ≡ Memory) → ((u ≡ Words) ⊎ (u ≡ Memory))
     → AnswersTo (meaning_of words) (Err u)
 refusal_answers words e u has memory (inr is) = subst (λ (x : Usage). AnswersTo (meaning_of words) (Err x)) (sym is) tt
-refusal_answers words e u has memory (inl is) = subst (λ (x : Usage). AnswersTo (meaning_of words) (Err x)) (sym is) (go (fault_of program words) refl has)
+refusal_answers words e u has memory (inl is) = subst (λ (x : Usage). AnswersTo (meaning_of words) (Err x)) (sym is)
+    (go (fault_of program words) refl has)
   where
     go : (kinds : Kinds) → fault_of program words ≡ kinds → HasKind kinds e → meaning_of words ≡ Err Words
     go kinds same (inl m) =
@@ -87,7 +104,8 @@ refusal_answers words e u has memory (inl is) = subst (λ (x : Usage). AnswersTo
     go [] same (inr among) = absurd among
     go (k ∷ ks) same (inr among) = refused words (k ∷ ks) same (is_filled k ks)
 
-pub refusal_unlawful : (words : List Text) (e : Error) (u : Usage) → HasKind (fault_of program words) e → (kind_of e ≡ OutOfMemory → u ≡ Memory)
+pub refusal_unlawful : (words : List Text) (e : Error) (u : Usage) → HasKind (fault_of program words) e
+    → (kind_of e ≡ OutOfMemory → u ≡ Memory)
     → is_lawful words ≡ true → u ≡ Words → ⊥
 refusal_unlawful words e u has memory lawful is = go (fault_of program words) lawful has
   where
@@ -115,9 +133,11 @@ abbrev pub both_of : {X : Type 0} → (X → Text) → (X → List Row) → X �
 both_of n r b = (n b, r b)
 
 -- the name and the rows that were given are those of the line
-pub joined : {X : Type 0} (s : Option X) (n : X → Text) (r : X → List Row) (name : Text) (rows : List Row) → Some name ≡ option_map n s
+pub joined : {X : Type 0} (s : Option X) (n : X → Text) (r : X → List Row) (name : Text) (rows : List Row)
+    → Some name ≡ option_map n s
     → Some rows ≡ option_map (λ (p : Text × List Row). p.1) (option_map (both_of n r) s)
-    → (line : Text × List Row) → option_map (both_of n r) s ≡ Some line → (name ≡ line.0) × (rows ≡ line.1) × (◌≡◌ {A = Text × List Row} (name, rows) line)
+    → (line : Text × List Row) → option_map (both_of n r) s ≡ Some line → (name ≡ line.0) × (rows ≡ line.1)
+    × (◌≡◌ {A = Text × List Row} (name, rows) line)
 joined None n r name rows first second line is = cc
 joined (Some b) n r name rows first second line is =
     let e : name ≡ n b = cc in

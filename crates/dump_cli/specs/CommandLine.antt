@@ -28,10 +28,12 @@ prefixes = record (new_rule (codes "PREFIX")) {
 -- one side of the filter: flags in any order, before and behind the prefixes
 abbrev pub side_app : Text → App
 side_app name =
-    let drops = with_rule (with_rule (new_app name) (switch (codes "drop-empty-revs"))) (switch (codes "drop-all-empty-revs")) in
+    let drops = with_rule (with_rule (new_app name) (switch (codes "drop-empty-revs")))
+    (switch (codes "drop-all-empty-revs")) in
     let numbers = with_rule (with_rule drops (switch (codes "renumber-revs"))) (switch (codes "preserve-revprops")) in
     let quiet = with_rule (with_rule numbers (switch (codes "skip-missing-merge-sources"))) (switch (codes "quiet")) in
-    let plan = with_rule (with_rule quiet (number (codes "workers") 64 (codes "4"))) (number (codes "window") 4096 (codes "64")) in
+    let plan = with_rule (with_rule quiet (number (codes "workers") 64 (codes "4")))
+    (number (codes "window") 4096 (codes "64")) in
     with_rule plan prefixes
 
 -- the program: one of two sides, and no help

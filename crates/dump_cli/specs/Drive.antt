@@ -23,7 +23,8 @@ abbrev pub IsSilent : Answer → Bool → Type 0
 IsSilent (Clean report) quiet = quiet ≡ true
 IsSilent answer quiet = ⊥
 
--- the output broke off: the writer took the first of the bytes, perhaps all, and the answer is the failure with their count
+-- the output broke off: the writer took the first of the bytes, perhaps all, and the answer is the failure with their
+-- count
 pub record BreaksOff (old new : Option (List ℕ)) (sent : List ℕ) (told : Answer) : Type 0 where
   pub part : List ℕ
   pub written : ℕ
@@ -32,7 +33,8 @@ pub record BreaksOff (old new : Option (List ℕ)) (sent : List ℕ) (told : Ans
   pub counted : GrowsBy old new written
   pub told_is : told ≡ Failed failures.Sink written
 
--- a run on the input gave an answer and sent bytes: all of them reached the writer and the answer is told, or the output
+-- a run on the input gave an answer and sent bytes: all of them reached the writer and the answer is told, or the
+-- output
 -- broke off
 pub record Ran (settings : Settings) (input : List ℕ) (old new : Option (List ℕ)) (told : Answer) : Type 0 where
   pub answer : Answer
@@ -40,7 +42,8 @@ pub record Ran (settings : Settings) (input : List ℕ) (old new : Option (List 
   pub answered : IsRunAnswer settings input sent answer
   pub arrived : (Appends old new sent × (told ≡ answer)) ⊎ BreaksOff old new sent told
 
--- what is told behind a run: its answer, where nothing waits any more; or the failure of the sink, with the bytes that the
+-- what is told behind a run: its answer, where nothing waits any more; or the failure of the sink, with the bytes that
+-- the
 -- writer took
 abbrev pub TellsBehind : LentState → Answer → Answer → Type 0
 TellsBehind sink ran told = ((told ≡ ran) × (sink.waiting ≡ []))
@@ -68,4 +71,5 @@ Obeys (Ok order) input old new status = CarriesOut order.options input old new s
 
 -- words of this meaning have an answer, and it is obeyed
 abbrev pub Drives : Result Meaning Usage → Option (List ℕ) → Option (List ℕ) → Option (List ℕ) → ℕ → Type 0
-Drives meaning input old new status = (answer : Result Order Usage) × AnswersTo meaning answer × Obeys answer input old new status
+Drives meaning input old new status = (answer : Result Order Usage) × AnswersTo meaning answer
+    × Obeys answer input old new status

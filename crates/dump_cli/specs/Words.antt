@@ -80,7 +80,8 @@ order_of (name, rows) = meaning_with (empty_in rows) (side_of name) rows
 
 -- the order that the words give: only a lawful line is one, unless it asks for both ways to drop revisions
 abbrev pub meaning_of : List Text → Result Meaning Usage
-meaning_of words = if is_lawful words then option_map_or order_of (subcommand_of program words) (Err Words) else Err Words
+meaning_of words = if is_lawful words then option_map_or order_of (subcommand_of program words)
+    (Err Words) else Err Words
 
 -- the answer to words of this meaning: want of memory may hide it, and nothing else
 abbrev pub AnswersTo : Result Meaning Usage → Result Order Usage → Type 0

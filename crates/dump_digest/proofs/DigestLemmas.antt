@@ -35,7 +35,8 @@ no_whole_there r delta = rw delta (by_length (has_text r))
     by_length true = refl
     by_length false = refl
 
-pub text_there : (r : DumpRecord) (text : List ℕ) → Some text ≡ whole_part r → (has_whole_text r ≡ true) × (text ≡ r.text)
+pub text_there : (r : DumpRecord) (text : List ℕ) → Some text ≡ whole_part r → (has_whole_text r ≡ true)
+    × (text ≡ r.text)
 text_there r text is = by_whole (has_whole_text r) refl
   where
     by_whole : (b : Bool) → has_whole_text r ≡ b → (has_whole_text r ≡ true) × (text ≡ r.text)
@@ -49,17 +50,23 @@ no_text r is = by_whole (has_whole_text r) refl
     by_whole true e = let bad : None ≡ Some r.text = is ∙ rw e refl in cc
     by_whole false e = e
 
-pub digest_told : (name : List ℕ) (r : DumpRecord) (size : ℕ) (digest : List ℕ) (ok : Bool) (told : Option (List ℕ)) → has_whole_text r ≡ true
-    → told ≡ header_value name r.headers → (IsFalse ok ↔ TellsOther told size digest) → IsFalse ok ↔ HasOtherDigest name r size digest
+pub digest_told : (name : List ℕ) (r : DumpRecord) (size : ℕ) (digest : List ℕ) (ok : Bool) (told : Option (List ℕ))
+    → has_whole_text r ≡ true
+    → told ≡ header_value name r.headers → (IsFalse ok ↔ TellsOther told size digest) → IsFalse ok
+    ↔ HasOtherDigest name r size digest
 digest_told name r size digest ok told text is means =
     let there : is_some told ≡ has_header name r.headers = ap is_some is ∙ has_value name r.headers in (
       λ e. let other = means.0 e in (text, (sym there ∙ other.0, λ digits h. other.1 digits (is ∙ h))),
       λ other. means.1 (there ∙ other.1.0, λ digits h. other.1.1 digits (sym is ∙ h)),
     )
 
-pub text_told : (r : DumpRecord) (checked : Bool) (md5 sha1 : Option (Bor (List ℕ))) → has_whole_text r ≡ true → option_copied md5 ≡ header_value md5_name r.headers
-    → option_copied sha1 ≡ header_value sha1_name r.headers → checked ≡ (is_some md5 || is_some sha1) → checked ≡ is_told_text r
+pub text_told : (r : DumpRecord) (checked : Bool) (md5 sha1 : Option (Bor (List ℕ))) → has_whole_text r ≡ true
+    → option_copied md5 ≡ header_value md5_name r.headers
+    → option_copied sha1 ≡ header_value sha1_name r.headers → checked ≡ (is_some md5 || is_some sha1)
+    → checked ≡ is_told_text r
 text_told r checked md5 sha1 text first second is =
-    let one : is_some md5 ≡ has_header md5_name r.headers = some_copied md5 ∙ ap is_some first ∙ has_value md5_name r.headers in
-    let other : is_some sha1 ≡ has_header sha1_name r.headers = some_copied sha1 ∙ ap is_some second ∙ has_value sha1_name r.headers in
+    let one : is_some md5 ≡ has_header md5_name r.headers = some_copied md5 ∙ ap is_some first
+    ∙ has_value md5_name r.headers in
+    let other : is_some sha1 ≡ has_header sha1_name r.headers = some_copied sha1 ∙ ap is_some second
+    ∙ has_value sha1_name r.headers in
     is ∙ rw (one, other, text) refl

@@ -17,19 +17,22 @@ kept_some settings r path is =
     let node : has_header path_name r.headers ≡ true = sym (has_value path_name r.headers) ∙ ap is_some is in
     sym (rw (node, is) refl)
 
-pub kept_none : (settings : Settings) (r : DumpRecord) → header_value path_name r.headers ≡ None → false ≡ is_kept_node settings r
+pub kept_none : (settings : Settings) (r : DumpRecord) → header_value path_name r.headers ≡ None
+    → false ≡ is_kept_node settings r
 kept_none settings r is =
     let node : has_header path_name r.headers ≡ false = sym (has_value path_name r.headers) ∙ ap is_some is in
     sym (rw node refl)
 
 -- a copy's path is kept or lost
-pub lost_some : (settings : Settings) (r : DumpRecord) (path : List ℕ) → header_value copy_path_name r.headers ≡ Some path
+pub lost_some : (settings : Settings) (r : DumpRecord) (path : List ℕ)
+    → header_value copy_path_name r.headers ≡ Some path
     → not (keeps_path settings path) ≡ has_lost_source settings r
 lost_some settings r path is =
     let copy : has_header copy_path_name r.headers ≡ true = sym (has_value copy_path_name r.headers) ∙ ap is_some is in
     sym (rw (copy, is) refl)
 
-pub lost_none : (settings : Settings) (r : DumpRecord) → header_value copy_path_name r.headers ≡ None → false ≡ has_lost_source settings r
+pub lost_none : (settings : Settings) (r : DumpRecord) → header_value copy_path_name r.headers ≡ None
+    → false ≡ has_lost_source settings r
 lost_none settings r is =
     let copy : has_header copy_path_name r.headers ≡ false = sym (has_value copy_path_name r.headers) ∙ ap is_some is in
     sym (rw copy refl)
@@ -37,4 +40,5 @@ lost_none settings r is =
 -- a record is a revision exactly where it has a revision's number
 pub revision_told : (r : DumpRecord) (number : ℕ) → is_lawful number r.headers ≡ true
     → is_some (header_number revision_name r.headers) ≡ is_revision r
-revision_told r number lawful = sym (revision_there r.headers (not_so (has_bad_number r.headers) (keeps number r.headers lawful).number_ok))
+revision_told r number lawful = sym (revision_there r.headers
+    (not_so (has_bad_number r.headers) (keeps number r.headers lawful).number_ok))

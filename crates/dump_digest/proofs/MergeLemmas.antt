@@ -36,7 +36,8 @@ bad_entry p bad = by_name (is_mergeinfo p) refl
     by_name : (b : Bool) → is_mergeinfo p ≡ b → BadEntry p
     by_name true e = record {
       named = e;
-      none = λ has. clash ((reads_exactly (value_of p)).1 has) (let unread : value_reads (value_of p) ≡ property_reads p = rw e refl in unread ∙ bad);
+      none = λ has. clash ((reads_exactly (value_of p)).1 has)
+          (let unread : value_reads (value_of p) ≡ property_reads p = rw e refl in unread ∙ bad);
     }
     by_name false e = let read : true ≡ property_reads p = rw e refl in absurd (clash (sym read) bad)
 
@@ -73,7 +74,8 @@ read_none (q ∷ ps) p read (suc i, within, is) =
 
 -- a kept node
 
-pub merge_means : (settings : Settings) (r : DumpRecord) (ok : Bool) (ps : List Property) → IsTrue (is_kept_node settings r) → HasPropertyList r ps
+pub merge_means : (settings : Settings) (r : DumpRecord) (ok : Bool) (ps : List Property)
+    → IsTrue (is_kept_node settings r) → HasPropertyList r ps
     → ok ≡ properties_read ps → IsFalse ok ↔ ∥ HasBadMergeinfo settings r ∥₁
 merge_means settings r ok ps kept block is = (
   λ e.
@@ -94,13 +96,15 @@ merge_means settings r ok ps kept block is = (
             let entry : BadEntry p = record { named = named; none = λ has. none (subst HasMergeLines same has) } in
             absurd (clash read (entry_bad p entry))
 
-pub merge_unread : (settings : Settings) (r : DumpRecord) → ¬ HasPropertyBlock r → IsFalse true ↔ ∥ HasBadMergeinfo settings r ∥₁
+pub merge_unread : (settings : Settings) (r : DumpRecord) → ¬ HasPropertyBlock r → IsFalse true
+    ↔ ∥ HasBadMergeinfo settings r ∥₁
 merge_unread settings r none = (
   λ e. cc,
   λ bad. ∥∥₁_elim bad (Bool-set true false) (λ (value, mine, lines). absurd (none (mine.1, mine.2))),
 )
 
-pub merge_other : (settings : Settings) (r : DumpRecord) → IsFalse (is_kept_node settings r) → IsFalse true ↔ ∥ HasBadMergeinfo settings r ∥₁
+pub merge_other : (settings : Settings) (r : DumpRecord) → IsFalse (is_kept_node settings r) → IsFalse true
+    ↔ ∥ HasBadMergeinfo settings r ∥₁
 merge_other settings r other = (
   λ e. cc,
   λ bad. ∥∥₁_elim bad (Bool-set true false) (λ (value, mine, lines). absurd (clash mine.0 other)),

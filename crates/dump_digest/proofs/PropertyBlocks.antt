@@ -8,7 +8,8 @@ use Rattle.dump_records.specs.RecordText.{DumpRecord}
 use Rattle.dump_digest.specs.RecordParts.{takes_deletes, HasPropertyList, HasPropertyBlock}
 
 -- a record's properties are one list
-pub property_list_once : (r : DumpRecord) (ps qs : List Property) → HasPropertyList r ps → HasPropertyList r qs → ps ≡ qs
+pub property_list_once : (r : DumpRecord) (ps qs : List Property) → HasPropertyList r ps → HasPropertyList r qs
+    → ps ≡ qs
 property_list_once r ps qs list other = property_block_once r.props ps qs list.0 other.0
 
 -- where deleted properties may stand, any property block is the record's
@@ -22,7 +23,8 @@ without_deletes r takes = (
   λ (ps, list). (ps, list.0, by_deletes ps list.1 (has_deletes ps) refl),
 )
   where
-    by_deletes : (ps : List Property) → (has_deletes ps ≡ true → takes_deletes r ≡ true) → (b : Bool) → has_deletes ps ≡ b
+    by_deletes : (ps : List Property) → (has_deletes ps ≡ true → takes_deletes r ≡ true) → (b : Bool)
+        → has_deletes ps ≡ b
         → has_deletes ps ≡ false
     by_deletes ps may true deletes = absurd (absurd_bool (takes_deletes r) (may deletes) takes)
     by_deletes ps may false kept = kept

@@ -36,12 +36,14 @@ pub record IsSaidUpTo (s : Settings) (ps qs : List Property) (found : Bool) (sai
       ≡ (is_outside s first present said.numbers || list_any (is_foreign s first present) qs)
 
 -- before the first property nothing is said
-pub said_at_first : (s : Settings) (ps : List Property) (said : Merged) → said ≡ nothing_merged → IsSaidUpTo s ps ps false said
+pub said_at_first : (s : Settings) (ps : List Property) (said : Merged) → said ≡ nothing_merged
+    → IsSaidUpTo s ps ps false said
 said_at_first s ps said is = record {
   read = refl;
   found_is = refl;
   sources = ap (λ (m : Merged). m.misses || list_any (misses s) ps) (sym is);
-  numbers = λ first present. ap (λ (m : Merged). is_outside s first present m.numbers || list_any (is_foreign s first present) ps) (sym is);
+  numbers = λ first present. ap (λ (m : Merged). is_outside s first present m.numbers || list_any
+      (is_foreign s first present) ps) (sym is);
 }
 
 or_true : (a c : Bool) → (a || (true || c)) ≡ true
@@ -49,19 +51,22 @@ or_true true c = refl
 or_true false c = refl
 
 -- one more property that isn't mergeinfo
-pub said_of_other : (s : Settings) (ps qs others : List Property) (p : Property) (found : Bool) (said : Merged) → qs ≡ p ∷ others
+pub said_of_other : (s : Settings) (ps qs others : List Property) (p : Property) (found : Bool) (said : Merged)
+    → qs ≡ p ∷ others
     → is_mergeinfo p ≡ false → IsSaidUpTo s ps qs found said → IsSaidUpTo s ps others found said
 said_of_other s ps qs others p found said is other up = record {
   read = up.read ∙ ap properties_read is ∙ rw other refl;
   found_is = up.found_is ∙ ap (λ (l : List Property). found || list_any is_mergeinfo l) is ∙ rw other refl;
   sources = up.sources ∙ ap (λ (l : List Property). said.misses || list_any (misses s) l) is ∙ rw other refl;
   numbers = λ first present. up.numbers first present
-      ∙ ap (λ (l : List Property). is_outside s first present said.numbers || list_any (is_foreign s first present) l) is
+      ∙ ap (λ (l : List Property). is_outside s first present said.numbers || list_any
+      (is_foreign s first present) l) is
       ∙ rw other refl;
 }
 
 -- one more property that is
-pub said_of_value : (s : Settings) (ps qs others : List Property) (p : Property) (found : Bool) (said next : Merged) → qs ≡ p ∷ others
+pub said_of_value : (s : Settings) (ps qs others : List Property) (p : Property) (found : Bool) (said next : Merged)
+    → qs ≡ p ∷ others
     → is_mergeinfo p ≡ true → value_reads (value_of p) ≡ true
     → next.misses ≡ (said.misses || value_misses s (value_of p))
     → ((first present : ℕ) → is_outside s first present next.numbers
@@ -69,20 +74,24 @@ pub said_of_value : (s : Settings) (ps qs others : List Property) (p : Property)
     → IsSaidUpTo s ps qs found said → IsSaidUpTo s ps others true next
 said_of_value s ps qs others p found said next is named reads sources numbers up = record {
   read = up.read ∙ ap properties_read is ∙ rw (named, reads) refl;
-  found_is = up.found_is ∙ ap (λ (l : List Property). found || list_any is_mergeinfo l) is ∙ rw named (or_true found (list_any is_mergeinfo others));
+  found_is = up.found_is ∙ ap (λ (l : List Property). found || list_any is_mergeinfo l) is
+      ∙ rw named (or_true found (list_any is_mergeinfo others));
   sources = up.sources ∙ ap (λ (l : List Property). said.misses || list_any (misses s) l) is
       ∙ rw named (sym (or_or said.misses (value_misses s (value_of p)) (list_any (misses s) others)))
       ∙ ap (λ b. b || list_any (misses s) others) (sym sources);
   numbers = λ first present. up.numbers first present
-      ∙ ap (λ (l : List Property). is_outside s first present said.numbers || list_any (is_foreign s first present) l) is
+      ∙ ap (λ (l : List Property). is_outside s first present said.numbers || list_any
+      (is_foreign s first present) l) is
       ∙ rw named (sym (or_or (is_outside s first present said.numbers) (value_foreign s first present (value_of p))
       (list_any (is_foreign s first present) others)))
       ∙ ap (λ b. b || list_any (is_foreign s first present) others) (sym (numbers first present));
 }
 
 -- a property whose value can't be read
-pub not_said : (s : Settings) (ps qs others : List Property) (p : Property) (found : Bool) (said : Merged) → qs ≡ p ∷ others
-    → is_mergeinfo p ≡ true → value_reads (value_of p) ≡ false → IsSaidUpTo s ps qs found said → properties_read ps ≡ false
+pub not_said : (s : Settings) (ps qs others : List Property) (p : Property) (found : Bool) (said : Merged)
+    → qs ≡ p ∷ others
+    → is_mergeinfo p ≡ true → value_reads (value_of p) ≡ false → IsSaidUpTo s ps qs found said
+    → properties_read ps ≡ false
 not_said s ps qs others p found said is named bad up = up.read ∙ ap properties_read is ∙ rw (named, bad) refl
 
 -- behind the last property all is said
@@ -104,10 +113,12 @@ entry_value e = by_gone e.gone refl
     by_gone false set = refl
 
 -- what the reader of a value answers
-pub unread_value : (value : List ℕ) (o : Option Merged) → (IsSome o ↔ HasMergeLines value) → o ≡ None → value_reads value ≡ false
+pub unread_value : (value : List ℕ) (o : Option Merged) → (IsSome o ↔ HasMergeLines value) → o ≡ None
+    → value_reads value ≡ false
 unread_value value o means is = sym (read_is value (is_some o) means) ∙ ap is_some is
 
-pub reads_value : (value : List ℕ) (o : Option Merged) (next : Merged) → (IsSome o ↔ HasMergeLines value) → o ≡ Some next
+pub reads_value : (value : List ℕ) (o : Option Merged) (next : Merged) → (IsSome o ↔ HasMergeLines value)
+    → o ≡ Some next
     → value_reads value ≡ true
 reads_value value o next means is = sym (read_is value (is_some o) means) ∙ ap is_some is
 
@@ -117,13 +128,15 @@ AreSaid s found o = (ps : List Property) (p : Props) → found ≡ Some p → Is
     → MatchOption o (properties_read ps ≡ false) (λ m. IsSaidBy s ps m)
 
 -- values can be read where mergeinfo was
-said_ok : (s : Settings) (ps : List Property) (o : Option Mergeinfo) → MatchOption o (properties_read ps ≡ false) (λ m. IsSaidBy s ps m)
+said_ok : (s : Settings) (ps : List Property) (o : Option Mergeinfo) → MatchOption o (properties_read ps ≡ false)
+    (λ m. IsSaidBy s ps m)
     → is_some o ≡ properties_read ps
 said_ok s ps None bad = sym bad
 said_ok s ps (Some m) said = sym said.read
 
 -- a kept node's mergeinfo can be read exactly where it isn't bad
-pub merge_told : (s : Settings) (r : DumpRecord) (found : Option Props) (o : Option Mergeinfo) → IsTrue (is_kept_node s r)
+pub merge_told : (s : Settings) (r : DumpRecord) (found : Option Props) (o : Option Mergeinfo)
+    → IsTrue (is_kept_node s r)
     → (IsSome found ↔ HasPropertyBlock r) → IfSome found (λ p. props_bytes p ≡ r.props)
     → AreSaid s found o → (IsNone found → IsSome o) → IsFalse (is_some o) ↔ ∥ HasBadMergeinfo s r ∥₁
 merge_told s r None o kept means is said none =
@@ -154,12 +167,15 @@ bytes_told r None is = λ p e. absurd (let no : None ≡ Some p = e in cc)
 bytes_told r (Some p) is = λ q e. ap props_bytes (let one : q ≡ p = cc in one) ∙ is
 
 -- a kept node's properties are asked
-pub asked_kept : (s : Settings) (r : DumpRecord) (found : Option Props) (ok : Bool) → IsTrue (is_kept_node s r) → ok ≡ is_some found
+pub asked_kept : (s : Settings) (r : DumpRecord) (found : Option Props) (ok : Bool) → IsTrue (is_kept_node s r)
+    → ok ≡ is_some found
     → is_some found ≡ (is_asked s r && ok)
-asked_kept s r found ok kept is = sym is ∙ ap (λ b. b && ok) (sym (either_second (is_revision r) (is_kept_node s r) kept))
+asked_kept s r found ok kept is = sym is ∙ ap (λ b. b && ok)
+    (sym (either_second (is_revision r) (is_kept_node s r) kept))
 
 -- of another record no mergeinfo is read, and no copy source
-pub content_of_other : (s : Settings) (r : DumpRecord) (v : Verdict) (found : Option Props) → IsFalse (is_kept_node s r) → IsVerdict s r v
+pub content_of_other : (s : Settings) (r : DumpRecord) (v : Verdict) (found : Option Props) → IsFalse (is_kept_node s r)
+    → IsVerdict s r v
     → is_some found ≡ (is_asked s r && v.props_ok) → ForSome found (λ p. props_bytes p ≡ r.props)
     → IsContent s r (record { verdict = v; kept = false; props = found; mergeinfo = None; lost_source = false })
 content_of_other s r v found other verdict asked bytes = record {
@@ -177,7 +193,8 @@ not_so_false true bad = refl
 not_so_false false bad = absurd (bad refl)
 
 -- what was read of a record that is asked for its properties is them
-pub properties_of : (s : Settings) (r : DumpRecord) (c : Content) → IsContent s r c → IsTrue (is_asked s r) → ArePropertiesOf r c.props
+pub properties_of : (s : Settings) (r : DumpRecord) (c : Content) → IsContent s r c → IsTrue (is_asked s r)
+    → ArePropertiesOf r c.props
 properties_of s r c is asked = record {
   bytes = is.bytes;
   there = (

@@ -153,7 +153,8 @@ readable_in_3 = (unlogged, deleted_in_3)
 
 unreadable_in_2 : ¬ HasPropertyBlock (deleting 2)
 unreadable_in_2 (ps, (block, deletes)) =
-    let bad : false ≡ true = deletes (sym (ap has_deletes (property_block_once _ unlogged ps unlogged_block block))) in cc
+    let bad : false ≡ true = deletes (sym (ap has_deletes
+    (property_block_once _ unlogged ps unlogged_block block))) in cc
 
 a_copy : is_copy (copy (codes "trunk/e")) ≡ true
 a_copy = refl
@@ -266,7 +267,16 @@ its_value : IsMergeinfoValueOf including_trunk (merging (codes "trunk/f")) (code
 its_value = (
   refl,
   merged ∷ [],
-  (inr (merged_entry, codes "PROPS-END\n", refl, inl (codes "x", refl, (codes "13", codes "1", refl, refl, refl)), refl), no_deletes),
+  (
+    inr (
+      merged_entry,
+      codes "PROPS-END\n",
+      refl,
+      inl (codes "x", refl, (codes "13", codes "1", refl, refl, refl)),
+      refl,
+    ),
+    no_deletes,
+  ),
   merged,
   (0, lit< tt, refl),
   refl,

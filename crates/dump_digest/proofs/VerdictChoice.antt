@@ -22,12 +22,14 @@ use Rattle.hex.specs.Hex.{decode_sized}
 use Rattle.hex.specs.declared.error.FromHexError.{FromHexError}
 
 -- where a kept node has bad mergeinfo, it can be found
-pub bad_choice : (settings : Settings) (r : DumpRecord) → IsTrue (is_kept_node settings r) → (ps : List Property) → HasPropertyList r ps
+pub bad_choice : (settings : Settings) (r : DumpRecord) → IsTrue (is_kept_node settings r) → (ps : List Property)
+    → HasPropertyList r ps
     → HasBadMergeinfo settings r ⊎ (¬ HasBadMergeinfo settings r)
 bad_choice settings r keep ps block = by_read (properties_read ps) refl
   where
     by_read : (b : Bool) → properties_read ps ≡ b → HasBadMergeinfo settings r ⊎ (¬ HasBadMergeinfo settings r)
-    by_read true read = inr (λ bad. absurd_bool (properties_read ps) read ((merge_means settings r (properties_read ps) ps keep block refl).1 ∣ bad ∣₁))
+    by_read true read = inr (λ bad. absurd_bool (properties_read ps) read
+        ((merge_means settings r (properties_read ps) ps keep block refl).1 ∣ bad ∣₁))
     by_read false bad =
         let (p, within, entry) = bad_of ps bad in
         inl (value_of p, (keep, ps, block, p, within, entry.named, refl), entry.none)
@@ -55,7 +57,8 @@ so : (b : Bool) → (b ≡ true) ⊎ (¬ (b ≡ true))
 so true = inl refl
 so false = inr false_true
 
-properties_choice : (settings : Settings) (r : DumpRecord) → HasBadProperties settings r ⊎ (¬ HasBadProperties settings r)
+properties_choice : (settings : Settings) (r : DumpRecord) → HasBadProperties settings r
+    ⊎ (¬ HasBadProperties settings r)
 properties_choice settings r =
     both (IsTrue (is_revision r || is_kept_node settings r)) (¬ HasPropertyBlock r)
     (so (is_revision r || is_kept_node settings r)) (elim (block_or_not r) [
@@ -70,7 +73,8 @@ same_bytes a b = by_case (bytes_eq a b) refl
     by_case true is = inr (λ other. other ((bytes_eq-Decides a b).0 is))
     by_case false is = inl (λ same. absurd_bool (bytes_eq a b) ((bytes_eq-Decides a b).1 same) is)
 
-decoded_choice : (decoded : Result (List ℕ) FromHexError) (digest : List ℕ) → (decoded ≢ Ok digest) ⊎ (¬ (decoded ≢ Ok digest))
+decoded_choice : (decoded : Result (List ℕ) FromHexError) (digest : List ℕ) → (decoded ≢ Ok digest)
+    ⊎ (¬ (decoded ≢ Ok digest))
 decoded_choice (Ok bytes) digest = elim (same_bytes bytes digest) [
   | inl other ↦ inl (λ e. other (of_ok bytes digest e))
   | inr same ↦ inr (λ other. same (λ e. other (ap Ok e)))
@@ -80,15 +84,18 @@ decoded_choice (Ok bytes) digest = elim (same_bytes bytes digest) [
     of_ok a b e = cc
 decoded_choice (Err error) digest = inl (λ e. cc)
 
-digest_choice : (name : List ℕ) (r : DumpRecord) (size : ℕ) (digest : List ℕ) → DiffersFromDigest name r size digest ⊎ (¬ DiffersFromDigest name r size digest)
+digest_choice : (name : List ℕ) (r : DumpRecord) (size : ℕ) (digest : List ℕ) → DiffersFromDigest name r size digest
+    ⊎ (¬ DiffersFromDigest name r size digest)
 digest_choice name r size digest =
-    both (IsTrue (has_header name r.headers)) (ForSome (header_value name r.headers) (λ digits. decode_sized digits size ≢ Ok digest))
+    both (IsTrue (has_header name r.headers)) (ForSome (header_value name r.headers)
+    (λ digits. decode_sized digits size ≢ Ok digest))
     (so (has_header name r.headers)) (by_value (header_value name r.headers))
   where
     some : (a b : List ℕ) → Some a ≡ Some b → a ≡ b
     some a b e = cc
 
-    by_value : (value : Option (List ℕ)) → ForSome value (λ digits. decode_sized digits size ≢ Ok digest) ⊎ (¬ ForSome value (λ digits. decode_sized digits size ≢ Ok digest))
+    by_value : (value : Option (List ℕ)) → ForSome value (λ digits. decode_sized digits size ≢ Ok digest)
+        ⊎ (¬ ForSome value (λ digits. decode_sized digits size ≢ Ok digest))
     by_value None = inl (λ digits e. absurd (let no : None ≡ Some digits = e in cc))
     by_value (Some digits) = elim (decoded_choice (decode_sized digits size) digest) [
       | inl other ↦ inl (λ x e same. other (ap (λ d. decode_sized d size) (some digits x e) ∙ same))
@@ -126,7 +133,11 @@ verdict_exists settings r =
         props = props;
         md5 = md5_is;
         sha1 = sha1_is;
-        merge = ((λ e. ∣ merge.0 e ∣₁), λ h. not_so merge_ok (λ fine. ∥∥₁_elim h (λ x y. absurd x) (λ bad. false_true (sym (merge.1 bad) ∙ fine))));
+        merge = (
+          (λ e. ∣ merge.0 e ∣₁),
+          λ h. not_so merge_ok
+              (λ fine. ∥∥₁_elim h (λ x y. absurd x) (λ bad. false_true (sym (merge.1 bad) ∙ fine))),
+        );
         checked = refl;
       },
     )

@@ -26,7 +26,8 @@ unread r ok means = (λ none has. clash (means.1 has) none, λ none. by_ok ok re
     by_ok false e none = e
 
 -- properties that aren't asked
-pub not_asked : (r : DumpRecord) → IsFalse (is_revision r) → IsFalse true ↔ (IsTrue (is_revision r) × ¬ HasPropertyBlock r)
+pub not_asked : (r : DumpRecord) → IsFalse (is_revision r) → IsFalse true
+    ↔ (IsTrue (is_revision r) × ¬ HasPropertyBlock r)
 not_asked r none = (λ e. cc, λ bad. absurd (clash bad.0 none))
 
 -- properties that are, of a node
@@ -60,7 +61,8 @@ kept_verdict settings r v kept props first second merge checked = record {
 -- another record
 pub other_verdict : (settings : Settings) (r : DumpRecord) (props_ok : Bool) → IsFalse (is_kept_node settings r)
     → (IsFalse props_ok ↔ (IsTrue (is_revision r) × ¬ HasPropertyBlock r))
-    → IsVerdict settings r (record { props_ok = props_ok; md5_ok = true; sha1_ok = true; merge_ok = true; checked = false })
+    → IsVerdict settings r
+    (record { props_ok = props_ok; md5_ok = true; sha1_ok = true; merge_ok = true; checked = false })
 other_verdict settings r props_ok other props = record {
   props =
       let revision = or_none (is_revision r) (is_kept_node settings r) other in

@@ -15,7 +15,8 @@ use Rattle.dump_filter.specs.WholeText.{IsCleanText}
 -- what is written of the first records of a dump, while more may follow, begins what is written of them and more, where
 -- none of them has a fault
 abbrev pub WrittenOnlyGrows : Type 0
-WrittenOnlyGrows = (settings : Settings) (ended : Bool) (dump : List ℕ) (records more : List DumpRecord) (old new : List ℕ) →
+WrittenOnlyGrows = (settings : Settings) (ended : Bool) (dump : List ℕ) (records more : List DumpRecord)
+    (old new : List ℕ) →
     BeginsWithRecords dump (records ++ more)
     → AreFaultFree settings (records ++ more)
     → IsWritten settings false records old

@@ -29,7 +29,8 @@ once_at_most m count = by (cases_lt m count)
     by (inr le) = let e = above_range m count le in omega arith
 
 -- one of the first that comes after those released
-comes_after : (count released m : ℕ) (rest : List ℕ) → weigh (only m) (first_numbers released) + (1 + weigh (only m) rest) ≡ weigh (only m) (first_numbers count)
+comes_after : (count released m : ℕ) (rest : List ℕ) → weigh (only m) (first_numbers released) +
+    (1 + weigh (only m) rest) ≡ weigh (only m) (first_numbers count)
     → (released ≤ m) × (m < count)
 comes_after count released m rest e = (low (cases_lt m released), high (cases_lt m count))
   where
@@ -45,12 +46,17 @@ comes_after count released m rest e = (low (cases_lt m released), high (cases_lt
     high (inr le) = let none = above_range m count le in absurd (omega (arith, e))
 
 -- where the first so many arrived, each once, no two clash
-pub no_clash : (window released count : ℕ) (arrived : List ℕ) → WeighsSame arrived (first_numbers count) → count ≤ released + window
+pub no_clash : (window released count : ℕ) (arrived : List ℕ) → WeighsSame arrived (first_numbers count)
+    → count ≤ released + window
     → Clash window released arrived → ⊥
-no_clash window released count arrived all most (Taken m n rest same turn) = apart (near window released count m n a.0 b.0 a.1 b.1 most turn)
+no_clash window released count arrived all most (Taken m n rest same turn) = apart
+    (near window released count m n a.0 b.0 a.1 b.1 most turn)
   where
-    total : (f : ℕ → ℕ) → weigh f (first_numbers released) + (f m + (f n + weigh f rest)) ≡ weigh f (first_numbers count)
-    total f = sym (weigh-append f (first_numbers released) (m ∷ n ∷ rest)) ∙ (sym (weighed f arrived (first_numbers released ++ m ∷ n ∷ rest) same) ∙ weighed f arrived (first_numbers count) all)
+    total : (f : ℕ → ℕ) → weigh f (first_numbers released) + (f m + (f n + weigh f rest)) ≡ weigh f
+        (first_numbers count)
+    total f = sym (weigh-append f (first_numbers released) (m ∷ n ∷ rest))
+        ∙ (sym (weighed f arrived (first_numbers released ++ m ∷ n ∷ rest) same)
+        ∙ weighed f arrived (first_numbers count) all)
 
     a : (released ≤ m) × (m < count)
     a = comes_after count released m (n ∷ rest) (let t = total (only m) in let e = only_itself m in omega arith)
@@ -64,10 +70,14 @@ no_clash window released count arrived all most (Taken m n rest same turn) = apa
         let one = only_itself n in
         let other : only n m ≡ 1 = ap (only n) e ∙ one in
         let most' = once_at_most n count in omega arith
-no_clash window released count arrived all most (Wrong m rest same turn other) = other (near window released (suc m) m released a.0 (omega arith) (omega arith) (let x = a.0 in omega arith) (let x = a.1 in omega arith) turn)
+no_clash window released count arrived all most (Wrong m rest same turn other) = other
+    (near window released (suc m) m released a.0 (omega arith) (omega arith) (let x = a.0 in omega arith)
+    (let x = a.1 in omega arith) turn)
   where
     total : (f : ℕ → ℕ) → weigh f (first_numbers released) + (f m + weigh f rest) ≡ weigh f (first_numbers count)
-    total f = sym (weigh-append f (first_numbers released) (m ∷ rest)) ∙ (sym (weighed f arrived (first_numbers released ++ m ∷ rest) same) ∙ weighed f arrived (first_numbers count) all)
+    total f = sym (weigh-append f (first_numbers released) (m ∷ rest))
+        ∙ (sym (weighed f arrived (first_numbers released ++ m ∷ rest) same)
+        ∙ weighed f arrived (first_numbers count) all)
 
     a : (released ≤ m) × (m < count)
     a = comes_after count released m rest (let t = total (only m) in let e = only_itself m in omega arith)
@@ -79,11 +89,14 @@ lacks_none n (m ∷ ns) h =
     let more = lacks_none n ns h.1 in omega arith
 
 -- where the first so many arrived, each once, and the next to be released isn't there, all were released
-pub none_waits : (released count : ℕ) (arrived : List ℕ) → WeighsSame arrived (first_numbers count) → IsWaiting released arrived → released ≡ count
+pub none_waits : (released count : ℕ) (arrived : List ℕ) → WeighsSame arrived (first_numbers count)
+    → IsWaiting released arrived → released ≡ count
 none_waits released count arrived all w = by (cases_lt released count) (cases_lt count released)
   where
     total : (f : ℕ → ℕ) → weigh f (first_numbers released) + weigh f w.others ≡ weigh f (first_numbers count)
-    total f = sym (weigh-append f (first_numbers released) w.others) ∙ (sym (weighed f arrived (first_numbers released ++ w.others) w.same) ∙ weighed f arrived (first_numbers count) all)
+    total f = sym (weigh-append f (first_numbers released) w.others)
+        ∙ (sym (weighed f arrived (first_numbers released ++ w.others) w.same)
+        ∙ weighed f arrived (first_numbers count) all)
 
     by : ((released < count) ⊎ (count ≤ released)) → ((count < released) ⊎ (released ≤ count)) → released ≡ count
     by (inl lt) y =
@@ -98,18 +111,25 @@ none_waits released count arrived all w = by (cases_lt released count) (cases_lt
     by (inr le) (inr le') = omega arith
 
 -- what still comes changes no clash
-pub still_clash : (window released : ℕ) (arrived more : List ℕ) → Clash window released arrived → Clash window released (arrived ++ more)
-still_clash window released arrived more (Taken m n rest same turn) = Taken m n (rest ++ more) (then_more (m ∷ n ∷ rest) same) turn
+pub still_clash : (window released : ℕ) (arrived more : List ℕ) → Clash window released arrived
+    → Clash window released (arrived ++ more)
+still_clash window released arrived more (Taken m n rest same turn) = Taken m n (rest ++ more)
+    (then_more (m ∷ n ∷ rest) same) turn
   where
-    then_more : (others : List ℕ) → WeighsSame arrived (first_numbers released ++ others) → WeighsSame (arrived ++ more) (first_numbers released ++ (others ++ more))
+    then_more : (others : List ℕ) → WeighsSame arrived (first_numbers released ++ others) → WeighsSame (arrived ++ more)
+        (first_numbers released ++ (others ++ more))
     then_more others h f =
-        sum_by-append f arrived more ∙ (ap (λ k. k + sum_by f more) (h f) ∙ (sym (sum_by-append f (first_numbers released ++ others) more)
+        sum_by-append f arrived more ∙ (ap (λ k. k + sum_by f more) (h f)
+        ∙ (sym (sum_by-append f (first_numbers released ++ others) more)
         ∙ ap (sum_by f) (append_assoc (first_numbers released) others more)))
-still_clash window released arrived more (Wrong m rest same turn other) = Wrong m (rest ++ more) (then_more (m ∷ rest) same) turn other
+still_clash window released arrived more (Wrong m rest same turn other) = Wrong m (rest ++ more)
+    (then_more (m ∷ rest) same) turn other
   where
-    then_more : (others : List ℕ) → WeighsSame arrived (first_numbers released ++ others) → WeighsSame (arrived ++ more) (first_numbers released ++ (others ++ more))
+    then_more : (others : List ℕ) → WeighsSame arrived (first_numbers released ++ others) → WeighsSame (arrived ++ more)
+        (first_numbers released ++ (others ++ more))
     then_more others h f =
-        sum_by-append f arrived more ∙ (ap (λ k. k + sum_by f more) (h f) ∙ (sym (sum_by-append f (first_numbers released ++ others) more)
+        sum_by-append f arrived more ∙ (ap (λ k. k + sum_by f more) (h f)
+        ∙ (sym (sum_by-append f (first_numbers released ++ others) more)
         ∙ ap (sum_by f) (append_assoc (first_numbers released) others more)))
 
 ends_more : (a n : ℕ) → range_with_len a (suc n) ≡ range_with_len a n ++ (a + n) ∷ []
@@ -135,25 +155,32 @@ module _ {T : Type 0} (number : T → ℕ) where
   held_is : (f : ℕ → ℕ) (places : List (Option T)) → sum_by f (places_of places) ≡ sum_by (at_place f) places
   held_is f [] = refl
   held_is f (None ∷ places) = let more = held_is f places in omega (arith, sum_by-cons (at_place f) None places)
-  held_is f (Some item ∷ places) = let more = held_is f places in omega (arith, sum_by-cons (at_place f) (Some item) places, sum_by-cons f (number item) (places_of places))
+  held_is f (Some item ∷ places) = let more = held_is f places in omega
+      (arith, sum_by-cons (at_place f) (Some item) places, sum_by-cons f (number item) (places_of places))
 
   held_set : (f : ℕ → ℕ) (places : List (Option T)) (k : ℕ) (new : Option T) → k < length places
-      → sum_by f (places_of (slice_set places k new)) + at_place f (slice_index_or places k None) ≡ sum_by f (places_of places) + at_place f new
+      → sum_by f (places_of (slice_set places k new)) + at_place f (slice_index_or places k None) ≡ sum_by f
+      (places_of places) + at_place f new
   held_set f places k new lt =
       let a = held_is f places in
       let b = held_is f (slice_set places k new) in
       let c = sum_by-set (at_place f) places k new None lt in omega arith
 
-  put_in : (f : ℕ → ℕ) (places : List (Option T)) (k : ℕ) (item : T) → k < length places → slice_index_or places k None ≡ None
+  put_in : (f : ℕ → ℕ) (places : List (Option T)) (k : ℕ) (item : T) → k < length places
+      → slice_index_or places k None ≡ None
       → sum_by f (places_of (slice_set places k (Some item))) ≡ sum_by f (places_of places) + f (number item)
   put_in f places k item lt free =
-      let a : sum_by f (places_of (slice_set places k (Some item))) + at_place f (slice_index_or places k None) ≡ sum_by f (places_of places) + f (number item) = held_set f places k (Some item) lt in
+      let a : sum_by f (places_of (slice_set places k (Some item))) + at_place f
+      (slice_index_or places k None) ≡ sum_by f (places_of places) + f (number item) = held_set f places k
+      (Some item) lt in
       let b : at_place f (slice_index_or places k None) ≡ 0 = ap (at_place f) free in omega arith
 
-  taken_out : (f : ℕ → ℕ) (places : List (Option T)) (k : ℕ) (item : T) → k < length places → slice_index_or places k None ≡ Some item
+  taken_out : (f : ℕ → ℕ) (places : List (Option T)) (k : ℕ) (item : T) → k < length places
+      → slice_index_or places k None ≡ Some item
       → sum_by f (places_of (slice_set places k None)) + f (number item) ≡ sum_by f (places_of places)
   taken_out f places k item lt stands =
-      let a : sum_by f (places_of (slice_set places k None)) + at_place f (slice_index_or places k None) ≡ sum_by f (places_of places) + 0 = held_set f places k None lt in
+      let a : sum_by f (places_of (slice_set places k None)) + at_place f (slice_index_or places k None) ≡ sum_by f
+      (places_of places) + 0 = held_set f places k None lt in
       let b : at_place f (slice_index_or places k None) ≡ f (number item) = ap (at_place f) stands in omega arith
 
   -- an empty row
@@ -190,18 +217,23 @@ module _ {T : Type 0} (number : T → ℕ) where
     where
       by : ((k ≡ i) ⊎ (k ≡ i → ⊥)) → number item % window ≡ k
       by (inl same) =
-          here item (sym (get_or-set_same places i new None lt) ∙ (ap (λ (j : ℕ). slice_index_or (slice_set places i new) j None) (sym same) ∙ e)) ∙ sym same
+          here item (sym (get_or-set_same places i new None lt)
+          ∙ (ap (λ (j : ℕ). slice_index_or (slice_set places i new) j None) (sym same) ∙ e)) ∙ sym same
       by (inr other) = old k item (sym (get_or-set_other places i k new None other) ∙ e)
 
   -- an item is put into its free place
-  pub arrived_more : (window released : ℕ) (arrived : List ℕ) (places : List (Option T)) (item : T) → 0 < length places → Row number window released arrived places
-      → slot_item places (number item) ≡ None → Row number window released (arrived ++ number item ∷ []) (with_slot_item places (number item) (Some item))
+  pub arrived_more : (window released : ℕ) (arrived : List ℕ) (places : List (Option T)) (item : T) → 0 < length places
+      → Row number window released arrived places
+      → slot_item places (number item) ≡ None → Row number window released (arrived ++ number item ∷ [])
+      (with_slot_item places (number item) (Some item))
   arrived_more window released arrived places item some r free =
       let i : ℕ = number item % length places in
       let lt : i < length places = mod-lt (number item) some in
       record {
         wide = length-set places i (Some item) ∙ r.wide;
-        placed = placed_set places window i (Some item) lt r.placed (λ x e. ap (λ (y : T). number y % window) (sym (same_some item x e)) ∙ ap (λ (w : ℕ). number item % w) (sym r.wide));
+        placed = placed_set places window i (Some item) lt r.placed
+            (λ x e. ap (λ (y : T). number y % window) (sym (same_some item x e)) ∙ ap (λ (w : ℕ). number item % w)
+            (sym r.wide));
         same = λ f.
             let a = sum_by_push f arrived (number item) in
             let b = r.same f in
@@ -211,8 +243,10 @@ module _ {T : Type 0} (number : T → ℕ) where
       }
 
   -- the next item is released
-  pub released_more : (window released : ℕ) (arrived : List ℕ) (places : List (Option T)) (item : T) → 0 < length places → Row number window released arrived places
-      → slot_item places released ≡ Some item → number item ≡ released → Row number window (released + 1) arrived (with_slot_item places released None)
+  pub released_more : (window released : ℕ) (arrived : List ℕ) (places : List (Option T)) (item : T) → 0 < length places
+      → Row number window released arrived places
+      → slot_item places released ≡ Some item → number item ≡ released → Row number window (released + 1) arrived
+      (with_slot_item places released None)
   released_more window released arrived places item some r stands is =
       let i : ℕ = released % length places in
       let lt : i < length places = mod-lt released some in
@@ -229,31 +263,37 @@ module _ {T : Type 0} (number : T → ℕ) where
       }
 
   -- nothing is released
-  pub same_row : (window released : ℕ) (arrived : List ℕ) (places : List (Option T)) → Row number window released arrived places
+  pub same_row : (window released : ℕ) (arrived : List ℕ) (places : List (Option T))
+      → Row number window released arrived places
       → slot_item places released ≡ None → Row number window released arrived (with_slot_item places released None)
   same_row window released arrived places r free =
       let i : ℕ = released % length places in
-      let same : slice_set places i None ≡ places = ap (λ (o : Option T). slice_set places i o) (sym free) ∙ set-get_or places i None in
+      let same : slice_set places i None ≡ places = ap (λ (o : Option T). slice_set places i o) (sym free)
+      ∙ set-get_or places i None in
       subst (Row number window released arrived) (sym same) r
 
-  lacks_all : (places : List (Option T)) (n : ℕ) → ((k : ℕ) (item : T) → slice_index_or places k None ≡ Some item → number item ≢ n) → Lacks n (places_of places)
+  lacks_all : (places : List (Option T)) (n : ℕ) → ((k : ℕ) (item : T) → slice_index_or places k None ≡ Some item
+      → number item ≢ n) → Lacks n (places_of places)
   lacks_all [] n h = tt
   lacks_all (None ∷ places) n h = lacks_all places n (λ k. h (suc k))
   lacks_all (Some item ∷ places) n h = (h 0 item refl, lacks_all places n (λ k. h (suc k)))
 
   -- nothing is in the place of the next
-  pub next_is_missing : (window released : ℕ) (arrived : List ℕ) (places : List (Option T)) → Row number window released arrived places
+  pub next_is_missing : (window released : ℕ) (arrived : List ℕ) (places : List (Option T))
+      → Row number window released arrived places
       → slot_item places released ≡ None → IsWaiting released arrived
   next_is_missing window released arrived places r free = record {
     others = places_of places;
     same = r.same;
     lacks = lacks_all places released (λ k item e is.
-        let at : k ≡ released % length places = sym (r.placed k item e) ∙ (ap (λ (n : ℕ). n % window) is ∙ ap (λ (w : ℕ). released % w) (sym r.wide)) in
+        let at : k ≡ released % length places = sym (r.placed k item e)
+        ∙ (ap (λ (n : ℕ). n % window) is ∙ ap (λ (w : ℕ). released % w) (sym r.wide)) in
         none-some item (sym free ∙ (ap (λ (j : ℕ). slice_index_or places j None) (sym at) ∙ e)));
   }
 
   -- the place of the next has another
-  pub wrong_item : (window released : ℕ) (arrived : List ℕ) (places : List (Option T)) (item : T) → 0 < length places → Row number window released arrived places
+  pub wrong_item : (window released : ℕ) (arrived : List ℕ) (places : List (Option T)) (item : T) → 0 < length places
+      → Row number window released arrived places
       → slot_item places released ≡ Some item → number item ≢ released → Clash window released arrived
   wrong_item window released arrived places item some r stands other =
       let i : ℕ = released % length places in
@@ -270,7 +310,8 @@ module _ {T : Type 0} (number : T → ℕ) where
       other
 
   -- the place of an item is taken
-  pub taken_place : (window released : ℕ) (arrived : List ℕ) (places : List (Option T)) (item other : T) → 0 < length places → Row number window released arrived places
+  pub taken_place : (window released : ℕ) (arrived : List ℕ) (places : List (Option T)) (item other : T)
+      → 0 < length places → Row number window released arrived places
       → slot_item places (number item) ≡ Some other → Clash window released (arrived ++ number item ∷ [])
   taken_place window released arrived places item other some r stands =
       let i : ℕ = number item % length places in

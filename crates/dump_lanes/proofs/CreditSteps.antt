@@ -24,7 +24,8 @@ back_is_step : (free : ℕ) → IsStep free back_step (free + 1)
 back_is_step free = record { one_credit = refl; allowed = refl; share = refl }
 
 -- one step: the credits that were free and came are those that went and are free
-pub one_balance : (old new : ℕ) (m : Move) → put_by (event_of m) + taken_by (event_of m) ≡ 1 → IsTrue (credits_allow old (event_of m))
+pub one_balance : (old new : ℕ) (m : Move) → put_by (event_of m) + taken_by (event_of m) ≡ 1
+    → IsTrue (credits_allow old (event_of m))
     → new ≡ credits_share old (event_of m) → old + put_by (event_of m) ≡ taken_by (event_of m) + new
 one_balance old new move.Cut one may e = absurd (omega arith)
 one_balance old new move.CutMark one may e = absurd (omega arith)
@@ -45,7 +46,8 @@ balance first (s ∷ before) free h =
     let o = one_balance h.0 free s.event h.1.one_credit h.1.allowed h.1.share in omega arith
 
 -- where no credit was drawn and none came back, nothing happened
-nothing : (first : ℕ) (happened : List CreditStep) (free : ℕ) → AreSteps first happened free → drawn_in happened ≡ 0 → back_in happened ≡ 0 → happened ≡ []
+nothing : (first : ℕ) (happened : List CreditStep) (free : ℕ) → AreSteps first happened free → drawn_in happened ≡ 0
+    → back_in happened ≡ 0 → happened ≡ []
 nothing first [] free h d b = refl
 nothing first (s ∷ before) free h d b = let o = h.1.one_credit in absurd (omega arith)
 
@@ -76,12 +78,14 @@ module _ {T : Type 0} where
       let mine = h.fits pass v at in
       let d = mine.draws may_draw in
       let g = mine.gives may_give in
-      let none : h.happened ≡ [] = nothing h.first h.happened (length items) h.steps (sym d.1 ∙ none_drawn) (sym g.2 ∙ none_back) in
+      let none : h.happened ≡ [] = nothing h.first h.happened (length items) h.steps (sym d.1 ∙ none_drawn)
+      (sym g.2 ∙ none_back) in
       let opened : length items ≡ h.first = subst (λ l. AreSteps h.first l (length items)) none h.steps in
       let long : length (items ++ x ∷ []) ≡ h.first + 1 = let l = length_more items x in omega arith in
       let one : Fits h.cutter h.writer (h.first + 1) h.happened pass w =
       record { draws = λ p. d; gives = λ p. (g.0, ap (λ k. k + 1) g.1, g.2); knows = mine.knows } in
-      let others : (j : ℕ) (u : Purse) → j ≢ pass → get_elem? views j ≡ some u → Fits h.cutter h.writer (h.first + 1) h.happened j u =
+      let others : (j : ℕ) (u : Purse) → j ≢ pass → get_elem? views j ≡ some u
+      → Fits h.cutter h.writer (h.first + 1) h.happened j u =
       λ j u other e.
       let f = h.fits j u e in
       record { draws = f.draws; gives = λ p. absurd (other ((f.gives p).0 ∙ sym g.0)); knows = f.knows } in
@@ -108,7 +112,8 @@ module _ {T : Type 0} where
         gives = λ p. let g = mine.gives p in (g.0, g.1, let e = g.2 in omega arith);
         knows = knows_step owner h.happened pass v.steps draw_step owns mine.knows;
       } in
-      let others : (j : ℕ) (u : Purse) → j ≢ pass → get_elem? views j ≡ some u → Fits h.cutter h.writer h.first happened j u =
+      let others : (j : ℕ) (u : Purse) → j ≢ pass → get_elem? views j ≡ some u
+      → Fits h.cutter h.writer h.first happened j u =
       λ j u other e.
       let f = h.fits j u e in record {
         draws = λ p. absurd (other ((f.draws p).0 ∙ sym d.0));
@@ -125,7 +130,8 @@ module _ {T : Type 0} where
       } in (w, after, refl)
 
   -- a credit is given back
-  pub gives : (n pass : ℕ) (v : Purse) (x : T) → v.gives ≡ true → Pushes IsCreditQueue n pass v x (λ w. w ≡ after_back v)
+  pub gives : (n pass : ℕ) (v : Purse) (x : T) → v.gives ≡ true → Pushes IsCreditQueue n pass v x
+      (λ w. w ≡ after_back v)
   gives n pass v x may items views room h at =
       let w : Purse = after_back v in
       let mine = h.fits pass v at in
@@ -138,7 +144,8 @@ module _ {T : Type 0} where
         gives = λ p. (g.0, g.1, ap (λ k. k + 1) g.2);
         knows = knows_step owner h.happened pass v.steps back_step owns mine.knows;
       } in
-      let others : (j : ℕ) (u : Purse) → j ≢ pass → get_elem? views j ≡ some u → Fits h.cutter h.writer h.first happened j u =
+      let others : (j : ℕ) (u : Purse) → j ≢ pass → get_elem? views j ≡ some u
+      → Fits h.cutter h.writer h.first happened j u =
       λ j u other e.
       let f = h.fits j u e in record {
         draws = λ p. let d = f.draws p in (d.0, let e = d.1 in omega arith);
@@ -150,7 +157,12 @@ module _ {T : Type 0} where
         writer = h.writer;
         first = h.first;
         happened = happened;
-        steps = (length items, subst (IsStep (length items) back_step) (sym (length_more items x)) (back_is_step (length items)), h.steps);
+        steps = (
+          length items,
+          subst (IsStep (length items) back_step) (sym (length_more items x))
+              (back_is_step (length items)),
+          h.steps,
+        );
         fits = AllViews-set (Fits h.cutter h.writer h.first happened) views pass w one others;
       } in (w, after, refl)
 
@@ -163,13 +175,15 @@ module _ {T : Type 0} where
       let mine = h.fits pass v at in
       let d = mine.draws may_draw in
       let g = mine.gives may_give in
-      let none : h.happened ≡ [] = nothing h.first h.happened (length items) h.steps (sym d.1 ∙ none_drawn) (sym g.2 ∙ none_back) in
+      let none : h.happened ≡ [] = nothing h.first h.happened (length items) h.steps (sym d.1 ∙ none_drawn)
+      (sym g.2 ∙ none_back) in
       let unwritten : steps_of Thread.Writer h.happened ≡ [] = ap (steps_of Thread.Writer) none in
       let cut : List Purse = set views pass left in
       let long = set_long views pass left in
       let here = within views pass v at in
       let apart : pass ≢ length cut = λ e. absurd (omega arith) in
-      let both : (j : ℕ) (u : Purse) → Knows (two_owners h.cutter h.writer) h.happened j u.steps → Knows (two_owners pass pass) h.happened j u.steps =
+      let both : (j : ℕ) (u : Purse) → Knows (two_owners h.cutter h.writer) h.happened j u.steps
+      → Knows (two_owners pass pass) h.happened j u.steps =
       λ j u k. subst (λ (y : ℕ × ℕ). Knows (two_owners y.0 y.1) h.happened j u.steps) (λ i. (sym d.0 i, sym g.0 i)) k in
       let Now : ℕ → Purse → Type 0 = Fits pass (length cut) h.first h.happened in
       let one : Now pass left = record {
@@ -211,14 +225,16 @@ module _ {T : Type 0} where
       let theirs = h.fits other u was in
       let d = mine.draws may_draw in
       let g = theirs.gives may_give in
-      let those : (j : ℕ) (y : Purse) → Knows (two_owners h.cutter h.writer) h.happened j y.steps → Knows (two_owners pass other) h.happened j y.steps =
+      let those : (j : ℕ) (y : Purse) → Knows (two_owners h.cutter h.writer) h.happened j y.steps
+      → Knows (two_owners pass other) h.happened j y.steps =
       λ j y k. subst (λ (z : ℕ × ℕ). Knows (two_owners z.0 z.1) h.happened j y.steps) (λ i. (sym d.0 i, sym g.0 i)) k in
       let Now : ℕ → Purse → Type 0 = Fits pass pass h.first h.happened in
       let NowElse : ℕ → Purse → Type 0 = λ j y. j ≢ other → Now j y in
       let here : NowElse pass both = λ apart. record {
         draws = λ p. (refl, d.1);
         gives = λ p. (refl, g.1, g.2);
-        knows = join_both h.happened pass other two v.steps u.steps (those pass v mine.knows) (those other u theirs.knows);
+        knows = join_both h.happened pass other two v.steps u.steps (those pass v mine.knows)
+            (those other u theirs.knows);
       } in
       let others : (j : ℕ) (y : Purse) → j ≢ pass → get_elem? views j ≡ some y → NowElse j y =
       λ j y away e apart.
@@ -250,7 +266,8 @@ module _ {T : Type 0} where
       let d = mine.draws may_draw in
       let g = mine.gives may_give in
       let all : Knows (two_owners pass pass) h.happened pass v.steps =
-      subst (λ (z : ℕ × ℕ). Knows (two_owners z.0 z.1) h.happened pass v.steps) (λ i. (sym d.0 i, sym g.0 i)) mine.knows in
+      subst (λ (z : ℕ × ℕ). Knows (two_owners z.0 z.1) h.happened pass v.steps)
+      (λ i. (sym d.0 i, sym g.0 i)) mine.knows in
       let knows : KnowsSteps v (length items) = record {
         happened = h.happened;
         steps = subst (λ n. AreSteps n h.happened (length items)) (sym g.1) h.steps;

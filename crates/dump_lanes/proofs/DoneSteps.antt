@@ -33,14 +33,18 @@ module _ {T : Type 0} where
   abbrev put_by : (Note T → ℕ) → Desk T → ℕ
   put_by weight v = sum_by weight v.put
 
-  notes_own : (worker : ℕ) (log : List (Note T)) (x : Note T) → x.from ≡ worker → notes_of worker (log ++ x ∷ []) ≡ notes_of worker log ++ x ∷ []
+  notes_own : (worker : ℕ) (log : List (Note T)) (x : Note T) → x.from ≡ worker
+      → notes_of worker (log ++ x ∷ []) ≡ notes_of worker log ++ x ∷ []
   notes_own worker log x e =
-      filter-append (λ (n : Note T). n.from == worker) log (x ∷ []) ∙ ap (λ b. notes_of worker log ++ cond b (x ∷ []) []) (eq-eqb x.from worker e)
+      filter-append (λ (n : Note T). n.from == worker) log (x ∷ [])
+      ∙ ap (λ b. notes_of worker log ++ cond b (x ∷ []) []) (eq-eqb x.from worker e)
 
-  notes_other : (worker : ℕ) (log : List (Note T)) (x : Note T) → x.from ≢ worker → notes_of worker (log ++ x ∷ []) ≡ notes_of worker log
+  notes_other : (worker : ℕ) (log : List (Note T)) (x : Note T) → x.from ≢ worker
+      → notes_of worker (log ++ x ∷ []) ≡ notes_of worker log
   notes_other worker log x ne =
       filter-append (λ (n : Note T). n.from == worker) log (x ∷ [])
-      ∙ (ap (λ b. notes_of worker log ++ cond b (x ∷ []) []) (ne_eqb x.from worker ne) ∙ append-nil (notes_of worker log))
+      ∙ (ap (λ b. notes_of worker log ++ cond b (x ∷ []) []) (ne_eqb x.from worker ne)
+      ∙ append-nil (notes_of worker log))
 
   -- a worker's step, and the sequencer's, is the dones' share of its event
   give_one : (x : Note T) → cond (x.from == x.from) (x ∷ []) [] ≡ x ∷ []
@@ -112,25 +116,47 @@ module _ {T : Type 0} where
         to_come = λ e. absurd (true≢false (sym e));
         spends = my.spends;
       } in
-      let own_others : (j : ℕ) (u : Desk T) → j ≢ pass → get_elem? views j ≡ some u → Owns h.owner (s ∷ h.happened) j u =
+      let own_others : (j : ℕ) (u : Desk T) → j ≢ pass → get_elem? views j ≡ some u
+      → Owns h.owner (s ∷ h.happened) j u =
       λ j u apart e.
       let f = h.owns j u e in
-      record { knows = knows_else h.owner h.happened j u.steps s (λ o. apart (sym o ∙ owns)) f.knows; sends = f.sends; gets = f.gets; to_come = f.to_come; spends = f.spends } in
+      record {
+        knows = knows_else h.owner h.happened j u.steps s
+            (λ o. apart
+            (sym o ∙ owns)) f.knows;
+        sends = f.sends;
+        gets = f.gets;
+        to_come = f.to_come;
+        spends = f.spends;
+      } in
       let other_notes : (k : ℕ) → h.seat k ≢ some pass → notes_of k log ≡ notes_of k h.log =
       λ k no. notes_other k h.log x (λ e. no (ap h.seat (sym e ∙ from) ∙ mine.seated)) in
       let still_gone : (k : ℕ) (put : List (Note T)) → IsGone h.seat h.log k put → IsGone h.seat log k put =
-      λ k put g. record { unseated = g.unseated; put_is = g.put_is ∙ sym (other_notes k (λ t. some-ne-none pass (sym t ∙ g.unseated))) } in
+      λ k put g. record {
+        unseated = g.unseated;
+        put_is = g.put_is
+            ∙ sym (other_notes k (λ t. some-ne-none pass (sym t ∙ g.unseated)));
+      } in
       let one : Fits h.seat log h.sequencer h.got pass w = record {
-        sends = λ s. record { seated = mine.seated; put = ap (λ l. l ++ x ∷ []) mine.put ∙ sym (notes_own v.from h.log x from) };
+        sends = λ s. record {
+          seated = mine.seated;
+          put = ap (λ l. l ++ x ∷ []) mine.put
+              ∙ sym (notes_own v.from h.log x from);
+        };
         gets = λ g. absurd (true≢false (sym g));
         spends = λ no. absurd (omega arith);
       } in
-      let others : (j : ℕ) (u : Desk T) → j ≢ pass → get_elem? views j ≡ some u → Fits h.seat log h.sequencer h.got j u =
+      let others : (j : ℕ) (u : Desk T) → j ≢ pass → get_elem? views j ≡ some u
+      → Fits h.seat log h.sequencer h.got j u =
       λ j u apart e.
       let f = h.fits j u e in record {
         sends = λ s.
             let k = f.sends s in
-            record { seated = k.seated; put = k.put ∙ sym (other_notes u.from (λ t. apart (some-injective j pass (sym k.seated ∙ t)))) };
+            record {
+              seated = k.seated;
+              put = k.put
+                  ∙ sym (other_notes u.from (λ t. apart (some-injective j pass (sym k.seated ∙ t))));
+            };
         gets = λ g.
             let r = f.gets g in record {
               seated = r.seated;
@@ -176,19 +202,36 @@ module _ {T : Type 0} where
         knows = knows_step h.owner h.happened pass v.steps s owns my.knows;
         sends = λ e. absurd (true≢false (sym e));
         gets = λ e. owns;
-        to_come = λ e k le. let z = my.to_come may k le in (z.0, step_other (Thread.Worker k) s v.steps (worker_not_sequencer k) ∙ z.1);
+        to_come = λ e k le. let z = my.to_come may k le in
+            (z.0, step_other (Thread.Worker k) s v.steps (worker_not_sequencer k) ∙ z.1);
         spends = my.spends;
       } in
-      let own_others : (j : ℕ) (u : Desk T) → j ≢ pass → get_elem? views j ≡ some u → Owns h.owner (s ∷ h.happened) j u =
+      let own_others : (j : ℕ) (u : Desk T) → j ≢ pass → get_elem? views j ≡ some u
+      → Owns h.owner (s ∷ h.happened) j u =
       λ j u apart e.
       let f = h.owns j u e in
-      record { knows = knows_else h.owner h.happened j u.steps s (λ o. apart (sym o ∙ owns)) f.knows; sends = f.sends; gets = f.gets; to_come = f.to_come; spends = f.spends } in
+      record {
+        knows = knows_else h.owner h.happened j u.steps s
+            (λ o. apart
+            (sym o ∙ owns)) f.knows;
+        sends = f.sends;
+        gets = f.gets;
+        to_come = f.to_come;
+        spends = f.spends;
+      } in
       let one : Fits h.seat h.log h.sequencer got pass w = record {
         sends = λ s. absurd (true≢false (sym s));
-        gets = λ g. record { seated = mine.seated; got_is = ap (λ l. l ++ x ∷ []) mine.got_is; to_come = mine.to_come; knows = mine.knows };
+        gets = λ g. record {
+          seated = mine.seated;
+          got_is = ap
+              (λ l. l ++ x ∷ []) mine.got_is;
+          to_come = mine.to_come;
+          knows = mine.knows;
+        };
         spends = λ no. absurd (omega arith);
       } in
-      let others : (j : ℕ) (u : Desk T) → j ≢ pass → get_elem? views j ≡ some u → Fits h.seat h.log h.sequencer got j u =
+      let others : (j : ℕ) (u : Desk T) → j ≢ pass → get_elem? views j ≡ some u
+      → Fits h.seat h.log h.sequencer got j u =
       λ j u apart e.
       let f = h.fits j u e in
       record { sends = f.sends; gets = λ g. absurd (apart ((f.gets g).seated ∙ sym mine.seated)); spends = f.spends } in
@@ -219,8 +262,10 @@ module _ {T : Type 0} where
       let cut : List (Desk T) = set views pass left in
       let mine = (h.fits pass v at).gets may in
       let seat : ℕ → Option ℕ = λ k. cond (k == v.made) (some (length cut)) (h.seat k) in
-      let others_stay : (k : ℕ) → k ≢ v.made → seat k ≡ h.seat k = λ k ne. ap (λ b. cond b (some (length cut)) (h.seat k)) (ne_eqb k v.made ne) in
-      let new : seat v.made ≡ some (length cut) = ap (λ b. cond b (some (length cut)) (h.seat v.made)) (eq-eqb v.made v.made refl) in
+      let others_stay : (k : ℕ) → k ≢ v.made → seat k ≡ h.seat k = λ k ne. ap
+      (λ b. cond b (some (length cut)) (h.seat k)) (ne_eqb k v.made ne) in
+      let new : seat v.made ≡ some (length cut) = ap (λ b. cond b (some (length cut)) (h.seat v.made))
+      (eq-eqb v.made v.made refl) in
       let free = mine.to_come v.made (omega arith) in
       let my = h.owns pass v at in
       let long = set_long views pass left in
@@ -228,12 +273,17 @@ module _ {T : Type 0} where
       let owner : Thread → ℕ = forked h.owner v.made (length cut) in
       let next = my.to_come may v.made (omega arith) in
       let own_one : Owns owner h.happened pass left = record {
-        knows = knows_fork_left h.owner h.happened pass v.made (length cut) v.steps (λ e. absurd (omega arith)) next.1 my.knows;
+        knows = knows_fork_left h.owner h.happened pass v.made (length cut) v.steps
+            (λ e. absurd (omega arith)) next.1 my.knows;
         sends = λ e. absurd (true≢false (sym e));
-        gets = λ e. forked_stays h.owner v.made (length cut) Thread.Sequencer (λ e. worker_not_sequencer v.made (sym e)) ∙ my.gets may;
+        gets = λ e. forked_stays h.owner v.made (length cut) Thread.Sequencer (λ e. worker_not_sequencer v.made (sym e))
+            ∙ my.gets may;
         to_come = λ e k le.
-            let z = my.to_come may k (omega arith) in
-            (ap (λ b. cond b (length cut) (h.owner (Thread.Worker k))) (ne_eqb v.made k (λ e. absurd (omega arith))) ∙ z.0, z.1);
+            let z = my.to_come may k (omega arith) in (
+              ap (λ b. cond b (length cut) (h.owner (Thread.Worker k))) (ne_eqb v.made k (λ e. absurd (omega arith)))
+                  ∙ z.0,
+              z.1,
+            );
         spends = λ none. absurd (omega arith);
       } in
       let own_others : (j : ℕ) (u : Desk T) → j ≢ pass → get_elem? views j ≡ some u → Owns owner h.happened j u =
@@ -249,13 +299,15 @@ module _ {T : Type 0} where
         spends = λ none t o. f.spends none t (forked_had h.owner v.made (length cut) t j old o);
       } in
       let own_new : Owns owner h.happened (length cut) right = record {
-        knows = knows_fork_new h.owner h.happened v.made (length cut) (λ t e. let o = h.owned t in absurd (omega arith)) (sym (my.knows.own (Thread.Worker v.made) next.0) ∙ next.1);
+        knows = knows_fork_new h.owner h.happened v.made (length cut) (λ t e. let o = h.owned t in absurd (omega arith))
+            (sym (my.knows.own (Thread.Worker v.made) next.0) ∙ next.1);
         sends = λ e. forked_goes h.owner v.made (length cut);
         gets = λ e. absurd (true≢false (sym e));
         to_come = λ e. absurd (true≢false (sym e));
         spends = λ none. absurd (omega arith);
       } in
-      let still_gone : (k : ℕ) (put : List (Note T)) → k ≢ v.made → IsGone h.seat h.log k put → IsGone seat h.log k put =
+      let still_gone : (k : ℕ) (put : List (Note T)) → k ≢ v.made → IsGone h.seat h.log k put
+      → IsGone seat h.log k put =
       λ k put ne g. record { unseated = others_stay k ne ∙ g.unseated; put_is = g.put_is } in
       let one : Fits seat h.log h.sequencer h.got pass left = record {
         sends = λ s. absurd (true≢false (sym s));
@@ -269,7 +321,8 @@ module _ {T : Type 0} where
         };
         spends = λ no. absurd (omega arith);
       } in
-      let others : (j : ℕ) (u : Desk T) → j ≢ pass → get_elem? views j ≡ some u → Fits seat h.log h.sequencer h.got j u =
+      let others : (j : ℕ) (u : Desk T) → j ≢ pass → get_elem? views j ≡ some u
+      → Fits seat h.log h.sequencer h.got j u =
       λ j u apart e.
       let f = h.fits j u e in record {
         sends = λ s.
@@ -299,9 +352,14 @@ module _ {T : Type 0} where
         owned = λ t.
             let o = h.owned t in
             let a = length-append cut (right ∷ []) in
-            ⊎_elim (λ (y : (t ≡ Thread.Worker v.made) × (is_thread (Thread.Worker v.made) t ≡ true)). let g = forked_to h.owner v.made (length cut) t y.0 in omega arith)
-            (λ (y : (t ≢ Thread.Worker v.made) × (is_thread (Thread.Worker v.made) t ≡ false)). let k = forked_stays h.owner v.made (length cut) t y.0 in omega arith) (worker_or_other v.made t);
-        owns = AllViews-more (Owns owner h.happened) cut right (AllViews-set (Owns owner h.happened) views pass left own_one own_others) own_new;
+            ⊎_elim (λ (y : (t ≡ Thread.Worker v.made)
+            × (is_thread (Thread.Worker v.made) t ≡ true)). let g = forked_to h.owner v.made
+            (length cut) t y.0 in omega arith)
+            (λ (y : (t ≢ Thread.Worker v.made) × (is_thread
+            (Thread.Worker v.made) t ≡ false)). let k = forked_stays h.owner v.made
+            (length cut) t y.0 in omega arith) (worker_or_other v.made t);
+        owns = AllViews-more (Owns owner h.happened) cut right
+            (AllViews-set (Owns owner h.happened) views pass left own_one own_others) own_new;
         parts = let s = sum_by-set parts_of views pass v left at in let p = h.parts in let a = sum_by_push parts_of cut right in omega arith;
         put = λ weight.
             let s = sum_by-set (put_by weight) views pass v left at in
@@ -335,7 +393,8 @@ module _ {T : Type 0} where
             );
         spends = λ none. absurd (omega arith);
       } in
-      let own_else : (j : ℕ) (y : Desk T) → j ≢ pass → get_elem? views j ≡ some y → j ≢ other → Owns owner h.happened j y =
+      let own_else : (j : ℕ) (y : Desk T) → j ≢ pass → get_elem? views j ≡ some y → j ≢ other
+      → Owns owner h.happened j y =
       λ j y apart e away.
       let f = h.owns j y e in record {
         knows = knows_join_else h.owner h.happened pass other two j y.steps apart away f.knows;
@@ -354,14 +413,18 @@ module _ {T : Type 0} where
         spends = λ none t. joined_left h.owner pass other two t;
       } in
       let seat : ℕ → Option ℕ = λ k. cond (k == u.from) none (h.seat k) in
-      let none_stays : (k : ℕ) → h.seat k ≡ none → seat k ≡ none = λ k e. ap (cond (k == u.from) none) e ∙ same_either_way (k == u.from) none in
-      let others_stay : (k : ℕ) → k ≢ u.from → seat k ≡ h.seat k = λ k ne. ap (λ b. cond b none (h.seat k)) (ne_eqb k u.from ne) in
+      let none_stays : (k : ℕ) → h.seat k ≡ none → seat k ≡ none = λ k e. ap (cond (k == u.from) none) e
+      ∙ same_either_way (k == u.from) none in
+      let others_stay : (k : ℕ) → k ≢ u.from → seat k ≡ h.seat k = λ k ne. ap (λ b. cond b none (h.seat k))
+      (ne_eqb k u.from ne) in
       let left : seat u.from ≡ none = ap (λ b. cond b none (h.seat u.from)) (eq-eqb u.from u.from refl) in
       let below : u.from < v.made =
-      dite (dec_le v.made u.from) (λ le. absurd (some-ne-none other (sym theirs.seated ∙ (mine.to_come u.from le).unseated))) (λ no. lt_of_not-le no) in
+      dite (dec_le v.made u.from) (λ le. absurd (some-ne-none other
+      (sym theirs.seated ∙ (mine.to_come u.from le).unseated))) (λ no. lt_of_not-le no) in
       let still_gone : (k : ℕ) (put : List (Note T)) → IsGone h.seat h.log k put → IsGone seat h.log k put =
       λ k put g. record { unseated = none_stays k g.unseated; put_is = g.put_is } in
-      let new : (u.from < v.made) × IsGone seat h.log u.from u.put = (below, record { unseated = left; put_is = theirs.put }) in
+      let new : (u.from < v.made) × IsGone seat h.log u.from u.put =
+      (below, record { unseated = left; put_is = theirs.put }) in
       let Now : ℕ → Desk T → Type 0 = Fits seat h.log h.sequencer h.got in
       let NowElse : ℕ → Desk T → Type 0 = λ j y. j ≢ other → Now j y in
       let here : NowElse pass both = λ apart. record {
@@ -371,7 +434,8 @@ module _ {T : Type 0} where
           got_is = mine.got_is;
           to_come = λ k le. still_gone k [] (mine.to_come k le);
           knows = λ i k put a. ⊎_elim (λ b. let z = mine.knows i k put b in (z.0, still_gone k put z.1))
-              (λ (b : (u.from, u.put) ≡ (k, put)). subst (λ (p : ℕ × List (Note T)). (p.0 < v.made) × IsGone seat h.log p.0 p.1) b new)
+              (λ (b : (u.from, u.put) ≡ (k, put)). subst
+              (λ (p : ℕ × List (Note T)). (p.0 < v.made) × IsGone seat h.log p.0 p.1) b new)
               (at_snoc v.known (u.from, u.put) (k, put) i a);
         };
         spends = λ no. absurd (omega arith);
@@ -381,13 +445,19 @@ module _ {T : Type 0} where
       let f = h.fits j y e in record {
         sends = λ s.
             let k = f.sends s in
-            let ne : y.from ≢ u.from = λ same. away (some-injective j other (sym k.seated ∙ (ap h.seat same ∙ theirs.seated))) in
+            let ne : y.from ≢ u.from = λ same. away
+            (some-injective j other (sym k.seated ∙ (ap h.seat same ∙ theirs.seated))) in
             record { seated = others_stay y.from ne ∙ k.seated; put = k.put };
         gets = λ g. absurd (apart ((f.gets g).seated ∙ sym mine.seated));
         spends = f.spends;
       } in
       let now : AllViews NowElse joined = AllViews-set NowElse views pass both here others in
-      let gone : Now other spent = record { sends = λ s. absurd (true≢false (sym s)); gets = λ s. absurd (true≢false (sym s)); spends = λ e. refl } in
+      let gone : Now other spent = record {
+        sends = λ s. absurd (true≢false (sym s));
+        gets = λ s. absurd
+            (true≢false (sym s));
+        spends = λ e. refl;
+      } in
       record {
         sequencer = h.sequencer;
         seat = seat;
@@ -404,7 +474,8 @@ module _ {T : Type 0} where
             let a = set_long views pass both in
             let b = set_long joined other spent in
             let p = within views pass v at in
-            dite (ℕ_discrete (h.owner t) other) (λ k. let e = joined_comes h.owner pass other two t k in omega arith) (λ ne. let e = joined_stays h.owner pass other two t ne in omega arith);
+            dite (ℕ_discrete (h.owner t) other) (λ k. let e = joined_comes h.owner pass other two t k in omega arith)
+            (λ ne. let e = joined_stays h.owner pass other two t ne in omega arith);
         owns = AllViews-set (Owns owner h.happened) joined other spent own_gone (λ j y apart e. own_now j y e apart);
         parts = let s = sum_by-set parts_of views pass v both at in let t = sum_by-set parts_of joined other u spent at' in let p = h.parts in omega arith;
         put = λ weight.
@@ -416,14 +487,16 @@ module _ {T : Type 0} where
       }
 
   -- where a pass has all parts, the others have none
-  alone : (views : List (Desk T)) (pass j : ℕ) (v u : Desk T) → get_elem? views pass ≡ some v → get_elem? views j ≡ some u → j ≢ pass
+  alone : (views : List (Desk T)) (pass j : ℕ) (v u : Desk T) → get_elem? views pass ≡ some v
+      → get_elem? views j ≡ some u → j ≢ pass
       → sum_by parts_of views ≡ v.parts → u.parts ≡ 0
   alone views pass j v u at e ne all =
       let s = sum_by-set parts_of views pass v spent at in
       let l = sum_by-least parts_of (set views pass spent) j u (set_else views pass j spent ne ∙ e) in omega arith
 
   -- a pass that takes and has all parts learns what was put and what is left, and of each thread it knows all steps
-  pub learns : (pass : ℕ) (v : Desk T) → v.gets ≡ true → v.parts ≡ 128 → Learns IsDoneQueue pass v (λ items. IsWhole v items × KnowsSteps v items)
+  pub learns : (pass : ℕ) (v : Desk T) → v.gets ≡ true → v.parts ≡ 128
+      → Learns IsDoneQueue pass v (λ items. IsWhole v items × KnowsSteps v items)
   learns pass v may all items views h at =
       let mine = (h.fits pass v at).gets may in
       let idle : (weight : Note T → ℕ) → AllViews (λ pass u. u.parts ≡ 0 → put_by weight u ≡ 0) views =
@@ -442,7 +515,8 @@ module _ {T : Type 0} where
       let whole : IsWhole v items = record {
         log = h.log;
         in_order = h.in_order ∙ ap (λ l. l ++ items) (sym mine.got_is);
-        weighs = λ weight. sym (sum_by-alone parts_of (put_by weight) views pass v (idle weight) at (h.parts ∙ sym all)) ∙ h.put weight;
+        weighs = λ weight. sym (sum_by-alone parts_of (put_by weight) views pass v (idle weight) at (h.parts ∙ sym all))
+            ∙ h.put weight;
         to_come = λ k le. sym (mine.to_come k le).put_is;
         knows = λ i k put a. (mine.knows i k put a).1.put_is;
       } in (whole, knows)

@@ -11,22 +11,28 @@ other_number : (k worker : ℕ) → Thread.Worker k ≢ Thread.Worker worker →
 other_number k worker h e = h (ap Thread.Worker e)
 
 -- a worker that takes a job
-take_leaves : (w : World) (worker : ℕ) (jobs : List Entry) (other : Thread) → other ≢ Thread.Worker worker → IsSameFor other w (taken_by w worker jobs)
+take_leaves : (w : World) (worker : ℕ) (jobs : List Entry) (other : Thread) → other ≢ Thread.Worker worker
+    → IsSameFor other w (taken_by w worker jobs)
 take_leaves w worker [] Thread.Cutter h = (refl, refl, refl, refl, refl)
 take_leaves w worker [] (Thread.Worker k) h = (refl, refl)
 take_leaves w worker [] Thread.Sequencer h = (refl, refl, refl, refl)
 take_leaves w worker [] Thread.Writer h = (refl, refl, refl)
 take_leaves w worker (Entry.Item n ∷ rest) Thread.Cutter h = (refl, refl, refl, refl, refl)
-take_leaves w worker (Entry.Item n ∷ rest) (Thread.Worker k) h = (get_or-set_other w.hands worker k (Some (Entry.Item n)) None (other_number k worker h), refl)
+take_leaves w worker (Entry.Item n ∷ rest) (Thread.Worker k) h =
+    (get_or-set_other w.hands worker k (Some (Entry.Item n)) None (other_number k worker h), refl)
 take_leaves w worker (Entry.Item n ∷ rest) Thread.Sequencer h = (refl, refl, refl, refl)
 take_leaves w worker (Entry.Item n ∷ rest) Thread.Writer h = (refl, refl, refl)
 take_leaves w worker (Entry.Mark ∷ rest) Thread.Cutter h = (refl, refl, refl, refl, refl)
-take_leaves w worker (Entry.Mark ∷ rest) (Thread.Worker k) h = (get_or-set_other w.hands worker k (Some Entry.Mark) None (other_number k worker h), get_or-set_other w.marks_taken worker k true false (other_number k worker h))
+take_leaves w worker (Entry.Mark ∷ rest) (Thread.Worker k) h = (
+  get_or-set_other w.hands worker k (Some Entry.Mark) None (other_number k worker h),
+  get_or-set_other w.marks_taken worker k true false (other_number k worker h),
+)
 take_leaves w worker (Entry.Mark ∷ rest) Thread.Sequencer h = (refl, refl, refl, refl)
 take_leaves w worker (Entry.Mark ∷ rest) Thread.Writer h = (refl, refl, refl)
 
 -- the sequencer that takes a done
-arrive_leaves : (size : PoolSize) (w : World) (dones : List Entry) (other : Thread) → other ≢ Thread.Sequencer → IsSameFor other w (arrived size w dones)
+arrive_leaves : (size : PoolSize) (w : World) (dones : List Entry) (other : Thread) → other ≢ Thread.Sequencer
+    → IsSameFor other w (arrived size w dones)
 arrive_leaves size w [] Thread.Cutter h = (refl, refl, refl, refl, refl)
 arrive_leaves size w [] (Thread.Worker k) h = (refl, refl)
 arrive_leaves size w [] Thread.Sequencer h = absurd (h refl)
@@ -41,7 +47,8 @@ arrive_leaves size w (Entry.Mark ∷ rest) Thread.Sequencer h = absurd (h refl)
 arrive_leaves size w (Entry.Mark ∷ rest) Thread.Writer h = (refl, refl, refl)
 
 -- the writer that takes a piece
-write_leaves : (w : World) (lane : List ℕ) (other : Thread) → other ≢ Thread.Writer → IsSameFor other w (written_next w lane)
+write_leaves : (w : World) (lane : List ℕ) (other : Thread) → other ≢ Thread.Writer
+    → IsSameFor other w (written_next w lane)
 write_leaves w [] Thread.Cutter h = (refl, refl, refl, refl, refl)
 write_leaves w [] (Thread.Worker k) h = (refl, refl)
 write_leaves w [] Thread.Sequencer h = (refl, refl, refl, refl)
@@ -67,7 +74,8 @@ leaves size w Event.CutMark Thread.Sequencer h = (refl, refl, refl, refl)
 leaves size w Event.CutMark Thread.Writer h = (refl, refl, refl)
 leaves size w (Event.Take worker) other h = take_leaves w worker w.jobs other h
 leaves size w (Event.Put worker) Thread.Cutter h = (refl, refl, refl, refl, refl)
-leaves size w (Event.Put worker) (Thread.Worker k) h = (get_or-set_other w.hands worker k None None (other_number k worker h), refl)
+leaves size w (Event.Put worker) (Thread.Worker k) h =
+    (get_or-set_other w.hands worker k None None (other_number k worker h), refl)
 leaves size w (Event.Put worker) Thread.Sequencer h = (refl, refl, refl, refl)
 leaves size w (Event.Put worker) Thread.Writer h = (refl, refl, refl)
 leaves size w Event.Arrive other h = arrive_leaves size w w.dones other h
@@ -117,10 +125,23 @@ first false b h = cc
 
 -- an event that may happen is allowed by each part
 pub allows : (size : PoolSize) (w : World) (event : Event) → IsTrue (is_enabled size w event) → PartsAllow w event
-allows size w Event.Draw h = record { credits = second (not w.cutter_ended && not w.holds_credit) _ h; jobs = refl; dones = refl; lane = refl }
+allows size w Event.Draw h = record {
+  credits = second
+      (not w.cutter_ended && not w.holds_credit) _ h;
+  jobs = refl;
+  dones = refl;
+  lane = refl;
+}
 allows size w (Event.Cut last) h = record { credits = refl; jobs = refl; dones = refl; lane = refl }
 allows size w Event.CutMark h = record { credits = refl; jobs = refl; dones = refl; lane = refl }
-allows size w (Event.Take worker) h = record { credits = refl; jobs = second (nat_lt worker size.workers && is_none (hand_of w worker) && not (slice_index_or w.marks_taken worker false)) _ h; dones = refl; lane = refl }
+allows size w (Event.Take worker) h = record {
+  credits = refl;
+  jobs = second
+      (nat_lt worker size.workers && is_none (hand_of w worker) && not
+      (slice_index_or w.marks_taken worker false)) _ h;
+  dones = refl;
+  lane = refl;
+}
 allows size w (Event.Put worker) h = record { credits = refl; jobs = refl; dones = refl; lane = refl }
 allows size w Event.Arrive h = record { credits = refl; jobs = refl; dones = h; lane = refl }
 allows size w Event.SequencerNotes h = record { credits = refl; jobs = refl; dones = refl; lane = refl }

@@ -13,9 +13,30 @@ record TakesJob (w v : World) : Type 0 where
   stop : v.stop_up ≡ w.stop_up
 
 takes : (w : World) (worker : ℕ) (jobs : List Entry) → w.jobs ≡ jobs → TakesJob w (taken_by w worker jobs)
-takes w worker [] e = record { credits = refl; jobs = e ∙ ap (λ (xs : List Entry). drop 1 xs) (sym e); dones = refl; lane = refl; stop = refl }
-takes w worker (Entry.Item n ∷ rest) e = record { credits = refl; jobs = ap (λ (xs : List Entry). drop 1 xs) (sym e); dones = refl; lane = refl; stop = refl }
-takes w worker (Entry.Mark ∷ rest) e = record { credits = refl; jobs = ap (λ (xs : List Entry). drop 1 xs) (sym e); dones = refl; lane = refl; stop = refl }
+takes w worker [] e = record {
+  credits = refl;
+  jobs = e ∙ ap (λ (xs : List Entry). drop 1 xs)
+      (sym e);
+  dones = refl;
+  lane = refl;
+  stop = refl;
+}
+takes w worker (Entry.Item n ∷ rest) e = record {
+  credits = refl;
+  jobs = ap (λ (xs : List Entry). drop 1 xs)
+      (sym e);
+  dones = refl;
+  lane = refl;
+  stop = refl;
+}
+takes w worker (Entry.Mark ∷ rest) e = record {
+  credits = refl;
+  jobs = ap (λ (xs : List Entry). drop 1 xs)
+      (sym e);
+  dones = refl;
+  lane = refl;
+  stop = refl;
+}
 
 record TakesDone (w v : World) : Type 0 where
   credits : v.credits ≡ w.credits
@@ -25,9 +46,30 @@ record TakesDone (w v : World) : Type 0 where
   stop : v.stop_up ≡ w.stop_up
 
 arrives : (size : PoolSize) (w : World) (dones : List Entry) → w.dones ≡ dones → TakesDone w (arrived size w dones)
-arrives size w [] e = record { credits = refl; jobs = refl; dones = e ∙ ap (λ (xs : List Entry). drop 1 xs) (sym e); lane = refl; stop = refl }
-arrives size w (Entry.Item n ∷ rest) e = record { credits = refl; jobs = refl; dones = ap (λ (xs : List Entry). drop 1 xs) (sym e); lane = refl; stop = refl }
-arrives size w (Entry.Mark ∷ rest) e = record { credits = refl; jobs = refl; dones = ap (λ (xs : List Entry). drop 1 xs) (sym e); lane = refl; stop = refl }
+arrives size w [] e = record {
+  credits = refl;
+  jobs = refl;
+  dones = e ∙ ap (λ (xs : List Entry). drop 1 xs)
+      (sym e);
+  lane = refl;
+  stop = refl;
+}
+arrives size w (Entry.Item n ∷ rest) e = record {
+  credits = refl;
+  jobs = refl;
+  dones = ap
+      (λ (xs : List Entry). drop 1 xs) (sym e);
+  lane = refl;
+  stop = refl;
+}
+arrives size w (Entry.Mark ∷ rest) e = record {
+  credits = refl;
+  jobs = refl;
+  dones = ap (λ (xs : List Entry). drop 1 xs)
+      (sym e);
+  lane = refl;
+  stop = refl;
+}
 
 record TakesPiece (w v : World) : Type 0 where
   credits : v.credits ≡ w.credits
@@ -37,10 +79,25 @@ record TakesPiece (w v : World) : Type 0 where
   stop : v.stop_up ≡ w.stop_up
 
 writes : (w : World) (lane : List ℕ) → w.lane ≡ lane → TakesPiece w (written_next w lane)
-writes w [] e = record { credits = refl; jobs = refl; dones = refl; lane = e ∙ ap (λ (xs : List ℕ). drop 1 xs) (sym e); stop = refl }
-writes w (n ∷ rest) e = record { credits = refl; jobs = refl; dones = refl; lane = ap (λ (xs : List ℕ). drop 1 xs) (sym e); stop = refl }
+writes w [] e = record {
+  credits = refl;
+  jobs = refl;
+  dones = refl;
+  lane = e ∙ ap (λ (xs : List ℕ). drop 1 xs)
+      (sym e);
+  stop = refl;
+}
+writes w (n ∷ rest) e = record {
+  credits = refl;
+  jobs = refl;
+  dones = refl;
+  lane = ap (λ (xs : List ℕ). drop 1 xs)
+      (sym e);
+  stop = refl;
+}
 
-takes_share : (size : PoolSize) (w : World) (worker : ℕ) → TakesJob w (taken_by w worker w.jobs) → SharesEvent size w (Event.Take worker)
+takes_share : (size : PoolSize) (w : World) (worker : ℕ) → TakesJob w (taken_by w worker w.jobs)
+    → SharesEvent size w (Event.Take worker)
 takes_share size w worker t = record { credits = t.credits; jobs = t.jobs; dones = t.dones; lane = t.lane; stop = t.stop }
 
 arrives_share : (size : PoolSize) (w : World) → TakesDone w (arrived size w w.dones) → SharesEvent size w Event.Arrive

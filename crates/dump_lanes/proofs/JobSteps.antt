@@ -47,11 +47,13 @@ module _ {T : Type 0} where
   cut_thread (Item x) = refl
   cut_thread End = refl
 
-  cut_puts : (x : Mark T) (before : List (Step (Mark T))) → all_put jobs_part (put_step x ∷ before) ≡ all_put jobs_part before ++ x ∷ []
+  cut_puts : (x : Mark T) (before : List (Step (Mark T)))
+      → all_put jobs_part (put_step x ∷ before) ≡ all_put jobs_part before ++ x ∷ []
   cut_puts (Item x) before = refl
   cut_puts End before = refl
 
-  cut_takes : (x : Mark T) (before : List (Step (Mark T))) → all_taken jobs_part (put_step x ∷ before) ≡ all_taken jobs_part before
+  cut_takes : (x : Mark T) (before : List (Step (Mark T)))
+      → all_taken jobs_part (put_step x ∷ before) ≡ all_taken jobs_part before
   cut_takes (Item x) before = append-nil (all_taken jobs_part before)
   cut_takes End before = append-nil (all_taken jobs_part before)
 
@@ -79,7 +81,8 @@ module _ {T : Type 0} where
       }
 
   -- the cutter puts a mark
-  pub puts : (n pass : ℕ) (v : Hand T) (x : Mark T) → v.puts ≡ true → Pushes IsJobQueue n pass v x (λ w. w ≡ after_put v x)
+  pub puts : (n pass : ℕ) (v : Hand T) (x : Mark T) → v.puts ≡ true → Pushes IsJobQueue n pass v x
+      (λ w. w ≡ after_put v x)
   puts n pass v x may items views room h at =
       let w : Hand T = after_put v x in
       let s : Step (Mark T) = put_step x in
@@ -87,7 +90,8 @@ module _ {T : Type 0} where
       let c = mine.cuts may in
       let happened : List (Step (Mark T)) = s ∷ h.happened in
       let owns : h.owner (thread_of (event_of s.event)) ≡ pass = ap h.owner (cut_thread x) ∙ c.0 in
-      let apart : (t : Thread) → h.owner t ≢ pass → t ≢ thread_of (event_of s.event) = λ t ne e. ne (ap h.owner e ∙ owns) in
+      let apart : (t : Thread) → h.owner t ≢ pass → t ≢ thread_of (event_of s.event) = λ t ne e. ne
+      (ap h.owner e ∙ owns) in
       let one : Fits h.owner happened pass w = record {
         cuts = λ p. (c.0, ap (λ l. l ++ x ∷ []) c.1 ∙ sym (cut_puts x h.happened));
         to_come = λ p k le.
@@ -124,14 +128,16 @@ module _ {T : Type 0} where
       } in (w, after, refl)
 
   -- a worker takes a mark
-  pub takes : (pass : ℕ) (v : Hand T) → 0 < v.parts → v.puts ≡ false → v.takes ≡ true → Pops IsJobQueue pass v (λ x w. w ≡ after_take v x)
+  pub takes : (pass : ℕ) (v : Hand T) → 0 < v.parts → v.puts ≡ false → v.takes ≡ true
+      → Pops IsJobQueue pass v (λ x w. w ≡ after_take v x)
   takes pass v parted idle may x items views h at =
       let w : Hand T = after_take v x in
       let s : Step (Mark T) = take_step v.from x in
       let mine = h.fits pass v at in
       let happened : List (Step (Mark T)) = s ∷ h.happened in
       let owns : h.owner (thread_of (event_of s.event)) ≡ pass = mine.takes may in
-      let apart : (t : Thread) → h.owner t ≢ pass → t ≢ thread_of (event_of s.event) = λ t ne e. ne (ap h.owner e ∙ owns) in
+      let apart : (t : Thread) → h.owner t ≢ pass → t ≢ thread_of (event_of s.event) = λ t ne e. ne
+      (ap h.owner e ∙ owns) in
       let one : Fits h.owner happened pass w = record {
         cuts = λ p. absurd (true≢false (sym p ∙ idle));
         to_come = λ p. absurd (true≢false (sym p ∙ idle));
@@ -167,7 +173,8 @@ module _ {T : Type 0} where
       } in (w, after, refl)
 
   -- a worker's pass is cut off
-  pub forks : (pass : ℕ) (v : Hand T) → v.puts ≡ true → v.takes ≡ false → 1 < v.parts → Forks IsJobQueue pass v (after_fork v) (worker_hand v.made)
+  pub forks : (pass : ℕ) (v : Hand T) → v.puts ≡ true → v.takes ≡ false → 1 < v.parts
+      → Forks IsJobQueue pass v (after_fork v) (worker_hand v.made)
   forks pass v may idle parted items views h at =
       let left : Hand T = after_fork v in
       let right : Hand T = worker_hand v.made in
@@ -178,8 +185,10 @@ module _ {T : Type 0} where
       let long = set_long views pass left in
       let here = within views pass v at in
       let owner : Thread → ℕ = λ t. cond (is_thread next t) (length cut) (h.owner t) in
-      let stays : (t : Thread) → is_thread next t ≡ false → owner t ≡ h.owner t = λ t e. ap (λ b. cond b (length cut) (h.owner t)) e in
-      let goes : (t : Thread) → is_thread next t ≡ true → owner t ≡ length cut = λ t e. ap (λ b. cond b (length cut) (h.owner t)) e in
+      let stays : (t : Thread) → is_thread next t ≡ false → owner t ≡ h.owner t = λ t e. ap
+      (λ b. cond b (length cut) (h.owner t)) e in
+      let goes : (t : Thread) → is_thread next t ≡ true → owner t ≡ length cut = λ t e. ap
+      (λ b. cond b (length cut) (h.owner t)) e in
       let free = mine.to_come may v.made (omega arith) in
       -- a pass that isn't the new one has the threads that it had, but for the next worker
       let had : (t : Thread) (j : ℕ) → j < length cut → owner t ≡ j → h.owner t ≡ j =
@@ -192,8 +201,10 @@ module _ {T : Type 0} where
             (stays (Thread.Worker k) (ne_eqb v.made k (λ e. absurd (omega arith))) ∙ z.0, z.1);
         takes = λ p. absurd (true≢false (sym p ∙ idle));
         own = λ t e. mine.own t (had t pass (omega arith) e);
-        others = λ t ne. ⊎_elim (λ (y : (t ≡ next) × (is_thread next t ≡ true)). subst (λ (k : Thread). steps_of k v.steps ≡ []) (sym y.0) free.1)
-            (λ (y : (t ≢ next) × (is_thread next t ≡ false)). mine.others t (λ e. ne (stays t y.1 ∙ e))) (worker_or_other v.made t);
+        others = λ t ne. ⊎_elim (λ (y : (t ≡ next) × (is_thread next t ≡ true)). subst
+            (λ (k : Thread). steps_of k v.steps ≡ []) (sym y.0) free.1)
+            (λ (y : (t ≢ next) × (is_thread next t ≡ false)). mine.others t (λ e. ne (stays t y.1 ∙ e)))
+            (worker_or_other v.made t);
         taken_is = mine.taken_is;
         spends = λ none. absurd (omega arith);
       } in
@@ -219,13 +230,16 @@ module _ {T : Type 0} where
         to_come = λ p. absurd (true≢false (sym p));
         takes = λ p. goes next mades;
         own = λ t e. ⊎_elim
-            (λ (y : (t ≡ next) × (is_thread next t ≡ true)). subst (λ (k : Thread). [] ≡ steps_of k h.happened) (sym y.0) (sym free.1 ∙ mine.own next free.0))
-            (λ (y : (t ≢ next) × (is_thread next t ≡ false)). let o = h.owned t in let k = stays t y.1 in absurd (omega arith)) (worker_or_other v.made t);
+            (λ (y : (t ≡ next) × (is_thread next t ≡ true)). subst (λ (k : Thread). [] ≡ steps_of k h.happened)
+            (sym y.0) (sym free.1 ∙ mine.own next free.0))
+            (λ (y : (t ≢ next) × (is_thread next t ≡ false)). let o = h.owned t in let k = stays t y.1 in absurd
+            (omega arith)) (worker_or_other v.made t);
         others = λ t ne. refl;
         taken_is = refl;
         spends = λ none. absurd (omega arith);
       } in
-      let old : AllViews (Fits owner h.happened) cut = AllViews-set (Fits owner h.happened) views pass left one others in
+      let old : AllViews (Fits owner h.happened) cut = AllViews-set
+      (Fits owner h.happened) views pass left one others in
       record {
         owner = owner;
         happened = h.happened;
@@ -237,8 +251,10 @@ module _ {T : Type 0} where
             let a = sum_by_push (taken_weight weight) cut right in omega arith;
         owned = λ t.
             let o = h.owned t in
-            let a = length-append cut (right ∷ []) in ⊎_elim (λ (y : (t ≡ next) × (is_thread next t ≡ true)). let g = goes t y.1 in omega arith)
-            (λ (y : (t ≢ next) × (is_thread next t ≡ false)). let k = stays t y.1 in omega arith) (worker_or_other v.made t);
+            let a = length-append cut (right ∷ []) in
+            ⊎_elim (λ (y : (t ≡ next) × (is_thread next t ≡ true)). let g = goes t y.1 in omega arith)
+            (λ (y : (t ≢ next) × (is_thread next t ≡ false)). let k = stays t y.1 in omega arith)
+            (worker_or_other v.made t);
         fits = AllViews-more (Fits owner h.happened) cut right old new;
       }
 
@@ -254,8 +270,10 @@ module _ {T : Type 0} where
       let theirs = h.fits other u was in
       let c = mine.cuts may in
       let owner : Thread → ℕ = λ t. cond (h.owner t == other) pass (h.owner t) in
-      let stays : (t : Thread) → h.owner t ≢ other → owner t ≡ h.owner t = λ t ne. ap (λ b. cond b pass (h.owner t)) (ne_eqb (h.owner t) other ne) in
-      let comes : (t : Thread) → h.owner t ≡ other → owner t ≡ pass = λ t e. ap (λ b. cond b pass (h.owner t)) (eq-eqb (h.owner t) other e) in
+      let stays : (t : Thread) → h.owner t ≢ other → owner t ≡ h.owner t = λ t ne. ap (λ b. cond b pass (h.owner t))
+      (ne_eqb (h.owner t) other ne) in
+      let comes : (t : Thread) → h.owner t ≡ other → owner t ≡ pass = λ t e. ap (λ b. cond b pass (h.owner t))
+      (eq-eqb (h.owner t) other e) in
       let is : (t : Thread) → h.owner t ≡ pass → owner t ≡ pass = λ t e. stays t (λ o. two (sym o ∙ e)) ∙ e in
       let split : (t : Thread) → steps_of t both.steps ≡ steps_of t u.steps ++ steps_of t v.steps =
       λ t. filter-append (λ (s : Step (Mark T)). is_thread t (thread_of (event_of s.event))) u.steps v.steps in
@@ -277,7 +295,9 @@ module _ {T : Type 0} where
             (λ ne. mine_alone t ne ∙ mine.own t (sym (stays t ne) ∙ e));
         others = λ t ne. dite (ℕ_discrete (h.owner t) other) (λ o. absurd (ne (comes t o)))
             (λ k. neither t (λ o. ne (is t o)) k);
-        taken_is = ap (λ l. l ++ u.taken) mine.taken_is ∙ (ap (λ l. all_taken jobs_part v.steps ++ l) theirs.taken_is ∙ sym (all_taken-append jobs_part u.steps v.steps));
+        taken_is = ap (λ l. l ++ u.taken) mine.taken_is
+            ∙ (ap (λ l. all_taken jobs_part v.steps ++ l) theirs.taken_is
+            ∙ sym (all_taken-append jobs_part u.steps v.steps));
         spends = λ none. absurd (omega arith);
       } in
       let Now : ℕ → Hand T → Type 0 = Fits owner h.happened in
@@ -287,7 +307,8 @@ module _ {T : Type 0} where
       let f = h.fits j y e in
       let kept : (t : Thread) → h.owner t ≡ j → owner t ≡ j = λ t o. stays t (λ k. not (sym o ∙ k)) ∙ o in
       let had : (t : Thread) → owner t ≡ j → h.owner t ≡ j =
-      λ t o. dite (ℕ_discrete (h.owner t) other) (λ k. absurd (away (sym o ∙ comes t k))) (λ ne. sym (stays t ne) ∙ o) in
+      λ t o. dite (ℕ_discrete (h.owner t) other) (λ k. absurd (away (sym o ∙ comes t k)))
+      (λ ne. sym (stays t ne) ∙ o) in
       record {
         cuts = λ p. absurd (away (sym (f.cuts p).0 ∙ c.0));
         to_come = λ p. absurd (away (sym (f.cuts p).0 ∙ c.0));
@@ -324,7 +345,8 @@ module _ {T : Type 0} where
             let a = set_long views pass both in
             let b = set_long joined other spent in
             let p = within views pass v at in
-            dite (ℕ_discrete (h.owner t) other) (λ k. let e = comes t k in omega arith) (λ ne. let e = stays t ne in omega arith);
+            dite (ℕ_discrete (h.owner t) other) (λ k. let e = comes t k in omega arith)
+            (λ ne. let e = stays t ne in omega arith);
         fits = AllViews-set Now joined other spent gone (λ j y apart e. now j y e apart);
       }
 
@@ -333,7 +355,8 @@ module _ {T : Type 0} where
   ends_last (suc n) = ap (λ l. End ∷ l) (ends_last n)
 
   -- where a pass has all parts, the others have none
-  alone : (views : List (Hand T)) (pass j : ℕ) (v u : Hand T) → get_elem? views pass ≡ some v → get_elem? views j ≡ some u → j ≢ pass
+  alone : (views : List (Hand T)) (pass j : ℕ) (v u : Hand T) → get_elem? views pass ≡ some v
+      → get_elem? views j ≡ some u → j ≢ pass
       → sum_by parts_of views ≡ v.parts → u.parts ≡ 0
   alone views pass j v u at e ne all =
       let spent : Hand T = spent_hand in
@@ -351,14 +374,21 @@ module _ {T : Type 0} where
       let whole : IsWhole v.put v.taken items = record {
         gone = all_taken jobs_part h.happened;
         in_order = c.1 ∙ in_order jobs_part h.happened items h.steps;
-        weighs = λ weight. sym (sum_by-alone parts_of (taken_weight weight) views pass v (none_taken weight) at (h.parts ∙ sym all)) ∙ h.taken weight;
+        weighs = λ weight. sym (sum_by-alone parts_of (taken_weight weight) views pass v (none_taken weight) at
+            (h.parts ∙ sym all)) ∙ h.taken weight;
       } in
       let owns : (t : Thread) → h.owner t ≡ pass = λ t.
       dite (ℕ_discrete (h.owner t) pass) (λ e. e) (λ ne.
       let there = at_some views (h.owner t) (h.owned t) in
       let none = alone views pass (h.owner t) v there.0 at there.1 ne (h.parts ∙ sym all) in
       absurd (((h.fits (h.owner t) there.0 there.1).spends none).1 t refl)) in
-      let knows : KnowsSteps v items = record { happened = h.happened; steps = h.steps; each = λ t. mine.own t (owns t); put_is = c.1 } in
+      let knows : KnowsSteps v items = record {
+        happened = h.happened;
+        steps = h.steps;
+        each = λ t. mine.own t
+            (owns t);
+        put_is = c.1;
+      } in
       (whole, knows)
 
   -- the cutter put one more end mark
@@ -366,7 +396,8 @@ module _ {T : Type 0} where
   one_end_more v n =
       let more : n + 1 ≡ suc n = omega arith in
       let marks : (v.put ++ replicate n End) ++ End ∷ [] ≡ v.put ++ replicate (n + 1) End =
-      append_assoc v.put (replicate n End) (End ∷ []) ∙ ap (λ l. v.put ++ l) (sym (ends_last n) ∙ ap (λ k. replicate k End) (sym more)) in
+      append_assoc v.put (replicate n End) (End ∷ [])
+      ∙ ap (λ l. v.put ++ l) (sym (ends_last n) ∙ ap (λ k. replicate k End) (sym more)) in
       let steps : put_step End ∷ (replicate n (put_step End) ++ v.steps) ≡ replicate (n + 1) (put_step End) ++ v.steps =
       ap (λ k. replicate k (put_step End) ++ v.steps) (sym more) in
       λ i. record v { put = marks i; steps = steps i }

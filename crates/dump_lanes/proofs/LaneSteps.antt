@@ -32,7 +32,8 @@ module _ {T Q M L A : Type 0} (c : Rows (Badge (Key (Mark T))) (Doing (Mark T) (
 
   -- a receiving end after a call, whose pass was q and is p
   pub same_receiving : (p q : Pass (Mark T) (Log T)) (end : Told) (taken : List T)
-      → IsSeatAt c p → IsSeatAt c q → items_of (view p).taken ≡ taken → receiving_of p end ≡ record (receiving_of q end) { taken = taken }
+      → IsSeatAt c p → IsSeatAt c q → items_of (view p).taken ≡ taken
+      → receiving_of p end ≡ record (receiving_of q end) { taken = taken }
   same_receiving p q end taken a b e i = record { lane = same_lane p q a b i; taken = e i; told = told end }
 
 module _ {T : Type 0} where
@@ -83,14 +84,16 @@ module _ {T : Type 0} where
 
   -- where the end mark was taken, both lists are the same
   pub whole_at_end : (put taken left : List (Mark T)) (marked : Bool) (end : Told)
-      → AreItemsThen (mark_if marked) put → AreItemsThen (mark_of end) taken → put ≡ taken ++ left → IsWholeAtEnd (told end) (items_of put) (items_of taken)
+      → AreItemsThen (mark_if marked) put → AreItemsThen (mark_of end) taken → put ≡ taken ++ left
+      → IsWholeAtEnd (told end) (items_of put) (items_of taken)
   whole_at_end put taken left marked MayCome hp ht e = tt
   whole_at_end put taken left marked Ended hp ht e = is_whole put taken marked left hp ht e
   whole_at_end put taken left marked SenderGone hp ht e = tt
 
   -- the end was told only where its mark was put
   pub marked_at_end : (put taken left : List (Mark T)) (marked : Bool) (end : Told)
-      → AreItemsThen (mark_if marked) put → AreItemsThen (mark_of end) taken → put ≡ taken ++ left → told end ≡ LaneEnd.Ended → marked ≡ true
+      → AreItemsThen (mark_if marked) put → AreItemsThen (mark_of end) taken → put ≡ taken ++ left
+      → told end ≡ LaneEnd.Ended → marked ≡ true
   marked_at_end put taken left marked MayCome hp ht e is = absurd (cc)
   marked_at_end put taken left marked Ended hp ht e is = is_marked put taken marked left hp ht e
   marked_at_end put taken left marked SenderGone hp ht e is = absurd (cc)

@@ -67,10 +67,12 @@ module _ {T : Type 0} where
   pub is_marked : (put taken : List (Mark T)) (marked : Bool) (left : List (Mark T))
       → AreItemsThen (mark_if marked) put → AreItemsThen (End ∷ []) taken → put ≡ taken ++ left → marked ≡ true
   is_marked put taken true left hp ht e = refl
-  is_marked put taken false left hp ht e = absurd (unmarked (items_of put) (items_of taken) left (sym hp ∙ (e ∙ ap (λ l. l ++ left) ht)))
+  is_marked put taken false left hp ht e = absurd (unmarked (items_of put) (items_of taken) left
+      (sym hp ∙ (e ∙ ap (λ l. l ++ left) ht)))
 
   -- where the end mark was taken, what was taken is all that was put
   pub is_whole : (put taken : List (Mark T)) (marked : Bool) (left : List (Mark T))
-      → AreItemsThen (mark_if marked) put → AreItemsThen (End ∷ []) taken → put ≡ taken ++ left → items_of taken ≡ items_of put
+      → AreItemsThen (mark_if marked) put → AreItemsThen (End ∷ []) taken → put ≡ taken ++ left
+      → items_of taken ≡ items_of put
   is_whole put taken marked left hp ht e =
       closes (items_of put) (items_of taken) marked left (sym hp ∙ (e ∙ ap (λ l. l ++ left) ht))

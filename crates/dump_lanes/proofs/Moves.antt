@@ -40,13 +40,19 @@ module _ {T : Type 0} where
   }
 
   -- the history after a mark joins, and after one leaves
-  put_steps : (happened : List (Step T)) (items : List (Mark T)) (m : Mark T) → AreSteps lane_part happened (items_of items)
+  put_steps : (happened : List (Step T)) (items : List (Mark T)) (m : Mark T)
+      → AreSteps lane_part happened (items_of items)
       → AreSteps lane_part (put_step m ++ happened) (items_of (items ++ m ∷ []))
-  put_steps happened items (Item x) h =
-      (items_of items, subst (IsStep lane_part (items_of items) (release x)) (sym (items_of-then_item items x)) (release_is_step x (items_of items)), h)
+  put_steps happened items (Item x) h = (
+    items_of items,
+    subst (IsStep lane_part (items_of items) (release x)) (sym (items_of-then_item items x))
+        (release_is_step x (items_of items)),
+    h,
+  )
   put_steps happened items End h = subst (AreSteps lane_part happened) (sym (items_of-then_end items)) h
 
-  take_steps : (happened : List (Step T)) (items : List (Mark T)) (m : Mark T) → AreSteps lane_part happened (items_of (m ∷ items))
+  take_steps : (happened : List (Step T)) (items : List (Mark T)) (m : Mark T)
+      → AreSteps lane_part happened (items_of (m ∷ items))
       → AreSteps lane_part (take_step m ++ happened) (items_of items)
   take_steps happened items (Item x) h = (x ∷ items_of items, write_is_step x (items_of items), h)
   take_steps happened items End h = h
@@ -61,7 +67,8 @@ module _ {T : Type 0} where
   put_leaves happened taken (Item x) e = e ∙ sym (append-nil (all_taken lane_part happened))
   put_leaves happened taken End e = e
 
-  take_adds : (happened : List (Step T)) (taken : List (Mark T)) (m : Mark T) → items_of taken ≡ all_taken lane_part happened
+  take_adds : (happened : List (Step T)) (taken : List (Mark T)) (m : Mark T)
+      → items_of taken ≡ all_taken lane_part happened
       → items_of (taken ++ m ∷ []) ≡ all_taken lane_part (take_step m ++ happened)
   take_adds happened taken (Item x) e = items_of-then_item taken x ∙ ap (λ l. l ++ x ∷ []) e
   take_adds happened taken End e = items_of-then_end taken ∙ e
@@ -72,24 +79,36 @@ module _ {T : Type 0} where
   take_leaves happened put End e = e
 
   -- what is known of the history after a mark joins, and after one leaves
-  put_known : (sender receiver : ℕ) (happened : List (Step T)) (pass : ℕ) (steps : List (Step T)) (m : Mark T) → pass ≡ sender
-      → Knows (two_owners sender receiver) happened pass steps → Knows (two_owners sender receiver) (put_step m ++ happened) pass (put_step m ++ steps)
-  put_known sender receiver happened pass steps (Item x) is h = knows_step (two_owners sender receiver) happened pass steps (release x) (sym is) h
+  put_known : (sender receiver : ℕ) (happened : List (Step T)) (pass : ℕ) (steps : List (Step T)) (m : Mark T)
+      → pass ≡ sender
+      → Knows (two_owners sender receiver) happened pass steps → Knows (two_owners sender receiver)
+      (put_step m ++ happened) pass (put_step m ++ steps)
+  put_known sender receiver happened pass steps (Item x) is h = knows_step
+      (two_owners sender receiver) happened pass steps (release x) (sym is) h
   put_known sender receiver happened pass steps End is h = h
 
-  put_unknown : (sender receiver : ℕ) (happened : List (Step T)) (pass : ℕ) (steps : List (Step T)) (m : Mark T) → pass ≢ sender
-      → Knows (two_owners sender receiver) happened pass steps → Knows (two_owners sender receiver) (put_step m ++ happened) pass steps
-  put_unknown sender receiver happened pass steps (Item x) ne h = knows_else (two_owners sender receiver) happened pass steps (release x) (λ o. ne (sym o)) h
+  put_unknown : (sender receiver : ℕ) (happened : List (Step T)) (pass : ℕ) (steps : List (Step T)) (m : Mark T)
+      → pass ≢ sender
+      → Knows (two_owners sender receiver) happened pass steps → Knows (two_owners sender receiver)
+      (put_step m ++ happened) pass steps
+  put_unknown sender receiver happened pass steps (Item x) ne h = knows_else
+      (two_owners sender receiver) happened pass steps (release x) (λ o. ne (sym o)) h
   put_unknown sender receiver happened pass steps End ne h = h
 
-  take_known : (sender receiver : ℕ) (happened : List (Step T)) (pass : ℕ) (steps : List (Step T)) (m : Mark T) → pass ≡ receiver
-      → Knows (two_owners sender receiver) happened pass steps → Knows (two_owners sender receiver) (take_step m ++ happened) pass (take_step m ++ steps)
-  take_known sender receiver happened pass steps (Item x) is h = knows_step (two_owners sender receiver) happened pass steps (write x) (sym is) h
+  take_known : (sender receiver : ℕ) (happened : List (Step T)) (pass : ℕ) (steps : List (Step T)) (m : Mark T)
+      → pass ≡ receiver
+      → Knows (two_owners sender receiver) happened pass steps → Knows (two_owners sender receiver)
+      (take_step m ++ happened) pass (take_step m ++ steps)
+  take_known sender receiver happened pass steps (Item x) is h = knows_step
+      (two_owners sender receiver) happened pass steps (write x) (sym is) h
   take_known sender receiver happened pass steps End is h = h
 
-  take_unknown : (sender receiver : ℕ) (happened : List (Step T)) (pass : ℕ) (steps : List (Step T)) (m : Mark T) → pass ≢ receiver
-      → Knows (two_owners sender receiver) happened pass steps → Knows (two_owners sender receiver) (take_step m ++ happened) pass steps
-  take_unknown sender receiver happened pass steps (Item x) ne h = knows_else (two_owners sender receiver) happened pass steps (write x) (λ o. ne (sym o)) h
+  take_unknown : (sender receiver : ℕ) (happened : List (Step T)) (pass : ℕ) (steps : List (Step T)) (m : Mark T)
+      → pass ≢ receiver
+      → Knows (two_owners sender receiver) happened pass steps → Knows (two_owners sender receiver)
+      (take_step m ++ happened) pass steps
+  take_unknown sender receiver happened pass steps (Item x) ne h = knows_else
+      (two_owners sender receiver) happened pass steps (write x) (λ o. ne (sym o)) h
   take_unknown sender receiver happened pass steps End ne h = h
 
   -- a new lane
@@ -112,7 +131,8 @@ module _ {T : Type 0} where
   }
 
   -- the sender puts a mark
-  pub sends : (n pass : ℕ) (v : Log T) (x : Mark T) → v.puts ≡ true → Pushes IsInOrder n pass v x (λ w. w ≡ after_put v x)
+  pub sends : (n pass : ℕ) (v : Log T) (x : Mark T) → v.puts ≡ true → Pushes IsInOrder n pass v x
+      (λ w. w ≡ after_put v x)
   sends n pass v x may items views _ h at =
       let w : Log T = after_put v x in
       let mine = h.fits pass v at in
@@ -124,7 +144,8 @@ module _ {T : Type 0} where
         takes = mine.takes;
         knows = put_known h.sender h.receiver h.happened pass v.steps x m.0 mine.knows;
       } in
-      let others : (j : ℕ) (u : Log T) → j ≢ pass → get_elem? views j ≡ some u → Fits h.sender h.receiver put h.taken happened j u =
+      let others : (j : ℕ) (u : Log T) → j ≢ pass → get_elem? views j ≡ some u
+      → Fits h.sender h.receiver put h.taken happened j u =
       λ j u other e.
       let f = h.fits j u e in record {
         puts = λ p. absurd (other ((f.puts p).0 ∙ sym m.0));
@@ -157,7 +178,8 @@ module _ {T : Type 0} where
         takes = λ p. (m.0, ap (λ l. l ++ x ∷ []) m.1);
         knows = take_known h.sender h.receiver h.happened pass v.steps x m.0 mine.knows;
       } in
-      let others : (j : ℕ) (u : Log T) → j ≢ pass → get_elem? views j ≡ some u → Fits h.sender h.receiver h.put taken happened j u =
+      let others : (j : ℕ) (u : Log T) → j ≢ pass → get_elem? views j ≡ some u
+      → Fits h.sender h.receiver h.put taken happened j u =
       λ j u other e.
       let f = h.fits j u e in record {
         puts = f.puts;
@@ -189,7 +211,8 @@ module _ {T : Type 0} where
       let cut : List (Log T) = set views pass left in
       let long = set_long views pass left in
       let here = within views pass v at in
-      let both : (j : ℕ) (u : Log T) → Knows (two_owners h.sender h.receiver) h.happened j u.steps → Knows (two_owners pass pass) h.happened j u.steps =
+      let both : (j : ℕ) (u : Log T) → Knows (two_owners h.sender h.receiver) h.happened j u.steps
+      → Knows (two_owners pass pass) h.happened j u.steps =
       λ j u k. subst (λ (y : ℕ × ℕ). Knows (two_owners y.0 y.1) h.happened j u.steps) (λ i. (sym p.0 i, sym t.0 i)) k in
       let unwritten : steps_of Thread.Writer h.happened ≡ [] =
       sym (all_own h.happened pass v.steps (both pass v mine.knows) Thread.Writer) ∙ ap (steps_of Thread.Writer) idle in
@@ -237,14 +260,16 @@ module _ {T : Type 0} where
       let theirs = h.fits other u was in
       let p = mine.puts a in
       let t = theirs.takes b in
-      let those : (j : ℕ) (y : Log T) → Knows (two_owners h.sender h.receiver) h.happened j y.steps → Knows (two_owners pass other) h.happened j y.steps =
+      let those : (j : ℕ) (y : Log T) → Knows (two_owners h.sender h.receiver) h.happened j y.steps
+      → Knows (two_owners pass other) h.happened j y.steps =
       λ j y k. subst (λ (z : ℕ × ℕ). Knows (two_owners z.0 z.1) h.happened j y.steps) (λ i. (sym p.0 i, sym t.0 i)) k in
       let Now : ℕ → Log T → Type 0 = Fits pass pass h.put h.taken h.happened in
       let NowElse : ℕ → Log T → Type 0 = λ j y. j ≢ other → Now j y in
       let here : NowElse pass both = λ apart. record {
         puts = λ q. (refl, p.1);
         takes = λ q. (refl, t.1);
-        knows = join_both h.happened pass other two v.steps u.steps (those pass v mine.knows) (those other u theirs.knows);
+        knows = join_both h.happened pass other two v.steps u.steps (those pass v mine.knows)
+            (those other u theirs.knows);
       } in
       let others : (j : ℕ) (y : Log T) → j ≢ pass → get_elem? views j ≡ some y → NowElse j y =
       λ j y away e apart.
@@ -280,7 +305,8 @@ module _ {T : Type 0} where
       let p = mine.puts a in
       let t = mine.takes b in
       let all : Knows (two_owners pass pass) h.happened pass v.steps =
-      subst (λ (z : ℕ × ℕ). Knows (two_owners z.0 z.1) h.happened pass v.steps) (λ i. (sym p.0 i, sym t.0 i)) mine.knows in
+      subst (λ (z : ℕ × ℕ). Knows (two_owners z.0 z.1) h.happened pass v.steps)
+      (λ i. (sym p.0 i, sym t.0 i)) mine.knows in
       let knows : KnowsSteps v items = record {
         happened = h.happened;
         steps = h.steps;

@@ -31,7 +31,8 @@ not_worker k t other e = true≢false (sym (ap (is_thread (Thread.Worker k)) e �
 
 -- a thread is this worker, or another
 pub worker_or_other : (k : ℕ) (t : Thread)
-    → ((t ≡ Thread.Worker k) × (is_thread (Thread.Worker k) t ≡ true)) ⊎ ((t ≢ Thread.Worker k) × (is_thread (Thread.Worker k) t ≡ false))
+    → ((t ≡ Thread.Worker k) × (is_thread (Thread.Worker k) t ≡ true))
+    ⊎ ((t ≢ Thread.Worker k) × (is_thread (Thread.Worker k) t ≡ false))
 worker_or_other k Thread.Cutter = inr (not_worker k Thread.Cutter refl, refl)
 worker_or_other k (Thread.Worker j) =
     dite (ℕ_discrete k j) (λ e. inl (ap Thread.Worker (sym e), eq-eqb k j e))
@@ -46,13 +47,17 @@ module _ {E : Type 0} where
   step_both t s known happened e = ap (λ l. cond (is_thread t (thread_of (event_of s.event))) (s ∷ l) l) e
 
   -- another thread's step
-  pub step_other : (t : Thread) (s : Step E) (steps : List (Step E)) → t ≢ thread_of (event_of s.event) → steps_of t (s ∷ steps) ≡ steps_of t steps
-  step_other t s steps ne = ap (λ b. cond b (s ∷ steps_of t steps) (steps_of t steps)) (other_thread t (thread_of (event_of s.event)) ne)
+  pub step_other : (t : Thread) (s : Step E) (steps : List (Step E)) → t ≢ thread_of (event_of s.event)
+      → steps_of t (s ∷ steps) ≡ steps_of t steps
+  step_other t s steps ne = ap (λ b. cond b (s ∷ steps_of t steps) (steps_of t steps))
+      (other_thread t (thread_of (event_of s.event)) ne)
 
-  pub all_taken-append : (part : Part E) (xs ys : List (Step E)) → all_taken part (xs ++ ys) ≡ all_taken part ys ++ all_taken part xs
+  pub all_taken-append : (part : Part E) (xs ys : List (Step E))
+      → all_taken part (xs ++ ys) ≡ all_taken part ys ++ all_taken part xs
   all_taken-append part [] ys = sym (append-nil (all_taken part ys))
   all_taken-append part (s ∷ xs) ys =
-      ap (λ l. l ++ part.takes s) (all_taken-append part xs ys) ∙ append_assoc (all_taken part ys) (all_taken part xs) (part.takes s)
+      ap (λ l. l ++ part.takes s) (all_taken-append part xs ys) ∙ append_assoc (all_taken part ys) (all_taken part xs)
+      (part.takes s)
 
   -- a part holds what was put less what was taken, in order
   pub in_order : (part : Part E) (happened : List (Step E)) (items : List E) → AreSteps part happened items
@@ -62,7 +67,8 @@ module _ {E : Type 0} where
       let put : List E = all_put part before in
       let gone : List E = all_taken part before in
       ap (λ l. l ++ part.puts s) (in_order part before h.0 h.2)
-      ∙ (append_assoc gone h.0 (part.puts s) ∙ (ap (λ l. gone ++ l) h.1.in_turn ∙ sym (append_assoc gone (part.takes s) items)))
+      ∙ (append_assoc gone h.0 (part.puts s) ∙ (ap (λ l. gone ++ l) h.1.in_turn
+      ∙ sym (append_assoc gone (part.takes s) items)))
 
 -- a worker's steps go to a new pass
 module _ (owner : Thread → ℕ) (k new : ℕ) where
@@ -77,11 +83,14 @@ module _ (owner : Thread → ℕ) (k new : ℕ) where
 
   pub forked_stays : (t : Thread) → t ≢ Thread.Worker k → forked t ≡ owner t
   forked_stays t ne = ⊎_elim (λ (y : (t ≡ Thread.Worker k) × (is_thread (Thread.Worker k) t ≡ true)). absurd (ne y.0))
-      (λ (y : (t ≢ Thread.Worker k) × (is_thread (Thread.Worker k) t ≡ false)). ap (λ b. cond b new (owner t)) y.1) (worker_or_other k t)
+      (λ (y : (t ≢ Thread.Worker k) × (is_thread (Thread.Worker k) t ≡ false)). ap (λ b. cond b new (owner t)) y.1)
+      (worker_or_other k t)
 
   pub forked_had : (t : Thread) (j : ℕ) → j ≢ new → forked t ≡ j → owner t ≡ j
-  forked_had t j ne e = ⊎_elim (λ (y : (t ≡ Thread.Worker k) × (is_thread (Thread.Worker k) t ≡ true)). absurd (ne (sym e ∙ forked_to t y.0)))
-      (λ (y : (t ≢ Thread.Worker k) × (is_thread (Thread.Worker k) t ≡ false)). sym (forked_stays t y.0) ∙ e) (worker_or_other k t)
+  forked_had t j ne e = ⊎_elim (λ (y : (t ≡ Thread.Worker k) × (is_thread (Thread.Worker k) t ≡ true)). absurd
+      (ne (sym e ∙ forked_to t y.0)))
+      (λ (y : (t ≢ Thread.Worker k) × (is_thread (Thread.Worker k) t ≡ false)). sym (forked_stays t y.0) ∙ e)
+      (worker_or_other k t)
 
   pub forked_kept : (t : Thread) (j : ℕ) → owner (Thread.Worker k) ≢ j → owner t ≡ j → forked t ≡ j
   forked_kept t j ne e = forked_stays t (λ w. ne (sym (ap owner w) ∙ e)) ∙ e
@@ -104,10 +113,12 @@ module _ (owner : Thread → ℕ) (pass other : ℕ) (two : other ≢ pass) wher
   joined_kept t j ne e = joined_stays t (λ o. ne (sym e ∙ o)) ∙ e
 
   pub joined_had : (t : Thread) (j : ℕ) → j ≢ pass → joined t ≡ j → owner t ≡ j
-  joined_had t j ne e = dite (ℕ_discrete (owner t) other) (λ o. absurd (ne (sym e ∙ joined_comes t o))) (λ o. sym (joined_stays t o) ∙ e)
+  joined_had t j ne e = dite (ℕ_discrete (owner t) other) (λ o. absurd (ne (sym e ∙ joined_comes t o)))
+      (λ o. sym (joined_stays t o) ∙ e)
 
   pub joined_left : (t : Thread) → joined t ≢ other
-  joined_left t e = dite (ℕ_discrete (owner t) other) (λ o. two (sym e ∙ joined_comes t o)) (λ ne. ne (sym (joined_stays t ne) ∙ e))
+  joined_left t e = dite (ℕ_discrete (owner t) other) (λ o. two (sym e ∙ joined_comes t o))
+      (λ ne. ne (sym (joined_stays t ne) ∙ e))
 
 module _ {E : Type 0} (owner : Thread → ℕ) (happened : List (Step E)) where
   -- a step of a thread whose pass this is, and another's step
@@ -121,14 +132,20 @@ module _ {E : Type 0} (owner : Thread → ℕ) (happened : List (Step E)) where
   pub knows_else : (pass : ℕ) (steps : List (Step E)) (s : Step E) → owner (thread_of (event_of s.event)) ≢ pass
       → Knows owner happened pass steps → Knows owner (s ∷ happened) pass steps
   knows_else pass steps s apart h =
-      record { own = λ t e. h.own t e ∙ sym (step_other t s happened (λ k. apart (sym (ap owner k) ∙ e))); others = h.others }
+      record {
+        own = λ t e. h.own t e ∙ sym (step_other t s happened
+            (λ k. apart (sym (ap owner k) ∙ e)));
+        others = h.others;
+      }
 
   pub knows_fork_left : (pass k new : ℕ) (steps : List (Step E)) → pass ≢ new → steps_of (Thread.Worker k) steps ≡ []
       → Knows owner happened pass steps → Knows (forked owner k new) happened pass steps
   knows_fork_left pass k new steps apart none h = record {
     own = λ t e. h.own t (forked_had owner k new t pass apart e);
-    others = λ t ne. ⊎_elim (λ (y : (t ≡ Thread.Worker k) × (is_thread (Thread.Worker k) t ≡ true)). subst (λ (w : Thread). steps_of w steps ≡ []) (sym y.0) none)
-        (λ (y : (t ≢ Thread.Worker k) × (is_thread (Thread.Worker k) t ≡ false)). h.others t (λ e. ne (forked_stays owner k new t y.0 ∙ e))) (worker_or_other k t);
+    others = λ t ne. ⊎_elim (λ (y : (t ≡ Thread.Worker k) × (is_thread (Thread.Worker k) t ≡ true)). subst
+        (λ (w : Thread). steps_of w steps ≡ []) (sym y.0) none)
+        (λ (y : (t ≢ Thread.Worker k) × (is_thread (Thread.Worker k) t ≡ false)). h.others t
+        (λ e. ne (forked_stays owner k new t y.0 ∙ e))) (worker_or_other k t);
   }
 
   pub knows_fork_else : (j k new : ℕ) (steps : List (Step E)) → j ≢ new → owner (Thread.Worker k) ≢ j
@@ -141,12 +158,15 @@ module _ {E : Type 0} (owner : Thread → ℕ) (happened : List (Step E)) where
   pub knows_fork_new : (k new : ℕ) → ((t : Thread) → owner t ≢ new) → steps_of (Thread.Worker k) happened ≡ []
       → Knows (forked owner k new) happened new []
   knows_fork_new k new fresh none = record {
-    own = λ t e. ⊎_elim (λ (y : (t ≡ Thread.Worker k) × (is_thread (Thread.Worker k) t ≡ true)). subst (λ (w : Thread). [] ≡ steps_of w happened) (sym y.0) (sym none))
-        (λ (y : (t ≢ Thread.Worker k) × (is_thread (Thread.Worker k) t ≡ false)). absurd (fresh t (sym (forked_stays owner k new t y.0) ∙ e))) (worker_or_other k t);
+    own = λ t e. ⊎_elim (λ (y : (t ≡ Thread.Worker k) × (is_thread (Thread.Worker k) t ≡ true)). subst
+        (λ (w : Thread). [] ≡ steps_of w happened) (sym y.0) (sym none))
+        (λ (y : (t ≢ Thread.Worker k) × (is_thread (Thread.Worker k) t ≡ false)). absurd
+        (fresh t (sym (forked_stays owner k new t y.0) ∙ e))) (worker_or_other k t);
     others = λ t ne. refl;
   }
 
-  pub knows_join_both : (pass other : ℕ) (two : other ≢ pass) (mine theirs : List (Step E)) → Knows owner happened pass mine
+  pub knows_join_both : (pass other : ℕ) (two : other ≢ pass) (mine theirs : List (Step E))
+      → Knows owner happened pass mine
       → Knows owner happened other theirs → Knows (joined owner pass other two) happened pass (theirs ++ mine)
   knows_join_both pass other two mine theirs h k =
       let split : (t : Thread) → steps_of t (theirs ++ mine) ≡ steps_of t theirs ++ steps_of t mine =
@@ -155,7 +175,8 @@ module _ {E : Type 0} (owner : Thread → ℕ) (happened : List (Step E)) where
       λ t b. split t ∙ ap (λ l. l ++ steps_of t mine) (k.others t b) in
       record {
         own = λ t e. dite (ℕ_discrete (owner t) other)
-            (λ o. split t ∙ (ap (λ l. steps_of t theirs ++ l) (h.others t (λ e. two (sym o ∙ e))) ∙ (append-nil (steps_of t theirs) ∙ k.own t o)))
+            (λ o. split t ∙ (ap (λ l. steps_of t theirs ++ l) (h.others t (λ e. two (sym o ∙ e)))
+            ∙ (append-nil (steps_of t theirs) ∙ k.own t o)))
             (λ ne. mine_alone t ne ∙ h.own t (sym (joined_stays owner pass other two t ne) ∙ e));
         others = λ t ne. dite (ℕ_discrete (owner t) other) (λ o. absurd (ne (joined_comes owner pass other two t o)))
             (λ b. mine_alone t b ∙ h.others t (λ o. ne (joined_is owner pass other two t o)));
@@ -169,4 +190,8 @@ module _ {E : Type 0} (owner : Thread → ℕ) (happened : List (Step E)) where
   }
 
   pub knows_join_spent : (pass other : ℕ) (two : other ≢ pass) → Knows (joined owner pass other two) happened other []
-  knows_join_spent pass other two = record { own = λ t e. absurd (joined_left owner pass other two t e); others = λ t ne. refl }
+  knows_join_spent pass other two = record {
+    own = λ t e. absurd
+        (joined_left owner pass other two t e);
+    others = λ t ne. refl;
+  }

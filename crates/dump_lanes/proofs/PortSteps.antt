@@ -25,7 +25,8 @@ module _ {T : Type 0} where
       let before : AreItemsThen [] v.put = subst (λ n. AreItemsThen (replicate n End) v.put) none h.marks in
       let after : AreItemsThen (replicate (count_ends put) End) put =
       subst (λ n. AreItemsThen (replicate n End) put) (sym still) (then_item v.put x before) in
-      subst (IsCutting workers) (sym e) record { may_put = h.may_put; takes_none = h.takes_none; parts = h.parts; nothing_taken = h.nothing_taken; marks = after }
+      subst (IsCutting workers)
+      (sym e) record { may_put = h.may_put; takes_none = h.takes_none; parts = h.parts; nothing_taken = h.nothing_taken; marks = after }
 
   pub cut_item_put : (v w : Hand T) (x : T) → w ≡ after_put v (Item x) → items_of w.put ≡ items_of v.put ++ x ∷ []
   cut_item_put v w x e = ap (λ (k : Hand T). items_of k.put) e ∙ items_of-then_item v.put x
@@ -40,13 +41,16 @@ module _ {T : Type 0} where
   cut_ends workers n v w h none e =
       let put : List (Mark T) = v.put ++ replicate n End in
       let now : count_ends put ≡ n =
-      (let a = count_ends-append v.put (replicate n End) in let b : count_ends {T = T} (replicate n End) ≡ n = count_ends-replicate T n in omega arith) in
+      (let a = count_ends-append v.put (replicate n End) in let b : count_ends {T = T}
+      (replicate n End) ≡ n = count_ends-replicate T n in omega arith) in
       let before : AreItemsThen [] v.put = subst (λ k. AreItemsThen (replicate k End) v.put) none h.marks in
       let all : AreItemsThen (replicate n End) put =
       ap (λ l. l ++ replicate n End) (before ∙ append-nil (map {B = Mark T} Item (items_of v.put)))
       ∙ ap (λ l. map {B = Mark T} Item l ++ replicate n End) (sym (items_of-then_ends v.put n)) in
-      let after : AreItemsThen (replicate (count_ends put) End) put = subst (λ k. AreItemsThen (replicate k End) put) (sym now) all in
-      subst (IsCutting workers) (sym e) record { may_put = h.may_put; takes_none = h.takes_none; parts = h.parts; nothing_taken = h.nothing_taken; marks = after }
+      let after : AreItemsThen (replicate (count_ends put) End) put = subst (λ k. AreItemsThen (replicate k End) put)
+      (sym now) all in
+      subst (IsCutting workers)
+      (sym e) record { may_put = h.may_put; takes_none = h.takes_none; parts = h.parts; nothing_taken = h.nothing_taken; marks = after }
 
   pub cut_ends_put : (n : ℕ) (v w : Hand T) → w ≡ after_ends v n → items_of w.put ≡ items_of v.put
   cut_ends_put n v w e = ap (λ (k : Hand T). items_of k.put) e ∙ items_of-then_ends v.put n
@@ -54,9 +58,11 @@ module _ {T : Type 0} where
   pub cut_ends_marks : (n : ℕ) (v w : Hand T) → count_ends v.put ≡ 0 → w ≡ after_ends v n → count_ends w.put ≡ n
   cut_ends_marks n v w none e =
       ap (λ (k : Hand T). count_ends k.put) e
-      ∙ (let a = count_ends-append v.put (replicate n End) in let b : count_ends {T = T} (replicate n End) ≡ n = count_ends-replicate T n in omega arith)
+      ∙ (let a = count_ends-append v.put (replicate n End) in let b : count_ends {T = T}
+      (replicate n End) ≡ n = count_ends-replicate T n in omega arith)
 
-  pub cutter_is : (pool : PoolName) (workers drawn : ℕ) {put put' : List T} {marks marks' : ℕ} → put ≡ put' → marks ≡ marks'
+  pub cutter_is : (pool : PoolName) (workers drawn : ℕ) {put put' : List T} {marks marks' : ℕ} → put ≡ put'
+      → marks ≡ marks'
       → ◌≡◌ {A = CutterSide T} record { pool = pool; workers = workers; put = put; marks = marks; drawn = drawn } record { pool = pool; workers = workers; put = put'; marks = marks'; drawn = drawn }
   cutter_is pool workers drawn e m i = record { pool = pool; workers = workers; put = e i; marks = m i; drawn = drawn }
 
@@ -65,10 +71,12 @@ module _ {T : Type 0} where
       → w ≡ after_take v (Item x) → IsWorking worker ended w
   work_item worker ended v w x unended h e =
       let before : AreItemsThen [] v.taken = subst (λ b. AreItemsThen (mark_if b) v.taken) unended h.marks in
-      let after : IsWorking worker false (after_take v (Item x)) = record { may_take = h.may_take; puts_none = h.puts_none; from = h.from; parts = h.parts; marks = then_item v.taken x before } in
+      let after : IsWorking worker false (after_take v
+      (Item x)) = record { may_take = h.may_take; puts_none = h.puts_none; from = h.from; parts = h.parts; marks = then_item v.taken x before } in
       subst (λ b. IsWorking worker b w) (sym unended) (subst (IsWorking worker false) (sym e) after)
 
-  pub work_item_taken : (v w : Hand T) (x : T) → w ≡ after_take v (Item x) → items_of w.taken ≡ items_of v.taken ++ x ∷ []
+  pub work_item_taken : (v w : Hand T) (x : T) → w ≡ after_take v (Item x)
+      → items_of w.taken ≡ items_of v.taken ++ x ∷ []
   work_item_taken v w x e = ap (λ (k : Hand T). items_of k.taken) e ∙ items_of-then_item v.taken x
 
   -- a worker took its end mark
@@ -76,50 +84,64 @@ module _ {T : Type 0} where
       → w ≡ after_take v End → IsWorking worker true w
   work_end worker ended v w unended h e =
       let before : AreItemsThen [] v.taken = subst (λ b. AreItemsThen (mark_if b) v.taken) unended h.marks in
-      let after : IsWorking worker true (after_take v End) = record { may_take = h.may_take; puts_none = h.puts_none; from = h.from; parts = h.parts; marks = then_end v.taken before } in
+      let after : IsWorking worker true
+      (after_take v End) = record { may_take = h.may_take; puts_none = h.puts_none; from = h.from; parts = h.parts; marks = then_end v.taken before } in
       subst (IsWorking worker true) (sym e) after
 
   pub work_end_taken : (v w : Hand T) → w ≡ after_take v End → items_of w.taken ≡ items_of v.taken
   work_end_taken v w e = ap (λ (k : Hand T). items_of k.taken) e ∙ items_of-then_end v.taken
 
   -- a worker gave an item
-  pub give_item : (worker : ℕ) (closed : Bool) (v w : Desk T) (n : Note T) (x : T) → n.mark ≡ Item x → closed ≡ false → IsGiving worker closed v
+  pub give_item : (worker : ℕ) (closed : Bool) (v w : Desk T) (n : Note T) (x : T) → n.mark ≡ Item x → closed ≡ false
+      → IsGiving worker closed v
       → w ≡ after_give v n → IsGiving worker closed w
   give_item worker closed v w n x is unended h e =
-      let before : AreItemsThen [] (marks_in v.put) = subst (λ b. AreItemsThen (mark_if b) (marks_in v.put)) unended h.marks in
-      let joined : marks_in (v.put ++ n ∷ []) ≡ marks_in v.put ++ Item x ∷ [] = marks_in-then v.put n ∙ ap (λ m. marks_in v.put ++ m ∷ []) is in
-      let all : AreItemsThen [] (marks_in (v.put ++ n ∷ [])) = subst (AreItemsThen []) (sym joined) (then_item (marks_in v.put) x before) in
-      let after : IsGiving worker false (after_give v n) = record { may_put = refl; from = h.from; parts = h.parts; marks = all } in
+      let before : AreItemsThen [] (marks_in v.put) = subst
+      (λ b. AreItemsThen (mark_if b) (marks_in v.put)) unended h.marks in
+      let joined : marks_in (v.put ++ n ∷ []) ≡ marks_in v.put ++ Item x ∷ [] = marks_in-then v.put n
+      ∙ ap (λ m. marks_in v.put ++ m ∷ []) is in
+      let all : AreItemsThen [] (marks_in (v.put ++ n ∷ [])) = subst (AreItemsThen []) (sym joined)
+      (then_item (marks_in v.put) x before) in
+      let after : IsGiving worker false
+      (after_give v n) = record { may_put = refl; from = h.from; parts = h.parts; marks = all } in
       subst (λ b. IsGiving worker b w) (sym unended) (subst (IsGiving worker false) (sym e) after)
 
   pub give_item_given : (v w : Desk T) (n : Note T) (x : T) → n.mark ≡ Item x
       → w ≡ after_give v n → items_of (marks_in w.put) ≡ items_of (marks_in v.put) ++ x ∷ []
   give_item_given v w n x is e =
       ap (λ (k : Desk T). items_of (marks_in k.put)) e
-      ∙ (ap items_of (marks_in-then v.put n ∙ ap (λ m. marks_in v.put ++ m ∷ []) is) ∙ items_of-then_item (marks_in v.put) x)
+      ∙ (ap items_of (marks_in-then v.put n ∙ ap (λ m. marks_in v.put ++ m ∷ []) is)
+      ∙ items_of-then_item (marks_in v.put) x)
 
   -- a worker put its end mark
-  pub give_end : (worker : ℕ) (closed : Bool) (v w : Desk T) (n : Note T) → n.mark ≡ End → closed ≡ false → IsGiving worker closed v
+  pub give_end : (worker : ℕ) (closed : Bool) (v w : Desk T) (n : Note T) → n.mark ≡ End → closed ≡ false
+      → IsGiving worker closed v
       → w ≡ after_give v n → IsGiving worker true w
   give_end worker closed v w n is unended h e =
-      let before : AreItemsThen [] (marks_in v.put) = subst (λ b. AreItemsThen (mark_if b) (marks_in v.put)) unended h.marks in
-      let joined : marks_in (v.put ++ n ∷ []) ≡ marks_in v.put ++ End ∷ [] = marks_in-then v.put n ∙ ap (λ m. marks_in v.put ++ m ∷ []) is in
-      let all : AreItemsThen (End ∷ []) (marks_in (v.put ++ n ∷ [])) = subst (AreItemsThen (End ∷ [])) (sym joined) (then_end (marks_in v.put) before) in
-      let after : IsGiving worker true (after_give v n) = record { may_put = refl; from = h.from; parts = h.parts; marks = all } in
+      let before : AreItemsThen [] (marks_in v.put) = subst
+      (λ b. AreItemsThen (mark_if b) (marks_in v.put)) unended h.marks in
+      let joined : marks_in (v.put ++ n ∷ []) ≡ marks_in v.put ++ End ∷ [] = marks_in-then v.put n
+      ∙ ap (λ m. marks_in v.put ++ m ∷ []) is in
+      let all : AreItemsThen (End ∷ []) (marks_in (v.put ++ n ∷ [])) = subst (AreItemsThen (End ∷ [])) (sym joined)
+      (then_end (marks_in v.put) before) in
+      let after : IsGiving worker true
+      (after_give v n) = record { may_put = refl; from = h.from; parts = h.parts; marks = all } in
       subst (IsGiving worker true) (sym e) after
 
   pub give_end_given : (v w : Desk T) (n : Note T) → n.mark ≡ End
       → w ≡ after_give v n → items_of (marks_in w.put) ≡ items_of (marks_in v.put)
   give_end_given v w n is e =
       ap (λ (k : Desk T). items_of (marks_in k.put)) e
-      ∙ (ap items_of (marks_in-then v.put n ∙ ap (λ m. marks_in v.put ++ m ∷ []) is) ∙ items_of-then_end (marks_in v.put))
+      ∙ (ap items_of (marks_in-then v.put n ∙ ap (λ m. marks_in v.put ++ m ∷ []) is)
+      ∙ items_of-then_end (marks_in v.put))
 
   -- the sequencer took a note with an item
   pub read_item : (v w w' : Desk T) (n : Note T) (x : T) → n.mark ≡ Item x → HasRead [] v w
       → w' ≡ after_arrive w n → HasRead (x ∷ []) v w'
   read_item v w w' n x is h e =
       let before = h.taken ∙ append-nil (items_of (marks_in v.got)) in
-      let one : marks_in (w.got ++ n ∷ []) ≡ marks_in w.got ++ Item x ∷ [] = marks_in-then w.got n ∙ ap (λ m. marks_in w.got ++ m ∷ []) is in
+      let one : marks_in (w.got ++ n ∷ []) ≡ marks_in w.got ++ Item x ∷ [] = marks_in-then w.got n
+      ∙ ap (λ m. marks_in w.got ++ m ∷ []) is in
       let after : HasRead (x ∷ []) v (after_arrive w n) = record {
         may_take = refl;
         parts = h.parts;
@@ -132,14 +154,17 @@ module _ {T : Type 0} where
   pub read_item_ends : (w w' : Desk T) (n : Note T) (x : T) → n.mark ≡ Item x
       → w' ≡ after_arrive w n → count_ends (marks_in w'.got) ≡ count_ends (marks_in w.got)
   read_item_ends w w' n x is e =
-      let one : marks_in (w.got ++ n ∷ []) ≡ marks_in w.got ++ Item x ∷ [] = marks_in-then w.got n ∙ ap (λ m. marks_in w.got ++ m ∷ []) is in
-      ap (λ (k : Desk T). count_ends (marks_in k.got)) e ∙ (ap count_ends one ∙ (let a = count_ends-append (marks_in w.got) (Item x ∷ []) in omega arith))
+      let one : marks_in (w.got ++ n ∷ []) ≡ marks_in w.got ++ Item x ∷ [] = marks_in-then w.got n
+      ∙ ap (λ m. marks_in w.got ++ m ∷ []) is in
+      ap (λ (k : Desk T). count_ends (marks_in k.got)) e
+      ∙ (ap count_ends one ∙ (let a = count_ends-append (marks_in w.got) (Item x ∷ []) in omega arith))
 
   -- the sequencer took a worker's end mark
   pub read_end : (v w w' : Desk T) (n : Note T) → n.mark ≡ End → HasRead [] v w
       → w' ≡ after_arrive w n → HasRead [] v w'
   read_end v w w' n is h e =
-      let one : marks_in (w.got ++ n ∷ []) ≡ marks_in w.got ++ End ∷ [] = marks_in-then w.got n ∙ ap (λ m. marks_in w.got ++ m ∷ []) is in
+      let one : marks_in (w.got ++ n ∷ []) ≡ marks_in w.got ++ End ∷ [] = marks_in-then w.got n
+      ∙ ap (λ m. marks_in w.got ++ m ∷ []) is in
       let after : HasRead [] v (after_arrive w n) = record {
         may_take = refl;
         parts = h.parts;
@@ -152,11 +177,14 @@ module _ {T : Type 0} where
   pub read_end_ends : (w w' : Desk T) (n : Note T) → n.mark ≡ End
       → w' ≡ after_arrive w n → count_ends (marks_in w'.got) ≡ count_ends (marks_in w.got) + 1
   read_end_ends w w' n is e =
-      let one : marks_in (w.got ++ n ∷ []) ≡ marks_in w.got ++ End ∷ [] = marks_in-then w.got n ∙ ap (λ m. marks_in w.got ++ m ∷ []) is in
-      ap (λ (k : Desk T). count_ends (marks_in k.got)) e ∙ (ap count_ends one ∙ count_ends-append (marks_in w.got) (End ∷ []))
+      let one : marks_in (w.got ++ n ∷ []) ≡ marks_in w.got ++ End ∷ [] = marks_in-then w.got n
+      ∙ ap (λ m. marks_in w.got ++ m ∷ []) is in
+      ap (λ (k : Desk T). count_ends (marks_in k.got)) e
+      ∙ (ap count_ends one ∙ count_ends-append (marks_in w.got) (End ∷ []))
 
   -- the sequencer took notes
-  pub sequences : (workers left left' : ℕ) (items : List T) (v w : Desk T) → IsSequencing workers left v → HasRead items v w
+  pub sequences : (workers left left' : ℕ) (items : List T) (v w : Desk T) → IsSequencing workers left v
+      → HasRead items v w
       → count_ends (marks_in w.got) + left' ≡ count_ends (marks_in v.got) + left → IsSequencing workers left' w
   sequences workers left left' items v w h r e = record {
     may_take = r.may_take;
@@ -171,7 +199,8 @@ module _ {T : Type 0} where
   side pool v left = record { pool = pool; taken = items_of (marks_in v.got); ended = left == 0 }
 
   pub reads : (pool : PoolName) (left left' : ℕ) (v w : Desk T) (r : Option T) → HasRead (option_to_list r) v w
-      → IfSome r (λ x. (0 < left) × (0 < left')) → IfNone r (left' ≡ 0) → DoneStep (side pool v left) r (side pool w left')
+      → IfSome r (λ x. (0 < left) × (0 < left')) → IfNone r (left' ≡ 0) → DoneStep (side pool v left) r
+      (side pool w left')
   reads pool left left' v w None h some_left none_left =
       let e = h.taken ∙ append-nil (items_of (marks_in v.got)) in
       let z : (left' == 0) ≡ true = eq-eqb left' 0 none_left in λ i. record { pool = pool; taken = e i; ended = z i }
@@ -181,7 +210,8 @@ module _ {T : Type 0} where
       (a, λ i. record { pool = pool; taken = h.taken i; ended = (b ∙ sym a) i })
 
 module _ {J D : Type 0} where
-  pub worker_is : (pool : PoolName) (index : ℕ) {taken taken' : List J} {ended ended' : Bool} {given given' : List D} {closed closed' : Bool}
+  pub worker_is : (pool : PoolName)
+      (index : ℕ) {taken taken' : List J} {ended ended' : Bool} {given given' : List D} {closed closed' : Bool}
       → taken ≡ taken' → ended ≡ ended' → given ≡ given' → closed ≡ closed'
       → ◌≡◌ {A = WorkerSide J D} record { pool = pool; index = index; taken = taken; ended = ended; given = given; closed = closed } record { pool = pool; index = index; taken = taken'; ended = ended'; given = given'; closed = closed' }
   worker_is pool index t e g c i = record { pool = pool; index = index; taken = t i; ended = e i; given = g i; closed = c i }

@@ -25,7 +25,8 @@ use Rattle.dump_lanes.proofs.PoolMarks.{count_ends-append}
 use Rattle.dump_lanes.proofs.Settling.{one_end, all_jobs, all_dones, HasEnded, marks_in-append, flat_map-then, map-then}
 
 module _ {X Y : Type 0} where
-  index_of_map : (f : X → Y) (xs : List X) (k : ℕ) (d : X) → slice_index_or (map f xs) k (f d) ≡ f (slice_index_or xs k d)
+  index_of_map : (f : X → Y) (xs : List X) (k : ℕ) (d : X) → slice_index_or (map f xs) k (f d) ≡ f
+      (slice_index_or xs k d)
   index_of_map f [] k d = refl
   index_of_map f (x ∷ xs) zero d = refl
   index_of_map f (x ∷ xs) (suc k) d = index_of_map f xs k d
@@ -36,7 +37,8 @@ module _ {X Y : Type 0} where
 
   -- what holds of each element of a list after a function
   pub all_of_map : (P : Y → Type 0) (f : X → Y) (xs : List X) → All P (map f xs) → All (λ x. P (f x)) xs
-  all_of_map P f xs h k d lt = subst P (index_of_map f xs k d) (h k (f d) (subst (λ n. k < n) (sym (length_of_map f xs)) lt))
+  all_of_map P f xs h k d lt = subst P (index_of_map f xs k d)
+      (h k (f d) (subst (λ n. k < n) (sym (length_of_map f xs)) lt))
 
 length_range : (a n : ℕ) → length (range_with_len a n) ≡ n
 length_range a zero = refl
@@ -63,8 +65,10 @@ all_then P (y ∷ xs) x h p zero d lt = h 0 d (omega arith)
 all_then P (y ∷ xs) x h p (suc k) d lt = all_then P xs x (all_rest P y xs h) p k d (omega arith)
 
 numbers_found : (J D : Type 0) (pool : PoolState) (a n k : ℕ) → k < n
-    → (i : ℕ) × (i < length (map (λ (w : WorkerSide J D). w.index) (map (new_worker {J = J} {D = D} pool) (range_with_len a n))))
-    × ((d : ℕ) → slice_index_or (map (λ (w : WorkerSide J D). w.index) (map (new_worker {J = J} {D = D} pool) (range_with_len a n))) i d ≡ a + k)
+    → (i : ℕ) × (i < length (map (λ (w : WorkerSide J D). w.index)
+    (map (new_worker {J = J} {D = D} pool) (range_with_len a n))))
+    × ((d : ℕ) → slice_index_or (map (λ (w : WorkerSide J D). w.index)
+    (map (new_worker {J = J} {D = D} pool) (range_with_len a n))) i d ≡ a + k)
 numbers_found J D pool a zero k lt = absurd (omega arith)
 numbers_found J D pool a (suc n) zero lt = (0, omega arith, λ d. omega arith)
 numbers_found J D pool a (suc n) (suc k) lt =
@@ -126,19 +130,24 @@ module _ {J D : Type 0} where
       let b = one_end (marks_in (put_of p)) (has_ended p (first_done p ps h)) in
       let t = ends_put ps (rest_done p ps h) in omega arith
 
-  items_taken : (ps : List (WorkerPort J D)) → items_of (flat_map taken_of ps) ≡ all_taken (map (λ (p : WorkerPort J D). worker_port p) ps)
+  items_taken : (ps : List (WorkerPort J D)) → items_of (flat_map taken_of ps) ≡ all_taken
+      (map (λ (p : WorkerPort J D). worker_port p) ps)
   items_taken [] = refl
-  items_taken (p ∷ ps) = items_of-append (taken_of p) (flat_map taken_of ps) ∙ ap (λ l. items_of (taken_of p) ++ l) (items_taken ps)
+  items_taken (p ∷ ps) = items_of-append (taken_of p) (flat_map taken_of ps) ∙ ap (λ l. items_of (taken_of p) ++ l)
+      (items_taken ps)
 
-  items_put : (ps : List (WorkerPort J D)) → items_of (marks_in (flat_map put_of ps)) ≡ all_given (map (λ (p : WorkerPort J D). worker_port p) ps)
+  items_put : (ps : List (WorkerPort J D)) → items_of (marks_in (flat_map put_of ps)) ≡ all_given
+      (map (λ (p : WorkerPort J D). worker_port p) ps)
   items_put [] = refl
   items_put (p ∷ ps) =
       ap items_of (marks_in-append (put_of p) (flat_map put_of ps))
-      ∙ (items_of-append (marks_in (put_of p)) (marks_in (flat_map put_of ps)) ∙ ap (λ l. items_of (marks_in (put_of p)) ++ l) (items_put ps))
+      ∙ (items_of-append (marks_in (put_of p)) (marks_in (flat_map put_of ps))
+      ∙ ap (λ l. items_of (marks_in (put_of p)) ++ l) (items_put ps))
 
   -- the port of a worker that has put its end mark
   found : (ps : List (WorkerPort J D)) (k worker d : ℕ) → AreDone ps → k < length ps
-      → slice_index_or (map (λ (w : WorkerSide J D). w.index) (map (λ (p : WorkerPort J D). worker_port p) ps)) k d ≡ worker
+      → slice_index_or (map (λ (w : WorkerSide J D). w.index)
+      (map (λ (p : WorkerPort J D). worker_port p) ps)) k d ≡ worker
       → (put : List (Note D)) × (get_elem? (map known_of ps) k ≡ some (worker, put)) × HasEnded put
   found [] k worker d h lt e = absurd (omega arith)
   found (p ∷ ps) zero worker d h lt e =
@@ -146,23 +155,31 @@ module _ {J D : Type 0} where
   found (p ∷ ps) (suc k) worker d h lt e = found ps k worker d (rest_done p ps h) (omega arith) e
 
   -- each job was taken as often as it was put
-  pub settles_jobs : (workers : ℕ) (cutter v : Hand J) (ps : List (WorkerPort J D)) (items : List (Mark J)) → 0 < workers
+  pub settles_jobs : (workers : ℕ) (cutter v : Hand J) (ps : List (WorkerPort J D)) (items : List (Mark J))
+      → 0 < workers
       → IsCutting workers cutter → count_ends cutter.put ≡ workers → length ps ≡ workers → AreDone ps
       → HasJobsOf ps cutter v → job_rule.IsWhole v.put v.taken items
-      → (weight : J → ℕ) → sum_by weight (all_taken (map (λ (p : WorkerPort J D). worker_port p) ps)) ≡ sum_by weight (items_of cutter.put)
+      → (weight : J → ℕ) → sum_by weight (all_taken (map (λ (p : WorkerPort J D). worker_port p) ps)) ≡ sum_by weight
+      (items_of cutter.put)
   settles_jobs workers cutter v ps items more h marks long done e whole weight =
       let taken : List (Mark J) = flat_map taken_of ps in
       let first : v.taken ≡ taken = e.taken ∙ ap (λ l. l ++ taken) h.nothing_taken in
       let now : job_rule.IsWhole cutter.put taken items =
-      subst (λ l. job_rule.IsWhole cutter.put l items) first (subst (λ l. job_rule.IsWhole l v.taken items) e.put whole) in
-      let last : AreItemsThen (replicate workers End) cutter.put = subst (λ n. AreItemsThen (replicate n End) cutter.put) marks h.marks in
-      ap (sum_by weight) (sym (items_taken ps)) ∙ all_jobs workers cutter.put taken items more last marks (ends_taken ps done ∙ long) now weight
+      subst (λ l. job_rule.IsWhole cutter.put l items) first
+      (subst (λ l. job_rule.IsWhole l v.taken items) e.put whole) in
+      let last : AreItemsThen (replicate workers End) cutter.put = subst
+      (λ n. AreItemsThen (replicate n End) cutter.put) marks h.marks in
+      ap (sum_by weight) (sym (items_taken ps)) ∙ all_jobs workers cutter.put taken items more last marks
+      (ends_taken ps done ∙ long) now weight
 
   -- each item was taken as often as the workers put it
-  pub settles_dones : (pool : PoolName) (workers left : ℕ) (sequencer v : Desk D) (ps : List (WorkerPort J D)) (items : List (Note D))
-      → IsSequencing workers left sequencer → (left == 0) ≡ true → AreWorkersOf pool workers (map (λ (p : WorkerPort J D). worker_port p) ps) → AreDone ps
+  pub settles_dones : (pool : PoolName) (workers left : ℕ) (sequencer v : Desk D) (ps : List (WorkerPort J D))
+      (items : List (Note D))
+      → IsSequencing workers left sequencer → (left == 0) ≡ true
+      → AreWorkersOf pool workers (map (λ (p : WorkerPort J D). worker_port p) ps) → AreDone ps
       → HasDonesOf ps sequencer v → done_rule.IsWhole v items
-      → (weight : D → ℕ) → sum_by weight (items_of (marks_in sequencer.got)) ≡ sum_by weight (all_given (map (λ (p : WorkerPort J D). worker_port p) ps))
+      → (weight : D → ℕ) → sum_by weight (items_of (marks_in sequencer.got)) ≡ sum_by weight
+      (all_given (map (λ (p : WorkerPort J D). worker_port p) ps))
   settles_dones pool workers left sequencer v ps items h none all done e whole weight =
       let put : List (Note D) = flat_map put_of ps in
       let long : length ps ≡ workers = sym (length_of_map (λ (p : WorkerPort J D). worker_port p) ps) ∙ all.as_many in
@@ -172,11 +189,15 @@ module _ {J D : Type 0} where
       let no_left : left ≡ 0 = eqb-true left 0 none in
       let of_got : count_ends (marks_in v.got) ≡ workers =
       ap (λ l. count_ends (marks_in l)) got ∙ (let m = h.marks in omega arith) in
-      let of_put : count_ends (marks_in v.put) ≡ workers = ap (λ l. count_ends (marks_in l)) put_is ∙ (ends_put ps done ∙ long) in
-      let each : (worker : ℕ) → worker < workers → (i : ℕ) × (put : List (Note D)) × (get_elem? v.known i ≡ some (worker, put)) × HasEnded put =
+      let of_put : count_ends (marks_in v.put) ≡ workers = ap (λ l. count_ends (marks_in l)) put_is
+      ∙ (ends_put ps done ∙ long) in
+      let each : (worker : ℕ) → worker < workers → (i : ℕ) × (put : List (Note D))
+      × (get_elem? v.known i ≡ some (worker, put)) × HasEnded put =
       λ worker lt.
       let x = all.each worker lt in
-      let short : x.0 < length ps = subst (λ n. x.0 < n) (length_of_map (λ (w : WorkerSide J D). w.index) _ ∙ length_of_map (λ (p : WorkerPort J D). worker_port p) ps) x.1 in
+      let short : x.0 < length ps = subst (λ n. x.0 < n)
+      (length_of_map (λ (w : WorkerSide J D). w.index) _
+      ∙ length_of_map (λ (p : WorkerPort J D). worker_port p) ps) x.1 in
       let y = found ps x.0 worker worker done short x.2 in
       (x.0, y.0, ap (λ l. get_elem? l x.0) known ∙ y.1, y.2) in
       ap (λ l. sum_by weight (items_of (marks_in l))) (sym got)
@@ -184,18 +205,30 @@ module _ {J D : Type 0} where
       ∙ (ap (λ l. sum_by weight (items_of (marks_in l))) put_is ∙ ap (sum_by weight) (items_put ps)))
 
   -- the cutter's pass takes in one worker's after another
-  job_steps-then : (ps : List (WorkerPort J D)) (p : WorkerPort J D) → job_steps (ps ++ p ∷ []) ≡ (view p.jobs).steps ++ job_steps ps
+  job_steps-then : (ps : List (WorkerPort J D)) (p : WorkerPort J D)
+      → job_steps (ps ++ p ∷ []) ≡ (view p.jobs).steps ++ job_steps ps
   job_steps-then [] p = sym (append-nil (view p.jobs).steps)
   job_steps-then (q ∷ ps) p =
-      ap (λ l. l ++ (view q.jobs).steps) (job_steps-then ps p) ∙ append_assoc (view p.jobs).steps (job_steps ps) (view q.jobs).steps
+      ap (λ l. l ++ (view q.jobs).steps) (job_steps-then ps p) ∙ append_assoc (view p.jobs).steps (job_steps ps)
+      (view q.jobs).steps
 
-  done_steps-then : (ps : List (WorkerPort J D)) (p : WorkerPort J D) → done_steps (ps ++ p ∷ []) ≡ (view p.dones).steps ++ done_steps ps
+  done_steps-then : (ps : List (WorkerPort J D)) (p : WorkerPort J D)
+      → done_steps (ps ++ p ∷ []) ≡ (view p.dones).steps ++ done_steps ps
   done_steps-then [] p = sym (append-nil (view p.dones).steps)
   done_steps-then (q ∷ ps) p =
-      ap (λ l. l ++ (view q.dones).steps) (done_steps-then ps p) ∙ append_assoc (view p.dones).steps (done_steps ps) (view q.dones).steps
+      ap (λ l. l ++ (view q.dones).steps) (done_steps-then ps p) ∙ append_assoc (view p.dones).steps (done_steps ps)
+      (view q.dones).steps
 
   pub no_jobs : (v : Hand J) → v.puts ≡ true → v.takes ≡ false → HasJobsOf {J = J} {D = D} [] v v
-  no_jobs v may idle = record { may_put = may; takes_none = idle; parts = omega arith; put = refl; taken = sym (append-nil v.taken); steps = refl }
+  no_jobs v may idle = record {
+    may_put = may;
+    takes_none = idle;
+    parts = omega arith;
+    put = refl;
+    taken = sym
+        (append-nil v.taken);
+    steps = refl;
+  }
 
   pub more_jobs : (ps : List (WorkerPort J D)) (p : WorkerPort J D) (old v w : Hand J) → HasJobsOf ps old v
       → w ≡ job_rule.after_join v (view p.jobs) → HasJobsOf (ps ++ p ∷ []) old w
@@ -208,13 +241,26 @@ module _ {J D : Type 0} where
         takes_none = h.takes_none;
         parts = let k = h.parts in omega arith;
         put = h.put;
-        taken = ap (λ l. l ++ taken_of p) h.taken ∙ (append_assoc old.taken (flat_map taken_of ps) (taken_of p) ∙ ap (λ l. old.taken ++ l) (sym (flat_map-then taken_of ps p)));
-        steps = ap (λ l. (view p.jobs).steps ++ l) h.steps ∙ (sym (append_assoc (view p.jobs).steps (job_steps ps) old.steps) ∙ ap (λ l. l ++ old.steps) (sym (job_steps-then ps p)));
+        taken = ap (λ l. l ++ taken_of p) h.taken ∙
+            (append_assoc old.taken (flat_map taken_of ps) (taken_of p)
+            ∙ ap (λ l. old.taken ++ l) (sym (flat_map-then taken_of ps p)));
+        steps = ap (λ l. (view p.jobs).steps ++ l) h.steps
+            ∙ (sym (append_assoc (view p.jobs).steps (job_steps ps) old.steps)
+            ∙ ap (λ l. l ++ old.steps) (sym (job_steps-then ps p)));
       } in subst (HasJobsOf (ps ++ p ∷ []) old) (sym e) after
 
   -- and so does the sequencer's
   pub no_dones : (v : Desk D) → v.gets ≡ true → HasDonesOf {J = J} {D = D} [] v v
-  no_dones v may = record { may_take = may; parts = omega arith; put = sym (append-nil v.put); made = refl; got = refl; known = sym (append-nil v.known); steps = refl }
+  no_dones v may = record {
+    may_take = may;
+    parts = omega arith;
+    put = sym
+        (append-nil v.put);
+    made = refl;
+    got = refl;
+    known = sym (append-nil v.known);
+    steps = refl;
+  }
 
   pub more_dones : (ps : List (WorkerPort J D)) (p : WorkerPort J D) (old v w : Desk D) → HasDonesOf ps old v
       → w ≡ done_rule.after_join v (view p.dones)
@@ -226,27 +272,38 @@ module _ {J D : Type 0} where
       let after : HasDonesOf (ps ++ p ∷ []) old both = record {
         may_take = refl;
         parts = let k = h.parts in omega arith;
-        put = ap (λ l. l ++ put_of p) h.put ∙ (append_assoc old.put (flat_map put_of ps) (put_of p) ∙ ap (λ l. old.put ++ l) (sym (flat_map-then put_of ps p)));
+        put = ap (λ l. l ++ put_of p) h.put ∙ (append_assoc old.put (flat_map put_of ps) (put_of p)
+            ∙ ap (λ l. old.put ++ l) (sym (flat_map-then put_of ps p)));
         made = h.made;
         got = h.got;
-        known = ap (λ l. l ++ known_of p ∷ []) h.known ∙ (append_assoc old.known (map known_of ps) (known_of p ∷ []) ∙ ap (λ l. old.known ++ l) (sym (map-then known_of ps p)));
-        steps = ap (λ l. (view p.dones).steps ++ l) h.steps ∙ (sym (append_assoc (view p.dones).steps (done_steps ps) old.steps) ∙ ap (λ l. l ++ old.steps) (sym (done_steps-then ps p)));
+        known = ap (λ l. l ++ known_of p ∷ []) h.known
+            ∙ (append_assoc old.known (map known_of ps) (known_of p ∷ [])
+            ∙ ap (λ l. old.known ++ l) (sym (map-then known_of ps p)));
+        steps = ap (λ l. (view p.dones).steps ++ l) h.steps
+            ∙ (sym (append_assoc (view p.dones).steps (done_steps ps) old.steps)
+            ∙ ap (λ l. l ++ old.steps) (sym (done_steps-then ps p)));
       } in subst (HasDonesOf (ps ++ p ∷ []) old) (sym e) after
 
   -- other ports of the same workers
   pub same_ports : (pool : PoolName) (count : ℕ) (old new : List (WorkerPort J D))
       → map (λ (p : WorkerPort J D). (worker_port p).pool) new ≡ map (λ (p : WorkerPort J D). (worker_port p).pool) old
-      → map (λ (p : WorkerPort J D). (worker_port p).index) new ≡ map (λ (p : WorkerPort J D). (worker_port p).index) old
-      → AreWorkersOf pool count (map (λ (p : WorkerPort J D). worker_port p) old) → AreWorkersOf pool count (map (λ (p : WorkerPort J D). worker_port p) new)
+      → map (λ (p : WorkerPort J D). (worker_port p).index) new ≡ map
+      (λ (p : WorkerPort J D). (worker_port p).index) old
+      → AreWorkersOf pool count (map (λ (p : WorkerPort J D). worker_port p) old)
+      → AreWorkersOf pool count (map (λ (p : WorkerPort J D). worker_port p) new)
   same_ports pool count old new pools indexes h =
       let side : WorkerPort J D → WorkerSide J D = λ p. worker_port p in
       let of_pool : WorkerSide J D → PoolName = λ w. w.pool in
       let of_index : WorkerSide J D → ℕ = λ w. w.index in
       let long : length new ≡ length old =
-      sym (length_of_map (λ (p : WorkerPort J D). (worker_port p).index) new) ∙ (ap length indexes ∙ length_of_map (λ (p : WorkerPort J D). (worker_port p).index) old) in
-      let all_pools : map of_pool (map side new) ≡ map of_pool (map side old) = map_twice side of_pool new ∙ (pools ∙ sym (map_twice side of_pool old)) in
-      let all_indexes : map of_index (map side new) ≡ map of_index (map side old) = map_twice side of_index new ∙ (indexes ∙ sym (map_twice side of_index old)) in
-      let as_long : length (map side new) ≡ length (map side old) = length_of_map side new ∙ (long ∙ sym (length_of_map side old)) in
+      sym (length_of_map (λ (p : WorkerPort J D). (worker_port p).index) new)
+      ∙ (ap length indexes ∙ length_of_map (λ (p : WorkerPort J D). (worker_port p).index) old) in
+      let all_pools : map of_pool (map side new) ≡ map of_pool (map side old) = map_twice side of_pool new
+      ∙ (pools ∙ sym (map_twice side of_pool old)) in
+      let all_indexes : map of_index (map side new) ≡ map of_index (map side old) = map_twice side of_index new
+      ∙ (indexes ∙ sym (map_twice side of_index old)) in
+      let as_long : length (map side new) ≡ length (map side old) = length_of_map side new
+      ∙ (long ∙ sym (length_of_map side old)) in
       record {
         same_pool = λ k d lt.
             sym (index_of_map of_pool (map side new) k d)
@@ -257,30 +314,36 @@ module _ {J D : Type 0} where
       }
 
   -- the ports that a pool gives are those of its workers
-  all_new : (pool : PoolState) (a n : ℕ) → All (λ (w : WorkerSide J D). (w.pool ≡ pool.name) × (w.closed ≡ false)) (map (new_worker {J = J} {D = D} pool) (range_with_len a n))
+  all_new : (pool : PoolState) (a n : ℕ) → All (λ (w : WorkerSide J D). (w.pool ≡ pool.name) × (w.closed ≡ false))
+      (map (new_worker {J = J} {D = D} pool) (range_with_len a n))
   all_new pool a zero k d lt = absurd (omega arith)
   all_new pool a (suc n) zero d lt = (refl, refl)
   all_new pool a (suc n) (suc k) d lt = all_new pool (a + 1) n k d (omega arith)
 
-  pub are_workers : (pool : PoolState) (sides : List (WorkerSide J D)) → sides ≡ map (new_worker pool) (range_with_len 0 pool.workers)
+  pub are_workers : (pool : PoolState) (sides : List (WorkerSide J D)) → sides ≡ map (new_worker pool)
+      (range_with_len 0 pool.workers)
       → AreWorkersOf pool.name pool.workers sides
   are_workers pool sides e =
       let new : List (WorkerSide J D) = map (new_worker pool) (range_with_len 0 pool.workers) in
       let of_new : AreWorkersOf pool.name pool.workers new = record {
         same_pool = λ k d lt. (all_new pool 0 pool.workers k d lt).0;
-        as_many = length_of_map (new_worker {J = J} {D = D} pool) (range_with_len 0 pool.workers) ∙ length_range 0 pool.workers;
+        as_many = length_of_map (new_worker {J = J} {D = D} pool) (range_with_len 0 pool.workers)
+            ∙ length_range 0 pool.workers;
         each = λ n lt.
             let t = numbers_found J D pool 0 pool.workers n lt in
             (t.0, t.1, t.2 n ∙ omega arith);
       } in subst (AreWorkersOf pool.name pool.workers) (sym e) of_new
 
-  pub none_closed : (pool : PoolState) (ports : List (WorkerPort J D)) → map (λ (p : WorkerPort J D). worker_port p) ports ≡ map (new_worker pool) (range_with_len 0 pool.workers)
+  pub none_closed : (pool : PoolState) (ports : List (WorkerPort J D))
+      → map (λ (p : WorkerPort J D). worker_port p) ports ≡ map (new_worker pool) (range_with_len 0 pool.workers)
       → All (λ (p : WorkerPort J D). (worker_port p).closed ≡ false) ports
   none_closed pool ports e =
       all_of_map (λ (w : WorkerSide J D). w.closed ≡ false) (λ (p : WorkerPort J D). worker_port p) ports
-      (subst (All (λ (w : WorkerSide J D). w.closed ≡ false)) (sym e) (λ k d lt. (all_new pool 0 pool.workers k d lt).1))
+      (subst (All (λ (w : WorkerSide J D). w.closed ≡ false)) (sym e)
+      (λ k d lt. (all_new pool 0 pool.workers k d lt).1))
 
-  pub fresh_workers : (pool : PoolState) (cutter : CutterSide J) (sides : List (WorkerSide J D)) → cutter ≡ new_cutter pool
+  pub fresh_workers : (pool : PoolState) (cutter : CutterSide J) (sides : List (WorkerSide J D))
+      → cutter ≡ new_cutter pool
       → sides ≡ map (new_worker pool) (range_with_len 0 pool.workers) → AreWorkersOf cutter.pool cutter.workers sides
   fresh_workers pool cutter sides e new =
       subst (λ (x : CutterSide J). AreWorkersOf x.pool x.workers sides) (sym e) (are_workers pool sides new)

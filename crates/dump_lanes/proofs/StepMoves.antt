@@ -46,7 +46,8 @@ module _ {E : Type 0} where
   nothing [] h = refl
   nothing (s ∷ before) h =
       let t : Thread = thread_of (event_of s.event) in
-      let e : [] ≡ s ∷ steps_of t before = h t ∙ ap (λ b. cond b (s ∷ steps_of t before) (steps_of t before)) (is_same_thread t) in
+      let e : [] ≡ s ∷ steps_of t before = h t ∙ ap (λ b. cond b (s ∷ steps_of t before) (steps_of t before))
+      (is_same_thread t) in
       absurd (let l = ap length e in omega arith)
 
   none : {A : Type 0} (x : E) → [] ≡ x ∷ [] → A
@@ -57,7 +58,8 @@ module _ {E : Type 0} where
 
   piece : (m : Move) (x : E) (old new : List E) → lane.put_by (event_of m) x ++ lane.taken_by (event_of m) x ≡ x ∷ []
       → old ++ lane.put_by (event_of m) x ≡ lane.taken_by (event_of m) x ++ new
-      → ((thread_of (event_of m) ≡ Thread.Sequencer) × Joins old x new) ⊎ ((thread_of (event_of m) ≡ Thread.Writer) × Leaves old x new)
+      → ((thread_of (event_of m) ≡ Thread.Sequencer) × Joins old x new)
+      ⊎ ((thread_of (event_of m) ≡ Thread.Writer) × Leaves old x new)
   piece move.Release x old new one turn = inl (refl, sym turn)
   piece move.Write x old new one turn = inr (refl, left_is old x new turn)
   piece move.Cut x old new one turn = none x one
@@ -72,7 +74,8 @@ module _ {E : Type 0} where
   pieces old new s h = piece s.event s.entry old new h.one_entry h.in_turn
 
 module _ {T : Type 0} where
-  job : (m : Move) (x : Mark T) (old new : List (Mark T)) → jobs.put_by (event_of m) x ++ jobs.taken_by (event_of m) x ≡ x ∷ []
+  job : (m : Move) (x : Mark T) (old new : List (Mark T)) → jobs.put_by (event_of m) x ++ jobs.taken_by
+      (event_of m) x ≡ x ∷ []
       → old ++ jobs.put_by (event_of m) x ≡ jobs.taken_by (event_of m) x ++ new
       → ((thread_of (event_of m) ≡ Thread.Cutter) × Joins old x new)
       ⊎ ((worker : ℕ) × (thread_of (event_of m) ≡ Thread.Worker worker) × Leaves old x new)
@@ -94,12 +97,16 @@ module _ {T : Type 0} where
   put_note : (k : ℕ) (n : Note T) (old new : List (Note T)) (same : Bool) → (n.from == k) ≡ same
       → cond same (n ∷ []) [] ++ [] ≡ n ∷ [] → old ++ cond same (n ∷ []) [] ≡ new → (n.from ≡ k) × Joins old n new
   put_note k n old new false is one turn = none n one
-  put_note k n old new true is one turn = dite (ℕ_discrete n.from k) (λ e. (e, sym turn)) (λ ne. absurd (true≢false (sym is ∙ ne_eqb n.from k ne)))
+  put_note k n old new true is one turn = dite (ℕ_discrete n.from k) (λ e. (e, sym turn))
+      (λ ne. absurd (true≢false (sym is ∙ ne_eqb n.from k ne)))
 
-  done : (m : Move) (n : Note T) (old new : List (Note T)) → dones.put_by (event_of m) n ++ dones.taken_by (event_of m) n ≡ n ∷ []
+  done : (m : Move) (n : Note T) (old new : List (Note T)) → dones.put_by (event_of m) n ++ dones.taken_by
+      (event_of m) n ≡ n ∷ []
       → old ++ dones.put_by (event_of m) n ≡ dones.taken_by (event_of m) n ++ new
-      → ((thread_of (event_of m) ≡ Thread.Worker n.from) × Joins old n new) ⊎ ((thread_of (event_of m) ≡ Thread.Sequencer) × Leaves old n new)
-  done (move.Put k) n old new one turn = let z = put_note k n old new (n.from == k) refl one turn in inl (ap Thread.Worker (sym z.0), z.1)
+      → ((thread_of (event_of m) ≡ Thread.Worker n.from) × Joins old n new)
+      ⊎ ((thread_of (event_of m) ≡ Thread.Sequencer) × Leaves old n new)
+  done (move.Put k) n old new one turn = let z = put_note k n old new (n.from == k) refl one turn in inl
+      (ap Thread.Worker (sym z.0), z.1)
   done move.Arrive n old new one turn = inr (refl, left_is old n new turn)
   done move.Cut n old new one turn = none n one
   done move.CutMark n old new one turn = none n one
@@ -129,7 +136,8 @@ module _ {T : Type 0} where
 
 credit : (m : Move) (old new : ℕ) → credits.put_by (event_of m) + credits.taken_by (event_of m) ≡ 1
     → old + credits.put_by (event_of m) ≡ credits.taken_by (event_of m) + new
-    → ((thread_of (event_of m) ≡ Thread.Cutter) × (old ≡ new + 1)) ⊎ ((thread_of (event_of m) ≡ Thread.Writer) × (new ≡ old + 1))
+    → ((thread_of (event_of m) ≡ Thread.Cutter) × (old ≡ new + 1))
+    ⊎ ((thread_of (event_of m) ≡ Thread.Writer) × (new ≡ old + 1))
 credit move.Draw old new one turn = inl (refl, omega arith)
 credit move.Give old new one turn = inr (refl, omega arith)
 credit move.Cut old new one turn = absurd (omega arith)
@@ -141,7 +149,8 @@ credit move.Release old new one turn = absurd (omega arith)
 credit move.Write old new one turn = absurd (omega arith)
 
 pub credits_move : CreditsMoveOne
-credits_move old new s h = credit s.event old new h.one_credit (one_balance old new s.event h.one_credit h.allowed h.share)
+credits_move old new s h = credit s.event old new h.one_credit
+    (one_balance old new s.event h.one_credit h.allowed h.share)
 
 pub word_rises : WordOnlyRises
 word_rises was up kind.Raise h = inl (refl, h.share Event.WriterRaises refl)

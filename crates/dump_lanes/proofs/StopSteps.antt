@@ -99,13 +99,21 @@ keep_some views id v w at keep one = dite (ℕ_discrete one.seat id)
     let e : get_elem? views id ≡ some one.view = subst (λ (k : ℕ). get_elem? views k ≡ some one.view) same one.stands in
     let r : IsTrue v.raised = ap (λ (m : Marks). m.raised) (some-injective v one.view (sym at ∙ e)) ∙ one.raised in
     record { seat = id; view = w; stands = set_here views id w (within views id v at); raised = keep r })
-    (λ apart. record { seat = one.seat; view = one.view; stands = set_else views id one.seat w apart ∙ one.stands; raised = one.raised })
+    (λ apart. record {
+      seat = one.seat;
+      view = one.view;
+      stands = set_else views id one.seat w apart
+          ∙ one.stands;
+      raised = one.raised;
+    })
 
 -- a seat with the whole share is the only one that can have raised the stop
-own : (views : List Marks) (id : ℕ) (v : Marks) (up : Bool) → get_elem? views id ≡ some v → sum_by share_of views ≡ v.share
+own : (views : List Marks) (id : ℕ) (v : Marks) (up : Bool) → get_elem? views id ≡ some v
+    → sum_by share_of views ≡ v.share
     → AllViews (Fits up) views → SomeRaised views → IsTrue v.raised
 own views id v up at all fits one =
-    let e = sum_by-alone share_of raised_by views id v (λ j u d none. none_raised u.raised ((fits j u d).spends none).0) at all in
+    let e = sum_by-alone share_of raised_by views id v
+    (λ j u d none. none_raised u.raised ((fits j u d).spends none).0) at all in
     let least = sum_by-least raised_by views one.seat one.view one.stands in
     let r = one_is one.view.raised one.raised in
     up_is v.raised (omega arith)
@@ -120,25 +128,37 @@ begins = record {
   made = λ weight. refl;
   someone = λ up. absurd (true≢false (sym up));
   shares = refl;
-  fits = AllViews-one (Fits false) (marks 4 false false []) record { raises = λ r. r; sees = λ r. r; spends = λ none. (refl, refl) };
+  fits = AllViews-one (Fits false) (marks 4 false false []) record {
+    raises = λ r. r;
+    sees = λ r. r;
+    spends = λ none.
+        (refl, refl);
+  };
 }
 
 -- a seat with a share looks, and notes what it found
-pub looks : (slots id : ℕ) (me : Me (Unit {0}) Marks) → 0 < me.0.share → Allows IsStop slots id me 0 (λ n. n) (λ n new. HasLooked me n new)
+pub looks : (slots id : ℕ) (me : Me (Unit {0}) Marks) → 0 < me.0.share → Allows IsStop slots id me 0 (λ n. n)
+    (λ n new. HasLooked me n new)
 looks slots id me shared s h long at small =
     let n : ℕ = slice_index s.words 0 in
     let w : Marks = after_look me.0 (n == 1) in
     let e : n ≡ word_of h.up = ap (λ l. slice_index l 0) h.word in
     let mine = h.fits id me.0 at in
     let step : WordStep = kind.Look (n == 1) in
-    let whole : SeesOwn w = λ share seen. own s.views id me.0 h.up at (h.shares ∙ sym share) h.fits (h.someone (seen_up h.up n e seen)) in
+    let whole : SeesOwn w = λ share seen. own s.views id me.0 h.up at (h.shares ∙ sym share) h.fits
+    (h.someone (seen_up h.up n e seen)) in
     let told : HasLooked me n (w, me.1) = record {
       view = refl;
       own = λ r. e ∙ one_is h.up (mine.raises r);
       before = λ r. e ∙ one_is h.up (mine.sees r);
       whole = whole;
     } in
-    let after : IsStop record { words = set s.words 0 (slice_index s.words 0); homes = s.homes; views = set s.views id w } = record {
+    let after : IsStop record {
+      words = set s.words 0
+          (slice_index s.words 0);
+      homes = s.homes;
+      views = set s.views id w;
+    } = record {
       up = h.up;
       word = ap (λ l. set l 0 (slice_index l 0)) h.word;
       happened = step ∷ h.happened;
@@ -150,31 +170,48 @@ looks slots id me shared s h long at small =
           let b = sum_by-cons weight step h.happened in omega arith;
       someone = λ up. keep_some s.views id me.0 w at (λ r. r) (h.someone up);
       shares = let k = sum_by-set share_of s.views id me.0 w at in let all = h.shares in omega arith;
-      fits = AllViews-set (Fits h.up) s.views id w record { raises = mine.raises; sees = seen_up h.up n e; spends = λ none. absurd (omega arith) } (λ j u other d. h.fits j u d);
+      fits = AllViews-set
+          (Fits h.up) s.views id w record {
+            raises = mine.raises;
+            sees = seen_up h.up n e;
+            spends = λ none. absurd
+                (omega arith);
+          } (λ j u other d. h.fits j u d);
     } in (w, keeps, tt, after, told)
 
 -- where a view has the whole share, it made all steps
-knows : (s : State (Unit {0}) Marks) (h : IsStop s) (id : ℕ) (v : Marks) → get_elem? s.views id ≡ some v → v.share ≡ 4 → KnowsSteps v
+knows : (s : State (Unit {0}) Marks) (h : IsStop s) (id : ℕ) (v : Marks) → get_elem? s.views id ≡ some v → v.share ≡ 4
+    → KnowsSteps v
 knows s h id v at whole = record {
   happened = h.happened;
   up = h.up;
   steps = h.steps;
-  made = λ weight. sym (sum_by-alone share_of (made_by weight) s.views id v (λ j u d none. ap (λ l. sum_by weight l) ((h.fits j u d).spends none).1) at (h.shares ∙ sym whole)) ∙ h.made weight;
+  made = λ weight. sym (sum_by-alone share_of (made_by weight) s.views id v
+      (λ j u d none. ap (λ l. sum_by weight l) ((h.fits j u d).spends none).1) at (h.shares ∙ sym whole))
+      ∙ h.made weight;
 }
 
 -- a seat is told what its share says
-pub checks : (slots id : ℕ) (me : Me (Unit {0}) Marks) → Allows IsStop slots id me 0 (λ n. n) (λ n new. HasChecked me new)
+pub checks : (slots id : ℕ) (me : Me (Unit {0}) Marks) → Allows IsStop slots id me 0 (λ n. n)
+    (λ n new. HasChecked me new)
 checks slots id me s h long at small =
     let w : Marks = me.0 in
     let mine = h.fits id me.0 at in
-    let whole : SeesOwn me.0 = λ share seen. own s.views id me.0 h.up at (h.shares ∙ sym share) h.fits (h.someone (mine.sees seen)) in
+    let whole : SeesOwn me.0 = λ share seen. own s.views id me.0 h.up at (h.shares ∙ sym share) h.fits
+    (h.someone (mine.sees seen)) in
     let told : HasChecked me (me.0, me.1) = record { view = refl; whole = whole; knows = knows s h id me.0 at } in
-    let after : IsStop record { words = set s.words 0 (slice_index s.words 0); homes = s.homes; views = set s.views id w } = record {
+    let after : IsStop record {
+      words = set s.words 0
+          (slice_index s.words 0);
+      homes = s.homes;
+      views = set s.views id w;
+    } = record {
       up = h.up;
       word = ap (λ l. set l 0 (slice_index l 0)) h.word;
       happened = h.happened;
       steps = h.steps;
-      made = λ weight. let k = sum_by-set (made_by weight) s.views id me.0 w at in let all = h.made weight in omega arith;
+      made = λ weight. let k = sum_by-set
+          (made_by weight) s.views id me.0 w at in let all = h.made weight in omega arith;
       someone = λ up. keep_some s.views id me.0 w at (λ r. r) (h.someone up);
       shares = let k = sum_by-set share_of s.views id me.0 w at in let all = h.shares in omega arith;
       fits = AllViews-set (Fits h.up) s.views id w mine (λ j u other d. h.fits j u d);
@@ -185,7 +222,12 @@ pub raises : (slots id : ℕ) (me : Me (Unit {0}) Marks) → 0 < me.0.share
     → Allows IsStop slots id me 0 (λ n. 1) (λ n new. new ≡ (after_raise me.0, me.1))
 raises slots id me shared s h long at small =
     let w : Marks = after_raise me.0 in
-    let mine : Fits true id w = record { raises = λ r. refl; sees = λ r. refl; spends = λ none. absurd (omega arith) } in
+    let mine : Fits true id w = record {
+      raises = λ r. refl;
+      sees = λ r. refl;
+      spends = λ none. absurd
+          (omega arith);
+    } in
     let after : IsStop record { words = set s.words 0 1; homes = s.homes; views = set s.views id w } = record {
       up = true;
       word = ap (λ l. set l 0 1) h.word;
@@ -196,9 +238,16 @@ raises slots id me shared s h long at small =
           let all = h.made weight in
           let a = sum_by-cons weight kind.Raise me.0.steps in
           let b = sum_by-cons weight kind.Raise h.happened in omega arith;
-      someone = λ up. record { seat = id; view = w; stands = set_here s.views id w (within s.views id me.0 at); raised = refl };
+      someone = λ up. record {
+        seat = id;
+        view = w;
+        stands = set_here s.views id w
+            (within s.views id me.0 at);
+        raised = refl;
+      };
       shares = let k = sum_by-set share_of s.views id me.0 w at in let all = h.shares in omega arith;
-      fits = AllViews-set (Fits true) s.views id w mine (λ j u other e. record { raises = λ r. refl; sees = λ r. refl; spends = (h.fits j u e).spends });
+      fits = AllViews-set (Fits true) s.views id w mine
+          (λ j u other e. record { raises = λ r. refl; sees = λ r. refl; spends = (h.fits j u e).spends });
     } in (w, keeps, tt, after, refl)
 
 half_twice : (n : ℕ) → n % 2 ≡ 0 → (n / 2) * 2 ≡ n
@@ -208,7 +257,8 @@ half_some : (n : ℕ) → n % 2 ≡ 0 → 0 < n → 0 < n / 2
 half_some n even shared = omega arith
 
 -- a seat is split in two
-pub splits : (id : ℕ) (v : Marks) → v.share % 2 ≡ 0 → 0 < v.share → Splits {S = Unit {0}} IsStop id v (left_half v) (right_half v)
+pub splits : (id : ℕ) (v : Marks) → v.share % 2 ≡ 0 → 0 < v.share → Splits {S = Unit {0}} IsStop id v (left_half v)
+    (right_half v)
 splits id v even shared s h at =
     let half : ℕ = v.share / 2 in
     let twice : half * 2 ≡ v.share = half_twice v.share even in
@@ -218,7 +268,12 @@ splits id v even shared s h at =
     let m = h.fits id v at in
     let cut : List Marks = set s.views id w in
     let mine : Fits h.up id w = record { raises = m.raises; sees = m.sees; spends = λ none. absurd (omega arith) } in
-    let theirs : Fits h.up (length cut) r = record { raises = m.raises; sees = m.sees; spends = λ none. absurd (omega arith) } in
+    let theirs : Fits h.up (length cut) r = record {
+      raises = m.raises;
+      sees = m.sees;
+      spends = λ none. absurd
+          (omega arith);
+    } in
     let old : AllViews (Fits h.up) cut = AllViews-set (Fits h.up) s.views id w mine (λ j u other d. h.fits j u d) in
     record {
       up = h.up;
@@ -231,7 +286,13 @@ splits id v even shared s h at =
           let all = h.made weight in omega arith;
       someone = λ up.
           let x = keep_some s.views id v w at (λ r. r) (h.someone up) in
-          record { seat = x.seat; view = x.view; stands = at_longer cut (r ∷ []) x.seat x.view x.stands; raised = x.raised };
+          record {
+            seat = x.seat;
+            view = x.view;
+            stands = at_longer cut
+                (r ∷ []) x.seat x.view x.stands;
+            raised = x.raised;
+          };
       shares = let k = sum_by-set share_of s.views id v w at in let l = sum_by_push share_of cut r in let all = h.shares in omega arith;
       fits = AllViews-more (Fits h.up) cut r old theirs;
     }
@@ -261,15 +322,33 @@ joins id v other u shared s h at two at' =
       sees = or_gives v.seen u.seen h.up m.sees k.sees;
       spends = λ none. absurd (omega arith);
     } in
-    let now : AllViews (Fits h.up) taken = AllViews-set (Fits h.up) s.views id both mine (λ j y other d. h.fits j y d) in
+    let now : AllViews (Fits h.up) taken = AllViews-set (Fits h.up) s.views id both mine
+    (λ j y other d. h.fits j y d) in
     let here : get_elem? taken id ≡ some both = set_here s.views id both (within s.views id v at) in
     let stays : SomeRaised taken → SomeRaised (set taken other spent) = λ x. dite (ℕ_discrete x.seat other)
     (λ same.
     let e : get_elem? taken other ≡ some x.view = subst (λ (q : ℕ). get_elem? taken q ≡ some x.view) same x.stands in
     let r : IsTrue u.raised = ap (λ (y : Marks). y.raised) (some-injective u x.view (sym at' ∙ e)) ∙ x.raised in
-    record { seat = id; view = both; stands = set_else taken other id spent (λ b. two (sym b)) ∙ here; raised = or_right v.raised u.raised r })
-    (λ apart. record { seat = x.seat; view = x.view; stands = set_else taken other x.seat spent apart ∙ x.stands; raised = x.raised }) in
-    let none : Fits h.up other spent = record { raises = λ r. absurd (true≢false (sym r)); sees = λ r. absurd (true≢false (sym r)); spends = λ e. (refl, refl) } in
+    record {
+      seat = id;
+      view = both;
+      stands = set_else taken other id spent (λ b. two (sym b))
+          ∙ here;
+      raised = or_right v.raised u.raised r;
+    })
+    (λ apart. record {
+      seat = x.seat;
+      view = x.view;
+      stands = set_else taken other x.seat spent apart
+          ∙ x.stands;
+      raised = x.raised;
+    }) in
+    let none : Fits h.up other spent = record {
+      raises = λ r. absurd (true≢false (sym r));
+      sees = λ r. absurd
+          (true≢false (sym r));
+      spends = λ e. (refl, refl);
+    } in
     record {
       up = h.up;
       word = h.word;

@@ -21,10 +21,12 @@ third p o j Thread.Sequencer a b e = a (sym e)
 third p o j Thread.Writer a b e = b (sym e)
 
 module _ {E : Type 0} (happened : List (Step E)) where
-  pub all_own : (p : ℕ) (steps : List (Step E)) → Knows (two_owners p p) happened p steps → (t : Thread) → steps_of t steps ≡ steps_of t happened
+  pub all_own : (p : ℕ) (steps : List (Step E)) → Knows (two_owners p p) happened p steps → (t : Thread)
+      → steps_of t steps ≡ steps_of t happened
   all_own p steps h t = h.own t (one_owner p t)
 
-  left_others : (p o : ℕ) (steps : List (Step E)) → steps_of Thread.Writer steps ≡ [] → (t : Thread) → two_owners p o t ≢ p → steps_of t steps ≡ []
+  left_others : (p o : ℕ) (steps : List (Step E)) → steps_of Thread.Writer steps ≡ [] → (t : Thread)
+      → two_owners p o t ≢ p → steps_of t steps ≡ []
   left_others p o steps none Thread.Cutter ne = absurd (ne refl)
   left_others p o steps none (Thread.Worker k) ne = absurd (ne refl)
   left_others p o steps none Thread.Sequencer ne = absurd (ne refl)
@@ -38,7 +40,8 @@ module _ {E : Type 0} (happened : List (Step E)) where
     others = left_others p o steps (all_own p steps h Thread.Writer ∙ none);
   }
 
-  right_own : (p o : ℕ) → p ≢ o → steps_of Thread.Writer happened ≡ [] → (t : Thread) → two_owners p o t ≡ o → [] ≡ steps_of t happened
+  right_own : (p o : ℕ) → p ≢ o → steps_of Thread.Writer happened ≡ [] → (t : Thread) → two_owners p o t ≡ o
+      → [] ≡ steps_of t happened
   right_own p o apart none Thread.Cutter e = absurd (apart e)
   right_own p o apart none (Thread.Worker k) e = absurd (apart e)
   right_own p o apart none Thread.Sequencer e = absurd (apart e)
@@ -47,30 +50,37 @@ module _ {E : Type 0} (happened : List (Step E)) where
   pub fork_right : (p o : ℕ) → p ≢ o → steps_of Thread.Writer happened ≡ [] → Knows (two_owners p o) happened o []
   fork_right p o apart none = record { own = right_own p o apart none; others = λ t ne. refl }
 
-  pub fork_else : (p o j : ℕ) (steps : List (Step E)) → j ≢ p → j ≢ o → Knows (two_owners p p) happened j steps → Knows (two_owners p o) happened j steps
+  pub fork_else : (p o j : ℕ) (steps : List (Step E)) → j ≢ p → j ≢ o → Knows (two_owners p p) happened j steps
+      → Knows (two_owners p o) happened j steps
   fork_else p o j steps a b h =
       record { own = λ t e. absurd (third p o j t a b e); others = λ t ne. h.others t (third p p j t a a) }
 
   both_own : (p o : ℕ) → o ≢ p → (mine theirs : List (Step E)) → Knows (two_owners p o) happened p mine
-      → Knows (two_owners p o) happened o theirs → (t : Thread) → steps_of t theirs ++ steps_of t mine ≡ steps_of t happened
+      → Knows (two_owners p o) happened o theirs → (t : Thread)
+      → steps_of t theirs ++ steps_of t mine ≡ steps_of t happened
   both_own p o two mine theirs h k Thread.Cutter =
       ap (λ l. l ++ steps_of Thread.Cutter mine) (k.others Thread.Cutter (λ e. two (sym e))) ∙ h.own Thread.Cutter refl
   both_own p o two mine theirs h k (Thread.Worker j) =
-      ap (λ l. l ++ steps_of (Thread.Worker j) mine) (k.others (Thread.Worker j) (λ e. two (sym e))) ∙ h.own (Thread.Worker j) refl
+      ap (λ l. l ++ steps_of (Thread.Worker j) mine) (k.others (Thread.Worker j) (λ e. two (sym e)))
+      ∙ h.own (Thread.Worker j) refl
   both_own p o two mine theirs h k Thread.Sequencer =
-      ap (λ l. l ++ steps_of Thread.Sequencer mine) (k.others Thread.Sequencer (λ e. two (sym e))) ∙ h.own Thread.Sequencer refl
+      ap (λ l. l ++ steps_of Thread.Sequencer mine) (k.others Thread.Sequencer (λ e. two (sym e)))
+      ∙ h.own Thread.Sequencer refl
   both_own p o two mine theirs h k Thread.Writer =
-      ap (λ l. steps_of Thread.Writer theirs ++ l) (h.others Thread.Writer two) ∙ (append-nil (steps_of Thread.Writer theirs) ∙ k.own Thread.Writer refl)
+      ap (λ l. steps_of Thread.Writer theirs ++ l) (h.others Thread.Writer two)
+      ∙ (append-nil (steps_of Thread.Writer theirs) ∙ k.own Thread.Writer refl)
 
   -- one takes in the other
   pub join_both : (p o : ℕ) → o ≢ p → (mine theirs : List (Step E)) → Knows (two_owners p o) happened p mine
       → Knows (two_owners p o) happened o theirs → Knows (two_owners p p) happened p (theirs ++ mine)
   join_both p o two mine theirs h k = record {
-    own = λ t e. filter-append (λ (s : Step E). is_thread t (thread_of (event_of s.event))) theirs mine ∙ both_own p o two mine theirs h k t;
+    own = λ t e. filter-append (λ (s : Step E). is_thread t (thread_of (event_of s.event))) theirs mine
+        ∙ both_own p o two mine theirs h k t;
     others = λ t ne. absurd (ne (one_owner p t));
   }
 
-  pub join_else : (p o j : ℕ) (steps : List (Step E)) → j ≢ p → j ≢ o → Knows (two_owners p o) happened j steps → Knows (two_owners p p) happened j steps
+  pub join_else : (p o j : ℕ) (steps : List (Step E)) → j ≢ p → j ≢ o → Knows (two_owners p o) happened j steps
+      → Knows (two_owners p p) happened j steps
   join_else p o j steps a b h =
       record { own = λ t e. absurd (third p p j t a a e); others = λ t ne. h.others t (third p o j t a b) }
 

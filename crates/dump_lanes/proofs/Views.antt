@@ -30,10 +30,12 @@ module _ {V : Type 0} where
   at_new (x ∷ xs) w u (suc j) e = ⊎_elim (λ t. inl t) (λ t. inr (ap suc t.0, t.1)) (at_new xs w u j e)
 
   -- a fact of each view stays, where one more view has it
-  pub AllViews-more : (F : ℕ → V → Type 0) (views : List V) (w : V) → AllViews F views → F (length views) w → AllViews F (views ++ w ∷ [])
+  pub AllViews-more : (F : ℕ → V → Type 0) (views : List V) (w : V) → AllViews F views → F (length views) w
+      → AllViews F (views ++ w ∷ [])
   AllViews-more F views w old new j u e =
       ⊎_elim (λ x. old j u x)
-      (λ (x : (j ≡ length views) × (w ≡ u)). subst (λ (y : ℕ × V). F y.0 y.1) (λ i. (sym x.0 i, x.1 i)) new) (at_new views w u j e)
+      (λ (x : (j ≡ length views) × (w ≡ u)). subst (λ (y : ℕ × V). F y.0 y.1) (λ i. (sym x.0 i, x.1 i)) new)
+      (at_new views w u j e)
 
   pub within : (views : List V) (pass : ℕ) (v : V) → get_elem? views pass ≡ some v → pass < length views
   within [] pass v e = absurd (some-ne-none v (sym e))
@@ -64,10 +66,13 @@ module _ {V : Type 0} where
       let b = sum_by-cons f x (set xs pass w) in omega arith
 
   -- a sum over all views is at least each one's
-  pub sum_by-least : (f : V → ℕ) (views : List V) (pass : ℕ) (v : V) → get_elem? views pass ≡ some v → f v ≤ sum_by f views
+  pub sum_by-least : (f : V → ℕ) (views : List V) (pass : ℕ) (v : V) → get_elem? views pass ≡ some v
+      → f v ≤ sum_by f views
   sum_by-least f [] pass v e = absurd (some-ne-none v (sym e))
-  sum_by-least f (x ∷ xs) zero v e = let s : f x ≡ f v = ap f (some-injective x v e) in let a = sum_by-cons f x xs in omega arith
-  sum_by-least f (x ∷ xs) (suc pass) v e = let t = sum_by-least f xs pass v e in let a = sum_by-cons f x xs in omega arith
+  sum_by-least f (x ∷ xs) zero v e = let s : f x ≡ f v = ap f
+      (some-injective x v e) in let a = sum_by-cons f x xs in omega arith
+  sum_by-least f (x ∷ xs)
+      (suc pass) v e = let t = sum_by-least f xs pass v e in let a = sum_by-cons f x xs in omega arith
 
   -- where a sum over all views is nothing, another is that is nothing for each view without a share in the first
   pub sum_by-idle : (share f : V → ℕ) (views : List V)
@@ -81,7 +86,8 @@ module _ {V : Type 0} where
 
   -- where one view has the whole share, a sum over all views is its own
   pub sum_by-alone : (share f : V → ℕ) (views : List V) (pass : ℕ) (v : V)
-      → AllViews (λ pass v. share v ≡ 0 → f v ≡ 0) views → get_elem? views pass ≡ some v → sum_by share views ≡ share v → sum_by f views ≡ f v
+      → AllViews (λ pass v. share v ≡ 0 → f v ≡ 0) views → get_elem? views pass ≡ some v → sum_by share views ≡ share v
+      → sum_by f views ≡ f v
   sum_by-alone share f [] pass v idle at all = absurd (some-ne-none v (sym at))
   sum_by-alone share f (x ∷ xs) zero v idle at all =
       let is = some-injective x v at in

@@ -40,9 +40,11 @@ module _ {T : Type 0} (number : T → ℕ) where
 
 -- where the first so many arrived, each once, and no more than a window wasn't released, no two of them clash
 abbrev pub NoneClash : Type 0
-NoneClash = (window released count : ℕ) (arrived : List ℕ) → WeighsSame arrived (first_numbers count) → count ≤ released + window
+NoneClash = (window released count : ℕ) (arrived : List ℕ) → WeighsSame arrived (first_numbers count)
+    → count ≤ released + window
     → Clash window released arrived → ⊥
 
 -- and where the next to be released isn't there, all were released
 abbrev pub AllReleased : Type 0
-AllReleased = (released count : ℕ) (arrived : List ℕ) → WeighsSame arrived (first_numbers count) → IsWaiting released arrived → released ≡ count
+AllReleased = (released count : ℕ) (arrived : List ℕ) → WeighsSame arrived (first_numbers count)
+    → IsWaiting released arrived → released ≡ count

@@ -28,7 +28,8 @@ abbrev pub taken_by : Event → ℕ
 taken_by Event.Draw = 1
 taken_by event = 0
 
--- a step turns so many free credits into so many: by the credits' share of its event, which they allow, and with one credit
+-- a step turns so many free credits into so many: by the credits' share of its event, which they allow, and with one
+-- credit
 pub record IsStep (old : ℕ) (s : CreditStep) (new : ℕ) : Type 0 where
   pub one_credit : put_by (event_of s.event) + taken_by (event_of s.event) ≡ 1
   pub allowed : IsTrue (credits_allow old (event_of s.event))
@@ -75,14 +76,16 @@ joined_purse v w = purse true true w.first v.drawn w.back (w.steps ++ v.steps)
 abbrev pub spent_purse : Purse
 spent_purse = purse false false 0 0 0 []
 
--- a pass that may draw is the cutter's and knows how many were drawn; one that gives back is the writer's, and knows how
+-- a pass that may draw is the cutter's and knows how many were drawn; one that gives back is the writer's, and knows
+-- how
 -- many there were at first and came back; and a pass knows just the steps of the threads whose it is
 pub record Fits (cutter writer first : ℕ) (happened : List CreditStep) (pass : ℕ) (v : Purse) : Type 0 where
   pub draws : v.draws ≡ true → (pass ≡ cutter) × (v.drawn ≡ drawn_in happened)
   pub gives : v.gives ≡ true → (pass ≡ writer) × (v.first ≡ first) × (v.back ≡ back_in happened)
   pub knows : Knows (two_owners cutter writer) happened pass v.steps
 
--- there is one history: its steps are the credits' share of their events, and lead from the credits that were put at first
+-- there is one history: its steps are the credits' share of their events, and lead from the credits that were put at
+-- first
 -- to those that are free; each thread's steps in it are those that its pass knows
 pub record IsCreditQueue {T : Type 0} (items : List T) (views : List Purse) : Type 0 where
   pub cutter : ℕ

@@ -25,7 +25,13 @@ module _ {T : Type 0} where
   taken_by event n = []
 
   abbrev pub dones_part : Part (Note T)
-  dones_part = record { puts = λ s. put_by (event_of s.event) s.entry; takes = λ s. taken_by (event_of s.event) s.entry; share = dones_share; allow = dones_allow }
+  dones_part = record {
+    puts = λ s. put_by (event_of s.event) s.entry;
+    takes = λ s. taken_by
+        (event_of s.event) s.entry;
+    share = dones_share;
+    allow = dones_allow;
+  }
 
   abbrev pub give_step : Note T → Step (Note T)
   give_step n = record { event = move.Put n.from; entry = n }
@@ -58,7 +64,8 @@ module _ {T : Type 0} where
   after_fork v = reader (v.parts - 1) v.put (v.made + 1) v.got v.known v.steps
 
   abbrev pub after_join : Desk T → Desk T → Desk T
-  after_join v w = reader (v.parts + w.parts) (v.put ++ w.put) v.made v.got (v.known ++ (w.from, w.put) ∷ []) (w.steps ++ v.steps)
+  after_join v w = reader (v.parts + w.parts) (v.put ++ w.put) v.made v.got (v.known ++ (w.from, w.put) ∷ [])
+      (w.steps ++ v.steps)
 
   -- a worker's pass knows what this worker put, and no other pass is this worker's
   pub record FitsSender (seat : ℕ → Option ℕ) (log : List (Note T)) (pass : ℕ) (v : Desk T) : Type 0 where
@@ -71,13 +78,16 @@ module _ {T : Type 0} where
     pub put_is : put ≡ notes_of worker log
 
   -- the pass that takes knows all that was taken, and what those workers put that it took in
-  pub record FitsReader (seat : ℕ → Option ℕ) (log : List (Note T)) (sequencer : ℕ) (got : List (Note T)) (pass : ℕ) (v : Desk T) : Type 0 where
+  pub record FitsReader (seat : ℕ → Option ℕ) (log : List (Note T)) (sequencer : ℕ) (got : List (Note T)) (pass : ℕ)
+      (v : Desk T) : Type 0 where
     pub seated : pass ≡ sequencer
     pub got_is : v.got ≡ got
     pub to_come : (worker : ℕ) → v.made ≤ worker → IsGone seat log worker []
-    pub knows : (i worker : ℕ) (put : List (Note T)) → get_elem? v.known i ≡ some (worker, put) → (worker < v.made) × IsGone seat log worker put
+    pub knows : (i worker : ℕ) (put : List (Note T)) → get_elem? v.known i ≡ some (worker, put) → (worker < v.made)
+        × IsGone seat log worker put
 
-  pub record Fits (seat : ℕ → Option ℕ) (log : List (Note T)) (sequencer : ℕ) (got : List (Note T)) (pass : ℕ) (v : Desk T) : Type 0 where
+  pub record Fits (seat : ℕ → Option ℕ) (log : List (Note T)) (sequencer : ℕ) (got : List (Note T)) (pass : ℕ)
+      (v : Desk T) : Type 0 where
     pub sends : v.sends ≡ true → FitsSender seat log pass v
     pub gets : v.gets ≡ true → FitsReader seat log sequencer got pass v
     pub spends : v.parts ≡ 0 → v.put ≡ []
@@ -87,7 +97,8 @@ module _ {T : Type 0} where
     pub knows : Knows owner happened pass v.steps
     pub sends : v.sends ≡ true → owner (Thread.Worker v.from) ≡ pass
     pub gets : v.gets ≡ true → owner Thread.Sequencer ≡ pass
-    pub to_come : v.gets ≡ true → (worker : ℕ) → v.made ≤ worker → (owner (Thread.Worker worker) ≡ pass) × (steps_of (Thread.Worker worker) v.steps ≡ [])
+    pub to_come : v.gets ≡ true → (worker : ℕ) → v.made ≤ worker → (owner (Thread.Worker worker) ≡ pass)
+        × (steps_of (Thread.Worker worker) v.steps ≡ [])
     pub spends : v.parts ≡ 0 → (thread : Thread) → owner thread ≢ pass
 
   -- there is one history: its steps are the dones' share of their events, and lead to what the queue holds
@@ -116,7 +127,8 @@ module _ {T : Type 0} where
     pub in_order : log ≡ v.got ++ items
     pub weighs : (weight : Note T → ℕ) → sum_by weight v.put ≡ sum_by weight log
     pub to_come : (worker : ℕ) → v.made ≤ worker → notes_of worker log ≡ []
-    pub knows : (i worker : ℕ) (put : List (Note T)) → get_elem? v.known i ≡ some (worker, put) → put ≡ notes_of worker log
+    pub knows : (i worker : ℕ) (put : List (Note T)) → get_elem? v.known i ≡ some (worker, put)
+        → put ≡ notes_of worker log
 
   -- and of each thread it knows all steps
   pub record KnowsSteps (v : Desk T) (items : List (Note T)) : Type 0 where

@@ -30,7 +30,13 @@ module _ {T : Type 0} where
   taken_by event mark = []
 
   abbrev pub jobs_part : Part (Mark T)
-  jobs_part = record { puts = λ s. put_by (event_of s.event) s.entry; takes = λ s. taken_by (event_of s.event) s.entry; share = jobs_share; allow = jobs_allow }
+  jobs_part = record {
+    puts = λ s. put_by (event_of s.event) s.entry;
+    takes = λ s. taken_by
+        (event_of s.event) s.entry;
+    share = jobs_share;
+    allow = jobs_allow;
+  }
 
   abbrev pub put_step : Mark T → Step (Mark T)
   put_step x = record { event = cut_event x; entry = x }
@@ -73,7 +79,8 @@ module _ {T : Type 0} where
   -- the steps that a pass knows of a thread whose pass it is are all of that thread's, and it knows none of another's
   pub record Fits (owner : Thread → ℕ) (happened : List (Step (Mark T))) (pass : ℕ) (v : Hand T) : Type 0 where
     pub cuts : v.puts ≡ true → (owner Thread.Cutter ≡ pass) × (v.put ≡ all_put jobs_part happened)
-    pub to_come : v.puts ≡ true → (worker : ℕ) → v.made ≤ worker → (owner (Thread.Worker worker) ≡ pass) × (steps_of (Thread.Worker worker) v.steps ≡ [])
+    pub to_come : v.puts ≡ true → (worker : ℕ) → v.made ≤ worker → (owner (Thread.Worker worker) ≡ pass)
+        × (steps_of (Thread.Worker worker) v.steps ≡ [])
     pub takes : v.takes ≡ true → owner (Thread.Worker v.from) ≡ pass
     pub own : (thread : Thread) → owner thread ≡ pass → steps_of thread v.steps ≡ steps_of thread happened
     pub others : (thread : Thread) → owner thread ≢ pass → steps_of thread v.steps ≡ []
@@ -87,11 +94,13 @@ module _ {T : Type 0} where
     pub happened : List (Step (Mark T))
     pub steps : AreSteps jobs_part happened items
     pub parts : sum_by (λ (v : Hand T). v.parts) views ≡ 128
-    pub taken : (weight : Mark T → ℕ) → sum_by (λ (v : Hand T). sum_by weight v.taken) views ≡ sum_by weight (all_taken jobs_part happened)
+    pub taken : (weight : Mark T → ℕ) → sum_by (λ (v : Hand T). sum_by weight v.taken) views ≡ sum_by weight
+        (all_taken jobs_part happened)
     pub owned : (thread : Thread) → owner thread < length views
     pub fits : (pass : ℕ) (v : Hand T) → get_elem? views pass ≡ some v → Fits owner happened pass v
 
-  -- what a pass with all parts learns: the marks that were taken, in some order, are those put before the ones that are left
+  -- what a pass with all parts learns: the marks that were taken, in some order, are those put before the ones that are
+  -- left
   pub record IsWhole (put taken items : List (Mark T)) : Type 0 where
     pub gone : List (Mark T)
     pub in_order : put ≡ gone ++ items

@@ -23,7 +23,13 @@ module _ {T : Type 0} where
   taken_by event x = []
 
   abbrev pub lane_part : Part T
-  lane_part = record { puts = λ s. put_by (event_of s.event) s.entry; takes = λ s. taken_by (event_of s.event) s.entry; share = lane_share; allow = lane_allow }
+  lane_part = record {
+    puts = λ s. put_by (event_of s.event) s.entry;
+    takes = λ s. taken_by
+        (event_of s.event) s.entry;
+    share = lane_share;
+    allow = lane_allow;
+  }
 
   -- the step of the sender, and of the receiver; the end mark is no item, and its steps are none of the lane of pieces
   abbrev pub put_step : Mark T → List (Step T)
@@ -60,7 +66,8 @@ module _ {T : Type 0} where
   -- a pass that may put is the sender and knows all that was put
   -- a pass that may take is the receiver and knows all that was taken
   -- and a pass knows just the steps of the threads whose it is
-  pub record Fits (sender receiver : ℕ) (put taken : List (Mark T)) (happened : List (Step T)) (pass : ℕ) (v : Log T) : Type 0 where
+  pub record Fits (sender receiver : ℕ) (put taken : List (Mark T)) (happened : List (Step T)) (pass : ℕ)
+      (v : Log T) : Type 0 where
     pub puts : v.puts ≡ true → (pass ≡ sender) × (v.put ≡ put)
     pub takes : v.takes ≡ true → (pass ≡ receiver) × (v.taken ≡ taken)
     pub knows : Knows (two_owners sender receiver) happened pass v.steps

@@ -41,7 +41,8 @@ two_owners other writer Thread.Sequencer = other
 two_owners other writer Thread.Writer = writer
 
 module _ {E : Type 0} where
-  -- a step turns what the queue held into what it holds: by the part's share of its event, which it allows, and with that one entry
+  -- a step turns what the queue held into what it holds: by the part's share of its event, which it allows, and with
+  -- that one entry
   pub record IsStep (part : Part E) (old : List E) (s : Step E) (new : List E) : Type 0 where
     pub one_entry : part.puts s ++ part.takes s ≡ s.entry ∷ []
     pub allowed : IsTrue (part.allow old (event_of s.event))

@@ -71,17 +71,20 @@ AreEventsOf (step ∷ steps) (event ∷ events) = IsTrue (is_event step event) �
 -- a history of a part, one step for each event on it, that leads to what the part is
 abbrev pub CreditsAt : ℕ → List Event → ℕ → Type 0
 CreditsAt first before free =
-    (happened : List CreditStep) × AreCreditSteps first happened free × (events_of happened ≡ events_on on_credits before)
+    (happened : List CreditStep) × AreCreditSteps first happened free
+    × (events_of happened ≡ events_on on_credits before)
 
 abbrev pub JobsAt : List Event → List Entry → Type 0
 JobsAt before jobs =
-    (happened : List (Step (Mark ℕ))) × AreSteps jobs_part happened (map mark_of jobs) × (events_of happened ≡ events_on on_jobs before)
+    (happened : List (Step (Mark ℕ))) × AreSteps jobs_part happened (map mark_of jobs)
+    × (events_of happened ≡ events_on on_jobs before)
 
 -- a note has beside its mark the worker that put it
 abbrev pub DonesAt : List Event → List Entry → Type 0
 DonesAt before dones =
     (notes : List (Note ℕ)) × (map (λ (n : Note ℕ). n.mark) notes ≡ map mark_of dones)
-    × (happened : List (Step (Note ℕ))) × AreSteps dones_part happened notes × (events_of happened ≡ events_on on_dones before)
+    × (happened : List (Step (Note ℕ))) × AreSteps dones_part happened notes
+    × (events_of happened ≡ events_on on_dones before)
 
 abbrev pub LaneAt : List Event → List ℕ → Type 0
 LaneAt before lane =

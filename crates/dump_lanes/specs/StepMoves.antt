@@ -56,4 +56,5 @@ WordOnlyRises = (was up : Bool) (step : WordStep) → IsWordStep was step up →
 -- no rule lets the cutter put a mark and note no step
 abbrev pub NoCutIsUnnoted : Type 0 → Type 0
 NoCutIsUnnoted T = (x : Mark T)
-    → ¬ ((n pass : ℕ) (v : Hand T) → v.puts ≡ true → Pushes IsJobQueue n pass v x (λ w. w ≡ record v { put = v.put ++ x ∷ [] }))
+    → ¬ ((n pass : ℕ) (v : Hand T) → v.puts ≡ true → Pushes IsJobQueue n pass v x
+    (λ w. w ≡ record v { put = v.put ++ x ∷ [] }))

@@ -21,7 +21,8 @@ abbrev pub says_of : WordStep → Bool
 says_of kind.Raise = true
 says_of (kind.Look found) = found
 
--- a step turns the word into what it is: by the word's share of its event, whichever that is, and it says what the word is
+-- a step turns the word into what it is: by the word's share of its event, whichever that is, and it says what the word
+-- is
 pub record IsStep (old : Bool) (step : WordStep) (new : Bool) : Type 0 where
   pub event : Event
   pub named : IsTrue (is_event step event)
@@ -99,7 +100,8 @@ pub record KnowsSteps (v : Marks) : Type 0 where
   pub steps : AreSteps happened up
   pub made : (weight : WordStep → ℕ) → sum_by weight v.steps ≡ sum_by weight happened
 
--- a look that found the word at n: the seat notes whether the stop is up, and it is where this seat raised it or saw it before
+-- a look that found the word at n: the seat notes whether the stop is up, and it is where this seat raised it or saw it
+-- before
 pub record HasLooked (old : Me (Unit {0}) Marks) (n : ℕ) (new : Me (Unit {0}) Marks) : Type 0 where
   pub view : new ≡ (after_look old.0 (n == 1), old.1)
   pub own : IsTrue old.0.raised → n ≡ 1

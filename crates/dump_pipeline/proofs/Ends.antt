@@ -1,4 +1,5 @@
--- Which record has a number, and how the list of records ends, is known as soon as it is known that it is known: a dump has one list.
+-- Which record has a number, and how the list of records ends, is known as soon as it is known that it is known: a dump
+-- has one list.
 use Rattle.std.proofs.Common.{◌≡◌, ℕ, List, length, sym, ap, ◌∙◌, subst, Result, Ok, Err, ◌++◌, ◌∷◌, [], take, arith}
 use Rattle.std.specs.Result.{ForErr}
 use Rattle.std.proofs.Math.Logic.{∥∥₁_elim}
@@ -16,14 +17,17 @@ same_count m n = Coded-set coded_ℕ m n
 same_ending : (a b : Ending) → IsProp (a ≡ b)
 same_ending a b = hlevel props
 
-pub ends_once : (dump : List ℕ) (count : ℕ) (ending : Ending) → ∥ EndsAfter dump count ending ∥₁ → EndsAfter dump count ending
+pub ends_once : (dump : List ℕ) (count : ℕ) (ending : Ending) → ∥ EndsAfter dump count ending ∥₁
+    → EndsAfter dump count ending
 ends_once dump count ending t = by (each_dump_has_one_list dump)
   where
     by : ((all : List DumpRecord) × (end : Ending) × HasRecords dump all end
-        × ((others : List DumpRecord) (e : Ending) → HasRecords dump others e → (others ≡ all) × (e ≡ end))) → EndsAfter dump count ending
+        × ((others : List DumpRecord) (e : Ending) → HasRecords dump others e → (others ≡ all) × (e ≡ end)))
+        → EndsAfter dump count ending
     by (all, end, has, once) =
         let is : end ≡ ending = ∥∥₁_elim t (same_ending end ending) (λ c. sym (once c.0 ending c.1).1) in
-        let long : length all ≡ count = ∥∥₁_elim t (same_count (length all) count) (λ c. ap (λ (l : List DumpRecord). length l) (sym (once c.0 ending c.1).0) ∙ c.2) in
+        let long : length all ≡ count = ∥∥₁_elim t (same_count (length all) count)
+        (λ c. ap (λ (l : List DumpRecord). length l) (sym (once c.0 ending c.1).0) ∙ c.2) in
         (all, subst (HasRecords dump all) is has, long)
 
 from_err : {T E : Type 0} → E → Result T E → E
@@ -36,12 +40,19 @@ unfolding from_err
 for_err {T} {E} P e p x is = subst P (ap (from_err {T = T} e) is) p
 
 -- which record has a number needs no witness
-pub record_once : (dump : List ℕ) (number : ℕ) (r : DumpRecord) → ∥ IsRecordOf dump number r ∥₁ → IsRecordOf dump number r
+pub record_once : (dump : List ℕ) (number : ℕ) (r : DumpRecord) → ∥ IsRecordOf dump number r ∥₁
+    → IsRecordOf dump number r
 record_once dump number r t = by (each_dump_has_one_list dump)
   where
     by : ((all : List DumpRecord) × (end : Ending) × HasRecords dump all end
-        × ((others : List DumpRecord) (e : Ending) → HasRecords dump others e → (others ≡ all) × (e ≡ end))) → IsRecordOf dump number r
-    by (all, end, has, once) = (front, one_more dump front r begins (subst (λ (n : ℕ). ∥ IsRecordOf dump n r ∥₁) (sym long) t), long)
+        × ((others : List DumpRecord) (e : Ending) → HasRecords dump others e → (others ≡ all) × (e ≡ end)))
+        → IsRecordOf dump number r
+    by (all, end, has, once) = (
+      front,
+      one_more dump front r begins
+          (subst (λ (n : ℕ). ∥ IsRecordOf dump n r ∥₁) (sym long) t),
+      long,
+    )
       where
         front : List DumpRecord
         front = take number all

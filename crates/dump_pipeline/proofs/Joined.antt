@@ -29,7 +29,8 @@ use Rattle.dump_pipeline.proofs.Released.{begins, memory}
 use Rattle.dump_pipeline.proofs.RunLemmas.{prefix_trans}
 
 module _ {X : Type 0} where
-  sum_by-map : (f : ℕ → ℕ) (number : X → ℕ) (xs : List X) → sum_by f (map number xs) ≡ sum_by (λ (x : X). f (number x)) xs
+  sum_by-map : (f : ℕ → ℕ) (number : X → ℕ) (xs : List X) → sum_by f (map number xs) ≡ sum_by
+      (λ (x : X). f (number x)) xs
   sum_by-map f number [] = refl
   sum_by-map f number (x ∷ xs) =
       let more = sum_by-map f number xs in
@@ -37,11 +38,13 @@ module _ {X : Type 0} where
 
   -- as many of each number
   weighs_numbers : (number : X → ℕ) (xs ys : List X) → WeighsSame xs ys → WeighsSame (map number xs) (map number ys)
-  weighs_numbers number xs ys h f = sum_by-map f number xs ∙ (h (λ (x : X). f (number x)) ∙ sym (sum_by-map f number ys))
+  weighs_numbers number xs ys h f = sum_by-map f number xs
+      ∙ (h (λ (x : X). f (number x)) ∙ sym (sum_by-map f number ys))
 
 module _ {D : Type 0} {run : Ghosts D} where
   -- the workers gave one checked item for each job that they took, with its number
-  worked_numbers : (ws : List (WorkerSide (Job D run) (Checked D run))) → All (λ (w : WorkerSide (Job D run) (Checked D run)). HasWorked w) ws
+  worked_numbers : (ws : List (WorkerSide (Job D run) (Checked D run)))
+      → All (λ (w : WorkerSide (Job D run) (Checked D run)). HasWorked w) ws
       → checked_numbers (all_given ws) ≡ job_numbers (all_taken ws)
   worked_numbers [] h = refl
   worked_numbers (w ∷ ws) h =
@@ -51,40 +54,55 @@ module _ {D : Type 0} {run : Ghosts D} where
       ∙ sym (map-append job_number w.taken (all_taken ws))))
 
   -- what arrived are the first so many items, each once
-  pub each_arrived : (cutter : CutterSide (Job D run)) (ws : List (WorkerSide (Job D run) (Checked D run))) (taken : List (Checked D run)) (count : ℕ)
-      → job_numbers cutter.put ≡ first_numbers count → All (λ (w : WorkerSide (Job D run) (Checked D run)). HasWorked w) ws
-      → WeighsSame (all_taken ws) cutter.put → WeighsSame taken (all_given ws) → WeighsSame (checked_numbers taken) (first_numbers count)
+  pub each_arrived : (cutter : CutterSide (Job D run)) (ws : List (WorkerSide (Job D run) (Checked D run)))
+      (taken : List (Checked D run)) (count : ℕ)
+      → job_numbers cutter.put ≡ first_numbers count
+      → All (λ (w : WorkerSide (Job D run) (Checked D run)). HasWorked w) ws
+      → WeighsSame (all_taken ws) cutter.put → WeighsSame taken (all_given ws) → WeighsSame (checked_numbers taken)
+      (first_numbers count)
   each_arrived cutter ws taken count put worked jobs dones f =
       weighs_numbers checked_number taken (all_given ws) dones f
       ∙ (ap (sum_by f) (worked_numbers ws worked)
       ∙ (weighs_numbers job_number (all_taken ws) cutter.put jobs f ∙ ap (sum_by f) put))
 
   -- no item was astray
-  no_stray : (settings : Settings) (dump : List ℕ) (cutter : CutterSide (Job D run)) (ws : List (WorkerSide (Job D run) (Checked D run))) (window back : ℕ)
-      (taken : List (Checked D run)) (put : List NumberedPiece) (end : Option End) (stray seen : Bool) → HasCut dump cutter seen
+  no_stray : (settings : Settings) (dump : List ℕ) (cutter : CutterSide (Job D run))
+      (ws : List (WorkerSide (Job D run) (Checked D run))) (window back : ℕ)
+      (taken : List (Checked D run)) (put : List NumberedPiece) (end : Option End) (stray seen : Bool)
+      → HasCut dump cutter seen
       → All (λ (w : WorkerSide (Job D run) (Checked D run)). HasWorked w) ws
-      → WeighsSame (all_taken ws) cutter.put → WeighsSame taken (all_given ws) → cutter.drawn ≤ window + back → back ≡ length put
+      → WeighsSame (all_taken ws) cutter.put → WeighsSame taken (all_given ws) → cutter.drawn ≤ window + back
+      → back ≡ length put
       → HasSequenced settings dump window taken put end stray → stray ≡ true → ⊥
   no_stray settings dump cutter ws window back taken put end stray seen cut worked jobs dones few is h astray =
-      no_clash window (length put) cut.count (checked_numbers taken) (each_arrived cutter ws taken cut.count cut.numbers worked jobs dones)
+      no_clash window (length put) cut.count (checked_numbers taken)
+      (each_arrived cutter ws taken cut.count cut.numbers worked jobs dones)
       (let c = cut.credits in omega arith)
-      (subst (λ (b : Bool). MatchBool b (Clash window (length put) (checked_numbers taken)) (IsWaiting (length put) (checked_numbers taken))) astray h.order)
+      (subst (λ (b : Bool). MatchBool b (Clash window (length put) (checked_numbers taken))
+      (IsWaiting (length put) (checked_numbers taken))) astray h.order)
 
   -- where none was astray all that were cut were released
-  all_released : (settings : Settings) (dump : List ℕ) (cutter : CutterSide (Job D run)) (ws : List (WorkerSide (Job D run) (Checked D run))) (window : ℕ)
-      (taken : List (Checked D run)) (put : List NumberedPiece) (end : Option End) (stray seen : Bool) (cut : HasCut dump cutter seen)
+  all_released : (settings : Settings) (dump : List ℕ) (cutter : CutterSide (Job D run))
+      (ws : List (WorkerSide (Job D run) (Checked D run))) (window : ℕ)
+      (taken : List (Checked D run)) (put : List NumberedPiece) (end : Option End) (stray seen : Bool)
+      (cut : HasCut dump cutter seen)
       → All (λ (w : WorkerSide (Job D run) (Checked D run)). HasWorked w) ws
       → WeighsSame (all_taken ws) cutter.put → WeighsSame taken (all_given ws)
       → HasSequenced settings dump window taken put end stray → stray ≡ false → length put ≡ cut.count
   all_released settings dump cutter ws window taken put end stray seen cut worked jobs dones h fine =
-      none_waits (length put) cut.count (checked_numbers taken) (each_arrived cutter ws taken cut.count cut.numbers worked jobs dones)
-      (subst (λ (b : Bool). MatchBool b (Clash window (length put) (checked_numbers taken)) (IsWaiting (length put) (checked_numbers taken))) fine h.order)
+      none_waits (length put) cut.count (checked_numbers taken)
+      (each_arrived cutter ws taken cut.count cut.numbers worked jobs dones)
+      (subst (λ (b : Bool). MatchBool b (Clash window (length put) (checked_numbers taken))
+      (IsWaiting (length put) (checked_numbers taken))) fine h.order)
 
   -- where the cutter saw no stop, the last item was released
-  pub nothing_missing : (settings : Settings) (dump : List ℕ) (cutter : CutterSide (Job D run)) (ws : List (WorkerSide (Job D run) (Checked D run))) (window back : ℕ)
-      (taken : List (Checked D run)) (put : List NumberedPiece) (end : Option End) (stray seen : Bool) → HasCut dump cutter seen
+  pub nothing_missing : (settings : Settings) (dump : List ℕ) (cutter : CutterSide (Job D run))
+      (ws : List (WorkerSide (Job D run) (Checked D run))) (window back : ℕ)
+      (taken : List (Checked D run)) (put : List NumberedPiece) (end : Option End) (stray seen : Bool)
+      → HasCut dump cutter seen
       → All (λ (w : WorkerSide (Job D run) (Checked D run)). HasWorked w) ws
-      → WeighsSame (all_taken ws) cutter.put → WeighsSame taken (all_given ws) → cutter.drawn ≤ window + back → back ≡ length put
+      → WeighsSame (all_taken ws) cutter.put → WeighsSame taken (all_given ws) → cutter.drawn ≤ window + back
+      → back ≡ length put
       → HasSequenced settings dump window taken put end stray → end ≡ None → seen ≡ false → ⊥
   nothing_missing settings dump cutter ws window back taken put end stray seen cut worked jobs dones few is h going unseen = by stray refl
     where
@@ -93,7 +111,8 @@ module _ {D : Type 0} {run : Ghosts D} where
       by false fine =
           let all = all_released settings dump cutter ws window taken put end stray seen cut worked jobs dones h fine in
           let (total, ending, (records, has, many), count) = cut.whole unseen in
-          let text : HasEndedWith settings dump None (length put) (text_of put) = subst (λ (e : Option End). HasEndedWith settings dump e (length put) (text_of put)) going h.text in
+          let text : HasEndedWith settings dump None (length put) (text_of put) = subst
+          (λ (e : Option End). HasEndedWith settings dump e (length put) (text_of put)) going h.text in
           let p = text.1 in
           let most = within dump records ending has p.before p.begins in
           let released = p.count in absurd (omega arith)
@@ -103,19 +122,24 @@ true_or true b e = refl
 true_or false b e = absurd (false≢true e)
 
 -- a stop that was seen was raised by the sequencer or by the writer
-pub unseen : (cuts sequences writes all : Seat) → all ≡ joined_seat (joined_seat cuts sequences) writes → SeesOnlyRaised all
-    → cuts.share + sequences.share + writes.share ≡ 4 → cuts.raised ≡ false → sequences.raised ≡ false → writes.raised ≡ false → cuts.seen ≡ false
+pub unseen : (cuts sequences writes all : Seat) → all ≡ joined_seat (joined_seat cuts sequences) writes
+    → SeesOnlyRaised all
+    → cuts.share + sequences.share + writes.share ≡ 4 → cuts.raised ≡ false → sequences.raised ≡ false
+    → writes.raised ≡ false → cuts.seen ≡ false
 unseen cuts sequences writes all is only shares c s w = by cuts.seen refl
   where
     not_raised : all.raised ≡ false
-    not_raised = ap (λ (x : Seat). x.raised) is ∙ (ap (λ (b : Bool). (b || sequences.raised) || writes.raised) c ∙ (ap (λ (b : Bool). (false || b) || writes.raised) s ∙ ap (λ (b : Bool). (false || false) || b) w))
+    not_raised = ap (λ (x : Seat). x.raised) is ∙ (ap (λ (b : Bool). (b || sequences.raised) || writes.raised) c
+        ∙ (ap (λ (b : Bool). (false || b) || writes.raised) s ∙ ap (λ (b : Bool). (false || false) || b) w))
 
     whole : all.share ≡ 4
     whole = ap (λ (x : Seat). x.share) is ∙ shares
 
     by : (b : Bool) → cuts.seen ≡ b → cuts.seen ≡ false
     by false e = e
-    by true e = absurd (false≢true (sym not_raised ∙ only whole (ap (λ (x : Seat). x.seen) is ∙ true_or (cuts.seen || sequences.seen) writes.seen (true_or cuts.seen sequences.seen e))))
+    by true e = absurd (false≢true (sym not_raised
+        ∙ only whole (ap (λ (x : Seat). x.seen) is ∙ true_or (cuts.seen || sequences.seen) writes.seen
+        (true_or cuts.seen sequences.seen e))))
 
 -- a cutter that nobody shut isn't shut
 pub unshut : (shut shuts all : Seat) → all ≡ joined_seat shut shuts → SeesOnlyRaised all → shut.share + shuts.share ≡ 4
@@ -123,59 +147,83 @@ pub unshut : (shut shuts all : Seat) → all ≡ joined_seat shut shuts → Sees
 unshut shut shuts all is only shares a b = by shut.seen refl
   where
     not_raised : all.raised ≡ false
-    not_raised = ap (λ (x : Seat). x.raised) is ∙ (ap (λ (r : Bool). r || shuts.raised) a ∙ ap (λ (r : Bool). false || r) b)
+    not_raised = ap (λ (x : Seat). x.raised) is ∙ (ap (λ (r : Bool). r || shuts.raised) a
+        ∙ ap (λ (r : Bool). false || r) b)
 
     by : (b : Bool) → shut.seen ≡ b → shut.seen ≡ false
     by false e = e
-    by true e = absurd (false≢true (sym not_raised ∙ only (ap (λ (x : Seat). x.share) is ∙ shares) (ap (λ (x : Seat). x.seen) is ∙ true_or shut.seen shuts.seen e)))
+    by true e = absurd (false≢true (sym not_raised ∙ only (ap (λ (x : Seat). x.share) is ∙ shares)
+        (ap (λ (x : Seat). x.seen) is ∙ true_or shut.seen shuts.seen e)))
 
 -- what was released begins the filter's text of the dump
-pub begins_text : (settings : Settings) (dump : List ℕ) (end : Option End) (released : ℕ) (text received : List ℕ) → HasEndedWith settings dump end released text
+pub begins_text : (settings : Settings) (dump : List ℕ) (end : Option End) (released : ℕ) (text received : List ℕ)
+    → HasEndedWith settings dump end released text
     → IsPrefixOf received text → IsFilterPrefix settings dump received
 begins_text settings dump None released text received (filter, h) front =
     let (whole, answer, is, more) = memory settings dump filter released text h in
     (whole, answer, is, prefix_trans received text whole front more)
-begins_text settings dump (Some (ends.Clean report)) released text received h front = (text, answers.Clean report, h, front)
-begins_text settings dump (Some (ends.Fault which number place)) released text received h front = (text, answers.Fault which number place, h, front)
-begins_text settings dump (Some ends.Memory) released text received (whole, answer, is, more) front = (whole, answer, is, prefix_trans received text whole front more)
+begins_text settings dump (Some (ends.Clean report)) released text received h front =
+    (text, answers.Clean report, h, front)
+begins_text settings dump (Some (ends.Fault which number place)) released text received h front =
+    (text, answers.Fault which number place, h, front)
+begins_text settings dump (Some ends.Memory) released text received (whole, answer, is, more) front =
+    (whole, answer, is, prefix_trans received text whole front more)
 
 module _ {D : Type 0} {run : Ghosts D} where
   -- after a failure of the sink
-  pub sink_failed : (settings : Settings) (dump : List ℕ) (window : ℕ) (taken : List (Checked D run)) (put got : List NumberedPiece) (end : Option End) (stray failed : Bool)
-      (first now : Option (List ℕ)) (count : ℕ) → HasSequenced settings dump window taken put end stray → got ≡ put → failed ≡ true
-      → HasReceived failed (text_of got) first now count → RunLeaves settings dump first now (answers.Failed failures.Sink count)
+  pub sink_failed : (settings : Settings) (dump : List ℕ) (window : ℕ) (taken : List (Checked D run))
+      (put got : List NumberedPiece) (end : Option End) (stray failed : Bool)
+      (first now : Option (List ℕ)) (count : ℕ) → HasSequenced settings dump window taken put end stray → got ≡ put
+      → failed ≡ true
+      → HasReceived failed (text_of got) first now count → RunLeaves settings dump first now
+      (answers.Failed failures.Sink count)
   sink_failed settings dump window taken put got end stray failed first now count h same is r = record {
     received = r.received;
     appended = r.appended;
     answered = (
       begins_text settings dump end (length put) (text_of put) r.received h.text
           (subst (λ (l : List NumberedPiece). IsPrefixOf r.received (text_of l)) same
-          (subst (λ (b : Bool). MatchBool b (IsPrefixOf r.received (text_of got)) (r.received ≡ text_of got)) is r.part)),
+          (subst (λ (b : Bool). MatchBool b (IsPrefixOf r.received (text_of got))
+          (r.received ≡ text_of got)) is r.part)),
       r.sized,
     );
   }
 
   -- where the sink took all
-  all_received : (settings : Settings) (dump : List ℕ) (window : ℕ) (taken : List (Checked D run)) (put got : List NumberedPiece) (end : Option End) (last : End) (stray failed : Bool)
-      (first now : Option (List ℕ)) (count : ℕ) → HasSequenced settings dump window taken put end stray → end ≡ Some last → got ≡ put → failed ≡ false
+  all_received : (settings : Settings) (dump : List ℕ) (window : ℕ) (taken : List (Checked D run))
+      (put got : List NumberedPiece) (end : Option End) (last : End) (stray failed : Bool)
+      (first now : Option (List ℕ)) (count : ℕ) → HasSequenced settings dump window taken put end stray
+      → end ≡ Some last → got ≡ put → failed ≡ false
       → (r : HasReceived failed (text_of got) first now count) → IsEndOf settings dump last r.received
   all_received settings dump window taken put got end last stray failed first now count h at same is r =
       subst (IsEndOf settings dump last)
-      (sym (subst (λ (b : Bool). MatchBool b (IsPrefixOf r.received (text_of got)) (r.received ≡ text_of got)) is r.part ∙ ap (λ (l : List NumberedPiece). text_of l) same))
+      (sym (subst (λ (b : Bool). MatchBool b (IsPrefixOf r.received (text_of got)) (r.received ≡ text_of got)) is r.part
+      ∙ ap (λ (l : List NumberedPiece). text_of l) same))
       (subst (λ (e : Option End). HasEndedWith settings dump e (length put) (text_of put)) at h.text)
 
-  pub ended_so : (settings : Settings) (dump : List ℕ) (window : ℕ) (taken : List (Checked D run)) (put got : List NumberedPiece) (end : Option End) (last : End) (stray failed : Bool)
-      (first now : Option (List ℕ)) (count : ℕ) → HasSequenced settings dump window taken put end stray → end ≡ Some last → got ≡ put → failed ≡ false
+  pub ended_so : (settings : Settings) (dump : List ℕ) (window : ℕ) (taken : List (Checked D run))
+      (put got : List NumberedPiece) (end : Option End) (last : End) (stray failed : Bool)
+      (first now : Option (List ℕ)) (count : ℕ) → HasSequenced settings dump window taken put end stray
+      → end ≡ Some last → got ≡ put → failed ≡ false
       → HasReceived failed (text_of got) first now count → RunLeaves settings dump first now (end_answer last count)
   ended_so settings dump window taken put got end (ends.Clean report) stray failed first now count h at same is r =
       record { received = r.received; appended = r.appended; answered = all_received settings dump window taken put got end (ends.Clean report) stray failed first now count h at same is r }
-  ended_so settings dump window taken put got end (ends.Fault which number place) stray failed first now count h at same is r =
+  ended_so settings dump window taken put got end
+      (ends.Fault which number place) stray failed first now count h at same is r =
       record { received = r.received; appended = r.appended; answered = all_received settings dump window taken put got end (ends.Fault which number place) stray failed first now count h at same is r }
   ended_so settings dump window taken put got end ends.Memory stray failed first now count h at same is r =
-      record { received = r.received; appended = r.appended; answered = (all_received settings dump window taken put got end ends.Memory stray failed first now count h at same is r, r.sized) }
+      record {
+        received = r.received;
+        appended = r.appended;
+        answered = (
+          all_received settings dump window taken put got end ends.Memory stray failed first now count h at same is r,
+          r.sized,
+        );
+      }
 
 -- nothing was written
-pub nothing_written : (settings : Settings) (dump : List ℕ) (old : Option (List ℕ)) (failure : Failure) → RunLeaves settings dump old old (answers.Failed failure 0)
+pub nothing_written : (settings : Settings) (dump : List ℕ) (old : Option (List ℕ)) (failure : Failure)
+    → RunLeaves settings dump old old (answers.Failed failure 0)
 nothing_written settings dump old failure = record {
   received = [];
   appended = Appends-nil old;
@@ -183,7 +231,8 @@ nothing_written settings dump old failure = record {
 }
 
 -- where the threads ended, none was refused
-pub threads_fail : (answer : Answer) → ((written : ℕ) → answer ≢ answers.Failed failures.Threads written) → ThreadsFailFirst answer
+pub threads_fail : (answer : Answer) → ((written : ℕ) → answer ≢ answers.Failed failures.Threads written)
+    → ThreadsFailFirst answer
 threads_fail (answers.Clean report) h = tt
 threads_fail (answers.Fault which number place) h = tt
 threads_fail (answers.Failed failures.Sink written) h = tt
@@ -191,14 +240,16 @@ threads_fail (answers.Failed failures.Memory written) h = tt
 threads_fail (answers.Failed failures.Threads written) h = absurd (h written refl)
 
 -- no end of the sequencer is a refused thread or a failure of the sink
-pub end_no_threads : (end : End) (count written : ℕ) → end_answer end count ≡ answers.Failed failures.Threads written → ⊥
+pub end_no_threads : (end : End) (count written : ℕ) → end_answer end count ≡ answers.Failed failures.Threads written
+    → ⊥
 end_no_threads end count written is = by end (is_threads-of end is)
   where
     is_threads : Answer → Bool
     is_threads (answers.Failed failures.Threads n) = true
     is_threads other = false
 
-    is_threads-of : (e : End) → end_answer e count ≡ answers.Failed failures.Threads written → is_threads (end_answer e count) ≡ true
+    is_threads-of : (e : End) → end_answer e count ≡ answers.Failed failures.Threads written
+        → is_threads (end_answer e count) ≡ true
     is_threads-of e same = ap is_threads same
 
     by : (e : End) → is_threads (end_answer e count) ≡ true → ⊥

@@ -7,8 +7,10 @@ use Rattle.dump_pipeline.specs.steps.Parts.{HasReceived}
 use Rattle.dump_pipeline.specs.steps.Sending.{StopsShort}
 
 -- only its first bytes were taken
-pub part_received : (failed : Bool) (text piece : List ℕ) (first old new : Option (List ℕ)) (count more : ℕ) → failed ≡ false
-    → HasReceived failed text first old count → StopsShort old new piece count more → HasReceived true (text ++ piece) first new more
+pub part_received : (failed : Bool) (text piece : List ℕ) (first old new : Option (List ℕ)) (count more : ℕ)
+    → failed ≡ false
+    → HasReceived failed text first old count → StopsShort old new piece count more
+    → HasReceived true (text ++ piece) first new more
 part_received failed text piece first old new count more fine h short = record {
   received = h.received ++ take short.part piece;
   appended = Appends-trans first old new h.received (take short.part piece) h.appended short.appended;

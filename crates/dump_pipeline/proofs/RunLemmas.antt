@@ -43,26 +43,31 @@ pub goes_on : (settings : Settings) (dump : List ℕ) (before : List DumpRecord)
 goes_on settings dump before text begins free written = by_law (each_dump_has_one_list dump)
   where
     by_law : ((all : List DumpRecord) × (ending : Ending) × HasRecords dump all ending
-        × ((others : List DumpRecord) (end : Ending) → HasRecords dump others end → (others ≡ all) × (end ≡ ending))) → IsFilterPrefix settings dump text
-    by_law (all, ending, has, once) = by_outcome (follow settings before rest (lawful_behind before rest lawful) free reached)
+        × ((others : List DumpRecord) (end : Ending) → HasRecords dump others end → (others ≡ all) × (end ≡ ending)))
+        → IsFilterPrefix settings dump text
+    by_law (all, ending, has, once) = by_outcome (follow settings before rest
+        (lawful_behind before rest lawful) free reached)
       where
         rest : List DumpRecord
         rest = drop (length before) all
 
         split : all ≡ before ++ rest
-        split = sym (take-append-drop (length before) all) ∙ ap (λ (l : List DumpRecord). l ++ rest) (sym (is_front dump all ending has before begins))
+        split = sym (take-append-drop (length before) all) ∙ ap (λ (l : List DumpRecord). l ++ rest)
+            (sym (is_front dump all ending has before begins))
 
         lawful : AllLawful (before ++ rest)
         lawful = subst AllLawful split (all_lawful 0 0 dump has.0 all has.1)
 
         found : Reached settings ([] ++ before)
-        found = reach settings [] before (lawful_front before rest lawful) free (free_none settings) (reached_none settings)
+        found = reach settings [] before (lawful_front before rest lawful) free (free_none settings)
+            (reached_none settings)
 
         reached : Reached settings before
         reached = found
 
         same : reached.text ≡ text
-        same = outputs_once settings false (kept_revisions settings before) before reached.text text (reached_written settings before reached) written
+        same = outputs_once settings false (kept_revisions settings before) before reached.text text
+            (reached_written settings before reached) written
 
         prefix : (final : List ℕ) (more : List ℕ) → final ≡ reached.text ++ more → IsPrefixOf text final
         prefix final more is = (more, is ∙ ap (λ t. t ++ more) same)
@@ -70,10 +75,25 @@ goes_on settings dump before text begins free written = by_law (each_dump_has_on
         by_outcome : Outcome settings before rest reached.text → IsFilterPrefix settings dump text
         by_outcome (Stops mid after r which at free' fault more out) =
             let listed : BeginsWithRecords dump (((before ++ mid) ++ r ∷ []) ++ after) =
-            subst (BeginsWithRecords dump) (split ∙ ap (λ (l : List DumpRecord). before ++ l) at ∙ sym (append_assoc before mid (r ∷ after)) ∙ sym (append_assoc (before ++ mid) (r ∷ []) after)) (has.0, has.1, has.2) in (
+            subst (BeginsWithRecords dump) (split ∙ ap (λ (l : List DumpRecord). before ++ l) at
+            ∙ sym (append_assoc before mid (r ∷ after)) ∙ sym (append_assoc (before ++ mid) (r ∷ []) after))
+            (has.0, has.1, has.2) in (
               reached.text ++ more,
               answers.Fault which (length (before ++ mid)) r.place,
-              (before ++ mid, (free', inl (r, begins_prefix dump ((before ++ mid) ++ r ∷ []) after listed, fault, refl)), out, refl),
+              (
+                before ++ mid,
+                (
+                  free',
+                  inl (
+                    r,
+                    begins_prefix dump ((before ++ mid) ++ r ∷ []) after listed,
+                    fault,
+                    refl,
+                  ),
+                ),
+                out,
+                refl,
+              ),
               prefix (reached.text ++ more) more refl,
             )
         by_outcome (Ends free' more out end whole) = by_ending ending has
@@ -82,21 +102,37 @@ goes_on settings dump before text begins free written = by_law (each_dump_has_on
             by_ending Ending.Whole h = (
               (reached.text ++ more) ++ end,
               answers.Clean (report_of settings (before ++ rest)),
-              (before ++ rest, record { whole = subst (λ (l : List DumpRecord). HasRecords dump l Ending.Whole) split h; fault_free = free'; written = whole }, refl),
+              (
+                before ++ rest,
+                record {
+                  whole = subst
+                      (λ (l : List DumpRecord). HasRecords dump l Ending.Whole) split h;
+                  fault_free = free';
+                  written = whole;
+                },
+                refl,
+              ),
               prefix ((reached.text ++ more) ++ end) (more ++ end) (append_assoc reached.text more end),
             )
             by_ending (Ending.Broken fault place) h = (
               reached.text ++ more,
               answers.Fault fault (length (before ++ rest)) place,
-              (before ++ rest, (free', inr (subst (λ (l : List DumpRecord). HasRecords dump l (Ending.Broken fault place)) split h)), out, refl),
+              (
+                before ++ rest,
+                (free', inr (subst (λ (l : List DumpRecord). HasRecords dump l (Ending.Broken fault place)) split h)),
+                out,
+                refl,
+              ),
               prefix (reached.text ++ more) more refl,
             )
 
 pub begun : (settings : Settings) (dump : List ℕ) (cutter : CutterState) (filter : FilterState) (old : Option (List ℕ))
-    → cutter ≡ record { dump = dump; number = 0 } → filter ≡ first_state settings → Progress settings dump cutter filter old old 0
+    → cutter ≡ record { dump = dump; number = 0 } → filter ≡ first_state settings
+    → Progress settings dump cutter filter old old 0
 begun settings dump cutter filter old cut first =
     subst (λ (c : CutterState). Progress settings dump c filter old old 0) (sym cut)
-    (subst (λ (f : FilterState). Progress settings dump (record { dump = dump; number = 0 }) f old old 0) (sym first) at_first)
+    (subst (λ (f : FilterState). Progress settings dump (record { dump = dump; number = 0 }) f old old 0)
+    (sym first) at_first)
   where
     at_first : Progress settings dump (record { dump = dump; number = 0 }) (first_state settings) old old 0
     at_first = record {
@@ -122,23 +158,29 @@ accepted_once : (settings : Settings) (last : Option Seen) (active : Bool) (a b 
 accepted_once settings None active a b p q = p ∙ sym q
 accepted_once settings (Some seen) active a b p q = begins_once seen.dump a b (p.1 ∙ sym q.1) p.0 q.0
 
-module _ (settings : Settings) (dump : List ℕ) (cutter : CutterState) (filter : FilterState) (old mid : Option (List ℕ)) (written : ℕ)
+module _ (settings : Settings) (dump : List ℕ) (cutter : CutterState) (filter : FilterState) (old mid : Option (List ℕ))
+    (written : ℕ)
     (p : Progress settings dump cutter filter old mid written) where
   ends_here : (ending : Ending) → EndsAfter cutter.dump cutter.number ending → HasRecords dump p.before ending
   ends_here ending ends = whole_list dump p.before ending p.begins
-      (subst (λ (d : List ℕ). EndsAfter d (length p.before) ending) p.cut (subst (λ n. EndsAfter cutter.dump n ending) (sym p.count) ends))
+      (subst (λ (d : List ℕ). EndsAfter d (length p.before) ending) p.cut
+      (subst (λ n. EndsAfter cutter.dump n ending) (sym p.count) ends))
 
   listed : (r : DumpRecord) → IsRecordOf cutter.dump cutter.number r → BeginsWithRecords dump (p.before ++ r ∷ [])
   listed r is = one_more dump p.before r p.begins
-      ∣ subst (λ (d : List ℕ). IsRecordOf d (length p.before) r) p.cut (subst (λ n. IsRecordOf cutter.dump n r) (sym p.count) is) ∣₁
+      ∣ subst (λ (d : List ℕ). IsRecordOf d (length p.before) r) p.cut
+      (subst (λ n. IsRecordOf cutter.dump n r) (sym p.count) is) ∣₁
 
   no_fault_in : (r : DumpRecord) (piece : List ℕ) → Accepts filter r piece → AreFaultFree settings (p.before ++ r ∷ [])
   no_fault_in r piece accepts = free_more settings p.before r p.free
       (subst (λ (s : Settings). NoFault (HoldsOfRecord s p.before r)) p.settings_is (accepts p.before p.accepted).0)
 
-  written_with : (r : DumpRecord) (piece : List ℕ) → Accepts filter r piece → IsWritten settings false (p.before ++ r ∷ []) (p.text ++ piece)
-  written_with r piece accepts = subst (λ (s : Settings). IsWritten s false (p.before ++ r ∷ []) (p.text ++ piece)) p.settings_is
-      ((accepts p.before p.accepted).1 p.text (subst (λ (s : Settings). IsWritten s false p.before p.text) (sym p.settings_is) p.out))
+  written_with : (r : DumpRecord) (piece : List ℕ) → Accepts filter r piece
+      → IsWritten settings false (p.before ++ r ∷ []) (p.text ++ piece)
+  written_with r piece accepts = subst (λ (s : Settings). IsWritten s false (p.before ++ r ∷ [])
+      (p.text ++ piece)) p.settings_is
+      ((accepts p.before p.accepted).1 p.text (subst (λ (s : Settings). IsWritten s false p.before p.text)
+      (sym p.settings_is) p.out))
 
   -- the count of the bytes behind a part of a piece
   part_sized : (part : ℕ) (piece : List ℕ) (count : ℕ) → part < length piece → count ≡ capped (written + part)
@@ -152,10 +194,12 @@ module _ (settings : Settings) (dump : List ℕ) (cutter : CutterState) (filter 
   prefix_of_piece : (part : ℕ) (piece : List ℕ) → IsPrefixOf (p.text ++ take part piece) (p.text ++ piece)
   prefix_of_piece part piece = (
     drop part piece,
-    ap (λ (t : List ℕ). p.text ++ t) (sym (take-append-drop part piece)) ∙ sym (append_assoc p.text (take part piece) (drop part piece)),
+    ap (λ (t : List ℕ). p.text ++ t) (sym (take-append-drop part piece))
+        ∙ sym (append_assoc p.text (take part piece) (drop part piece)),
   )
 
-  goes_on_behind : (text : List ℕ) (before : List DumpRecord) (received : List ℕ) → IsPrefixOf received text → BeginsWithRecords dump before
+  goes_on_behind : (text : List ℕ) (before : List DumpRecord) (received : List ℕ) → IsPrefixOf received text
+      → BeginsWithRecords dump before
       → AreFaultFree settings before → IsWritten settings false before text → IsFilterPrefix settings dump received
   goes_on_behind text before received front begins free out =
       let (whole, answer, is, more) = goes_on settings dump before text begins free out in
@@ -167,7 +211,8 @@ module _ (settings : Settings) (dump : List ℕ) (cutter : CutterState) (filter 
     whole = ends_here Ending.Whole ends;
     fault_free = p.free;
     written = subst (λ (s : Settings). IsWritten s true p.before (p.text ++ piece)) p.settings_is
-        (finishes p.before p.text p.accepted (subst (λ (s : Settings). IsWritten s false p.before p.text) (sym p.settings_is) p.out));
+        (finishes p.before p.text p.accepted (subst (λ (s : Settings). IsWritten s false p.before p.text)
+        (sym p.settings_is) p.out));
   }
 
   pub finished : (new : Option (List ℕ)) (answer : Answer) → EndsAfter cutter.dump cutter.number Ending.Whole
@@ -184,7 +229,15 @@ module _ (settings : Settings) (dump : List ℕ) (cutter : CutterState) (filter 
   finished new (answers.Failed failures.Sink count) ends (piece, finishes, short) = record {
     received = p.text ++ take short.part piece;
     appended = Appends-trans old mid new p.text (take short.part piece) p.appended short.appended;
-    answered = ((p.text ++ piece, answers.Clean (report_of settings p.before), (p.before, clean_text piece ends finishes, refl), prefix_of_piece short.part piece), part_sized short.part piece count short.short short.count_is);
+    answered = (
+      (
+        p.text ++ piece,
+        answers.Clean (report_of settings p.before),
+        (p.before, clean_text piece ends finishes, refl),
+        prefix_of_piece short.part piece,
+      ),
+      part_sized short.part piece count short.short short.count_is,
+    );
   }
   finished new (answers.Failed failures.Memory count) ends (appended, same) = record {
     received = p.text;
@@ -202,7 +255,8 @@ module _ (settings : Settings) (dump : List ℕ) (cutter : CutterState) (filter 
     answered = (p.before, (p.free, inr (ends_here (Ending.Broken kind place) ends)), p.out, is ∙ p.next ∙ sym p.count);
   }
 
-  pub refused : (r : DumpRecord) (kind : FaultKind) (place number : ℕ) → IsRecordOf cutter.dump cutter.number r → Refuses filter r kind
+  pub refused : (r : DumpRecord) (kind : FaultKind) (place number : ℕ) → IsRecordOf cutter.dump cutter.number r
+      → Refuses filter r kind
       → number ≡ cutter.number → place ≡ r.place → RunLeaves settings dump old mid (answers.Fault kind number place)
   refused r kind place number is (before, accepted, fault) counted at = record {
     received = p.text;
@@ -232,25 +286,30 @@ module _ (settings : Settings) (dump : List ℕ) (cutter : CutterState) (filter 
     answered = (goes_on settings dump p.before p.text p.begins p.free p.out, p.sized);
   }
 
-  pub sink_failed : (r : DumpRecord) (piece : List ℕ) (new : Option (List ℕ)) (count : ℕ) → IsRecordOf cutter.dump cutter.number r
-      → Accepts filter r piece → StopsShort mid new piece written count → RunLeaves settings dump old new (answers.Failed failures.Sink count)
+  pub sink_failed : (r : DumpRecord) (piece : List ℕ) (new : Option (List ℕ)) (count : ℕ)
+      → IsRecordOf cutter.dump cutter.number r
+      → Accepts filter r piece → StopsShort mid new piece written count → RunLeaves settings dump old new
+      (answers.Failed failures.Sink count)
   sink_failed r piece new count is accepts short = record {
     received = p.text ++ take short.part piece;
     appended = Appends-trans old mid new p.text (take short.part piece) p.appended short.appended;
     answered = (
-      goes_on_behind (p.text ++ piece) (p.before ++ r ∷ []) (p.text ++ take short.part piece) (prefix_of_piece short.part piece)
+      goes_on_behind (p.text ++ piece) (p.before ++ r ∷ []) (p.text ++ take short.part piece)
+          (prefix_of_piece short.part piece)
           (listed r is) (no_fault_in r piece accepts) (written_with r piece accepts),
       part_sized short.part piece count short.short short.count_is,
     );
   }
 
-  pub stepped : (r : Record) (cutter' : CutterState) (filter' : FilterState) (piece : List ℕ) (new : Option (List ℕ)) (count : ℕ)
+  pub stepped : (r : Record) (cutter' : CutterState) (filter' : FilterState) (piece : List ℕ) (new : Option (List ℕ))
+      (count : ℕ)
       → CutStep cutter (cuts.Item r) cutter' → Accepts filter (record_item r) piece
       → filter' ≡ record filter { last = Some (record { dump = record_dump r; number = record_number r }) }
       → Sends mid new piece written count → Progress settings dump cutter' filter' old new count
   stepped r cutter' filter' piece new count (of, number, is, next) accepts same sends =
       subst (λ (c : CutterState). Progress settings dump c filter' old new count) (sym next)
-      (subst (λ (f : FilterState). Progress settings dump (record cutter { number = cutter.number + 1 }) f old new count) (sym same) after)
+      (subst (λ (f : FilterState). Progress settings dump
+      (record cutter { number = cutter.number + 1 }) f old new count) (sym same) after)
     where
       item : DumpRecord
       item = record_item r
@@ -270,7 +329,11 @@ module _ (settings : Settings) (dump : List ℕ) (cutter : CutterState) (filter 
         cut = p.cut;
         settings_is = p.settings_is;
         active = p.active;
-        accepted = (subst (λ (d : List ℕ). BeginsWithRecords d (p.before ++ item ∷ [])) (sym (of ∙ p.cut)) begins, size ∙ ap (λ n. n + 1) (sym number));
+        accepted = (
+          subst (λ (d : List ℕ). BeginsWithRecords d (p.before ++ item ∷ [])) (sym (of ∙ p.cut)) begins,
+          size
+              ∙ ap (λ n. n + 1) (sym number),
+        );
         same_dump = of ∙ p.cut;
         next = ap (λ n. n + 1) number;
         free = no_fault_in item piece accepts;
@@ -281,7 +344,8 @@ module _ (settings : Settings) (dump : List ℕ) (cutter : CutterState) (filter 
       }
 
   -- no more records than bytes are taken
-  pub smaller : (r : Record) (cutter' : CutterState) → CutStep cutter (cuts.Item r) cutter' → length dump - cutter'.number < length dump - cutter.number
+  pub smaller : (r : Record) (cutter' : CutterState) → CutStep cutter (cuts.Item r) cutter'
+      → length dump - cutter'.number < length dump - cutter.number
   smaller r cutter' (of, number, is, next) =
       let begins = listed (record_item r) is in
       let fits = count_fits 0 0 dump begins.0 (p.before ++ record_item r ∷ []) begins.1 in

@@ -32,23 +32,27 @@ ends_within dump number ending (records, (rest, cut, _, _), count) =
     let fits = count_fits 0 0 dump rest records cut in omega arith
 
 -- a cutter's step, by the number of records that it has given
-pub cut_number : (old new : CutterState) (dump : List ℕ) (number : ℕ) (r : Record) → old ≡ record { dump = dump; number = number }
+pub cut_number : (old new : CutterState) (dump : List ℕ) (number : ℕ) (r : Record)
+    → old ≡ record { dump = dump; number = number }
     → CutStep old (cuts.Item r) new → record_number r ≡ number
 cut_number old new dump number r is (of, same, item, next) = same ∙ ap (λ (c : CutterState). c.number) is
 
-pub cut_next : (old new : CutterState) (dump : List ℕ) (number : ℕ) (r : Record) → old ≡ record { dump = dump; number = number }
+pub cut_next : (old new : CutterState) (dump : List ℕ) (number : ℕ) (r : Record)
+    → old ≡ record { dump = dump; number = number }
     → CutStep old (cuts.Item r) new → new ≡ record { dump = dump; number = number + 1 }
 cut_next old new dump number r is (of, same, item, next) =
     next ∙ ap (λ (c : CutterState). record c { number = c.number + 1 }) is
 
-pub cut_end : (old : CutterState) (dump : List ℕ) (number : ℕ) (ending : Ending) → old ≡ record { dump = dump; number = number }
+pub cut_end : (old : CutterState) (dump : List ℕ) (number : ℕ) (ending : Ending)
+    → old ≡ record { dump = dump; number = number }
     → EndsAfter old.dump old.number ending → EndsAfter dump number ending
 cut_end old dump number ending is = subst (λ (c : CutterState). EndsAfter c.dump c.number ending) is
 
 module _ {D : Type 0} {run : Ghosts D} where
   -- the cutter puts one more job
   pub put_more : (count : ℕ) (old a b c : CutterSide (Job D run)) (job : Job D run) → HasPut count old a
-      → b ≡ record a { drawn = b.drawn } → a.drawn < b.drawn → c ≡ record b { put = b.put ++ job ∷ [] } → job.number ≡ count → HasPut (count + 1) old c
+      → b ≡ record a { drawn = b.drawn } → a.drawn < b.drawn → c ≡ record b { put = b.put ++ job ∷ [] }
+      → job.number ≡ count → HasPut (count + 1) old c
   put_more count old a b c job h drew more put is = subst (HasPut (count + 1) old) (sym put) at_b
     where
       put_is : b.put ≡ a.put
@@ -61,12 +65,14 @@ module _ {D : Type 0} {run : Ghosts D} where
         open_ = ap (λ (x : CutterSide (Job D run)). x.marks) drew ∙ h.open_;
         numbers = map-append job_number b.put (job ∷ [])
             ∙ (ap (λ (l : List (Job D run)). job_numbers l ++ job.number ∷ []) put_is
-            ∙ (ap (λ (l : List ℕ). l ++ job.number ∷ []) h.numbers ∙ (ap (λ (n : ℕ). first_numbers count ++ n ∷ []) is ∙ sym (first_more count))));
+            ∙ (ap (λ (l : List ℕ). l ++ job.number ∷ []) h.numbers
+            ∙ (ap (λ (n : ℕ). first_numbers count ++ n ∷ []) is ∙ sym (first_more count))));
         credits = let k = h.credits in omega arith;
       }
 
   -- the cutter has put the last job
-  pub all_put : (dump : List ℕ) (total : ℕ) (ending : Ending) (old new : CutterSide (Job D run)) (seen : Bool) → EndsAfter dump total ending
+  pub all_put : (dump : List ℕ) (total : ℕ) (ending : Ending) (old new : CutterSide (Job D run)) (seen : Bool)
+      → EndsAfter dump total ending
       → HasPut (total + 1) old new → HasCut dump new seen
   all_put dump total ending old new seen ends h =
       record { count = total + 1; numbers = h.numbers; credits = h.credits; whole = λ _. (total, ending, ends, refl) }
@@ -81,45 +87,61 @@ not_none_so (Some x) h = (x, refl)
 
 module _ {D : Type 0} {run : Ghosts D} where
   -- at first the row is empty
-  pub row_first : (taken : List (Checked D run)) (places : List (Option (Checked D run))) → taken ≡ [] → places ≡ replicate (length places) None
+  pub row_first : (taken : List (Checked D run)) (places : List (Option (Checked D run))) → taken ≡ []
+      → places ≡ replicate (length places) None
       → Row checked_number (length places) 0 (checked_numbers taken) places
   row_first taken places none empty =
       let w : ℕ = length places in
       subst (λ (t : List (Checked D run)). Row checked_number w 0 (checked_numbers t) places) (sym none)
-      (subst (λ (p : List (Option (Checked D run))). Row checked_number w 0 [] p) (sym empty) (empty_row checked_number w))
+      (subst (λ (p : List (Option (Checked D run))). Row checked_number w 0 [] p) (sym empty)
+      (empty_row checked_number w))
 
-  numbers_more : (taken : List (Checked D run)) (done : Checked D run) → checked_numbers (taken ++ done ∷ []) ≡ checked_numbers taken ++ done.number ∷ []
+  numbers_more : (taken : List (Checked D run)) (done : Checked D run)
+      → checked_numbers (taken ++ done ∷ []) ≡ checked_numbers taken ++ done.number ∷ []
   numbers_more taken done = map-append checked_number taken (done ∷ [])
 
   -- nothing was lifted
-  pub row_unlifted : (w r : ℕ) (arrived : List ℕ) (old new : List (Option (Checked D run))) (o : Option (Checked D run)) → Row checked_number w r arrived old
+  pub row_unlifted : (w r : ℕ) (arrived : List ℕ) (old new : List (Option (Checked D run))) (o : Option (Checked D run))
+      → Row checked_number w r arrived old
       → o ≡ slot_item old r → o ≡ None → new ≡ with_slot_item old r None → Row checked_number w r arrived new
-  row_unlifted w r arrived old new o h is none set = subst (Row checked_number w r arrived) (sym set) (same_row checked_number w r arrived old h (sym is ∙ none))
+  row_unlifted w r arrived old new o h is none set = subst (Row checked_number w r arrived) (sym set)
+      (same_row checked_number w r arrived old h (sym is ∙ none))
 
   -- the next was lifted
-  pub row_lifted : (w r : ℕ) (arrived : List ℕ) (old new : List (Option (Checked D run))) (o : Option (Checked D run)) (done : Checked D run) → 0 < length old
-      → Row checked_number w r arrived old → o ≡ slot_item old r → o ≡ Some done → done.number ≡ r → new ≡ with_slot_item old r None
+  pub row_lifted : (w r : ℕ) (arrived : List ℕ) (old new : List (Option (Checked D run))) (o : Option (Checked D run))
+      (done : Checked D run) → 0 < length old
+      → Row checked_number w r arrived old → o ≡ slot_item old r → o ≡ Some done → done.number ≡ r
+      → new ≡ with_slot_item old r None
       → Row checked_number w (r + 1) arrived new
   row_lifted w r arrived old new o done some h is stands same set =
-      subst (Row checked_number w (r + 1) arrived) (sym set) (released_more checked_number w r arrived old done some h (sym is ∙ stands) same)
+      subst (Row checked_number w (r + 1) arrived) (sym set)
+      (released_more checked_number w r arrived old done some h (sym is ∙ stands) same)
 
   -- another than the next was lifted
-  pub lifted_wrong : (w r : ℕ) (arrived : List ℕ) (old : List (Option (Checked D run))) (o : Option (Checked D run)) (done : Checked D run) → 0 < length old
+  pub lifted_wrong : (w r : ℕ) (arrived : List ℕ) (old : List (Option (Checked D run))) (o : Option (Checked D run))
+      (done : Checked D run) → 0 < length old
       → Row checked_number w r arrived old → o ≡ slot_item old r → o ≡ Some done → done.number ≢ r → Clash w r arrived
-  lifted_wrong w r arrived old o done some h is stands other = wrong_item checked_number w r arrived old done some h (sym is ∙ stands) other
+  lifted_wrong w r arrived old o done some h is stands other = wrong_item checked_number w r arrived old done some h
+      (sym is ∙ stands) other
 
   -- an item was put into its place
-  pub row_placed : (w r : ℕ) (taken taken' : List (Checked D run)) (old new : List (Option (Checked D run))) (done : Checked D run) → 0 < length old
-      → Row checked_number w r (checked_numbers taken) old → taken' ≡ taken ++ done ∷ [] → IsNone (slot_item old done.number)
+  pub row_placed : (w r : ℕ) (taken taken' : List (Checked D run)) (old new : List (Option (Checked D run)))
+      (done : Checked D run) → 0 < length old
+      → Row checked_number w r (checked_numbers taken) old → taken' ≡ taken ++ done ∷ []
+      → IsNone (slot_item old done.number)
       → new ≡ with_slot_item old done.number (Some done) → Row checked_number w r (checked_numbers taken') new
   row_placed w r taken taken' old new done some h more free set =
-      subst (λ (l : List ℕ). Row checked_number w r l new) (sym (ap (λ (t : List (Checked D run)). checked_numbers t) more ∙ numbers_more taken done))
+      subst (λ (l : List ℕ). Row checked_number w r l new)
+      (sym (ap (λ (t : List (Checked D run)). checked_numbers t) more ∙ numbers_more taken done))
       (subst (Row checked_number w r (checked_numbers taken ++ done.number ∷ [])) (sym set)
-      (arrived_more checked_number w r (checked_numbers taken) old done some h (is_none_so (slot_item old done.number) free)))
+      (arrived_more checked_number w r (checked_numbers taken) old done some h
+      (is_none_so (slot_item old done.number) free)))
 
   -- the place of an item was taken
-  pub place_clash : (w r : ℕ) (taken taken' : List (Checked D run)) (old : List (Option (Checked D run))) (done : Checked D run) → 0 < length old
-      → Row checked_number w r (checked_numbers taken) old → taken' ≡ taken ++ done ∷ [] → (IsNone (slot_item old done.number) → ⊥)
+  pub place_clash : (w r : ℕ) (taken taken' : List (Checked D run)) (old : List (Option (Checked D run)))
+      (done : Checked D run) → 0 < length old
+      → Row checked_number w r (checked_numbers taken) old → taken' ≡ taken ++ done ∷ []
+      → (IsNone (slot_item old done.number) → ⊥)
       → Clash w r (checked_numbers taken')
   place_clash w r taken taken' old done some h more full =
       let stands = not_none_so (slot_item old done.number) full in
@@ -127,74 +149,103 @@ module _ {D : Type 0} {run : Ghosts D} where
       (taken_place checked_number w r (checked_numbers taken) old done stands.0 some h stands.1)
 
   -- the next isn't there
-  pub none_lifted : (w r : ℕ) (arrived : List ℕ) (old : List (Option (Checked D run))) (o : Option (Checked D run)) → Row checked_number w r arrived old
+  pub none_lifted : (w r : ℕ) (arrived : List ℕ) (old : List (Option (Checked D run))) (o : Option (Checked D run))
+      → Row checked_number w r arrived old
       → o ≡ slot_item old r → o ≡ None → IsWaiting r arrived
   none_lifted w r arrived old o h is none = next_is_missing checked_number w r arrived old h (sym is ∙ none)
 
   -- what the sequencer gives back
-  pub sequenced_so : (settings : Settings) (dump : List ℕ) (w next : ℕ) (taken : List (Checked D run)) (put : List NumberedPiece) (end : Option End) (stray : Bool)
+  pub sequenced_so : (settings : Settings) (dump : List ℕ) (w next : ℕ) (taken : List (Checked D run))
+      (put : List NumberedPiece) (end : Option End) (stray : Bool)
       → HasEndedWith settings dump end next (text_of put) → piece_numbers put ≡ first_numbers next → length put ≡ next
-      → MatchBool stray (Clash w next (checked_numbers taken)) (IsWaiting next (checked_numbers taken)) → HasSequenced settings dump w taken put end stray
+      → MatchBool stray (Clash w next (checked_numbers taken)) (IsWaiting next (checked_numbers taken))
+      → HasSequenced settings dump w taken put end stray
   sequenced_so settings dump w next taken put end stray text numbered count order = record {
     text = subst (λ (n : ℕ). HasEndedWith settings dump end n (text_of put)) (sym count) text;
     numbered = subst (λ (n : ℕ). piece_numbers put ≡ first_numbers n) (sym count) numbered;
-    order = subst (λ (n : ℕ). MatchBool stray (Clash w n (checked_numbers taken)) (IsWaiting n (checked_numbers taken))) (sym count) order;
+    order = subst (λ (n : ℕ). MatchBool stray (Clash w n (checked_numbers taken)) (IsWaiting n (checked_numbers taken)))
+        (sym count) order;
   }
 
   -- what still comes is taken
-  pub sequenced_more : (settings : Settings) (dump : List ℕ) (w : ℕ) (taken taken' : List (Checked D run)) (put : List NumberedPiece) (end : Option End) (stray : Bool) → stray ≡ true
-      → HasSequenced settings dump w taken put end stray → (more : List ℕ) × (checked_numbers taken' ≡ checked_numbers taken ++ more) → HasSequenced settings dump w taken' put end true
+  pub sequenced_more : (settings : Settings) (dump : List ℕ) (w : ℕ) (taken taken' : List (Checked D run))
+      (put : List NumberedPiece) (end : Option End) (stray : Bool) → stray ≡ true
+      → HasSequenced settings dump w taken put end stray → (more : List ℕ)
+      × (checked_numbers taken' ≡ checked_numbers taken ++ more) → HasSequenced settings dump w taken' put end true
   sequenced_more settings dump w taken taken' put end stray is h (more, longer) = record {
     text = h.text;
     numbered = h.numbered;
     order = subst (λ (l : List ℕ). Clash w (length put) l) (sym longer)
-        (still_clash w (length put) (checked_numbers taken) more (subst (λ (b : Bool). MatchBool b (Clash w (length put) (checked_numbers taken)) (IsWaiting (length put) (checked_numbers taken))) is h.order));
+        (still_clash w (length put) (checked_numbers taken) more
+        (subst (λ (b : Bool). MatchBool b (Clash w (length put) (checked_numbers taken))
+        (IsWaiting (length put) (checked_numbers taken))) is h.order));
   }
 
   -- one more done was taken
-  pub more_taken : (old : List ℕ) (taken taken' : List (Checked D run)) (done : Checked D run) → (more : List ℕ) × (checked_numbers taken ≡ old ++ more)
+  pub more_taken : (old : List ℕ) (taken taken' : List (Checked D run)) (done : Checked D run) → (more : List ℕ)
+      × (checked_numbers taken ≡ old ++ more)
       → taken' ≡ taken ++ done ∷ [] → (more : List ℕ) × (checked_numbers taken' ≡ old ++ more)
-  more_taken old taken taken' done (more, is) longer =
-      (more ++ done.number ∷ [], ap (λ (t : List (Checked D run)). checked_numbers t) longer ∙ (numbers_more taken done ∙ (ap (λ (l : List ℕ). l ++ done.number ∷ []) is ∙ append_assoc old more (done.number ∷ []))))
+  more_taken old taken taken' done (more, is) longer = (
+    more ++ done.number ∷ [],
+    ap (λ (t : List (Checked D run)). checked_numbers t) longer
+        ∙ (numbers_more taken done ∙ (ap (λ (l : List ℕ). l ++ done.number ∷ []) is
+        ∙ append_assoc old more (done.number ∷ []))),
+  )
 
 -- a piece was released
-pub text_more : (pieces : List NumberedPiece) (piece : NumberedPiece) → text_of (pieces ++ piece ∷ []) ≡ text_of pieces ++ piece.piece
-text_more pieces piece = flat_map-append (λ (p : NumberedPiece). p.piece) pieces (piece ∷ []) ∙ ap (λ (l : List ℕ). text_of pieces ++ l) (append-nil piece.piece)
+pub text_more : (pieces : List NumberedPiece) (piece : NumberedPiece)
+    → text_of (pieces ++ piece ∷ []) ≡ text_of pieces ++ piece.piece
+text_more pieces piece = flat_map-append (λ (p : NumberedPiece). p.piece) pieces (piece ∷ [])
+    ∙ ap (λ (l : List ℕ). text_of pieces ++ l) (append-nil piece.piece)
 
-pub text_released : (settings : Settings) (dump : List ℕ) (stage : Stage) (next number : ℕ) (old new : Sending NumberedPiece) (piece : NumberedPiece)
+pub text_released : (settings : Settings) (dump : List ℕ) (stage : Stage) (next number : ℕ)
+    (old new : Sending NumberedPiece) (piece : NumberedPiece)
     → new ≡ record old { put = old.put ++ piece ∷ [] } → number ≡ next
-    → HasReleased settings dump stage (number + 1) (text_of old.put ++ piece.piece) → HasReleased settings dump stage (next + 1) (text_of new.put)
+    → HasReleased settings dump stage (number + 1) (text_of old.put ++ piece.piece) → HasReleased settings dump stage
+    (next + 1) (text_of new.put)
 text_released settings dump stage next number old new piece put is h =
     subst (λ (n : ℕ). HasReleased settings dump stage (n + 1) (text_of new.put)) is
-    (subst (HasReleased settings dump stage (number + 1)) (sym (ap (λ (x : Sending NumberedPiece). text_of x.put) put ∙ text_more old.put piece)) h)
+    (subst (HasReleased settings dump stage (number + 1))
+    (sym (ap (λ (x : Sending NumberedPiece). text_of x.put) put ∙ text_more old.put piece)) h)
 
-pub count_released : (next : ℕ) (old new : Sending NumberedPiece) (piece : NumberedPiece) → new ≡ record old { put = old.put ++ piece ∷ [] } → length old.put ≡ next
+pub count_released : (next : ℕ) (old new : Sending NumberedPiece) (piece : NumberedPiece)
+    → new ≡ record old { put = old.put ++ piece ∷ [] } → length old.put ≡ next
     → length new.put ≡ next + 1
-count_released next old new piece put is = ap (λ (x : Sending NumberedPiece). length x.put) put ∙ (length-append old.put (piece ∷ []) ∙ ap (λ (n : ℕ). n + 1) is)
+count_released next old new piece put is = ap (λ (x : Sending NumberedPiece). length x.put) put
+    ∙ (length-append old.put (piece ∷ []) ∙ ap (λ (n : ℕ). n + 1) is)
 
-pub numbers_released : (next : ℕ) (old new : Sending NumberedPiece) (piece : NumberedPiece) → new ≡ record old { put = old.put ++ piece ∷ [] } → piece.number ≡ next
+pub numbers_released : (next : ℕ) (old new : Sending NumberedPiece) (piece : NumberedPiece)
+    → new ≡ record old { put = old.put ++ piece ∷ [] } → piece.number ≡ next
     → piece_numbers old.put ≡ first_numbers next → piece_numbers new.put ≡ first_numbers (next + 1)
 numbers_released next old new piece put is h =
     ap (λ (x : Sending NumberedPiece). piece_numbers x.put) put
     ∙ (map-append (λ (p : NumberedPiece). p.number) old.put (piece ∷ [])
-    ∙ (ap (λ (l : List ℕ). l ++ piece.number ∷ []) h ∙ (ap (λ (n : ℕ). first_numbers next ++ n ∷ []) is ∙ sym (first_more next))))
+    ∙ (ap (λ (l : List ℕ). l ++ piece.number ∷ []) h
+    ∙ (ap (λ (n : ℕ). first_numbers next ++ n ∷ []) is ∙ sym (first_more next))))
 
 -- how far it has come tells what it ended with
-pub ended_so : (settings : Settings) (dump : List ℕ) (stage : Stage) (end : Option End) (next : ℕ) (text : List ℕ) → end ≡ stage_end stage
+pub ended_so : (settings : Settings) (dump : List ℕ) (stage : Stage) (end : Option End) (next : ℕ) (text : List ℕ)
+    → end ≡ stage_end stage
     → HasReleased settings dump stage next text → HasEndedWith settings dump end next text
-ended_so settings dump (Going filter) end next text is h = subst (λ (e : Option End). HasEndedWith settings dump e next text) (sym is) (filter, h)
-ended_so settings dump (Ended done) end next text is h = subst (λ (e : Option End). HasEndedWith settings dump e next text) (sym is) h
+ended_so settings dump (Going filter) end next text is h = subst
+    (λ (e : Option End). HasEndedWith settings dump e next text) (sym is) (filter, h)
+ended_so settings dump (Ended done) end next text is h = subst
+    (λ (e : Option End). HasEndedWith settings dump e next text) (sym is) h
 
 -- one more of both lists
-pub map_push : {X Y Z : Type 0} (f : X → Z) (g : Y → Z) (xs xs' : List X) (x : X) (ys : List Y) (y : Y) → xs' ≡ xs ++ x ∷ [] → map f xs ≡ map g ys → f x ≡ g y
+pub map_push : {X Y Z : Type 0} (f : X → Z) (g : Y → Z) (xs xs' : List X) (x : X) (ys : List Y) (y : Y)
+    → xs' ≡ xs ++ x ∷ [] → map f xs ≡ map g ys → f x ≡ g y
     → map f xs' ≡ map g (ys ++ y ∷ [])
 map_push {X} {Y} {Z} f g xs xs' x ys y more same at =
-    ap (λ (l : List X). map f l) more ∙ (map-append f xs (x ∷ []) ∙ (ap (λ (l : List Z). l ++ f x ∷ []) same ∙ (ap (λ (z : Z). map g ys ++ z ∷ []) at ∙ sym (map-append g ys (y ∷ [])))))
+    ap (λ (l : List X). map f l) more ∙ (map-append f xs (x ∷ [])
+    ∙ (ap (λ (l : List Z). l ++ f x ∷ []) same
+    ∙ (ap (λ (z : Z). map g ys ++ z ∷ []) at ∙ sym (map-append g ys (y ∷ [])))))
 
 pub all_push : {X : Type 0} (P : X → Type 0) (xs xs' : List X) (x : X) → xs' ≡ xs ++ x ∷ [] → All P xs → P x → All P xs'
 all_push {X} P xs xs' x more h p = subst (λ (l : List X). All P l) (sym more) (all_then P xs x h p)
 
-pub len_push : {Y : Type 0} (old new : ℕ) (ys : List Y) (y : Y) → new ≡ old + 1 → old ≡ length ys → new ≡ length (ys ++ y ∷ [])
+pub len_push : {Y : Type 0} (old new : ℕ) (ys : List Y) (y : Y) → new ≡ old + 1 → old ≡ length ys
+    → new ≡ length (ys ++ y ∷ [])
 len_push old new ys y more same = more ∙ (ap (λ (n : ℕ). n + 1) same ∙ sym (length-append ys (y ∷ [])))
 
 pub numbers_at_first : (put : List NumberedPiece) → put ≡ [] → piece_numbers put ≡ first_numbers 0

@@ -46,15 +46,20 @@ pub cut_append : (number place : ℕ) (before after rest : List ℕ) (rs ss : Li
     → IsCutInto number place before rs []
     → IsCutInto (number + length rs) (place + length before) after ss rest
     → IsCutInto number place (before ++ after) (rs ++ ss) rest
-cut_append number place before after rest [] [] (lfs, is, stop) (lfs', is', stop') =
-    (lfs + lfs', ap (λ t. t ++ after) (is ∙ append-nil (line_feeds lfs)) ∙ ap (λ t. line_feeds lfs ++ t) is' ∙ lfs_join lfs lfs' rest, stop')
+cut_append number place before after rest [] [] (lfs, is, stop) (lfs', is', stop') = (
+  lfs + lfs',
+  ap (λ t. t ++ after) (is ∙ append-nil (line_feeds lfs)) ∙ ap (λ t. line_feeds lfs ++ t) is'
+      ∙ lfs_join lfs lfs' rest,
+  stop',
+)
 cut_append number place before after rest [] (s ∷ ss) (lfs, is, stop) (lfs', front, behind, is', at, b, more) =
     let count : number + 0 ≡ number = omega arith in
     let size : length before ≡ lfs = ap length (is ∙ append-nil (line_feeds lfs)) ∙ lfs_length lfs in (
       lfs + lfs',
       front,
       behind,
-      ap (λ t. t ++ after) (is ∙ append-nil (line_feeds lfs)) ∙ ap (λ t. line_feeds lfs ++ t) is' ∙ lfs_join lfs lfs' front,
+      ap (λ t. t ++ after) (is ∙ append-nil (line_feeds lfs)) ∙ ap (λ t. line_feeds lfs ++ t) is'
+          ∙ lfs_join lfs lfs' front,
       at ∙ omega arith,
       subst (λ (n : ℕ). BeginsWithRecord n front s behind) count b,
       subst (λ (n : ℕ). IsCutInto (n + 1) (s.place + length (record_text s)) behind ss rest) count more,
@@ -90,7 +95,8 @@ record_some r =
     let lines = length-append (lines_bytes r.headers) (10 ∷ []) in
     omega arith
 
-pub count_fits : (number place : ℕ) (text rest : List ℕ) (rs : List DumpRecord) → IsCutInto number place text rs rest → length rs ≤ length text
+pub count_fits : (number place : ℕ) (text rest : List ℕ) (rs : List DumpRecord) → IsCutInto number place text rs rest
+    → length rs ≤ length text
 count_fits number place text rest [] cut = omega arith
 count_fits number place text rest (r ∷ rs) (lfs, front, behind, is, at, b, more) =
     let rest_fits = count_fits (number + 1) (r.place + length (record_text r)) behind rest rs more in
@@ -176,7 +182,8 @@ module _ (dump : List ℕ) (number place version gap : ℕ) (up : IsCutUpTo dump
     cut_on fits =
         let piece = line_feeds gap ++ record_text r in
         let whole : dump ≡ (at.before ++ piece) ++ drop after dump =
-        at.is ∙ ap (λ t. at.before ++ t) (behind ∙ ap (λ t. line_feeds gap ++ t) b.spelled ∙ sym (append_assoc (line_feeds gap) (record_text r) (drop after dump)))
+        at.is ∙ ap (λ t. at.before ++ t) (behind ∙ ap (λ t. line_feeds gap ++ t) b.spelled
+        ∙ sym (append_assoc (line_feeds gap) (record_text r) (drop after dump)))
         ∙ sym (append_assoc at.before piece (drop after dump)) in
         let sizes = ap length whole ∙ length-append (at.before ++ piece) (drop after dump) in
         let left = length-drop after dump in
@@ -210,7 +217,8 @@ module _ (dump : List ℕ) (number place version gap : ℕ) (up : IsCutUpTo dump
         (
           [],
           subst (λ (t : List ℕ). IsCutInto 0 0 t at.records []) (sym at.is)
-              (subst (λ (rs : List DumpRecord). IsCutInto 0 0 (at.before ++ drop place dump) rs []) (append-nil at.records)
+              (subst (λ (rs : List DumpRecord). IsCutInto 0 0 (at.before ++ drop place dump) rs [])
+              (append-nil at.records)
               (go_on dump number place version at (drop place dump) [] []
               (gap, behind ∙ ap (λ t. line_feeds gap ++ t) none, refl))),
           at.versions,
@@ -231,7 +239,8 @@ module _ (dump : List ℕ) (number place version gap : ℕ) (up : IsCutUpTo dump
         (
           rest,
           subst (λ (t : List ℕ). IsCutInto 0 0 t at.records rest) (sym at.is)
-              (subst (λ (rs : List DumpRecord). IsCutInto 0 0 (at.before ++ drop place dump) rs rest) (append-nil at.records)
+              (subst (λ (rs : List DumpRecord). IsCutInto 0 0 (at.before ++ drop place dump) rs rest)
+              (append-nil at.records)
               (go_on dump number place version at (drop place dump) rest [] (gap, behind, stop))),
           at.versions,
           (some_left, omega arith, subst (λ (n : ℕ). IsCutFault n rest fault) (sym at.count) cause),
@@ -244,26 +253,32 @@ module _ (dump : List ℕ) (number place version gap : ℕ) (up : IsCutUpTo dump
       no_records (r ∷ rs) none = absurd (omega arith)
 
       some_left : (drop (place + gap) dump ≢ []) ⊎ (at.records ≡ [])
-      some_left = elim (place + gap == length dump) as (λ (t : Bool). (place + gap == length dump) ≡ t → (drop (place + gap) dump ≢ []) ⊎ (at.records ≡ [])) [
-        | true ↦ λ is. inr (no_records at.records (at.count ∙ first (eqb-true _ _ is)))
-        | false ↦ λ is. inl (λ none. let size = ap length none in let left = length-drop (place + gap) dump in eqb-false (place + gap) (length dump) is (omega arith))
-      ] refl
+      some_left = elim (place + gap == length dump) as
+          (λ (t : Bool). (place + gap == length dump) ≡ t → (drop (place + gap) dump ≢ []) ⊎ (at.records ≡ [])) [
+            | true ↦ λ is. inr (no_records at.records (at.count ∙ first (eqb-true _ _ is)))
+            | false ↦ λ is. inl (λ none. let size = ap length none in let left = length-drop (place + gap) dump in eqb-false
+                (place + gap) (length dump) is (omega arith))
+          ] refl
 
 -- the LFs in a part of a dump up to its end
-pub gap_in : (dump : List ℕ) (place gap : ℕ) → IsGap (take (length dump - place) (drop place dump)) gap → IsGap (drop place dump) gap
+pub gap_in : (dump : List ℕ) (place gap : ℕ) → IsGap (take (length dump - place) (drop place dump)) gap
+    → IsGap (drop place dump) gap
 gap_in dump place gap lfs = subst (λ (t : List ℕ). IsGap t gap) (take_rest dump place) lfs
 
 -- the record of the parts that stand at a place of a dump, in the dump of its own block
 abbrev pub item_of : Parts → DumpRecord
 item_of parts =
-    record_between (block_dump parts.block) (block_place parts.block) (block_after parts.block) parts.text_from parts.after
+    record_between (block_dump parts.block) (block_place parts.block)
+    (block_after parts.block) parts.text_from parts.after
     parts.version
 
 module _ (dump : List ℕ) (place number before : ℕ) (parts : Parts) (at : StandsAt dump place number before parts) where
   pub own_inside : AreInside (block_dump parts.block) (block_after parts.block) parts.text_from parts.after
-  own_inside = subst (λ (d : List ℕ). AreInside d (block_after parts.block) parts.text_from parts.after) (sym at.dump_is) at.inside
+  own_inside = subst (λ (d : List ℕ). AreInside d (block_after parts.block) parts.text_from parts.after)
+      (sym at.dump_is) at.inside
 
-  pub own_stands : BeginsWithRecord number (drop (block_place parts.block) (block_dump parts.block)) (item_of parts) (drop parts.after (block_dump parts.block))
+  pub own_stands : BeginsWithRecord number (drop (block_place parts.block) (block_dump parts.block)) (item_of parts)
+      (drop parts.after (block_dump parts.block))
   own_stands =
       subst (λ (d : List ℕ). BeginsWithRecord number (drop (block_place parts.block) d)
       (record_between d (block_place parts.block) (block_after parts.block) parts.text_from parts.after parts.version)

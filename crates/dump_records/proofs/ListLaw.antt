@@ -36,7 +36,8 @@ judge : (whole : List ℕ) → has_byte 10 whole ≡ false → Judged whole
 judge whole none = by_colon (split 58 whole)
   where
     by_colon : Split 58 whole → Judged whole
-    by_colon (Lacks no_colon) = Other (λ h good is. clash 58 h.name (32 ∷ h.value) whole no_colon (is ∙ header_text-is h))
+    by_colon (Lacks no_colon) = Other (λ h good is. clash 58 h.name (32 ∷ h.value) whole no_colon
+        (is ∙ header_text-is h))
     by_colon (Cut [] rest cut no_colon) = Other (λ h good is.
         let l = lawful h good in
         let same = split_once 58 [] h.name rest (32 ∷ h.value) refl l.no_colon (sym cut ∙ is ∙ header_text-is h) in
@@ -45,7 +46,8 @@ judge whole none = by_colon (split 58 whole)
         cc)
     by_colon (Cut (c ∷ name) [] cut no_colon) = Other (λ h good is.
         let l = lawful h good in
-        let same = split_once 58 (c ∷ name) h.name [] (32 ∷ h.value) no_colon l.no_colon (sym cut ∙ is ∙ header_text-is h) in
+        let same = split_once 58 (c ∷ name) h.name [] (32 ∷ h.value) no_colon l.no_colon
+        (sym cut ∙ is ∙ header_text-is h) in
         let bad = same.1 in
         cc)
     by_colon (Cut (c ∷ name) (d ∷ value) cut no_colon) = by_space (d == 32) refl
@@ -54,18 +56,21 @@ judge whole none = by_colon (split 58 whole)
         by_space true is =
             let e = eqb-true d 32 is in
             let spelled : whole ≡ (c ∷ name) ++ 58 ∷ 32 ∷ value = cut ∙ ap (λ x. (c ∷ name) ++ 58 ∷ x ∷ value) e in
-            let found : IsCutAtColon whole (c ∷ name) value = record { spelled = spelled; named = grind arith; no_colon = no_colon } in
+            let found : IsCutAtColon whole
+            (c ∷ name) value = record { spelled = spelled; named = grind arith; no_colon = no_colon } in
             Header (record { name = c ∷ name; value = value }) (is_line whole (c ∷ name) value none found)
             (spelled ∙ sym (append_assoc (c ∷ name) (58 ∷ 32 ∷ []) value))
         by_space false is = Other (λ h good at.
             let l = lawful h good in
-            let same = split_once 58 (c ∷ name) h.name (d ∷ value) (32 ∷ h.value) no_colon l.no_colon (sym cut ∙ at ∙ header_text-is h) in
+            let same = split_once 58 (c ∷ name) h.name (d ∷ value) (32 ∷ h.value) no_colon l.no_colon
+            (sym cut ∙ at ∙ header_text-is h) in
             let e : d ≡ 32 = head_of d 32 value h.value same.1 in
             eqb-false d 32 is e)
 
 -- the header lines before an empty line, or that there are none
 data Scanned (text : List ℕ) : Type 0 where
-  Lines : (headers : List line.Header) (rest : List ℕ) → list_all is_header headers ≡ true → text ≡ lines_bytes headers ++ 10 ∷ rest → Scanned text
+  Lines : (headers : List line.Header) (rest : List ℕ) → list_all is_header headers ≡ true
+      → text ≡ lines_bytes headers ++ 10 ∷ rest → Scanned text
   NoLines : ¬ HasLines text → Scanned text
 
 scan_step : (text : List ℕ) → ((rest : List ℕ) → length rest < length text → Scanned rest) → Scanned text
@@ -74,7 +79,8 @@ scan_step text more = by_line (split 10 text)
     by_line : Split 10 text → Scanned text
     by_line (Lacks none) = NoLines (λ (hs, rest, all, is). clash 10 (lines_bytes hs) rest text none is)
     by_line (Cut [] rest cut one_line) = Lines [] rest refl cut
-    by_line (Cut (c ∷ whole) rest cut one_line) = by_kind (judge (c ∷ whole) one_line) (more rest (shorter (ap length cut ∙ length-append (c ∷ whole) (10 ∷ rest))))
+    by_line (Cut (c ∷ whole) rest cut one_line) = by_kind (judge (c ∷ whole) one_line)
+        (more rest (shorter (ap length cut ∙ length-append (c ∷ whole) (10 ∷ rest))))
       where
         shorter : length text ≡ length (c ∷ whole) + length (10 ∷ rest) → length rest < length text
         shorter sizes = omega arith
@@ -83,9 +89,11 @@ scan_step text more = by_line (split 10 text)
         first = record { cut = cut; one_line = one_line }
 
         by_kind : Judged (c ∷ whole) → Scanned rest → Scanned text
-        by_kind (Other other) left = NoLines (λ (hs, behind, all, is). no_line_here hs text (c ∷ whole) rest behind all first is (grind arith) other)
+        by_kind (Other other) left = NoLines (λ (hs, behind, all, is). no_line_here hs text
+            (c ∷ whole) rest behind all first is (grind arith) other)
         by_kind (Header h good is) (Lines hs behind all at) = Lines (h ∷ hs) behind (rw (good, all) refl)
-            (cut ∙ ap (λ w. w ++ 10 ∷ rest) is ∙ ap (λ t. header_text h ++ 10 ∷ t) at ∙ sym (regroup h hs (10 ∷ behind)))
+            (cut ∙ ap (λ w. w ++ 10 ∷ rest) is ∙ ap (λ t. header_text h ++ 10 ∷ t) at
+            ∙ sym (regroup h hs (10 ∷ behind)))
         by_kind (Header h good is) (NoLines none) = NoLines (λ (hs, behind, all, at).
             let one : list_all is_header (h ∷ []) ≡ true = rw good refl in
             let left = lines_behind (h ∷ []) hs rest behind one all
@@ -114,7 +122,8 @@ find_block text = by_lines (scan (length text) text (omega arith))
         by_names : (t : Bool) → is_block hs ≡ t → Found text
         by_names true good = Block hs rest record { block = good; spelled = spelled }
         by_names false bad = NoBlock (λ (ks, more, b).
-            let same = (lines_once hs ks rest more all (lawful_lines ks b.block) (sym is ∙ b.spelled ∙ append_assoc (lines_bytes ks) (10 ∷ []) more)).0 in
+            let same = (lines_once hs ks rest more all (lawful_lines ks b.block)
+            (sym is ∙ b.spelled ∙ append_assoc (lines_bytes ks) (10 ∷ []) more)).0 in
             let no_way : false ≡ true = sym bad ∙ ap is_block same ∙ b.block in
             cc)
 
@@ -130,12 +139,15 @@ stand number place version text = by_block (find_block text)
   where
     by_block : Found text → Stands number place version text
     by_block (NoBlock none) = Broken (block_fault text) (no_block number text none)
-    by_block (Block headers rest b) = by_rules (is_lawful number headers) refl (nat_lt (length rest) (property_length headers + text_length headers)) refl
+    by_block (Block headers rest b) = by_rules (is_lawful number headers) refl
+        (nat_lt (length rest) (property_length headers + text_length headers)) refl
       where
-        by_rules : (t : Bool) → is_lawful number headers ≡ t → (short : Bool) → nat_lt (length rest) (property_length headers + text_length headers) ≡ short
+        by_rules : (t : Bool) → is_lawful number headers ≡ t → (short : Bool)
+            → nat_lt (length rest) (property_length headers + text_length headers) ≡ short
             → Stands number place version text
         by_rules false bad short is = Broken (header_fault number headers) (unlawful number text headers rest b bad)
-        by_rules true good true is = Broken faults.ContentCut (cut_short number text headers rest b good (ltb-true _ _ is))
+        by_rules true good true is = Broken faults.ContentCut
+            (cut_short number text headers rest b good (ltb-true _ _ is))
         by_rules true good false is =
             let props = property_length headers in
             let size = text_length headers in
@@ -153,9 +165,13 @@ stand number place version text = by_block (find_block text)
               props_fit = length-take-le props rest (omega arith);
               text_fits = length-take-le size (drop props rest) (omega arith);
               spelled = b.spelled
-                  ∙ ap (λ t. block_text headers ++ t) (sym (take-append-drop props rest) ∙ ap (λ t. take props rest ++ t) (sym (take-append-drop size (drop props rest))))
-                  ∙ sym (append_assoc (block_text headers) (take props rest) (take size (drop props rest) ++ drop size (drop props rest)))
-                  ∙ sym (append_assoc (block_text headers ++ take props rest) (take size (drop props rest)) (drop size (drop props rest)));
+                  ∙ ap (λ t. block_text headers ++ t)
+                  (sym (take-append-drop props rest) ∙ ap (λ t. take props rest ++ t)
+                  (sym (take-append-drop size (drop props rest))))
+                  ∙ sym (append_assoc (block_text headers) (take props rest)
+                  (take size (drop props rest) ++ drop size (drop props rest)))
+                  ∙ sym (append_assoc (block_text headers ++ take props rest) (take size (drop props rest))
+                  (drop size (drop props rest)));
             }
 
 -- the records from a place on, and how they end
@@ -177,7 +193,8 @@ list_step size number place version text fits more = by_gap (strip text)
     by_gap gap = by_stand (stand number (place + gap.count) version gap.rest)
       where
         sizes : length text ≡ gap.count + length gap.rest
-        sizes = ap length gap.is ∙ length-append (line_feeds gap.count) gap.rest ∙ ap (λ n. n + length gap.rest) (lfs_length gap.count)
+        sizes = ap length gap.is ∙ length-append (line_feeds gap.count) gap.rest ∙ ap (λ n. n + length gap.rest)
+            (lfs_length gap.count)
 
         nothing : IsCutInto number place text [] gap.rest
         nothing = (gap.count, gap.is, gap.stop)
@@ -205,7 +222,12 @@ list_step size number place version text fits more = by_gap (strip text)
               ending = Ending.Broken fault (place + gap.count);
               cut = nothing;
               versions = tt;
-              ends = (why, (let s = sizes in omega arith), subst (λ (n : ℕ). IsCutFault n gap.rest fault) (let e : number ≡ number + 0 = omega arith in e) cause);
+              ends = (
+                why,
+                (let s = sizes in omega arith),
+                subst (λ (n : ℕ). IsCutFault n gap.rest fault)
+                    (let e : number ≡ number + 0 = omega arith in e) cause,
+              );
             }
 
             by_end : (rest : List ℕ) → gap.rest ≡ rest → (n : ℕ) → number ≡ n → Listed size number place version text
@@ -238,7 +260,8 @@ each_dump_has_one_list dump =
     no_records [] none = refl
     no_records (r ∷ rs) none = absurd (omega arith)
 
-    has_ending : (records : List DumpRecord) (rest : List ℕ) (ending : Ending) → EndsWith (length dump) (0 + length records) rest ending → HasEnding dump records rest ending
+    has_ending : (records : List DumpRecord) (rest : List ℕ) (ending : Ending)
+        → EndsWith (length dump) (0 + length records) rest ending → HasEnding dump records rest ending
     has_ending records rest Ending.Whole (none, some) = (none, omega arith)
     has_ending records rest (Ending.Broken fault place) (why, at, cause) = (
       (elim why [ inl some ↦ inl some | inr none ↦ inr (no_records records none) ]),

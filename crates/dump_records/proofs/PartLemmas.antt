@@ -36,7 +36,8 @@ no_block number text none = cases (starts_with_lf text) (has_empty_line text) re
     header : block_fault text ≡ faults.Header → IsCutFault number text faults.Header
     header is = record { holds = (none, is); least = other is }
       where
-        other : block_fault text ≡ faults.Header → (kind : FaultKind) → fault_code kind < 2 → ¬ HoldsOfText number text kind
+        other : block_fault text ≡ faults.Header → (kind : FaultKind) → fault_code kind < 2
+            → ¬ HoldsOfText number text kind
         other is faults.HeaderCut small h = let bad : faults.Header ≡ faults.HeaderCut = sym is ∙ h.1 in cc
         other is fault small h = absurd (omega arith)
 
@@ -51,14 +52,17 @@ no_block number text none = cases (starts_with_lf text) (has_empty_line text) re
 -- a test that holds of the lines of a block holds of this block's
 holds_here : (text : List ℕ) (headers : List line.Header) (after : List ℕ) (test : List line.Header → Bool)
     → BeginsWithBlock text headers after → HasBlockWith text (λ hs x. test hs ≡ true) → test headers ≡ true
-holds_here text headers after test b (hs, x, other, holds) = ap test (block_once text headers hs after x b other).0 ∙ holds
+holds_here text headers after test b (hs, x, other, holds) = ap test (block_once text headers hs after x b other).0
+    ∙ holds
 
 clash : (b : Bool) → b ≡ false → b ≡ true → ⊥
 clash b f t = let bad : false ≡ true = sym f ∙ t in cc
 
-module _ (number : ℕ) (text : List ℕ) (headers : List line.Header) (after : List ℕ) (b : BeginsWithBlock text headers after) where
+module _ (number : ℕ) (text : List ℕ) (headers : List line.Header) (after : List ℕ)
+    (b : BeginsWithBlock text headers after) where
   -- no fault below this number holds where the tests below it fail
-  none_below : (n : ℕ) → n ≤ 7 → (3 < n → has_bad_kind headers ≡ false) → (4 < n → has_bad_version number headers ≡ false)
+  none_below : (n : ℕ) → n ≤ 7 → (3 < n → has_bad_kind headers ≡ false)
+      → (4 < n → has_bad_version number headers ≡ false)
       → (5 < n → has_bad_number headers ≡ false) → (6 < n → has_bad_lengths headers ≡ false)
       → (other : FaultKind) → fault_code other < n → ¬ HoldsOfText number text other
   none_below n small kind version num lengths faults.HeaderCut low h = h.0 (headers, after, b)
@@ -85,21 +89,26 @@ module _ (number : ℕ) (text : List ℕ) (headers : List line.Header) (after : 
   -- the first rule that the lines break is the fault
   pub unlawful : is_lawful number headers ≡ false → IsCutFault number text (header_fault number headers)
   unlawful broken =
-      cases (has_bad_kind headers) (has_bad_version number headers) (has_bad_number headers) (has_bad_lengths headers) refl refl refl refl
+      cases (has_bad_kind headers) (has_bad_version number headers) (has_bad_number headers)
+      (has_bad_lengths headers) refl refl refl refl
     where
-      cases : (k v n l : Bool) → has_bad_kind headers ≡ k → has_bad_version number headers ≡ v → has_bad_number headers ≡ n → has_bad_lengths headers ≡ l
+      cases : (k v n l : Bool) → has_bad_kind headers ≡ k → has_bad_version number headers ≡ v
+          → has_bad_number headers ≡ n → has_bad_lengths headers ≡ l
           → IsCutFault number text (header_fault number headers)
       cases true v n l is-k is-v is-n is-l = rw is-k record {
         holds = (headers, after, b, is-k);
-        least = none_below 3 (omega arith) (λ low. absurd (omega arith)) (λ low. absurd (omega arith)) (λ low. absurd (omega arith)) (λ low. absurd (omega arith));
+        least = none_below 3 (omega arith) (λ low. absurd (omega arith)) (λ low. absurd (omega arith))
+            (λ low. absurd (omega arith)) (λ low. absurd (omega arith));
       }
       cases false true n l is-k is-v is-n is-l = rw (is-k, is-v) record {
         holds = (headers, after, b, is-v);
-        least = none_below 4 (omega arith) (λ low. is-k) (λ low. absurd (omega arith)) (λ low. absurd (omega arith)) (λ low. absurd (omega arith));
+        least = none_below 4 (omega arith) (λ low. is-k) (λ low. absurd (omega arith)) (λ low. absurd (omega arith))
+            (λ low. absurd (omega arith));
       }
       cases false false true l is-k is-v is-n is-l = rw (is-k, is-v, is-n) record {
         holds = (headers, after, b, is-n);
-        least = none_below 5 (omega arith) (λ low. is-k) (λ low. is-v) (λ low. absurd (omega arith)) (λ low. absurd (omega arith));
+        least = none_below 5 (omega arith) (λ low. is-k) (λ low. is-v) (λ low. absurd (omega arith))
+            (λ low. absurd (omega arith));
       }
       cases false false false true is-k is-v is-n is-l = rw (is-k, is-v, is-n) record {
         holds = (headers, after, b, is-l);
@@ -116,7 +125,8 @@ module _ (number : ℕ) (text : List ℕ) (headers : List line.Header) (after : 
       let kept = keeps number headers lawful in
       record {
         holds = (headers, after, b, short);
-        least = none_below 7 (omega arith) (λ low. not-true _ kept.kind) (λ low. not-true _ kept.version) (λ low. not-true _ kept.number_ok) (λ low. not-true _ kept.lengths);
+        least = none_below 7 (omega arith) (λ low. not-true _ kept.kind) (λ low. not-true _ kept.version)
+            (λ low. not-true _ kept.number_ok) (λ low. not-true _ kept.lengths);
       }
     where
       not-true : (t : Bool) → (t ≡ true → ⊥) → t ≡ false
@@ -140,8 +150,10 @@ standing dump number place props_from text_from after version props text stands 
     let text_count : after - text_from ≡ text = omega arith in
     let cut : (from to : ℕ) → from ≤ to → drop from dump ≡ slice_range dump from to ++ drop to dump = λ from to low.
     sym (take-append-drop (to - from) (drop from dump))
-    ∙ ap (λ t. take (to - from) (drop from dump) ++ t) (drop-drop (to - from) from dump ∙ ap (λ n. drop n dump) (omega arith)) in
-    let size : (from to : ℕ) → from ≤ to → to ≤ length dump → length (slice_range dump from to) ≡ to - from = λ from to low high.
+    ∙ ap (λ t. take (to - from) (drop from dump) ++ t)
+    (drop-drop (to - from) from dump ∙ ap (λ n. drop n dump) (omega arith)) in
+    let size : (from to : ℕ) → from ≤ to → to ≤ length dump
+    → length (slice_range dump from to) ≡ to - from = λ from to low high.
     length-take-le (to - from) (drop from dump) (let whole = length-drop from dump in omega arith) in
     record {
       block = b.block;
@@ -150,19 +162,23 @@ standing dump number place props_from text_from after version props text stands 
       text_fits = size text_from after (omega arith) end ∙ text_count ∙ text_is;
       spelled = b.spelled ∙ ap (λ t. block_text headers ++ t) (cut props_from text_from (omega arith))
           ∙ sym (append_assoc (block_text headers) (slice_range dump props_from text_from) (drop text_from dump))
-          ∙ ap (λ t. (block_text headers ++ slice_range dump props_from text_from) ++ t) (cut text_from after (omega arith))
-          ∙ sym (append_assoc (block_text headers ++ slice_range dump props_from text_from) (slice_range dump text_from after) (drop after dump));
+          ∙ ap (λ t. (block_text headers ++ slice_range dump props_from text_from) ++ t)
+          (cut text_from after (omega arith))
+          ∙ sym (append_assoc (block_text headers ++ slice_range dump props_from text_from)
+          (slice_range dump text_from after) (drop after dump));
     }
 
 -- the LFs before another byte, or up to the end
-pub gap_at : (text : List ℕ) (i : ℕ) → take i text ≡ line_feeds i → i < length text → get_or text i 0 ≢ 10 → IsGap text i
+pub gap_at : (text : List ℕ) (i : ℕ) → take i text ≡ line_feeds i → i < length text → get_or text i 0 ≢ 10
+    → IsGap text i
 gap_at text i front below other = record {
   bound = omega arith;
   spelled = sym (take-append-drop i text) ∙ ap (λ t. t ++ drop i text) front;
   stop = ap starts_with_lf (drop_more text i 0 below) ∙ ne_eqb (get_or text i 0) 10 other;
 }
 
-pub gap_whole : (text : List ℕ) (i : ℕ) → take i text ≡ line_feeds i → length text ≤ i → i ≤ length text → IsGap text (length text)
+pub gap_whole : (text : List ℕ) (i : ℕ) → take i text ≡ line_feeds i → length text ≤ i → i ≤ length text
+    → IsGap text (length text)
 gap_whole text i front end bound =
     let is : i ≡ length text = omega arith in
     subst (IsGap text) is record {
@@ -172,20 +188,24 @@ gap_whole text i front end bound =
     }
 
 -- an error that `?` hands on is the one that it was
-pub handed_on : {T : Type 0} (r : Result T FaultKind) (P : FaultKind → Type 0) (fault : FaultKind) → IsErrAnd r (λ e. e ≡ fault) → P fault → IfErr r P
+pub handed_on : {T : Type 0} (r : Result T FaultKind) (P : FaultKind → Type 0) (fault : FaultKind)
+    → IsErrAnd r (λ e. e ≡ fault) → P fault → IfErr r P
 handed_on (Ok x) P fault is holds = tt
 handed_on (Err e) P fault is holds = subst P (sym is) holds
 
 -- what reading the lines of a block that was cut at a place tells of that place
-module _ (dump : List ℕ) (place number : ℕ) (b : Block) (dump_is : block_dump b ≡ dump) (place_is : block_place b ≡ place) where
+module _ (dump : List ℕ) (place number : ℕ) (b : Block) (dump_is : block_dump b ≡ dump)
+    (place_is : block_place b ≡ place) where
   here : IsBlockBetween dump place (block_after b)
   here = subst (λ (d : List ℕ). IsBlockBetween d place (block_after b)) dump_is
       (subst (λ (p : ℕ). IsBlockBetween (block_dump b) p (block_after b)) place_is b.stands)
 
   headers_here : block_headers b ≡ headers_between dump place (block_after b)
-  headers_here = ap (λ d. headers_between d (block_place b) (block_after b)) dump_is ∙ ap (λ p. headers_between dump p (block_after b)) place_is
+  headers_here = ap (λ d. headers_between d (block_place b) (block_after b)) dump_is
+      ∙ ap (λ p. headers_between dump p (block_after b)) place_is
 
-  pub unlawful_here : (fault : FaultKind) → IsUnlawful number (block_headers b) fault → IsCutFault number (drop place dump) fault
+  pub unlawful_here : (fault : FaultKind) → IsUnlawful number (block_headers b) fault
+      → IsCutFault number (drop place dump) fault
   unlawful_here fault found =
       let headers = headers_between dump place (block_after b) in
       let broken : is_lawful number headers ≡ false = ap (is_lawful number) (sym headers_here) ∙ found.0 in
@@ -194,7 +214,8 @@ module _ (dump : List ℕ) (place number : ℕ) (b : Block) (dump_is : block_dum
       (unlawful number (drop place dump) headers (drop (block_after b) dump) here.block broken)
 
   pub short_here : (lengths : Lengths) → LengthsOf number (block_headers b) lengths
-      → length dump - block_after b < lengths.props + lengths.text → IsCutFault number (drop place dump) faults.ContentCut
+      → length dump - block_after b < lengths.props + lengths.text
+      → IsCutFault number (drop place dump) faults.ContentCut
   short_here lengths found short =
       let headers = headers_between dump place (block_after b) in
       let props_is : lengths.props ≡ property_length headers = found.props_is ∙ ap property_length headers_here in

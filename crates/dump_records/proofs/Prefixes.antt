@@ -28,19 +28,23 @@ pub same_records : (rs ss : List DumpRecord) → IsProp (rs ≡ ss)
 same_records rs ss = Coded-set (coded_list record_coded) rs ss
 
 -- the rest behind some records doesn't begin with an LF
-front_of : (number : ℕ) (text : List ℕ) (r : DumpRecord) (after : List ℕ) → BeginsWithRecord number text r after → starts_with_lf text ≡ false
+front_of : (number : ℕ) (text : List ℕ) (r : DumpRecord) (after : List ℕ) → BeginsWithRecord number text r after
+    → starts_with_lf text ≡ false
 front_of number text r after b = block_front text r.headers (content r after) (begins number text r after b)
 
 -- what is cut into records is cut into the first of them
-pub cut_prefix : (number place : ℕ) (text rest : List ℕ) (rs ss : List DumpRecord) → IsCutInto number place text (rs ++ ss) rest
+pub cut_prefix : (number place : ℕ) (text rest : List ℕ) (rs ss : List DumpRecord) → IsCutInto number place text
+    (rs ++ ss) rest
     → (behind : List ℕ) × IsCutInto number place text rs behind
 cut_prefix number place text rest [] [] cut = (rest, cut)
-cut_prefix number place text rest [] (s ∷ ss) (lfs, front, after, is, at, b, more) = (front, (lfs, is, front_of number front s after b))
+cut_prefix number place text rest [] (s ∷ ss) (lfs, front, after, is, at, b, more) =
+    (front, (lfs, is, front_of number front s after b))
 cut_prefix number place text rest (r ∷ rs) ss (lfs, front, after, is, at, b, more) =
     let left = cut_prefix (number + 1) (r.place + length (record_text r)) after rest rs ss more in
     (left.0, (lfs, front, after, is, at, b, left.1))
 
-pub begins_prefix : (dump : List ℕ) (rs ss : List DumpRecord) → BeginsWithRecords dump (rs ++ ss) → BeginsWithRecords dump rs
+pub begins_prefix : (dump : List ℕ) (rs ss : List DumpRecord) → BeginsWithRecords dump (rs ++ ss)
+    → BeginsWithRecords dump rs
 begins_prefix dump rs ss (rest, cut, have) =
     let front = cut_prefix 0 0 dump rest rs ss cut in
     (front.0, front.1, versions_prefix 0 rs ss have)
@@ -54,32 +58,40 @@ cut_once number place before text x y [] (s ∷ ss) same cut cut' have have' = a
 cut_once number place before text x y (r ∷ rs) [] same cut cut' have have' = absurd (omega arith)
 cut_once number place before text x y (r ∷ rs) (s ∷ ss) same (lfs, start, after, at, is, b, more)
     (lfs', start', after', at', is', c, more') (v, have) (v', have') =
-    let gaps = blank_once lfs lfs' start start' (front_of number start r after b) (front_of number start' s after' c) (sym at ∙ at') in
+    let gaps = blank_once lfs lfs' start start' (front_of number start r after b) (front_of number start' s after' c)
+    (sym at ∙ at') in
     let places : r.place ≡ s.place = is ∙ ap (λ (k : ℕ). place + k) gaps.0 ∙ sym is' in
     let b' = subst (λ (t : List ℕ). BeginsWithRecord number t r after) gaps.1 b in
     let versions = version_once number before start' r s after after' v v' b' c in
     let one = record_once number start' r s after after' places versions b' c in
-    let ends : s.place + length (record_text s) ≡ r.place + length (record_text r) = ap (λ (d : DumpRecord). d.place + length (record_text d)) (sym one.0) in
-    let moved = subst (λ (k : ℕ). IsCutInto (number + 1) k after ss y) ends (subst (λ (t : List ℕ). IsCutInto (number + 1) (s.place + length (record_text s)) t ss y) (sym one.1) more') in
+    let ends : s.place + length (record_text s) ≡ r.place + length (record_text r) = ap
+    (λ (d : DumpRecord). d.place + length (record_text d)) (sym one.0) in
+    let moved = subst (λ (k : ℕ). IsCutInto (number + 1) k after ss y) ends
+    (subst (λ (t : List ℕ). IsCutInto (number + 1) (s.place + length (record_text s)) t ss y) (sym one.1) more') in
     let have_same = subst (λ (w : ℕ). HaveVersions w ss) (sym versions) have' in
     let rest = cut_once (number + 1) (r.place + length (record_text r)) r.version after x y rs ss (omega arith)
     more moved have have_same in
     (λ i. one.0 i ∷ rest i)
 
-pub begins_once : (dump : List ℕ) (rs ss : List DumpRecord) → length rs ≡ length ss → BeginsWithRecords dump rs → BeginsWithRecords dump ss → rs ≡ ss
+pub begins_once : (dump : List ℕ) (rs ss : List DumpRecord) → length rs ≡ length ss → BeginsWithRecords dump rs
+    → BeginsWithRecords dump ss → rs ≡ ss
 begins_once dump rs ss same (x, cut, have) (y, cut', have') = cut_once 0 0 0 dump x y rs ss same cut cut' have have'
 
 -- no list of records is longer than one that ends
 cut_within : (size number place : ℕ) (text x y : List ℕ) (all rs : List DumpRecord) (e : Ending)
-    → IsCutInto number place text all x → EndsWith size (number + length all) x e → IsCutInto number place text rs y → length rs ≤ length all
+    → IsCutInto number place text all x → EndsWith size (number + length all) x e → IsCutInto number place text rs y
+    → length rs ≤ length all
 cut_within size number place text x y all [] e cut ends cut' = omega arith
 cut_within size number place text x y [] (s ∷ ss) e (lfs, at, stop) ends (lfs', start, after, at', is, b, more) =
     let same = blank_once lfs lfs' x start stop (front_of number start s after b) (sym at ∙ at') in
     let count : number ≡ number + 0 = omega arith in
     absurd (goes_on size (number + 0) x e s after
-    (subst (λ (k : ℕ). BeginsWithRecord k x s after) count (subst (λ (t : List ℕ). BeginsWithRecord number t s after) (sym same.1) b)) ends)
-cut_within size number place text x y (r ∷ all) (s ∷ ss) e (lfs, start, after, at, is, b, more) ends (lfs', start', after', at', is', c, more') =
-    let gaps = blank_once lfs lfs' start start' (front_of number start r after b) (front_of number start' s after' c) (sym at ∙ at') in
+    (subst (λ (k : ℕ). BeginsWithRecord k x s after) count
+    (subst (λ (t : List ℕ). BeginsWithRecord number t s after) (sym same.1) b)) ends)
+cut_within size number place text x y (r ∷ all) (s ∷ ss) e (lfs, start, after, at, is, b, more) ends
+    (lfs', start', after', at', is', c, more') =
+    let gaps = blank_once lfs lfs' start start' (front_of number start r after b) (front_of number start' s after' c)
+    (sym at ∙ at') in
     let places : r.place ≡ s.place = is ∙ ap (λ (k : ℕ). place + k) gaps.0 ∙ sym is' in
     let one = parts_once number start' r s after after'
     (subst (λ (t : List ℕ). BeginsWithRecord number t r after) gaps.1 b) c in
@@ -89,7 +101,8 @@ cut_within size number place text x y (r ∷ all) (s ∷ ss) e (lfs, start, afte
     let moved = subst (λ (k : ℕ). IsCutInto (number + 1) k after ss y) at_end
     (subst (λ (t : List ℕ). IsCutInto (number + 1) (s.place + length (record_text s)) t ss y) (sym one.3) more') in
     let count : number + length (r ∷ all) ≡ number + 1 + length all = omega arith in
-    let left = cut_within size (number + 1) (r.place + length (record_text r)) after x y all ss e more (subst (λ (k : ℕ). EndsWith size k x e) count ends) moved in
+    let left = cut_within size (number + 1) (r.place + length (record_text r)) after x y all ss e more
+    (subst (λ (k : ℕ). EndsWith size k x e) count ends) moved in
     omega arith
 
 module _ (dump : List ℕ) (all : List DumpRecord) (ending : Ending) (has : HasRecords dump all ending) where
@@ -108,25 +121,30 @@ module _ (dump : List ℕ) (all : List DumpRecord) (ending : Ending) (has : HasR
   )
 
   pub is_front : (rs : List DumpRecord) → BeginsWithRecords dump rs → rs ≡ take (length rs) all
-  is_front rs b = begins_once dump rs (take (length rs) all) (sym (length-take-le (length rs) all (within rs b))) b (whole_front (length rs))
+  is_front rs b = begins_once dump rs (take (length rs) all) (sym (length-take-le (length rs) all (within rs b))) b
+      (whole_front (length rs))
 
 -- a fact about the first records of a dump needs no witness
 pub untruncated : (dump : List ℕ) (rs : List DumpRecord) → ∥ BeginsWithRecords dump rs ∥₁ → BeginsWithRecords dump rs
 untruncated dump rs b =
     let law = each_dump_has_one_list dump in
     let all = law.0 in
-    let is : rs ≡ take (length rs) all = ∥∥₁_elim b (same_records rs (take (length rs) all)) (λ c. is_front dump all law.1 law.2 rs c) in
+    let is : rs ≡ take (length rs) all = ∥∥₁_elim b (same_records rs (take (length rs) all))
+    (λ c. is_front dump all law.1 law.2 rs c) in
     subst (BeginsWithRecords dump) (sym is) (whole_front dump all law.1 law.2 (length rs))
 
 -- the record with the next number stands behind the first records
-pub one_more : (dump : List ℕ) (rs : List DumpRecord) (r : DumpRecord) → BeginsWithRecords dump rs → ∥ IsRecordOf dump (length rs) r ∥₁
+pub one_more : (dump : List ℕ) (rs : List DumpRecord) (r : DumpRecord) → BeginsWithRecords dump rs
+    → ∥ IsRecordOf dump (length rs) r ∥₁
     → BeginsWithRecords dump (rs ++ r ∷ [])
 one_more dump rs r b next = untruncated dump (rs ++ r ∷ [])
     (∥∥₁_map next (λ (before, c, count). subst (λ (ss : List DumpRecord). BeginsWithRecords dump (ss ++ r ∷ []))
     (begins_once dump before rs count (begins_prefix dump before (r ∷ []) c) b) c))
 
 -- a list of the first records that is as long as the whole one is the whole one
-pub whole_list : (dump : List ℕ) (rs : List DumpRecord) (ending : Ending) → BeginsWithRecords dump rs → EndsAfter dump (length rs) ending → HasRecords dump rs ending
+pub whole_list : (dump : List ℕ) (rs : List DumpRecord) (ending : Ending) → BeginsWithRecords dump rs
+    → EndsAfter dump (length rs) ending → HasRecords dump rs ending
 whole_list dump rs ending b (all, has, count) =
-    let same : rs ≡ all = is_front dump all ending has rs b ∙ ap (λ n. take n all) (sym count) ∙ take_all (length all) all (omega arith) in
+    let same : rs ≡ all = is_front dump all ending has rs b ∙ ap (λ n. take n all) (sym count)
+    ∙ take_all (length all) all (omega arith) in
     subst (λ (ss : List DumpRecord). HasRecords dump ss ending) (sym same) has

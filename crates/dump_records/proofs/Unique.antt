@@ -21,10 +21,12 @@ abbrev pub content : DumpRecord → List ℕ → List ℕ
 content r after = r.props ++ (r.text ++ after)
 
 -- a record begins with its block
-pub begins : (number : ℕ) (text : List ℕ) (r : DumpRecord) (after : List ℕ) → BeginsWithRecord number text r after → BeginsWithBlock text r.headers (content r after)
+pub begins : (number : ℕ) (text : List ℕ) (r : DumpRecord) (after : List ℕ) → BeginsWithRecord number text r after
+    → BeginsWithBlock text r.headers (content r after)
 begins number text r after b = record {
   block = b.block;
-  spelled = b.spelled ∙ append_assoc (block_text r.headers ++ r.props) r.text after ∙ append_assoc (block_text r.headers) r.props (r.text ++ after);
+  spelled = b.spelled ∙ append_assoc (block_text r.headers ++ r.props) r.text after
+      ∙ append_assoc (block_text r.headers) r.props (r.text ++ after);
 }
 
 pub record-eq : (r s : DumpRecord) → r.place ≡ s.place → r.version ≡ s.version → r.headers ≡ s.headers
@@ -36,9 +38,12 @@ pub parts_once : (number : ℕ) (text : List ℕ) (r s : DumpRecord) (x y : List
     → BeginsWithRecord number text r x → BeginsWithRecord number text s y
     → (r.headers ≡ s.headers) × (r.props ≡ s.props) × (r.text ≡ s.text) × (x ≡ y)
 parts_once number text r s x y b c =
-    let blocks = block_once text r.headers s.headers (content r x) (content s y) (begins number text r x b) (begins number text s y c) in
-    let contents = split_by_length r.props s.props (r.text ++ x) (s.text ++ y) (b.props_fit ∙ ap property_length blocks.0 ∙ sym c.props_fit) blocks.1 in
-    let texts = split_by_length r.text s.text x y (b.text_fits ∙ ap text_length blocks.0 ∙ sym c.text_fits) contents.1 in
+    let blocks = block_once text r.headers s.headers (content r x) (content s y) (begins number text r x b)
+    (begins number text s y c) in
+    let contents = split_by_length r.props s.props (r.text ++ x) (s.text ++ y)
+    (b.props_fit ∙ ap property_length blocks.0 ∙ sym c.props_fit) blocks.1 in
+    let texts = split_by_length r.text s.text x y (b.text_fits ∙ ap text_length blocks.0
+    ∙ sym c.text_fits) contents.1 in
     (blocks.0, contents.0, texts.0, texts.1)
 
 -- at a place, under a version, stands at most one record
@@ -79,10 +84,12 @@ keeps number headers e =
     }
 
 module _ (number : ℕ) (text : List ℕ) (r : DumpRecord) (after : List ℕ) (b : BeginsWithRecord number text r after) where
-  same : (headers : List line.Header) (x : List ℕ) → BeginsWithBlock text headers x → (headers ≡ r.headers) × (x ≡ content r after)
+  same : (headers : List line.Header) (x : List ℕ) → BeginsWithBlock text headers x → (headers ≡ r.headers)
+      × (x ≡ content r after)
   same headers x c = block_once text headers r.headers x (content r after) c (begins number text r after b)
 
-  enough : (x : List ℕ) (headers : List line.Header) → headers ≡ r.headers → x ≡ content r after → length x < property_length headers + text_length headers → ⊥
+  enough : (x : List ℕ) (headers : List line.Header) → headers ≡ r.headers → x ≡ content r after
+      → length x < property_length headers + text_length headers → ⊥
   enough x headers h e short =
       let n : length x ≡ length (content r after) = ap length e in
       let p : property_length headers ≡ property_length r.headers = ap property_length h in
@@ -95,10 +102,14 @@ module _ (number : ℕ) (text : List ℕ) (r : DumpRecord) (after : List ℕ) (b
   pub none_holds : (kind : FaultKind) → ¬ HoldsOfText number text kind
   none_holds faults.HeaderCut h = h.0 (r.headers, content r after, begins number text r after b)
   none_holds faults.Header h = h.0 (r.headers, content r after, begins number text r after b)
-  none_holds faults.Kind (headers, x, c, bad) = (keeps number r.headers b.lawful).kind (ap has_bad_kind (sym (same headers x c).0) ∙ bad)
-  none_holds faults.Version (headers, x, c, bad) = (keeps number r.headers b.lawful).version (ap (has_bad_version number) (sym (same headers x c).0) ∙ bad)
-  none_holds faults.Number (headers, x, c, bad) = (keeps number r.headers b.lawful).number_ok (ap has_bad_number (sym (same headers x c).0) ∙ bad)
-  none_holds faults.Lengths (headers, x, c, bad) = (keeps number r.headers b.lawful).lengths (ap has_bad_lengths (sym (same headers x c).0) ∙ bad)
+  none_holds faults.Kind (headers, x, c, bad) = (keeps number r.headers b.lawful).kind
+      (ap has_bad_kind (sym (same headers x c).0) ∙ bad)
+  none_holds faults.Version (headers, x, c, bad) = (keeps number r.headers b.lawful).version
+      (ap (has_bad_version number) (sym (same headers x c).0) ∙ bad)
+  none_holds faults.Number (headers, x, c, bad) = (keeps number r.headers b.lawful).number_ok
+      (ap has_bad_number (sym (same headers x c).0) ∙ bad)
+  none_holds faults.Lengths (headers, x, c, bad) = (keeps number r.headers b.lawful).lengths
+      (ap has_bad_lengths (sym (same headers x c).0) ∙ bad)
   none_holds faults.ContentCut (headers, x, c, short) = enough x headers (same headers x c).0 (same headers x c).1 short
   none_holds faults.Order h = h
   none_holds faults.Props h = h
@@ -148,7 +159,8 @@ pub least_once : (Holds : FaultKind → Type 0) (a b : FaultKind) → IsLeastFau
 least_once Holds a b x y =
     let not_below = x.least b in
     let not_above = y.least a in
-    let code : fault_code a ≡ fault_code b = neither (fault_code a) (fault_code b) (λ lt. not_above lt x.holds) (λ lt. not_below lt y.holds) in
+    let code : fault_code a ≡ fault_code b = neither (fault_code a) (fault_code b) (λ lt. not_above lt x.holds)
+    (λ lt. not_below lt y.holds) in
     code_once a b code
   where
     neither : (m n : ℕ) → (m < n → ⊥) → (n < m → ⊥) → m ≡ n
@@ -160,7 +172,8 @@ EndsWith size count rest Ending.Whole = (rest ≡ []) × (0 < count)
 EndsWith size count rest (Ending.Broken fault place) =
     ((rest ≢ []) ⊎ (count ≡ 0)) × (place + length rest ≡ size) × IsCutFault count rest fault
 
-ends_once : (size count : ℕ) (x y : List ℕ) (e f : Ending) → x ≡ y → EndsWith size count x e → EndsWith size count y f → e ≡ f
+ends_once : (size count : ℕ) (x y : List ℕ) (e f : Ending) → x ≡ y → EndsWith size count x e → EndsWith size count y f
+    → e ≡ f
 ends_once size count x y Ending.Whole Ending.Whole same a b = refl
 ends_once size count x y Ending.Whole (Ending.Broken fault place) same a b =
     absurd (elim b.0 [ inl some ↦ some (sym same ∙ a.0) | inr none ↦ (let n = a.1 in omega arith) ])
@@ -175,9 +188,11 @@ ends_once size count x y (Ending.Broken k p) (Ending.Broken l q) same a b =
     λ i. Ending.Broken (kinds i) (places i)
 
 -- the records don't end where one stands
-pub goes_on : (size count : ℕ) (x : List ℕ) (e : Ending) (r : DumpRecord) (after : List ℕ) → BeginsWithRecord count x r after → EndsWith size count x e → ⊥
+pub goes_on : (size count : ℕ) (x : List ℕ) (e : Ending) (r : DumpRecord) (after : List ℕ)
+    → BeginsWithRecord count x r after → EndsWith size count x e → ⊥
 goes_on size count x Ending.Whole r after b a =
-    block_some r.headers (content r after) (subst (λ (t : List ℕ). BeginsWithBlock t r.headers (content r after)) a.0 (begins count x r after b))
+    block_some r.headers (content r after) (subst (λ (t : List ℕ). BeginsWithBlock t r.headers (content r after)) a.0
+    (begins count x r after b))
 goes_on size count x (Ending.Broken fault place) r after b a = none_holds count x r after b fault a.2.holds
 
 -- two lists of records of one text, which end, are one
@@ -193,35 +208,45 @@ cuts_once size number place before count other text [] [] x y e f n m (lfs, at, 
     (refl, ends_once size count x y e f same.1 a (subst (λ (k : ℕ). EndsWith size k y f) counts b))
 cuts_once size number place before count other text [] (s ∷ ss) x y e f n m (lfs, at, front)
     (lfs', start, after, at', is, b, more) have have' a z =
-    let same = blank_once lfs lfs' x start front (block_front start s.headers (content s after) (begins number start s after b)) (sym at ∙ at') in
+    let same = blank_once lfs lfs' x start front (block_front start s.headers (content s after)
+    (begins number start s after b)) (sym at ∙ at') in
     let counts : number ≡ count = omega arith in
-    absurd (goes_on size count x e s after (subst (λ (k : ℕ). BeginsWithRecord k x s after) counts (subst (λ (t : List ℕ). BeginsWithRecord number t s after) (sym same.1) b)) a)
+    absurd (goes_on size count x e s after (subst (λ (k : ℕ). BeginsWithRecord k x s after) counts
+    (subst (λ (t : List ℕ). BeginsWithRecord number t s after) (sym same.1) b)) a)
 cuts_once size number place before count other text (r ∷ rs) [] x y e f n m (lfs, start, after, at, is, b, more)
     (lfs', at', front') have have' a z =
-    let same = blank_once lfs lfs' start y (block_front start r.headers (content r after) (begins number start r after b)) front' (sym at ∙ at') in
+    let same = blank_once lfs lfs' start y (block_front start r.headers (content r after)
+    (begins number start r after b)) front' (sym at ∙ at') in
     let counts : number ≡ other = omega arith in
-    absurd (goes_on size other y f r after (subst (λ (k : ℕ). BeginsWithRecord k y r after) counts (subst (λ (t : List ℕ). BeginsWithRecord number t r after) same.1 b)) z)
+    absurd (goes_on size other y f r after (subst (λ (k : ℕ). BeginsWithRecord k y r after) counts
+    (subst (λ (t : List ℕ). BeginsWithRecord number t r after) same.1 b)) z)
 cuts_once size number place before count other text (r ∷ rs) (s ∷ ss) x y e f n m
     (lfs, start, after, at, is, b, more) (lfs', start', after', at', is', c, more') (v, have) (v', have') a z =
-    let same = blank_once lfs lfs' start start' (block_front start r.headers (content r after) (begins number start r after b)) (block_front start' s.headers (content s after') (begins number start' s after' c)) (sym at ∙ at') in
+    let same = blank_once lfs lfs' start start' (block_front start r.headers (content r after)
+    (begins number start r after b)) (block_front start' s.headers (content s after')
+    (begins number start' s after' c)) (sym at ∙ at') in
     let places : r.place ≡ s.place = is ∙ ap (λ (k : ℕ). place + k) same.0 ∙ sym is' in
     let b' = subst (λ (t : List ℕ). BeginsWithRecord number t r after) same.1 b in
     let versions = version_once number before start' r s after after' v v' b' c in
     let one = record_once number start' r s after after' places versions b' c in
-    let ends : s.place + length (record_text s) ≡ r.place + length (record_text r) = ap (λ (d : DumpRecord). d.place + length (record_text d)) (sym one.0) in
-    let moved = subst (λ (k : ℕ). IsCutInto (number + 1) k after ss y) ends (subst (λ (t : List ℕ). IsCutInto (number + 1) (s.place + length (record_text s)) t ss y) (sym one.1) more') in
+    let ends : s.place + length (record_text s) ≡ r.place + length (record_text r) = ap
+    (λ (d : DumpRecord). d.place + length (record_text d)) (sym one.0) in
+    let moved = subst (λ (k : ℕ). IsCutInto (number + 1) k after ss y) ends
+    (subst (λ (t : List ℕ). IsCutInto (number + 1) (s.place + length (record_text s)) t ss y) (sym one.1) more') in
     let have_same = subst (λ (w : ℕ). HaveVersions w ss) (sym versions) have' in
     let rest = cuts_once size (number + 1) (r.place + length (record_text r)) r.version count other after rs ss x y e f
     (omega arith) (omega arith) more moved have have_same a z in
     ((λ i. one.0 i ∷ rest.0 i), rest.1)
 
-pub ending_of : (dump : List ℕ) (records : List DumpRecord) (rest : List ℕ) (e : Ending) → HasEnding dump records rest e → EndsWith (length dump) (length records) rest e
+pub ending_of : (dump : List ℕ) (records : List DumpRecord) (rest : List ℕ) (e : Ending) → HasEnding dump records rest e
+    → EndsWith (length dump) (length records) rest e
 ending_of dump records rest Ending.Whole h = h
 ending_of dump records rest (Ending.Broken fault place) h =
     ((elim h.0 [ inl some ↦ inl some | inr none ↦ inr (ap length none) ]), h.1, h.2)
 
 -- a dump has at most one list of records, which ends in one way
-pub records_once : (dump : List ℕ) (rs ss : List DumpRecord) (e f : Ending) → HasRecords dump rs e → HasRecords dump ss f → (rs ≡ ss) × (e ≡ f)
+pub records_once : (dump : List ℕ) (rs ss : List DumpRecord) (e f : Ending) → HasRecords dump rs e
+    → HasRecords dump ss f → (rs ≡ ss) × (e ≡ f)
 records_once dump rs ss e f (x, cut, have, ends) (y, cut', have', ends') =
     cuts_once (length dump) 0 0 0 (length rs) (length ss) dump rs ss x y e f (omega arith) (omega arith) cut cut'
     have have'
@@ -237,6 +262,8 @@ no_record_begins_another m n r s more b c e =
       text_fits = b.text_fits;
       spelled = e;
     } in
-    let blocks = block_once (record_text s) r.headers s.headers (content r more) (content s []) (begins m (record_text s) r more longer) (begins n (record_text s) s [] c) in
-    let contents = split_by_length r.props s.props (r.text ++ more) (s.text ++ []) (b.props_fit ∙ ap property_length blocks.0 ∙ sym c.props_fit) blocks.1 in
+    let blocks = block_once (record_text s) r.headers s.headers (content r more) (content s [])
+    (begins m (record_text s) r more longer) (begins n (record_text s) s [] c) in
+    let contents = split_by_length r.props s.props (r.text ++ more) (s.text ++ [])
+    (b.props_fit ∙ ap property_length blocks.0 ∙ sym c.props_fit) blocks.1 in
     (split_by_length r.text s.text more [] (b.text_fits ∙ ap text_length blocks.0 ∙ sym c.text_fits) contents.1).1

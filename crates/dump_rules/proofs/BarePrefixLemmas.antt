@@ -51,7 +51,8 @@ begins_cut path n low slash (b ∷ prefix) is =
 
 begins_none : (path prefix : List ℕ) (near : ℕ) → bytes_eq [] prefix ≡ false → bytes_eq path prefix ≡ false
     → (length prefix < length path → length prefix < near)
-    → ((k : ℕ) → k < near → get_or path k 0 ≡ 47 → bytes_eq (take k path) prefix ≡ false) → begins_path prefix path ≡ false
+    → ((k : ℕ) → k < near → get_or path k 0 ≡ 47 → bytes_eq (take k path) prefix ≡ false)
+    → begins_path prefix path ≡ false
 begins_none path [] near some other reach clear = let bad : true ≡ false = some in cc
 begins_none path (b ∷ prefix) near some other reach clear =
     or_from _ _ other (false_from_ne_true _ (λ begun.
@@ -65,7 +66,11 @@ any_keeps : (f g : List ℕ → Bool) → ((x : List ℕ) → f x ≡ true → g
     → (xs : List (List ℕ)) → list_any f xs ≡ true → list_any g xs ≡ true
 any_keeps f g each [] some = some
 any_keeps f g each (x ∷ xs) some =
-    elim (or_cases _ _ some) [ inl here ↦ or_left _ _ (each x here) | inr there ↦ or_right _ _ (any_keeps f g each xs there) ]
+    elim (or_cases _ _ some) [
+      | inl here ↦ or_left _ _ (each x here)
+      | inr there ↦ or_right _ _
+          (any_keeps f g each xs there)
+    ]
 
 -- the empty prefix begins each path
 pub empty_begins : (path : List ℕ) (prefixes : List (List ℕ)) → list_any (λ prefix. bytes_eq [] prefix) prefixes ≡ true
@@ -73,7 +78,8 @@ pub empty_begins : (path : List ℕ) (prefixes : List (List ℕ)) → list_any (
 empty_begins path = any_keeps _ _ (begins_all path)
 
 -- a prefix that is the path begins it
-pub whole_begins : (path : List ℕ) (prefixes : List (List ℕ)) → list_any (λ prefix. bytes_eq path prefix) prefixes ≡ true
+pub whole_begins : (path : List ℕ) (prefixes : List (List ℕ))
+    → list_any (λ prefix. bytes_eq path prefix) prefixes ≡ true
     → list_any (λ prefix. begins_path prefix path) prefixes ≡ true
 whole_begins path = any_keeps _ _ (begins_whole path)
 
@@ -86,7 +92,8 @@ cut_begins path n low slash = any_keeps _ _ (begins_cut path n low slash)
 -- where no prefix is empty, the path, or the part of it before one of its slashes, none begins it
 pub none_begins : (path : List ℕ) (near longest : ℕ) → ((n : ℕ) → n ≤ longest → n < length path → n < near)
     → (prefixes : List (List ℕ)) → AreWithin longest prefixes
-    → list_any (λ prefix. bytes_eq [] prefix) prefixes ≡ false → list_any (λ prefix. bytes_eq path prefix) prefixes ≡ false
+    → list_any (λ prefix. bytes_eq [] prefix) prefixes ≡ false
+    → list_any (λ prefix. bytes_eq path prefix) prefixes ≡ false
     → ((k : ℕ) → k < near → get_or path k 0 ≡ 47 → list_any (λ prefix. bytes_eq (take k path) prefix) prefixes ≡ false)
     → list_any (λ prefix. begins_path prefix path) prefixes ≡ false
 none_begins path near longest reach [] within some other clear = refl
@@ -116,18 +123,23 @@ any_inserted {V} items p k (x ∷ xs) = at (any_inserted items p k xs) (slice_cm
     swapped true false c = refl
     swapped false b c = refl
 
-    at : list_any (λ v. p (items v)) (insert_key (λ x y. slice_cmp nat_cmp (items x) (items y)) xs k) ≡ (p (items k) || list_any (λ v. p (items v)) xs)
+    at : list_any (λ v. p (items v)) (insert_key (λ x y. slice_cmp nat_cmp (items x) (items y)) xs k) ≡
+        (p (items k) || list_any (λ v. p (items v)) xs)
         → (o : Ordering) → slice_cmp nat_cmp (items k) (items x) ≡ o
-        → list_any (λ v. p (items v)) (match_ordering o (k ∷ x ∷ xs) (x ∷ xs) (x ∷ insert_key (λ x y. slice_cmp nat_cmp (items x) (items y)) xs k))
+        → list_any (λ v. p (items v)) (match_ordering o (k ∷ x ∷ xs) (x ∷ xs)
+        (x ∷ insert_key (λ x y. slice_cmp nat_cmp (items x) (items y)) xs k))
         ≡ (p (items k) || list_any (λ v. p (items v)) (x ∷ xs))
     at behind Less is = refl
     at behind Equal is =
-        let same : items k ≡ items x = (bytes_eq-Decides (items k) (items x)).0 (sym (is_eq-slice_cmp (items k) (items x)) ∙ ap is_eq is) in
-        twice (p (items x)) (list_any (λ v. p (items v)) xs) ∙ ap (λ t. p t || (p (items x) || list_any (λ v. p (items v)) xs)) (sym same)
+        let same : items k ≡ items x = (bytes_eq-Decides (items k) (items x)).0
+        (sym (is_eq-slice_cmp (items k) (items x)) ∙ ap is_eq is) in
+        twice (p (items x)) (list_any (λ v. p (items v)) xs)
+        ∙ ap (λ t. p t || (p (items x) || list_any (λ v. p (items v)) xs)) (sym same)
     at behind Greater is =
         ap (λ b. p (items x) || b) behind ∙ swapped (p (items x)) (p (items k)) (list_any (λ v. p (items v)) xs)
 
-any_pushed : (p : List ℕ → Bool) (texts : List (List ℕ)) (text : List ℕ) → list_any p (texts ++ text ∷ []) ≡ (p text || list_any p texts)
+any_pushed : (p : List ℕ → Bool) (texts : List (List ℕ)) (text : List ℕ) → list_any p (texts ++ text ∷ []) ≡
+    (p text || list_any p texts)
 any_pushed p [] text = refl
 any_pushed p (t ∷ texts) text = ap (λ b. p t || b) (any_pushed p texts text) ∙ swapped (p t) (p text) (list_any p texts)
   where
@@ -138,14 +150,16 @@ any_pushed p (t ∷ texts) text = ap (λ b. p t || b) (any_pushed p texts text) 
 
 -- a text that is looked up by the order of the set is one of its texts
 pub any_found : {V : Type 0} (items : V → List ℕ) (text : List ℕ) (ks : List V)
-    → list_any (is_at (λ k. slice_cmp nat_cmp text (items k))) ks ≡ list_any (λ prefix. bytes_eq text prefix) (map items ks)
+    → list_any (is_at (λ k. slice_cmp nat_cmp text (items k))) ks ≡ list_any (λ prefix. bytes_eq text prefix)
+    (map items ks)
 any_found items text [] = refl
 any_found items text (x ∷ xs) =
     ap (λ b. b || list_any (is_at (λ k. slice_cmp nat_cmp text (items k))) xs) (is_eq-slice_cmp text (items x))
     ∙ ap (λ b. bytes_eq text (items x) || b) (any_found items text xs)
 
 -- a prefix that is put in begins the paths that it begins at the end of the list
-pub begin_more : {V : Type 0} (items : V → List ℕ) (ks : List V) (k : V) (bares : List (List ℕ)) → BeginSame (map items ks) bares
+pub begin_more : {V : Type 0} (items : V → List ℕ) (ks : List V) (k : V) (bares : List (List ℕ))
+    → BeginSame (map items ks) bares
     → BeginSame (map items (insert_key (λ x y. slice_cmp nat_cmp (items x) (items y)) ks k)) (bares ++ items k ∷ [])
 begin_more items ks k bares same path =
     let begins = λ (prefix : List ℕ). begins_path prefix path in
@@ -155,8 +169,10 @@ begin_more items ks k bares same path =
     ∙ sym (any_pushed begins bares (items k))
 
 -- a text that is put in is within a length as it and the others are
-pub within_more : {V : Type 0} (items : V → List ℕ) (ks : List V) (k : V) (low high : ℕ) → low ≤ high → length (items k) ≤ high
-    → AreWithin low (map items ks) → AreWithin high (map items (insert_key (λ x y. slice_cmp nat_cmp (items x) (items y)) ks k))
+pub within_more : {V : Type 0} (items : V → List ℕ) (ks : List V) (k : V) (low high : ℕ) → low ≤ high
+    → length (items k) ≤ high
+    → AreWithin low (map items ks) → AreWithin high
+    (map items (insert_key (λ x y. slice_cmp nat_cmp (items x) (items y)) ks k))
 within_more items ks k low high up fits within =
     let longer = λ (text : List ℕ). nat_lt high (length text) in
     any_mapped items longer (insert_key (λ x y. slice_cmp nat_cmp (items x) (items y)) ks k)
@@ -164,7 +180,8 @@ within_more items ks k low high up fits within =
     ∙ or_from _ _ (grind (arith, nat_tests)) (sym (any_mapped items longer ks) ∙ wider (map items ks) within)
   where
     wider : (texts : List (List ℕ)) → AreWithin low texts → AreWithin high texts
-    wider texts less = false_from_ne_true _ (λ some. both_ways _ less (any_keeps _ _ (λ text long. lt-ltb _ _ (further text (ltb-true _ _ long))) texts some))
+    wider texts less = false_from_ne_true _ (λ some. both_ways _ less
+        (any_keeps _ _ (λ text long. lt-ltb _ _ (further text (ltb-true _ _ long))) texts some))
       where
         further : (text : List ℕ) → high < length text → low < length text
         further text long = omega arith
@@ -173,8 +190,10 @@ within_more items ks k low high up fits within =
 -- the bare forms of one prefix more
 pub bares_more : (prefixes : List (Bor (List ℕ))) (n : ℕ) (d : Bor (List ℕ)) → n < length prefixes
     → map (λ (prefix : Bor (List ℕ)). bare_prefix prefix.now) (take (n + 1) prefixes)
-    ≡ map (λ (prefix : Bor (List ℕ)). bare_prefix prefix.now) (take n prefixes) ++ bare_prefix (get_or prefixes n d).now ∷ []
-bares_more prefixes n d low = rw (take_more prefixes n d low) (map-append (λ (prefix : Bor (List ℕ)). bare_prefix prefix.now) (take n prefixes) (get_or prefixes n d ∷ []))
+    ≡ map (λ (prefix : Bor (List ℕ)). bare_prefix prefix.now) (take n prefixes) ++ bare_prefix
+    (get_or prefixes n d).now ∷ []
+bares_more prefixes n d low = rw (take_more prefixes n d low)
+    (map-append (λ (prefix : Bor (List ℕ)). bare_prefix prefix.now) (take n prefixes) (get_or prefixes n d ∷ []))
 
 -- the texts mapped in one pass or in two
 pub mapped_twice : {X : Type 0} (items : X → List ℕ) (bare : List ℕ → List ℕ) (xs : List X)

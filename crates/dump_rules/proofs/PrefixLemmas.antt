@@ -12,15 +12,18 @@ and_assoc true b c = refl
 and_assoc false b c = refl
 
 pub slash_behind : (prefix path : List ℕ)
-    → starts_with nat_eq path (prefix ++ 47 ∷ []) ≡ (bytes_eq (take (length prefix) path) prefix && has_slash_first (drop (length prefix) path))
+    → starts_with nat_eq path (prefix ++ 47 ∷ []) ≡
+    (bytes_eq (take (length prefix) path) prefix && has_slash_first (drop (length prefix) path))
 slash_behind [] [] = refl
 slash_behind [] (b ∷ path) = and-true (nat_eq 47 b) ∙ eq_sym 47 b
 slash_behind (a ∷ prefix) [] = refl
 slash_behind (a ∷ prefix) (b ∷ path) =
     ap (λ t. nat_eq a b && t) (slash_behind prefix path)
-    ∙ ap (λ t. t && (bytes_eq (take (length prefix) path) prefix && has_slash_first (drop (length prefix) path))) (eq_sym a b)
+    ∙ ap (λ t. t && (bytes_eq (take (length prefix) path) prefix && has_slash_first (drop (length prefix) path)))
+    (eq_sym a b)
     ∙ and_assoc (nat_eq b a) (bytes_eq (take (length prefix) path) prefix) (has_slash_first (drop (length prefix) path))
 
-pub any_mapped : {X Y : Type 0} (f : X → Y) (p : Y → Bool) (xs : List X) → list_any p (map f xs) ≡ list_any (λ x. p (f x)) xs
+pub any_mapped : {X Y : Type 0} (f : X → Y) (p : Y → Bool) (xs : List X) → list_any p (map f xs) ≡ list_any
+    (λ x. p (f x)) xs
 any_mapped f p [] = refl
 any_mapped f p (x ∷ xs) = ap (λ b. p (f x) || b) (any_mapped f p xs)

@@ -43,9 +43,11 @@ none_below first n (k ∷ numbers) low up =
 abbrev EndsUpTo : ℕ → ℕ → List ℕ → Option ℕ → Type 0
 EndsUpTo first n numbers before =
     ((up_to n numbers ≡ 0) × (last_or before (filter (λ k. nat_le k n) numbers) ≡ before))
-    ⊎ ((last : ℕ) × (last_or before (filter (λ k. nat_le k n) numbers) ≡ Some last) × (first ≤ last) × (last ≤ n) × (up_to n numbers ≡ 1 + below last numbers))
+    ⊎ ((last : ℕ) × (last_or before (filter (λ k. nat_le k n) numbers) ≡ Some last) × (first ≤ last) × (last ≤ n)
+    × (up_to n numbers ≡ 1 + below last numbers))
 
-last_up_to : (first n : ℕ) (numbers : List ℕ) (before : Option ℕ) → RiseFrom first numbers → EndsUpTo first n numbers before
+last_up_to : (first n : ℕ) (numbers : List ℕ) (before : Option ℕ) → RiseFrom first numbers
+    → EndsUpTo first n numbers before
 last_up_to first n [] before up = inl (refl, refl)
 last_up_to first n (k ∷ numbers) before up =
     elim (leb_tells k n) [
@@ -73,7 +75,8 @@ last_up_to first n (k ∷ numbers) before up =
 -- how many numbers stand before one of them, and of the whole list
 
 -- a new number is at most the old one
-pub new_number_fits : (kept : KeptRevisions) (n : ℕ) → RiseFrom kept.first kept.numbers → kept.first ≤ n → new_number kept n ≤ n
+pub new_number_fits : (kept : KeptRevisions) (n : ℕ) → RiseFrom kept.first kept.numbers → kept.first ≤ n
+    → new_number kept n ≤ n
 new_number_fits kept n up low = fits kept.first kept.numbers up low
   where
     fits : (first : ℕ) (numbers : List ℕ) → RiseFrom first numbers → first ≤ n → first + below n numbers ≤ n
@@ -103,11 +106,13 @@ all_below n (k ∷ numbers) all =
     omega arith
 
 -- the new number of a revision above all kept ones
-pub new_number_above : (kept : KeptRevisions) (n : ℕ) → All (λ k. k < n) kept.numbers → new_number kept n ≡ kept.first + length kept.numbers
+pub new_number_above : (kept : KeptRevisions) (n : ℕ) → All (λ k. k < n) kept.numbers
+    → new_number kept n ≡ kept.first + length kept.numbers
 new_number_above kept n all = ap (λ c. kept.first + c) (all_below n kept.numbers all)
 
 -- the first number and the count of kept revisions don't exceed a number above them all
-pub length_fits : (kept : KeptRevisions) (n : ℕ) → RiseFrom kept.first kept.numbers → All (λ k. k < n) kept.numbers → kept.first ≤ n
+pub length_fits : (kept : KeptRevisions) (n : ℕ) → RiseFrom kept.first kept.numbers → All (λ k. k < n) kept.numbers
+    → kept.first ≤ n
     → kept.first + length kept.numbers ≤ n
 length_fits kept n up all low =
     let fits = new_number_fits kept n up low in let same = new_number_above kept n all in omega arith
@@ -115,14 +120,16 @@ length_fits kept n up all low =
 -- images
 
 -- no kept revision up to n: no image
-pub image_of_none : (kept : KeptRevisions) (n : ℕ) → RiseFrom kept.first kept.numbers → up_to n kept.numbers ≡ 0 → image kept n ≡ None
+pub image_of_none : (kept : KeptRevisions) (n : ℕ) → RiseFrom kept.first kept.numbers → up_to n kept.numbers ≡ 0
+    → image kept n ≡ None
 image_of_none kept n up none = elim (last_up_to kept.first n kept.numbers None up) [
   | inl found ↦ ap (option_map (new_number kept)) found.1
   | inr found ↦ let counted = found.4 in absurd (omega arith)
 ]
 
 -- the image counts the kept revisions up to n but the last
-pub image_of_some : (kept : KeptRevisions) (n before : ℕ) → RiseFrom kept.first kept.numbers → up_to n kept.numbers ≡ before + 1
+pub image_of_some : (kept : KeptRevisions) (n before : ℕ) → RiseFrom kept.first kept.numbers
+    → up_to n kept.numbers ≡ before + 1
     → (image kept n ≡ Some (kept.first + before)) × (kept.first + before ≤ n)
 image_of_some kept n before up some = elim (last_up_to kept.first n kept.numbers None up) [
   | inl found ↦ let none = found.0 in absurd (omega arith)
@@ -135,7 +142,8 @@ image_of_some kept n before up some = elim (last_up_to kept.first n kept.numbers
 ]
 
 -- an image is from the first number on, and at most the number itself
-pub image_fits : (kept : KeptRevisions) (n m : ℕ) → RiseFrom kept.first kept.numbers → image kept n ≡ Some m → (kept.first ≤ m) × (m ≤ n)
+pub image_fits : (kept : KeptRevisions) (n m : ℕ) → RiseFrom kept.first kept.numbers → image kept n ≡ Some m
+    → (kept.first ≤ m) × (m ≤ n)
 image_fits kept n m up is = elim (last_up_to kept.first n kept.numbers None up) [
   | inl found ↦
       let none : None ≡ Some m = sym (ap (option_map (new_number kept)) found.1) ∙ is in
@@ -151,21 +159,24 @@ image_fits kept n m up is = elim (last_up_to kept.first n kept.numbers None up) 
 -- one more kept revision
 
 -- numbers that rise still do with a higher one behind them
-pub rise_pushed : (first n : ℕ) (numbers : List ℕ) → RiseFrom first numbers → All (λ k. k < n) numbers → first ≤ n → RiseFrom first (numbers ++ n ∷ [])
+pub rise_pushed : (first n : ℕ) (numbers : List ℕ) → RiseFrom first numbers → All (λ k. k < n) numbers → first ≤ n
+    → RiseFrom first (numbers ++ n ∷ [])
 rise_pushed first n [] up all low = (low, tt)
 rise_pushed first n (k ∷ numbers) up all low =
     let lower = All-head (λ j. j < n) k numbers all in
     (up.0, rise_pushed (k + 1) n numbers up.1 (All-tail (λ j. j < n) k numbers all) (omega arith))
 
 -- it changes no new number up to its own
-pub new_number_pushed : (kept : KeptRevisions) (n k : ℕ) → k ≤ n → new_number (record kept { numbers = kept.numbers ++ n ∷ [] }) k ≡ new_number kept k
+pub new_number_pushed : (kept : KeptRevisions) (n k : ℕ) → k ≤ n
+    → new_number (record kept { numbers = kept.numbers ++ n ∷ [] }) k ≡ new_number kept k
 new_number_pushed kept n k low =
     let counted = sum_by_push (λ j. cond (nat_lt j k) 1 0) kept.numbers n in
     let over = is_not_below n k low in
     let same : below k (kept.numbers ++ n ∷ []) ≡ below k kept.numbers + 0 = counted ∙ rw over refl in
     omega arith
 
-last_within : (n : ℕ) (before : Option ℕ) (numbers : List ℕ) (last : ℕ) → last_or before (filter (λ k. nat_le k n) numbers) ≡ Some last
+last_within : (n : ℕ) (before : Option ℕ) (numbers : List ℕ) (last : ℕ)
+    → last_or before (filter (λ k. nat_le k n) numbers) ≡ Some last
     → (before ≡ Some last) ⊎ (last ≤ n)
 last_within n before [] last is = inl is
 last_within n before (k ∷ numbers) last is = elim (leb_tells k n) [
@@ -179,16 +190,19 @@ last_within n before (k ∷ numbers) last is = elim (leb_tells k n) [
 ]
 
 -- it changes no image below its own number
-pub image_pushed : (kept : KeptRevisions) (n r : ℕ) → r < n → image (record kept { numbers = kept.numbers ++ n ∷ [] }) r ≡ image kept r
+pub image_pushed : (kept : KeptRevisions) (n r : ℕ) → r < n
+    → image (record kept { numbers = kept.numbers ++ n ∷ [] }) r ≡ image kept r
 image_pushed kept n r low =
     let over = is_over n r low in
     let kept_up_to : filter (λ k. nat_le k r) (kept.numbers ++ n ∷ []) ≡ filter (λ k. nat_le k r) kept.numbers =
-    filter-append (λ k. nat_le k r) kept.numbers (n ∷ []) ∙ rw over (append-nil (filter (λ k. nat_le k r) kept.numbers)) in
+    filter-append (λ k. nat_le k r) kept.numbers (n ∷ [])
+    ∙ rw over (append-nil (filter (λ k. nat_le k r) kept.numbers)) in
     ap (λ l. option_map (new_number (record kept { numbers = kept.numbers ++ n ∷ [] })) (last_or None l)) kept_up_to
     ∙ mapped (last_kept kept r) refl
   where
     mapped : (last : Option ℕ) → last_kept kept r ≡ last
-        → option_map (new_number (record kept { numbers = kept.numbers ++ n ∷ [] })) last ≡ option_map (new_number kept) last
+        → option_map (new_number (record kept { numbers = kept.numbers ++ n ∷ [] })) last ≡ option_map
+        (new_number kept) last
     mapped None is = refl
     mapped (Some last) is = elim (last_within r None kept.numbers last is) [
       | inl none ↦ cc
@@ -213,7 +227,8 @@ image_at_pushed kept n r all low =
 
 -- the search
 
-pub from_first : (first : ℕ) (numbers : List ℕ) → RiseFrom first numbers → (j : ℕ) (d : ℕ) → j < length numbers → first ≤ get_or numbers j d
+pub from_first : (first : ℕ) (numbers : List ℕ) → RiseFrom first numbers → (j : ℕ) (d : ℕ) → j < length numbers
+    → first ≤ get_or numbers j d
 from_first first [] up j d within = absurd (omega arith)
 from_first first (k ∷ numbers) up zero d within = up.0
 from_first first (k ∷ numbers) up (suc j) d within =
@@ -227,10 +242,12 @@ rises first (k ∷ numbers) up zero zero d under within = omega arith
 rises first (k ∷ numbers) up zero (suc j) d under within =
     let later = from_first (k + 1) numbers up.1 j d (omega arith) in omega arith
 rises first (k ∷ numbers) up (suc i) zero d under within = absurd (omega arith)
-rises first (k ∷ numbers) up (suc i) (suc j) d under within = rises (k + 1) numbers up.1 i j d (omega arith) (omega arith)
+rises first (k ∷ numbers) up (suc i) (suc j) d under within = rises (k + 1) numbers up.1 i j d (omega arith)
+    (omega arith)
 
 -- what a search asks of the kept numbers
-pub parted_from_rise : (first n : ℕ) (numbers : List ℕ) → RiseFrom first numbers → IsPartitionedBy (λ k. nat_le k n) numbers
+pub parted_from_rise : (first n : ℕ) (numbers : List ℕ) → RiseFrom first numbers
+    → IsPartitionedBy (λ k. nat_le k n) numbers
 parted_from_rise first n numbers up = IsPartitionedBy-leb (λ k. k) numbers n (rises first numbers up)
 
 pub parted_below : (first n : ℕ) (numbers : List ℕ) → RiseFrom first numbers → IsPartitionedBy (λ k. nat_lt k n) numbers
@@ -241,13 +258,18 @@ pub count_at_point : (p : ℕ → Bool) (i : ℕ) (numbers : List ℕ) → i ≤
     → IsPartitionPoint (λ k. p k ≡ true) (λ k. p k ≡ false) numbers i → i ≡ count_by p numbers
 count_at_point p i [] within point = omega arith
 count_at_point p zero (k ∷ numbers) within point =
-    let none = count_at_point p zero numbers (omega arith) ((λ j d low high. absurd (omega arith)), (λ j d low high. point.1 (suc j) d (omega arith) (omega arith))) in
+    let none = count_at_point p zero numbers (omega arith)
+    ((λ j d low high. absurd (omega arith)), (λ j d low high. point.1 (suc j) d (omega arith) (omega arith))) in
     let fails : p k ≡ false = point.1 0 0 (omega arith) (omega arith) in
     let counted = sum_by-cons (λ j. cond (p j) 1 0) k numbers in
     let same : count_by p (k ∷ numbers) ≡ 0 + count_by p numbers = counted ∙ rw fails refl in
     omega arith
 count_at_point p (suc i) (k ∷ numbers) within point =
-    let later = count_at_point p i numbers (omega arith) ((λ j d low high. point.0 (suc j) d (omega arith) (omega arith)), (λ j d low high. point.1 (suc j) d (omega arith) (omega arith))) in
+    let later = count_at_point p i numbers (omega arith) (
+      (λ j d low high. point.0 (suc j) d (omega arith) (omega arith)),
+      (λ j d low high. point.1 (suc j) d (omega arith) (omega arith)),
+    ) in
     let passes : p k ≡ true = point.0 0 0 (omega arith) (omega arith) in
-    let counted : count_by p (k ∷ numbers) ≡ 1 + count_by p numbers = sum_by-cons (λ j. cond (p j) 1 0) k numbers ∙ rw passes refl in
+    let counted : count_by p (k ∷ numbers) ≡ 1 + count_by p numbers = sum_by-cons (λ j. cond (p j) 1 0) k numbers
+    ∙ rw passes refl in
     omega arith

@@ -29,7 +29,8 @@ has_count : (name : List ℕ) (hs : List line.Header) → has_header name hs ≡
 has_count name [] = refl
 has_count name (h ∷ hs) =
     let more = has_count name hs in
-    ap (λ b. is_named name h || b) more ∙ sum (is_named name h) (count_named name hs) ∙ ap (nat_lt 0) (sym (count_cons name h hs))
+    ap (λ b. is_named name h || b) more ∙ sum (is_named name h) (count_named name hs)
+    ∙ ap (nat_lt 0) (sym (count_cons name h hs))
   where
     sum : (b : Bool) (n : ℕ) → (b || nat_lt 0 n) ≡ nat_lt 0 ((if b then 1 else 0) + n)
     sum true n = grind arith
@@ -37,7 +38,8 @@ has_count name (h ∷ hs) =
 
 -- one more line keeps a name at most once where it isn't of this name or no other line is
 one_name : (name : List ℕ) (h : line.Header) (hs : List line.Header)
-    → nat_le (count_named name (h ∷ hs)) 1 ≡ (not (is_named name h && has_header h.name hs) && nat_le (count_named name hs) 1)
+    → nat_le (count_named name (h ∷ hs)) 1 ≡ (not (is_named name h && has_header h.name hs) && nat_le
+    (count_named name hs) 1)
 one_name name h hs = ap (λ n. nat_le n 1) (count_cons name h hs) ∙ cases (is_named name h) refl
   where
     add : (n : ℕ) → nat_le (1 + n) 1 ≡ (not (nat_lt 0 n) && nat_le n 1)
@@ -45,19 +47,23 @@ one_name name h hs = ap (λ n. nat_le n 1) (count_cons name h hs) ∙ cases (is_
     add (suc n) = grind arith
 
     cases : (b : Bool) → is_named name h ≡ b
-        → nat_le ((if b then 1 else 0) + count_named name hs) 1 ≡ (not (b && has_header h.name hs) && nat_le (count_named name hs) 1)
+        → nat_le ((if b then 1 else 0) + count_named name hs) 1 ≡
+        (not (b && has_header h.name hs) && nat_le (count_named name hs) 1)
     cases true is =
         let name_is : h.name ≡ name = (bytes_eq-Decides h.name name).0 is in
-        let seen : has_header h.name hs ≡ nat_lt 0 (count_named name hs) = ap (λ n. has_header n hs) name_is ∙ has_count name hs in
+        let seen : has_header h.name hs ≡ nat_lt 0 (count_named name hs) = ap (λ n. has_header n hs) name_is
+        ∙ has_count name hs in
         add (count_named name hs) ∙ ap (λ b. not b && nat_le (count_named name hs) 1) (sym seen)
     cases false is = ap (λ n. nat_le n 1) (omega arith)
 
 spread : (names : List (List ℕ)) (h : line.Header) (hs : List line.Header)
-    → counts_once names (h ∷ hs) ≡ (not (list_any (λ known. bytes_eq h.name known) names && has_header h.name hs) && counts_once names hs)
+    → counts_once names (h ∷ hs) ≡
+    (not (list_any (λ known. bytes_eq h.name known) names && has_header h.name hs) && counts_once names hs)
 spread [] h hs = refl
 spread (name ∷ names) h hs =
     rw (one_name name h hs, spread names h hs)
-    (mix (bytes_eq h.name name) (has_header h.name hs) (nat_le (count_named name hs) 1) (list_any (λ known. bytes_eq h.name known) names) (counts_once names hs))
+    (mix (bytes_eq h.name name) (has_header h.name hs) (nat_le (count_named name hs) 1)
+    (list_any (λ known. bytes_eq h.name known) names) (counts_once names hs))
   where
     mix : (e x q f r : Bool) → ((not (e && x) && q) && (not (f && x) && r)) ≡ (not ((e || f) && x) && (q && r))
     mix true true q f r = refl
@@ -100,11 +106,14 @@ once_front (name ∷ names) xs ys once =
     rw (few, more) refl
 
 -- the lines that a scan found are those of each block that stands there
-same_lines : (text rest : List ℕ) (hs : List line.Header) (size : ℕ) → IsLinesEnd text size → BeginsWithBlock text hs rest
+same_lines : (text rest : List ℕ) (hs : List line.Header) (size : ℕ) → IsLinesEnd text size
+    → BeginsWithBlock text hs rest
     → hs ≡ headers_of (take size text)
 same_lines text rest hs size found b =
-    (lines_once hs (headers_of (take size text)) rest (drop (size + 1) text) (lawful_lines hs b.block) found.lines.lawful
-    (sym (append_assoc (lines_bytes hs) (10 ∷ []) rest) ∙ sym b.spelled ∙ found.ended ∙ ap (λ t. t ++ 10 ∷ drop (size + 1) text) found.lines.spelled)).0
+    (lines_once hs (headers_of (take size text)) rest (drop (size + 1) text)
+    (lawful_lines hs b.block) found.lines.lawful
+    (sym (append_assoc (lines_bytes hs) (10 ∷ []) rest) ∙ sym b.spelled ∙ found.ended
+    ∙ ap (λ t. t ++ 10 ∷ drop (size + 1) text) found.lines.spelled)).0
 
 pub block_end : (text : List ℕ) (size : ℕ) → IsLinesEnd text size → 0 < size
     → counts_once known_names (headers_of (take size text)) ≡ true
@@ -112,13 +121,17 @@ pub block_end : (text : List ℕ) (size : ℕ) → IsLinesEnd text size → 0 < 
 block_end text size found some once =
     let hs = headers_of (take size text) in
     let below = found.below in
-    let cut : text ≡ (take size text ++ 10 ∷ []) ++ drop (size + 1) text = found.ended ∙ sym (append_assoc (take size text) (10 ∷ []) (drop (size + 1) text)) in
-    let size_is : length (take size text ++ 10 ∷ []) ≡ size + 1 = length-append (take size text) (10 ∷ []) ∙ ap (λ n. n + 1) (length-take-le size text (omega arith)) in
+    let cut : text ≡ (take size text ++ 10 ∷ []) ++ drop (size + 1) text = found.ended
+    ∙ sym (append_assoc (take size text) (10 ∷ []) (drop (size + 1) text)) in
+    let size_is : length (take size text ++ 10 ∷ []) ≡ size + 1 = length-append (take size text) (10 ∷ [])
+    ∙ ap (λ n. n + 1) (length-take-le size text (omega arith)) in
     let front : take (size + 1) text ≡ lines_bytes hs ++ 10 ∷ [] =
     ap (take (size + 1)) cut ∙ take_at (take size text ++ 10 ∷ []) (drop (size + 1) text) (size + 1) size_is
     ∙ ap (λ t. t ++ 10 ∷ []) found.lines.spelled in
-    let read : headers_of (take (size + 1) text) ≡ hs = ap headers_of front ∙ headers_of-lines hs (10 ∷ []) found.lines.lawful refl in
-    let full : nat_lt 0 (length hs) ≡ true = some_lines hs (ap length (sym found.lines.spelled) ∙ length-take-le size text (omega arith)) some in
+    let read : headers_of (take (size + 1) text) ≡ hs = ap headers_of front
+    ∙ headers_of-lines hs (10 ∷ []) found.lines.lawful refl in
+    let full : nat_lt 0 (length hs) ≡ true = some_lines hs
+    (ap length (sym found.lines.spelled) ∙ length-take-le size text (omega arith)) some in
     let lawful = found.lines.lawful in (
       record {
         inside = omega arith;
@@ -155,7 +168,8 @@ no_block-once text others hs all is twice (ks, rest, b) =
 pub no_block-empty : (text : List ℕ) (size : ℕ) → IsLinesEnd text size → size ≤ 0 → ¬ HasBlock text
 no_block-empty text size found none (hs, rest, b) =
     let same = same_lines text rest hs size found b in
-    let some = first_true (nat_lt 0 (length hs)) (list_all is_header hs) (first_true (nat_lt 0 (length hs) && list_all is_header hs) (counts_once known_names hs) b.block) in
+    let some = first_true (nat_lt 0 (length hs)) (list_all is_header hs)
+    (first_true (nat_lt 0 (length hs) && list_all is_header hs) (counts_once known_names hs) b.block) in
     let zero_is : size ≡ 0 = omega arith in
     let empty : hs ≡ [] = same ∙ ap (λ n. headers_of (take n text)) zero_is in
     let bad : true ≡ false = sym some ∙ ap (λ (g : List line.Header). nat_lt 0 (length g)) empty in
@@ -170,7 +184,8 @@ pub record LinesOf (dump : List ℕ) (place after : ℕ) (text : List ℕ) : Typ
   pub lines : AreHeaderLines text
   pub headers : headers_of text ≡ headers_of (slice_range dump place after)
 
-pub lines_of : (dump : List ℕ) (place after : ℕ) → IsBlockBetween dump place after → LinesOf dump place after (take (after - 1 - place) (drop place dump))
+pub lines_of : (dump : List ℕ) (place after : ℕ) → IsBlockBetween dump place after
+    → LinesOf dump place after (take (after - 1 - place) (drop place dump))
 lines_of dump place after stands =
     let hs = headers_of (slice_range dump place after) in
     let b = stands.block in
@@ -192,7 +207,8 @@ lines_of dump place after stands =
     }
 
 -- a part of a part
-pub part_of_part : (dump : List ℕ) (place after : ℕ) (x y z : List ℕ) → IsPartBetween dump place after (x ++ (y ++ z)) → IsPartBetween dump place after y
+pub part_of_part : (dump : List ℕ) (place after : ℕ) (x y z : List ℕ) → IsPartBetween dump place after (x ++ (y ++ z))
+    → IsPartBetween dump place after y
 part_of_part dump place after x y z (from, to, low, middle, high, is) =
     let whole = take (to - from) (drop from dump) in
     let sizes = ap length is ∙ length-take (to - from) (drop from dump) in
@@ -201,10 +217,12 @@ part_of_part dump place after x y z (from, to, low, middle, high, is) =
     let rest : y ++ z ≡ drop (length x) whole = sym (drop_at x (y ++ z) (length x) refl) ∙ ap (drop (length x)) is in
     let room : length x + (to - from - length x) ≡ to - from = omega arith in
     let moved : drop (length x) whole ≡ take (to - from - length x) (drop (from + length x) dump) =
-    ap (λ n. drop (length x) (take n (drop from dump))) (sym room) ∙ drop-take (length x) (to - from - length x) (drop from dump)
+    ap (λ n. drop (length x) (take n (drop from dump))) (sym room) ∙ drop-take (length x) (to - from - length x)
+    (drop from dump)
     ∙ ap (take (to - from - length x)) (drop-drop (length x) from dump) in
     let front : y ≡ take (length y) (drop (from + length x) dump) =
-    sym (take_at y z (length y) refl) ∙ ap (take (length y)) (rest ∙ moved) ∙ take-take (length y) (to - from - length x) (drop (from + length x) dump) (omega arith) in (
+    sym (take_at y z (length y) refl) ∙ ap (take (length y)) (rest ∙ moved)
+    ∙ take-take (length y) (to - from - length x) (drop (from + length x) dump) (omega arith) in (
       from + length x,
       from + length x + length y,
       omega arith,
@@ -214,17 +232,20 @@ part_of_part dump place after x y z (from, to, low, middle, high, is) =
     )
 
 -- a line's value, and the lines behind it
-pub value_between : (dump : List ℕ) (place after : ℕ) (text whole name value rest : List ℕ) → IsPartBetween dump place after text
+pub value_between : (dump : List ℕ) (place after : ℕ) (text whole name value rest : List ℕ)
+    → IsPartBetween dump place after text
     → text ≡ whole ++ 10 ∷ rest → whole ≡ name ++ codes ": " ++ value → IsPartBetween dump place after value
 value_between dump place after text whole name value rest part is spelled =
     part_of_part dump place after (name ++ codes ": ") value (10 ∷ rest)
-    (subst (IsPartBetween dump place after) (is ∙ ap (λ w. w ++ 10 ∷ rest) spelled ∙ append_assoc (name ++ codes ": ") value (10 ∷ rest)) part)
+    (subst (IsPartBetween dump place after) (is ∙ ap (λ w. w ++ 10 ∷ rest) spelled
+    ∙ append_assoc (name ++ codes ": ") value (10 ∷ rest)) part)
 
 pub rest_between : (dump : List ℕ) (place after : ℕ) (text whole rest : List ℕ) → IsPartBetween dump place after text
     → text ≡ whole ++ 10 ∷ rest → IsPartBetween dump place after rest
 rest_between dump place after text whole rest part is =
     part_of_part dump place after (whole ++ 10 ∷ []) rest []
-    (subst (IsPartBetween dump place after) (is ∙ sym (append_assoc whole (10 ∷ []) rest) ∙ ap (λ t. (whole ++ 10 ∷ []) ++ t) (sym (append-nil rest))) part)
+    (subst (IsPartBetween dump place after) (is ∙ sym (append_assoc whole (10 ∷ []) rest)
+    ∙ ap (λ t. (whole ++ 10 ∷ []) ++ t) (sym (append-nil rest))) part)
 
 pub value_behind : (name : List ℕ) (h : line.Header) (hs : List line.Header) → is_named name h ≡ false
     → header_value name (h ∷ hs) ≡ header_value name hs
@@ -258,7 +279,8 @@ block_size dump place after stands =
     omega arith
 
 -- a name has a line where it has a value
-pub has_value : (name : List ℕ) (headers : List line.Header) → is_some (header_value name headers) ≡ has_header name headers
+pub has_value : (name : List ℕ) (headers : List line.Header)
+    → is_some (header_value name headers) ≡ has_header name headers
 has_value name [] = refl
 has_value name (h ∷ headers) = cases (is_named name h) refl (has_value name headers)
   where
@@ -268,15 +290,18 @@ has_value name (h ∷ headers) = cases (is_named name h) refl (has_value name he
     cases false is more = rw is more
 
 -- a block at a place, from one at the front of the text there
-pub block_there : (dump text : List ℕ) (place size : ℕ) → text ≡ drop place dump → place ≤ length dump → IsBlockEnd text size → IsBlockBetween dump place (place + size)
+pub block_there : (dump text : List ℕ) (place size : ℕ) → text ≡ drop place dump → place ≤ length dump
+    → IsBlockEnd text size → IsBlockBetween dump place (place + size)
 block_there dump text place size is low found =
     let inside = found.inside in
     let room : length text ≡ length dump - place = ap length is ∙ length-drop place dump in
     let count : place + size - place ≡ size = omega arith in
-    let cut : take (place + size - place) (drop place dump) ≡ take size text = ap (λ n. take n (drop place dump)) count ∙ ap (take size) (sym is) in
+    let cut : take (place + size - place) (drop place dump) ≡ take size text = ap (λ n. take n (drop place dump)) count
+    ∙ ap (take size) (sym is) in
     let rest : drop (place + size) dump ≡ drop size text = sym (drop-drop size place dump) ∙ ap (drop size) (sym is) in
     record {
-      block = subst (λ t. BeginsWithBlock t (headers_of (take (place + size - place) (drop place dump))) (drop (place + size) dump)) is
+      block = subst (λ t. BeginsWithBlock t (headers_of (take (place + size - place) (drop place dump)))
+          (drop (place + size) dump)) is
           (subst (λ t. BeginsWithBlock text (headers_of t) (drop (place + size) dump)) (sym cut)
           (subst (λ t. BeginsWithBlock text (headers_of (take size text)) t) (sym rest) found.block));
       inside = omega arith;

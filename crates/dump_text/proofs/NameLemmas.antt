@@ -46,8 +46,10 @@ find_filtered p q fits (x ∷ xs) = cases (p x) refl (q x) refl (find_filtered p
 -- bytes are sought among the names of their length
 pub known_by_length : (bytes : List ℕ)
     → find (λ name. bytes_eq bytes (name_text name)) (names_of_length (length bytes)) ≡ known_name bytes
-known_by_length bytes = find_filtered (λ name. bytes_eq bytes (name_text name)) (λ name. length (name_text name) == length bytes)
-    (λ name same. eq-eqb (length (name_text name)) (length bytes) (ap length (sym ((bytes_eq-Decides bytes (name_text name)).0 same)))) all_names
+known_by_length bytes = find_filtered (λ name. bytes_eq bytes (name_text name))
+    (λ name. length (name_text name) == length bytes)
+    (λ name same. eq-eqb (length (name_text name)) (length bytes)
+    (ap length (sym ((bytes_eq-Decides bytes (name_text name)).0 same)))) all_names
 
 -- a name's bytes are known as that name
 pub known_itself : (name : HeaderName) → known_name (name_text name) ≡ Some name

@@ -16,7 +16,8 @@ pub value_more : (bytes : List ℕ) (i c : ℕ) → i < length bytes → get_or 
     → digits_value 10 (take i bytes) * 10 + (c - 48) ≡ digits_value 10 (take (i + 1) bytes)
 value_more bytes i c below is digit =
     let one = digits_value_more 10 bytes i below in
-    sym (one ∙ ap (λ n. digits_value 10 (take i bytes) * 10 + digit_value n) is ∙ ap (λ n. digits_value 10 (take i bytes) * 10 + n) (digit_is c digit))
+    sym (one ∙ ap (λ n. digits_value 10 (take i bytes) * 10 + digit_value n) is
+    ∙ ap (λ n. digits_value 10 (take i bytes) * 10 + n) (digit_is c digit))
 
 pub digits_more : (bytes : List ℕ) (i c : ℕ) → i < length bytes → get_or bytes i 0 ≡ c → is_ascii_digit c ≡ true
     → list_all is_ascii_digit (take i bytes) ≡ true → list_all is_ascii_digit (take (i + 1) bytes) ≡ true
@@ -31,7 +32,8 @@ pub tenth : (n k : ℕ) → n < 10 ^ (k + 1) → 0 < k → n / 10 < 10 ^ k
 tenth n k small some = let e : 10 ^ (suc k) ≡ 10 * 10 ^ k = pow-succ' 10 k in grind (arith, e)
 
 pub one_digit : (n k : ℕ) → n < 10 ^ (k + 1) → k ≤ 0 → n < 10
-one_digit n k small none = let e : k + 1 ≡ 1 = omega arith in let f : 10 ^ (k + 1) ≡ 10 = ap (λ (m : ℕ). 10 ^ m) e in omega arith
+one_digit n k small none = let e : k + 1 ≡ 1 = omega arith in let f : 10 ^ (k + 1) ≡ 10 = ap
+    (λ (m : ℕ). 10 ^ m) e in omega arith
 
 -- one more digit of a number is spelled
 pub spelled_more : (n left start : ℕ) (bytes : List ℕ) → 10 ≤ left → left < 2 ^ 64 → start < length bytes

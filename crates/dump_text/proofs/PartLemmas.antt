@@ -33,9 +33,11 @@ some_eq m n e = cc
 -- a number that is read is spelled by its digits
 pub number_spells : (digits : List ℕ) (n : ℕ) → number_of digits ≡ Some n → Spells digits n
 number_spells digits n e =
-    elim (is_number digits) as (λ (b : Bool). is_number digits ≡ b → (if b then Some (digits_value 10 digits) else None) ≡ Some n → Spells digits n) [
+    elim (is_number digits) as (λ (b : Bool). is_number digits ≡ b
+    → (if b then Some (digits_value 10 digits) else None) ≡ Some n → Spells digits n) [
       | true ↦ λ is read. record {
-        one_line = no_lf digits (second_true (nat_lt 0 (length digits) && nat_le (length digits) 18) (list_all is_ascii_digit digits) is);
+        one_line = no_lf digits (second_true (nat_lt 0 (length digits) && nat_le (length digits) 18)
+            (list_all is_ascii_digit digits) is);
         value = some_eq _ _ read;
       }
       | false ↦ λ is read. cc
@@ -61,7 +63,8 @@ number_of-spelled n small =
     let fits : n < 2 ^ 64 = omega arith in
     let is = decimal_is_IsNumeral n fits in
     let some : nat_lt 0 (length (spelled_number n)) ≡ true = let l = is.0.0 in grind (arith, l) in
-    let few : nat_le (length (spelled_number n)) 18 ≡ true = let l = length-decimal-le 18 n (omega arith) small fits in grind (arith, l) in
+    let few : nat_le (length (spelled_number n)) 18 ≡ true = let l = length-decimal-le 18 n
+    (omega arith) small fits in grind (arith, l) in
     let all = ascii_digits (spelled_number n) is.0.1 in
     let number : is_number (spelled_number n) ≡ true = rw (some, few, all) refl in
     rw number (ap (λ (m : ℕ). Some m) is.1)
@@ -85,13 +88,16 @@ sized_once letter d e b c x y s t is =
     let parts = split_by_length b c (10 ∷ x) (10 ∷ y) sizes cut.1 in
     (cut.0, parts.0, tail-eq 10 10 x y parts.1)
 
-pub part_once : (letter : ℕ) (text other d e b c x y : List ℕ) → IsSized letter text d b x → IsSized letter other e c y → text ≡ other
+pub part_once : (letter : ℕ) (text other d e b c x y : List ℕ) → IsSized letter text d b x → IsSized letter other e c y
+    → text ≡ other
     → (d ≡ e) × (b ≡ c) × (x ≡ y)
 part_once letter text other d e b c x y s t is =
-    sized_once letter d e b c x y (number_spells d (length b) s.size) (number_spells e (length c) t.size) (sym s.cut ∙ is ∙ t.cut)
+    sized_once letter d e b c x y (number_spells d (length b) s.size) (number_spells e (length c) t.size)
+    (sym s.cut ∙ is ∙ t.cut)
 
 -- a part is longer than its bytes, and than what follows it
-pub part_inside : (letter : ℕ) (text d b x : List ℕ) → text ≡ sized_text (letter ∷ []) d b ++ x → (length b < length text) × (length x < length text)
+pub part_inside : (letter : ℕ) (text d b x : List ℕ) → text ≡ sized_text (letter ∷ []) d b ++ x
+    → (length b < length text) × (length x < length text)
 part_inside letter text d b x is =
     let whole = ap length (is ∙ sized_cut letter d b x) in
     let line = length-append d (10 ∷ (b ++ 10 ∷ x)) in
@@ -99,31 +105,41 @@ part_inside letter text d b x is =
     (grind (arith, whole, line, bytes), grind (arith, whole, line, bytes))
 
 -- what follows the letter and a space is the part's digits, an LF, and what follows those
-pub line_of : (letter : ℕ) (text behind d b x : List ℕ) → IsLetter letter text behind → IsSized letter text d b x → behind ≡ d ++ 10 ∷ (b ++ 10 ∷ x)
+pub line_of : (letter : ℕ) (text behind d b x : List ℕ) → IsLetter letter text behind → IsSized letter text d b x
+    → behind ≡ d ++ 10 ∷ (b ++ 10 ∷ x)
 line_of letter text behind d b x line s =
-    tail-eq 32 32 behind (d ++ 10 ∷ (b ++ 10 ∷ x)) (tail-eq letter letter (32 ∷ behind) (32 ∷ (d ++ 10 ∷ (b ++ 10 ∷ x))) (sym line ∙ s.cut ∙ sized_cut letter d b x))
+    tail-eq 32 32 behind (d ++ 10 ∷ (b ++ 10 ∷ x))
+    (tail-eq letter letter (32 ∷ behind) (32 ∷ (d ++ 10 ∷ (b ++ 10 ∷ x)))
+    (sym line ∙ s.cut ∙ sized_cut letter d b x))
 
 -- the digits and what follows them are those of each part that stands there
-sized_line : (letter : ℕ) (text behind digits rest d b x : List ℕ) → IsLetter letter text behind → IsFirstLine behind digits rest
+sized_line : (letter : ℕ) (text behind digits rest d b x : List ℕ) → IsLetter letter text behind
+    → IsFirstLine behind digits rest
     → IsSized letter text d b x → (digits ≡ d) × (rest ≡ b ++ 10 ∷ x)
 sized_line letter text behind digits rest d b x line first s =
     let spells = number_spells d (length b) s.size in
-    split_once 10 digits d rest (b ++ 10 ∷ x) first.one_line spells.one_line (sym first.cut ∙ line_of letter text behind d b x line s)
+    split_once 10 digits d rest (b ++ 10 ∷ x) first.one_line spells.one_line
+    (sym first.cut ∙ line_of letter text behind d b x line s)
 
 -- a part isn't found where its number is missing
-pub no_sized-number : (letter : ℕ) (text behind digits rest : List ℕ) → IsLetter letter text behind → IsFirstLine behind digits rest
+pub no_sized-number : (letter : ℕ) (text behind digits rest : List ℕ) → IsLetter letter text behind
+    → IsFirstLine behind digits rest
     → number_of digits ≡ None → ¬ HasSized letter text
 no_sized-number letter text behind digits rest line first none (d, b, x, s) =
     let same = sized_line letter text behind digits rest d b x line first s in
     let bad : Path (Option ℕ) None (Some (length b)) = sym none ∙ ap number_of same.0 ∙ s.size in cc
 
 -- where a part stands, its bytes and an LF follow its line
-pub sized_room : (letter : ℕ) (text behind digits rest : List ℕ) (size : ℕ) → IsLetter letter text behind → IsFirstLine behind digits rest
+pub sized_room : (letter : ℕ) (text behind digits rest : List ℕ) (size : ℕ) → IsLetter letter text behind
+    → IsFirstLine behind digits rest
     → number_of digits ≡ Some size → HasSized letter text → (size < length rest) × (get_or rest size 0 ≡ 10)
 sized_room letter text behind digits rest size line first read (d, b, x, s) =
     let same = sized_line letter text behind digits rest d b x line first s in
     let size_is : size ≡ length b = some_eq size (length b) (sym read ∙ ap number_of same.0 ∙ s.size) in
     let sizes : length rest ≡ length b + length (10 ∷ x) = ap length same.1 ∙ length-append b (10 ∷ x) in
     let more : length (10 ∷ x) ≡ 1 + length x = omega arith in
-    let back : drop size rest ≡ 10 ∷ x = ap (drop size) same.1 ∙ drop_at b (10 ∷ x) size (sym size_is) in
-    (omega arith, ap (λ n. get_or rest n 0) (omega arith) ∙ sym (get_or-drop size rest 0 0) ∙ ap (λ (t : List ℕ). get_or t 0 0) back)
+    let back : drop size rest ≡ 10 ∷ x = ap (drop size) same.1 ∙ drop_at b (10 ∷ x) size (sym size_is) in (
+      omega arith,
+      ap (λ n. get_or rest n 0) (omega arith) ∙ sym (get_or-drop size rest 0 0)
+          ∙ ap (λ (t : List ℕ). get_or t 0 0) back,
+    )

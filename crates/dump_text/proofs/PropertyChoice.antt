@@ -28,15 +28,19 @@ first_of a b x y e = cc
 begins : (letter c s : ℕ) (behind d b x : List ℕ) → IsSized letter (c ∷ s ∷ behind) d b x → (c ≡ letter) × (s ≡ 32)
 begins letter c s behind d b x part =
     let more = d ++ 10 ∷ (b ++ 10 ∷ x) in
-    let whole = part.cut ∙ sized_cut letter d b x in
-    (first_of c letter (s ∷ behind) (32 ∷ more) whole, first_of s 32 behind more (tail-eq c letter (s ∷ behind) (32 ∷ more) whole))
+    let whole = part.cut ∙ sized_cut letter d b x in (
+      first_of c letter (s ∷ behind) (32 ∷ more) whole,
+      first_of s 32 behind more
+          (tail-eq c letter (s ∷ behind) (32 ∷ more) whole),
+    )
 
 -- behind the letter and the space
 sized_line-choice : (letter : ℕ) (behind : List ℕ) → Sized letter (letter ∷ 32 ∷ behind)
 sized_line-choice letter behind = by_line (split 10 behind)
   where
     by_line : Split 10 behind → Sized letter (letter ∷ 32 ∷ behind)
-    by_line (Lacks lacks) = NoPart (λ (d, b, x, s). clash 10 d (b ++ 10 ∷ x) behind lacks (line_of letter (letter ∷ 32 ∷ behind) behind d b x refl s))
+    by_line (Lacks lacks) = NoPart (λ (d, b, x, s). clash 10 d (b ++ 10 ∷ x) behind lacks
+        (line_of letter (letter ∷ 32 ∷ behind) behind d b x refl s))
     by_line (Cut digits rest cut one_line) = by_number (number_of digits) refl
       where
         first : IsFirstLine behind digits rest
@@ -46,32 +50,40 @@ sized_line-choice letter behind = by_line (split 10 behind)
         by_number None read = NoPart (no_sized-number letter (letter ∷ 32 ∷ behind) behind digits rest refl first read)
         by_number (Some size) read = by_room (nat_lt size (length rest)) refl (get_or rest size 0 == 10) refl
           where
-            by_room : (t : Bool) → nat_lt size (length rest) ≡ t → (u : Bool) → (get_or rest size 0 == 10) ≡ u → Sized letter (letter ∷ 32 ∷ behind)
+            by_room : (t : Bool) → nat_lt size (length rest) ≡ t → (u : Bool) → (get_or rest size 0 == 10) ≡ u
+                → Sized letter (letter ∷ 32 ∷ behind)
             by_room false short u lf = NoPart (λ has.
                 let room = (sized_room letter (letter ∷ 32 ∷ behind) behind digits rest size refl first read has).0 in
                 let few = ltb-false size (length rest) short in
                 absurd (omega arith))
             by_room true room false lf = NoPart (λ has.
-                eqb-false (get_or rest size 0) 10 lf (sized_room letter (letter ∷ 32 ∷ behind) behind digits rest size refl first read has).1)
+                eqb-false (get_or rest size 0) 10 lf
+                (sized_room letter (letter ∷ 32 ∷ behind) behind digits rest size refl first read has).1)
             by_room true room true lf =
                 let below = ltb-true size (length rest) room in
                 let bytes = take size rest in
                 let after = drop (size + 1) rest in
                 let is : rest ≡ bytes ++ 10 ∷ after =
-                sym (take-append-drop size rest) ∙ ap (λ t. bytes ++ t) (drop_more rest size 0 below ∙ ap (λ c. c ∷ after) (eqb-true (get_or rest size 0) 10 lf)) in
+                sym (take-append-drop size rest) ∙ ap (λ t. bytes ++ t)
+                (drop_more rest size 0 below ∙ ap (λ c. c ∷ after) (eqb-true (get_or rest size 0) 10 lf)) in
                 Part digits bytes after record {
-                  cut = ap (λ t. letter ∷ 32 ∷ t) (cut ∙ ap (λ t. digits ++ 10 ∷ t) is) ∙ sym (sized_cut letter digits bytes after);
+                  cut = ap (λ t. letter ∷ 32 ∷ t) (cut ∙ ap (λ t. digits ++ 10 ∷ t) is)
+                      ∙ sym (sized_cut letter digits bytes after);
                   size = read ∙ ap (λ (n : ℕ). Some n) (sym (length-take-le size rest (omega arith)));
                 }
 
 sized_choice : (letter : ℕ) (text : List ℕ) → Sized letter text
-sized_choice letter [] = NoPart (λ (d, b, x, s). let bad : [] ≡ letter ∷ 32 ∷ (d ++ 10 ∷ (b ++ 10 ∷ x)) = s.cut ∙ sized_cut letter d b x in cc)
-sized_choice letter (c ∷ []) = NoPart (λ (d, b, x, s). let bad : c ∷ [] ≡ letter ∷ 32 ∷ (d ++ 10 ∷ (b ++ 10 ∷ x)) = s.cut ∙ sized_cut letter d b x in cc)
+sized_choice letter [] = NoPart (λ (d, b, x, s). let bad : [] ≡ letter ∷ 32 ∷ (d ++ 10 ∷ (b ++ 10 ∷ x)) = s.cut
+    ∙ sized_cut letter d b x in cc)
+sized_choice letter (c ∷ []) = NoPart (λ (d, b, x, s). let bad : c ∷ [] ≡ letter ∷ 32 ∷
+    (d ++ 10 ∷ (b ++ 10 ∷ x)) = s.cut ∙ sized_cut letter d b x in cc)
 sized_choice letter (c ∷ s ∷ behind) = by_letter (c == letter) refl (s == 32) refl
   where
     by_letter : (t : Bool) → (c == letter) ≡ t → (u : Bool) → (s == 32) ≡ u → Sized letter (c ∷ s ∷ behind)
-    by_letter false other u space = NoPart (λ (d, b, x, part). eqb-false c letter other (begins letter c s behind d b x part).0)
-    by_letter true is false other = NoPart (λ (d, b, x, part). eqb-false s 32 other (begins letter c s behind d b x part).1)
+    by_letter false other u space = NoPart (λ (d, b, x, part). eqb-false c letter other
+        (begins letter c s behind d b x part).0)
+    by_letter true is false other = NoPart (λ (d, b, x, part). eqb-false s 32 other
+        (begins letter c s behind d b x part).1)
     by_letter true is true space = rw (eqb-true c letter is, eqb-true s 32 space) (sized_line-choice letter behind)
 
 -- the entry at the front of a text, or that there is none

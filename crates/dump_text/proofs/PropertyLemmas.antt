@@ -33,7 +33,8 @@ abbrev pub EntryParts : List ℕ → Property → List ℕ → Type 0
 EntryParts text p rest = SetParts text p rest ⊎ DeletedParts text p rest
 
 -- an entry at the front of a text is its parts
-pub entry_parts : (text entry rest : List ℕ) (p : Property) → text ≡ entry ++ rest → IsEntry entry p → EntryParts text p rest
+pub entry_parts : (text entry rest : List ℕ) (p : Property) → text ≡ entry ++ rest → IsEntry entry p
+    → EntryParts text p rest
 entry_parts text entry rest p is (inl (value, set, (d, e, named, valued, spelled))) =
     let first = sized_text (codes "K") d p.name in
     let second = sized_text (codes "V") e value in
@@ -63,7 +64,8 @@ parts_entry text p rest (inr e) =
     (sized_text (codes "D") e.digits p.name, e.name.cut, inr (e.none, (e.digits, e.name.size, refl)))
 
 -- the parts that the scan finds are those of their property
-abbrev pub scanned_parts : (text : List ℕ) (parts : Parts) (rest : List ℕ) → IsEntryOf text parts → rest ≡ parts_rest parts
+abbrev pub scanned_parts : (text : List ℕ) (parts : Parts) (rest : List ℕ) → IsEntryOf text parts
+    → rest ≡ parts_rest parts
     → EntryParts text (parts_property parts) rest
 scanned_parts text (Set name value) rest (named, valued) is = inl (record {
   name_digits = name.digits.now;
@@ -97,7 +99,8 @@ one_kind text d b x e c y set deleted =
     apart 68 75 (lit< tt) (sym (begins_with 68 text e c y deleted) ∙ begins_with 75 text d b x set)
 
 -- a text begins with at most one entry
-pub entry_once : (text : List ℕ) (p q : Property) (x y : List ℕ) → EntryParts text p x → EntryParts text q y → (p ≡ q) × (x ≡ y)
+pub entry_once : (text : List ℕ) (p q : Property) (x y : List ℕ) → EntryParts text p x → EntryParts text q y → (p ≡ q)
+    × (x ≡ y)
 entry_once text p q x y (inl e) (inl f) =
     let names = part_once 75 text text e.name_digits f.name_digits p.name q.name e.behind f.behind e.name f.name refl in
     let values = part_once 86 e.behind f.behind e.value_digits f.value_digits e.bytes f.bytes x y e.value f.value names.2 in
@@ -129,7 +132,8 @@ entries_once text [] (q ∷ qs) e (entry, rest, is, one, more) =
 entries_once text (p ∷ ps) [] (entry, rest, is, one, more) f =
     let parts = entry_parts text entry rest p is one in absurd (no_entry-end text p rest parts f)
 entries_once text (p ∷ ps) (q ∷ qs) (entry, rest, is, one, more) (entry', rest', is', one', more') =
-    let same = entry_once text p q rest rest' (entry_parts text entry rest p is one) (entry_parts text entry' rest' q is' one') in
+    let same = entry_once text p q rest rest' (entry_parts text entry rest p is one)
+    (entry_parts text entry' rest' q is' one') in
     let others = entries_once rest ps qs more (subst (λ (t : List ℕ). AreEntries t qs) (sym same.1) more') in
     λ i. same.0 i ∷ others i
 
@@ -140,7 +144,8 @@ entries_some text (p ∷ ps) (entry, rest, cut, one, more) is =
     let parts = entry_parts text entry rest p cut one in no_entry-empty text p rest parts is
 
 -- a text is the property block of at most one list
-pub property_block_once : (text : List ℕ) (ps qs : List Property) → IsPropertyBlock text ps → IsPropertyBlock text qs → ps ≡ qs
+pub property_block_once : (text : List ℕ) (ps qs : List Property) → IsPropertyBlock text ps → IsPropertyBlock text qs
+    → ps ≡ qs
 property_block_once text ps qs b c = elim b [
   | inl e ↦ elim c [
     | inl f ↦ e.1 ∙ sym f.1
@@ -182,7 +187,8 @@ pub record Left (ps : List Property) (p : Property) (rest : List ℕ) : Type 0 w
   pub list : ps ≡ p ∷ others
   pub entries : AreEntries rest others
 
-pub left_of : (text : List ℕ) (p : Property) (rest : List ℕ) (ps : List Property) → EntryParts text p rest → IsPropertyBlock text ps → Left ps p rest
+pub left_of : (text : List ℕ) (p : Property) (rest : List ℕ) (ps : List Property) → EntryParts text p rest
+    → IsPropertyBlock text ps → Left ps p rest
 left_of text p rest ps e b = elim b [
   | inl none ↦ absurd (no_entry-empty text p rest e none.0)
   | inr all ↦ of_entries ps all
@@ -203,14 +209,16 @@ pub properties_left : (text : List ℕ) (p : Property) (rest : List ℕ) → Ent
 properties_left text p rest e (ps, b) = let left = left_of text p rest ps e b in (left.others, inr left.entries)
 
 -- entries behind one more
-pub entries_more : (text : List ℕ) (p : Property) (rest : List ℕ) → EntryParts text p rest → HasEntries text ↔ HasEntries rest
+pub entries_more : (text : List ℕ) (p : Property) (rest : List ℕ) → EntryParts text p rest → HasEntries text
+    ↔ HasEntries rest
 entries_more text p rest e = (
   λ (ps, all). let left = left_of text p rest ps e (inr all) in (left.others, left.entries),
   λ (ps, all). let (entry, is, one) = parts_entry text p rest e in (p ∷ ps, (entry, rest, is, one, all)),
 )
 
 -- whether an entry so far or one of those left deletes a property, behind one more entry
-pub deletes_step : (ps : List Property) (deletes : Bool) (text : List ℕ) (p : Property) (rest : List ℕ) → EntryParts text p rest
+pub deletes_step : (ps : List Property) (deletes : Bool) (text : List ℕ) (p : Property) (rest : List ℕ)
+    → EntryParts text p rest
     → ((qs : List Property) × AreEntries text qs × (has_deletes ps ≡ (deletes || has_deletes qs)))
     → (qs : List Property) × AreEntries rest qs × (has_deletes ps ≡ ((deletes || is_none p.value) || has_deletes qs))
 deletes_step ps deletes text p rest e (qs, all, is) =
@@ -250,7 +258,8 @@ block_ends (c ∷ text) none reads =
     ]))
 
 -- the value of a name behind an entry of another, or behind one that is deleted
-pub value_behind : (name : List ℕ) (p : Property) (ps : List Property) → (bytes_eq p.name name && is_some p.value) ≡ false
+pub value_behind : (name : List ℕ) (p : Property) (ps : List Property)
+    → (bytes_eq p.name name && is_some p.value) ≡ false
     → property_value name (p ∷ ps) ≡ property_value name ps
 value_behind name p ps other = rw other refl
 
@@ -275,12 +284,15 @@ no_value_there e name gone =
     neither false = refl
 
 -- the rest and the value of an entry are parts of the block
-part_behind : (dump : List ℕ) (place after : ℕ) (x y : List ℕ) → IsPartBetween dump place after (x ++ y) → IsPartBetween dump place after y
+part_behind : (dump : List ℕ) (place after : ℕ) (x y : List ℕ) → IsPartBetween dump place after (x ++ y)
+    → IsPartBetween dump place after y
 part_behind dump place after x y part =
-    part_of_part dump place after x y [] (subst (λ (t : List ℕ). IsPartBetween dump place after (x ++ t)) (sym (append-nil y)) part)
+    part_of_part dump place after x y [] (subst (λ (t : List ℕ). IsPartBetween dump place after (x ++ t))
+    (sym (append-nil y)) part)
 
 -- the value of an entry stands in its block
-pub value_between : (dump : List ℕ) (place after : ℕ) (text : List ℕ) (p : Property) (rest value : List ℕ) → EntryParts text p rest
+pub value_between : (dump : List ℕ) (place after : ℕ) (text : List ℕ) (p : Property) (rest value : List ℕ)
+    → EntryParts text p rest
     → p.value ≡ Some value → IsPartBetween dump place after text → IsPartBetween dump place after value
 value_between dump place after text p rest value (inl e) set part =
     let line = 86 ∷ 32 ∷ (e.value_digits ++ 10 ∷ []) in
@@ -299,7 +311,8 @@ value_between dump place after text p rest value (inr e) set part =
     let bad : Path (Option (List ℕ)) None (Some value) = sym e.none ∙ set in cc
 
 -- what follows an entry stands in its block
-pub rest_between : (dump : List ℕ) (place after : ℕ) (text : List ℕ) (p : Property) (rest : List ℕ) → EntryParts text p rest
+pub rest_between : (dump : List ℕ) (place after : ℕ) (text : List ℕ) (p : Property) (rest : List ℕ)
+    → EntryParts text p rest
     → IsPartBetween dump place after text → IsPartBetween dump place after rest
 rest_between dump place after text p rest (inl e) part =
     part_behind dump place after (sized_text (codes "V") e.value_digits e.bytes) rest

@@ -19,11 +19,14 @@ use Rattle.dump_text.specs.steps.Scanning.{IsFirstAt, IsFirstLine, IsCutAtColon,
 use Rattle.dump_text.proofs.Unique.{split_once, Lawful, lawful, text_no_lf, regroup, all_first, all_rest, not_empty, or_right, ended}
 
 -- a byte that stands at no place of a text isn't in it
-pub lacks : (b : ℕ) (text : List ℕ) → ((k : ℕ) → k < length text → (slice_index text k == b) ≡ true → ⊥) → has_byte b text ≡ false
+pub lacks : (b : ℕ) (text : List ℕ) → ((k : ℕ) → k < length text → (slice_index text k == b) ≡ true → ⊥)
+    → has_byte b text ≡ false
 lacks b [] none = refl
-lacks b (c ∷ text) none = lacks_cons b c text (none 0 (omega arith)) (lacks b text (λ k small is. none (suc k) (omega arith) is))
+lacks b (c ∷ text) none = lacks_cons b c text (none 0 (omega arith))
+    (lacks b text (λ k small is. none (suc k) (omega arith) is))
   where
-    lacks_cons : (b c : ℕ) (text : List ℕ) → ((c == b) ≡ true → ⊥) → has_byte b text ≡ false → has_byte b (c ∷ text) ≡ false
+    lacks_cons : (b c : ℕ) (text : List ℕ) → ((c == b) ≡ true → ⊥) → has_byte b text ≡ false
+        → has_byte b (c ∷ text) ≡ false
     lacks_cons b c text head tail = elim (c == b) as (λ (v : Bool). (v ≡ true → ⊥) → (v || has_byte b text) ≡ false) [
       | true ↦ λ bad. absurd (bad refl)
       | false ↦ λ bad. tail
@@ -38,10 +41,12 @@ pub clash : (b : ℕ) (front rest text : List ℕ) → has_byte b text ≡ false
 clash b front rest text none is = let bad : false ≡ true = sym none ∙ ap (has_byte b) is ∙ has_at b front rest in cc
 
 -- the place where a byte is found is the first one
-pub found_place : (b : ℕ) (text : List ℕ) (r : Option ℕ) → IsFirstByte (is_byte b) text r → r ≡ position (λ c. c == b) text
+pub found_place : (b : ℕ) (text : List ℕ) (r : Option ℕ) → IsFirstByte (is_byte b) text r
+    → r ≡ position (λ c. c == b) text
 found_place b text None nowhere =
     let place = position_or_len_is (λ c. c == b) text (length text) 0 (omega arith)
-    (λ k small. not_so (get_or text k 0 == b) (λ is. nowhere k (omega arith) small is)) (λ over. absurd (omega arith)) in
+    (λ k small. not_so (get_or text k 0 == b) (λ is. nowhere k (omega arith) small is))
+    (λ over. absurd (omega arith)) in
     let end : nat_lt (length text) (length text) ≡ false = grind arith in
     rw place (rw end refl)
 found_place b text (Some k) (none, here) =
@@ -58,7 +63,8 @@ no_place b text is = lacks b text (λ k small here. absurd_bool (get_or text k 0
     other : (k : ℕ) → k < length text → (get_or text k 0 == b) ≡ false
     other k small = by_inside (nat_lt (position_or_len (λ c. c == b) text) (length text)) refl
       where
-        by_inside : (t : Bool) → nat_lt (position_or_len (λ c. c == b) text) (length text) ≡ t → (get_or text k 0 == b) ≡ false
+        by_inside : (t : Bool) → nat_lt (position_or_len (λ c. c == b) text) (length text) ≡ t
+            → (get_or text k 0 == b) ≡ false
         by_inside true e = let bad : None ≡ Some (position_or_len (λ c. c == b) text) = is ∙ rw e refl in cc
         by_inside false e =
             let over : length text ≤ position_or_len (λ c. c == b) text = grind (arith, nat_tests) in
@@ -78,19 +84,22 @@ at_place b text k is =
     }
 
 -- a line is cut at its first colon, where a name stands before it and a space behind it
-pub cut_at_colon : (whole : List ℕ) (k : ℕ) → IsFirstAt 58 whole k → 0 < k → k + 1 < length whole → get_or whole (k + 1) 0 ≡ 32
+pub cut_at_colon : (whole : List ℕ) (k : ℕ) → IsFirstAt 58 whole k → 0 < k → k + 1 < length whole
+    → get_or whole (k + 1) 0 ≡ 32
     → IsCutAtColon whole (take k whole) (drop (k + 2) whole)
 cut_at_colon whole k at some room space =
     let size = length-take-le k whole (omega arith) in
     record {
       spelled = at.cut ∙ ap (λ t. take k whole ++ 58 ∷ t)
-          (drop_more whole (k + 1) 0 room ∙ ap (λ c. c ∷ drop (k + 1 + 1) whole) space ∙ ap (λ n. 32 ∷ drop n whole) (omega arith));
+          (drop_more whole (k + 1) 0 room ∙ ap (λ c. c ∷ drop (k + 1 + 1) whole) space
+          ∙ ap (λ n. 32 ∷ drop n whole) (omega arith));
       named = grind (arith, size, some);
       no_colon = at.before;
     }
 
 -- a line, read at its first colon
-position_at : (b : ℕ) (name rest : List ℕ) → has_byte b name ≡ false → position_or_len (λ (c : ℕ). c == b) (name ++ b ∷ rest) ≡ length name
+position_at : (b : ℕ) (name rest : List ℕ) → has_byte b name ≡ false → position_or_len (λ (c : ℕ). c == b)
+    (name ++ b ∷ rest) ≡ length name
 position_at b [] rest none = rw (same b) refl
 position_at b (c ∷ name) rest none =
     let no = first_false (c == b) (has_byte b name) none in
@@ -109,14 +118,16 @@ header_of-text name value none =
     let front : take (position_or_len (λ (c : ℕ). c == 58) whole) whole ≡ name =
     ap (λ n. take n whole) at ∙ take_at name (58 ∷ 32 ∷ value) (length name) refl in
     let back : drop (position_or_len (λ (c : ℕ). c == 58) whole + 1) whole ≡ 32 ∷ value =
-    ap (λ n. drop (n + 1) whole) at ∙ ap (λ t. drop (length name + 1) t) (sym (append_assoc name (58 ∷ []) (32 ∷ value)))
+    ap (λ n. drop (n + 1) whole) at ∙ ap (λ t. drop (length name + 1) t)
+    (sym (append_assoc name (58 ∷ []) (32 ∷ value)))
     ∙ drop_at (name ++ 58 ∷ []) (32 ∷ value) (length name + 1) (length-append name (58 ∷ [])) in
     header-is _ _ _ _ front (ap (drop 1) back)
 
 none_all : (b : ℕ) (text : List ℕ) → has_byte b text ≡ false → All (λ (c : ℕ). (c == b) ≡ false) text
 none_all b [] none = λ k d small. absurd (omega arith)
 none_all b (c ∷ text) none =
-    All-cons (λ (x : ℕ). (x == b) ≡ false) c text (first_false (c == b) (has_byte b text) none) (none_all b text (second_false (c == b) (has_byte b text) none))
+    All-cons (λ (x : ℕ). (x == b) ≡ false) c text (first_false (c == b) (has_byte b text) none)
+    (none_all b text (second_false (c == b) (has_byte b text) none))
 
 -- the lines of a text, after its first one
 pub headers_of-cons : (whole rest : List ℕ) → nat_lt 0 (length whole) ≡ true → has_byte 10 whole ≡ false
@@ -131,10 +142,12 @@ some_text h l = let s = l.some in grind (arith, length-append, s)
 pub header_text-is : (h : line.Header) → header_text h ≡ h.name ++ 58 ∷ 32 ∷ h.value
 header_text-is h = append_assoc h.name (codes ": ") h.value
 
-pub headers_of-line : (h : line.Header) (rest : List ℕ) → Lawful h → headers_of (header_text h ++ 10 ∷ rest) ≡ h ∷ headers_of rest
+pub headers_of-line : (h : line.Header) (rest : List ℕ) → Lawful h
+    → headers_of (header_text h ++ 10 ∷ rest) ≡ h ∷ headers_of rest
 headers_of-line h rest l =
     headers_of-cons (header_text h) rest (some_text h l) (text_no_lf h l)
-    ∙ ap (λ (g : line.Header). g ∷ headers_of rest) (ap header_of (header_text-is h) ∙ header_of-text h.name h.value l.no_colon)
+    ∙ ap (λ (g : line.Header). g ∷ headers_of rest)
+    (ap header_of (header_text-is h) ∙ header_of-text h.name h.value l.no_colon)
 
 -- header lines are read from their own bytes
 pub headers_of-lines : (hs : List line.Header) (rest : List ℕ) → list_all is_header hs ≡ true → headers_of rest ≡ []
@@ -145,17 +158,20 @@ headers_of-lines (h ∷ hs) rest all none =
     ∙ ap (λ (t : List line.Header). h ∷ t) (headers_of-lines hs rest (all_rest h hs all) none)
 
 -- lines in front of other lines are the first of these
-pub lines_behind : (hs ks : List line.Header) (rest more : List ℕ) → list_all is_header hs ≡ true → list_all is_header ks ≡ true
+pub lines_behind : (hs ks : List line.Header) (rest more : List ℕ) → list_all is_header hs ≡ true
+    → list_all is_header ks ≡ true
     → lines_bytes hs ++ rest ≡ lines_bytes ks ++ 10 ∷ more
     → (others : List line.Header) × (list_all is_header others ≡ true) × (rest ≡ lines_bytes others ++ 10 ∷ more)
 lines_behind [] ks rest more all all' is = (ks, all', is)
 lines_behind (h ∷ hs) [] rest more all all' is =
     let l = all_first h hs all in
-    absurd (not_empty h l (split_once 10 [] (header_text h) more (lines_bytes hs ++ rest) refl (text_no_lf h l) (sym is ∙ regroup h hs rest)).0)
+    absurd (not_empty h l (split_once 10 [] (header_text h) more (lines_bytes hs ++ rest) refl (text_no_lf h l)
+    (sym is ∙ regroup h hs rest)).0)
 lines_behind (h ∷ hs) (k ∷ ks) rest more all all' is =
     let l = all_first h hs all in
     let m = all_first k ks all' in
-    let cut = split_once 10 (header_text h) (header_text k) (lines_bytes hs ++ rest) (lines_bytes ks ++ 10 ∷ more) (text_no_lf h l) (text_no_lf k m)
+    let cut = split_once 10 (header_text h) (header_text k) (lines_bytes hs ++ rest) (lines_bytes ks ++ 10 ∷ more)
+    (text_no_lf h l) (text_no_lf k m)
     (sym (regroup h hs rest) ∙ is ∙ regroup k ks (10 ∷ more)) in
     lines_behind hs ks rest more (all_rest h hs all) (all_rest k ks all') cut.1
 
@@ -169,7 +185,8 @@ pub record FirstHeader (hs : List line.Header) (whole rest : List ℕ) : Type 0 
   pub all : list_all is_header others ≡ true
   pub left : rest ≡ lines_bytes others
 
-pub first_header : (hs : List line.Header) (text whole rest : List ℕ) → list_all is_header hs ≡ true → text ≡ lines_bytes hs
+pub first_header : (hs : List line.Header) (text whole rest : List ℕ) → list_all is_header hs ≡ true
+    → text ≡ lines_bytes hs
     → IsFirstLine text whole rest → FirstHeader hs whole rest
 first_header [] text whole rest all is first = absurd (no_cons whole rest (sym is ∙ first.cut))
   where
@@ -197,12 +214,14 @@ first_header (h ∷ hs) text whole rest all is first =
 pub no_lines : (hs : List line.Header) (text : List ℕ) → text ≡ lines_bytes hs → has_byte 10 text ≡ false → hs ≡ []
 no_lines [] text is none = refl
 no_lines (h ∷ hs) text is none =
-    absurd (clash 10 (header_text h) (lines_bytes hs) text none (is ∙ append_assoc (header_text h) (10 ∷ []) (lines_bytes hs)))
+    absurd (clash 10 (header_text h) (lines_bytes hs) text none
+    (is ∙ append_assoc (header_text h) (10 ∷ []) (lines_bytes hs)))
 
 -- what is left of header lines behind the first
 pub lines_left : (hs : List line.Header) (whole rest : List ℕ) → FirstHeader hs whole rest → AreHeaderLines rest
 lines_left hs whole rest f =
-    let read = ap headers_of f.left ∙ ap headers_of (sym (append-nil (lines_bytes f.others))) ∙ headers_of-lines f.others [] f.all refl in
+    let read = ap headers_of f.left ∙ ap headers_of (sym (append-nil (lines_bytes f.others)))
+    ∙ headers_of-lines f.others [] f.all refl in
     record {
       lawful = ap (list_all is_header) read ∙ f.all;
       spelled = f.left ∙ ap lines_bytes (sym read);
@@ -225,7 +244,8 @@ pub is_line : (whole name value : List ℕ) → has_byte 10 whole ≡ false → 
 is_line whole name value none cut =
     let all = sym (ap (has_byte 10) cut.spelled) ∙ none in
     let front = front_lacks 10 name (58 ∷ 32 ∷ value) all in
-    let back = back_lacks 10 (name ++ 58 ∷ 32 ∷ []) value (ap (has_byte 10) (append_assoc name (58 ∷ 32 ∷ []) value) ∙ all) in
+    let back = back_lacks 10 (name ++ 58 ∷ 32 ∷ []) value
+    (ap (has_byte 10) (append_assoc name (58 ∷ 32 ∷ []) value) ∙ all) in
     let some = cut.named in
     let no_colon = cut.no_colon in
     rw (some, no_colon, front, back) refl
@@ -236,11 +256,13 @@ pub record ColonAt (h : line.Header) (whole : List ℕ) (k : ℕ) : Type 0 where
   pub size : k + 2 ≤ length whole
   pub space : slice_index whole (k + 1) ≡ 32
 
-pub colon_at : (h : line.Header) (whole : List ℕ) (k : ℕ) → is_header h ≡ true → whole ≡ header_text h → IsFirstAt 58 whole k → ColonAt h whole k
+pub colon_at : (h : line.Header) (whole : List ℕ) (k : ℕ) → is_header h ≡ true → whole ≡ header_text h
+    → IsFirstAt 58 whole k → ColonAt h whole k
 colon_at h whole k good is at =
     let l = lawful h good in
     let below = at.below in
-    let cut = split_once 58 (take k whole) h.name (drop (k + 1) whole) (32 ∷ h.value) at.before l.no_colon (sym at.cut ∙ is ∙ header_text-is h) in
+    let cut = split_once 58 (take k whole) h.name (drop (k + 1) whole) (32 ∷ h.value) at.before l.no_colon
+    (sym at.cut ∙ is ∙ header_text-is h) in
     let front : length (take k whole) ≡ length h.name = ap length cut.0 in
     let back : length (drop (k + 1) whole) ≡ 1 + length h.value = ap length cut.1 ∙ omega arith in
     let some = l.some in
@@ -249,7 +271,8 @@ colon_at h whole k good is at =
     record {
       some = grind (arith, some, front, front_size);
       size = omega arith;
-      space = ap (λ n. get_or whole n 0) (omega arith) ∙ sym (get_or-drop (k + 1) whole 0 0) ∙ ap (λ t. get_or t 0 0) cut.1;
+      space = ap (λ n. get_or whole n 0) (omega arith) ∙ sym (get_or-drop (k + 1) whole 0 0)
+          ∙ ap (λ t. get_or t 0 0) cut.1;
     }
 
 pub empty_line-none : (text : List ℕ) → has_byte 10 text ≡ false → has_empty_line text ≡ false
@@ -259,7 +282,8 @@ empty_line-none (c ∷ text) none =
     let more = empty_line-none text (second_false (c == 10) (has_byte 10 text) none) in
     rw (no, more) refl
 
-pub empty_line-step : (whole rest : List ℕ) → has_byte 10 whole ≡ false → has_empty_line (whole ++ 10 ∷ rest) ≡ (starts_with_lf rest || has_empty_line rest)
+pub empty_line-step : (whole rest : List ℕ) → has_byte 10 whole ≡ false → has_empty_line (whole ++ 10 ∷ rest) ≡
+    (starts_with_lf rest || has_empty_line rest)
 empty_line-step [] rest none = refl
 empty_line-step (c ∷ whole) rest none =
     let no = first_false (c == 10) (has_byte 10 whole) none in
@@ -270,7 +294,8 @@ empty_line-step (c ∷ whole) rest none =
 pub headers_step : (text whole rest name value : List ℕ) → IsFirstLine text whole rest → IsCutAtColon whole name value
     → headers_of text ≡ record { name = name; value = value } ∷ headers_of rest
 headers_step text whole rest name value first cut =
-    let some : nat_lt 0 (length whole) ≡ true = let size = ap length cut.spelled in grind (arith, length-append, size) in
+    let some : nat_lt 0 (length whole) ≡ true = let size = ap length cut.spelled in grind
+    (arith, length-append, size) in
     ap headers_of first.cut ∙ headers_of-cons whole rest some first.one_line
     ∙ ap (λ (h : line.Header). h ∷ headers_of rest) (ap header_of cut.spelled ∙ header_of-text name value cut.no_colon)
 
@@ -278,18 +303,21 @@ pub lines_more : (text whole rest others : List ℕ) (hs : List line.Header) (h 
     → text ≡ lines_bytes hs ++ rest → IsFirstLine rest whole others → IsCutAtColon whole h.name h.value
     → text ≡ lines_bytes (hs ++ h ∷ []) ++ others
 lines_more text whole rest others hs h is first cut =
-    is ∙ ap (λ r. lines_bytes hs ++ r) (first.cut ∙ ap (λ w. w ++ 10 ∷ others) (cut.spelled ∙ sym (header_text-is h)) ∙ sym (append_assoc (header_text h) (10 ∷ []) others))
+    is ∙ ap (λ r. lines_bytes hs ++ r) (first.cut ∙ ap (λ w. w ++ 10 ∷ others) (cut.spelled ∙ sym (header_text-is h))
+    ∙ sym (append_assoc (header_text h) (10 ∷ []) others))
     ∙ sym (append_assoc (lines_bytes hs) (header_text h ++ 10 ∷ []) others)
     ∙ ap (λ t. t ++ others) (flat_map_more ended [] hs h)
 
-pub all_more : (hs : List line.Header) (h : line.Header) → list_all is_header hs ≡ true → is_header h ≡ true → list_all is_header (hs ++ h ∷ []) ≡ true
+pub all_more : (hs : List line.Header) (h : line.Header) → list_all is_header hs ≡ true → is_header h ≡ true
+    → list_all is_header (hs ++ h ∷ []) ≡ true
 all_more hs h all good = list_all-append is_header hs (h ∷ []) ∙ rw (all, good) refl
 
 pub empty_text : (text : List ℕ) → length text ≡ 0 → text ≡ []
 empty_text [] none = refl
 empty_text (c ∷ text) none = absurd (omega arith)
 
-pub lines_end : (text whole rest others : List ℕ) (hs : List line.Header) → text ≡ lines_bytes hs ++ rest → list_all is_header hs ≡ true
+pub lines_end : (text whole rest others : List ℕ) (hs : List line.Header) → text ≡ lines_bytes hs ++ rest
+    → list_all is_header hs ≡ true
     → IsFirstLine rest whole others → length whole ≡ 0
     → IsLinesEnd text (length text - length rest) × (headers_of (take (length text - length rest) text) ≡ hs)
 lines_end text whole rest others hs is all first none =
@@ -301,7 +329,8 @@ lines_end text whole rest others hs is all first none =
     let back : drop (length text - length rest + 1) text ≡ others =
     ap (drop (length text - length rest + 1)) (whole_is ∙ sym (append_assoc (lines_bytes hs) (10 ∷ []) others))
     ∙ drop_at (lines_bytes hs ++ 10 ∷ []) others _ (length-append (lines_bytes hs) (10 ∷ []) ∙ omega arith) in
-    let front : take (length text - length rest) text ≡ lines_bytes hs = ap (take (length text - length rest)) is ∙ take_at (lines_bytes hs) rest _ at in
+    let front : take (length text - length rest) text ≡ lines_bytes hs = ap (take (length text - length rest)) is
+    ∙ take_at (lines_bytes hs) rest _ at in
     let read = ap headers_of (front ∙ sym (append-nil (lines_bytes hs))) ∙ headers_of-lines hs [] all refl in (
       record {
         below = omega arith;
@@ -314,7 +343,8 @@ lines_end text whole rest others hs is all first none =
 
 -- where a header line would begin, the line before the first LF is one
 pub no_line_here : (others : List line.Header) (rest whole tail more : List ℕ) → list_all is_header others ≡ true
-    → IsFirstLine rest whole tail → rest ≡ lines_bytes others ++ 10 ∷ more → (length whole == 0) ≡ false → IsNoHeader whole → ⊥
+    → IsFirstLine rest whole tail → rest ≡ lines_bytes others ++ 10 ∷ more → (length whole == 0) ≡ false
+    → IsNoHeader whole → ⊥
 no_line_here [] rest whole tail more all first is some other =
     let cut = split_once 10 [] whole more tail refl first.one_line (sym is ∙ first.cut) in
     let bad : true ≡ false = ap (λ (t : List ℕ). length t == 0) cut.0 ∙ some in

@@ -18,14 +18,18 @@ pub tail-eq : {A : Type 0} (x y : A) (xs ys : List A) → x ∷ xs ≡ y ∷ ys 
 tail-eq x y xs ys e = cc
 
 -- a byte that neither front has ends both of them at one place
-pub split_once : (c : ℕ) (a b x y : List ℕ) → has_byte c a ≡ false → has_byte c b ≡ false → a ++ c ∷ x ≡ b ++ c ∷ y → (a ≡ b) × (x ≡ y)
+pub split_once : (c : ℕ) (a b x y : List ℕ) → has_byte c a ≡ false → has_byte c b ≡ false → a ++ c ∷ x ≡ b ++ c ∷ y
+    → (a ≡ b) × (x ≡ y)
 split_once c [] [] x y na nb e = (refl, tail-eq c c x y e)
 split_once c [] (d ∷ b) x y na nb e =
-    absurd (same_number c (subst (λ (z : ℕ). (z == c) ≡ false) (sym (head-eq c d x (b ++ c ∷ y) e)) (first_false (d == c) (has_byte c b) nb)))
+    absurd (same_number c (subst (λ (z : ℕ). (z == c) ≡ false) (sym (head-eq c d x (b ++ c ∷ y) e))
+    (first_false (d == c) (has_byte c b) nb)))
 split_once c (d ∷ a) [] x y na nb e =
-    absurd (same_number c (subst (λ (z : ℕ). (z == c) ≡ false) (head-eq d c (a ++ c ∷ x) y e) (first_false (d == c) (has_byte c a) na)))
+    absurd (same_number c (subst (λ (z : ℕ). (z == c) ≡ false) (head-eq d c (a ++ c ∷ x) y e)
+    (first_false (d == c) (has_byte c a) na)))
 split_once c (d ∷ a) (f ∷ b) x y na nb e =
-    let rest = split_once c a b x y (second_false (d == c) (has_byte c a) na) (second_false (f == c) (has_byte c b) nb) (tail-eq d f (a ++ c ∷ x) (b ++ c ∷ y) e) in
+    let rest = split_once c a b x y (second_false (d == c) (has_byte c a) na) (second_false (f == c) (has_byte c b) nb)
+    (tail-eq d f (a ++ c ∷ x) (b ++ c ∷ y) e) in
     ((λ i. head-eq d f (a ++ c ∷ x) (b ++ c ∷ y) e i ∷ rest.0 i), rest.1)
 
 -- what a lawful header line lacks
@@ -37,8 +41,10 @@ pub record Lawful (h : line.Header) : Type 0 where
 
 pub lawful : (h : line.Header) → is_header h ≡ true → Lawful h
 lawful h e =
-    let last = second_true (nat_lt 0 (length h.name) && not (has_byte 58 h.name) && not (has_byte 10 h.name)) (not (has_byte 10 h.value)) e in
-    let three = first_true (nat_lt 0 (length h.name) && not (has_byte 58 h.name) && not (has_byte 10 h.name)) (not (has_byte 10 h.value)) e in
+    let last = second_true (nat_lt 0 (length h.name) && not (has_byte 58 h.name) && not (has_byte 10 h.name))
+    (not (has_byte 10 h.value)) e in
+    let three = first_true (nat_lt 0 (length h.name) && not (has_byte 58 h.name) && not (has_byte 10 h.name))
+    (not (has_byte 10 h.value)) e in
     let third = second_true (nat_lt 0 (length h.name) && not (has_byte 58 h.name)) (not (has_byte 10 h.name)) three in
     let two = first_true (nat_lt 0 (length h.name) && not (has_byte 58 h.name)) (not (has_byte 10 h.name)) three in
     record {
@@ -48,7 +54,8 @@ lawful h e =
       value_no_lf = not-true (has_byte 10 h.value) last;
     }
 
-pub has_byte-append : (c : ℕ) (xs ys : List ℕ) → has_byte c xs ≡ false → has_byte c ys ≡ false → has_byte c (xs ++ ys) ≡ false
+pub has_byte-append : (c : ℕ) (xs ys : List ℕ) → has_byte c xs ≡ false → has_byte c ys ≡ false
+    → has_byte c (xs ++ ys) ≡ false
 has_byte-append c [] ys nx ny = ny
 has_byte-append c (x ∷ xs) ys nx ny =
     let first = first_false (x == c) (has_byte c xs) nx in
@@ -56,7 +63,8 @@ has_byte-append c (x ∷ xs) ys nx ny =
     rw (first, rest) refl
 
 pub text_no_lf : (h : line.Header) → Lawful h → has_byte 10 (header_text h) ≡ false
-text_no_lf h l = has_byte-append 10 (h.name ++ codes ": ") h.value (has_byte-append 10 h.name (codes ": ") l.no_lf refl) l.value_no_lf
+text_no_lf h l = has_byte-append 10 (h.name ++ codes ": ") h.value
+    (has_byte-append 10 h.name (codes ": ") l.no_lf refl) l.value_no_lf
 
 pub header-eq : (h k : line.Header) → h.name ≡ k.name → h.value ≡ k.value → h ≡ k
 header-eq h k n v = λ i. record { name = n i; value = v i }
@@ -69,29 +77,36 @@ line_once h k l m e =
     header-eq h k cut.0 (tail-eq 32 32 h.value k.value cut.1)
 
 pub not_empty : (h : line.Header) → Lawful h → [] ≡ header_text h → ⊥
-not_empty h l e = let n : 0 ≡ length (header_text h) = ap length e in let s = l.some in grind (arith, length-append, n, s)
+not_empty h l e = let n : 0 ≡ length (header_text h) = ap length e in let s = l.some in grind
+    (arith, length-append, n, s)
 
 abbrev pub ended : line.Header → List ℕ
 ended h = header_text h ++ 10 ∷ []
 
-pub regroup : (h : line.Header) (hs : List line.Header) (x : List ℕ) → flat_map ended (h ∷ hs) ++ x ≡ header_text h ++ 10 ∷ (flat_map ended hs ++ x)
-regroup h hs x = append_assoc (ended h) (flat_map ended hs) x ∙ append_assoc (header_text h) (10 ∷ []) (flat_map ended hs ++ x)
+pub regroup : (h : line.Header) (hs : List line.Header) (x : List ℕ)
+    → flat_map ended (h ∷ hs) ++ x ≡ header_text h ++ 10 ∷ (flat_map ended hs ++ x)
+regroup h hs x = append_assoc (ended h) (flat_map ended hs) x ∙ append_assoc (header_text h) (10 ∷ [])
+    (flat_map ended hs ++ x)
 
 pub all_first : (h : line.Header) (hs : List line.Header) → list_all is_header (h ∷ hs) ≡ true → Lawful h
 all_first h hs e = lawful h (first_true (is_header h) (list_all is_header hs) e)
 
-pub all_rest : (h : line.Header) (hs : List line.Header) → list_all is_header (h ∷ hs) ≡ true → list_all is_header hs ≡ true
+pub all_rest : (h : line.Header) (hs : List line.Header) → list_all is_header (h ∷ hs) ≡ true
+    → list_all is_header hs ≡ true
 all_rest h hs e = second_true (is_header h) (list_all is_header hs) e
 
 -- lines up to an empty one are cut in one way
-pub lines_once : (hs ks : List line.Header) (x y : List ℕ) → list_all is_header hs ≡ true → list_all is_header ks ≡ true → flat_map ended hs ++ 10 ∷ x ≡ flat_map ended ks ++ 10 ∷ y → (hs ≡ ks) × (x ≡ y)
+pub lines_once : (hs ks : List line.Header) (x y : List ℕ) → list_all is_header hs ≡ true → list_all is_header ks ≡ true
+    → flat_map ended hs ++ 10 ∷ x ≡ flat_map ended ks ++ 10 ∷ y → (hs ≡ ks) × (x ≡ y)
 lines_once [] [] x y l m e = (refl, tail-eq 10 10 x y e)
 lines_once [] (k ∷ ks) x y l m e =
     let lk = all_first k ks m in
-    absurd (not_empty k lk (split_once 10 [] (header_text k) x (flat_map ended ks ++ 10 ∷ y) refl (text_no_lf k lk) (e ∙ regroup k ks (10 ∷ y))).0)
+    absurd (not_empty k lk (split_once 10 [] (header_text k) x (flat_map ended ks ++ 10 ∷ y) refl (text_no_lf k lk)
+    (e ∙ regroup k ks (10 ∷ y))).0)
 lines_once (h ∷ hs) [] x y l m e =
     let lh = all_first h hs l in
-    absurd (not_empty h lh (split_once 10 [] (header_text h) y (flat_map ended hs ++ 10 ∷ x) refl (text_no_lf h lh) (sym e ∙ regroup h hs (10 ∷ x))).0)
+    absurd (not_empty h lh (split_once 10 [] (header_text h) y (flat_map ended hs ++ 10 ∷ x) refl (text_no_lf h lh)
+    (sym e ∙ regroup h hs (10 ∷ x))).0)
 lines_once (h ∷ hs) (k ∷ ks) x y l m e =
     let lh = all_first h hs l in
     let lk = all_first k ks m in
@@ -107,20 +122,24 @@ lawful_lines headers e =
     (list_all (λ name. nat_le (line.count_named name headers) 1) known_names) e)
 
 -- a text begins with at most one block
-pub block_once : (text : List ℕ) (hs ks : List line.Header) (x y : List ℕ) → BeginsWithBlock text hs x → BeginsWithBlock text ks y → (hs ≡ ks) × (x ≡ y)
+pub block_once : (text : List ℕ) (hs ks : List line.Header) (x y : List ℕ) → BeginsWithBlock text hs x
+    → BeginsWithBlock text ks y → (hs ≡ ks) × (x ≡ y)
 block_once text hs ks x y b c =
     lines_once hs ks x y (lawful_lines hs b.block) (lawful_lines ks c.block)
-    (sym (append_assoc (flat_map ended hs) (10 ∷ []) x) ∙ sym b.spelled ∙ c.spelled ∙ append_assoc (flat_map ended ks) (10 ∷ []) y)
+    (sym (append_assoc (flat_map ended hs) (10 ∷ []) x) ∙ sym b.spelled ∙ c.spelled ∙ append_assoc (flat_map ended ks)
+    (10 ∷ []) y)
 
 -- a block begins with a byte that isn't LF
-pub block_front : (text : List ℕ) (hs : List line.Header) (x : List ℕ) → BeginsWithBlock text hs x → starts_with_lf text ≡ false
+pub block_front : (text : List ℕ) (hs : List line.Header) (x : List ℕ) → BeginsWithBlock text hs x
+    → starts_with_lf text ≡ false
 block_front text [] x b = let impossible : false ≡ true = b.block in cc
 block_front text (h ∷ hs) x b =
     let l = all_first h hs (lawful_lines (h ∷ hs) b.block) in
     let e = b.spelled ∙ append_assoc (flat_map ended (h ∷ hs)) (10 ∷ []) x ∙ regroup h hs (10 ∷ x) in
     front_of h.name h.value (flat_map ended hs ++ 10 ∷ x) text l.some l.no_lf e
   where
-    front_of : (name value more text : List ℕ) → nat_lt 0 (length name) ≡ true → has_byte 10 name ≡ false → text ≡ (name ++ codes ": " ++ value) ++ 10 ∷ more → starts_with_lf text ≡ false
+    front_of : (name value more text : List ℕ) → nat_lt 0 (length name) ≡ true → has_byte 10 name ≡ false
+        → text ≡ (name ++ codes ": " ++ value) ++ 10 ∷ more → starts_with_lf text ≡ false
     front_of [] value more text some no_lf e = cc
     front_of (c ∷ name) value more text some no_lf e =
         subst (λ (t : List ℕ). starts_with_lf t ≡ false) (sym e) (first_false (c == 10) (has_byte 10 name) no_lf)
@@ -139,12 +158,16 @@ split_by_length (c ∷ a) (d ∷ b) x y n e =
     ((λ i. head-eq c d (a ++ x) (b ++ y) e i ∷ rest.0 i), rest.1)
 
 -- LFs up to another byte are counted in one way
-pub blank_once : (m n : ℕ) (x y : List ℕ) → starts_with_lf x ≡ false → starts_with_lf y ≡ false → replicate m 10 ++ x ≡ replicate n 10 ++ y → (m ≡ n) × (x ≡ y)
+pub blank_once : (m n : ℕ) (x y : List ℕ) → starts_with_lf x ≡ false → starts_with_lf y ≡ false
+    → replicate m 10 ++ x ≡ replicate n 10 ++ y → (m ≡ n) × (x ≡ y)
 blank_once zero zero x y fx fy e = (refl, e)
-blank_once zero (suc n) x y fx fy e = let impossible : true ≡ false = subst (λ (t : List ℕ). starts_with_lf t ≡ false) e fx in cc
-blank_once (suc m) zero x y fx fy e = let impossible : true ≡ false = subst (λ (t : List ℕ). starts_with_lf t ≡ false) (sym e) fy in cc
+blank_once zero (suc n) x y fx fy e = let impossible : true ≡ false = subst
+    (λ (t : List ℕ). starts_with_lf t ≡ false) e fx in cc
+blank_once (suc m) zero x y fx fy e = let impossible : true ≡ false = subst (λ (t : List ℕ). starts_with_lf t ≡ false)
+    (sym e) fy in cc
 blank_once (suc m) (suc n) x y fx fy e =
-    let rest = blank_once m n x y fx fy (tail-eq 10 10 (replicate m 10 ++ x) (replicate n 10 ++ y) e) in (ap suc rest.0, rest.1)
+    let rest = blank_once m n x y fx fy (tail-eq 10 10 (replicate m 10 ++ x) (replicate n 10 ++ y) e) in
+    (ap suc rest.0, rest.1)
 
 pub or_right : (p q : Bool) → q ≡ true → (p || q) ≡ true
 or_right true q h = refl
@@ -153,18 +176,23 @@ or_right false q h = h
 empty_line_behind : (front text : List ℕ) → has_empty_line text ≡ true → has_empty_line (front ++ text) ≡ true
 empty_line_behind [] text h = h
 empty_line_behind (b ∷ front) text h =
-    or_right (b == 10 && starts_with_lf (front ++ text)) (has_empty_line (front ++ text)) (empty_line_behind front text h)
+    or_right (b == 10 && starts_with_lf (front ++ text)) (has_empty_line (front ++ text))
+    (empty_line_behind front text h)
 
-lines_end : (h : line.Header) (hs : List line.Header) (x : List ℕ) → has_empty_line (flat_map ended (h ∷ hs) ++ 10 ∷ x) ≡ true
+lines_end : (h : line.Header) (hs : List line.Header) (x : List ℕ)
+    → has_empty_line (flat_map ended (h ∷ hs) ++ 10 ∷ x) ≡ true
 lines_end h [] x =
-    subst (λ (t : List ℕ). has_empty_line t ≡ true) (sym (regroup h [] (10 ∷ x))) (empty_line_behind (header_text h) (10 ∷ 10 ∷ x) refl)
+    subst (λ (t : List ℕ). has_empty_line t ≡ true) (sym (regroup h [] (10 ∷ x)))
+    (empty_line_behind (header_text h) (10 ∷ 10 ∷ x) refl)
 lines_end h (k ∷ ks) x =
     let more = flat_map ended (k ∷ ks) ++ 10 ∷ x in
     let behind = or_right (starts_with_lf more) (has_empty_line more) (lines_end k ks x) in
-    subst (λ (t : List ℕ). has_empty_line t ≡ true) (sym (regroup h (k ∷ ks) (10 ∷ x))) (empty_line_behind (header_text h) (10 ∷ more) behind)
+    subst (λ (t : List ℕ). has_empty_line t ≡ true) (sym (regroup h (k ∷ ks) (10 ∷ x)))
+    (empty_line_behind (header_text h) (10 ∷ more) behind)
 
 -- a block has an empty line, so a text without one begins with no block
-pub block_ends : (text : List ℕ) (hs : List line.Header) (x : List ℕ) → BeginsWithBlock text hs x → has_empty_line text ≡ true
+pub block_ends : (text : List ℕ) (hs : List line.Header) (x : List ℕ) → BeginsWithBlock text hs x
+    → has_empty_line text ≡ true
 block_ends text [] x b = let impossible : false ≡ true = b.block in cc
 block_ends text (h ∷ hs) x b =
     let e = b.spelled ∙ append_assoc (flat_map ended (h ∷ hs)) (10 ∷ []) x in

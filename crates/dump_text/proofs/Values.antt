@@ -269,7 +269,8 @@ none_deleted = refl
 -- a deleted property is no property
 not_without : ¬ HasProperties (codes "D 7\nsvn:log\nPROPS-END\n")
 not_without (ps, block, kept) =
-    let bad : true ≡ false = ap has_deletes (property_block_once _ (deleted (codes "svn:log") ∷ []) ps (inr deletion_block) block) ∙ kept in cc
+    let bad : true ≡ false = ap has_deletes (property_block_once _ (deleted (codes "svn:log") ∷ []) ps
+    (inr deletion_block) block) ∙ kept in cc
 
 abbrev first : List ℕ → ℕ
 first [] = 0

@@ -18,7 +18,8 @@ AreShortest text p rest (inl e) =
     (e.name_digits ≡ spelled_number (length p.name)) × (e.value_digits ≡ spelled_number (length e.bytes))
 AreShortest text p rest (inr e) = e.digits ≡ spelled_number (length p.name)
 
-written_cons : (p : Property) (ps : List Property) → property_block_text (p ∷ ps) ≡ entry_text p ++ property_block_text ps
+written_cons : (p : Property) (ps : List Property)
+    → property_block_text (p ∷ ps) ≡ entry_text p ++ property_block_text ps
 written_cons p ps = append_assoc (entry_text p) (flat_map entry_text ps) block_end
 
 -- a length and bytes that are written are those that are read
@@ -44,8 +45,11 @@ written_once text p q rest more e small is = cases e q.value refl is
         let cut : text ≡ first ++ (second ++ more) = is ∙ append_assoc first second more in
         let shorter = (part_inside 75 text e.name_digits p.name e.behind e.name.cut).1 in
         let names = written_part 75 text e.name_digits p.name e.behind q.name (second ++ more) e.name small cut in
-        let values = written_part 86 e.behind e.value_digits e.bytes rest value more e.value (omega arith) names.2 in
-        ((names.0, values.0), property-eq p q names.1 (e.set ∙ ap (λ (b : List ℕ). Some b) values.1 ∙ sym set), values.2)
+        let values = written_part 86 e.behind e.value_digits e.bytes rest value more e.value (omega arith) names.2 in (
+          (names.0, values.0),
+          property-eq p q names.1 (e.set ∙ ap (λ (b : List ℕ). Some b) values.1 ∙ sym set),
+          values.2,
+        )
     cases (inl e) None none is = absurd (apart 68 75 (lit< tt)
         (sym (ap (λ (t : List ℕ). get_or t 0 0) is) ∙ begins_with 75 text _ _ _ e.name))
     cases (inr e) (Some value) set is = absurd (apart 68 75 (lit< tt)
@@ -60,13 +64,16 @@ written_letter : (name : List ℕ) (v : Option (List ℕ)) (more : List ℕ)
 written_letter name (Some value) more = inl refl
 written_letter name None more = inr refl
 
-pub written_left : (text : List ℕ) (p : Property) (rest : List ℕ) (e : EntryParts text p rest) → length text < 2 ^ 64 → IsWritten text
+pub written_left : (text : List ℕ) (p : Property) (rest : List ℕ) (e : EntryParts text p rest) → length text < 2 ^ 64
+    → IsWritten text
     → AreShortest text p rest e × IsWritten rest
 written_left text p rest e small ([], is) = absurd (no_entry-end text p rest e is)
 written_left text p rest e small (q ∷ qs, is) =
-    let once = written_once text p q rest (property_block_text qs) e small (is ∙ written_cons q qs) in (once.0, (qs, once.2))
+    let once = written_once text p q rest (property_block_text qs) e small (is ∙ written_cons q qs) in
+    (once.0, (qs, once.2))
 
-pub written_more : (text : List ℕ) (p : Property) (rest : List ℕ) (e : EntryParts text p rest) → AreShortest text p rest e
+pub written_more : (text : List ℕ) (p : Property) (rest : List ℕ) (e : EntryParts text p rest)
+    → AreShortest text p rest e
     → IsWritten rest → IsWritten text
 written_more text p rest (inl e) short (ps, is) =
     let first = sized_text (codes "K") (spelled_number (length p.name)) p.name in
@@ -88,7 +95,8 @@ written_more text p rest (inr e) short (ps, is) =
     )
 
 -- whether the parts that the scan found have no leading zeros
-pub scanned_shortest : (text : List ℕ) (parts : Parts) (rest : List ℕ) (found : IsEntryOf text parts) (is : rest ≡ parts_rest parts)
+pub scanned_shortest : (text : List ℕ) (parts : Parts) (rest : List ℕ) (found : IsEntryOf text parts)
+    (is : rest ≡ parts_rest parts)
     → (are_shortest parts ≡ true)
     ↔ AreShortest text (parts_property parts) rest (scanned_parts text parts rest found is)
 scanned_shortest text (Set name value) rest found is = (
@@ -97,7 +105,8 @@ scanned_shortest text (Set name value) rest found is = (
     (bytes_eq-Decides _ _).0 (second_true (is_shortest name) (is_shortest value) both),
   ),
   λ (first, second).
-      both_true (is_shortest name) (is_shortest value) ((bytes_eq-Decides _ _).1 first) ((bytes_eq-Decides _ _).1 second),
+      both_true (is_shortest name) (is_shortest value) ((bytes_eq-Decides _ _).1 first)
+      ((bytes_eq-Decides _ _).1 second),
 )
 scanned_shortest text (Deleted name) rest found is = ((bytes_eq-Decides _ _).0, (bytes_eq-Decides _ _).1)
 
@@ -172,7 +181,8 @@ written_block ps short = inr (entries ps short)
     )
 
 -- and so is one that isn't too long itself
-pub short_block : (ps : List Property) → length (property_block_text ps) < 10 ^ 18 → IsPropertyBlock (property_block_text ps) ps
+pub short_block : (ps : List Property) → length (property_block_text ps) < 10 ^ 18
+    → IsPropertyBlock (property_block_text ps) ps
 short_block ps small = written_block ps (all ps small)
   where
     some_once : {v w : List ℕ} → Path (Option (List ℕ)) (Some v) (Some w) → v ≡ w
@@ -201,7 +211,8 @@ short_block ps small = written_block ps (all ps small)
           omega arith,
         )
     one p None more none small =
-        let sizes = part_inside 68 (change_text p.name None ++ more) (spelled_number (length p.name)) p.name more refl in
+        let sizes = part_inside 68 (change_text p.name None ++ more)
+        (spelled_number (length p.name)) p.name more refl in
         let name_size = sizes.0 in
         let more_size = sizes.1 in
         (record { name = omega arith; value = λ w is. absurd (no_some (sym none ∙ is)) }, omega arith)
@@ -214,11 +225,13 @@ short_block ps small = written_block ps (all ps small)
         All-cons IsShort p ps short (all ps more)
 
 -- the list that is read of a written text is the list that was written
-pub written_list : (text : List ℕ) (ps qs : List Property) → length text < 2 ^ 64 → IsPropertyBlock text ps → text ≡ property_block_text qs → ps ≡ qs
+pub written_list : (text : List ℕ) (ps qs : List Property) → length text < 2 ^ 64 → IsPropertyBlock text ps
+    → text ≡ property_block_text qs → ps ≡ qs
 written_list text ps qs small (inl empty) is = absurd (no_text qs (sym empty.0 ∙ is))
 written_list text ps qs small (inr all) is = lists text ps qs small all is
   where
-    lists : (text : List ℕ) (ps qs : List Property) → length text < 2 ^ 64 → AreEntries text ps → text ≡ property_block_text qs → ps ≡ qs
+    lists : (text : List ℕ) (ps qs : List Property) → length text < 2 ^ 64 → AreEntries text ps
+        → text ≡ property_block_text qs → ps ≡ qs
     lists text [] [] small all is = refl
     lists text [] (q ∷ qs) small all is = absurd (no_entry-written q qs (sym is ∙ all))
     lists text (p ∷ ps) [] small (entry, rest, cut, one, more) is =

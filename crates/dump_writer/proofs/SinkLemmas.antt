@@ -7,14 +7,22 @@ use Rattle.std.proofs.KnownBytes.{Appends-trans}
 -- the first bytes, and then some of the others
 pub take-add : (n m : ℕ) (xs : List ℕ) → take (n + m) xs ≡ take n xs ++ take m (drop n xs)
 take-add n m xs =
-    sym (take-append-drop n (take (n + m) xs)) ∙ ap (λ t. t ++ drop n (take (n + m) xs)) (take-take n (n + m) xs (omega arith))
+    sym (take-append-drop n (take (n + m) xs)) ∙ ap (λ t. t ++ drop n (take (n + m) xs))
+    (take-take n (n + m) xs (omega arith))
     ∙ ap (λ t. take n xs ++ t) (drop-take n m xs)
 
 -- the first bytes were taken, and then some of the others
-pub Appends-take_add : (a b c : Option (List ℕ)) (n m : ℕ) (xs : List ℕ) → Appends a b (take n xs) → Appends b c (take m (drop n xs)) → Appends a c (take (n + m) xs)
-Appends-take_add a b c n m xs first second = subst (Appends a c) (sym (take-add n m xs)) (Appends-trans a b c _ _ first second)
+pub Appends-take_add : (a b c : Option (List ℕ)) (n m : ℕ) (xs : List ℕ) → Appends a b (take n xs)
+    → Appends b c (take m (drop n xs)) → Appends a c (take (n + m) xs)
+Appends-take_add a b c n m xs first second = subst (Appends a c) (sym (take-add n m xs))
+    (Appends-trans a b c _ _ first second)
 
 -- a count of bytes grows by those that were taken, and stops at the greatest number
-pub GrowsBy-more : (a b c : Option (List ℕ)) (n m k : ℕ) (xs : List ℕ) → m ≤ length xs → k ≡ min (n + m) (2 ^ 64 - 1) → GrowsBy a b n → Appends b c (take m xs) → GrowsBy a c k
-GrowsBy-more a b c n m k xs inside sum grown more =
-    (grown.0 ++ take m xs, Appends-trans a b c _ _ grown.1 more, omega (arith, sum, grown.2, length-append grown.0 (take m xs), length-take m xs))
+pub GrowsBy-more : (a b c : Option (List ℕ)) (n m k : ℕ) (xs : List ℕ) → m ≤ length xs → k ≡ min (n + m) (2 ^ 64 - 1)
+    → GrowsBy a b n → Appends b c (take m xs) → GrowsBy a c k
+GrowsBy-more a b c n m k xs inside sum grown more = (
+  grown.0 ++ take m xs,
+  Appends-trans a b c _ _ grown.1 more,
+  omega
+      (arith, sum, grown.2, length-append grown.0 (take m xs), length-take m xs),
+)

@@ -19,10 +19,13 @@ pub record OutState : Type 0 where
 abbrev pub new_out_state : Option (List ℕ) → OutState
 new_out_state contents = record { start = contents; taken = contents; written = 0; failures = 0 }
 
--- one call of a sink over a writer: it counts the bytes that it took, or one more failure; what the writer held at first stays
+-- one call of a sink over a writer: it counts the bytes that it took, or one more failure; what the writer held at
+-- first stays
 abbrev pub OutStep : OutState → Result ℕ SinkDown → OutState → Type 0
-OutStep old (Ok n) new = (new.start ≡ old.start) × (new.written ≡ capped (old.written + n)) × (new.failures ≡ old.failures)
-OutStep old (Err down) new = (new.start ≡ old.start) × (new.written ≡ old.written) × (new.failures ≡ capped (old.failures + 1))
+OutStep old (Ok n) new = (new.start ≡ old.start) × (new.written ≡ capped (old.written + n))
+    × (new.failures ≡ old.failures)
+OutStep old (Err down) new = (new.start ≡ old.start) × (new.written ≡ old.written)
+    × (new.failures ≡ capped (old.failures + 1))
 
 -- a sink over a writer that is lent: the loan, the bytes that wait for the writer, and what the writer holds and took
 pub record LentState : Type 0 where

@@ -16,23 +16,28 @@ use Rattle.dump_text.proofs.BoolLemmas.{equals_itself, first_true, second_true, 
 use Rattle.dump_filter.proofs.again.LineChanges.{IsChange, same_has, both_changes, put_has, put_change, length_change, block_names, IsTold, told_later, told_put, told_length, told_reads, told_put_again, told_length_again}
 
 -- a known name stands at most once in a block
-pub known_once : (name : List ℕ) → list_any (bytes_eq name) known_names ≡ true → (headers : List Header) → is_block headers ≡ true → nat_le (count_named name headers) 1 ≡ true
+pub known_once : (name : List ℕ) → list_any (bytes_eq name) known_names ≡ true → (headers : List Header)
+    → is_block headers ≡ true → nat_le (count_named name headers) 1 ≡ true
 known_once name known headers block = among known_names known (block_names headers block)
   where
     test : List ℕ → Bool
     test n = nat_le (count_named n headers) 1
 
-    among : (names : List (List ℕ)) → list_any (bytes_eq name) names ≡ true → list_all test names ≡ true → test name ≡ true
+    among : (names : List (List ℕ)) → list_any (bytes_eq name) names ≡ true → list_all test names ≡ true
+        → test name ≡ true
     among [] known all = cc
     among (n ∷ names) known all = by_name (among names) (bytes_eq name n) refl
       where
-        by_name : (list_any (bytes_eq name) names ≡ true → list_all test names ≡ true → test name ≡ true) → (b : Bool) → bytes_eq name n ≡ b → test name ≡ true
+        by_name : (list_any (bytes_eq name) names ≡ true → list_all test names ≡ true → test name ≡ true) → (b : Bool)
+            → bytes_eq name n ≡ b → test name ≡ true
         by_name more true is = ap test ((bytes_eq-Decides name n).0 is) ∙ first_true (test n) (list_all test names) all
-        by_name more false is = more (sym (ap (λ b. b || list_any (bytes_eq name) names) is) ∙ known) (second_true (test n) (list_all test names) all)
+        by_name more false is = more (sym (ap (λ b. b || list_any (bytes_eq name) names) is) ∙ known)
+            (second_true (test n) (list_all test names) all)
 
 -- whether the name is that of a length
 abbrev pub is_length_name : List ℕ → Bool
-is_length_name name = (bytes_eq property_length_name name || bytes_eq text_length_name name) || bytes_eq content_length_name name
+is_length_name name =
+    (bytes_eq property_length_name name || bytes_eq text_length_name name) || bytes_eq content_length_name name
 
 -- the lengths of this content are told
 pub record AreTold (props text : List ℕ) (headers : List Header) : Type 0 where
@@ -49,11 +54,13 @@ module _ (props text : List ℕ) (headers : List Header) (small : length props +
 
   props_change : IsChange (λ name. bytes_eq property_length_name name) headers one
   unfolding one
-  props_change = length_change property_length_name (length props) headers (omega (arith, small)) (λ no_lf. rw no_lf refl)
+  props_change = length_change property_length_name (length props) headers (omega (arith, small))
+      (λ no_lf. rw no_lf refl)
 
   text_change : IsChange (λ name. bytes_eq text_length_name name) one two
   unfolding two
-  text_change = put_change text_length_name (spelled_number (length text)) one (spelled_spells (length text) (omega (arith, small))).one_line
+  text_change = put_change text_length_name (spelled_number (length text)) one
+      (spelled_spells (length text) (omega (arith, small))).one_line
 
   content_change : IsChange (λ name. bytes_eq content_length_name name) two (with_lengths props text headers)
   unfolding one two
@@ -61,8 +68,10 @@ module _ (props text : List ℕ) (headers : List Header) (small : length props +
 
   pub lengths_change : IsChange is_length_name headers (with_lengths props text headers)
   lengths_change =
-      both_changes (λ name. bytes_eq property_length_name name || bytes_eq text_length_name name) headers two (with_lengths props text headers) (λ name. bytes_eq content_length_name name)
-      (both_changes (λ name. bytes_eq property_length_name name) headers one two (λ name. bytes_eq text_length_name name) props_change text_change)
+      both_changes (λ name. bytes_eq property_length_name name || bytes_eq text_length_name name) headers two
+      (with_lengths props text headers) (λ name. bytes_eq content_length_name name)
+      (both_changes (λ name. bytes_eq property_length_name name) headers one two
+      (λ name. bytes_eq text_length_name name) props_change text_change)
       content_change
 
   text_there : has_header text_length_name one ≡ has_header text_length_name headers
@@ -71,29 +80,38 @@ module _ (props text : List ℕ) (headers : List Header) (small : length props +
   pub text_stays : has_header text_length_name (with_lengths props text headers) ≡ has_header text_length_name headers
   unfolding two
   text_stays =
-      same_has (λ name. bytes_eq content_length_name name) two (with_lengths props text headers) content_change text_length_name refl
+      same_has (λ name. bytes_eq content_length_name name) two
+      (with_lengths props text headers) content_change text_length_name refl
       ∙ put_has text_length_name text_length_name (spelled_number (length text)) one ∙ text_there
 
   -- no line is added for properties that aren't there
-  pub props_stay : length props ≡ 0 → has_header property_length_name headers ≡ false → has_header property_length_name (with_lengths props text headers) ≡ false
+  pub props_stay : length props ≡ 0 → has_header property_length_name headers ≡ false → has_header property_length_name
+      (with_lengths props text headers) ≡ false
   unfolding one two
   props_stay empty none =
-      same_has (λ name. bytes_eq content_length_name name) two (with_lengths props text headers) content_change property_length_name refl
+      same_has (λ name. bytes_eq content_length_name name) two
+      (with_lengths props text headers) content_change property_length_name refl
       ∙ same_has (λ name. bytes_eq text_length_name name) one two text_change property_length_name refl
       ∙ rw (none, empty) none
 
-  pub lengths_told : (has_header text_length_name headers ≡ false → length text ≡ 0) → AreTold props text (with_lengths props text headers)
+  pub lengths_told : (has_header text_length_name headers ≡ false → length text ≡ 0)
+      → AreTold props text (with_lengths props text headers)
   unfolding one two
   lengths_told missing = record {
-    props_told = told_later property_length_name (length props) (λ name. bytes_eq content_length_name name) two (with_lengths props text headers) content_change refl
-        (told_later property_length_name (length props) (λ name. bytes_eq text_length_name name) one two text_change refl (told_length property_length_name (length props) headers));
-    text_told = told_later text_length_name (length text) (λ name. bytes_eq content_length_name name) two (with_lengths props text headers) content_change refl
+    props_told = told_later property_length_name (length props) (λ name. bytes_eq content_length_name name) two
+        (with_lengths props text headers) content_change refl
+        (told_later property_length_name (length props)
+        (λ name. bytes_eq text_length_name name) one two text_change refl
+        (told_length property_length_name (length props) headers));
+    text_told = told_later text_length_name (length text) (λ name. bytes_eq content_length_name name) two
+        (with_lengths props text headers) content_change refl
         (told_put text_length_name (length text) one (λ none. missing (sym text_there ∙ none)));
     content_told = told_length content_length_name (length props + length text) two;
   }
 
 -- lengths that are told are those of the content
-pub told_lengths : (props text : List ℕ) (headers : List Header) → length props + length text < 10 ^ 18 → AreTold props text headers
+pub told_lengths : (props text : List ℕ) (headers : List Header) → length props + length text < 10 ^ 18
+    → AreTold props text headers
     → (length props ≡ property_length headers) × (length text ≡ text_length headers)
 told_lengths props text headers small told =
     let p = told_reads property_length_name (length props) headers (omega (arith, small)) told.props_told in
@@ -101,28 +119,37 @@ told_lengths props text headers small told =
     (sym p.0, sym t.0)
 
 -- and are told again as they stand
-pub lengths_again : (props text : List ℕ) (headers : List Header) → is_block headers ≡ true → AreTold props text headers → with_lengths props text headers ≡ headers
+pub lengths_again : (props text : List ℕ) (headers : List Header) → is_block headers ≡ true → AreTold props text headers
+    → with_lengths props text headers ≡ headers
 lengths_again props text headers block told =
-    ap (λ (l : List Header). with_length content_length_name (length props + length text) (with_header_value text_length_name (spelled_number (length text)) l))
-    (told_length_again property_length_name (length props) headers (known_once property_length_name refl headers block) told.props_told)
+    ap (λ (l : List Header). with_length content_length_name (length props + length text)
+    (with_header_value text_length_name (spelled_number (length text)) l))
+    (told_length_again property_length_name (length props) headers
+    (known_once property_length_name refl headers block) told.props_told)
     ∙ ap (λ (l : List Header). with_length content_length_name (length props + length text) l)
-    (told_put_again text_length_name (length text) headers (known_once text_length_name refl headers block) told.text_told)
-    ∙ told_length_again content_length_name (length props + length text) headers (known_once content_length_name refl headers block) told.content_told
+    (told_put_again text_length_name (length text) headers
+    (known_once text_length_name refl headers block) told.text_told)
+    ∙ told_length_again content_length_name (length props + length text) headers
+    (known_once content_length_name refl headers block) told.content_told
 
 -- a revision or node is no version or UUID record
-pub no_others : (headers : List Header) → has_bad_kind headers ≡ false → (has_header revision_name headers || has_header path_name headers) ≡ true
+pub no_others : (headers : List Header) → has_bad_kind headers ≡ false
+    → (has_header revision_name headers || has_header path_name headers) ≡ true
     → (has_header version_name headers ≡ false) × (has_header uuid_name headers ≡ false)
 no_others headers good either =
-    cases (has_header version_name headers) (has_header uuid_name headers) (has_header revision_name headers) (has_header path_name headers) refl refl refl refl
+    cases (has_header version_name headers) (has_header uuid_name headers) (has_header revision_name headers)
+    (has_header path_name headers) refl refl refl refl
   where
-    wrong : has_bad_kind headers ≡ true → (has_header version_name headers ≡ false) × (has_header uuid_name headers ≡ false)
+    wrong : has_bad_kind headers ≡ true → (has_header version_name headers ≡ false)
+        × (has_header uuid_name headers ≡ false)
     wrong is = absurd (absurd_bool (has_bad_kind headers) is good)
 
     cases : (v u s n : Bool) → has_header version_name headers ≡ v → has_header uuid_name headers ≡ u
         → has_header revision_name headers ≡ s → has_header path_name headers ≡ n
         → (has_header version_name headers ≡ false) × (has_header uuid_name headers ≡ false)
     cases false false s n is-v is-u is-s is-n = (is-v, is-u)
-    cases v u false false is-v is-u is-s is-n = let bad : false ≡ true = sym (ap (λ b. b || has_header path_name headers) is-s ∙ is-n) ∙ either in cc
+    cases v u false false is-v is-u is-s is-n = let bad : false ≡ true = sym
+        (ap (λ b. b || has_header path_name headers) is-s ∙ is-n) ∙ either in cc
     cases true true true true is-v is-u is-s is-n = wrong (rw (is-v, is-u, is-s, is-n) refl)
     cases true true true false is-v is-u is-s is-n = wrong (rw (is-v, is-u, is-s, is-n) refl)
     cases true true false true is-v is-u is-s is-n = wrong (rw (is-v, is-u, is-s, is-n) refl)
@@ -140,7 +167,8 @@ pub record StaysLawful (old new : List Header) : Type 0 where
   pub revision : has_header revision_name new ≡ has_header revision_name old
   pub node : has_header path_name new ≡ has_header path_name old
   pub text : has_header text_length_name new ≡ has_header text_length_name old
-  pub copies : (has_header path_name new && is_one_alone (has_header copy_revision_name new) (has_header copy_path_name new)) ≡ false
+  pub copies : (has_header path_name new && is_one_alone (has_header copy_revision_name new)
+      (has_header copy_path_name new)) ≡ false
   pub revision_number : (has_header revision_name new && is_none (header_number revision_name new)) ≡ false
   pub copy_number : (has_header copy_revision_name new && is_none (header_number copy_revision_name new)) ≡ false
 
@@ -169,10 +197,12 @@ module _ (number : ℕ) (old new : List Header) (lawful : is_lawful number old �
       by_zero false is = rw is refl
 
   module _ (props text : List ℕ) (small : length props + length text < 10 ^ 18) (told : AreTold props text new) where
-    read_props : (header_length property_length_name new ≡ length props) × ((has_header property_length_name new && is_none (header_number property_length_name new)) ≡ false)
+    read_props : (header_length property_length_name new ≡ length props)
+        × ((has_header property_length_name new && is_none (header_number property_length_name new)) ≡ false)
     read_props = told_reads property_length_name (length props) new (omega (arith, small)) told.props_told
 
-    read_text : (header_length text_length_name new ≡ length text) × ((has_header text_length_name new && is_none (header_number text_length_name new)) ≡ false)
+    read_text : (header_length text_length_name new ≡ length text)
+        × ((has_header text_length_name new && is_none (header_number text_length_name new)) ≡ false)
     read_text = told_reads text_length_name (length text) new (omega (arith, small)) told.text_told
 
     read_content : (header_length content_length_name new ≡ length props + length text)
@@ -184,7 +214,17 @@ module _ (number : ℕ) (old new : List Header) (lawful : is_lawful number old �
 
     new_lengths : has_bad_lengths new ≡ false
     new_lengths =
-        rw (read_content.0, read_props.0, read_text.0, stays.version, stays.uuid, stays.revision, stays.text, none_else.0, none_else.1)
+        rw (
+          read_content.0,
+          read_props.0,
+          read_text.0,
+          stays.version,
+          stays.uuid,
+          stays.revision,
+          stays.text,
+          none_else.0,
+          none_else.1,
+        )
         (sum (has_header content_length_name new) (length props + length text)
         (second_false _ _ (not_so (has_bad_lengths old) (keeps number old lawful).lengths)))
       where

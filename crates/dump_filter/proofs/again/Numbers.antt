@@ -15,11 +15,13 @@ use Rattle.dump_filter.proofs.again.ReadAgain.{AtEach}
 
 -- the kept numbers of a list that a record begins
 
-pub kept_revision : (settings : Settings) (r : DumpRecord) (rest : List DumpRecord) → is_revision r ≡ true → keeps_group settings (group_of r rest) ≡ true
+pub kept_revision : (settings : Settings) (r : DumpRecord) (rest : List DumpRecord) → is_revision r ≡ true
+    → keeps_group settings (group_of r rest) ≡ true
     → kept_numbers settings (r ∷ rest) ≡ revision_number r ∷ kept_numbers settings rest
 kept_revision settings r rest rev keep = rw rev (rw keep refl)
 
-pub dropped_revision : (settings : Settings) (r : DumpRecord) (rest : List DumpRecord) → is_revision r ≡ true → keeps_group settings (group_of r rest) ≡ false
+pub dropped_revision : (settings : Settings) (r : DumpRecord) (rest : List DumpRecord) → is_revision r ≡ true
+    → keeps_group settings (group_of r rest) ≡ false
     → kept_numbers settings (r ∷ rest) ≡ kept_numbers settings rest
 dropped_revision settings r rest rev drop = rw rev (rw drop refl)
 
@@ -33,15 +35,18 @@ rise_lower : (low high : ℕ) (numbers : List ℕ) → low ≤ high → RiseFrom
 rise_lower low high [] within up = tt
 rise_lower low high (n ∷ numbers) within up = let over = up.0 in (omega arith, up.1)
 
-rise_next : (settings : Settings) (low : ℕ) (r : DumpRecord) (rest : List DumpRecord) → is_revision r ≡ true → low ≤ revision_number r
+rise_next : (settings : Settings) (low : ℕ) (r : DumpRecord) (rest : List DumpRecord) → is_revision r ≡ true
+    → low ≤ revision_number r
     → RiseFrom (revision_number r + 1) (kept_numbers settings rest) → RiseFrom low (kept_numbers settings (r ∷ rest))
 rise_next settings low r rest rev within up = cases (keeps_group settings (group_of r rest)) refl
   where
     cases : (b : Bool) → keeps_group settings (group_of r rest) ≡ b → RiseFrom low (kept_numbers settings (r ∷ rest))
     cases true keep = rw (kept_revision settings r rest rev keep) (within, up)
-    cases false drop = rw (dropped_revision settings r rest rev drop) (rise_lower low (revision_number r + 1) (kept_numbers settings rest) (omega arith) up)
+    cases false drop = rw (dropped_revision settings r rest rev drop)
+        (rise_lower low (revision_number r + 1) (kept_numbers settings rest) (omega arith) up)
 
-rise_behind : (settings : Settings) (g : Bool) (q : ℕ) (records : List DumpRecord) → AreInOrder g (Some q) records → RiseFrom (q + 1) (kept_numbers settings records)
+rise_behind : (settings : Settings) (g : Bool) (q : ℕ) (records : List DumpRecord) → AreInOrder g (Some q) records
+    → RiseFrom (q + 1) (kept_numbers settings records)
 rise_behind settings g q [] are = tt
 rise_behind settings g q (r ∷ rest) are = cases (is_revision r) refl
     (λ h p is. rise_behind settings h p rest is)
@@ -64,12 +69,15 @@ rise_first settings g [] are = tt
 rise_first settings g (r ∷ rest) are = cases (is_revision r) refl (λ h is. rise_first settings h rest is) are
   where
     cases : (b : Bool) → is_revision r ≡ b
-        → ((h : Bool) → AreInOrder h None rest → RiseFrom (first_number (revision_numbers rest)) (kept_numbers settings rest))
-        → AreInOrder g None (r ∷ rest) → RiseFrom (first_number (revision_numbers (r ∷ rest))) (kept_numbers settings (r ∷ rest))
+        → ((h : Bool) → AreInOrder h None rest → RiseFrom (first_number (revision_numbers rest))
+        (kept_numbers settings rest))
+        → AreInOrder g None (r ∷ rest) → RiseFrom (first_number (revision_numbers (r ∷ rest)))
+        (kept_numbers settings (r ∷ rest))
     cases true rev later order =
         let more = rw rev at order.2 in
         let first : first_number (revision_numbers (r ∷ rest)) ≡ revision_number r = rw rev refl in
-        rw first (rise_next settings (revision_number r) r rest rev (omega arith) (rise_behind settings _ (revision_number r) rest more))
+        rw first (rise_next settings (revision_number r) r rest rev (omega arith)
+        (rise_behind settings _ (revision_number r) rest more))
     cases false other later order =
         let more = rw other at order.2 in
         let first : first_number (revision_numbers (r ∷ rest)) ≡ first_number (revision_numbers rest) = rw other refl in
@@ -92,7 +100,8 @@ below_rises a b [] low = omega arith
 below_rises a b (n ∷ numbers) low =
     let first = below-cons a n numbers in
     let second = below-cons b n numbers in
-    let step = one_more (below a numbers) (below b numbers) (nat_lt n a) (nat_lt n b) (λ is. passes is) (below_rises a b numbers low) in
+    let step = one_more (below a numbers) (below b numbers) (nat_lt n a) (nat_lt n b) (λ is. passes is)
+    (below_rises a b numbers low) in
     omega arith
   where
     passes : nat_lt n a ≡ true → nat_lt n b ≡ true
@@ -114,30 +123,36 @@ below_over a b (n ∷ numbers) (suc i, within, is) low =
     let rest = below_over a b numbers (i, omega arith, is) low in
     let first = below-cons a n numbers in
     let second = below-cons b n numbers in
-    let step = one_more (below a numbers + 1) (below b numbers) (nat_lt n a) (nat_lt n b) (λ under. passes under) (omega arith) in
+    let step = one_more (below a numbers + 1) (below b numbers) (nat_lt n a) (nat_lt n b) (λ under. passes under)
+    (omega arith) in
     omega arith
   where
     passes : nat_lt n a ≡ true → nat_lt n b ≡ true
     passes is = grind (arith, nat_tests)
 
 -- of a kept revision and any later one
-pub new_number_rises : (kept : KeptRevisions) (a b : ℕ) → Contains kept.numbers a → a < b → new_number kept a < new_number kept b
+pub new_number_rises : (kept : KeptRevisions) (a b : ℕ) → Contains kept.numbers a → a < b
+    → new_number kept a < new_number kept b
 new_number_rises kept a b has low = let under = below_over a b kept.numbers has low in omega arith
 
 -- the revision 0 is always kept, so that each other one has one below it
-zero_kept : (settings : Settings) (records : List DumpRecord) → first_number (revision_numbers records) ≡ 0 → (k : ℕ) → Contains (kept_numbers settings records) k → 1 ≤ k
+zero_kept : (settings : Settings) (records : List DumpRecord) → first_number (revision_numbers records) ≡ 0 → (k : ℕ)
+    → Contains (kept_numbers settings records) k → 1 ≤ k
     → 1 ≤ below k (kept_numbers settings records)
 zero_kept settings [] first k has some = let within = has.1 in absurd (omega arith)
-zero_kept settings (r ∷ rest) first k has some = cases (is_revision r) refl (λ is in_rest. zero_kept settings rest is k in_rest some)
+zero_kept settings (r ∷ rest) first k has some = cases (is_revision r) refl
+    (λ is in_rest. zero_kept settings rest is k in_rest some)
   where
     cases : (b : Bool) → is_revision r ≡ b
-        → (first_number (revision_numbers rest) ≡ 0 → Contains (kept_numbers settings rest) k → 1 ≤ below k (kept_numbers settings rest))
+        → (first_number (revision_numbers rest) ≡ 0 → Contains (kept_numbers settings rest) k
+        → 1 ≤ below k (kept_numbers settings rest))
         → 1 ≤ below k (kept_numbers settings (r ∷ rest))
     cases true rev later =
         let is : revision_number r ≡ 0 = rw rev at first in
         let keep : keeps_group settings (group_of r rest) ≡ true = rw is refl in
         let one : nat_lt (revision_number r) k ≡ true = is_below (revision_number r) k (omega arith) in
-        let counted : below k (revision_number r ∷ kept_numbers settings rest) ≡ 1 + below k (kept_numbers settings rest) =
+        let counted : below k (revision_number r ∷ kept_numbers settings rest) ≡ 1 + below k
+        (kept_numbers settings rest) =
         below-cons k (revision_number r) (kept_numbers settings rest) ∙ rw one refl in
         rw (kept_revision settings r rest rev keep) (omega arith)
     cases false other later =
@@ -145,17 +160,20 @@ zero_kept settings (r ∷ rest) first k has some = cases (is_revision r) refl (�
         let in_rest = rw (no_revision settings r rest other) at has in
         rw (no_revision settings r rest other) (later is in_rest)
 
-pub positive : (settings : Settings) (records : List DumpRecord) (k : ℕ) → Contains (kept_revisions settings records).numbers k → 1 ≤ k
+pub positive : (settings : Settings) (records : List DumpRecord) (k : ℕ)
+    → Contains (kept_revisions settings records).numbers k → 1 ≤ k
     → 1 ≤ new_number (kept_revisions settings records) k
 positive settings records k has some = cases (first_number (revision_numbers records)) refl
   where
-    cases : (first : ℕ) → first_number (revision_numbers records) ≡ first → 1 ≤ new_number (kept_revisions settings records) k
+    cases : (first : ℕ) → first_number (revision_numbers records) ≡ first
+        → 1 ≤ new_number (kept_revisions settings records) k
     cases zero is = let under = zero_kept settings records is k has some in omega arith
     cases (suc n) is = omega arith
 
 -- no revision is below the first one
 
-above_each : (first : ℕ) (before : List DumpRecord) (g : Bool) (q : ℕ) (records : List DumpRecord) → first ≤ q → AreInOrder g (Some q) records
+above_each : (first : ℕ) (before : List DumpRecord) (g : Bool) (q : ℕ) (records : List DumpRecord) → first ≤ q
+    → AreInOrder g (Some q) records
     → AtEach (λ done r after. is_revision r ≡ true → first ≤ revision_number r) before records
 above_each first before g q [] low are = tt
 above_each first before g q (r ∷ rest) low are =
@@ -163,7 +181,8 @@ above_each first before g q (r ∷ rest) low are =
     (here, cases (is_revision r) refl (λ h p over is. above_each first (before ++ r ∷ []) h p rest over is) here are.2)
   where
     cases : (b : Bool) → is_revision r ≡ b
-        → ((h : Bool) (p : ℕ) → first ≤ p → AreInOrder h (Some p) rest → AtEach (λ done x after. is_revision x ≡ true → first ≤ revision_number x) (before ++ r ∷ []) rest)
+        → ((h : Bool) (p : ℕ) → first ≤ p → AreInOrder h (Some p) rest
+        → AtEach (λ done x after. is_revision x ≡ true → first ≤ revision_number x) (before ++ r ∷ []) rest)
         → (is_revision r ≡ true → first ≤ revision_number r)
         → AreInOrder (is_revision r || is_node r) (if is_revision r then Some (revision_number r) else Some q) rest
         → AtEach (λ done x after. is_revision x ≡ true → first ≤ revision_number x) (before ++ r ∷ []) rest
@@ -171,9 +190,11 @@ above_each first before g q (r ∷ rest) low are =
     cases false other later here order = later _ _ low (rw other at order)
 
 above_first : (before : List DumpRecord) (g : Bool) (records : List DumpRecord) → AreInOrder g None records
-    → AtEach (λ done r after. is_revision r ≡ true → first_number (revision_numbers records) ≤ revision_number r) before records
+    → AtEach (λ done r after. is_revision r ≡ true
+    → first_number (revision_numbers records) ≤ revision_number r) before records
 above_first before g [] are = tt
-above_first before g (r ∷ rest) are = cases (is_revision r) refl (λ h is. above_first (before ++ r ∷ []) h rest is) are.2
+above_first before g (r ∷ rest) are = cases (is_revision r) refl
+    (λ h is. above_first (before ++ r ∷ []) h rest is) are.2
   where
     Above : ℕ → List DumpRecord → List DumpRecord → Type 0
     Above first done records = AtEach (λ d x after. is_revision x ≡ true → first ≤ revision_number x) done records
@@ -184,13 +205,17 @@ above_first before g (r ∷ rest) are = cases (is_revision r) refl (λ h is. abo
         → Above (first_number (revision_numbers (r ∷ rest))) before (r ∷ rest)
     cases true rev later order =
         let first : first_number (revision_numbers (r ∷ rest)) ≡ revision_number r = rw rev refl in
-        subst (λ (n : ℕ). Above n before (r ∷ rest)) (sym first)
-        ((λ is. omega arith), above_each (revision_number r) (before ++ r ∷ []) _ (revision_number r) rest (omega arith) (rw rev at order))
+        subst (λ (n : ℕ). Above n before (r ∷ rest)) (sym first) (
+          (λ is. omega arith),
+          above_each (revision_number r) (before ++ r ∷ []) _ (revision_number r) rest (omega arith)
+              (rw rev at order),
+        )
     cases false other later order =
         let first : first_number (revision_numbers (r ∷ rest)) ≡ first_number (revision_numbers rest) = rw other refl in
         subst (λ (n : ℕ). Above n before (r ∷ rest)) (sym first)
         ((λ is. absurd (absurd_bool (is_revision r) is other)), later _ (rw other at order))
 
 pub revisions_above : (settings : Settings) (records : List DumpRecord) → AreFaultFree settings records
-    → AtEach (λ before r after. is_revision r ≡ true → (kept_revisions settings records).first ≤ revision_number r) [] records
+    → AtEach (λ before r after. is_revision r ≡ true
+    → (kept_revisions settings records).first ≤ revision_number r) [] records
 revisions_above settings records free = above_first [] false records (in_order settings records free)

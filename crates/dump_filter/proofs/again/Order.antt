@@ -35,7 +35,8 @@ last_number first [] n = refl
 last_number first (m ∷ ns) n = last_number (Some m) ns n
 
 numbers_more : (before : List DumpRecord) (r : DumpRecord)
-    → revision_numbers (before ++ r ∷ []) ≡ revision_numbers before ++ (if is_revision r then revision_number r ∷ [] else [])
+    → revision_numbers (before ++ r ∷ []) ≡ revision_numbers before ++
+    (if is_revision r then revision_number r ∷ [] else [])
 numbers_more [] r = cases (is_revision r) refl
   where
     cases : (b : Bool) → is_revision r ≡ b → revision_numbers (r ∷ []) ≡ (if b then revision_number r ∷ [] else [])
@@ -44,12 +45,15 @@ numbers_more [] r = cases (is_revision r) refl
 numbers_more (x ∷ before) r = cases (is_revision x) refl (numbers_more before r)
   where
     cases : (b : Bool) → is_revision x ≡ b
-        → revision_numbers (before ++ r ∷ []) ≡ revision_numbers before ++ (if is_revision r then revision_number r ∷ [] else [])
-        → revision_numbers (x ∷ (before ++ r ∷ [])) ≡ revision_numbers (x ∷ before) ++ (if is_revision r then revision_number r ∷ [] else [])
+        → revision_numbers (before ++ r ∷ []) ≡ revision_numbers before ++
+        (if is_revision r then revision_number r ∷ [] else [])
+        → revision_numbers (x ∷ (before ++ r ∷ [])) ≡ revision_numbers (x ∷ before) ++
+        (if is_revision r then revision_number r ∷ [] else [])
     cases true is more = rw is (ap (λ (t : List ℕ). revision_number x ∷ t) more)
     cases false is more = rw is more
 
-present_more : (before : List DumpRecord) (r : DumpRecord) → present_revision (before ++ r ∷ []) ≡ present_behind (present_revision before) r
+present_more : (before : List DumpRecord) (r : DumpRecord) → present_revision (before ++ r ∷ []) ≡ present_behind
+    (present_revision before) r
 present_more before r = ap (last_or None) (numbers_more before r) ∙ cases (is_revision r)
   where
     cases : (b : Bool) → last_or None (revision_numbers before ++ (if b then revision_number r ∷ [] else []))
@@ -57,35 +61,43 @@ present_more before r = ap (last_or None) (numbers_more before r) ∙ cases (is_
     cases true = last_number None (revision_numbers before) (revision_number r)
     cases false = ap (last_or None) (append-nil (revision_numbers before))
 
-ends_more : (before : List DumpRecord) (r : DumpRecord) → ends_in_group (last_or None (before ++ r ∷ [])) ≡ (is_revision r || is_node r)
+ends_more : (before : List DumpRecord) (r : DumpRecord) → ends_in_group (last_or None (before ++ r ∷ [])) ≡
+    (is_revision r || is_node r)
 ends_more before r = ap ends_in_group (last_is None before r)
 
 -- records behind others are in order
 abbrev AreInOrderBehind : List DumpRecord → List DumpRecord → Type 0
 AreInOrderBehind before rest = AreInOrder (ends_in_group (last_or None before)) (present_revision before) rest
 
-order_more : (before : List DumpRecord) (r : DumpRecord) (rest : List DumpRecord) → AreInOrderBehind (before ++ r ∷ []) rest
+order_more : (before : List DumpRecord) (r : DumpRecord) (rest : List DumpRecord)
+    → AreInOrderBehind (before ++ r ∷ []) rest
     → AreInOrder (is_revision r || is_node r) (present_behind (present_revision before) r) rest
 order_more before r rest are =
     subst (λ (g : Bool). AreInOrder g (present_behind (present_revision before) r) rest) (ends_more before r)
-    (subst (λ (p : Option ℕ). AreInOrder (ends_in_group (last_or None (before ++ r ∷ []))) p rest) (present_more before r) are)
+    (subst (λ (p : Option ℕ). AreInOrder (ends_in_group (last_or None (before ++ r ∷ []))) p rest)
+    (present_more before r) are)
 
 order_less : (before : List DumpRecord) (r : DumpRecord) (rest : List DumpRecord)
-    → AreInOrder (is_revision r || is_node r) (present_behind (present_revision before) r) rest → AreInOrderBehind (before ++ r ∷ []) rest
+    → AreInOrder (is_revision r || is_node r) (present_behind (present_revision before) r) rest
+    → AreInOrderBehind (before ++ r ∷ []) rest
 order_less before r rest are =
-    subst (λ (p : Option ℕ). AreInOrder (ends_in_group (last_or None (before ++ r ∷ []))) p rest) (sym (present_more before r))
-    (subst (λ (g : Bool). AreInOrder g (present_behind (present_revision before) r) rest) (sym (ends_more before r)) are)
+    subst (λ (p : Option ℕ). AreInOrder (ends_in_group (last_or None (before ++ r ∷ []))) p rest)
+    (sym (present_more before r))
+    (subst (λ (g : Bool). AreInOrder g (present_behind (present_revision before) r) rest)
+    (sym (ends_more before r)) are)
 
 -- from records that aren't out of order
 
-node_follows : (before : List DumpRecord) (r : DumpRecord) → ¬ IsOutOfOrder before r → is_node r ≡ true → ends_in_group (last_or None before) ≡ true
+node_follows : (before : List DumpRecord) (r : DumpRecord) → ¬ IsOutOfOrder before r → is_node r ≡ true
+    → ends_in_group (last_or None before) ≡ true
 node_follows before r fine node = cases (ends_in_group (last_or None before)) refl
   where
     cases : (b : Bool) → ends_in_group (last_or None before) ≡ b → b ≡ true
     cases true is = refl
     cases false is = absurd (fine (inl (rw (node, is) refl)))
 
-number_rises : (before : List DumpRecord) (r : DumpRecord) → ¬ IsOutOfOrder before r → is_revision r ≡ true → RisesFrom (present_revision before) (revision_number r)
+number_rises : (before : List DumpRecord) (r : DumpRecord) → ¬ IsOutOfOrder before r → is_revision r ≡ true
+    → RisesFrom (present_revision before) (revision_number r)
 number_rises before r fine rev = cases (present_revision before) refl
   where
     cases : (p : Option ℕ) → present_revision before ≡ p → RisesFrom p (revision_number r)
@@ -95,22 +107,26 @@ number_rises before r fine rev = cases (present_revision before) refl
       | inr high ↦ high.1
     ]
 
-order_behind : (settings : Settings) (before rest : List DumpRecord) → AreFaultFree settings (before ++ rest) → AreInOrderBehind before rest
+order_behind : (settings : Settings) (before rest : List DumpRecord) → AreFaultFree settings (before ++ rest)
+    → AreInOrderBehind before rest
 order_behind settings before [] free = tt
 order_behind settings before (r ∷ rest) free =
     let fine = free before rest r refl faults.Order in
     let moved : (before ++ r ∷ []) ++ rest ≡ before ++ r ∷ rest = append_assoc before (r ∷ []) rest in (
       node_follows before r fine,
       number_rises before r fine,
-      order_more before r rest (order_behind settings (before ++ r ∷ []) rest (subst (AreFaultFree settings) (sym moved) free)),
+      order_more before r rest (order_behind settings (before ++ r ∷ []) rest
+          (subst (AreFaultFree settings) (sym moved) free)),
     )
 
-pub in_order : (settings : Settings) (records : List DumpRecord) → AreFaultFree settings records → AreInOrder false None records
+pub in_order : (settings : Settings) (records : List DumpRecord) → AreFaultFree settings records
+    → AreInOrder false None records
 in_order settings records free = order_behind settings [] records free
 
 -- and back
 
-fits_order : (before : List DumpRecord) (r : DumpRecord) → (is_node r ≡ true → ends_in_group (last_or None before) ≡ true)
+fits_order : (before : List DumpRecord) (r : DumpRecord)
+    → (is_node r ≡ true → ends_in_group (last_or None before) ≡ true)
     → (is_revision r ≡ true → RisesFrom (present_revision before) (revision_number r)) → ¬ IsOutOfOrder before r
 fits_order before r node rev (inl bad) = lone (is_node r) (ends_in_group (last_or None before)) node bad
   where
@@ -118,18 +134,22 @@ fits_order before r node rev (inl bad) = lone (is_node r) (ends_in_group (last_o
     lone true true follows h = cc
     lone true false follows h = absurd_bool false (follows refl) refl
     lone false g follows h = cc
-fits_order before r node rev (inr (is_rev, present, is, low)) = cases (subst (λ (p : Option ℕ). RisesFrom p (revision_number r)) is (rev is_rev))
+fits_order before r node rev (inr (is_rev, present, is, low)) = cases
+    (subst (λ (p : Option ℕ). RisesFrom p (revision_number r)) is (rev is_rev))
   where
     cases : present < revision_number r → ⊥
     cases high = omega arith
 
-order_split : (before mid after : List DumpRecord) (r : DumpRecord) → AreInOrderBehind before (mid ++ r ∷ after) → ¬ IsOutOfOrder (before ++ mid) r
+order_split : (before mid after : List DumpRecord) (r : DumpRecord) → AreInOrderBehind before (mid ++ r ∷ after)
+    → ¬ IsOutOfOrder (before ++ mid) r
 order_split before [] after r are =
     subst (λ (l : List DumpRecord). ¬ IsOutOfOrder l r) (sym (append-nil before)) (fits_order before r are.0 are.1)
 order_split before (x ∷ mid) after r are =
     subst (λ (l : List DumpRecord). ¬ IsOutOfOrder l r) (append_assoc before (x ∷ []) mid)
     (order_split (before ++ x ∷ []) mid after r (order_less before x (mid ++ r ∷ after) are.2))
 
-pub order_fits : (records : List DumpRecord) → AreInOrder false None records → (before after : List DumpRecord) (r : DumpRecord)
+pub order_fits : (records : List DumpRecord) → AreInOrder false None records → (before after : List DumpRecord)
+    (r : DumpRecord)
     → records ≡ before ++ r ∷ after → ¬ IsOutOfOrder before r
-order_fits records are before after r is = order_split [] before after r (subst (λ (l : List DumpRecord). AreInOrder false None l) is are)
+order_fits records are before after r is = order_split [] before after r
+    (subst (λ (l : List DumpRecord). AreInOrder false None l) is are)

@@ -52,7 +52,8 @@ never_padded s (a ∷ after) = by_node (is_node a) refl
     cut b is = take_while-cons is_node a after ∙ ap (λ c. if c then a ∷ take_while is_node after else []) is
 
     by_node : (b : Bool) → is_node a ≡ b → is_padded keep_all (group_of s (a ∷ after)) ≡ false
-    by_node true is = ap of_nodes (cut true is) ∙ (let some : of_nodes (a ∷ take_while is_node after) ≡ false = rw is (never _) in some)
+    by_node true is = ap of_nodes (cut true is) ∙ (let some : of_nodes (a ∷ take_while is_node after) ≡ false = rw is
+        (never _) in some)
     by_node false is = ap of_nodes (cut false is)
 
 -- one side of a choice
@@ -76,18 +77,22 @@ header_small name headers n is = by_value (header_value name headers) is
     by_value None e = cc
     by_value (Some digits) e = number_small digits n e
 
-same_there : (name : List ℕ) (old new : List Header) → header_value name new ≡ header_value name old → has_header name new ≡ has_header name old
+same_there : (name : List ℕ) (old new : List Header) → header_value name new ≡ header_value name old
+    → has_header name new ≡ has_header name old
 same_there name old new same = sym (has_value name new) ∙ ap is_some same ∙ has_value name old
 
 -- a version or UUID record
-pub other_again : (settings : Settings) (kept : KeptRevisions) (number : ℕ) (r : DumpRecord) (front : List ℕ) → is_block r.headers ≡ true → is_lawful number r.headers ≡ true
-    → is_revision r ≡ false → is_node r ≡ false → front ≡ block_text r.headers → (place : ℕ) → (s : DumpRecord) × (s.place ≡ place) × IsReadAgain settings kept r front s
+pub other_again : (settings : Settings) (kept : KeptRevisions) (number : ℕ) (r : DumpRecord) (front : List ℕ)
+    → is_block r.headers ≡ true → is_lawful number r.headers ≡ true
+    → is_revision r ≡ false → is_node r ≡ false → front ≡ block_text r.headers → (place : ℕ) → (s : DumpRecord)
+    × (s.place ≡ place) × IsReadAgain settings kept r front s
 other_again settings kept number r front block lawful no_revision no_node is place = (
   record { place = place; version = r.version; headers = r.headers; props = []; text = [] },
   refl,
   record {
     feeds = 0;
-    spelled = is ∙ sym (append-nil ((block_text r.headers ++ []) ++ []) ∙ append-nil (block_text r.headers ++ []) ∙ append-nil (block_text r.headers));
+    spelled = is ∙ sym (append-nil ((block_text r.headers ++ []) ++ []) ∙ append-nil (block_text r.headers ++ [])
+        ∙ append-nil (block_text r.headers));
     block = block;
     lawful = λ m first. any_number number m r.headers lawful first;
     props_fit = sym empty.0;
@@ -98,7 +103,8 @@ other_again settings kept number r front block lawful no_revision no_node is pla
     node = refl;
     number = λ rev. absurd (absurd_bool (is_revision r) rev no_revision);
     clean = record {
-      props = λ bad. absurd (absurd_bool (is_revision r || is_kept_node keep_all r) bad.0 (rw (no_revision, no_node) refl));
+      props = λ bad. absurd (absurd_bool (is_revision r || is_kept_node keep_all r) bad.0
+          (rw (no_revision, no_node) refl));
       md5 = λ bad. no_kept bad.0;
       sha1 = λ bad. no_kept bad.0;
       merge = λ bad. no_kept bad.1.0;
@@ -111,7 +117,8 @@ other_again settings kept number r front block lawful no_revision no_node is pla
     k = keeps number r.headers lawful
 
     empty : (property_length r.headers ≡ 0) × (text_length r.headers ≡ 0)
-    empty = no_content r.headers (not_so (has_bad_kind r.headers) k.kind) (not_so (has_bad_lengths r.headers) k.lengths) no_revision no_node
+    empty = no_content r.headers (not_so (has_bad_kind r.headers) k.kind)
+        (not_so (has_bad_lengths r.headers) k.lengths) no_revision no_node
 
     no_kept : is_kept_node keep_all r ≡ true → ⊥
     no_kept is_kept = absurd_bool (is_node r) (first_true (is_node r) _ is_kept) no_node
@@ -143,36 +150,42 @@ padding_deletes true ps deletes = absurd (absurd_bool (has_deletes (padding_prop
 padding_deletes false ps deletes = deletes
 
 -- a revision
-pub revision_again : (settings : Settings) (kept : KeptRevisions) (number : ℕ) (r : DumpRecord) (after : List DumpRecord) (front : List ℕ)
-    → is_block r.headers ≡ true → is_lawful number r.headers ≡ true → length r.props ≡ property_length r.headers → length r.text ≡ text_length r.headers
+pub revision_again : (settings : Settings) (kept : KeptRevisions) (number : ℕ) (r : DumpRecord)
+    (after : List DumpRecord) (front : List ℕ)
+    → is_block r.headers ≡ true → is_lawful number r.headers ≡ true → length r.props ≡ property_length r.headers
+    → length r.text ≡ text_length r.headers
     → is_revision r ≡ true → is_node r ≡ false → written_number settings kept (revision_number r) < 10 ^ 18
     → ((block : List ℕ) → IsWrittenBlock settings kept r after block → length block + length r.text < 10 ^ 18)
-    → IsRevisionOutput settings kept (group_of r after) front → (place : ℕ) → (s : DumpRecord) × (s.place ≡ place) × IsReadAgain settings kept r front s
-revision_again settings kept number r after front block lawful props_fit text_fits rev no_node n_small fit (ps, is_ps, is) place = (
-  it place,
-  refl,
-  record {
-    feeds = 1;
-    spelled = is;
-    block = new_is_block number r block lawful text_fits either mid (bytes_eq revision_name) change stays props_there padded new small none;
-    lawful = new_lawful number r block lawful text_fits either mid (bytes_eq revision_name) change stays props_there padded new small none;
-    props_fit = lengths.0;
-    text_fits = lengths.1;
-    version = refl;
-    version_line = new_version_line number r block lawful text_fits either mid (bytes_eq revision_name) change stays
-        props_there padded new small none;
-    revision = lifted.revision;
-    node = lifted.node;
-    number = λ rev. number_is;
-    clean = record {
-      props = λ bad. bad.1 (new, here);
-      md5 = λ bad. no_kept bad.0;
-      sha1 = λ bad. no_kept bad.0;
-      merge = λ bad. no_kept bad.1.0;
-    };
-    output = λ again after. rw (lifted.revision ∙ rev) (new, here, written again after);
-  },
-)
+    → IsRevisionOutput settings kept (group_of r after) front → (place : ℕ) → (s : DumpRecord) × (s.place ≡ place)
+    × IsReadAgain settings kept r front s
+revision_again settings kept number r after front block lawful props_fit text_fits rev no_node n_small fit
+    (ps, is_ps, is) place = (
+      it place,
+      refl,
+      record {
+        feeds = 1;
+        spelled = is;
+        block = new_is_block number r block lawful text_fits either mid
+            (bytes_eq revision_name) change stays props_there padded new small none;
+        lawful = new_lawful number r block lawful text_fits either mid
+            (bytes_eq revision_name) change stays props_there padded new small none;
+        props_fit = lengths.0;
+        text_fits = lengths.1;
+        version = refl;
+        version_line = new_version_line number r block lawful text_fits either mid (bytes_eq revision_name) change stays
+            props_there padded new small none;
+        revision = lifted.revision;
+        node = lifted.node;
+        number = λ rev. number_is;
+        clean = record {
+          props = λ bad. bad.1 (new, here);
+          md5 = λ bad. no_kept bad.0;
+          sha1 = λ bad. no_kept bad.0;
+          merge = λ bad. no_kept bad.1.0;
+        };
+        output = λ again after. rw (lifted.revision ∙ rev) (new, here, written again after);
+      },
+    )
   where
     padded : Bool
     padded = is_padded settings (group_of r after)
@@ -207,11 +220,13 @@ revision_again settings kept number r after front block lawful props_fit text_fi
     none : (padded || has_header property_length_name r.headers) ≡ false → new ≡ []
     none missing =
         let plain : padded ≡ false = first_false padded _ missing in
-        let empty : r.props ≡ [] = no_bytes r.props (props_fit ∙ no_length property_length_name r.headers (second_false padded _ missing)) in
+        let empty : r.props ≡ [] = no_bytes r.props
+        (props_fit ∙ no_length property_length_name r.headers (second_false padded _ missing)) in
         rw plain (property_list_once r ps [] is_ps (no_list r empty))
 
     it : ℕ → DumpRecord
-    it = again number r block lawful text_fits either mid (bytes_eq revision_name) change stays props_there padded new small none
+    it = again number r block lawful text_fits either mid
+        (bytes_eq revision_name) change stays props_there padded new small none
 
     lines : List Header
     lines = with_lengths props r.text mid
@@ -222,32 +237,40 @@ revision_again settings kept number r after front block lawful props_fit text_fi
         new small none (λ deletes. is_ps.1 (padding_deletes padded ps deletes)) place
 
     lifted : StaysLawful r.headers lines
-    lifted = new_stays number r block lawful text_fits either mid (bytes_eq revision_name) change stays props_there padded new small none
+    lifted = new_stays number r block lawful text_fits either mid
+        (bytes_eq revision_name) change stays props_there padded new small none
 
     lengths : (length props ≡ property_length lines) × (length r.text ≡ text_length lines)
-    lengths = told_lengths props r.text lines small (told number r block lawful text_fits either mid (bytes_eq revision_name) change stays props_there padded new small none)
+    lengths = told_lengths props r.text lines small
+        (told number r block lawful text_fits either mid
+        (bytes_eq revision_name) change stays props_there padded new small none)
 
     number_told : IsTold revision_name n lines
     number_told =
         told_later revision_name n is_length_name mid lines (lengths_change props r.text mid small) refl
-        (told_put revision_name n r.headers (λ missing. absurd (absurd_bool (has_header revision_name r.headers) rev missing)))
+        (told_put revision_name n r.headers (λ missing. absurd
+        (absurd_bool (has_header revision_name r.headers) rev missing)))
 
     number_is : revision_number (it place) ≡ n
     number_is = (told_reads revision_name n lines n_small number_told).0
 
     no_kept : is_kept_node keep_all (it place) ≡ true → ⊥
-    no_kept is_kept = absurd_bool (has_header path_name lines) (first_true (has_header path_name lines) _ is_kept) (lifted.node ∙ no_node)
+    no_kept is_kept = absurd_bool (has_header path_name lines) (first_true (has_header path_name lines) _ is_kept)
+        (lifted.node ∙ no_node)
 
     same_number : with_header_value revision_name (spelled_number (revision_number (it place))) lines ≡ lines
     same_number =
         ap (λ m. with_header_value revision_name (spelled_number m) lines) number_is
         ∙ told_put_again revision_name n lines
-        (known_once revision_name refl lines (new_is_block number r block lawful text_fits either mid (bytes_eq revision_name) change stays props_there padded new small none)) number_told
+        (known_once revision_name refl lines (new_is_block number r block lawful text_fits either mid
+        (bytes_eq revision_name) change stays props_there padded new small none)) number_told
 
-    written : (again : KeptRevisions) (after : List DumpRecord) → front ≡ revision_text keep_all again (is_padded keep_all (group_of (it place) after)) (it place) new
+    written : (again : KeptRevisions) (after : List DumpRecord) → front ≡ revision_text keep_all again
+        (is_padded keep_all (group_of (it place) after)) (it place) new
     written again after =
         is ∙ sym (ap (λ p. revision_text keep_all again p (it place) new) (never_padded (it place) after)
-        ∙ ap (λ t. t ++ codes "\n") (same_text number r block lawful text_fits either mid (bytes_eq revision_name) change stays props_there padded new small none
+        ∙ ap (λ t. t ++ codes "\n") (same_text number r block lawful text_fits either mid
+        (bytes_eq revision_name) change stays props_there padded new small none
         (with_header_value revision_name (spelled_number (revision_number (it place))) lines) same_number))
 
 -- the lines of a kept node with its new copy source
@@ -262,14 +285,17 @@ record IsNodeLines (old new : List Header) : Type 0 where
   copied : has_header copy_path_name new ≡ true
       → (n : ℕ) × (n < 10 ^ 18) × (has_header copy_revision_name new ≡ true) × IsTold copy_revision_name n new
 
-number_there : (name : List ℕ) (headers : List Header) (n : ℕ) → header_number name headers ≡ Some n → has_header name headers ≡ true
+number_there : (name : List ℕ) (headers : List Header) (n : ℕ) → header_number name headers ≡ Some n
+    → has_header name headers ≡ true
 number_there name headers n is = by_case (has_header name headers) refl
   where
     by_case : (b : Bool) → has_header name headers ≡ b → has_header name headers ≡ true
     by_case true there = there
-    by_case false none = let bad : None ≡ Some n = sym (ap (option_and_then number_of) (no_value name headers none)) ∙ is in cc
+    by_case false none = let bad : None ≡ Some n = sym (ap (option_and_then number_of) (no_value name headers none))
+        ∙ is in cc
 
-node_lines : (settings : Settings) (kept : KeptRevisions) (number : ℕ) (r : DumpRecord) (mid : List Header) → RiseFrom kept.first kept.numbers
+node_lines : (settings : Settings) (kept : KeptRevisions) (number : ℕ) (r : DumpRecord) (mid : List Header)
+    → RiseFrom kept.first kept.numbers
     → is_lawful number r.headers ≡ true → IsNewCopy settings kept r mid → IsNodeLines r.headers mid
 node_lines settings kept number r mid rise lawful copy = by_plain (becomes_plain settings r) copy
   where
@@ -283,11 +309,13 @@ node_lines settings kept number r mid rise lawful copy = by_plain (becomes_plain
           touches = is_copy_line;
           change = change;
           stays = stays_plain r.headers own;
-          props_there = same_has is_copy_line r.headers (without_copy_headers r.headers) change property_length_name refl;
+          props_there = same_has is_copy_line r.headers
+              (without_copy_headers r.headers) change property_length_name refl;
           md5 = change.same md5_name refl;
           sha1 = change.same sha1_name refl;
           text_delta = change.same text_delta_name refl;
-          copied = λ there. absurd (absurd_bool (has_header copy_path_name (without_copy_headers r.headers)) there (gone copy_path_name refl r.headers));
+          copied = λ there. absurd (absurd_bool (has_header copy_path_name (without_copy_headers r.headers)) there
+              (gone copy_path_name refl r.headers));
         }
 
     same : is_copy r ≡ false → IsNodeLines r.headers r.headers
@@ -306,7 +334,8 @@ node_lines settings kept number r mid rise lawful copy = by_plain (becomes_plain
     new_fits old n true is = (image_fits kept old n rise is).1
     new_fits old n false is = omega (arith, is)
 
-    numbered : (old n : ℕ) → header_number copy_revision_name r.headers ≡ Some old → IsWrittenCopyNumber settings kept old n
+    numbered : (old n : ℕ) → header_number copy_revision_name r.headers ≡ Some old
+        → IsWrittenCopyNumber settings kept old n
         → IsNodeLines r.headers (with_header_value copy_revision_name (spelled_number n) r.headers)
     numbered old n is new_is =
         let before = header_small copy_revision_name r.headers old is in
@@ -326,17 +355,24 @@ node_lines settings kept number r mid rise lawful copy = by_plain (becomes_plain
             n,
             small,
             put_has copy_revision_name copy_revision_name (spelled_number n) r.headers ∙ there,
-            told_put copy_revision_name n r.headers (λ none. absurd (absurd_bool (has_header copy_revision_name r.headers) there none)),
+            told_put copy_revision_name n r.headers
+                (λ none. absurd (absurd_bool (has_header copy_revision_name r.headers) there none)),
           );
         }
 
-    by_copy : (b : Bool) → is_copy r ≡ b → MatchBool b ((old n : ℕ) × (header_number copy_revision_name r.headers ≡ Some old) × IsWrittenCopyNumber settings kept old n
-        × (mid ≡ with_header_value copy_revision_name (spelled_number n) r.headers)) (mid ≡ r.headers) → IsNodeLines r.headers mid
-    by_copy true is (old, n, read, new_is, lines) = subst (IsNodeLines r.headers) (sym lines) (numbered old n read new_is)
+    by_copy : (b : Bool) → is_copy r ≡ b → MatchBool b
+        ((old n : ℕ) × (header_number copy_revision_name r.headers ≡ Some old) × IsWrittenCopyNumber settings kept old n
+        × (mid ≡ with_header_value copy_revision_name (spelled_number n) r.headers)) (mid ≡ r.headers)
+        → IsNodeLines r.headers mid
+    by_copy true is (old, n, read, new_is, lines) = subst (IsNodeLines r.headers) (sym lines)
+        (numbered old n read new_is)
     by_copy false is lines = subst (IsNodeLines r.headers) (sym lines) (same is)
 
-    by_plain : (b : Bool) → MatchBool b (mid ≡ without_copy_headers r.headers) (MatchBool (is_copy r) ((old n : ℕ) × (header_number copy_revision_name r.headers ≡ Some old)
-        × IsWrittenCopyNumber settings kept old n × (mid ≡ with_header_value copy_revision_name (spelled_number n) r.headers)) (mid ≡ r.headers)) → IsNodeLines r.headers mid
+    by_plain : (b : Bool) → MatchBool b (mid ≡ without_copy_headers r.headers)
+        (MatchBool (is_copy r) ((old n : ℕ) × (header_number copy_revision_name r.headers ≡ Some old)
+        × IsWrittenCopyNumber settings kept old n ×
+        (mid ≡ with_header_value copy_revision_name (spelled_number n) r.headers)) (mid ≡ r.headers))
+        → IsNodeLines r.headers mid
     by_plain true lines = subst (IsNodeLines r.headers) (sym lines) plain
     by_plain false is = by_copy (is_copy r) refl is
 
@@ -356,7 +392,8 @@ IsNewValue settings kept p q b =
     ((value : List ℕ) × (q.value ≡ Some value) × IsNewMergeinfo settings kept (value_of p) value)
     (q.value ≡ p.value)
 
-own_property : (settings : Settings) (kept : KeptRevisions) → OwnValues settings kept → (p q : Property) → IsNewProperty settings kept p q
+own_property : (settings : Settings) (kept : KeptRevisions) → OwnValues settings kept → (p q : Property)
+    → IsNewProperty settings kept p q
     → IsReadable q × ((again : KeptRevisions) → IsNewProperty keep_all again q q)
 own_property settings kept values p q (name, value) = by_case (is_mergeinfo p) refl value
   where
@@ -396,7 +433,8 @@ same_deletes settings kept (p ∷ ps) [] all = absurd all
 same_deletes settings kept (p ∷ ps) (q ∷ qs) all =
     λ i. same_deleted settings kept p q all.0 i || same_deletes settings kept ps qs all.1 i
 
-own_properties : (settings : Settings) (kept : KeptRevisions) → OwnValues settings kept → (ps qs : List Property) → AreNewProperties settings kept ps qs
+own_properties : (settings : Settings) (kept : KeptRevisions) → OwnValues settings kept → (ps qs : List Property)
+    → AreNewProperties settings kept ps qs
     → All IsReadable qs × ((again : KeptRevisions) → AreNewProperties keep_all again qs qs)
 own_properties settings kept values [] [] all = (All-nil IsReadable, λ again. tt)
 own_properties settings kept values [] (q ∷ qs) all = absurd all
@@ -406,7 +444,8 @@ own_properties settings kept values (p ∷ ps) (q ∷ qs) all =
     let more = own_properties settings kept values ps qs all.1 in
     (All-cons IsReadable q qs one.0 more.0, λ again. (one.1 again, more.1 again))
 
-none_new : (settings : Settings) (kept : KeptRevisions) (ps qs : List Property) → ps ≡ [] → AreNewProperties settings kept ps qs → qs ≡ []
+none_new : (settings : Settings) (kept : KeptRevisions) (ps qs : List Property) → ps ≡ []
+    → AreNewProperties settings kept ps qs → qs ≡ []
 none_new settings kept [] [] none all = refl
 none_new settings kept [] (q ∷ qs) none all = absurd all
 none_new settings kept (p ∷ ps) qs none all = let bad : p ∷ ps ≡ [] = none in cc
@@ -420,15 +459,19 @@ never_plain s = never (is_copy s) _
 
 -- the lines of a copy stay as they stand
 stays_copy : (again : KeptRevisions) (s : DumpRecord) → is_block s.headers ≡ true
-    → (has_header copy_path_name s.headers ≡ true → (n : ℕ) × (n < 10 ^ 18) × (has_header copy_revision_name s.headers ≡ true) × IsTold copy_revision_name n s.headers)
+    → (has_header copy_path_name s.headers ≡ true → (n : ℕ) × (n < 10 ^ 18)
+    × (has_header copy_revision_name s.headers ≡ true) × IsTold copy_revision_name n s.headers)
     → IsNewCopy keep_all again s s.headers
 stays_copy again s block copied = rw (never_plain s) (by_copy (is_copy s) refl)
   where
-    by_copy : (b : Bool) → is_copy s ≡ b → MatchBool (is_copy s) ((old new : ℕ) × (header_number copy_revision_name s.headers ≡ Some old) × IsWrittenCopyNumber keep_all again old new
+    by_copy : (b : Bool) → is_copy s ≡ b → MatchBool (is_copy s)
+        ((old new : ℕ) × (header_number copy_revision_name s.headers ≡ Some old)
+        × IsWrittenCopyNumber keep_all again old new
         × (s.headers ≡ with_header_value copy_revision_name (spelled_number new) s.headers)) (s.headers ≡ s.headers)
     by_copy true is =
         let (n, small, there, told) = copied is in
-        let value = chosen (has_header copy_revision_name s.headers) (header_value copy_revision_name s.headers ≡ Some (spelled_number n)) (n ≡ 0) there told in
+        let value = chosen (has_header copy_revision_name s.headers)
+        (header_value copy_revision_name s.headers ≡ Some (spelled_number n)) (n ≡ 0) there told in
         rw is (
           n,
           n,
@@ -438,18 +481,23 @@ stays_copy again s block copied = rw (never_plain s) (by_copy (is_copy s) refl)
         )
     by_copy false is = rw is refl
 
-same_differs : (name : List ℕ) (r s : DumpRecord) (size : ℕ) (digest : List ℕ) → header_value name s.headers ≡ header_value name r.headers
+same_differs : (name : List ℕ) (r s : DumpRecord) (size : ℕ) (digest : List ℕ)
+    → header_value name s.headers ≡ header_value name r.headers
     → DiffersFromDigest name s size digest → DiffersFromDigest name r size digest
 same_differs name r s size digest same (there, differs) =
     (sym (same_there name r.headers s.headers same) ∙ there, λ digits is. differs digits (same ∙ is))
 
 -- a kept node
-pub node_again : (settings : Settings) (kept : KeptRevisions) (number : ℕ) (r : DumpRecord) (after : List DumpRecord) (front : List ℕ)
-    → is_block r.headers ≡ true → is_lawful number r.headers ≡ true → length r.props ≡ property_length r.headers → length r.text ≡ text_length r.headers
-    → is_revision r ≡ false → is_kept_node settings r ≡ true → RiseFrom kept.first kept.numbers → OwnValues settings kept
+pub node_again : (settings : Settings) (kept : KeptRevisions) (number : ℕ) (r : DumpRecord) (after : List DumpRecord)
+    (front : List ℕ)
+    → is_block r.headers ≡ true → is_lawful number r.headers ≡ true → length r.props ≡ property_length r.headers
+    → length r.text ≡ text_length r.headers
+    → is_revision r ≡ false → is_kept_node settings r ≡ true → RiseFrom kept.first kept.numbers
+    → OwnValues settings kept
     → ¬ HasBadMd5 settings r → ¬ HasBadSha1 settings r
     → ((block : List ℕ) → IsWrittenBlock settings kept r after block → length block + length r.text < 10 ^ 18)
-    → IsNodeOutput settings kept r front → (place : ℕ) → (s : DumpRecord) × (s.place ≡ place) × IsReadAgain settings kept r front s
+    → IsNodeOutput settings kept r front → (place : ℕ) → (s : DumpRecord) × (s.place ≡ place)
+    × IsReadAgain settings kept r front s
 node_again settings kept number r after front block lawful props_fit text_fits no_revision is_kept rise values no_md5 no_sha1 fit (mid, old, new, copy, is_old, all, is) place = (
   it place,
   refl,
@@ -518,7 +566,8 @@ node_again settings kept number r after front block lawful props_fit text_fits n
     lifted = new_stays number r block lawful text_fits either mid l.touches l.change l.stays l.props_there false new small none
 
     lengths : (length props ≡ property_length lines) × (length r.text ≡ text_length lines)
-    lengths = told_lengths props r.text lines small (told number r block lawful text_fits either mid l.touches l.change l.stays l.props_there false new small none)
+    lengths = told_lengths props r.text lines small
+        (told number r block lawful text_fits either mid l.touches l.change l.stays l.props_there false new small none)
 
     others : IsChange is_length_name mid lines
     others = lengths_change props r.text mid small
@@ -535,10 +584,17 @@ node_again settings kept number r after front block lawful props_fit text_fits n
     same_whole : has_whole_text (it place) ≡ has_whole_text r
     same_whole = rw (lifted.text, lifted.node, same_delta) refl
 
-    copied : has_header copy_path_name lines ≡ true → (n : ℕ) × (n < 10 ^ 18) × (has_header copy_revision_name lines ≡ true) × IsTold copy_revision_name n lines
+    copied : has_header copy_path_name lines ≡ true → (n : ℕ) × (n < 10 ^ 18)
+        × (has_header copy_revision_name lines ≡ true) × IsTold copy_revision_name n lines
     copied there =
-        let (n, few, revision, told) = l.copied (sym (same_has is_length_name mid lines others copy_path_name refl) ∙ there) in
-        (n, few, same_has is_length_name mid lines others copy_revision_name refl ∙ revision, told_later copy_revision_name n is_length_name mid lines others refl told)
+        let (n, few, revision, told) = l.copied (sym (same_has is_length_name mid lines others copy_path_name refl)
+        ∙ there) in (
+          n,
+          few,
+          same_has is_length_name mid lines others copy_revision_name refl
+              ∙ revision,
+          told_later copy_revision_name n is_length_name mid lines others refl told,
+        )
 
     own : All IsReadable new × ((again : KeptRevisions) → AreNewProperties keep_all again new new)
     own = own_properties settings kept values old new all
@@ -546,9 +602,11 @@ node_again settings kept number r after front block lawful props_fit text_fits n
     no_bad_merge : ¬ HasBadMergeinfo keep_all (it place)
     no_bad_merge (value, (keep, qs, is_qs, p, within, merge, same), bad) =
         let list : qs ≡ new = property_list_once (it place) qs new is_qs here in
-        let good = All-contains IsReadable new p own.0 (subst (λ (ps : List Property). Contains ps p) list within) merge in
+        let good = All-contains IsReadable new p own.0
+        (subst (λ (ps : List Property). Contains ps p) list within) merge in
         bad (subst HasMergeLines same good)
 
     written : front ≡ whole_text lines (new_block false (it place) new) r.text ++ codes "\n\n"
     written =
-        is ∙ sym (ap (λ t. t ++ codes "\n\n") (same_text number r block lawful text_fits either mid l.touches l.change l.stays l.props_there false new small none lines refl))
+        is ∙ sym (ap (λ t. t ++ codes "\n\n")
+        (same_text number r block lawful text_fits either mid l.touches l.change l.stays l.props_there false new small none lines refl))

@@ -26,7 +26,8 @@ use Rattle.dump_filter.proofs.again.Free.{free_again}
 use Rattle.dump_text.specs.declared.fault.FaultKind.TheVariants as faults
 
 -- of one record of the list
-at_split : (Q : DumpRecord → List DumpRecord → Type 0) (done before after : List DumpRecord) (r : DumpRecord) → AtEach (λ b x a. Q x a) done (before ++ r ∷ after) → Q r after
+at_split : (Q : DumpRecord → List DumpRecord → Type 0) (done before after : List DumpRecord) (r : DumpRecord)
+    → AtEach (λ b x a. Q x a) done (before ++ r ∷ after) → Q r after
 at_split Q done [] after r each = each.0
 at_split Q done (x ∷ before) after r each = at_split Q (done ++ x ∷ []) before after r each.1
 
@@ -34,7 +35,8 @@ at_split Q done (x ∷ before) after r each = at_split Q (done ++ x ∷ []) befo
 abbrev Stands : DumpRecord → Type 0
 Stands r = (number : ℕ) × (front behind : List ℕ) × BeginsWithRecord number front r behind
 
-stands_in : (number place : ℕ) (dump rest : List ℕ) (before after : List DumpRecord) (r : DumpRecord) → IsCutInto number place dump (before ++ r ∷ after) rest → Stands r
+stands_in : (number place : ℕ) (dump rest : List ℕ) (before after : List DumpRecord) (r : DumpRecord)
+    → IsCutInto number place dump (before ++ r ∷ after) rest → Stands r
 stands_in number place dump rest [] after r (lfs, front, behind, is, at, b, more) = (number, front, behind, b)
 stands_in number place dump rest (x ∷ before) after r (lfs, front, behind, is, at, b, more) =
     stands_in (number + 1) (x.place + length (record_text x)) behind rest before after r more
@@ -46,7 +48,8 @@ revision_small r = by_number (header_number revision_name r.headers) refl
     by_number None is = omega arith
     by_number (Some n) is = header_small revision_name r.headers n is
 
-module _ (settings : Settings) (dump text : List ℕ) (records : List DumpRecord) (clean : IsCleanText settings dump records text) (fit : LengthsFit settings records) where
+module _ (settings : Settings) (dump text : List ℕ) (records : List DumpRecord)
+    (clean : IsCleanText settings dump records text) (fit : LengthsFit settings records) where
   abbrev kept : KeptRevisions
   kept = kept_revisions settings records
 
@@ -58,12 +61,15 @@ module _ (settings : Settings) (dump text : List ℕ) (records : List DumpRecord
 
   values : OwnValues settings kept
   values old new is =
-      let own = λ (again : KeptRevisions). own_value settings kept old new rise (positive settings records) is keep_all again refl all_paths in
+      let own = λ (again : KeptRevisions). own_value settings kept old new rise
+      (positive settings records) is keep_all again refl all_paths in
       ((own kept).0, λ again. (own again).1)
 
   -- each record that is written is read again
-  record_again : (before after : List DumpRecord) (r : DumpRecord) → records ≡ before ++ r ∷ after → HasAgain settings kept r after
-  record_again before after r at front written output place = by_kind (is_revision r) (is_node r) refl refl written output
+  record_again : (before after : List DumpRecord) (r : DumpRecord) → records ≡ before ++ r ∷ after
+      → HasAgain settings kept r after
+  record_again before after r at front written output place = by_kind (is_revision r)
+      (is_node r) refl refl written output
     where
       stands : Stands r
       stands = stands_in 0 0 dump [] before after r (subst (λ (l : List DumpRecord). IsCutInto 0 0 dump l []) at cut)
@@ -77,23 +83,32 @@ module _ (settings : Settings) (dump text : List ℕ) (records : List DumpRecord
       above : is_revision r ≡ true → kept.first ≤ revision_number r
       above =
           at_split (λ x more. is_revision x ≡ true → kept.first ≤ revision_number x) [] before after r
-          (subst (λ (l : List DumpRecord). AtEach (λ done x more. is_revision x ≡ true → kept.first ≤ revision_number x) [] l) at
+          (subst (λ (l : List DumpRecord). AtEach (λ done x more. is_revision x ≡ true
+          → kept.first ≤ revision_number x) [] l) at
           (revisions_above settings records clean.fault_free))
 
-      number_small : is_revision r ≡ true → (renumber : Bool) → (if renumber then new_number kept (revision_number r) else revision_number r) < 10 ^ 18
-      number_small rev true = let below = new_number_fits kept (revision_number r) rise (above rev) in let small = revision_small r in omega (arith, below, small)
+      number_small : is_revision r ≡ true → (renumber : Bool)
+          → (if renumber then new_number kept (revision_number r) else revision_number r) < 10 ^ 18
+      number_small rev true = let below = new_number_fits kept (revision_number r) rise
+          (above rev) in let small = revision_small r in omega (arith, below, small)
       number_small rev false = revision_small r
 
       by_kind : (v n : Bool) → is_revision r ≡ v → is_node r ≡ n
-          → (if v then keeps_group settings (group_of r after) && (true || not (is_open after) || has_kept_node settings (group_of r after)) else if n then is_kept_node settings r else true) ≡ true
-          → MatchBool v (IsRevisionOutput settings kept (group_of r after) front) (MatchBool n (IsNodeOutput settings kept r front) (front ≡ block_text r.headers))
+          → (if v then keeps_group settings (group_of r after) &&
+          (true || not (is_open after) || has_kept_node settings
+          (group_of r after)) else if n then is_kept_node settings r else true) ≡ true
+          → MatchBool v (IsRevisionOutput settings kept (group_of r after) front)
+          (MatchBool n (IsNodeOutput settings kept r front) (front ≡ block_text r.headers))
           → (s : DumpRecord) × (s.place ≡ place) × IsReadAgain settings kept r front s
       by_kind true n rev node kept_group out =
-          let no_node : is_node r ≡ false = not_so (is_node r) (λ is. absurd_bool (is_revision r) rev (alone stands.0 r b.lawful is)) in
-          revision_again settings kept stands.0 r after front b.block b.lawful b.props_fit b.text_fits rev no_node (number_small rev settings.renumber) sizes out place
+          let no_node : is_node r ≡ false = not_so (is_node r)
+          (λ is. absurd_bool (is_revision r) rev (alone stands.0 r b.lawful is)) in
+          revision_again settings kept stands.0 r after front b.block b.lawful b.props_fit b.text_fits rev no_node
+          (number_small rev settings.renumber) sizes out place
       by_kind false true no_rev node keep out =
           node_again settings kept stands.0 r after front b.block b.lawful b.props_fit b.text_fits no_rev keep rise values
-          (clean.fault_free before after r at faults.Md5) (clean.fault_free before after r at faults.Sha1) sizes out place
+          (clean.fault_free before after r at faults.Md5)
+          (clean.fault_free before after r at faults.Sha1) sizes out place
       by_kind false false no_rev no_node always out = other_again settings kept stands.0 r front b.block b.lawful no_rev no_node out place
 
   pub whole_again : (again : List DumpRecord) × IsCleanText keep_all text again text

@@ -25,11 +25,13 @@ pub record IsClean (r : DumpRecord) : Type 0 where
 
 -- what is written of a record r is this record s, and some LFs; where everything is kept it stays as it stands. As the
 -- first record of a dump it is lawful where r is a version record. The version in force for it is that for r
-pub record IsReadAgain (settings : Settings) (kept : KeptRevisions) (r : DumpRecord) (front : List ℕ) (s : DumpRecord) : Type 0 where
+pub record IsReadAgain (settings : Settings) (kept : KeptRevisions) (r : DumpRecord) (front : List ℕ)
+    (s : DumpRecord) : Type 0 where
   pub feeds : ℕ
   pub spelled : front ≡ record_text s ++ line_feeds feeds
   pub block : is_block s.headers ≡ true
-  pub lawful : (number : ℕ) → (number ≡ 0 → has_header version_name r.headers ≡ true) → is_lawful number s.headers ≡ true
+  pub lawful : (number : ℕ) → (number ≡ 0 → has_header version_name r.headers ≡ true)
+      → is_lawful number s.headers ≡ true
   pub props_fit : length s.props ≡ property_length s.headers
   pub text_fits : length s.text ≡ text_length s.headers
   pub version : s.version ≡ r.version
@@ -50,6 +52,7 @@ AreReadAgain settings kept (r ∷ after) text again = (front rest : List ℕ) ×
     ((front ≡ []) × AreReadAgain settings kept after rest again)
 
 -- of each record, with those before it and behind it, this is so
-abbrev pub AtEach : (List DumpRecord → DumpRecord → List DumpRecord → Type 0) → List DumpRecord → List DumpRecord → Type 0
+abbrev pub AtEach : (List DumpRecord → DumpRecord → List DumpRecord → Type 0) → List DumpRecord → List DumpRecord
+    → Type 0
 AtEach P before [] = Unit {0}
 AtEach P before (r ∷ after) = P before r after × AtEach P (before ++ r ∷ []) after

@@ -28,9 +28,16 @@ no_bytes (b ∷ bytes) none = absurd (omega (arith, none))
 -- version and UUID records
 
 -- lines that break no rule in one place of a dump break none in another, but that a version record stands first
-pub any_number : (number m : ℕ) (headers : List Header) → is_lawful number headers ≡ true → (m ≡ 0 → has_header version_name headers ≡ true) → is_lawful m headers ≡ true
+pub any_number : (number m : ℕ) (headers : List Header) → is_lawful number headers ≡ true
+    → (m ≡ 0 → has_header version_name headers ≡ true) → is_lawful m headers ≡ true
 any_number number m headers lawful first =
-    rw (not_so (has_bad_kind headers) k.kind, version, not_so (has_bad_number headers) k.number_ok, not_so (has_bad_lengths headers) k.lengths) refl
+    rw (
+      not_so (has_bad_kind headers) k.kind,
+      version,
+      not_so (has_bad_number headers) k.number_ok,
+      not_so
+          (has_bad_lengths headers) k.lengths,
+    ) refl
   where
     k : Keeps number headers
     k = keeps number headers lawful
@@ -48,12 +55,15 @@ module _ (headers : List Header) (good : has_bad_kind headers ≡ false) (fine :
   one_of : (has_header version_name headers || has_header uuid_name headers) ≡ true
   one_of = cases (has_header version_name headers) (has_header uuid_name headers) refl refl
     where
-      cases : (v u : Bool) → has_header version_name headers ≡ v → has_header uuid_name headers ≡ u → (has_header version_name headers || has_header uuid_name headers) ≡ true
+      cases : (v u : Bool) → has_header version_name headers ≡ v → has_header uuid_name headers ≡ u
+          → (has_header version_name headers || has_header uuid_name headers) ≡ true
       cases true u is-v is-u = rw is-v refl
       cases false true is-v is-u = rw (is-v, is-u) refl
-      cases false false is-v is-u = absurd (absurd_bool (has_bad_kind headers) (rw (is-v, is-u, no_revision, no_node) refl) good)
+      cases false false is-v is-u = absurd (absurd_bool (has_bad_kind headers)
+          (rw (is-v, is-u, no_revision, no_node) refl) good)
 
-  no_lengths : (has_header property_length_name headers || (has_header text_length_name headers || (has_header content_length_name headers || false))) ≡ false
+  no_lengths : (has_header property_length_name headers ||
+      (has_header text_length_name headers || (has_header content_length_name headers || false))) ≡ false
   no_lengths = when_true _ _ one_of (second_false _ _ (first_false _ _ fine))
     where
       when_true : (a b : Bool) → a ≡ true → (a && b) ≡ false → b ≡ false
@@ -61,8 +71,11 @@ module _ (headers : List Header) (good : has_bad_kind headers ≡ false) (fine :
       when_true false b is none = cc
 
   pub no_content : (property_length headers ≡ 0) × (text_length headers ≡ 0)
-  no_content =
-      (no_length property_length_name headers (first_false _ _ no_lengths), no_length text_length_name headers (first_false _ _ (second_false _ _ no_lengths)))
+  no_content = (
+    no_length property_length_name headers (first_false _ _ no_lengths),
+    no_length text_length_name headers
+        (first_false _ _ (second_false _ _ no_lengths)),
+  )
 
 -- what the new lines of a revision or node keep
 
@@ -81,7 +94,8 @@ stays_same number headers lawful =
       copy_number = first_false _ _ (second_false _ _ numbers);
     }
 
-pub stays_revision : (old : List Header) (n : ℕ) → n < 10 ^ 18 → has_header revision_name old ≡ true → StaysLawful old old → StaysLawful old (with_header_value revision_name (spelled_number n) old)
+pub stays_revision : (old : List Header) (n : ℕ) → n < 10 ^ 18 → has_header revision_name old ≡ true
+    → StaysLawful old old → StaysLawful old (with_header_value revision_name (spelled_number n) old)
 stays_revision old n small has stays =
     let v = spelled_number n in
     let other = (put_change revision_name v old (spelled_line n small)).same in
@@ -92,25 +106,41 @@ stays_revision old n small has stays =
       revision = put_has revision_name revision_name v old;
       node = put_has path_name revision_name v old;
       text = put_has text_length_name revision_name v old;
-      copies = rw (put_has path_name revision_name v old, put_has copy_revision_name revision_name v old, put_has copy_path_name revision_name v old) stays.copies;
+      copies = rw (
+        put_has path_name revision_name v old,
+        put_has copy_revision_name revision_name v old,
+        put_has copy_path_name revision_name v old,
+      ) stays.copies;
       revision_number = (told_reads revision_name n (with_header_value revision_name v old) small told).1;
-      copy_number = rw (put_has copy_revision_name revision_name v old, other copy_revision_name refl) stays.copy_number;
+      copy_number = rw (
+        put_has copy_revision_name revision_name v old,
+        other copy_revision_name refl,
+      ) stays.copy_number;
     }
 
-pub stays_copy_number : (old : List Header) (n : ℕ) → n < 10 ^ 18 → has_header copy_revision_name old ≡ true → StaysLawful old old
+pub stays_copy_number : (old : List Header) (n : ℕ) → n < 10 ^ 18 → has_header copy_revision_name old ≡ true
+    → StaysLawful old old
     → StaysLawful old (with_header_value copy_revision_name (spelled_number n) old)
 stays_copy_number old n small has stays =
     let v = spelled_number n in
     let other = (put_change copy_revision_name v old (spelled_line n small)).same in
-    let told = told_put copy_revision_name n old (λ none. absurd (absurd_bool (has_header copy_revision_name old) has none)) in
+    let told = told_put copy_revision_name n old (λ none. absurd
+    (absurd_bool (has_header copy_revision_name old) has none)) in
     record {
       version = put_has version_name copy_revision_name v old;
       uuid = put_has uuid_name copy_revision_name v old;
       revision = put_has revision_name copy_revision_name v old;
       node = put_has path_name copy_revision_name v old;
       text = put_has text_length_name copy_revision_name v old;
-      copies = rw (put_has path_name copy_revision_name v old, put_has copy_revision_name copy_revision_name v old, put_has copy_path_name copy_revision_name v old) stays.copies;
-      revision_number = rw (put_has revision_name copy_revision_name v old, other revision_name refl) stays.revision_number;
+      copies = rw (
+        put_has path_name copy_revision_name v old,
+        put_has copy_revision_name copy_revision_name v old,
+        put_has copy_path_name copy_revision_name v old,
+      ) stays.copies;
+      revision_number = rw (
+        put_has revision_name copy_revision_name v old,
+        other revision_name refl,
+      ) stays.revision_number;
       copy_number = (told_reads copy_revision_name n (with_header_value copy_revision_name v old) small told).1;
     }
 
@@ -123,8 +153,12 @@ stays_plain old stays =
       revision = same_has is_copy_line old (without_copy_headers old) change revision_name refl;
       node = same_has is_copy_line old (without_copy_headers old) change path_name refl;
       text = same_has is_copy_line old (without_copy_headers old) change text_length_name refl;
-      copies = rw (gone copy_revision_name refl old, gone copy_path_name refl old) (never (has_header path_name (without_copy_headers old)));
-      revision_number = rw (same_has is_copy_line old (without_copy_headers old) change revision_name refl, change.same revision_name refl) stays.revision_number;
+      copies = rw (gone copy_revision_name refl old, gone copy_path_name refl old)
+          (never (has_header path_name (without_copy_headers old)));
+      revision_number = rw (
+        same_has is_copy_line old (without_copy_headers old) change revision_name refl,
+        change.same revision_name refl,
+      ) stays.revision_number;
       copy_number = rw (gone copy_revision_name refl old) refl;
     }
   where
@@ -132,7 +166,8 @@ stays_plain old stays =
     never true = refl
     never false = refl
 
-stays_lengths : (old mid : List Header) (props text : List ℕ) → length props + length text < 10 ^ 18 → StaysLawful old mid → StaysLawful old (with_lengths props text mid)
+stays_lengths : (old mid : List Header) (props text : List ℕ) → length props + length text < 10 ^ 18
+    → StaysLawful old mid → StaysLawful old (with_lengths props text mid)
 stays_lengths old mid props text small stays =
     let new = with_lengths props text mid in
     let change = lengths_change props text mid small in
@@ -147,15 +182,26 @@ stays_lengths old mid props text small stays =
         same_has is_length_name mid new change copy_revision_name refl,
         same_has is_length_name mid new change copy_path_name refl,
       ) stays.copies;
-      revision_number = rw (same_has is_length_name mid new change revision_name refl, change.same revision_name refl) stays.revision_number;
-      copy_number = rw (same_has is_length_name mid new change copy_revision_name refl, change.same copy_revision_name refl) stays.copy_number;
+      revision_number = rw (
+        same_has is_length_name mid new change revision_name refl,
+        change.same revision_name refl,
+      ) stays.revision_number;
+      copy_number = rw (
+        same_has is_length_name mid new change copy_revision_name refl,
+        change.same copy_revision_name refl,
+      ) stays.copy_number;
     }
 
 -- the record that is written of a revision or node r: under new lines, and with the lengths of its new properties
-module _ (number : ℕ) (r : DumpRecord) (is_lines : is_block r.headers ≡ true) (lawful : is_lawful number r.headers ≡ true) (fits : length r.text ≡ text_length r.headers)
-    (either : (has_header revision_name r.headers || has_header path_name r.headers) ≡ true) (mid : List Header) (touches : List ℕ → Bool) (change : IsChange touches r.headers mid)
-    (stays : StaysLawful r.headers mid) (props_there : has_header property_length_name mid ≡ has_header property_length_name r.headers) (padded : Bool) (new : List Property)
-    (small : length (new_block padded r new) + length r.text < 10 ^ 18) (none : (padded || has_header property_length_name r.headers) ≡ false → new ≡ []) where
+module _ (number : ℕ) (r : DumpRecord) (is_lines : is_block r.headers ≡ true)
+    (lawful : is_lawful number r.headers ≡ true) (fits : length r.text ≡ text_length r.headers)
+    (either : (has_header revision_name r.headers || has_header path_name r.headers) ≡ true) (mid : List Header)
+    (touches : List ℕ → Bool) (change : IsChange touches r.headers mid)
+    (stays : StaysLawful r.headers mid)
+    (props_there : has_header property_length_name mid ≡ has_header property_length_name r.headers) (padded : Bool)
+    (new : List Property)
+    (small : length (new_block padded r new) + length r.text < 10 ^ 18)
+    (none : (padded || has_header property_length_name r.headers) ≡ false → new ≡ []) where
   abbrev pub props : List ℕ
   props = new_block padded r new
 
@@ -180,11 +226,13 @@ module _ (number : ℕ) (r : DumpRecord) (is_lines : is_block r.headers ≡ true
       stay : (name : List ℕ) → has_header name lines ≡ true → is_block lines ≡ true
       stay name has =
           block_stays (λ other. touches other || is_length_name other) r.headers lines
-          (both_changes touches r.headers mid lines is_length_name change (lengths_change props r.text mid small)) name has is_lines
+          (both_changes touches r.headers mid lines is_length_name change
+          (lengths_change props r.text mid small)) name has is_lines
 
       by_revision : (b : Bool) → has_header revision_name r.headers ≡ b → is_block lines ≡ true
       by_revision true is = stay revision_name (new_stays.revision ∙ is)
-      by_revision false is = stay path_name (new_stays.node ∙ sym (ap (λ b. b || has_header path_name r.headers) is) ∙ either)
+      by_revision false is = stay path_name (new_stays.node ∙ sym (ap (λ b. b || has_header path_name r.headers) is)
+          ∙ either)
 
   pub new_lawful : (m : ℕ) → (m ≡ 0 → has_header version_name r.headers ≡ true) → is_lawful m lines ≡ true
   new_lawful = lawful_again number r.headers lines lawful either new_stays props r.text small told
@@ -199,8 +247,10 @@ module _ (number : ℕ) (r : DumpRecord) (is_lines : is_block r.headers ≡ true
   reads : IsPropertyBlock props new
   reads = by_block (padded || has_header property_length_name r.headers) refl small
     where
-      by_block : (b : Bool) → (padded || has_header property_length_name r.headers) ≡ b → length (if b then property_block_text new else []) + length r.text < 10 ^ 18
-          → IsPropertyBlock (if padded || has_header property_length_name r.headers then property_block_text new else []) new
+      by_block : (b : Bool) → (padded || has_header property_length_name r.headers) ≡ b
+          → length (if b then property_block_text new else []) + length r.text < 10 ^ 18
+          → IsPropertyBlock
+          (if padded || has_header property_length_name r.headers then property_block_text new else []) new
       by_block true is few = rw is (short_block new (omega (arith, few)))
       by_block false is few = rw is (inl (refl, none is))
 
@@ -211,7 +261,9 @@ module _ (number : ℕ) (r : DumpRecord) (is_lines : is_block r.headers ≡ true
   same_props : new_block false (again 0) new ≡ props
   same_props = by_block (padded || has_header property_length_name r.headers) refl told.props_told
     where
-      some_there : (b : Bool) → has_header property_length_name lines ≡ b → MatchBool b (header_value property_length_name lines ≡ Some (spelled_number (length (property_block_text new))))
+      some_there : (b : Bool) → has_header property_length_name lines ≡ b
+          → MatchBool b (header_value property_length_name lines ≡ Some
+          (spelled_number (length (property_block_text new))))
           (length (property_block_text new) ≡ 0) → has_header property_length_name lines ≡ true
       some_there true is t = is
       some_there false is t = absurd (some_bytes t)
@@ -223,19 +275,23 @@ module _ (number : ℕ) (r : DumpRecord) (is_lines : is_block r.headers ≡ true
           → IsTold property_length_name (length props) lines → new_block false (again 0) new ≡ props
       by_block true is t =
           let full : props ≡ property_block_text new = rw is refl in
-          let there = some_there (has_header property_length_name lines) refl (subst (λ (bytes : List ℕ). IsTold property_length_name (length bytes) lines) full t) in
+          let there = some_there (has_header property_length_name lines) refl
+          (subst (λ (bytes : List ℕ). IsTold property_length_name (length bytes) lines) full t) in
           rw there (sym full)
       by_block false is t =
           let empty : props ≡ [] = rw is refl in
           let missing : has_header property_length_name lines ≡ false =
-          props_stay props r.text mid small (ap length empty) (props_there ∙ second_false padded (has_header property_length_name r.headers) is) in
+          props_stay props r.text mid small (ap length empty)
+          (props_there ∙ second_false padded (has_header property_length_name r.headers) is) in
           rw missing (sym empty)
 
   same_lines : with_lengths props r.text lines ≡ lines
   same_lines = lengths_again props r.text lines new_is_block told
 
   -- whatever lines are the same, what is written is the same
-  pub same_text : (headers : List Header) → headers ≡ lines → whole_text headers (new_block false (again 0) new) r.text ≡ whole_text mid props r.text
+  pub same_text : (headers : List Header) → headers ≡ lines
+      → whole_text headers (new_block false (again 0) new) r.text ≡ whole_text mid props r.text
   same_text headers same =
-      ap (λ (bytes : List ℕ). whole_text headers bytes r.text) same_props ∙ ap (λ (l : List Header). whole_text l props r.text) same
+      ap (λ (bytes : List ℕ). whole_text headers bytes r.text) same_props
+      ∙ ap (λ (l : List Header). whole_text l props r.text) same
       ∙ ap (λ (l : List Header). block_text l ++ props ++ r.text) same_lines

@@ -23,15 +23,18 @@ use Rattle.dump_filter.proofs.again.ReadAgain.{IsReadAgain, AreReadAgain, AtEach
 -- of each record
 
 at_each_behind : (P : List DumpRecord → DumpRecord → List DumpRecord → Type 0) (done rest : List DumpRecord)
-    → ((before after : List DumpRecord) (r : DumpRecord) → done ++ rest ≡ before ++ r ∷ after → P before r after) → AtEach P done rest
+    → ((before after : List DumpRecord) (r : DumpRecord) → done ++ rest ≡ before ++ r ∷ after → P before r after)
+    → AtEach P done rest
 at_each_behind P done [] holds = tt
 at_each_behind P done (r ∷ rest) holds = (
   holds done rest r refl,
-  at_each_behind P (done ++ r ∷ []) rest (λ before after x is. holds before after x (sym (append_assoc done (r ∷ []) rest) ∙ is)),
+  at_each_behind P (done ++ r ∷ []) rest (λ before after x is. holds before after x
+      (sym (append_assoc done (r ∷ []) rest) ∙ is)),
 )
 
 pub at_each : (P : List DumpRecord → DumpRecord → List DumpRecord → Type 0) (records : List DumpRecord)
-    → ((before after : List DumpRecord) (r : DumpRecord) → records ≡ before ++ r ∷ after → P before r after) → AtEach P [] records
+    → ((before after : List DumpRecord) (r : DumpRecord) → records ≡ before ++ r ∷ after → P before r after)
+    → AtEach P [] records
 at_each P records holds = at_each_behind P [] records holds
 
 -- the first record of a dump
@@ -100,26 +103,33 @@ versions_again settings kept before (r ∷ rest) text again lawful (version, hav
 
 -- what is written of a record, if it is written, is a record again, wherever it comes to stand
 abbrev pub HasAgain : Settings → KeptRevisions → DumpRecord → List DumpRecord → Type 0
-HasAgain settings kept r after = (front : List ℕ) → is_written settings true r after ≡ true → IsOutput settings kept r after front
+HasAgain settings kept r after = (front : List ℕ) → is_written settings true r after ≡ true
+    → IsOutput settings kept r after front
     → (place : ℕ) → (s : DumpRecord) × (s.place ≡ place) × IsReadAgain settings kept r front s
 
 module _ (settings : Settings) (kept : KeptRevisions) where
   -- the text, with LFs before it, is cut into what is written of the records
   abbrev IsAgain : ℕ → ℕ → ℕ → List DumpRecord → List ℕ → Type 0
   IsAgain number place pending records text =
-      (again : List DumpRecord) × IsCutInto number place (line_feeds pending ++ text) again [] × AreReadAgain settings kept records text again
+      (again : List DumpRecord) × IsCutInto number place (line_feeds pending ++ text) again []
+      × AreReadAgain settings kept records text again
 
   abbrev AreLater : ℕ → List DumpRecord → List ℕ → Type 0
-  AreLater old rest behind = (number place pending : ℕ) → (number ≡ 0 → old ≡ 0) → IsAgain number place pending rest behind
+  AreLater old rest behind = (number place pending : ℕ) → (number ≡ 0 → old ≡ 0)
+      → IsAgain number place pending rest behind
 
-  again_written : (r s : DumpRecord) (rest : List DumpRecord) (front behind text : List ℕ) (old number place pending : ℕ) → is_lawful old r.headers ≡ true
-      → (number ≡ 0 → old ≡ 0) → is_written settings true r rest ≡ true → text ≡ front ++ behind → s.place ≡ place + pending
-      → IsReadAgain settings kept r front s → AreLater (old + 1) rest behind → IsAgain number place pending (r ∷ rest) text
+  again_written : (r s : DumpRecord) (rest : List DumpRecord) (front behind text : List ℕ)
+      (old number place pending : ℕ) → is_lawful old r.headers ≡ true
+      → (number ≡ 0 → old ≡ 0) → is_written settings true r rest ≡ true → text ≡ front ++ behind
+      → s.place ≡ place + pending
+      → IsReadAgain settings kept r front s → AreLater (old + 1) rest behind → IsAgain number place pending
+      (r ∷ rest) text
   again_written r s rest front behind text old number place pending lawful low written is at read later =
       let next = later (number + 1) (s.place + length (record_text s)) read.feeds (λ none. absurd (omega arith)) in
       let stands : BeginsWithRecord number text s (line_feeds read.feeds ++ behind) = record {
         block = read.block;
-        lawful = read.lawful number (λ none. version_first r (subst (λ (n : ℕ). is_lawful n r.headers ≡ true) (low none) lawful));
+        lawful = read.lawful number (λ none. version_first r
+            (subst (λ (n : ℕ). is_lawful n r.headers ≡ true) (low none) lawful));
         props_fit = read.props_fit;
         text_fits = read.text_fits;
         spelled = is ∙ ap (λ t. t ++ behind) read.spelled ∙ append_assoc (record_text s) (line_feeds read.feeds) behind;
@@ -129,11 +139,14 @@ module _ (settings : Settings) (kept : KeptRevisions) where
         (front, behind, is, rw written (s, next.0, refl, read, next.2)),
       )
 
-  read_dropped : (r : DumpRecord) (rest : List DumpRecord) (front behind text : List ℕ) (again : List DumpRecord) → is_written settings true r rest ≡ false
-      → text ≡ front ++ behind → front ≡ [] → AreReadAgain settings kept rest behind again → AreReadAgain settings kept (r ∷ rest) text again
+  read_dropped : (r : DumpRecord) (rest : List DumpRecord) (front behind text : List ℕ) (again : List DumpRecord)
+      → is_written settings true r rest ≡ false
+      → text ≡ front ++ behind → front ≡ [] → AreReadAgain settings kept rest behind again
+      → AreReadAgain settings kept (r ∷ rest) text again
   read_dropped r rest front behind text again dropped is none reads = (front, behind, is, rw dropped (none, reads))
 
-  again_dropped : (r : DumpRecord) (rest : List DumpRecord) (front behind text : List ℕ) (old number place pending : ℕ) → is_lawful old r.headers ≡ true
+  again_dropped : (r : DumpRecord) (rest : List DumpRecord) (front behind text : List ℕ) (old number place pending : ℕ)
+      → is_lawful old r.headers ≡ true
       → (number ≡ 0 → old ≡ 0) → is_written settings true r rest ≡ false → text ≡ front ++ behind → front ≡ []
       → AreLater (old + 1) rest behind → IsAgain number place pending (r ∷ rest) text
   again_dropped r rest front behind text old number place pending lawful low dropped is none later =
@@ -149,32 +162,39 @@ module _ (settings : Settings) (kept : KeptRevisions) where
           absurd (absurd_bool (is_written settings true r rest)
           (first_written settings r rest (subst (λ (n : ℕ). is_lawful n r.headers ≡ true) (low first) lawful)) dropped)
 
-  records_behind : (old old_place : ℕ) (dump : List ℕ) (before records : List DumpRecord) → IsCutInto old old_place dump records []
-      → AtEach (λ done r after. HasAgain settings kept r after) before records → (text : List ℕ) → AreOutputs settings true kept records text
+  records_behind : (old old_place : ℕ) (dump : List ℕ) (before records : List DumpRecord)
+      → IsCutInto old old_place dump records []
+      → AtEach (λ done r after. HasAgain settings kept r after) before records → (text : List ℕ)
+      → AreOutputs settings true kept records text
       → (number place pending : ℕ) → (number ≡ 0 → old ≡ 0) → IsAgain number place pending records text
   records_behind old old_place dump before [] cut each text none number place pending low =
       ([], (pending, ap (λ t. line_feeds pending ++ t) none, refl), (none, refl))
-  records_behind old old_place dump before (r ∷ rest) (lfs, start, end, cut_is, at, b, cut) each text (front, behind, is, this, more) number place pending low =
+  records_behind old old_place dump before (r ∷ rest) (lfs, start, end, cut_is, at, b, cut) each text
+      (front, behind, is, this, more) number place pending low =
       cases (is_written settings true r rest) refl this
       (records_behind (old + 1) (r.place + length (record_text r)) end (before ++ r ∷ []) rest cut each.1 behind more)
     where
-      cases : (w : Bool) → is_written settings true r rest ≡ w → MatchBool w (IsOutput settings kept r rest front) (front ≡ [])
+      cases : (w : Bool) → is_written settings true r rest ≡ w → MatchBool w (IsOutput settings kept r rest front)
+          (front ≡ [])
           → AreLater (old + 1) rest behind → IsAgain number place pending (r ∷ rest) text
       cases true written output later =
           let found = each.0 front written output (place + pending) in
           again_written r found.0 rest front behind text old number place pending b.lawful low written is found.1 found.2 later
       cases false dropped none later = again_dropped r rest front behind text old number place pending b.lawful low dropped is none later
 
-pub records_again : (settings : Settings) (kept : KeptRevisions) (dump text : List ℕ) (records : List DumpRecord) → IsCutInto 0 0 dump records []
+pub records_again : (settings : Settings) (kept : KeptRevisions) (dump text : List ℕ) (records : List DumpRecord)
+    → IsCutInto 0 0 dump records []
     → AtEach (λ before r after. HasAgain settings kept r after) [] records → AreOutputs settings true kept records text
     → (again : List DumpRecord) × IsCutInto 0 0 text again [] × AreReadAgain settings kept records text again
 records_again settings kept dump text records cut each outputs = records_behind settings kept 0 0 dump [] records cut each text outputs 0 0 0 (λ first. refl)
 
 -- a dump that has a record has one again
-pub some_again : (settings : Settings) (kept : KeptRevisions) (dump text : List ℕ) (records again : List DumpRecord) → IsCutInto 0 0 dump records []
+pub some_again : (settings : Settings) (kept : KeptRevisions) (dump text : List ℕ) (records again : List DumpRecord)
+    → IsCutInto 0 0 dump records []
     → 0 < length records → AreReadAgain settings kept records text again → 0 < length again
 some_again settings kept dump text [] again cut some read = absurd (omega arith)
-some_again settings kept dump text (r ∷ rest) again (lfs, start, end, cut_is, at, b, cut) some (front, behind, is, this) =
+some_again settings kept dump text (r ∷ rest) again (lfs, start, end, cut_is, at, b, cut) some
+    (front, behind, is, this) =
     let found = rw (first_written settings r rest b.lawful) at this in
     let same : again ≡ found.0 ∷ found.1 = found.2 in
     subst (λ (l : List DumpRecord). 0 < length l) (sym same) (omega arith)
@@ -191,25 +211,31 @@ pub all_written : (s : DumpRecord) (after : List DumpRecord) → is_written keep
 all_written s after = cases (is_revision s) (is_node s) refl refl
   where
     cases : (v n : Bool) → is_revision s ≡ v → is_node s ≡ n → is_written keep_all true s after ≡ true
-    cases true n rev node = rw rev (both_true (keeps_group keep_all (group_of s after)) true (all_groups (group_of s after)) refl)
+    cases true n rev node = rw rev (both_true (keeps_group keep_all (group_of s after)) true
+        (all_groups (group_of s after)) refl)
     cases false true other node = rw (other, node) refl
     cases false false other no_node = rw (other, no_node) refl
 
 -- what is written of the records again is the same text
-pub outputs_again : (settings : Settings) (kept : KeptRevisions) (records : List DumpRecord) (text : List ℕ) (again : List DumpRecord)
+pub outputs_again : (settings : Settings) (kept : KeptRevisions) (records : List DumpRecord) (text : List ℕ)
+    (again : List DumpRecord)
     → AreReadAgain settings kept records text again → (all : KeptRevisions) → AreOutputs keep_all true all again text
-outputs_again settings kept [] text again (none, no_more) all = subst (λ (l : List DumpRecord). AreOutputs keep_all true all l text) (sym no_more) none
+outputs_again settings kept [] text again (none, no_more) all = subst
+    (λ (l : List DumpRecord). AreOutputs keep_all true all l text) (sym no_more) none
 outputs_again settings kept (r ∷ rest) text again (front, behind, is, this) all =
     cases (is_written settings true r rest) this (λ more read. outputs_again settings kept rest behind more read all)
   where
     cases : (w : Bool)
         → MatchBool w
-        ((s : DumpRecord) × (more : List DumpRecord) × (again ≡ s ∷ more) × IsReadAgain settings kept r front s × AreReadAgain settings kept rest behind more)
+        ((s : DumpRecord) × (more : List DumpRecord) × (again ≡ s ∷ more) × IsReadAgain settings kept r front s
+        × AreReadAgain settings kept rest behind more)
         ((front ≡ []) × AreReadAgain settings kept rest behind again)
-        → ((more : List DumpRecord) → AreReadAgain settings kept rest behind more → AreOutputs keep_all true all more behind)
+        → ((more : List DumpRecord) → AreReadAgain settings kept rest behind more
+        → AreOutputs keep_all true all more behind)
         → AreOutputs keep_all true all again text
     cases true (s, more, same, read, reads) later =
         subst (λ (l : List DumpRecord). AreOutputs keep_all true all l text) (sym same)
         (front, behind, is, rw (all_written s more) (read.output all more), later more reads)
     cases false (none, reads) later =
-        subst (λ (t : List ℕ). AreOutputs keep_all true all again t) (sym (is ∙ ap (λ t. t ++ behind) none)) (later again reads)
+        subst (λ (t : List ℕ). AreOutputs keep_all true all again t) (sym (is ∙ ap (λ t. t ++ behind) none))
+        (later again reads)

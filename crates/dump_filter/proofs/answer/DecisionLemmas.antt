@@ -365,7 +365,8 @@ so true e = refl
 so false e = cc
 
 -- the fault of mergeinfo is the same under equal settings and numbers
-same_merge_fault : (settings : Settings) (first present : ℕ) (options : Settings) (from at : ℕ) (ok : Bool) (ps : List Property)
+same_merge_fault : (settings : Settings) (first present : ℕ) (options : Settings) (from at : ℕ) (ok : Bool)
+    (ps : List Property)
     → settings ≡ options → first ≡ from → present ≡ at
     → merge_fault settings first present ok ps ≡ merge_fault options from at ok ps
 same_merge_fault settings first present options from at ok ps e f g =
@@ -373,7 +374,8 @@ same_merge_fault settings first present options from at ok ps e f g =
     ∙ ap (λ n. merge_fault options from n ok ps) g
 
 -- the fate of a kept node, by what its copy source becomes and by the fault that was found of its mergeinfo
-pub node_fate_is : (settings options : Settings) (s : State) (r : DumpRecord) (ok : Bool) (ps : List Property) (first present : ℕ)
+pub node_fate_is : (settings options : Settings) (s : State) (r : DumpRecord) (ok : Bool) (ps : List Property)
+    (first present : ℕ)
     (copy : CopyChange) (found : Option FaultKind)
     → settings ≡ options → first ≡ s.revisions.kept.first → present ≡ node_revision s.revisions
     → copy_change options (front_kept s.revisions.kept s.group) (node_revision s.revisions) r ≡ Ok copy
@@ -381,8 +383,10 @@ pub node_fate_is : (settings options : Settings) (s : State) (r : DumpRecord) (o
     → kept_unless found copy ≡ node_fate options s r ok ps
 node_fate_is settings options s r ok ps first present copy found e f g copied is =
     ap (λ (fault : Option FaultKind). kept_unless fault copy)
-    (is ∙ same_merge_fault settings first present options s.revisions.kept.first (node_revision s.revisions) ok ps e f g)
-    ∙ sym (ap (λ (c : Result CopyChange FaultKind). with_fault c (merge_fault options s.revisions.kept.first (node_revision s.revisions) ok ps))
+    (is ∙ same_merge_fault settings first present options s.revisions.kept.first
+    (node_revision s.revisions) ok ps e f g)
+    ∙ sym (ap (λ (c : Result CopyChange FaultKind). with_fault c
+    (merge_fault options s.revisions.kept.first (node_revision s.revisions) ok ps))
     copied)
 
 -- a kept node has the fate of a node, and a revision is held

@@ -32,24 +32,30 @@ Misses settings r = (value : List ℕ) × IsMergeinfoValueOf settings r value ×
 
 -- a kept node has mergeinfo with a number that the dump can't have
 abbrev pub IsForeign : Settings → KeptRevisions → ℕ → DumpRecord → Type 0
-IsForeign settings kept present r = (value : List ℕ) × IsMergeinfoValueOf settings r value × HasForeignNumber settings kept present value
+IsForeign settings kept present r = (value : List ℕ) × IsMergeinfoValueOf settings r value
+    × HasForeignNumber settings kept present value
 
 -- what is found of a node's mergeinfo
 abbrev pub MergeJudged : Settings → KeptRevisions → ℕ → DumpRecord → Option FaultKind → Type 0
-MergeJudged settings kept present r None = (¬ HasBadMergeinfo settings r) × (¬ Misses settings r) × (¬ IsForeign settings kept present r)
+MergeJudged settings kept present r None = (¬ HasBadMergeinfo settings r) × (¬ Misses settings r)
+    × (¬ IsForeign settings kept present r)
 MergeJudged settings kept present r (Some fault) = ((fault ≡ faults.MergeInfo) × HasBadMergeinfo settings r)
     ⊎ ((fault ≡ faults.MergeSource) × (¬ HasBadMergeinfo settings r) × Misses settings r)
-    ⊎ ((fault ≡ faults.MergeRange) × (¬ HasBadMergeinfo settings r) × (¬ Misses settings r) × IsForeign settings kept present r)
+    ⊎ ((fault ≡ faults.MergeRange) × (¬ HasBadMergeinfo settings r) × (¬ Misses settings r)
+    × IsForeign settings kept present r)
 
 -- the properties of a kept node
-module _ (settings : Settings) (r : DumpRecord) (keep : is_kept_node settings r ≡ true) (ps : List Property) (block : HasPropertyList r ps) where
+module _ (settings : Settings) (r : DumpRecord) (keep : is_kept_node settings r ≡ true) (ps : List Property)
+    (block : HasPropertyList r ps) where
   own_value : (p : Property) → Contains ps p → is_mergeinfo p ≡ true → IsMergeinfoValueOf settings r (value_of p)
   own_value p within is = (keep, ps, block, p, within, is, refl)
 
-  none_passes : (passes : Property → Bool) → list_any passes ps ≡ false → (qs : List Property) → HasPropertyList r qs → (p : Property) → Contains qs p → passes p ≡ true → ⊥
+  none_passes : (passes : Property → Bool) → list_any passes ps ≡ false → (qs : List Property) → HasPropertyList r qs
+      → (p : Property) → Contains qs p → passes p ≡ true → ⊥
   none_passes passes none qs other p within so =
       let same : qs ≡ ps = property_list_once r qs ps other block in
-      absurd_bool (list_any passes ps) (finds passes ps p (subst (λ (l : List Property). Contains l p) same within) so) none
+      absurd_bool (list_any passes ps) (finds passes ps p
+      (subst (λ (l : List Property). Contains l p) same within) so) none
 
   module _ (kept : KeptRevisions) (present : ℕ) (fine : ¬ HasBadMergeinfo settings r) where
     lines_of : (p : Property) → Contains ps p → is_mergeinfo p ≡ true → HasMergeLines (value_of p)
@@ -58,24 +64,35 @@ module _ (settings : Settings) (r : DumpRecord) (keep : is_kept_node settings r 
     some_misses : list_any (misses settings) ps ≡ true → Misses settings r
     some_misses some =
         let (p, within, so) = found (misses settings) ps some in
-        let is = first_true (is_mergeinfo p) (value_misses settings (value_of p)) so in
-        (value_of p, own_value p within is, missing_there settings (value_of p) (lines_of p within is) (second_true (is_mergeinfo p) (value_misses settings (value_of p)) so))
+        let is = first_true (is_mergeinfo p) (value_misses settings (value_of p)) so in (
+          value_of p,
+          own_value p within is,
+          missing_there settings (value_of p) (lines_of p within is)
+              (second_true (is_mergeinfo p) (value_misses settings (value_of p)) so),
+        )
 
     none_misses : list_any (misses settings) ps ≡ false → ¬ Misses settings r
     none_misses none (value, (kept, qs, other, p, within, is, same), missing) =
         none_passes (misses settings) none qs other p within
-        (both_true (is_mergeinfo p) (value_misses settings (value_of p)) is (missing_back settings (value_of p) (subst (HasMissingSource settings) (sym same) missing)))
+        (both_true (is_mergeinfo p) (value_misses settings (value_of p)) is
+        (missing_back settings (value_of p) (subst (HasMissingSource settings) (sym same) missing)))
 
     some_is_foreign : list_any (is_foreign settings kept.first present) ps ≡ true → IsForeign settings kept present r
     some_is_foreign some =
         let (p, within, so) = found (is_foreign settings kept.first present) ps some in
-        let is = first_true (is_mergeinfo p) (value_foreign settings kept.first present (value_of p)) so in
-        (value_of p, own_value p within is, foreign_there settings kept present (value_of p) (lines_of p within is) (second_true (is_mergeinfo p) (value_foreign settings kept.first present (value_of p)) so))
+        let is = first_true (is_mergeinfo p) (value_foreign settings kept.first present (value_of p)) so in (
+          value_of p,
+          own_value p within is,
+          foreign_there settings kept present (value_of p) (lines_of p within is)
+              (second_true (is_mergeinfo p) (value_foreign settings kept.first present (value_of p)) so),
+        )
 
     none_is_foreign : list_any (is_foreign settings kept.first present) ps ≡ false → ¬ IsForeign settings kept present r
     none_is_foreign none (value, (keeps, qs, other, p, within, is, same), bad) =
         none_passes (is_foreign settings kept.first present) none qs other p within
-        (both_true (is_mergeinfo p) (value_foreign settings kept.first present (value_of p)) is (foreign_back settings kept present (value_of p) (subst (HasForeignNumber settings kept present) (sym same) bad)))
+        (both_true (is_mergeinfo p) (value_foreign settings kept.first present (value_of p)) is
+        (foreign_back settings kept present (value_of p)
+        (subst (HasForeignNumber settings kept present) (sym same) bad)))
 
     values_judged : MergeJudged settings kept present r (merge_fault settings kept.first present true ps)
     values_judged = by_source (list_any (misses settings) ps) refl
@@ -86,13 +103,15 @@ module _ (settings : Settings) (r : DumpRecord) (keep : is_kept_node settings r 
         by_range sources false none = (fine, sources, none_is_foreign none)
 
         by_source : (b : Bool) → list_any (misses settings) ps ≡ b → MergeJudged settings kept present r
-            (if b then Some faults.MergeSource else if list_any (is_foreign settings kept.first present) ps then Some faults.MergeRange else None)
+            (if b then Some faults.MergeSource else if list_any
+            (is_foreign settings kept.first present) ps then Some faults.MergeRange else None)
         by_source true some = inr (inl (refl, fine, some_misses some))
         by_source false none = by_range (none_misses none) (list_any (is_foreign settings kept.first present) ps) refl
 
   pub merge_judged : (kept : KeptRevisions) (present : ℕ) (ok : Bool) → IsFalse ok ↔ ∥ HasBadMergeinfo settings r ∥₁
       → MergeJudged settings kept present r (merge_fault settings kept.first present ok ps)
-  merge_judged kept present true means = values_judged kept present (λ bad. absurd (false_true (sym (means.1 ∣ bad ∣₁))))
+  merge_judged kept present true means = values_judged kept present
+      (λ bad. absurd (false_true (sym (means.1 ∣ bad ∣₁))))
   merge_judged kept present false means = inl (refl, bad)
     where
       bad : HasBadMergeinfo settings r
@@ -111,7 +130,8 @@ lines_told settings r keep fine (qs, list) ps block p within is none =
 
 -- a kept node's properties are asked for
 pub asked_node : (d : Done) → IsReadNode d → IsTrue (is_asked (done_settings d) (record_item (done_record d)))
-asked_node d (kept, ok) = either_second (is_revision (record_item (done_record d))) (is_kept_node (done_settings d) (record_item (done_record d))) kept
+asked_node d (kept, ok) = either_second (is_revision (record_item (done_record d)))
+    (is_kept_node (done_settings d) (record_item (done_record d))) kept
 
 -- each value of its mergeinfo is some lines
 pub read_lines : (d : Done) → IsReadNode d → HasPropertyBlock (record_item (done_record d))

@@ -18,7 +18,8 @@ pub take_cons : (n : ℕ) (x : DumpRecord) (xs : List DumpRecord) → take (1 + 
 take_cons n x xs = let e : 1 + n ≡ suc n = omega arith in ap (λ m. take m (x ∷ xs)) e
 
 -- the nodes at the front end before a record that is no node
-nodes_before : (xs zs : List DumpRecord) (y : DumpRecord) → is_node y ≡ false → take_while is_node (xs ++ y ∷ zs) ≡ take_while is_node xs
+nodes_before : (xs zs : List DumpRecord) (y : DumpRecord) → is_node y ≡ false
+    → take_while is_node (xs ++ y ∷ zs) ≡ take_while is_node xs
 nodes_before [] zs y other = rw other refl
 nodes_before (x ∷ xs) zs y other = cases (is_node x) refl (nodes_before xs zs y other)
   where
@@ -29,10 +30,13 @@ nodes_before (x ∷ xs) zs y other = cases (is_node x) refl (nodes_before xs zs 
         ∙ sym (take_cons (prefix_len is_node xs) x xs))
     cases false is more = rw is refl
 
-pub group_before : (x : DumpRecord) (xs zs : List DumpRecord) (y : DumpRecord) → is_node y ≡ false → group_of x (xs ++ y ∷ zs) ≡ group_of x xs
-group_before x xs zs y other = ap (λ (ns : List DumpRecord). record { revision = x; nodes = ns }) (nodes_before xs zs y other)
+pub group_before : (x : DumpRecord) (xs zs : List DumpRecord) (y : DumpRecord) → is_node y ≡ false
+    → group_of x (xs ++ y ∷ zs) ≡ group_of x xs
+group_before x xs zs y other = ap (λ (ns : List DumpRecord). record { revision = x; nodes = ns })
+    (nodes_before xs zs y other)
 
-pub groups_before : (xs zs : List DumpRecord) (y : DumpRecord) → is_node y ≡ false → groups (xs ++ y ∷ zs) ≡ groups xs ++ groups (y ∷ zs)
+pub groups_before : (xs zs : List DumpRecord) (y : DumpRecord) → is_node y ≡ false
+    → groups (xs ++ y ∷ zs) ≡ groups xs ++ groups (y ∷ zs)
 groups_before [] zs y other = refl
 groups_before (x ∷ xs) zs y other = cases (is_revision x) refl (groups_before xs zs y other)
   where
@@ -69,7 +73,8 @@ no_groups (n ∷ ns) all =
     rw other (no_groups ns (second_true (is_plain n) (list_all is_plain ns) all))
 
 -- the group of a revision and nodes behind it
-pub own_group : (y : DumpRecord) (ns : List DumpRecord) → list_all is_plain ns ≡ true → group_of y ns ≡ record { revision = y; nodes = ns }
+pub own_group : (y : DumpRecord) (ns : List DumpRecord) → list_all is_plain ns ≡ true
+    → group_of y ns ≡ record { revision = y; nodes = ns }
 own_group y ns all = ap (λ (t : List DumpRecord). record { revision = y; nodes = t }) (take_nodes ns all)
 
 pub groups_revision : (y : DumpRecord) (ns : List DumpRecord) → is_revision y ≡ true → list_all is_plain ns ≡ true
@@ -80,12 +85,14 @@ groups_revision y ns is all = rw is (ap (λ (g : Group). g ∷ groups ns) (own_g
 pub groups_other : (y : DumpRecord) → is_revision y ≡ false → groups (y ∷ []) ≡ []
 groups_other y is = rw is refl
 
-pub plain_more : (ns : List DumpRecord) (r : DumpRecord) → list_all is_plain ns ≡ true → is_plain r ≡ true → list_all is_plain (ns ++ r ∷ []) ≡ true
+pub plain_more : (ns : List DumpRecord) (r : DumpRecord) → list_all is_plain ns ≡ true → is_plain r ≡ true
+    → list_all is_plain (ns ++ r ∷ []) ≡ true
 plain_more ns r all one = list_all-append is_plain ns (r ∷ []) ∙ rw (all, one) refl
 
 pub any_more : (settings : Settings) (ns : List DumpRecord) (r : DumpRecord)
     → list_any (is_kept_node settings) (ns ++ r ∷ []) ≡ (list_any (is_kept_node settings) ns || is_kept_node settings r)
-any_more settings ns r = list_any-append (is_kept_node settings) ns (r ∷ []) ∙ ap (λ b. list_any (is_kept_node settings) ns || b) (or_false (is_kept_node settings r))
+any_more settings ns r = list_any-append (is_kept_node settings) ns (r ∷ [])
+    ∙ ap (λ b. list_any (is_kept_node settings) ns || b) (or_false (is_kept_node settings r))
   where
     or_false : (b : Bool) → (b || false) ≡ b
     or_false true = refl
@@ -109,10 +116,13 @@ module _ (settings : Settings) (k : KeptRevisions) where
       either true false c = refl
       either false b c = refl
 
-      cases : (b : Bool) → is_revision x ≡ b → is_written settings ended x (xs ++ y ∷ zs) ≡ is_written settings true x xs
+      cases : (b : Bool) → is_revision x ≡ b → is_written settings ended x
+          (xs ++ y ∷ zs) ≡ is_written settings true x xs
       cases true is = rw is
-          (ap (λ (g : Group). keeps_group settings g && (ended || not (is_open (xs ++ y ∷ zs)) || has_kept_node settings g)) (group_before x xs zs y other)
-          ∙ ap (λ b. keeps_group settings (group_of x xs) && (ended || not b || has_kept_node settings (group_of x xs))) closed
+          (ap (λ (g : Group). keeps_group settings g &&
+          (ended || not (is_open (xs ++ y ∷ zs)) || has_kept_node settings g)) (group_before x xs zs y other)
+          ∙ ap (λ b. keeps_group settings (group_of x xs) &&
+          (ended || not b || has_kept_node settings (group_of x xs))) closed
           ∙ either (keeps_group settings (group_of x xs)) ended (has_kept_node settings (group_of x xs)))
       cases false is = rw is refl
 
@@ -122,19 +132,24 @@ module _ (settings : Settings) (k : KeptRevisions) where
       (MatchBool (is_node r) (IsNodeOutput settings k r text) (text ≡ block_text r.headers))
 
   -- the group of a record that is no revision doesn't matter
-  plain_output : (r : DumpRecord) (g h : Group) (text : List ℕ) → is_revision r ≡ false → OutputBy r g text → OutputBy r h text
+  plain_output : (r : DumpRecord) (g h : Group) (text : List ℕ) → is_revision r ≡ false → OutputBy r g text
+      → OutputBy r h text
   plain_output r g h text other out =
-      subst (λ (b : Bool). MatchBool b (IsRevisionOutput settings k h text) (MatchBool (is_node r) (IsNodeOutput settings k r text) (text ≡ block_text r.headers))) (sym other)
-      (subst (λ (b : Bool). MatchBool b (IsRevisionOutput settings k g text) (MatchBool (is_node r) (IsNodeOutput settings k r text) (text ≡ block_text r.headers))) other out)
+      subst (λ (b : Bool). MatchBool b (IsRevisionOutput settings k h text)
+      (MatchBool (is_node r) (IsNodeOutput settings k r text) (text ≡ block_text r.headers))) (sym other)
+      (subst (λ (b : Bool). MatchBool b (IsRevisionOutput settings k g text)
+      (MatchBool (is_node r) (IsNodeOutput settings k r text) (text ≡ block_text r.headers))) other out)
 
   abbrev WrittenBy : Bool → DumpRecord → Group → List ℕ → Type 0
   WrittenBy b r g text = MatchBool b (OutputBy r g text) (text ≡ [])
 
-  moved_output : (b c : Bool) (r : DumpRecord) (g h : Group) (text : List ℕ) → b ≡ c → g ≡ h → WrittenBy b r g text → WrittenBy c r h text
+  moved_output : (b c : Bool) (r : DumpRecord) (g h : Group) (text : List ℕ) → b ≡ c → g ≡ h → WrittenBy b r g text
+      → WrittenBy c r h text
   moved_output b c r g h text same group out =
       subst (λ (d : Bool). WrittenBy d r h text) same (subst (λ (i : Group). WrittenBy b r i text) group out)
 
-  plain_written : (b c : Bool) (r : DumpRecord) (g h : Group) (text : List ℕ) → is_revision r ≡ false → b ≡ c → WrittenBy b r g text → WrittenBy c r h text
+  plain_written : (b c : Bool) (r : DumpRecord) (g h : Group) (text : List ℕ) → is_revision r ≡ false → b ≡ c
+      → WrittenBy b r g text → WrittenBy c r h text
   plain_written b c r g h text other same out = subst (λ (d : Bool). WrittenBy d r h text) same (by_case b out)
     where
       by_case : (d : Bool) → WrittenBy d r g text → WrittenBy d r h text
@@ -143,7 +158,8 @@ module _ (settings : Settings) (k : KeptRevisions) where
 
   pub outputs_cut : (ended : Bool) (xs zs : List DumpRecord) (y : DumpRecord) (text : List ℕ) → is_node y ≡ false
       → AreOutputs settings ended k (xs ++ y ∷ zs) text
-      → (front rest : List ℕ) × (text ≡ front ++ rest) × AreOutputs settings true k xs front × AreOutputs settings ended k (y ∷ zs) rest
+      → (front rest : List ℕ) × (text ≡ front ++ rest) × AreOutputs settings true k xs front
+      × AreOutputs settings ended k (y ∷ zs) rest
   outputs_cut ended [] zs y text other out = ([], text, refl, refl, out)
   outputs_cut ended (x ∷ xs) zs y text other (front, rest, is, this, more) =
       let left = outputs_cut ended xs zs y rest other more in (
@@ -154,7 +170,8 @@ module _ (settings : Settings) (k : KeptRevisions) where
           front,
           left.0,
           refl,
-          moved_output _ _ x (group_of x (xs ++ y ∷ zs)) (group_of x xs) front (written_before ended x xs zs y other) (group_before x xs zs y other) this,
+          moved_output _ _ x (group_of x (xs ++ y ∷ zs)) (group_of x xs) front (written_before ended x xs zs y other)
+              (group_before x xs zs y other) this,
           left.3,
         ),
         left.4,
@@ -169,7 +186,8 @@ module _ (settings : Settings) (k : KeptRevisions) where
     first,
     more ++ rest,
     ap (λ t. t ++ rest) is ∙ append_assoc first more rest,
-    moved_output _ _ x (group_of x xs) (group_of x (xs ++ y ∷ zs)) first (sym (written_before ended x xs zs y other)) (sym (group_before x xs zs y other)) this,
+    moved_output _ _ x (group_of x xs) (group_of x (xs ++ y ∷ zs)) first (sym (written_before ended x xs zs y other))
+        (sym (group_before x xs zs y other)) this,
     outputs_join ended xs zs y more rest other out behind,
   )
 
@@ -177,12 +195,15 @@ module _ (settings : Settings) (k : KeptRevisions) where
   abbrev pub OwnOutput : DumpRecord → List ℕ → Type 0
   OwnOutput r text = MatchBool (is_kept_node settings r) (IsNodeOutput settings k r text) (text ≡ [])
 
-  node_written : (ended : Bool) (r : DumpRecord) (after : List DumpRecord) → is_plain r ≡ true → is_written settings ended r after ≡ is_kept_node settings r
+  node_written : (ended : Bool) (r : DumpRecord) (after : List DumpRecord) → is_plain r ≡ true
+      → is_written settings ended r after ≡ is_kept_node settings r
   node_written ended r after plain = rw (plain_other r plain, plain_node r plain) refl
 
   node_output : (r : DumpRecord) (after : List DumpRecord) (text : List ℕ) → is_plain r ≡ true → OwnOutput r text
       → (ended : Bool) → MatchBool (is_written settings ended r after) (IsOutput settings k r after text) (text ≡ [])
-  node_output r after text plain own ended = subst (λ (b : Bool). MatchBool b (IsOutput settings k r after text) (text ≡ [])) (sym (node_written ended r after plain))
+  node_output r after text plain own ended = subst
+      (λ (b : Bool). MatchBool b (IsOutput settings k r after text) (text ≡ []))
+      (sym (node_written ended r after plain))
       (rw (plain_other r plain, plain_node r plain) (rw (plain_node r plain) at own))
 
   -- one more node behind nodes
@@ -210,29 +231,36 @@ module _ (settings : Settings) (k : KeptRevisions) where
         front,
         rest,
         is,
-        plain_written _ _ n (group_of n ns) (group_of n ns) front (plain_other n one) (node_written ended n ns one ∙ sym (node_written last n ns one)) this,
+        plain_written _ _ n (group_of n ns) (group_of n ns) front (plain_other n one)
+            (node_written ended n ns one ∙ sym (node_written last n ns one)) this,
         nodes_end ended last ns rest (second_true (is_plain n) (list_all is_plain ns) all) more,
       )
 
   -- nothing is written of nodes of which none is kept
-  pub nodes_dropped : (ended : Bool) (ns : List DumpRecord) (text : List ℕ) → list_all is_plain ns ≡ true → list_any (is_kept_node settings) ns ≡ false
+  pub nodes_dropped : (ended : Bool) (ns : List DumpRecord) (text : List ℕ) → list_all is_plain ns ≡ true
+      → list_any (is_kept_node settings) ns ≡ false
       → AreOutputs settings ended k ns text → text ≡ []
   nodes_dropped ended [] text all none out = out
   nodes_dropped ended (n ∷ ns) text all none (front, rest, is, this, more) =
       let one = first_true (is_plain n) (list_all is_plain ns) all in
       let no_own = first_false (is_kept_node settings n) (list_any (is_kept_node settings) ns) none in
-      let nothing : front ≡ [] = subst (λ (b : Bool). MatchBool b (IsOutput settings k n ns front) (front ≡ [])) (node_written ended n ns one ∙ no_own) this in
+      let nothing : front ≡ [] = subst (λ (b : Bool). MatchBool b (IsOutput settings k n ns front) (front ≡ []))
+      (node_written ended n ns one ∙ no_own) this in
       is ∙ ap (λ t. t ++ rest) nothing
-      ∙ nodes_dropped ended ns rest (second_true (is_plain n) (list_all is_plain ns) all) (second_false (is_kept_node settings n) (list_any (is_kept_node settings) ns) none) more
+      ∙ nodes_dropped ended ns rest (second_true (is_plain n) (list_all is_plain ns) all)
+      (second_false (is_kept_node settings n) (list_any (is_kept_node settings) ns) none) more
 
   -- a revision whose group has a kept node is written
   rev_kept : (ended : Bool) (y : DumpRecord) (ns : List DumpRecord) → is_revision y ≡ true → list_all is_plain ns ≡ true
       → list_any (is_kept_node settings) ns ≡ true → is_written settings ended y ns ≡ true
   rev_kept ended y ns rev all some =
       rw rev
-      (ap (λ (g : Group). keeps_group settings g && (ended || not (is_open ns) || has_kept_node settings g)) (own_group y ns all)
-      ∙ ap (λ b. (group_number (record { revision = y; nodes = ns }) == 0 || b || keeps_empty settings.empty (is_bare (record { revision = y; nodes = ns }))) && (ended || not (is_open ns) || b)) some
-      ∙ all_true (revision_number y == 0) (keeps_empty settings.empty (is_bare (record { revision = y; nodes = ns }))) ended (not (is_open ns)))
+      (ap (λ (g : Group). keeps_group settings g && (ended || not (is_open ns) || has_kept_node settings g))
+      (own_group y ns all)
+      ∙ ap (λ b. (group_number (record { revision = y; nodes = ns }) == 0 || b || keeps_empty settings.empty
+      (is_bare (record { revision = y; nodes = ns }))) && (ended || not (is_open ns) || b)) some
+      ∙ all_true (revision_number y == 0) (keeps_empty settings.empty
+      (is_bare (record { revision = y; nodes = ns }))) ended (not (is_open ns)))
     where
       all_true : (a e b c : Bool) → (((a || true) || e) && ((b || c) || true)) ≡ true
       all_true true e true c = refl
@@ -247,7 +275,8 @@ module _ (settings : Settings) (k : KeptRevisions) where
       → list_any (is_kept_node settings) ns ≡ false → is_written settings false y ns ≡ false
   rev_waits y ns rev all none =
       rw rev
-      (ap (λ (g : Group). keeps_group settings g && (false || not (is_open ns) || has_kept_node settings g)) (own_group y ns all)
+      (ap (λ (g : Group). keeps_group settings g && (false || not (is_open ns) || has_kept_node settings g))
+      (own_group y ns all)
       ∙ ap (λ b. keeps_group settings (record { revision = y; nodes = ns }) && (not (is_open ns) || b)) none
       ∙ ap (λ b. keeps_group settings (record { revision = y; nodes = ns }) && (not b || false)) (all_nodes ns all)
       ∙ and_false (keeps_group settings (record { revision = y; nodes = ns })))
@@ -269,28 +298,42 @@ module _ (settings : Settings) (k : KeptRevisions) where
       and_true false = refl
 
   -- what is written of a revision, by its group
-  own_output : (y : DumpRecord) (ns : List DumpRecord) (text : List ℕ) → is_revision y ≡ true → list_all is_plain ns ≡ true
+  own_output : (y : DumpRecord) (ns : List DumpRecord) (text : List ℕ) → is_revision y ≡ true
+      → list_all is_plain ns ≡ true
       → IsRevisionOutput settings k (record { revision = y; nodes = ns }) text → IsOutput settings k y ns text
-  own_output y ns text rev all out = rw rev (subst (λ (g : Group). IsRevisionOutput settings k g text) (sym (own_group y ns all)) out)
+  own_output y ns text rev all out = rw rev (subst (λ (g : Group). IsRevisionOutput settings k g text)
+      (sym (own_group y ns all)) out)
 
-  output_own : (y : DumpRecord) (ns : List DumpRecord) (text : List ℕ) → is_revision y ≡ true → list_all is_plain ns ≡ true
+  output_own : (y : DumpRecord) (ns : List DumpRecord) (text : List ℕ) → is_revision y ≡ true
+      → list_all is_plain ns ≡ true
       → IsOutput settings k y ns text → IsRevisionOutput settings k (record { revision = y; nodes = ns }) text
-  output_own y ns text rev all out = subst (λ (g : Group). IsRevisionOutput settings k g text) (own_group y ns all) (rw rev at out)
+  output_own y ns text rev all out = subst (λ (g : Group). IsRevisionOutput settings k g text) (own_group y ns all)
+      (rw rev at out)
 
   -- a revision with a kept node isn't padded, whatever other nodes follow
-  pub unpadded : (y : DumpRecord) (ns : List DumpRecord) → list_any (is_kept_node settings) ns ≡ true → is_padded settings (record { revision = y; nodes = ns }) ≡ false
-  unpadded y ns some = ap (λ b. not (is_bare (record { revision = y; nodes = ns })) && not b && is_pad settings.empty && not settings.preserve) some
+  pub unpadded : (y : DumpRecord) (ns : List DumpRecord) → list_any (is_kept_node settings) ns ≡ true
+      → is_padded settings (record { revision = y; nodes = ns }) ≡ false
+  unpadded y ns some = ap
+      (λ b. not
+      (is_bare (record { revision = y; nodes = ns })) && not b && is_pad settings.empty && not settings.preserve) some
       ∙ none (is_bare (record { revision = y; nodes = ns })) (is_pad settings.empty) (not settings.preserve)
     where
       none : (a c d : Bool) → (not a && false && c && d) ≡ false
       none true c d = refl
       none false c d = refl
 
-  passed_output : (y : DumpRecord) (ns ms : List DumpRecord) (text : List ℕ) → is_revision y ≡ true → list_all is_plain ns ≡ true → list_all is_plain ms ≡ true
-      → list_any (is_kept_node settings) ns ≡ true → list_any (is_kept_node settings) ms ≡ true → IsOutput settings k y ns text → IsOutput settings k y ms text
+  passed_output : (y : DumpRecord) (ns ms : List DumpRecord) (text : List ℕ) → is_revision y ≡ true
+      → list_all is_plain ns ≡ true → list_all is_plain ms ≡ true
+      → list_any (is_kept_node settings) ns ≡ true → list_any (is_kept_node settings) ms ≡ true
+      → IsOutput settings k y ns text → IsOutput settings k y ms text
   passed_output y ns ms text rev all all' some some' out =
       let own = output_own y ns text rev all out in
-      own_output y ms text rev all' (own.0, own.1, own.2 ∙ ap (λ b. revision_text settings k b y own.0) (unpadded y ns some ∙ sym (unpadded y ms some')))
+      own_output y ms text rev all' (
+        own.0,
+        own.1,
+        own.2 ∙ ap (λ b. revision_text settings k b y own.0)
+            (unpadded y ns some ∙ sym (unpadded y ms some')),
+      )
 
 -- a list that ends with the group of a revision
 module _ (settings : Settings) (k : KeptRevisions) (closed ns : List DumpRecord) (y : DumpRecord) (text : List ℕ)
@@ -328,21 +371,25 @@ module _ (settings : Settings) (k : KeptRevisions) (closed ns : List DumpRecord)
       → AreOutputs settings ended k (closed ++ y ∷ ms) new
   joined ended ms own nodes new own_out nodes_out is =
       subst (AreOutputs settings ended k (closed ++ y ∷ ms)) (sym is)
-      (outputs_join settings k ended closed ms y parts.before (own ++ nodes) other parts.closed_out (own, nodes, refl, own_out, nodes_out))
+      (outputs_join settings k ended closed ms y parts.before (own ++ nodes) other parts.closed_out
+      (own, nodes, refl, own_out, nodes_out))
 
   -- behind a kept node a node adds what is written of it
   pub passed_more : (r : DumpRecord) (own : List ℕ) → is_plain r ≡ true → list_any (is_kept_node settings) ns ≡ true
       → OwnOutput settings k r own → AreOutputs settings false k (closed ++ y ∷ (ns ++ r ∷ [])) (text ++ own)
   passed_more r own plain some mine =
       let p = parts in
-      let more : list_any (is_kept_node settings) (ns ++ r ∷ []) ≡ true = any_more settings ns r ∙ ap (λ b. b || is_kept_node settings r) some in
+      let more : list_any (is_kept_node settings) (ns ++ r ∷ []) ≡ true = any_more settings ns r
+      ∙ ap (λ b. b || is_kept_node settings r) some in
       joined false (ns ++ r ∷ []) p.own (p.nodes ++ own) (text ++ own)
       (subst (λ (b : Bool). MatchBool b (IsOutput settings k y (ns ++ r ∷ []) p.own) (p.own ≡ []))
       (sym (rev_kept settings k false y (ns ++ r ∷ []) rev (plain_more ns r all plain) more))
       (passed_output settings k y ns (ns ++ r ∷ []) p.own rev all (plain_more ns r all plain) some more
-      (subst (λ (b : Bool). MatchBool b (IsOutput settings k y ns p.own) (p.own ≡ [])) (rev_kept settings k false y ns rev all some) p.own_out)))
+      (subst (λ (b : Bool). MatchBool b (IsOutput settings k y ns p.own) (p.own ≡ []))
+      (rev_kept settings k false y ns rev all some) p.own_out)))
       (nodes_more settings k false false ns r p.nodes own all plain p.nodes_out mine)
-      (ap (λ t. t ++ own) p.is ∙ append_assoc p.before (p.own ++ p.nodes) own ∙ ap (λ t. p.before ++ t) (append_assoc p.own p.nodes own))
+      (ap (λ t. t ++ own) p.is ∙ append_assoc p.before (p.own ++ p.nodes) own
+      ∙ ap (λ t. p.before ++ t) (append_assoc p.own p.nodes own))
 
   -- and the end adds nothing
   pub passed_end : list_any (is_kept_node settings) ns ≡ true → AreOutputs settings true k (closed ++ y ∷ ns) text
@@ -358,28 +405,36 @@ module _ (settings : Settings) (k : KeptRevisions) (closed ns : List DumpRecord)
   nothing : list_any (is_kept_node settings) ns ≡ false → text ≡ parts.before
   nothing none =
       let p = parts in
-      let no_own : p.own ≡ [] = subst (λ (b : Bool). MatchBool b (IsOutput settings k y ns p.own) (p.own ≡ [])) (rev_waits settings k y ns rev all none) p.own_out in
+      let no_own : p.own ≡ [] = subst (λ (b : Bool). MatchBool b (IsOutput settings k y ns p.own) (p.own ≡ []))
+      (rev_waits settings k y ns rev all none) p.own_out in
       let no_nodes : p.nodes ≡ [] = nodes_dropped settings k false ns p.nodes all none p.nodes_out in
       p.is ∙ ap (λ t. p.before ++ (t ++ p.nodes)) no_own ∙ ap (λ t. p.before ++ t) no_nodes ∙ append-nil p.before
 
   empty_nodes : list_any (is_kept_node settings) ns ≡ false → AreOutputs settings false k ns []
-  empty_nodes none = subst (AreOutputs settings false k ns) (nodes_dropped settings k false ns parts.nodes all none parts.nodes_out) parts.nodes_out
+  empty_nodes none = subst (AreOutputs settings false k ns)
+      (nodes_dropped settings k false ns parts.nodes all none parts.nodes_out) parts.nodes_out
 
-  rev_output : (ended : Bool) (ms : List DumpRecord) (rt : List ℕ) → list_all is_plain ms ≡ true → is_written settings ended y ms ≡ true
+  rev_output : (ended : Bool) (ms : List DumpRecord) (rt : List ℕ) → list_all is_plain ms ≡ true
+      → is_written settings ended y ms ≡ true
       → IsRevisionOutput settings k (record { revision = y; nodes = ms }) rt
       → MatchBool (is_written settings ended y ms) (IsOutput settings k y ms rt) (rt ≡ [])
-  rev_output ended ms rt all' is mine = subst (λ (b : Bool). MatchBool b (IsOutput settings k y ms rt) (rt ≡ [])) (sym is) (own_output settings k y ms rt rev all' mine)
+  rev_output ended ms rt all' is mine = subst (λ (b : Bool). MatchBool b (IsOutput settings k y ms rt) (rt ≡ []))
+      (sym is) (own_output settings k y ms rt rev all' mine)
 
   -- the first kept node brings the revision with it
   pub waits_more : (r : DumpRecord) (rt own : List ℕ) → is_plain r ≡ true → list_any (is_kept_node settings) ns ≡ false
-      → is_kept_node settings r ≡ true → IsRevisionOutput settings k (record { revision = y; nodes = ns ++ r ∷ [] }) rt → IsNodeOutput settings k r own
+      → is_kept_node settings r ≡ true → IsRevisionOutput settings k (record { revision = y; nodes = ns ++ r ∷ [] }) rt
+      → IsNodeOutput settings k r own
       → AreOutputs settings false k (closed ++ y ∷ (ns ++ r ∷ [])) (text ++ (rt ++ own))
   waits_more r rt own plain none kept first mine =
       let p = parts in
-      let more : list_any (is_kept_node settings) (ns ++ r ∷ []) ≡ true = any_more settings ns r ∙ ap (λ b. b || is_kept_node settings r) none ∙ kept in
-      let mine' : OwnOutput settings k r own = subst (λ (b : Bool). MatchBool b (IsNodeOutput settings k r own) (own ≡ [])) (sym kept) mine in
+      let more : list_any (is_kept_node settings) (ns ++ r ∷ []) ≡ true = any_more settings ns r
+      ∙ ap (λ b. b || is_kept_node settings r) none ∙ kept in
+      let mine' : OwnOutput settings k r own = subst
+      (λ (b : Bool). MatchBool b (IsNodeOutput settings k r own) (own ≡ [])) (sym kept) mine in
       joined false (ns ++ r ∷ []) rt own (text ++ (rt ++ own))
-      (rev_output false (ns ++ r ∷ []) rt (plain_more ns r all plain) (rev_kept settings k false y (ns ++ r ∷ []) rev (plain_more ns r all plain) more) first)
+      (rev_output false (ns ++ r ∷ []) rt (plain_more ns r all plain)
+      (rev_kept settings k false y (ns ++ r ∷ []) rev (plain_more ns r all plain) more) first)
       (nodes_more settings k false false ns r [] own all plain (empty_nodes none) mine')
       (ap (λ t. t ++ (rt ++ own)) (nothing none))
 
@@ -389,8 +444,10 @@ module _ (settings : Settings) (k : KeptRevisions) (closed ns : List DumpRecord)
       → AreOutputs settings false k (closed ++ y ∷ (ns ++ r ∷ [])) text
   waits_on r plain none dropped =
       let p = parts in
-      let more : list_any (is_kept_node settings) (ns ++ r ∷ []) ≡ false = any_more settings ns r ∙ ap (λ b. b || is_kept_node settings r) none ∙ dropped in
-      let mine : OwnOutput settings k r [] = subst (λ (b : Bool). MatchBool b (IsNodeOutput settings k r []) (◌≡◌ {A = List ℕ} [] [])) (sym dropped) refl in
+      let more : list_any (is_kept_node settings) (ns ++ r ∷ []) ≡ false = any_more settings ns r
+      ∙ ap (λ b. b || is_kept_node settings r) none ∙ dropped in
+      let mine : OwnOutput settings k r [] = subst
+      (λ (b : Bool). MatchBool b (IsNodeOutput settings k r []) (◌≡◌ {A = List ℕ} [] [])) (sym dropped) refl in
       joined false (ns ++ r ∷ []) [] [] text
       (subst (λ (b : Bool). MatchBool b (IsOutput settings k y (ns ++ r ∷ []) []) (◌≡◌ {A = List ℕ} [] []))
       (sym (rev_waits settings k y (ns ++ r ∷ []) rev (plain_more ns r all plain) more)) refl)
@@ -398,7 +455,8 @@ module _ (settings : Settings) (k : KeptRevisions) (closed ns : List DumpRecord)
       (nothing none ∙ sym (append-nil p.before))
 
   -- the end brings the revision where the options keep it
-  pub waits_kept : (rt : List ℕ) → list_any (is_kept_node settings) ns ≡ false → keeps_group settings (record { revision = y; nodes = ns }) ≡ true
+  pub waits_kept : (rt : List ℕ) → list_any (is_kept_node settings) ns ≡ false
+      → keeps_group settings (record { revision = y; nodes = ns }) ≡ true
       → IsRevisionOutput settings k (record { revision = y; nodes = ns }) rt
       → AreOutputs settings true k (closed ++ y ∷ ns) (text ++ rt)
   waits_kept rt none keep mine =
@@ -407,11 +465,13 @@ module _ (settings : Settings) (k : KeptRevisions) (closed ns : List DumpRecord)
       (nodes_end settings k false true ns [] all (empty_nodes none))
       (ap (λ t. t ++ rt) (nothing none) ∙ ap (λ t. parts.before ++ t) (sym (append-nil rt)))
 
-  pub waits_dropped : list_any (is_kept_node settings) ns ≡ false → keeps_group settings (record { revision = y; nodes = ns }) ≡ false
+  pub waits_dropped : list_any (is_kept_node settings) ns ≡ false
+      → keeps_group settings (record { revision = y; nodes = ns }) ≡ false
       → AreOutputs settings true k (closed ++ y ∷ ns) text
   waits_dropped none drop =
       joined true ns [] [] text
-      (subst (λ (b : Bool). MatchBool b (IsOutput settings k y ns []) (◌≡◌ {A = List ℕ} [] [])) (sym (rev_ends settings k y ns rev all ∙ drop)) refl)
+      (subst (λ (b : Bool). MatchBool b (IsOutput settings k y ns []) (◌≡◌ {A = List ℕ} [] []))
+      (sym (rev_ends settings k y ns rev all ∙ drop)) refl)
       (nodes_end settings k false true ns [] all (empty_nodes none))
       (nothing none ∙ sym (append-nil parts.before))
 
@@ -424,20 +484,35 @@ module _ (settings : Settings) (k : KeptRevisions) where
       let group = cut.4 in
       let same : is_written settings false y [] ≡ is_written settings true y [] = rw (no_rev, other) refl in
       subst (AreOutputs settings true k (closed ++ y ∷ [])) (sym cut.2)
-      (outputs_join settings k true closed [] y cut.0 cut.1 other cut.3
-      (group.0, group.1, group.2, subst (λ (b : Bool). MatchBool b (IsOutput settings k y [] group.0) (group.0 ≡ [])) same group.3, group.4))
+      (outputs_join settings k true closed [] y cut.0 cut.1 other cut.3 (
+        group.0,
+        group.1,
+        group.2,
+        subst (λ (b : Bool). MatchBool b (IsOutput settings k y [] group.0)
+            (group.0 ≡ [])) same group.3,
+        group.4,
+      ))
 
   -- a revision behind ended records waits
-  pub revision_more : (before : List DumpRecord) (r : DumpRecord) (text : List ℕ) → is_node r ≡ false → is_revision r ≡ true
+  pub revision_more : (before : List DumpRecord) (r : DumpRecord) (text : List ℕ) → is_node r ≡ false
+      → is_revision r ≡ true
       → AreOutputs settings true k before text → AreOutputs settings false k (before ++ r ∷ []) text
   revision_more before r text other rev out =
       subst (AreOutputs settings false k (before ++ r ∷ [])) (append-nil text)
-      (outputs_join settings k false before [] r text [] other out
-      ([], [], refl, subst (λ (b : Bool). MatchBool b (IsOutput settings k r [] []) (◌≡◌ {A = List ℕ} [] [])) (sym (rev_waits settings k r [] rev refl refl)) refl, refl))
+      (outputs_join settings k false before [] r text [] other out (
+        [],
+        [],
+        refl,
+        subst (λ (b : Bool). MatchBool b (IsOutput settings k r [] []) (◌≡◌ {A = List ℕ} [] []))
+            (sym (rev_waits settings k r [] rev refl refl)) refl,
+        refl,
+      ))
 
   -- a version or UUID record is written as it stood
-  pub other_more : (before : List DumpRecord) (r : DumpRecord) (text : List ℕ) → is_node r ≡ false → is_revision r ≡ false
-      → AreOutputs settings true k before text → AreOutputs settings false k (before ++ r ∷ []) (text ++ block_text r.headers)
+  pub other_more : (before : List DumpRecord) (r : DumpRecord) (text : List ℕ) → is_node r ≡ false
+      → is_revision r ≡ false
+      → AreOutputs settings true k before text → AreOutputs settings false k (before ++ r ∷ [])
+      (text ++ block_text r.headers)
   other_more before r text other no_rev out =
       let bytes = block_text r.headers in
       let written : is_written settings false r [] ≡ true = rw (no_rev, other) refl in
@@ -445,6 +520,7 @@ module _ (settings : Settings) (k : KeptRevisions) where
         bytes,
         [],
         sym (append-nil bytes),
-        subst (λ (b : Bool). MatchBool b (IsOutput settings k r [] bytes) (bytes ≡ [])) (sym written) (rw (no_rev, other) refl),
+        subst (λ (b : Bool). MatchBool b (IsOutput settings k r [] bytes) (bytes ≡ [])) (sym written)
+            (rw (no_rev, other) refl),
         refl,
       )

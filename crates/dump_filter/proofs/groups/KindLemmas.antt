@@ -19,7 +19,8 @@ IsOfKind r kinds.Node = (is_node r ≡ true) × (is_revision r ≡ false)
 
 pub of_kind : (number : ℕ) (r : DumpRecord) → IsTrue (is_lawful number r.headers) → IsOfKind r (kind_of r.headers)
 of_kind number r lawful =
-    cases (has_header version_name r.headers) (has_header uuid_name r.headers) (has_header revision_name r.headers) (has_header path_name r.headers)
+    cases (has_header version_name r.headers) (has_header uuid_name r.headers) (has_header revision_name r.headers)
+    (has_header path_name r.headers)
     refl refl refl refl
   where
     bad : has_bad_kind r.headers ≡ false
@@ -51,7 +52,8 @@ of_kind number r lawful =
     cases false false false false is-v is-u is-s is-n = wrong (rw (is-v, is-u, is-s, is-n) refl)
 
 -- a node is no revision
-pub alone : (number : ℕ) (r : DumpRecord) → IsTrue (is_lawful number r.headers) → is_node r ≡ true → is_revision r ≡ false
+pub alone : (number : ℕ) (r : DumpRecord) → IsTrue (is_lawful number r.headers) → is_node r ≡ true
+    → is_revision r ≡ false
 alone number r lawful node = by_kind (kind_of r.headers) (of_kind number r lawful)
   where
     by_kind : (which : RecordKind) → IsOfKind r which → is_revision r ≡ false

@@ -12,7 +12,8 @@ use Rattle.dump_filter.specs.steps.Knowledge.{is_plain, kept_numbers}
 use Rattle.dump_filter.proofs.groups.GroupLemmas.{groups_before, groups_revision, groups_other}
 
 -- one more record
-pub numbers_other : (before : List DumpRecord) (r : DumpRecord) → is_revision r ≡ false → revision_numbers (before ++ r ∷ []) ≡ revision_numbers before
+pub numbers_other : (before : List DumpRecord) (r : DumpRecord) → is_revision r ≡ false
+    → revision_numbers (before ++ r ∷ []) ≡ revision_numbers before
 numbers_other [] r other = rw other refl
 numbers_other (x ∷ before) r other = cases (is_revision x) refl (numbers_other before r other)
   where
@@ -21,22 +22,27 @@ numbers_other (x ∷ before) r other = cases (is_revision x) refl (numbers_other
     cases true is more = rw is (ap (λ (t : List ℕ). revision_number x ∷ t) more)
     cases false is more = rw is more
 
-pub numbers_revision : (before : List DumpRecord) (r : DumpRecord) (ns : List DumpRecord) → is_node r ≡ false → is_revision r ≡ true → list_all is_plain ns ≡ true
+pub numbers_revision : (before : List DumpRecord) (r : DumpRecord) (ns : List DumpRecord) → is_node r ≡ false
+    → is_revision r ≡ true → list_all is_plain ns ≡ true
     → revision_numbers (before ++ r ∷ ns) ≡ revision_numbers before ++ revision_number r ∷ []
 numbers_revision before r ns other rev all =
-    ap (map group_number) (groups_before before ns r other ∙ ap (λ (gs : List Group). groups before ++ gs) (groups_revision r ns rev all))
+    ap (map group_number) (groups_before before ns r other ∙ ap (λ (gs : List Group). groups before ++ gs)
+    (groups_revision r ns rev all))
     ∙ map-append group_number (groups before) (record { revision = r; nodes = ns } ∷ [])
 
 last_number : (first : Option ℕ) (ns : List ℕ) (n : ℕ) → last_or first (ns ++ n ∷ []) ≡ Some n
 last_number first [] n = refl
 last_number first (m ∷ ns) n = last_number (Some m) ns n
 
-pub present_other : (before : List DumpRecord) (r : DumpRecord) → is_revision r ≡ false → present_revision (before ++ r ∷ []) ≡ present_revision before
+pub present_other : (before : List DumpRecord) (r : DumpRecord) → is_revision r ≡ false
+    → present_revision (before ++ r ∷ []) ≡ present_revision before
 present_other before r other = ap (last_or None) (numbers_other before r other)
 
-pub present_group : (before : List DumpRecord) (r : DumpRecord) (ns : List DumpRecord) → is_node r ≡ false → is_revision r ≡ true → list_all is_plain ns ≡ true
+pub present_group : (before : List DumpRecord) (r : DumpRecord) (ns : List DumpRecord) → is_node r ≡ false
+    → is_revision r ≡ true → list_all is_plain ns ≡ true
     → present_revision (before ++ r ∷ ns) ≡ Some (revision_number r)
-present_group before r ns other rev all = ap (last_or None) (numbers_revision before r ns other rev all) ∙ last_number None (revision_numbers before) (revision_number r)
+present_group before r ns other rev all = ap (last_or None) (numbers_revision before r ns other rev all)
+    ∙ last_number None (revision_numbers before) (revision_number r)
 
 pub first_other : (before : List DumpRecord) (r : DumpRecord) → is_revision r ≡ false
     → first_number (revision_numbers (before ++ r ∷ [])) ≡ first_number (revision_numbers before)
@@ -55,23 +61,30 @@ no_numbers before none = cases (revision_numbers before) none
     cases (n ∷ ns) e = absurd (some_last n ns e)
 
 -- the first revision stays the first
-pub first_stays : (before : List DumpRecord) (r : DumpRecord) (present : ℕ) → is_node r ≡ false → is_revision r ≡ true → present_revision before ≡ Some present
+pub first_stays : (before : List DumpRecord) (r : DumpRecord) (present : ℕ) → is_node r ≡ false → is_revision r ≡ true
+    → present_revision before ≡ Some present
     → first_number (revision_numbers (before ++ r ∷ [])) ≡ first_number (revision_numbers before)
-first_stays before r present other rev is = ap first_number (numbers_revision before r [] other rev refl) ∙ cases (revision_numbers before) is
+first_stays before r present other rev is = ap first_number (numbers_revision before r [] other rev refl)
+    ∙ cases (revision_numbers before) is
   where
-    cases : (ns : List ℕ) → last_or None ns ≡ Some present → first_number (ns ++ revision_number r ∷ []) ≡ first_number ns
+    cases : (ns : List ℕ) → last_or None ns ≡ Some present
+        → first_number (ns ++ revision_number r ∷ []) ≡ first_number ns
     cases [] e = cc
     cases (n ∷ ns) e = refl
 
-pub first_begins : (before : List DumpRecord) (r : DumpRecord) → is_node r ≡ false → is_revision r ≡ true → present_revision before ≡ None
+pub first_begins : (before : List DumpRecord) (r : DumpRecord) → is_node r ≡ false → is_revision r ≡ true
+    → present_revision before ≡ None
     → first_number (revision_numbers (before ++ r ∷ [])) ≡ revision_number r
 first_begins before r other rev none =
-    ap first_number (numbers_revision before r [] other rev refl ∙ ap (λ (ns : List ℕ). ns ++ revision_number r ∷ []) (no_numbers before none))
+    ap first_number (numbers_revision before r [] other rev refl ∙ ap (λ (ns : List ℕ). ns ++ revision_number r ∷ [])
+    (no_numbers before none))
 
 -- the kept revisions of a list that ends with a group
-pub kept_group : (settings : Settings) (closed ns : List DumpRecord) (y : DumpRecord) → is_node y ≡ false → is_revision y ≡ true → list_all is_plain ns ≡ true
+pub kept_group : (settings : Settings) (closed ns : List DumpRecord) (y : DumpRecord) → is_node y ≡ false
+    → is_revision y ≡ true → list_all is_plain ns ≡ true
     → kept_numbers settings (closed ++ y ∷ ns)
-    ≡ kept_numbers settings closed ++ (if keeps_group settings (record { revision = y; nodes = ns }) then revision_number y ∷ [] else [])
+    ≡ kept_numbers settings closed ++ (if keeps_group settings
+    (record { revision = y; nodes = ns }) then revision_number y ∷ [] else [])
 kept_group settings closed ns y other rev all =
     let g : Group = record { revision = y; nodes = ns } in
     ap (λ (gs : List Group). map group_number (filter (keeps_group settings) gs))
@@ -80,36 +93,47 @@ kept_group settings closed ns y other rev all =
     ∙ map-append group_number (filter (keeps_group settings) (groups closed)) (filter (keeps_group settings) (g ∷ []))
     ∙ ap (λ (ns : List ℕ). kept_numbers settings closed ++ ns) (one g)
   where
-    one : (g : Group) → map group_number (filter (keeps_group settings) (g ∷ [])) ≡ (if keeps_group settings g then group_number g ∷ [] else [])
+    one : (g : Group) → map group_number (filter (keeps_group settings) (g ∷ [])) ≡
+        (if keeps_group settings g then group_number g ∷ [] else [])
     one g = by_case (keeps_group settings g) refl
       where
-        by_case : (b : Bool) → keeps_group settings g ≡ b → map group_number (filter (keeps_group settings) (g ∷ [])) ≡ (if b then group_number g ∷ [] else [])
+        by_case : (b : Bool) → keeps_group settings g ≡ b → map group_number (filter (keeps_group settings) (g ∷ [])) ≡
+            (if b then group_number g ∷ [] else [])
         by_case true is = rw is refl
         by_case false is = rw is refl
 
-pub kept_other : (settings : Settings) (closed : List DumpRecord) (y : DumpRecord) → is_node y ≡ false → is_revision y ≡ false
+pub kept_other : (settings : Settings) (closed : List DumpRecord) (y : DumpRecord) → is_node y ≡ false
+    → is_revision y ≡ false
     → kept_numbers settings (closed ++ y ∷ []) ≡ kept_numbers settings closed
 kept_other settings closed y other no_rev =
     ap (λ (gs : List Group). map group_number (filter (keeps_group settings) gs))
-    (groups_before closed [] y other ∙ ap (λ (gs : List Group). groups closed ++ gs) (groups_other y no_rev) ∙ append-nil (groups closed))
+    (groups_before closed [] y other ∙ ap (λ (gs : List Group). groups closed ++ gs) (groups_other y no_rev)
+    ∙ append-nil (groups closed))
 
 -- counts of groups
-pub count_one : {X : Type 0} (p : X → Bool) (xs : List X) (x : X) → count_by p (xs ++ x ∷ []) ≡ count_by p xs + (if p x then 1 else 0)
+pub count_one : {X : Type 0} (p : X → Bool) (xs : List X) (x : X) → count_by p (xs ++ x ∷ []) ≡ count_by p xs +
+    (if p x then 1 else 0)
 count_one p xs x = sum_by-append (λ y. if p y then 1 else 0) xs (x ∷ []) ∙ ap (λ n. count_by p xs + n) (omega arith)
 
-pub group_counts : (p : Group → Bool) (closed ns : List DumpRecord) (y : DumpRecord) → is_node y ≡ false → is_revision y ≡ true → list_all is_plain ns ≡ true
-    → count_by p (groups (closed ++ y ∷ ns)) ≡ count_by p (groups closed) + (if p (record { revision = y; nodes = ns }) then 1 else 0)
+pub group_counts : (p : Group → Bool) (closed ns : List DumpRecord) (y : DumpRecord) → is_node y ≡ false
+    → is_revision y ≡ true → list_all is_plain ns ≡ true
+    → count_by p (groups (closed ++ y ∷ ns)) ≡ count_by p (groups closed) +
+    (if p (record { revision = y; nodes = ns }) then 1 else 0)
 group_counts p closed ns y other rev all =
-    ap (count_by p) (groups_before closed ns y other ∙ ap (λ (gs : List Group). groups closed ++ gs) (groups_revision y ns rev all))
+    ap (count_by p) (groups_before closed ns y other ∙ ap (λ (gs : List Group). groups closed ++ gs)
+    (groups_revision y ns rev all))
     ∙ count_one p (groups closed) (record { revision = y; nodes = ns })
 
-pub other_counts : (p : Group → Bool) (closed : List DumpRecord) (y : DumpRecord) → is_node y ≡ false → is_revision y ≡ false
+pub other_counts : (p : Group → Bool) (closed : List DumpRecord) (y : DumpRecord) → is_node y ≡ false
+    → is_revision y ≡ false
     → count_by p (groups (closed ++ y ∷ [])) ≡ count_by p (groups closed)
 other_counts p closed y other no_rev =
-    ap (count_by p) (groups_before closed [] y other ∙ ap (λ (gs : List Group). groups closed ++ gs) (groups_other y no_rev) ∙ append-nil (groups closed))
+    ap (count_by p) (groups_before closed [] y other ∙ ap (λ (gs : List Group). groups closed ++ gs)
+    (groups_other y no_rev) ∙ append-nil (groups closed))
 
 -- a group with a kept node is kept
-pub passed_keeps : (settings : Settings) (y : DumpRecord) (ns : List DumpRecord) → list_any (is_kept_node settings) ns ≡ true
+pub passed_keeps : (settings : Settings) (y : DumpRecord) (ns : List DumpRecord)
+    → list_any (is_kept_node settings) ns ≡ true
     → keeps_group settings (record { revision = y; nodes = ns }) ≡ true
 passed_keeps settings y ns some =
     ap (λ b. revision_number y == 0 || b || keeps_empty settings.empty (length ns == 0)) some

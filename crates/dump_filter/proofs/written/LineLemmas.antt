@@ -23,7 +23,8 @@ abbrev pub put_some : List ℕ → Option ℕ → Header → Header
 put_some name None h = h
 put_some name (Some n) h = put name n h
 
-put_all-map : (name : List ℕ) (n : Option ℕ) (headers : List Header) → put_all name n headers ≡ map (put_some name n) headers
+put_all-map : (name : List ℕ) (n : Option ℕ) (headers : List Header) → put_all name n headers ≡ map
+    (put_some name n) headers
 put_all-map name None [] = refl
 put_all-map name None (h ∷ headers) = ap (λ (t : List Header). h ∷ t) (put_all-map name None headers)
 put_all-map name (Some n) headers = refl
@@ -59,13 +60,18 @@ put_five c h =
 five : (c : Changes) (h : Header) → put_five c h ≡ renewed c h
 five c h = by_revision (is_named revision_name h) refl
   where
-    by_content : is_named revision_name h ≡ false → is_named copy_revision_name h ≡ false → is_named property_length_name h ≡ false
-        → is_named text_length_name h ≡ false → (b : Bool) → is_named content_length_name h ≡ b → put content_length_name c.content h ≡ renewed c h
-    by_content r k p t true is = hit h content_length_name (Some c.content) ((bytes_eq-Decides h.name content_length_name).0 is) ∙ rw (r, k, p, t, is) refl
+    by_content : is_named revision_name h ≡ false → is_named copy_revision_name h ≡ false
+        → is_named property_length_name h ≡ false
+        → is_named text_length_name h ≡ false → (b : Bool) → is_named content_length_name h ≡ b
+        → put content_length_name c.content h ≡ renewed c h
+    by_content r k p t true is = hit h content_length_name (Some c.content)
+        ((bytes_eq-Decides h.name content_length_name).0 is) ∙ rw (r, k, p, t, is) refl
     by_content r k p t false is = miss-false h content_length_name (Some c.content) is ∙ rw (r, k, p, t, is) refl
 
-    by_text : is_named revision_name h ≡ false → is_named copy_revision_name h ≡ false → is_named property_length_name h ≡ false
-        → (b : Bool) → is_named text_length_name h ≡ b → put content_length_name c.content (put text_length_name c.text h) ≡ renewed c h
+    by_text : is_named revision_name h ≡ false → is_named copy_revision_name h ≡ false
+        → is_named property_length_name h ≡ false
+        → (b : Bool) → is_named text_length_name h ≡ b → put content_length_name c.content
+        (put text_length_name c.text h) ≡ renewed c h
     by_text r k p true is =
         let e = (bytes_eq-Decides h.name text_length_name).0 is in
         ap (put content_length_name c.content) (hit h text_length_name (Some c.text) e)
@@ -74,31 +80,41 @@ five c h = by_revision (is_named revision_name h) refl
     by_text r k p false is = ap (put content_length_name c.content) (miss-false h text_length_name (Some c.text) is)
         ∙ by_content r k p is (is_named content_length_name h) refl
 
-    by_props : is_named revision_name h ≡ false → is_named copy_revision_name h ≡ false → (b : Bool) → is_named property_length_name h ≡ b
-        → put content_length_name c.content (put text_length_name c.text (put property_length_name c.props h)) ≡ renewed c h
+    by_props : is_named revision_name h ≡ false → is_named copy_revision_name h ≡ false → (b : Bool)
+        → is_named property_length_name h ≡ b
+        → put content_length_name c.content (put text_length_name c.text
+        (put property_length_name c.props h)) ≡ renewed c h
     by_props r k true is =
         let e = (bytes_eq-Decides h.name property_length_name).0 is in
         let g = with_number h (Some c.props) in
-        ap (λ (x : Header). put content_length_name c.content (put text_length_name c.text x)) (hit h property_length_name (Some c.props) e)
+        ap (λ (x : Header). put content_length_name c.content (put text_length_name c.text x))
+        (hit h property_length_name (Some c.props) e)
         ∙ ap (put content_length_name c.content) (miss g property_length_name text_length_name (Some c.text) e refl)
         ∙ miss g property_length_name content_length_name (Some c.content) e refl
         ∙ rw (r, k, is) refl
-    by_props r k false is = ap (λ (x : Header). put content_length_name c.content (put text_length_name c.text x)) (miss-false h property_length_name (Some c.props) is)
+    by_props r k false is = ap (λ (x : Header). put content_length_name c.content (put text_length_name c.text x))
+        (miss-false h property_length_name (Some c.props) is)
         ∙ by_text r k is (is_named text_length_name h) refl
 
     by_copy : is_named revision_name h ≡ false → (b : Bool) → is_named copy_revision_name h ≡ b
-        → put content_length_name c.content (put text_length_name c.text (put property_length_name c.props (put_some copy_revision_name (copy_number c.copy) h))) ≡ renewed c h
+        → put content_length_name c.content (put text_length_name c.text
+        (put property_length_name c.props (put_some copy_revision_name (copy_number c.copy) h))) ≡ renewed c h
     by_copy r true is =
         let e = (bytes_eq-Decides h.name copy_revision_name).0 is in
         let g = with_number h (copy_number c.copy) in
         let name : g.name ≡ copy_revision_name = same_name h (copy_number c.copy) ∙ e in
-        ap (λ (x : Header). put content_length_name c.content (put text_length_name c.text (put property_length_name c.props x))) (hit h copy_revision_name (copy_number c.copy) e)
-        ∙ ap (λ (x : Header). put content_length_name c.content (put text_length_name c.text x)) (miss g copy_revision_name property_length_name (Some c.props) name refl)
+        ap (λ (x : Header). put content_length_name c.content
+        (put text_length_name c.text (put property_length_name c.props x)))
+        (hit h copy_revision_name (copy_number c.copy) e)
+        ∙ ap (λ (x : Header). put content_length_name c.content (put text_length_name c.text x))
+        (miss g copy_revision_name property_length_name (Some c.props) name refl)
         ∙ ap (put content_length_name c.content) (miss g copy_revision_name text_length_name (Some c.text) name refl)
         ∙ miss g copy_revision_name content_length_name (Some c.content) name refl
         ∙ rw (r, is) refl
     by_copy r false is =
-        ap (λ (x : Header). put content_length_name c.content (put text_length_name c.text (put property_length_name c.props x))) (miss-false h copy_revision_name (copy_number c.copy) is)
+        ap (λ (x : Header). put content_length_name c.content
+        (put text_length_name c.text (put property_length_name c.props x)))
+        (miss-false h copy_revision_name (copy_number c.copy) is)
         ∙ by_props r is (is_named property_length_name h) refl
 
     by_revision : (b : Bool) → is_named revision_name h ≡ b → put_five c h ≡ renewed c h
@@ -106,14 +122,21 @@ five c h = by_revision (is_named revision_name h) refl
         let e = (bytes_eq-Decides h.name revision_name).0 is in
         let g = with_number h c.revision in
         let name : g.name ≡ revision_name = same_name h c.revision ∙ e in
-        ap (λ (x : Header). put content_length_name c.content (put text_length_name c.text (put property_length_name c.props (put_some copy_revision_name (copy_number c.copy) x)))) (hit h revision_name c.revision e)
-        ∙ ap (λ (x : Header). put content_length_name c.content (put text_length_name c.text (put property_length_name c.props x))) (miss g revision_name copy_revision_name (copy_number c.copy) name refl)
-        ∙ ap (λ (x : Header). put content_length_name c.content (put text_length_name c.text x)) (miss g revision_name property_length_name (Some c.props) name refl)
+        ap (λ (x : Header). put content_length_name c.content
+        (put text_length_name c.text (put property_length_name c.props
+        (put_some copy_revision_name (copy_number c.copy) x)))) (hit h revision_name c.revision e)
+        ∙ ap (λ (x : Header). put content_length_name c.content
+        (put text_length_name c.text (put property_length_name c.props x)))
+        (miss g revision_name copy_revision_name (copy_number c.copy) name refl)
+        ∙ ap (λ (x : Header). put content_length_name c.content (put text_length_name c.text x))
+        (miss g revision_name property_length_name (Some c.props) name refl)
         ∙ ap (put content_length_name c.content) (miss g revision_name text_length_name (Some c.text) name refl)
         ∙ miss g revision_name content_length_name (Some c.content) name refl
         ∙ rw is refl
     by_revision false is =
-        ap (λ (x : Header). put content_length_name c.content (put text_length_name c.text (put property_length_name c.props (put_some copy_revision_name (copy_number c.copy) x)))) (miss-false h revision_name c.revision is)
+        ap (λ (x : Header). put content_length_name c.content
+        (put text_length_name c.text (put property_length_name c.props
+        (put_some copy_revision_name (copy_number c.copy) x)))) (miss-false h revision_name c.revision is)
         ∙ by_copy is (is_named copy_revision_name h) refl
 
 mapped : {X Y Z : Type 0} (f : Y → Z) (g : X → Y) (xs : List X) → map f (map g xs) ≡ map (λ x. f (g x)) xs
@@ -132,7 +155,8 @@ keeps_name name n h = cases (is_named name h) refl
     cases false is = rw is refl
 
 -- lines with other numbers have the same names
-has_same : (other name : List ℕ) (n : ℕ) (hs : List Header) → has_header other (map (put name n) hs) ≡ has_header other hs
+has_same : (other name : List ℕ) (n : ℕ) (hs : List Header)
+    → has_header other (map (put name n) hs) ≡ has_header other hs
 has_same other name n [] = refl
 has_same other name n (h ∷ hs) =
     ap (λ b. b || has_header other (map (put name n) hs)) (ap (λ m. bytes_eq m other) (keeps_name name n h))
@@ -154,23 +178,28 @@ length_is name n hs = cases (has_header name hs) refl
     cases false is = rw is (zeros (n == 0) refl)
       where
         zeros : (z : Bool) → (n == 0) ≡ z
-            → (if n == 0 then hs else hs ++ numbered name n ∷ []) ≡ map (put name n) hs ++ (if n == 0 then [] else numbered name n ∷ [])
+            → (if n == 0 then hs else hs ++ numbered name n ∷ []) ≡ map (put name n) hs ++
+            (if n == 0 then [] else numbered name n ∷ [])
         zeros true e = rw e (sym (append-nil (map (put name n) hs) ∙ absent name n hs is))
         zeros false e = rw e (ap (λ (t : List Header). t ++ numbered name n ∷ []) (sym (absent name n hs is)))
 
-added_same : (name : List ℕ) (n : ℕ) (hs gs : List Header) → has_header name hs ≡ has_header name gs → added name n hs ≡ added name n gs
+added_same : (name : List ℕ) (n : ℕ) (hs gs : List Header) → has_header name hs ≡ has_header name gs
+    → added name n hs ≡ added name n gs
 added_same name n hs gs same = ap (λ b. if b then [] else if n == 0 then [] else numbered name n ∷ []) same
 
 -- other names don't touch an added line
-passed : (name other : List ℕ) (n m : ℕ) (hs : List Header) → bytes_eq other name ≡ false → map (put name n) (added other m hs) ≡ added other m hs
+passed : (name other : List ℕ) (n m : ℕ) (hs : List Header) → bytes_eq other name ≡ false
+    → map (put name n) (added other m hs) ≡ added other m hs
 passed name other n m hs differ = cases (has_header other hs) (m == 0)
   where
-    cases : (b z : Bool) → map (put name n) (if b then [] else if z then [] else numbered other m ∷ []) ≡ (if b then [] else if z then [] else numbered other m ∷ [])
+    cases : (b z : Bool) → map (put name n) (if b then [] else if z then [] else numbered other m ∷ []) ≡
+        (if b then [] else if z then [] else numbered other m ∷ [])
     cases true z = refl
     cases false true = refl
     cases false false = rw differ refl
 
-has_added : (name other : List ℕ) (m : ℕ) (hs : List Header) → bytes_eq other name ≡ false → has_header name (added other m hs) ≡ false
+has_added : (name other : List ℕ) (m : ℕ) (hs : List Header) → bytes_eq other name ≡ false
+    → has_header name (added other m hs) ≡ false
 has_added name other m hs differ = cases (has_header other hs) (m == 0)
   where
     cases : (b z : Bool) → has_header name (if b then [] else if z then [] else numbered other m ∷ []) ≡ false
@@ -178,7 +207,8 @@ has_added name other m hs differ = cases (has_header other hs) (m == 0)
     cases false true = refl
     cases false false = rw differ refl
 
-has_some : (other name : List ℕ) (n : Option ℕ) (hs : List Header) → has_header other (put_all name n hs) ≡ has_header other hs
+has_some : (other name : List ℕ) (n : Option ℕ) (hs : List Header)
+    → has_header other (put_all name n hs) ≡ has_header other hs
 has_some other name None hs = refl
 has_some other name (Some n) hs = has_same other name n hs
 
@@ -189,21 +219,27 @@ module _ (c : Changes) (headers : List Header) where
 
   base_has : (name : List ℕ) → has_header name base ≡ has_header name headers
   unfolding base
-  base_has name = has_some name copy_revision_name (copy_number c.copy) (put_all revision_name c.revision headers) ∙ has_some name revision_name c.revision headers
+  base_has name = has_some name copy_revision_name (copy_number c.copy) (put_all revision_name c.revision headers)
+      ∙ has_some name revision_name c.revision headers
 
-  put_base : map (put content_length_name c.content) (map (put text_length_name c.text) (map (put property_length_name c.props) base)) ≡ map (renewed c) headers
+  put_base : map (put content_length_name c.content)
+      (map (put text_length_name c.text) (map (put property_length_name c.props) base)) ≡ map (renewed c) headers
   unfolding base
   put_base =
-      ap (λ (t : List Header). map (put content_length_name c.content) (map (put text_length_name c.text) (map (put property_length_name c.props) t)))
+      ap (λ (t : List Header). map (put content_length_name c.content)
+      (map (put text_length_name c.text) (map (put property_length_name c.props) t)))
       (put_all-map copy_revision_name (copy_number c.copy) (put_all revision_name c.revision headers)
       ∙ ap (map (put_some copy_revision_name (copy_number c.copy))) (put_all-map revision_name c.revision headers)
       ∙ mapped (put_some copy_revision_name (copy_number c.copy)) (put_some revision_name c.revision) headers)
       ∙ ap (λ (t : List Header). map (put content_length_name c.content) (map (put text_length_name c.text) t))
-      (mapped (put property_length_name c.props) (λ h. put_some copy_revision_name (copy_number c.copy) (put_some revision_name c.revision h)) headers)
+      (mapped (put property_length_name c.props) (λ h. put_some copy_revision_name (copy_number c.copy)
+      (put_some revision_name c.revision h)) headers)
       ∙ ap (map (put content_length_name c.content))
-      (mapped (put text_length_name c.text) (λ h. put property_length_name c.props (put_some copy_revision_name (copy_number c.copy) (put_some revision_name c.revision h))) headers)
+      (mapped (put text_length_name c.text) (λ h. put property_length_name c.props
+      (put_some copy_revision_name (copy_number c.copy) (put_some revision_name c.revision h))) headers)
       ∙ mapped (put content_length_name c.content)
-      (λ h. put text_length_name c.text (put property_length_name c.props (put_some copy_revision_name (copy_number c.copy) (put_some revision_name c.revision h)))) headers
+      (λ h. put text_length_name c.text (put property_length_name c.props
+      (put_some copy_revision_name (copy_number c.copy) (put_some revision_name c.revision h)))) headers
       ∙ map_same (put_five c) (renewed c) (five c) headers
 
   missing : List Header
@@ -214,19 +250,26 @@ module _ (c : Changes) (headers : List Header) where
   unfolding missing
   with_text =
       ap (map (put text_length_name c.text)) (length_is property_length_name c.props base
-      ∙ ap (λ (t : List Header). map (put property_length_name c.props) base ++ t) (added_same property_length_name c.props base headers (base_has property_length_name)))
-      ∙ map-append (put text_length_name c.text) (map (put property_length_name c.props) base) (added property_length_name c.props headers)
+      ∙ ap (λ (t : List Header). map (put property_length_name c.props) base ++ t)
+      (added_same property_length_name c.props base headers (base_has property_length_name)))
+      ∙ map-append (put text_length_name c.text) (map (put property_length_name c.props) base)
+      (added property_length_name c.props headers)
       ∙ ap (λ (t : List Header). map (put text_length_name c.text) (map (put property_length_name c.props) base) ++ t)
       (passed text_length_name property_length_name c.text c.props headers refl)
 
-  content_has : has_header content_length_name (map (put text_length_name c.text) (map (put property_length_name c.props) base) ++ missing)
+  content_has : has_header content_length_name (map (put text_length_name c.text)
+      (map (put property_length_name c.props) base) ++ missing)
       ≡ has_header content_length_name headers
   unfolding missing
   content_has =
-      list_any-append (is_named content_length_name) (map (put text_length_name c.text) (map (put property_length_name c.props) base)) (added property_length_name c.props headers)
-      ∙ ap (λ b. has_header content_length_name (map (put text_length_name c.text) (map (put property_length_name c.props) base)) || b)
+      list_any-append (is_named content_length_name)
+      (map (put text_length_name c.text) (map (put property_length_name c.props) base))
+      (added property_length_name c.props headers)
+      ∙ ap (λ b. has_header content_length_name (map (put text_length_name c.text)
+      (map (put property_length_name c.props) base)) || b)
       (has_added content_length_name property_length_name c.props headers refl)
-      ∙ or_false (has_header content_length_name (map (put text_length_name c.text) (map (put property_length_name c.props) base)))
+      ∙ or_false (has_header content_length_name (map (put text_length_name c.text)
+      (map (put property_length_name c.props) base)))
       ∙ has_same content_length_name text_length_name c.text (map (put property_length_name c.props) base)
       ∙ has_same content_length_name property_length_name c.props base
       ∙ base_has content_length_name
@@ -235,7 +278,8 @@ module _ (c : Changes) (headers : List Header) where
       or_false true = refl
       or_false false = refl
 
-  put_lengths : with_length content_length_name c.content (with_header_value text_length_name (spelled_number c.text) (with_length property_length_name c.props base))
+  put_lengths : with_length content_length_name c.content
+      (with_header_value text_length_name (spelled_number c.text) (with_length property_length_name c.props base))
       ≡ (map (renewed c) headers ++ added property_length_name c.props headers) ++ added content_length_name c.content headers
   unfolding missing
   put_lengths =
@@ -244,20 +288,29 @@ module _ (c : Changes) (headers : List Header) where
       ∙ length_is content_length_name c.content (lines ++ missing)
       ∙ ap (λ (t : List Header). t ++ added content_length_name c.content (lines ++ missing))
       (map-append (put content_length_name c.content) lines missing
-      ∙ ap (λ (t : List Header). map (put content_length_name c.content) lines ++ t) (passed content_length_name property_length_name c.content c.props headers refl)
+      ∙ ap (λ (t : List Header). map (put content_length_name c.content) lines ++ t)
+      (passed content_length_name property_length_name c.content c.props headers refl)
       ∙ ap (λ (t : List Header). t ++ added property_length_name c.props headers) put_base)
       ∙ ap (λ (t : List Header). (map (renewed c) headers ++ added property_length_name c.props headers) ++ t)
       (added_same content_length_name c.content (lines ++ missing) headers content_has)
 
-  put_are : (props text : List ℕ) → c.props ≡ length props → c.text ≡ length text → c.content ≡ length props + length text
+  put_are : (props text : List ℕ) → c.props ≡ length props → c.text ≡ length text
+      → c.content ≡ length props + length text
       → (map (renewed c) headers ++ added property_length_name c.props headers) ++ added content_length_name c.content headers
-      ≡ with_lengths props text (put_all copy_revision_name (copy_number c.copy) (put_all revision_name c.revision headers))
+      ≡ with_lengths props text (put_all copy_revision_name (copy_number c.copy)
+      (put_all revision_name c.revision headers))
   unfolding base
   put_are props text props_is text_is content_is =
       sym put_lengths
-      ∙ ap (λ n. with_length content_length_name n (with_header_value text_length_name (spelled_number c.text) (with_length property_length_name c.props base))) content_is
-      ∙ ap (λ n. with_length content_length_name (length props + length text) (with_header_value text_length_name (spelled_number n) (with_length property_length_name c.props base))) text_is
-      ∙ ap (λ n. with_length content_length_name (length props + length text) (with_header_value text_length_name (spelled_number (length text)) (with_length property_length_name n base))) props_is
+      ∙ ap (λ n. with_length content_length_name n
+      (with_header_value text_length_name (spelled_number c.text)
+      (with_length property_length_name c.props base))) content_is
+      ∙ ap (λ n. with_length content_length_name (length props + length text)
+      (with_header_value text_length_name (spelled_number n)
+      (with_length property_length_name c.props base))) text_is
+      ∙ ap (λ n. with_length content_length_name (length props + length text)
+      (with_header_value text_length_name (spelled_number (length text))
+      (with_length property_length_name n base))) props_is
 
 -- a line that goes is of a copy source
 dropped_copy : (copy : CopyChange) (name : List ℕ) → is_dropped copy name ≡ true → is_copy_line name ≡ true
@@ -277,7 +330,8 @@ stay_has name copy other (h ∷ headers) = cases (stay_has name copy other heade
         let same = (bytes_eq-Decides h.name name).0 is in
         absurd (absurd_bool (is_copy_line name) (sym (ap is_copy_line same) ∙ dropped_copy copy h.name goes) other)
 
-    cases : has_header name (lines_that_stay copy headers) ≡ has_header name headers → (b : Bool) → is_dropped copy h.name ≡ b
+    cases : has_header name (lines_that_stay copy headers) ≡ has_header name headers → (b : Bool)
+        → is_dropped copy h.name ≡ b
         → has_header name (lines_that_stay copy (h ∷ headers)) ≡ has_header name (h ∷ headers)
     cases others true is = rw is (rw (no_name is (is_named name h) refl) others)
     cases others false is = rw is (ap (λ b. is_named name h || b) others)
@@ -290,7 +344,8 @@ all_stay (h ∷ headers) = ap (λ (t : List Header). h ∷ t) (all_stay headers)
 -- the lines that are written, as the ones with their new numbers and lengths
 pub lines_are : (c : Changes) (headers : List Header) (props text : List ℕ) → AreLengths props text c
     → new_headers c headers
-    ≡ with_lengths props text (put_all copy_revision_name (copy_number c.copy) (put_all revision_name c.revision (lines_that_stay c.copy headers)))
+    ≡ with_lengths props text (put_all copy_revision_name (copy_number c.copy)
+    (put_all revision_name c.revision (lines_that_stay c.copy headers)))
 lines_are c headers props text lengths =
     let lines = lines_that_stay c.copy headers in
     ap (λ t. (map (renewed c) lines ++ t) ++ added content_length_name c.content headers)
@@ -300,24 +355,31 @@ lines_are c headers props text lengths =
     ∙ put_are c lines props text lengths.props_is lengths.text_is lengths.content_is
 
 -- the lines of a revision
-pub revision_lines : (c : Changes) (headers : List Header) (number : ℕ) (props text : List ℕ) → c.revision ≡ Some number → c.copy ≡ Same
-    → AreLengths props text c → new_headers c headers ≡ with_lengths props text (with_header_value revision_name (spelled_number number) headers)
+pub revision_lines : (c : Changes) (headers : List Header) (number : ℕ) (props text : List ℕ) → c.revision ≡ Some number
+    → c.copy ≡ Same
+    → AreLengths props text c → new_headers c headers ≡ with_lengths props text
+    (with_header_value revision_name (spelled_number number) headers)
 revision_lines c headers number props text revision copy lengths =
     lines_are c headers props text lengths
-    ∙ ap (λ k. with_lengths props text (put_all copy_revision_name (copy_number k) (put_all revision_name c.revision (lines_that_stay k headers)))) copy
+    ∙ ap (λ k. with_lengths props text (put_all copy_revision_name (copy_number k)
+    (put_all revision_name c.revision (lines_that_stay k headers)))) copy
     ∙ ap (λ n. with_lengths props text (put_all revision_name n (lines_that_stay Same headers))) revision
-    ∙ ap (λ (hs : List Header). with_lengths props text (with_header_value revision_name (spelled_number number) hs)) (all_stay headers)
+    ∙ ap (λ (hs : List Header). with_lengths props text (with_header_value revision_name (spelled_number number) hs))
+    (all_stay headers)
 
 -- the lines of a node
-pub node_lines : (c : Changes) (headers : List Header) (copy : CopyChange) (props text : List ℕ) → c.revision ≡ None → c.copy ≡ copy
+pub node_lines : (c : Changes) (headers : List Header) (copy : CopyChange) (props text : List ℕ) → c.revision ≡ None
+    → c.copy ≡ copy
     → AreLengths props text c → new_headers c headers ≡ with_lengths props text (copied_headers copy headers)
 node_lines c headers copy props text revision copy_is lengths =
     lines_are c headers props text lengths
-    ∙ ap (λ n. with_lengths props text (put_all copy_revision_name (copy_number c.copy) (put_all revision_name n (lines_that_stay c.copy headers)))) revision
+    ∙ ap (λ n. with_lengths props text (put_all copy_revision_name (copy_number c.copy)
+    (put_all revision_name n (lines_that_stay c.copy headers)))) revision
     ∙ ap (λ k. with_lengths props text (put_all copy_revision_name (copy_number k) (lines_that_stay k headers))) copy_is
     ∙ ap (with_lengths props text) (copied copy)
   where
-    copied : (copy : CopyChange) → put_all copy_revision_name (copy_number copy) (lines_that_stay copy headers) ≡ copied_headers copy headers
+    copied : (copy : CopyChange) → put_all copy_revision_name (copy_number copy)
+        (lines_that_stay copy headers) ≡ copied_headers copy headers
     copied Same = all_stay headers
     copied (Renumbered n) = ap (with_header_value copy_revision_name (spelled_number n)) (all_stay headers)
     copied Dropped = refl

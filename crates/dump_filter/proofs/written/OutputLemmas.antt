@@ -26,16 +26,19 @@ if_ok (Ok x) P Q f p = f x p
 if_ok (Err e) P Q f p = tt
 
 -- four chunks, one behind the other
-pub chunks_out : (old lines props text end one two three new : List ℕ) → one ≡ old ++ lines → two ≡ one ++ props → three ≡ two ++ text
+pub chunks_out : (old lines props text end one two three new : List ℕ) → one ≡ old ++ lines → two ≡ one ++ props
+    → three ≡ two ++ text
     → new ≡ three ++ end → new ≡ old ++ (lines ++ props ++ text ++ end)
 chunks_out old lines props text end one two three new one_is two_is three_is new_is =
     new_is
-    ∙ ap (λ t. t ++ end) (three_is ∙ ap (λ t. t ++ text) (two_is ∙ ap (λ t. t ++ props) one_is ∙ append_assoc old lines props)
+    ∙ ap (λ t. t ++ end) (three_is ∙ ap (λ t. t ++ text)
+    (two_is ∙ ap (λ t. t ++ props) one_is ∙ append_assoc old lines props)
     ∙ append_assoc old (lines ++ props) text)
     ∙ append_assoc old (lines ++ props ++ text) end
 
 -- a record whose lines have the lengths of what follows them
-record_is : (c : Changes) (headers lines : List Header) (bytes props text : List ℕ) → new_headers c headers ≡ with_lengths bytes text lines
+record_is : (c : Changes) (headers lines : List Header) (bytes props text : List ℕ)
+    → new_headers c headers ≡ with_lengths bytes text lines
     → bytes ≡ props → new_record c headers bytes text ≡ whole_text lines props text
 record_is c headers lines bytes props text lines_are bytes_are =
     ap (λ h. block_text h ++ bytes ++ text) lines_are ∙ ap (λ b. whole_text lines b text) bytes_are
@@ -46,8 +49,10 @@ pub revision_is : (c : Changes) (r : DumpRecord) (number : ℕ) (padded : Bool) 
     → new_record c r.headers bytes r.text ++ codes "\n" ≡ revision_own r number padded ps
 revision_is c r number padded bytes text ps revision copy lengths text_is bytes_are =
     ap (λ t. t ++ codes "\n")
-    (record_is c r.headers (with_header_value revision_name (spelled_number number) r.headers) bytes (new_block padded r (revision_properties padded ps)) r.text
-    (revision_lines c r.headers number bytes r.text revision copy (subst (λ t. AreLengths bytes t c) text_is lengths)) bytes_are)
+    (record_is c r.headers (with_header_value revision_name (spelled_number number) r.headers) bytes
+    (new_block padded r (revision_properties padded ps)) r.text
+    (revision_lines c r.headers number bytes r.text revision copy
+    (subst (λ t. AreLengths bytes t c) text_is lengths)) bytes_are)
 
 pub node_is : (c : Changes) (r : DumpRecord) (copy : CopyChange) (bytes text : List ℕ) (ps : List Property)
     → c.revision ≡ None → c.copy ≡ copy → AreLengths bytes text c → text ≡ r.text → bytes ≡ new_block false r ps
@@ -55,4 +60,5 @@ pub node_is : (c : Changes) (r : DumpRecord) (copy : CopyChange) (bytes text : L
 node_is c r copy bytes text ps revision copy_is lengths text_is bytes_are =
     ap (λ t. t ++ codes "\n\n")
     (record_is c r.headers (copied_headers copy r.headers) bytes (new_block false r ps) r.text
-    (node_lines c r.headers copy bytes r.text revision copy_is (subst (λ t. AreLengths bytes t c) text_is lengths)) bytes_are)
+    (node_lines c r.headers copy bytes r.text revision copy_is
+    (subst (λ t. AreLengths bytes t c) text_is lengths)) bytes_are)

@@ -117,7 +117,8 @@ properties_kept settings kept whole present g (p ∷ ps) (q ∷ new) known ((nam
   properties_kept settings kept whole present g ps new (λ x (i, within, at). known x (suc i, omega arith, at)) all,
 )
   where
-    moved : ¬ HasForeignNumber settings kept present (value_of p) → (v : List ℕ) → IsNewMergeinfo settings kept (value_of p) v
+    moved : ¬ HasForeignNumber settings kept present (value_of p) → (v : List ℕ) → IsNewMergeinfo settings kept
+        (value_of p) v
         → IsNewMergeinfo settings whole (value_of p) v
     moved fine v is = subst (λ (k : KeptRevisions). IsNewMergeinfo settings k (value_of p) v)
         (sym (whole_is kept (present + 1) whole g))
@@ -126,8 +127,10 @@ properties_kept settings kept whole present g (p ∷ ps) (q ∷ new) known ((nam
         fine is)
 
     by_case : (b : Bool) → is_mergeinfo p ≡ b
-        → MatchBool b ((v : List ℕ) × (q.value ≡ Some v) × IsNewMergeinfo settings kept (value_of p) v) (q.value ≡ p.value)
-        → MatchBool b ((v : List ℕ) × (q.value ≡ Some v) × IsNewMergeinfo settings whole (value_of p) v) (q.value ≡ p.value)
+        → MatchBool b ((v : List ℕ) × (q.value ≡ Some v) × IsNewMergeinfo settings kept (value_of p) v)
+        (q.value ≡ p.value)
+        → MatchBool b ((v : List ℕ) × (q.value ≡ Some v) × IsNewMergeinfo settings whole (value_of p) v)
+        (q.value ≡ p.value)
     by_case true is (v, set, new_value) = (v, set, moved (known p (0, omega arith, refl) is) v new_value)
     by_case false is new_value = new_value
 

@@ -45,7 +45,8 @@ next_left block out text rest new p front before cut one new_is = λ ps is.
           ∙ sym (append_assoc out (entry_text p) more) ∙ ap (λ t. t ++ more) (sym new_is),
     )
 
-pub none_left : (block out rest new : List ℕ) → IsLeftOf block out rest → IsPropertyBlock rest [] → new ≡ out ++ block_end
+pub none_left : (block out rest new : List ℕ) → IsLeftOf block out rest → IsPropertyBlock rest []
+    → new ≡ out ++ block_end
     → (ps : List Property) → IsPropertyBlock block ps → new ≡ property_block_text ps
 none_left block out rest new before end new_is = λ ps is.
     let (qs, here, same) = before ps is in
@@ -72,10 +73,12 @@ padding_is (p ∷ ps) = cases (padding_is ps) (bytes_eq p.name (codes "svn:date"
     cases others false is v any = rw is others
 
 -- the new property of one that isn't mergeinfo, and of one that is
-pub unchanged : (settings : Settings) (kept : KeptRevisions) (p : Property) → is_mergeinfo p ≡ false → IsNewProperty settings kept p p
+pub unchanged : (settings : Settings) (kept : KeptRevisions) (p : Property) → is_mergeinfo p ≡ false
+    → IsNewProperty settings kept p p
 unchanged settings kept p other = (refl, rw other refl)
 
-pub with_new_value : (settings : Settings) (kept : KeptRevisions) (p : Property) (value : List ℕ) → is_mergeinfo p ≡ true
+pub with_new_value : (settings : Settings) (kept : KeptRevisions) (p : Property) (value : List ℕ)
+    → is_mergeinfo p ≡ true
     → IsNewMergeinfo settings kept (value_of p) value → IsNewProperty settings kept p (property_of p.name value)
 with_new_value settings kept p value merge is = (refl, rw merge (value, refl, is))
 
@@ -91,22 +94,27 @@ no_mergeinfo settings kept (p ∷ ps) none = (
 -- the properties up to the rest of a block, with new values, are written behind what stands already
 abbrev pub AreRewritten : Settings → KeptRevisions → List ℕ → List ℕ → List ℕ → Type 0
 AreRewritten settings kept block out rest = (ps : List Property) → IsPropertyBlock block ps
-    → (qs done new : List Property) × IsPropertyBlock rest qs × (ps ≡ done ++ qs) × AreNewProperties settings kept done new
+    → (qs done new : List Property) × IsPropertyBlock rest qs × (ps ≡ done ++ qs)
+    × AreNewProperties settings kept done new
     × (out ≡ flat_map entry_text new)
 
-pub none_rewritten : (settings : Settings) (kept : KeptRevisions) (block out rest : List ℕ) → out ≡ [] → rest ≡ block → AreRewritten settings kept block out rest
+pub none_rewritten : (settings : Settings) (kept : KeptRevisions) (block out rest : List ℕ) → out ≡ [] → rest ≡ block
+    → AreRewritten settings kept block out rest
 none_rewritten settings kept block out rest empty same = λ ps is.
     (ps, [], [], subst (λ (t : List ℕ). IsPropertyBlock t ps) (sym same) is, refl, tt, empty)
 
-one_more : (settings : Settings) (kept : KeptRevisions) (ps qs : List Property) (p q : Property) → AreNewProperties settings kept ps qs → IsNewProperty settings kept p q
+one_more : (settings : Settings) (kept : KeptRevisions) (ps qs : List Property) (p q : Property)
+    → AreNewProperties settings kept ps qs → IsNewProperty settings kept p q
     → AreNewProperties settings kept (ps ++ p ∷ []) (qs ++ q ∷ [])
 one_more settings kept [] [] p q all one = (one, tt)
 one_more settings kept [] (y ∷ qs) p q all one = absurd all
 one_more settings kept (x ∷ ps) [] p q all one = absurd all
 one_more settings kept (x ∷ ps) (y ∷ qs) p q all one = (all.0, one_more settings kept ps qs p q all.1 one)
 
-pub next_rewritten : (settings : Settings) (kept : KeptRevisions) (block out text rest after : List ℕ) (p : Property) (front : List ℕ) → AreRewritten settings kept block out text
-    → text ≡ front ++ rest → IsEntry front p → (q : Property) → IsNewProperty settings kept p q → after ≡ out ++ entry_text q
+pub next_rewritten : (settings : Settings) (kept : KeptRevisions) (block out text rest after : List ℕ) (p : Property)
+    (front : List ℕ) → AreRewritten settings kept block out text
+    → text ≡ front ++ rest → IsEntry front p → (q : Property) → IsNewProperty settings kept p q
+    → after ≡ out ++ entry_text q
     → AreRewritten settings kept block after rest
 next_rewritten settings kept block out text rest after p front before cut one q is_new after_is = λ ps is.
     let (qs, done, new, here, list, all, written) = before ps is in
@@ -117,21 +125,28 @@ next_rewritten settings kept block out text rest after p front before cut one q 
       inr left.entries,
       list ∙ ap (λ (l : List Property). done ++ l) left.list ∙ sym (append_assoc done (p ∷ []) left.others),
       one_more settings kept done new p q all is_new,
-      after_is ∙ ap (λ t. t ++ entry_text q) written ∙ ap (λ t. flat_map entry_text new ++ t) (sym (append-nil (entry_text q)))
+      after_is ∙ ap (λ t. t ++ entry_text q) written ∙ ap (λ t. flat_map entry_text new ++ t)
+          (sym (append-nil (entry_text q)))
           ∙ sym (flat_map-append entry_text new (q ∷ [])),
     )
 
-pub all_rewritten : (settings : Settings) (kept : KeptRevisions) (block out rest after : List ℕ) → AreRewritten settings kept block out rest → IsPropertyBlock rest []
+pub all_rewritten : (settings : Settings) (kept : KeptRevisions) (block out rest after : List ℕ)
+    → AreRewritten settings kept block out rest → IsPropertyBlock rest []
     → after ≡ out ++ block_end → (ps : List Property) → IsPropertyBlock block ps
     → (new : List Property) × AreNewProperties settings kept ps new × (after ≡ property_block_text new)
 all_rewritten settings kept block out rest after before end after_is = λ ps is.
     let (qs, done, new, here, list, all, written) = before ps is in
     let none : qs ≡ [] = property_block_once rest qs [] here end in
-    let same : ps ≡ done = list ∙ ap (λ (l : List Property). done ++ l) none ∙ append-nil done in
-    (new, subst (λ (l : List Property). AreNewProperties settings kept l new) (sym same) all, after_is ∙ ap (λ t. t ++ block_end) written)
+    let same : ps ≡ done = list ∙ ap (λ (l : List Property). done ++ l) none ∙ append-nil done in (
+      new,
+      subst (λ (l : List Property). AreNewProperties settings kept l new) (sym same) all,
+      after_is
+          ∙ ap (λ t. t ++ block_end) written,
+    )
 
 -- the mergeinfo of what is left of a block is some lines
-pub left_lines : (block rest front : List ℕ) (p : Property) → HasLines block → block ≡ front ++ rest → IsEntry front p → HasLines rest
+pub left_lines : (block rest front : List ℕ) (p : Property) → HasLines block → block ≡ front ++ rest → IsEntry front p
+    → HasLines rest
 left_lines block rest front p lines cut one ps is q (i, within, at) = elim is [
   | inl (none, empty) ↦ absurd (let size : length ps ≡ 0 = ap length empty in omega arith)
   | inr more ↦ lines (p ∷ ps) (inr (front, rest, cut, one, more)) q (suc i, omega arith, at)
@@ -146,27 +161,34 @@ entry_lines block rest front p lines (ps, is) cut one merge =
 -- a record with a list of properties was read
 pub none_read : (r : DumpRecord) (found : Option Props) → ArePropertiesOf r found → found ≡ None → (ps : List Property)
     → HasPropertyList r ps → ⊥
-none_read r found are is ps list = let bad : false ≡ true = sym (ap is_some is) ∙ are.there.1 (ps, list) in false_true bad
+none_read r found are is ps list = let bad : false ≡ true = sym (ap is_some is)
+    ∙ are.there.1 (ps, list) in false_true bad
 
 -- what was read is a block of the same list
-pub read_block : (r : DumpRecord) (found : Option Props) (p : Props) → ArePropertiesOf r found → found ≡ Some p → (ps : List Property)
+pub read_block : (r : DumpRecord) (found : Option Props) (p : Props) → ArePropertiesOf r found → found ≡ Some p
+    → (ps : List Property)
     → HasPropertyList r ps → IsPropertyBlock (props_bytes p) ps
 read_block r found p are is ps list = subst (λ (t : List ℕ). IsPropertyBlock t ps) (sym (are.bytes p is)) list.0
 
 -- the block of a record with a length for its properties, and without
-pub block_with : (r : DumpRecord) (ps : List Property) → has_header property_length_name r.headers ≡ true → property_block_text ps ≡ new_block false r ps
+pub block_with : (r : DumpRecord) (ps : List Property) → has_header property_length_name r.headers ≡ true
+    → property_block_text ps ≡ new_block false r ps
 block_with r ps has = rw has refl
 
-pub block_without : (r : DumpRecord) (ps : List Property) → has_header property_length_name r.headers ≡ false → [] ≡ new_block false r ps
+pub block_without : (r : DumpRecord) (ps : List Property) → has_header property_length_name r.headers ≡ false
+    → [] ≡ new_block false r ps
 block_without r ps none = rw none refl
 
 -- a node without a length for its properties has none
-pub no_block : (settings : Settings) (kept : KeptRevisions) (r : DumpRecord) → has_header property_length_name r.headers ≡ false → length r.props ≡ property_length r.headers
+pub no_block : (settings : Settings) (kept : KeptRevisions) (r : DumpRecord)
+    → has_header property_length_name r.headers ≡ false → length r.props ≡ property_length r.headers
     → (ps : List Property) → HasPropertyList r ps → AreNewProperties settings kept ps []
 no_block settings kept r none size ps is =
-    let number : header_number property_length_name r.headers ≡ None = ap (option_and_then number_of) (no_value property_length_name r.headers none) in
+    let number : header_number property_length_name r.headers ≡ None = ap (option_and_then number_of)
+    (no_value property_length_name r.headers none) in
     let empty : r.props ≡ [] = no_bytes r.props (size ∙ ap (λ (n : Option ℕ). unwrap_or n 0) number) in
-    let same : ps ≡ [] = property_block_once [] ps [] (subst (λ (t : List ℕ). IsPropertyBlock t ps) empty is.0) (inl (refl, refl)) in
+    let same : ps ≡ [] = property_block_once [] ps [] (subst (λ (t : List ℕ). IsPropertyBlock t ps) empty is.0)
+    (inl (refl, refl)) in
     subst (λ (l : List Property). AreNewProperties settings kept l []) (sym same) tt
   where
     no_bytes : (bytes : List ℕ) → length bytes ≡ 0 → bytes ≡ []

@@ -21,34 +21,40 @@ use Rattle.dump_filter.proofs.again.Headers.{AreTold, known_once, lengths_again}
 use Rattle.dump_filter.proofs.written.LineLemmas.{lines_are, all_stay}
 
 -- what a number is that is there and is written as it stands
-spelled_value : (name : List ℕ) (n : ℕ) (headers : List Header) → is_spelled name headers ≡ true → header_number name headers ≡ Some n
+spelled_value : (name : List ℕ) (n : ℕ) (headers : List Header) → is_spelled name headers ≡ true
+    → header_number name headers ≡ Some n
     → header_value name headers ≡ Some (spelled_number n)
 spelled_value name n headers spelled is = by_value (header_value name headers) spelled is
   where
-    by_number : (digits : List ℕ) (o : Option ℕ) → are_spelled (Some digits) o ≡ true → o ≡ Some n → Some digits ≡ Some (spelled_number n)
+    by_number : (digits : List ℕ) (o : Option ℕ) → are_spelled (Some digits) o ≡ true → o ≡ Some n
+        → Some digits ≡ Some (spelled_number n)
     by_number digits None spelled is = let bad : None ≡ Some n = is in cc
     by_number digits (Some m) spelled is =
         let same : m ≡ n = cc in
         ap (λ (t : List ℕ). Some t) ((bytes_eq-Decides digits (spelled_number m)).0 spelled ∙ ap spelled_number same)
 
-    by_value : (o : Option (List ℕ)) → are_spelled o (option_and_then number_of o) ≡ true → option_and_then number_of o ≡ Some n
+    by_value : (o : Option (List ℕ)) → are_spelled o (option_and_then number_of o) ≡ true
+        → option_and_then number_of o ≡ Some n
         → o ≡ Some (spelled_number n)
     by_value None spelled is = let bad : None ≡ Some n = is in cc
     by_value (Some digits) spelled is = by_number digits (number_of digits) spelled is
 
 -- a header of a number that is there gives one
-there : (name : List ℕ) (headers : List Header) → has_header name headers ≡ true → (has_header name headers && is_none (header_number name headers)) ≡ false
+there : (name : List ℕ) (headers : List Header) → has_header name headers ≡ true
+    → (has_header name headers && is_none (header_number name headers)) ≡ false
     → (n : ℕ) × (header_number name headers ≡ Some n)
 there name headers has good = by_number (header_number name headers) refl
   where
     by_number : (o : Option ℕ) → header_number name headers ≡ o → (n : ℕ) × (header_number name headers ≡ Some n)
     by_number (Some n) is = (n, is)
-    by_number None is = absurd (absurd_bool (has_header name headers && is_none (header_number name headers)) (rw (has, is) refl) good)
+    by_number None is = absurd (absurd_bool (has_header name headers && is_none (header_number name headers))
+        (rw (has, is) refl) good)
 
 -- a length that is written as it stands is told
 told_of : (name : List ℕ) (n : ℕ) (headers : List Header) → is_spelled name headers ≡ true
     → (has_header name headers && is_none (header_number name headers)) ≡ false
-    → (has_header name headers ≡ true → header_length name headers ≡ n) → (has_header name headers ≡ false → n ≡ 0) → IsTold name n headers
+    → (has_header name headers ≡ true → header_length name headers ≡ n) → (has_header name headers ≡ false → n ≡ 0)
+    → IsTold name n headers
 told_of name n headers spelled good is none = by_case (has_header name headers) refl
   where
     by_case : (b : Bool) → has_header name headers ≡ b → IsTold name n headers
@@ -113,12 +119,14 @@ told_all number text r after b written =
     let sum : length r.props + length r.text ≡ property_length r.headers + text_length r.headers
     = ap (λ n. n + length r.text) b.props_fit ∙ ap (λ n. property_length r.headers + n) b.text_fits in
     record {
-      props_told = told_of property_length_name (length r.props) r.headers parts.props good.props (λ has. sym b.props_fit)
+      props_told = told_of property_length_name (length r.props) r.headers parts.props good.props
+          (λ has. sym b.props_fit)
           (λ none. b.props_fit ∙ no_length property_length_name r.headers none);
       text_told = told_of text_length_name (length r.text) r.headers parts.text good.text (λ has. sym b.text_fits)
           (λ none. b.text_fits ∙ no_length text_length_name r.headers none);
       content_told = told_of content_length_name (length r.props + length r.text) r.headers parts.content good.content
-          (λ has. adds_up has (first_false _ _ (first_false _ _ (not_so (has_bad_lengths r.headers) lawful.lengths))) ∙ sym sum)
+          (λ has. adds_up has (first_false _ _ (first_false _ _ (not_so (has_bad_lengths r.headers) lawful.lengths)))
+          ∙ sym sum)
           (λ none. sum ∙ eqb-true (property_length r.headers + text_length r.headers) 0
           (sym (ap (λ b. b || property_length r.headers + text_length r.headers == 0) none) ∙ parts.there));
     }
@@ -127,12 +135,16 @@ told_all number text r after b written =
         → (has_header content_length_name r.headers
         && not (header_length content_length_name r.headers == property_length r.headers + text_length r.headers)) ≡ false
         → header_length content_length_name r.headers ≡ property_length r.headers + text_length r.headers
-    adds_up has ok = eqb-true (header_length content_length_name r.headers) (property_length r.headers + text_length r.headers)
+    adds_up has ok = eqb-true (header_length content_length_name r.headers)
+        (property_length r.headers + text_length r.headers)
         (not-false (header_length content_length_name r.headers == property_length r.headers + text_length r.headers)
-        (sym (ap (λ b. b && not (header_length content_length_name r.headers == property_length r.headers + text_length r.headers)) has) ∙ ok))
+        (sym (ap (λ b. b && not
+        (header_length content_length_name r.headers == property_length r.headers + text_length r.headers)) has)
+        ∙ ok))
 
 -- a number that stands already is put to no effect
-put_known : (name : List ℕ) (o : Option ℕ) (headers : List Header) → nat_le (count_named name headers) 1 ≡ true → is_spelled name headers ≡ true
+put_known : (name : List ℕ) (o : Option ℕ) (headers : List Header) → nat_le (count_named name headers) 1 ≡ true
+    → is_spelled name headers ≡ true
     → ((n : ℕ) → o ≡ Some n → header_number name headers ≡ Some n) → put_all name o headers ≡ headers
 put_known name None headers few spelled same = refl
 put_known name (Some n) headers few spelled same =
@@ -147,22 +159,27 @@ copy_put (Renumbered n) headers few spelled same =
 copy_put Dropped headers few spelled same = absurd same
 
 -- no line goes where the copy source stays
-no_line_goes : (copy : CopyChange) (headers : List Header) → StaysCopied copy headers → lines_that_stay copy headers ≡ headers
+no_line_goes : (copy : CopyChange) (headers : List Header) → StaysCopied copy headers
+    → lines_that_stay copy headers ≡ headers
 no_line_goes Same headers same = all_stay headers
 no_line_goes (Renumbered n) headers same = all_stay headers
 no_line_goes Dropped headers same = absurd same
 
 -- the block of a record under its own numbers and lengths, all of them written as they stand
-pub stands_as_written : (number : ℕ) (text : List ℕ) (r : DumpRecord) (after : List ℕ) (c : Changes) → BeginsWithRecord number text r after
-    → are_written r.headers ≡ true → AreLengths r.props r.text c → ((n : ℕ) → c.revision ≡ Some n → header_number revision_name r.headers ≡ Some n)
+pub stands_as_written : (number : ℕ) (text : List ℕ) (r : DumpRecord) (after : List ℕ) (c : Changes)
+    → BeginsWithRecord number text r after
+    → are_written r.headers ≡ true → AreLengths r.props r.text c
+    → ((n : ℕ) → c.revision ≡ Some n → header_number revision_name r.headers ≡ Some n)
     → StaysCopied c.copy r.headers → new_headers c r.headers ≡ r.headers
 stands_as_written number text r after c b written lengths revision copy =
     let parts = parts_of r.headers written in
     let headers = r.headers in
     lines_are c headers r.props r.text lengths
-    ∙ ap (λ (l : List Header). with_lengths r.props r.text (put_all copy_revision_name (copy_number c.copy) (put_all revision_name c.revision l)))
+    ∙ ap (λ (l : List Header). with_lengths r.props r.text
+    (put_all copy_revision_name (copy_number c.copy) (put_all revision_name c.revision l)))
     (no_line_goes c.copy headers copy)
     ∙ ap (λ (l : List Header). with_lengths r.props r.text (put_all copy_revision_name (copy_number c.copy) l))
     (put_known revision_name c.revision headers (known_once revision_name refl headers b.block) parts.revision revision)
-    ∙ ap (with_lengths r.props r.text) (copy_put c.copy headers (known_once copy_revision_name refl headers b.block) parts.copy copy)
+    ∙ ap (with_lengths r.props r.text) (copy_put c.copy headers
+    (known_once copy_revision_name refl headers b.block) parts.copy copy)
     ∙ lengths_again r.props r.text headers b.block (told_all number text r after b written)

@@ -20,7 +20,8 @@ copied_headers Dropped headers = without_copy_headers headers
 -- a revision of these properties under its new number, padded or not
 abbrev pub revision_own : DumpRecord → ℕ → Bool → List Property → List ℕ
 revision_own r number padded ps =
-    whole_text (with_header_value revision_name (spelled_number number) r.headers) (new_block padded r (revision_properties padded ps)) r.text
+    whole_text (with_header_value revision_name (spelled_number number) r.headers)
+    (new_block padded r (revision_properties padded ps)) r.text
     ++ codes "\n"
 
 -- a node of these properties with its new copy source

@@ -16,12 +16,14 @@ one_more : (xs : List ℕ) (o : Option ℕ) → is_some o ≡ true → length (x
 one_more xs None e = cc
 one_more xs (Some x) e = length_push xs x
 
-take_bounded : (size : PoolSize) (w : World) (k : ℕ) (jobs : List Entry) → IsBounded size w → IsBounded size (taken_by w k jobs)
+take_bounded : (size : PoolSize) (w : World) (k : ℕ) (jobs : List Entry) → IsBounded size w
+    → IsBounded size (taken_by w k jobs)
 take_bounded size w k [] h = h
 take_bounded size w k (Entry.Item n ∷ rest) h = h
 take_bounded size w k (Entry.Mark ∷ rest) h = h
 
-arrive_bounded : (size : PoolSize) (w : World) (dones : List Entry) → IsBounded size w → IsBounded size (arrived size w dones)
+arrive_bounded : (size : PoolSize) (w : World) (dones : List Entry) → IsBounded size w
+    → IsBounded size (arrived size w dones)
 arrive_bounded size w [] h = h
 arrive_bounded size w (Entry.Item n ∷ rest) h = h
 arrive_bounded size w (Entry.Mark ∷ rest) h = h
@@ -30,14 +32,17 @@ write_bounded : (size : PoolSize) (w : World) (lane : List ℕ) → IsBounded si
 write_bounded size w [] h = h
 write_bounded size w (n ∷ rest) h = h
 
-draw_bounded : (size : PoolSize) (w : World) → IsTrue (is_enabled size w Event.Draw) → IsBounded size w → IsBounded size (after_event size w Event.Draw)
+draw_bounded : (size : PoolSize) (w : World) → IsTrue (is_enabled size w Event.Draw) → IsBounded size w
+    → IsBounded size (after_event size w Event.Draw)
 draw_bounded size w e h =
     let tests = and_parts (not w.cutter_ended && not w.holds_credit) _ e in
     let free : 0 < w.credits = ltb-true 0 w.credits tests.1 in
-    let none : held w.holds_credit ≡ 0 = ap held (not-true w.holds_credit (and_parts (not w.cutter_ended) _ tests.0).1) in
+    let none : held w.holds_credit ≡ 0 = ap held (not-true w.holds_credit
+    (and_parts (not w.cutter_ended) _ tests.0).1) in
     omega arith
 
-cut_bounded : (size : PoolSize) (w : World) (last : Bool) → IsTrue (is_enabled size w (Event.Cut last)) → IsBounded size w
+cut_bounded : (size : PoolSize) (w : World) (last : Bool) → IsTrue (is_enabled size w (Event.Cut last))
+    → IsBounded size w
     → IsBounded size (after_event size w (Event.Cut last))
 cut_bounded size w last e h =
     let one : held w.holds_credit ≡ 1 = ap held (and_parts w.holds_credit _ e).0 in omega arith

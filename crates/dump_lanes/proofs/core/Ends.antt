@@ -17,7 +17,8 @@ pub record HasJobs (workers : ℕ) (ended : Bool) (put : ℕ) (jobs : List Entry
   pub no_item : marks jobs < put → items_of jobs ≡ []
 
 -- the hands and the done queue, beside the marks that were taken and that arrived
-pub record HasDones (workers : ℕ) (taken : List Bool) (hands : List (Option Entry)) (dones : List Entry) (arrived : ℕ) : Type 0 where
+pub record HasDones (workers : ℕ) (taken : List Bool) (hands : List (Option Entry)) (dones : List Entry)
+    (arrived : ℕ) : Type 0 where
   pub on_the_way : count_taken taken ≡ marks_in_hands hands + marks dones + arrived
   pub own_last : (k : ℕ) → get_or taken k false ≡ true → items_of (option_to_list (get_or hands k None)) ≡ []
   pub closed : marks dones + arrived ≡ workers → AreMarkedAfter dones
@@ -32,7 +33,8 @@ cut_jobs : (size : PoolSize) (w : World) (last : Bool) → w.cutter_ended ≡ fa
     → HasJobs size.workers last w.marks_put (w.jobs ++ Entry.Item w.cut ∷ []) w.marks_taken
 cut_jobs size w last e h =
     let none : w.marks_put ≡ 0 = h.after_end e in
-    let more : marks (w.jobs ++ Entry.Item w.cut ∷ []) ≡ marks w.jobs + 0 = marks-append w.jobs (Entry.Item w.cut ∷ []) in
+    let more : marks (w.jobs ++ Entry.Item w.cut ∷ []) ≡ marks w.jobs + 0 = marks-append w.jobs
+    (Entry.Item w.cut ∷ []) in
     let before : w.marks_put ≡ marks w.jobs + count_taken w.marks_taken = h.in_queue in
     record {
       after_end = λ x. none;
@@ -53,7 +55,8 @@ mark_jobs size w e lt h =
       enough = omega arith;
       in_queue = omega arith;
       items_first = mark_joins w.jobs h.items_first;
-      no_item = λ less. items_of-append w.jobs (Entry.Mark ∷ []) ∙ (append-nil (items_of w.jobs) ∙ h.no_item (omega arith));
+      no_item = λ less. items_of-append w.jobs (Entry.Mark ∷ [])
+          ∙ (append-nil (items_of w.jobs) ∙ h.no_item (omega arith));
     }
 
 end_jobs : (size : PoolSize) (w : World) (ended : Bool) → w.cutter_ended ≡ false
@@ -80,10 +83,12 @@ item_taken size w k n rest e h =
 own_at : (hands : List (Option Entry)) (taken : List Bool) (k : ℕ) (hand : Option Entry) → k < length hands
     → ((j : ℕ) → get_or taken j false ≡ true → items_of (option_to_list (get_or hands j None)) ≡ [])
     → (get_or taken k false ≡ true → items_of (option_to_list hand) ≡ [])
-    → (j : ℕ) → get_or taken j false ≡ true → (j ≡ k) ⊎ (j ≡ k → ⊥) → items_of (option_to_list (get_or (set hands k hand) j None)) ≡ []
+    → (j : ℕ) → get_or taken j false ≡ true → (j ≡ k) ⊎ (j ≡ k → ⊥)
+    → items_of (option_to_list (get_or (set hands k hand) j None)) ≡ []
 own_at hands taken k hand lt own new j t (inl e) =
     ap (λ (i : ℕ). items_of (option_to_list (get_or (set hands k hand) i None))) e
-    ∙ (ap (λ (o : Option Entry). items_of (option_to_list o)) (get_or-set_same hands k hand None lt) ∙ new (ap (λ (i : ℕ). get_or taken i false) (sym e) ∙ t))
+    ∙ (ap (λ (o : Option Entry). items_of (option_to_list o)) (get_or-set_same hands k hand None lt)
+    ∙ new (ap (λ (i : ℕ). get_or taken i false) (sym e) ∙ t))
 own_at hands taken k hand lt own new j t (inr ne) =
     ap (λ (o : Option Entry). items_of (option_to_list o)) (get_or-set_other hands k j hand None ne) ∙ own j t
 
@@ -92,10 +97,12 @@ item_in_hand : (size : PoolSize) (w : World) (k n : ℕ) → MayTake size w k �
     → HasDones size.workers w.marks_taken (set w.hands k (Some (Entry.Item n))) w.dones w.marks_arrived
 item_in_hand size w k n may s h =
     let lt : k < length w.hands = omega (arith, s.each_hand, may.within) in
-    let free : marks (option_to_list (get_or w.hands k None)) ≡ 0 = ap (λ (o : Option Entry). marks (option_to_list o)) may.empty in
+    let free : marks (option_to_list (get_or w.hands k None)) ≡ 0 = ap
+    (λ (o : Option Entry). marks (option_to_list o)) may.empty in
     record {
       on_the_way = omega (arith, h.on_the_way, hand_set w.hands k (Some (Entry.Item n)) lt);
-      own_last = λ j t. own_at w.hands w.marks_taken k (Some (Entry.Item n)) lt h.own_last (λ x. absurd (true≢false (sym x ∙ may.unmarked))) j t (cases_eq j k);
+      own_last = λ j t. own_at w.hands w.marks_taken k (Some (Entry.Item n)) lt h.own_last
+          (λ x. absurd (true≢false (sym x ∙ may.unmarked))) j t (cases_eq j k);
       closed = h.closed;
     }
 
@@ -105,13 +112,15 @@ no_items (Entry.Item n ∷ es) e = absurd (cc)
 no_items (Entry.Mark ∷ es) e = e
 
 -- a worker takes its mark
-mark_taken : (size : PoolSize) (w : World) (k : ℕ) (rest : List Entry) → w.jobs ≡ Entry.Mark ∷ rest → MayTake size w k → IsSized size w
+mark_taken : (size : PoolSize) (w : World) (k : ℕ) (rest : List Entry) → w.jobs ≡ Entry.Mark ∷ rest → MayTake size w k
+    → IsSized size w
     → HasJobs size.workers w.cutter_ended w.marks_put w.jobs w.marks_taken
     → HasJobs size.workers w.cutter_ended w.marks_put rest (set w.marks_taken k true)
 mark_taken size w k rest e may s h =
     let same : marks w.jobs ≡ 1 + marks rest = ap marks e in
     let lt : k < length w.marks_taken = omega (arith, s.each_mark, may.within) in
-    let one : count_taken (set w.marks_taken k true) ≡ count_taken w.marks_taken + 1 = taken_set w.marks_taken k lt may.unmarked in
+    let one : count_taken
+    (set w.marks_taken k true) ≡ count_taken w.marks_taken + 1 = taken_set w.marks_taken k lt may.unmarked in
     let none : items_of rest ≡ [] = subst AreItemsFirst e h.items_first in
     record {
       after_end = h.after_end;
@@ -137,7 +146,8 @@ mark_in_hand : (size : PoolSize) (w : World) (k : ℕ) → MayTake size w k → 
     → HasDones size.workers (set w.marks_taken k true) (set w.hands k (Some Entry.Mark)) w.dones w.marks_arrived
 mark_in_hand size w k may s h =
     let lt : k < length w.hands = omega (arith, s.each_hand, may.within) in
-    let free : marks (option_to_list (get_or w.hands k None)) ≡ 0 = ap (λ (o : Option Entry). marks (option_to_list o)) may.empty in
+    let free : marks (option_to_list (get_or w.hands k None)) ≡ 0 = ap
+    (λ (o : Option Entry). marks (option_to_list o)) may.empty in
     let one : count_taken (set w.marks_taken k true) ≡ count_taken w.marks_taken + 1 =
     taken_set w.marks_taken k (omega (arith, s.each_mark, may.within)) may.unmarked in
     record {
@@ -146,33 +156,47 @@ mark_in_hand size w k may s h =
       closed = h.closed;
     }
 
-take_ending : (size : PoolSize) (w : World) (k : ℕ) (jobs : List Entry) → w.jobs ≡ jobs → MayTake size w k → IsSized size w
+take_ending : (size : PoolSize) (w : World) (k : ℕ) (jobs : List Entry) → w.jobs ≡ jobs → MayTake size w k
+    → IsSized size w
     → IsEnding size w → IsEnding size (taken_by w k jobs)
 take_ending size w k [] e may s h = h
-take_ending size w k (Entry.Item n ∷ rest) e may s h = (item_taken size w k n rest e h.0, item_in_hand size w k n may s h.1)
-take_ending size w k (Entry.Mark ∷ rest) e may s h = (mark_taken size w k rest e may s h.0, mark_in_hand size w k may s h.1)
+take_ending size w k (Entry.Item n ∷ rest) e may s h =
+    (item_taken size w k n rest e h.0, item_in_hand size w k n may s h.1)
+take_ending size w k (Entry.Mark ∷ rest) e may s h =
+    (mark_taken size w k rest e may s h.0, mark_in_hand size w k may s h.1)
 
 -- a worker hands on what it has: one with an item has yet to take its mark
-item_closed : (size : PoolSize) (w : World) (k n : ℕ) → hand_of w k ≡ Some (Entry.Item n) → k < length w.hands → IsSized size w
+item_closed : (size : PoolSize) (w : World) (k n : ℕ) → hand_of w k ≡ Some (Entry.Item n) → k < length w.hands
+    → IsSized size w
     → HasDones size.workers w.marks_taken w.hands w.dones w.marks_arrived
     → (get_or w.marks_taken k false ≡ true) ⊎ (get_or w.marks_taken k false ≡ false)
     → marks w.dones + w.marks_arrived ≡ size.workers → AreMarkedAfter (w.dones ++ Entry.Item n ∷ [])
 item_closed size w k n e lt s h (inl t) all =
     let none : items_of (option_to_list (get_or w.hands k None)) ≡ [] = h.own_last k t in
-    let one : items_of (option_to_list (get_or w.hands k None)) ≡ n ∷ [] = ap (λ (o : Option Entry). items_of (option_to_list o)) e in
+    let one : items_of (option_to_list (get_or w.hands k None)) ≡ n ∷ [] = ap
+    (λ (o : Option Entry). items_of (option_to_list o)) e in
     absurd (cc)
 item_closed size w k n e lt s h (inr f) all =
-    absurd (omega (arith, h.on_the_way, s.each_mark, not_all w.marks_taken k (omega (arith, s.each_hand, s.each_mark)) f))
+    absurd (omega (
+      arith,
+      h.on_the_way,
+      s.each_mark,
+      not_all w.marks_taken k
+          (omega (arith, s.each_hand, s.each_mark)) f,
+    ))
 
-put_closed : (size : PoolSize) (w : World) (k : ℕ) (hand : Option Entry) → hand_of w k ≡ hand → k < length w.hands → IsSized size w
+put_closed : (size : PoolSize) (w : World) (k : ℕ) (hand : Option Entry) → hand_of w k ≡ hand → k < length w.hands
+    → IsSized size w
     → HasDones size.workers w.marks_taken w.hands w.dones w.marks_arrived
-    → marks (w.dones ++ option_to_list hand) + w.marks_arrived ≡ size.workers → AreMarkedAfter (w.dones ++ option_to_list hand)
+    → marks (w.dones ++ option_to_list hand) + w.marks_arrived ≡ size.workers
+    → AreMarkedAfter (w.dones ++ option_to_list hand)
 put_closed size w k None e lt s h all =
     let same : w.dones ++ [] ≡ w.dones = append-nil w.dones in
     subst AreMarkedAfter (sym same) (h.closed (omega (arith, ap marks same)))
 put_closed size w k (Some Entry.Mark) e lt s h all = closes w.dones
 put_closed size w k (Some (Entry.Item n)) e lt s h all =
-    item_closed size w k n e lt s h (cases_Bool (get_or w.marks_taken k false)) (omega (arith, marks-append w.dones (Entry.Item n ∷ [])))
+    item_closed size w k n e lt s h (cases_Bool (get_or w.marks_taken k false))
+    (omega (arith, marks-append w.dones (Entry.Item n ∷ [])))
 
 put_ending : (size : PoolSize) (w : World) (k : ℕ) → IsTrue (is_enabled size w (Event.Put k)) → IsSized size w
     → HasDones size.workers w.marks_taken w.hands w.dones w.marks_arrived
@@ -180,13 +204,20 @@ put_ending : (size : PoolSize) (w : World) (k : ℕ) → IsTrue (is_enabled size
 put_ending size w k e s h =
     let lt : k < length w.hands = hand_within w.hands k e in
     record {
-      on_the_way = omega (arith, h.on_the_way, hand_set w.hands k None lt, marks-append w.dones (option_to_list (hand_of w k)));
+      on_the_way = omega (
+        arith,
+        h.on_the_way,
+        hand_set w.hands k None lt,
+        marks-append w.dones
+            (option_to_list (hand_of w k)),
+      );
       own_last = λ j t. own_at w.hands w.marks_taken k None lt h.own_last (λ x. refl) j t (cases_eq j k);
       closed = put_closed size w k (hand_of w k) refl lt s h;
     }
 
 -- the sequencer takes a done
-arrive_ending : (size : PoolSize) (w : World) (dones : List Entry) → w.dones ≡ dones → IsEnding size w → IsEnding size (arrived size w dones)
+arrive_ending : (size : PoolSize) (w : World) (dones : List Entry) → w.dones ≡ dones → IsEnding size w
+    → IsEnding size (arrived size w dones)
 arrive_ending size w [] e h = h
 arrive_ending size w (Entry.Item n ∷ rest) e h =
     let same : marks w.dones ≡ marks rest = ap marks e in (
@@ -194,7 +225,8 @@ arrive_ending size w (Entry.Item n ∷ rest) e h =
       record {
         on_the_way = omega (arith, h.1.on_the_way);
         own_last = h.1.own_last;
-        closed = λ all. let old : AreMarkedAfter (Entry.Item n ∷ rest) = subst AreMarkedAfter e (h.1.closed (omega arith)) in old.1;
+        closed = λ all. let old : AreMarkedAfter (Entry.Item n ∷ rest) = subst AreMarkedAfter e
+            (h.1.closed (omega arith)) in old.1;
       },
     )
 arrive_ending size w (Entry.Mark ∷ rest) e h =
@@ -203,7 +235,8 @@ arrive_ending size w (Entry.Mark ∷ rest) e h =
       record {
         on_the_way = omega (arith, h.1.on_the_way);
         own_last = h.1.own_last;
-        closed = λ all. let old : AreMarkedAfter (Entry.Mark ∷ rest) = subst AreMarkedAfter e (h.1.closed (omega arith)) in old;
+        closed = λ all. let old : AreMarkedAfter (Entry.Mark ∷ rest) = subst AreMarkedAfter e
+            (h.1.closed (omega arith)) in old;
       },
     )
 
@@ -257,7 +290,8 @@ all_arrived size w some_worker s h all =
     let way : count_taken w.marks_taken ≡ marks_in_hands w.hands + marks w.dones + w.marks_arrived = h.1.on_the_way in
     let jobs : items_of w.jobs ≡ [] = h.0.no_item (omega arith) in
     let hands : items_in_hands w.hands ≡ [] =
-    no_item_in_hands w.hands w.marks_taken (omega (arith, s.each_hand, s.each_mark)) (omega (arith, s.each_mark)) h.1.own_last in
+    no_item_in_hands w.hands w.marks_taken (omega (arith, s.each_hand, s.each_mark))
+    (omega (arith, s.each_mark)) h.1.own_last in
     let dones : items_of w.dones ≡ [] = none_left w.dones (h.1.closed (omega arith)) (omega arith) in
     ap (λ (l : List ℕ). l ++ items_in_hands w.hands ++ items_of w.dones) jobs
     ∙ (ap (λ (l : List ℕ). l ++ items_of w.dones) hands ∙ dones)

@@ -53,7 +53,8 @@ none_left (Entry.Item n ∷ es) h e = absurd (omega (arith, h.0))
 none_left (Entry.Mark ∷ es) h e = absurd (omega arith)
 
 pub hand_set : (hands : List (Option Entry)) (k : ℕ) (hand : Option Entry) → k < length hands
-    → marks_in_hands (set hands k hand) + marks (option_to_list (get_or hands k None)) ≡ marks_in_hands hands + marks (option_to_list hand)
+    → marks_in_hands (set hands k hand) + marks (option_to_list (get_or hands k None)) ≡ marks_in_hands hands + marks
+    (option_to_list hand)
 hand_set [] k hand lt = absurd (omega arith)
 hand_set (h ∷ hands) zero hand lt = omega arith
 hand_set (h ∷ hands) (suc k) hand lt = let more = hand_set hands k hand (omega arith) in omega arith
@@ -71,19 +72,23 @@ taken_within (true ∷ taken) = let more = taken_within taken in omega arith
 taken_within (false ∷ taken) = let more = taken_within taken in omega arith
 
 -- where one took none, not all took theirs
-pub not_all : (taken : List Bool) (k : ℕ) → k < length taken → get_or taken k false ≡ false → count_taken taken < length taken
+pub not_all : (taken : List Bool) (k : ℕ) → k < length taken → get_or taken k false ≡ false
+    → count_taken taken < length taken
 not_all [] k lt e = absurd (omega arith)
 not_all (t ∷ taken) zero lt e = let none : bit t ≡ 0 = ap bit e in omega (arith, taken_within taken)
 not_all (true ∷ taken) (suc k) lt e = let more = not_all taken k (omega arith) e in omega arith
 not_all (false ∷ taken) (suc k) lt e = let more = not_all taken k (omega arith) e in omega arith
 
 -- where all took theirs and none has an item beside it, no hand has an item
-pub no_item_in_hands : (hands : List (Option Entry)) (taken : List Bool) → length hands ≡ length taken → count_taken taken ≡ length taken
-    → ((k : ℕ) → get_or taken k false ≡ true → items_of (option_to_list (get_or hands k None)) ≡ []) → items_in_hands hands ≡ []
+pub no_item_in_hands : (hands : List (Option Entry)) (taken : List Bool) → length hands ≡ length taken
+    → count_taken taken ≡ length taken
+    → ((k : ℕ) → get_or taken k false ≡ true → items_of (option_to_list (get_or hands k None)) ≡ [])
+    → items_in_hands hands ≡ []
 no_item_in_hands [] taken l all own = refl
 no_item_in_hands (h ∷ hands) [] l all own = absurd (omega arith)
 no_item_in_hands (h ∷ hands) (true ∷ taken) l all own =
-    let rest : items_in_hands hands ≡ [] = no_item_in_hands hands taken (omega arith) (omega arith) (λ k. own (suc k)) in
+    let rest : items_in_hands hands ≡ [] = no_item_in_hands hands taken (omega arith) (omega arith)
+    (λ k. own (suc k)) in
     ap (λ (l : List ℕ). l ++ items_in_hands hands) (own zero refl) ∙ rest
 no_item_in_hands (h ∷ hands) (false ∷ taken) l all own = absurd (omega (arith, taken_within taken))
 

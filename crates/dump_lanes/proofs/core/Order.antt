@@ -20,7 +20,8 @@ arrive_ordered size w [] h = h
 arrive_ordered size w (Entry.Item n ∷ rest) h = h
 arrive_ordered size w (Entry.Mark ∷ rest) h = h
 
-write_ordered : (w : World) (lane : List ℕ) → w.lane ≡ lane → w.writing ≡ None → IsInOrder w → IsInOrder (written_next w lane)
+write_ordered : (w : World) (lane : List ℕ) → w.lane ≡ lane → w.writing ≡ None → IsInOrder w
+    → IsInOrder (written_next w lane)
 write_ordered w [] e free h = h
 write_ordered w (n ∷ rest) e free h =
     let empty : (w.finished ++ option_to_list w.writing) ++ w.lane ≡ (w.finished ++ []) ++ w.lane =

@@ -7,7 +7,8 @@ use Rattle.dump_lanes.specs.PoolEvents.{Event, is_enabled, after_event, taken_by
 use Rattle.dump_lanes.proofs.core.Weights.{weigh, only, without, weigh-append, weigh_entries, weigh_hand, hands_set, no_hands, slots_set, slot_le, no_slots, weighs, without_one, weigh_range, within_range, above_range}
 
 -- rows with a place for each worker, and a slot for each item that the window admits
-pub record AreSized (size : PoolSize) (hands : List (Option Entry)) (marks : List Bool) (slots : List (List ℕ)) : Type 0 where
+pub record AreSized (size : PoolSize) (hands : List (Option Entry)) (marks : List Bool)
+    (slots : List (List ℕ)) : Type 0 where
   pub each_hand : length hands ≡ size.workers
   pub each_mark : length marks ≡ size.workers
   pub each_slot : length slots ≡ size.window
@@ -18,7 +19,8 @@ IsSized size w = AreSized size w.hands w.marks_taken w.slots
 
 -- what the items of a state weigh, in all places
 abbrev pub weight : (ℕ → ℕ) → World → ℕ
-weight f w = weigh f (items_of w.jobs) + weigh f (items_in_hands w.hands) + weigh f (items_of w.dones) + weigh f (concat w.slots)
+weight f w = weigh f (items_of w.jobs) + weigh f (items_in_hands w.hands) + weigh f (items_of w.dones) + weigh f
+    (concat w.slots)
     + weigh f w.finished + weigh f (option_to_list w.writing) + weigh f w.lane
 
 -- the items of a state are those that are cut
@@ -37,10 +39,16 @@ pub record MayTake (size : PoolSize) (w : World) (k : ℕ) : Type 0 where
 
 pub may_take : (size : PoolSize) (w : World) (k : ℕ) → IsTrue (is_enabled size w (Event.Take k)) → MayTake size w k
 may_take size w k e =
-    let a = (and_parts (nat_lt k size.workers && is_none (hand_of w k) && not (slice_index_or w.marks_taken k false)) _ e).0 in
+    let a = (and_parts (nat_lt k size.workers && is_none (hand_of w k) && not
+    (slice_index_or w.marks_taken k false)) _ e).0 in
     let b = and_parts (nat_lt k size.workers && is_none (hand_of w k)) _ a in
     let c = and_parts (nat_lt k size.workers) _ b.0 in
-    record { within = ltb-true k size.workers c.0; empty = is_none_from (hand_of w k) c.1; unmarked = not-true (slice_index_or w.marks_taken k false) b.1 }
+    record {
+      within = ltb-true k size.workers c.0;
+      empty = is_none_from (hand_of w k) c.1;
+      unmarked = not-true
+          (slice_index_or w.marks_taken k false) b.1;
+    }
 
 -- a hand that holds something is a worker's
 pub hand_within : (hands : List (Option Entry)) (k : ℕ) → is_some (get_or hands k None) ≡ true → k < length hands
@@ -48,15 +56,18 @@ hand_within [] k e = cc
 hand_within (h ∷ hands) zero e = omega arith
 hand_within (h ∷ hands) (suc k) e = let more = hand_within hands k e in omega arith
 
-take_once : (size : PoolSize) (w : World) (k : ℕ) (jobs : List Entry) → w.jobs ≡ jobs → k < length w.hands → hand_of w k ≡ None
+take_once : (size : PoolSize) (w : World) (k : ℕ) (jobs : List Entry) → w.jobs ≡ jobs → k < length w.hands
+    → hand_of w k ≡ None
     → IsEachOnce w → IsEachOnce (taken_by w k jobs)
 take_once size w k [] e lt free h f = h f
 take_once size w k (Entry.Item n ∷ rest) e lt free h f =
-    let before : weigh f (items_of w.jobs) ≡ f n + weigh f (items_of rest) = ap (λ (js : List Entry). weigh f (items_of js)) e in
+    let before : weigh f (items_of w.jobs) ≡ f n + weigh f (items_of rest) = ap
+    (λ (js : List Entry). weigh f (items_of js)) e in
     let empty : weigh_hand f (hand_of w k) ≡ 0 = ap (weigh_hand f) free in
     omega (arith, h f, hands_set f w.hands k (Some (Entry.Item n)) lt)
 take_once size w k (Entry.Mark ∷ rest) e lt free h f =
-    let before : weigh f (items_of w.jobs) ≡ weigh f (items_of rest) = ap (λ (js : List Entry). weigh f (items_of js)) e in
+    let before : weigh f (items_of w.jobs) ≡ weigh f (items_of rest) = ap
+    (λ (js : List Entry). weigh f (items_of js)) e in
     let empty : weigh_hand f (hand_of w k) ≡ 0 = ap (weigh_hand f) free in
     omega (arith, h f, hands_set f w.hands k (Some Entry.Mark) lt)
 
@@ -64,14 +75,23 @@ arrive_once : (size : PoolSize) (w : World) (dones : List Entry) → w.dones ≡
     → IsEachOnce w → IsEachOnce (arrived size w dones)
 arrive_once size w [] e s h f = h f
 arrive_once size w (Entry.Item n ∷ rest) e s h f =
-    let before : weigh f (items_of w.dones) ≡ f n + weigh f (items_of rest) = ap (λ (ds : List Entry). weigh f (items_of ds)) e in
+    let before : weigh f (items_of w.dones) ≡ f n + weigh f (items_of rest) = ap
+    (λ (ds : List Entry). weigh f (items_of ds)) e in
     let within : n % size.window < length w.slots = omega (arith, s.each_slot, mod-lt n s.some_slot) in
-    omega (arith, h f, slots_set f w.slots (n % size.window) (slot_of size w n ++ n ∷ []) within, weigh-append f (slot_of size w n) (n ∷ []))
+    omega (
+      arith,
+      h f,
+      slots_set f w.slots (n % size.window) (slot_of size w n ++ n ∷ []) within,
+      weigh-append f
+          (slot_of size w n) (n ∷ []),
+    )
 arrive_once size w (Entry.Mark ∷ rest) e s h f =
-    let before : weigh f (items_of w.dones) ≡ weigh f (items_of rest) = ap (λ (ds : List Entry). weigh f (items_of ds)) e in
+    let before : weigh f (items_of w.dones) ≡ weigh f (items_of rest) = ap
+    (λ (ds : List Entry). weigh f (items_of ds)) e in
     omega (arith, h f)
 
-write_once : (w : World) (lane : List ℕ) → w.lane ≡ lane → w.writing ≡ None → IsEachOnce w → IsEachOnce (written_next w lane)
+write_once : (w : World) (lane : List ℕ) → w.lane ≡ lane → w.writing ≡ None → IsEachOnce w
+    → IsEachOnce (written_next w lane)
 write_once w [] e free h f = h f
 write_once w (n ∷ rest) e free h f =
     let before : weigh f w.lane ≡ f n + weigh f rest = ap (weigh f) e in
@@ -83,22 +103,35 @@ pub record IsNext (size : PoolSize) (w : World) : Type 0 where
   pub below : w.released < w.cut
   pub single : weigh (only w.released) (slot_of size w w.released) ≡ 1
 
-by_order : (size : PoolSize) (w : World) → (w.released < w.cut) ⊎ (w.cut ≤ w.released) → 0 < weigh (only w.released) (slot_of size w w.released)
-    → weigh (only w.released) (slot_of size w w.released) ≤ weigh (only w.released) (range_with_len 0 w.cut) → IsNext size w
+by_order : (size : PoolSize) (w : World) → (w.released < w.cut) ⊎ (w.cut ≤ w.released)
+    → 0 < weigh (only w.released) (slot_of size w w.released)
+    → weigh (only w.released) (slot_of size w w.released) ≤ weigh (only w.released) (range_with_len 0 w.cut)
+    → IsNext size w
 by_order size w (inl lt) here all = record { below = lt; single = omega (arith, within_range w.released w.cut lt) }
 by_order size w (inr le) here all = absurd (omega (arith, above_range w.released w.cut le))
 
 pub is_next : (size : PoolSize) (w : World) → IsEachOnce w → IsTrue (has_next size w) → IsNext size w
 is_next size w h e =
-    let here : 0 < weigh (only w.released) (slot_of size w w.released) = weighs w.released (slot_of size w w.released) e in
+    let here : 0 < weigh (only w.released) (slot_of size w w.released) = weighs w.released
+    (slot_of size w w.released) e in
     let all : weigh (only w.released) (slot_of size w w.released) ≤ weigh (only w.released) (range_with_len 0 w.cut) =
     omega (arith, h (only w.released), slot_le (only w.released) w.slots (w.released % size.window)) in
     by_order size w (cases_lt w.released w.cut) here all
 
-release_once : (size : PoolSize) (w : World) → IsNext size w → IsSized size w → IsEachOnce w → IsEachOnce (after_event size w Event.Release)
+release_once : (size : PoolSize) (w : World) → IsNext size w → IsSized size w → IsEachOnce w
+    → IsEachOnce (after_event size w Event.Release)
 release_once size w next s h f =
-    let within : w.released % size.window < length w.slots = omega (arith, s.each_slot, mod-lt w.released s.some_slot) in
-    omega (arith, h f, slots_set f w.slots (w.released % size.window) (without w.released (slot_of size w w.released)) within, without_one f w.released (slot_of size w w.released) next.single, weigh-append f w.lane (w.released ∷ []))
+    let within : w.released % size.window < length w.slots = omega
+    (arith, s.each_slot, mod-lt w.released s.some_slot) in
+    omega (
+      arith,
+      h f,
+      slots_set f w.slots (w.released % size.window)
+          (without w.released (slot_of size w w.released)) within,
+      without_one f w.released
+          (slot_of size w w.released) next.single,
+      weigh-append f w.lane (w.released ∷ []),
+    )
 
 -- each event
 pub once_kept : (size : PoolSize) (w : World) (event : Event) → IsTrue (is_enabled size w event) → IsSized size w
@@ -110,7 +143,13 @@ once_kept size w Event.CutMark e s h = λ f. omega (arith, h f, weigh_entries f 
 once_kept size w (Event.Take k) e s h =
     let may = may_take size w k e in take_once size w k w.jobs refl (omega (arith, may.within, s.each_hand)) may.empty h
 once_kept size w (Event.Put k) e s h =
-    λ f. omega (arith, h f, weigh_entries f w.dones (option_to_list (hand_of w k)), hands_set f w.hands k None (hand_within w.hands k e))
+    λ f. omega (
+      arith,
+      h f,
+      weigh_entries f w.dones (option_to_list (hand_of w k)),
+      hands_set f w.hands k None
+          (hand_within w.hands k e),
+    )
 once_kept size w Event.Arrive e s h = arrive_once size w w.dones refl s h
 once_kept size w Event.SequencerNotes e s h = h
 once_kept size w Event.WriterNotes e s h = h

@@ -16,17 +16,36 @@ use Rattle.dump_lanes.proofs.core.Ends.{IsEnding, ending_kept, ending_first, all
 use Rattle.dump_lanes.proofs.core.Stop.{HasStopCause, stop_kept, stop_first}
 
 -- rows keep their lengths
-take_sized : (size : PoolSize) (w : World) (k : ℕ) (jobs : List Entry) → IsSized size w → IsSized size (taken_by w k jobs)
+take_sized : (size : PoolSize) (w : World) (k : ℕ) (jobs : List Entry) → IsSized size w
+    → IsSized size (taken_by w k jobs)
 take_sized size w k [] s = s
 take_sized size w k (Entry.Item n ∷ rest) s =
-    record { each_hand = length-set w.hands k _ ∙ s.each_hand; each_mark = s.each_mark; each_slot = s.each_slot; some_slot = s.some_slot }
+    record {
+      each_hand = length-set w.hands k _
+          ∙ s.each_hand;
+      each_mark = s.each_mark;
+      each_slot = s.each_slot;
+      some_slot = s.some_slot;
+    }
 take_sized size w k (Entry.Mark ∷ rest) s =
-    record { each_hand = length-set w.hands k _ ∙ s.each_hand; each_mark = length-set w.marks_taken k _ ∙ s.each_mark; each_slot = s.each_slot; some_slot = s.some_slot }
+    record {
+      each_hand = length-set w.hands k _ ∙ s.each_hand;
+      each_mark = length-set w.marks_taken k _
+          ∙ s.each_mark;
+      each_slot = s.each_slot;
+      some_slot = s.some_slot;
+    }
 
 arrive_sized : (size : PoolSize) (w : World) (dones : List Entry) → IsSized size w → IsSized size (arrived size w dones)
 arrive_sized size w [] s = s
 arrive_sized size w (Entry.Item n ∷ rest) s =
-    record { each_hand = s.each_hand; each_mark = s.each_mark; each_slot = length-set w.slots _ _ ∙ s.each_slot; some_slot = s.some_slot }
+    record {
+      each_hand = s.each_hand;
+      each_mark = s.each_mark;
+      each_slot = length-set w.slots _ _
+          ∙ s.each_slot;
+      some_slot = s.some_slot;
+    }
 arrive_sized size w (Entry.Mark ∷ rest) s = s
 
 write_sized : (size : PoolSize) (w : World) (lane : List ℕ) → IsSized size w → IsSized size (written_next w lane)
@@ -39,12 +58,24 @@ sized_kept size w (Event.Cut last) s = s
 sized_kept size w Event.CutMark s = s
 sized_kept size w (Event.Take k) s = take_sized size w k w.jobs s
 sized_kept size w (Event.Put k) s =
-    record { each_hand = length-set w.hands k _ ∙ s.each_hand; each_mark = s.each_mark; each_slot = s.each_slot; some_slot = s.some_slot }
+    record {
+      each_hand = length-set w.hands k _
+          ∙ s.each_hand;
+      each_mark = s.each_mark;
+      each_slot = s.each_slot;
+      some_slot = s.some_slot;
+    }
 sized_kept size w Event.Arrive s = arrive_sized size w w.dones s
 sized_kept size w Event.SequencerNotes s = s
 sized_kept size w Event.WriterNotes s = s
 sized_kept size w Event.Release s =
-    record { each_hand = s.each_hand; each_mark = s.each_mark; each_slot = length-set w.slots _ _ ∙ s.each_slot; some_slot = s.some_slot }
+    record {
+      each_hand = s.each_hand;
+      each_mark = s.each_mark;
+      each_slot = length-set w.slots _ _
+          ∙ s.each_slot;
+      some_slot = s.some_slot;
+    }
 sized_kept size w Event.Write s = write_sized size w w.lane s
 sized_kept size w Event.Give s = s
 sized_kept size w Event.SequencerRaises s = s
@@ -63,7 +94,8 @@ pub record Holds (size : PoolSize) (w : World) : Type 0 where
   pub ending : IsEnding size w
   pub stop : HasStopCause w
 
-pub step_holds : (size : PoolSize) (w : World) (event : Event) → IsTrue (is_enabled size w event) → Holds size w → Holds size (after_event size w event)
+pub step_holds : (size : PoolSize) (w : World) (event : Event) → IsTrue (is_enabled size w event) → Holds size w
+    → Holds size (after_event size w event)
 step_holds size w event e h = record {
   some_worker = h.some_worker;
   sized = sized_kept size w event h.sized;
@@ -75,9 +107,11 @@ step_holds size w event e h = record {
   stop = stop_kept size w event e h.stop;
 }
 
-pub run_holds : (size : PoolSize) (events : List Event) (u w : World) → IsRun size events u w → Holds size u → Holds size w
+pub run_holds : (size : PoolSize) (events : List Event) (u w : World) → IsRun size events u w → Holds size u
+    → Holds size w
 run_holds size [] u w run h = subst (Holds size) (sym run) h
-run_holds size (event ∷ events) u w run h = run_holds size events (after_event size u event) w run.1 (step_holds size u event run.0 h)
+run_holds size (event ∷ events) u w run h = run_holds size events (after_event size u event) w run.1
+    (step_holds size u event run.0 h)
 
 pub first_holds : (size : PoolSize) → 0 < size.workers → 0 < size.window → Holds size (opening size)
 first_holds size some_worker some_slot = record {
@@ -92,22 +126,50 @@ first_holds size some_worker some_slot = record {
 }
 
 -- what the lists of the facts weigh
-way_weight : (f : ℕ → ℕ) (w : World) → weigh f (items_on_the_way w) ≡ weigh f (items_of w.jobs) + weigh f (items_in_hands w.hands) + weigh f (items_of w.dones)
+way_weight : (f : ℕ → ℕ) (w : World) → weigh f (items_on_the_way w) ≡ weigh f (items_of w.jobs) + weigh f
+    (items_in_hands w.hands) + weigh f (items_of w.dones)
 way_weight f w =
-    omega (arith, weigh-append f (items_of w.jobs ++ items_in_hands w.hands) (items_of w.dones), weigh-append f (items_of w.jobs) (items_in_hands w.hands))
+    omega (
+      arith,
+      weigh-append f (items_of w.jobs ++ items_in_hands w.hands) (items_of w.dones),
+      weigh-append f
+          (items_of w.jobs) (items_in_hands w.hands),
+    )
 
-pub released_weight : (f : ℕ → ℕ) (w : World) → weigh f (items_released w) ≡ weigh f w.finished + weigh f (option_to_list w.writing) + weigh f w.lane
+pub released_weight : (f : ℕ → ℕ) (w : World) → weigh f (items_released w) ≡ weigh f w.finished + weigh f
+    (option_to_list w.writing) + weigh f w.lane
 released_weight f w =
-    omega (arith, weigh-append f (w.finished ++ option_to_list w.writing) w.lane, weigh-append f w.finished (option_to_list w.writing))
+    omega (
+      arith,
+      weigh-append f (w.finished ++ option_to_list w.writing) w.lane,
+      weigh-append f w.finished
+          (option_to_list w.writing),
+    )
 
 all_weight : (f : ℕ → ℕ) (w : World) → weigh f (all_items w) ≡ weight f w
 all_weight f w =
-    omega (arith, way_weight f w, released_weight f w, weigh-append f (items_on_the_way w ++ concat w.slots) (items_released w), weigh-append f (items_on_the_way w) (concat w.slots))
+    omega (
+      arith,
+      way_weight f w,
+      released_weight f w,
+      weigh-append f (items_on_the_way w ++ concat w.slots)
+          (items_released w),
+      weigh-append f (items_on_the_way w) (concat w.slots),
+    )
 
 flight_weight : (f : ℕ → ℕ) (w : World)
-    → weigh f (items_on_the_way w ++ concat w.slots ++ w.lane ++ option_to_list w.writing) + weigh f w.finished ≡ weight f w
+    → weigh f
+    (items_on_the_way w ++ concat w.slots ++ w.lane ++ option_to_list w.writing) + weigh f w.finished ≡ weight f w
 flight_weight f w =
-    omega (arith, way_weight f w, weigh-append f (items_on_the_way w ++ concat w.slots ++ w.lane) (option_to_list w.writing), weigh-append f (items_on_the_way w ++ concat w.slots) w.lane, weigh-append f (items_on_the_way w) (concat w.slots))
+    omega (
+      arith,
+      way_weight f w,
+      weigh-append f (items_on_the_way w ++ concat w.slots ++ w.lane)
+          (option_to_list w.writing),
+      weigh-append f (items_on_the_way w ++ concat w.slots) w.lane,
+      weigh-append f
+          (items_on_the_way w) (concat w.slots),
+    )
 
 pub range_each : (n : ℕ) → weigh each (range_with_len 0 n) ≡ n
 range_each n = sym (length_is (range_with_len 0 n)) ∙ length-range_with_len 0 n
@@ -125,7 +187,16 @@ module _ (size : PoolSize) (w : World) (h : Holds size w) where
 
   credits : w.credits + held w.holds_credit + count_in_flight w ≡ size.window
   credits =
-      omega (arith, h.bounded, h.once each, range_each w.cut, flight_weight each w, length_is w.finished, length_is (items_on_the_way w ++ concat w.slots ++ w.lane ++ option_to_list w.writing))
+      omega (
+        arith,
+        h.bounded,
+        h.once each,
+        range_each w.cut,
+        flight_weight each w,
+        length_is w.finished,
+        length_is
+            (items_on_the_way w ++ concat w.slots ++ w.lane ++ option_to_list w.writing),
+      )
 
   -- what is in a slot is cut, is alone, and was not released
   below_cut_at : (k m : ℕ) → (m < w.cut) ⊎ (w.cut ≤ m) → 0 < weigh (only m) (get_or w.slots k []) → m < w.cut
@@ -140,10 +211,12 @@ module _ (size : PoolSize) (w : World) (h : Holds size w) where
   once_at k m (inl lt) = omega (arith, h.once (only m), within_range m w.cut lt, slot_le (only m) w.slots k)
   once_at k m (inr le) = omega (arith, h.once (only m), above_range m w.cut le, slot_le (only m) w.slots k)
 
-  unreleased_at : (k m : ℕ) → (m < w.released) ⊎ (w.released ≤ m) → 0 < weigh (only m) (get_or w.slots k []) → w.released ≤ m
+  unreleased_at : (k m : ℕ) → (m < w.released) ⊎ (w.released ≤ m) → 0 < weigh (only m) (get_or w.slots k [])
+      → w.released ≤ m
   unreleased_at k m (inl lt) here =
       let cut : weigh (only m) (range_with_len 0 w.cut) ≡ 1 = within_range m w.cut (below_cut k m here) in
-      let released : weigh (only m) (items_released w) ≡ 1 = ap (weigh (only m)) h.in_order ∙ within_range m w.released lt in
+      let released : weigh (only m) (items_released w) ≡ 1 = ap (weigh (only m)) h.in_order
+      ∙ within_range m w.released lt in
       absurd (omega (arith, h.once (only m), released_weight (only m) w, slot_le (only m) w.slots k))
   unreleased_at k m (inr le) here = le
 
@@ -155,11 +228,13 @@ module _ (size : PoolSize) (w : World) (h : Holds size w) where
 
   one_item : (k m n : ℕ) → 0 < weigh (only m) (get_or w.slots k []) → 0 < weigh (only n) (get_or w.slots k []) → m ≡ n
   one_item k m n a b =
-      near size.window w.released w.cut m n (unreleased k m a) (unreleased k n b) (below_cut k m a) (below_cut k n b) within_window (h.placed k m a ∙ sym (h.placed k n b))
+      near size.window w.released w.cut m n (unreleased k m a) (unreleased k n b) (below_cut k m a)
+      (below_cut k n b) within_window (h.placed k m a ∙ sym (h.placed k n b))
 
   unshared : All (λ slot. length slot ≤ 1) w.slots
   unshared k d lt =
-      let short : length (get_or w.slots k []) ≤ 1 = is_short (get_or w.slots k []) (one_item k) (λ m. once_at k m (cases_lt m w.cut)) in
+      let short : length (get_or w.slots k []) ≤ 1 = is_short (get_or w.slots k []) (one_item k)
+      (λ m. once_at k m (cases_lt m w.cut)) in
       omega (arith, ap length (get_or_default w.slots k d [] lt))
 
   sound : IsSound size w

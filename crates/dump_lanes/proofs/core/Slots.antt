@@ -37,32 +37,41 @@ weighs_only n m false e here = let none : only m n ≡ 0 = ap (λ (b : Bool). co
 
 -- an item that arrives at its slot
 joins_at : (window : ℕ) (slot : List ℕ) (n m : ℕ) → (0 < weigh (only m) slot → m % window ≡ n % window)
-    → (0 < weigh (only m) slot) ⊎ (weigh (only m) slot ≤ 0) → 0 < weigh (only m) (slot ++ n ∷ []) → m % window ≡ n % window
+    → (0 < weigh (only m) slot) ⊎ (weigh (only m) slot ≤ 0) → 0 < weigh (only m) (slot ++ n ∷ [])
+    → m % window ≡ n % window
 joins_at window slot n m old (inl before) here = old before
 joins_at window slot n m old (inr none) here =
-    let more : weigh (only m) (slot ++ n ∷ []) ≡ weigh (only m) slot + weigh (only m) (n ∷ []) = weigh-append (only m) slot (n ∷ []) in
+    let more : weigh (only m) (slot ++ n ∷ []) ≡ weigh (only m) slot + weigh (only m) (n ∷ []) = weigh-append
+    (only m) slot (n ∷ []) in
     ap (λ (k : ℕ). k % window) (sym (weighs_only n m (n == m) refl (omega arith)))
 
-take_placed : (size : PoolSize) (w : World) (k : ℕ) (jobs : List Entry) → IsPlaced size w → IsPlaced size (taken_by w k jobs)
+take_placed : (size : PoolSize) (w : World) (k : ℕ) (jobs : List Entry) → IsPlaced size w
+    → IsPlaced size (taken_by w k jobs)
 take_placed size w k [] h = h
 take_placed size w k (Entry.Item n ∷ rest) h = h
 take_placed size w k (Entry.Mark ∷ rest) h = h
 
-arrive_placed : (size : PoolSize) (w : World) (dones : List Entry) → IsSized size w → IsPlaced size w → IsPlaced size (arrived size w dones)
+arrive_placed : (size : PoolSize) (w : World) (dones : List Entry) → IsSized size w → IsPlaced size w
+    → IsPlaced size (arrived size w dones)
 arrive_placed size w [] s h = h
 arrive_placed size w (Entry.Item n ∷ rest) s h =
-    set_placed size.window w.slots (n % size.window) (slot_of size w n ++ n ∷ []) (omega (arith, s.each_slot, mod-lt n s.some_slot)) h
-    (λ m here. joins_at size.window (slot_of size w n) n m (h (n % size.window) m) (cases_lt 0 (weigh (only m) (slot_of size w n))) here)
+    set_placed size.window w.slots (n % size.window) (slot_of size w n ++ n ∷ [])
+    (omega (arith, s.each_slot, mod-lt n s.some_slot)) h
+    (λ m here. joins_at size.window (slot_of size w n) n m (h (n % size.window) m)
+    (cases_lt 0 (weigh (only m) (slot_of size w n))) here)
 arrive_placed size w (Entry.Mark ∷ rest) s h = h
 
 write_placed : (size : PoolSize) (w : World) (lane : List ℕ) → IsPlaced size w → IsPlaced size (written_next w lane)
 write_placed size w [] h = h
 write_placed size w (n ∷ rest) h = h
 
-release_placed : (size : PoolSize) (w : World) → IsSized size w → IsPlaced size w → IsPlaced size (after_event size w Event.Release)
+release_placed : (size : PoolSize) (w : World) → IsSized size w → IsPlaced size w
+    → IsPlaced size (after_event size w Event.Release)
 release_placed size w s h =
-    set_placed size.window w.slots (w.released % size.window) (without w.released (slot_of size w w.released)) (omega (arith, s.each_slot, mod-lt w.released s.some_slot)) h
-    (λ m here. h (w.released % size.window) m (omega (arith, without_le (only m) w.released (slot_of size w w.released))))
+    set_placed size.window w.slots (w.released % size.window) (without w.released (slot_of size w w.released))
+    (omega (arith, s.each_slot, mod-lt w.released s.some_slot)) h
+    (λ m here. h (w.released % size.window) m (omega
+    (arith, without_le (only m) w.released (slot_of size w w.released))))
 
 pub placed_kept : (size : PoolSize) (w : World) (event : Event) → IsTrue (is_enabled size w event) → IsSized size w
     → IsPlaced size w → IsPlaced size (after_event size w event)
@@ -89,16 +98,19 @@ first_empty (suc n) (suc i) = first_empty n i
 
 pub placed_first : (size : PoolSize) → IsPlaced size (opening size)
 placed_first size i m here =
-    let none : weigh (only m) (get_or (replicate size.window []) i []) ≡ 0 = ap (weigh (only m)) (first_empty size.window i) in
+    let none : weigh (only m) (get_or (replicate size.window []) i []) ≡ 0 = ap (weigh (only m))
+    (first_empty size.window i) in
     absurd (omega arith)
 
 -- numbers less than a window apart that have one slot are one number
-near_at : (window low high m n : ℕ) → low ≤ m → low ≤ n → m < high → n < high → high ≤ low + window → m % window ≡ n % window
+near_at : (window low high m n : ℕ) → low ≤ m → low ≤ n → m < high → n < high → high ≤ low + window
+    → m % window ≡ n % window
     → (m < n) ⊎ (n ≤ m) → m ≡ n
 near_at window low high m n a b c d e f (inl lt) = one_turn m n window (omega arith) (omega arith) f
 near_at window low high m n a b c d e f (inr le) = sym (one_turn n m window le (omega arith) (sym f))
 
-pub near : (window low high m n : ℕ) → low ≤ m → low ≤ n → m < high → n < high → high ≤ low + window → m % window ≡ n % window → m ≡ n
+pub near : (window low high m n : ℕ) → low ≤ m → low ≤ n → m < high → n < high → high ≤ low + window
+    → m % window ≡ n % window → m ≡ n
 near window low high m n a b c d e f = near_at window low high m n a b c d e f (cases_lt m n)
 
 -- a list with one number alone, once, is no longer than one

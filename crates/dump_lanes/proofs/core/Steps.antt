@@ -23,7 +23,11 @@ use Rattle.dump_lanes.proofs.StopSteps.{raise_is_step, look_is_step}
 
 credits_step : (size : PoolSize) (free : ℕ) (event : Event) (before : List Event) → IsTrue (credits_allow free event)
     → CreditsAt size.window before free → CreditsAt size.window (event ∷ before) (credits_share free event)
-credits_step size free Event.Draw before may h = (draw_step ∷ h.0, (free, record { one_credit = refl; allowed = may; share = refl }, h.1), ap (λ l. Event.Draw ∷ l) h.2)
+credits_step size free Event.Draw before may h = (
+  draw_step ∷ h.0,
+  (free, record { one_credit = refl; allowed = may; share = refl }, h.1),
+  ap (λ l. Event.Draw ∷ l) h.2,
+)
 credits_step size free (Event.Cut last) before may h = h
 credits_step size free Event.CutMark before may h = h
 credits_step size free (Event.Take k) before may h = h
@@ -33,13 +37,18 @@ credits_step size free Event.SequencerNotes before may h = h
 credits_step size free Event.WriterNotes before may h = h
 credits_step size free Event.Release before may h = h
 credits_step size free Event.Write before may h = h
-credits_step size free Event.Give before may h = (back_step ∷ h.0, (free, record { one_credit = refl; allowed = refl; share = refl }, h.1), ap (λ l. Event.Give ∷ l) h.2)
+credits_step size free Event.Give before may h = (
+  back_step ∷ h.0,
+  (free, record { one_credit = refl; allowed = refl; share = refl }, h.1),
+  ap (λ l. Event.Give ∷ l) h.2,
+)
 credits_step size free Event.SequencerRaises before may h = h
 credits_step size free Event.WriterRaises before may h = h
 credits_step size free Event.Look before may h = h
 credits_step size free Event.Shut before may h = h
 
-cut_jobs : (jobs : List Entry) (x : Entry) (happened : List (Step (Mark ℕ))) → AreSteps jobs_part happened (map mark_of jobs)
+cut_jobs : (jobs : List Entry) (x : Entry) (happened : List (Step (Mark ℕ))) → AreSteps jobs_part happened
+    (map mark_of jobs)
     → AreSteps jobs_part (put_step (mark_of x) ∷ happened) (map mark_of (jobs ++ x ∷ []))
 cut_jobs jobs x happened h =
     subst (λ l. AreSteps jobs_part (put_step (mark_of x) ∷ happened) l) (sym (map-append mark_of jobs (x ∷ [])))
@@ -48,14 +57,28 @@ cut_jobs jobs x happened h =
 take_jobs : (k : ℕ) (jobs : List Entry) (before : List Event) → IsTrue (nat_lt 0 (length jobs)) → JobsAt before jobs
     → JobsAt (Event.Take k ∷ before) (drop 1 jobs)
 take_jobs k [] before may h = absurd (true≢false (sym may))
-take_jobs k (x ∷ rest) before may h =
-    (take_step k (mark_of x) ∷ h.0, (map mark_of (x ∷ rest), take_is_step k (mark_of x) (map mark_of rest), h.1), ap (λ l. Event.Take k ∷ l) h.2)
+take_jobs k (x ∷ rest) before may h = (
+  take_step k (mark_of x) ∷ h.0,
+  (map mark_of (x ∷ rest), take_is_step k (mark_of x) (map mark_of rest), h.1),
+  ap
+      (λ l. Event.Take k ∷ l) h.2,
+)
 
 jobs_step : (w : World) (event : Event) (before : List Event) → IsTrue (jobs_allow w.jobs event) → JobsAt before w.jobs
     → JobsAt (event ∷ before) (jobs_share w.jobs (cutter_puts w event) event)
 jobs_step w Event.Draw before may h = h
-jobs_step w (Event.Cut last) before may h = (put_step (Item w.cut) ∷ h.0, cut_jobs w.jobs (Entry.Item w.cut) h.0 h.1, ap (λ l. Event.Cut false ∷ l) h.2)
-jobs_step w Event.CutMark before may h = (put_step End ∷ h.0, cut_jobs w.jobs Entry.Mark h.0 h.1, ap (λ l. Event.CutMark ∷ l) h.2)
+jobs_step w (Event.Cut last) before may h = (
+  put_step (Item w.cut) ∷ h.0,
+  cut_jobs w.jobs (Entry.Item w.cut) h.0 h.1,
+  ap
+      (λ l. Event.Cut false ∷ l) h.2,
+)
+jobs_step w Event.CutMark before may h = (
+  put_step End ∷ h.0,
+  cut_jobs w.jobs Entry.Mark h.0 h.1,
+  ap
+      (λ l. Event.CutMark ∷ l) h.2,
+)
 jobs_step w (Event.Take k) before may h = take_jobs k w.jobs before may h
 jobs_step w (Event.Put k) before may h = h
 jobs_step w Event.Arrive before may h = h
@@ -69,28 +92,38 @@ jobs_step w Event.WriterRaises before may h = h
 jobs_step w Event.Look before may h = h
 jobs_step w Event.Shut before may h = h
 
-put_done : (k : ℕ) (hand : Option Entry) (dones : List Entry) (before : List Event) → IsTrue (is_some hand) → DonesAt before dones
+put_done : (k : ℕ) (hand : Option Entry) (dones : List Entry) (before : List Event) → IsTrue (is_some hand)
+    → DonesAt before dones
     → DonesAt (Event.Put k ∷ before) (dones ++ option_to_list hand)
 put_done k None dones before may h = absurd (true≢false (sym may))
 put_done k (Some x) dones before may h =
     let n : Note ℕ = record { from = k; mark = mark_of x } in
     let marks : map (λ (n : Note ℕ). n.mark) (h.0 ++ n ∷ []) ≡ map mark_of (dones ++ x ∷ []) =
-    map-append (λ (n : Note ℕ). n.mark) h.0 (n ∷ []) ∙ (ap (λ l. l ++ mark_of x ∷ []) h.1 ∙ sym (map-append mark_of dones (x ∷ []))) in
+    map-append (λ (n : Note ℕ). n.mark) h.0 (n ∷ [])
+    ∙ (ap (λ l. l ++ mark_of x ∷ []) h.1 ∙ sym (map-append mark_of dones (x ∷ []))) in
     (h.0 ++ n ∷ [], marks, give_step n ∷ h.2, (h.0, give_is_step n h.0, h.3), ap (λ l. Event.Put k ∷ l) h.4)
 
-first_note : (notes : List (Note ℕ)) (happened : List (Step (Note ℕ))) (x : Entry) (rest : List Entry) (before : List Event)
+first_note : (notes : List (Note ℕ)) (happened : List (Step (Note ℕ))) (x : Entry) (rest : List Entry)
+    (before : List Event)
     → map (λ (n : Note ℕ). n.mark) notes ≡ map mark_of (x ∷ rest) → AreSteps dones_part happened notes
     → events_of happened ≡ events_on on_dones before → DonesAt (Event.Arrive ∷ before) rest
 first_note [] happened x rest before e h t = absurd (let l = ap length e in omega arith)
-first_note (n ∷ notes) happened x rest before e h t =
-    (notes, ap (λ l. drop 1 l) e, arrive_step n ∷ happened, (n ∷ notes, arrive_is_step n notes, h), ap (λ l. Event.Arrive ∷ l) t)
+first_note (n ∷ notes) happened x rest before e h t = (
+  notes,
+  ap (λ l. drop 1 l) e,
+  arrive_step n ∷ happened,
+  (n ∷ notes, arrive_is_step n notes, h),
+  ap
+      (λ l. Event.Arrive ∷ l) t,
+)
 
 arrive_done : (dones : List Entry) (before : List Event) → IsTrue (nat_lt 0 (length dones)) → DonesAt before dones
     → DonesAt (Event.Arrive ∷ before) (drop 1 dones)
 arrive_done [] before may h = absurd (true≢false (sym may))
 arrive_done (x ∷ rest) before may h = first_note h.0 h.2 x rest before h.1 h.3 h.4
 
-dones_step : (size : PoolSize) (w : World) (event : Event) (before : List Event) → IsTrue (is_enabled size w event) → DonesAt before w.dones
+dones_step : (size : PoolSize) (w : World) (event : Event) (before : List Event) → IsTrue (is_enabled size w event)
+    → DonesAt before w.dones
     → DonesAt (event ∷ before) (dones_share w.dones (worker_puts w event) event)
 dones_step size w Event.Draw before may h = h
 dones_step size w (Event.Cut last) before may h = h
@@ -108,9 +141,15 @@ dones_step size w Event.WriterRaises before may h = h
 dones_step size w Event.Look before may h = h
 dones_step size w Event.Shut before may h = h
 
-write_lane : (lane : List ℕ) (before : List Event) → IsTrue (nat_lt 0 (length lane)) → LaneAt before lane → LaneAt (Event.Write ∷ before) (drop 1 lane)
+write_lane : (lane : List ℕ) (before : List Event) → IsTrue (nat_lt 0 (length lane)) → LaneAt before lane
+    → LaneAt (Event.Write ∷ before) (drop 1 lane)
 write_lane [] before may h = absurd (true≢false (sym may))
-write_lane (x ∷ rest) before may h = (write x ∷ h.0, (x ∷ rest, write_is_step x rest, h.1), ap (λ l. Event.Write ∷ l) h.2)
+write_lane (x ∷ rest) before may h = (
+  write x ∷ h.0,
+  (x ∷ rest, write_is_step x rest, h.1),
+  ap
+      (λ l. Event.Write ∷ l) h.2,
+)
 
 lane_step : (w : World) (event : Event) (before : List Event) → IsTrue (lane_allow w.lane event) → LaneAt before w.lane
     → LaneAt (event ∷ before) (lane_share w.lane (sequencer_puts w event) event)
@@ -122,7 +161,12 @@ lane_step w (Event.Put k) before may h = h
 lane_step w Event.Arrive before may h = h
 lane_step w Event.SequencerNotes before may h = h
 lane_step w Event.WriterNotes before may h = h
-lane_step w Event.Release before may h = (release w.released ∷ h.0, (w.lane, release_is_step w.released w.lane, h.1), ap (λ l. Event.Release ∷ l) h.2)
+lane_step w Event.Release before may h = (
+  release w.released ∷ h.0,
+  (w.lane, release_is_step w.released w.lane, h.1),
+  ap
+      (λ l. Event.Release ∷ l) h.2,
+)
 lane_step w Event.Write before may h = write_lane w.lane before may h
 lane_step w Event.Give before may h = h
 lane_step w Event.SequencerRaises before may h = h
@@ -130,7 +174,8 @@ lane_step w Event.WriterRaises before may h = h
 lane_step w Event.Look before may h = h
 lane_step w Event.Shut before may h = h
 
-word_step : (up : Bool) (event : Event) (before : List Event) → WordAt before up → WordAt (event ∷ before) (stop_share up event)
+word_step : (up : Bool) (event : Event) (before : List Event) → WordAt before up
+    → WordAt (event ∷ before) (stop_share up event)
 word_step up Event.Draw before h = h
 word_step up (Event.Cut last) before h = h
 word_step up Event.CutMark before h = h
@@ -152,14 +197,16 @@ step_makes : (size : PoolSize) (w : World) (event : Event) (before : List Event)
 step_makes size w event before may h =
     let s = shares size w event in
     let a = allows size w event may in record {
-      credits = subst (λ n. CreditsAt size.window (event ∷ before) n) (sym s.credits) (credits_step size w.credits event before a.credits h.credits);
+      credits = subst (λ n. CreditsAt size.window (event ∷ before) n) (sym s.credits)
+          (credits_step size w.credits event before a.credits h.credits);
       jobs = subst (λ l. JobsAt (event ∷ before) l) (sym s.jobs) (jobs_step w event before a.jobs h.jobs);
       dones = subst (λ l. DonesAt (event ∷ before) l) (sym s.dones) (dones_step size w event before may h.dones);
       lane = subst (λ l. LaneAt (event ∷ before) l) (sym s.lane) (lane_step w event before a.lane h.lane);
       word = subst (λ b. WordAt (event ∷ before) b) (sym s.stop) (word_step w.stop_up event before h.word);
     }
 
-run_makes : (size : PoolSize) (events before : List Event) (u w : World) → IsRun size events u w → MakesSteps size before u
+run_makes : (size : PoolSize) (events before : List Event) (u w : World) → IsRun size events u w
+    → MakesSteps size before u
     → MakesSteps size (last_first before events) w
 run_makes size [] before u w run h = subst (MakesSteps size before) (sym run) h
 run_makes size (event ∷ events) before u w run h =

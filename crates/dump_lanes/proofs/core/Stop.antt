@@ -46,7 +46,11 @@ stop_kept size w Event.Give e h = h
 stop_kept size w Event.SequencerRaises e h = record { seen_up = λ seen. refl; up_failed = λ up. inl e }
 stop_kept size w Event.WriterRaises e h = record { seen_up = λ seen. refl; up_failed = λ up. inr e }
 stop_kept size w Event.Look e h =
-    record { seen_up = λ seen. seen_again w.stop_up w.stop_seen h.seen_up (or_cases w.stop_seen w.stop_up seen); up_failed = h.up_failed }
+    record {
+      seen_up = λ seen. seen_again w.stop_up w.stop_seen h.seen_up
+          (or_cases w.stop_seen w.stop_up seen);
+      up_failed = h.up_failed;
+    }
 stop_kept size w Event.Shut e h = h
 
 pub stop_first : (size : PoolSize) → HasStopCause (opening size)

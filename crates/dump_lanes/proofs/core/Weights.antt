@@ -46,7 +46,8 @@ items_of-append [] fs = refl
 items_of-append (Entry.Item n ∷ es) fs = ap (λ l. n ∷ l) (items_of-append es fs)
 items_of-append (Entry.Mark ∷ es) fs = items_of-append es fs
 
-pub weigh_entries : (f : ℕ → ℕ) (es fs : List Entry) → weigh f (items_of (es ++ fs)) ≡ weigh f (items_of es) + weigh f (items_of fs)
+pub weigh_entries : (f : ℕ → ℕ) (es fs : List Entry) → weigh f (items_of (es ++ fs)) ≡ weigh f (items_of es) + weigh f
+    (items_of fs)
 weigh_entries f es fs = ap (weigh f) (items_of-append es fs) ∙ weigh-append f (items_of es) (items_of fs)
 
 -- hands
@@ -54,13 +55,24 @@ abbrev pub weigh_hand : (ℕ → ℕ) → Option Entry → ℕ
 weigh_hand f hand = weigh f (items_of (option_to_list hand))
 
 pub hands_set : (f : ℕ → ℕ) (hands : List (Option Entry)) (k : ℕ) (hand : Option Entry) → k < length hands
-    → weigh f (items_in_hands (set hands k hand)) + weigh_hand f (get_or hands k None) ≡ weigh f (items_in_hands hands) + weigh_hand f hand
+    → weigh f (items_in_hands (set hands k hand)) + weigh_hand f (get_or hands k None) ≡ weigh f
+    (items_in_hands hands) + weigh_hand f hand
 hands_set f [] k hand lt = absurd (omega arith)
 hands_set f (h ∷ hands) zero hand lt =
-    omega (arith, weigh-append f (items_of (option_to_list hand)) (items_in_hands hands), weigh-append f (items_of (option_to_list h)) (items_in_hands hands))
+    omega (
+      arith,
+      weigh-append f (items_of (option_to_list hand)) (items_in_hands hands),
+      weigh-append f
+          (items_of (option_to_list h)) (items_in_hands hands),
+    )
 hands_set f (h ∷ hands) (suc k) hand lt =
     let more = hands_set f hands k hand (omega arith) in
-    omega (arith, weigh-append f (items_of (option_to_list h)) (items_in_hands hands), weigh-append f (items_of (option_to_list h)) (items_in_hands (set hands k hand)))
+    omega (
+      arith,
+      weigh-append f (items_of (option_to_list h)) (items_in_hands hands),
+      weigh-append f
+          (items_of (option_to_list h)) (items_in_hands (set hands k hand)),
+    )
 
 pub no_hands : (n : ℕ) → items_in_hands (replicate n None) ≡ []
 no_hands zero = refl
@@ -107,7 +119,8 @@ without_none_at : (f : ℕ → ℕ) (n x : ℕ) (xs : List ℕ) (b : Bool) → (
 without_none_at f n x xs true h e rest =
     let here : only n x ≡ 1 = ap (λ (b : Bool). cond b 1 0) h in absurd (omega arith)
 without_none_at f n x xs false h e rest =
-    let kept : without n (x ∷ xs) ≡ x ∷ without n xs = ap (λ (b : Bool). cond (not b) (x ∷ without n xs) (without n xs)) h in
+    let kept : without n (x ∷ xs) ≡ x ∷ without n xs = ap
+    (λ (b : Bool). cond (not b) (x ∷ without n xs) (without n xs)) h in
     let more : weigh f (without n xs) ≡ weigh f xs = rest (omega arith) in
     ap (weigh f) kept ∙ ap (λ (m : ℕ). f x + m) more
 
@@ -116,16 +129,19 @@ without_none f n [] e = refl
 without_none f n (x ∷ xs) e = without_none_at f n x xs (x == n) refl e (without_none f n xs)
 
 without_one_at : (f : ℕ → ℕ) (n x : ℕ) (xs : List ℕ) (b : Bool) → (x == n) ≡ b → weigh (only n) (x ∷ xs) ≡ 1
-    → (weigh (only n) xs ≡ 1 → weigh f (without n xs) + f n ≡ weigh f xs) → weigh f (without n (x ∷ xs)) + f n ≡ weigh f (x ∷ xs)
+    → (weigh (only n) xs ≡ 1 → weigh f (without n xs) + f n ≡ weigh f xs) → weigh f (without n (x ∷ xs)) + f n ≡ weigh f
+    (x ∷ xs)
 without_one_at f n x xs true h e rest =
     let here : only n x ≡ 1 = ap (λ (b : Bool). cond b 1 0) h in
-    let left : without n (x ∷ xs) ≡ without n xs = ap (λ (b : Bool). cond (not b) (x ∷ without n xs) (without n xs)) h in
+    let left : without n (x ∷ xs) ≡ without n xs = ap
+    (λ (b : Bool). cond (not b) (x ∷ without n xs) (without n xs)) h in
     let same : f x ≡ f n = ap f (eqb-true x n h) in
     let more : weigh f (without n xs) ≡ weigh f xs = without_none f n xs (omega arith) in
     omega (arith, ap (weigh f) left)
 without_one_at f n x xs false h e rest =
     let here : only n x ≡ 0 = ap (λ (b : Bool). cond b 1 0) h in
-    let kept : without n (x ∷ xs) ≡ x ∷ without n xs = ap (λ (b : Bool). cond (not b) (x ∷ without n xs) (without n xs)) h in
+    let kept : without n (x ∷ xs) ≡ x ∷ without n xs = ap
+    (λ (b : Bool). cond (not b) (x ∷ without n xs) (without n xs)) h in
     let more : weigh f (without n xs) + f n ≡ weigh f xs = rest (omega arith) in
     omega (arith, ap (weigh f) kept)
 
@@ -138,10 +154,12 @@ without_one f n (x ∷ xs) e = without_one_at f n x xs (x == n) refl e (without_
 without_le_at : (f : ℕ → ℕ) (n x : ℕ) (xs : List ℕ) (b : Bool) → (x == n) ≡ b
     → weigh f (without n xs) ≤ weigh f xs → weigh f (without n (x ∷ xs)) ≤ weigh f (x ∷ xs)
 without_le_at f n x xs true h rest =
-    let left : without n (x ∷ xs) ≡ without n xs = ap (λ (b : Bool). cond (not b) (x ∷ without n xs) (without n xs)) h in
+    let left : without n (x ∷ xs) ≡ without n xs = ap
+    (λ (b : Bool). cond (not b) (x ∷ without n xs) (without n xs)) h in
     omega (arith, ap (weigh f) left)
 without_le_at f n x xs false h rest =
-    let kept : without n (x ∷ xs) ≡ x ∷ without n xs = ap (λ (b : Bool). cond (not b) (x ∷ without n xs) (without n xs)) h in
+    let kept : without n (x ∷ xs) ≡ x ∷ without n xs = ap
+    (λ (b : Bool). cond (not b) (x ∷ without n xs) (without n xs)) h in
     omega (arith, ap (weigh f) kept)
 
 pub without_le : (f : ℕ → ℕ) (n : ℕ) (xs : List ℕ) → weigh f (without n xs) ≤ weigh f xs
@@ -168,10 +186,12 @@ above_range n zero le = refl
 above_range n (suc c) le =
     let before : weigh (only n) (range_with_len 0 c) ≡ 0 = above_range n c (omega arith) in
     let last : only n c ≡ 0 = only_other n c (λ e. omega arith) in
-    let more : weigh (only n) (range_with_len 0 (suc c)) ≡ weigh (only n) (range_with_len 0 c) + only n c = weigh_range_at (only n) c in
+    let more : weigh (only n) (range_with_len 0 (suc c)) ≡ weigh (only n)
+    (range_with_len 0 c) + only n c = weigh_range_at (only n) c in
     omega arith
 
-within_at : (n c : ℕ) → n < suc c → (n < c → weigh (only n) (range_with_len 0 c) ≡ 1) → (c ≡ n) ⊎ (c ≡ n → ⊥) → weigh (only n) (range_with_len 0 c) + only n c ≡ 1
+within_at : (n c : ℕ) → n < suc c → (n < c → weigh (only n) (range_with_len 0 c) ≡ 1) → (c ≡ n) ⊎ (c ≡ n → ⊥)
+    → weigh (only n) (range_with_len 0 c) + only n c ≡ 1
 within_at n c lt rest (inl e) =
     let before : weigh (only n) (range_with_len 0 c) ≡ 0 = above_range n c (omega arith) in
     let last : only n c ≡ 1 = ap (only n) e ∙ only_itself n in
@@ -184,5 +204,6 @@ within_at n c lt rest (inr h) =
 pub within_range : (n c : ℕ) → n < c → weigh (only n) (range_with_len 0 c) ≡ 1
 within_range n zero lt = absurd (omega arith)
 within_range n (suc c) lt =
-    let more : weigh (only n) (range_with_len 0 (suc c)) ≡ weigh (only n) (range_with_len 0 c) + only n c = weigh_range_at (only n) c in
+    let more : weigh (only n) (range_with_len 0 (suc c)) ≡ weigh (only n)
+    (range_with_len 0 c) + only n c = weigh_range_at (only n) c in
     more ∙ within_at n c lt (within_range n c) (cases_eq c n)

@@ -64,11 +64,13 @@ module _ {T : Type 0} (end : LaneOut T) (other : Sent T) where
     pub happened : List (Step T)
     pub left : List T
     pub steps : AreSteps lane_part happened left
-    pub each : (thread : Thread) → steps_of thread ((view end.pass).steps ++ (view other.pass).steps) ≡ steps_of thread happened
+    pub each : (thread : Thread) → steps_of thread
+        ((view end.pass).steps ++ (view other.pass).steps) ≡ steps_of thread happened
     pub put_is : (sent other).put ≡ all_put lane_part happened
     pub taken_is : (receiving end).taken ≡ all_taken lane_part happened
 
-  -- what was taken is a prefix of what was put, and after the end mark all of it; and the end mark came only where it was put
+  -- what was taken is a prefix of what was put, and after the end mark all of it; and the end mark came only where it
+  -- was put
   pub record Settles : Type 0 where
     pub in_order : (rest : List T) × ((sent other).put ≡ (receiving end).taken ++ rest)
     pub whole : IsWholeAtEnd (receiving end).told (sent other).put (receiving end).taken

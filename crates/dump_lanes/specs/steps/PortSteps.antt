@@ -19,7 +19,8 @@ module _ {J D : Type 0} (ports : Ports J D) where
     pub happened : List (Step (Mark J))
     pub left : List (Mark J)
     pub steps : AreSteps jobs_part happened left
-    pub each : (thread : Thread) → steps_of thread (job_steps ports.workers.items ++ (view ports.cutter.jobs).steps) ≡ steps_of thread happened
+    pub each : (thread : Thread) → steps_of thread
+        (job_steps ports.workers.items ++ (view ports.cutter.jobs).steps) ≡ steps_of thread happened
     pub put_is : (view ports.cutter.jobs).put ≡ all_put jobs_part happened
 
   -- one of the dones: it has what the sequencer took
@@ -27,7 +28,8 @@ module _ {J D : Type 0} (ports : Ports J D) where
     pub happened : List (Step (Note D))
     pub left : List (Note D)
     pub steps : AreSteps dones_part happened left
-    pub each : (thread : Thread) → steps_of thread (done_steps ports.workers.items ++ (view ports.sequencer.dones).steps) ≡ steps_of thread happened
+    pub each : (thread : Thread) → steps_of thread
+        (done_steps ports.workers.items ++ (view ports.sequencer.dones).steps) ≡ steps_of thread happened
     pub taken_is : (view ports.sequencer.dones).got ≡ all_taken dones_part happened
 
   -- one of the credits: it leads from those that the pool had at first to those that are free
@@ -35,7 +37,8 @@ module _ {J D : Type 0} (ports : Ports J D) where
     pub happened : List CreditStep
     pub free : ℕ
     pub steps : AreCreditSteps (credit_port ports.writer).window happened free
-    pub each : (thread : Thread) → steps_of thread ((view ports.writer.credits).steps ++ (view ports.cutter.credits).steps) ≡ steps_of thread happened
+    pub each : (thread : Thread) → steps_of thread
+        ((view ports.writer.credits).steps ++ (view ports.cutter.credits).steps) ≡ steps_of thread happened
     pub drawn_is : (job_port ports.cutter).drawn ≡ drawn_in happened
     pub back_is : (credit_port ports.writer).back ≡ back_in happened
 

@@ -49,11 +49,21 @@ module _ {J D : Type 0} where
 
   -- the sequencer's port
   abbrev pub done_port : DonePort J D → SequencerSide D
-  done_port p = record { pool = name_of (arc_value p.queues); taken = items_of (marks_in (view p.dones).got); ended = p.left == 0 }
+  done_port p = record {
+    pool = name_of (arc_value p.queues);
+    taken = items_of
+        (marks_in (view p.dones).got);
+    ended = p.left == 0;
+  }
 
   -- the writer's port
   abbrev pub credit_port : CreditPort J D → WriterSide
-  credit_port p = record { pool = name_of (arc_value p.queues); window = (arc_value p.queues).window; back = (view p.credits).back }
+  credit_port p = record {
+    pool = name_of (arc_value p.queues);
+    window = (arc_value p.queues).window;
+    back =
+        (view p.credits).back;
+  }
 
   -- the workers' ports, in order
   abbrev pub worker_ports : Ports J D → List (WorkerSide J D)
@@ -100,5 +110,6 @@ DoneStep old (Some done) new = (old.ended ≡ false) × (new ≡ record old { ta
 
 -- one call for a credit: one of this pool is drawn, or the stop was seen and none is
 abbrev pub DrawStep : {J : Type 0} → CutterSide J → Drawn → CutterSide J → Type 0
-DrawStep old (draws.Credit credit) new = (credit_pool credit ≡ old.pool.credits) × (new ≡ record old { drawn = old.drawn + 1 })
+DrawStep old (draws.Credit credit) new = (credit_pool credit ≡ old.pool.credits)
+    × (new ≡ record old { drawn = old.drawn + 1 })
 DrawStep old draws.Stop new = new ≡ old

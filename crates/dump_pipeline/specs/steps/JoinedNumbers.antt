@@ -6,7 +6,8 @@ use Rattle.dump_pipeline.specs.declared.join.Joined.{Joined}
 use Rattle.dump_pipeline.specs.declared.message.Run.{Ghosts}
 use Rattle.dump_pipeline.specs.steps.Messages.{piece_numbers}
 
--- the numbers are those of the dump's first items, each once and in order; the last word is an item too, numbered behind
+-- the numbers are those of the dump's first items, each once and in order; the last word is an item too, numbered
+-- behind
 -- the records
 abbrev pub AreFirstItems : List ℕ → Type 0
 AreFirstItems numbers = numbers ≡ first_numbers (length numbers)

@@ -33,7 +33,8 @@ pub record HasPut {D : Type 0} {run : Ghosts D} (count : ℕ) (old new : CutterS
 
 -- what the cutter gives back: it put the first so many items, all the dump's records and the last word unless it saw
 -- the stop
-pub record HasCut {D : Type 0} {run : Ghosts D} (dump : List ℕ) (new : CutterSide (Job D run)) (seen : Bool) : Type 0 where
+pub record HasCut {D : Type 0} {run : Ghosts D} (dump : List ℕ) (new : CutterSide (Job D run))
+    (seen : Bool) : Type 0 where
   pub count : ℕ
   pub numbers : job_numbers new.put ≡ first_numbers count
   pub credits : count ≤ new.drawn
@@ -65,7 +66,8 @@ end_answer ends.Memory count = answers.Failed failures.Memory count
 -- the text that was released, where the sequencer ended so
 abbrev pub IsEndOf : Settings → List ℕ → End → List ℕ → Type 0
 IsEndOf settings dump (ends.Clean report) text = IsFilterAnswer settings dump text (answers.Clean report)
-IsEndOf settings dump (ends.Fault kind number place) text = IsFilterAnswer settings dump text (answers.Fault kind number place)
+IsEndOf settings dump (ends.Fault kind number place) text = IsFilterAnswer settings dump text
+    (answers.Fault kind number place)
 IsEndOf settings dump ends.Memory text = IsFilterPrefix settings dump text
 
 -- as many records were taken by this filter, and this is their text
@@ -88,7 +90,8 @@ pub record HasSequenced {D : Type 0} {run : Ghosts D} (settings : Settings) (dum
     (taken : List (Checked D run)) (put : List NumberedPiece) (end : Option End) (stray : Bool) : Type 0 where
   pub text : HasEndedWith settings dump end (length put) (text_of put)
   pub numbered : piece_numbers put ≡ first_numbers (length put)
-  pub order : MatchBool stray (Clash window (length put) (checked_numbers taken)) (IsWaiting (length put) (checked_numbers taken))
+  pub order : MatchBool stray (Clash window (length put) (checked_numbers taken))
+      (IsWaiting (length put) (checked_numbers taken))
 
 -- what the sink received of the pieces that the writer took: all, or after a failure their first bytes, and their count
 pub record HasReceived (failed : Bool) (text : List ℕ) (old new : Option (List ℕ)) (written : ℕ) : Type 0 where

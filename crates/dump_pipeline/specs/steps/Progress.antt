@@ -11,7 +11,8 @@ use Rattle.dump_filter.specs.RecordFaults.{AreFaultFree}
 use Rattle.dump_filter.specs.Written.{IsWritten}
 
 -- what a run has done so far: it has taken these records, found no fault in them, and written their text
-pub record Progress (settings : Settings) (dump : List ℕ) (cutter : CutterState) (filter : FilterState) (old new : Option (List ℕ)) (written : ℕ) : Type 0 where
+pub record Progress (settings : Settings) (dump : List ℕ) (cutter : CutterState) (filter : FilterState)
+    (old new : Option (List ℕ)) (written : ℕ) : Type 0 where
   pub before : List DumpRecord
   pub begins : BeginsWithRecords dump before
   pub count : length before ≡ cutter.number

@@ -25,6 +25,7 @@ pub record StopsShort (old new : Option (List ℕ)) (piece : List ℕ) (before c
 abbrev pub EndsRun : FilterState → Option (List ℕ) → Option (List ℕ) → ℕ → Answer → Type 0
 EndsRun filter old new written (Clean report) = (piece : List ℕ) × Finishes filter piece × Appends old new piece
     × ((records : List DumpRecord) → AreAccepted filter records → report ≡ report_of filter.settings records)
-EndsRun filter old new written (Failed failures.Sink count) = (piece : List ℕ) × Finishes filter piece × StopsShort old new piece written count
+EndsRun filter old new written (Failed failures.Sink count) = (piece : List ℕ) × Finishes filter piece
+    × StopsShort old new piece written count
 EndsRun filter old new written (Failed failures.Memory count) = Appends old new [] × (count ≡ written)
 EndsRun filter old new written answer = ⊥

@@ -20,8 +20,10 @@ foreign_means settings kept now value some =
     (foreign_there settings kept now value (has_lines value some), foreign_back settings kept now value)
 
 -- where no number is refused, the lines that stay have none above the present revision
-pub foreign_below : (settings : Settings) (kept : KeptRevisions) (now : ℕ) (value : List ℕ) → ¬ HasForeignNumber settings kept now value
-    → settings.renumber ≡ true → (lines : List MergeLine) → IsMergeinfo value lines → (line : MergeLine) → Contains (staying_lines settings lines) line
+pub foreign_below : (settings : Settings) (kept : KeptRevisions) (now : ℕ) (value : List ℕ)
+    → ¬ HasForeignNumber settings kept now value
+    → settings.renumber ≡ true → (lines : List MergeLine) → IsMergeinfo value lines → (line : MergeLine)
+    → Contains (staying_lines settings lines) line
     → (kind : Bool) (number : ℕ) → HasNumber line.ranges kind number → number ≤ now
 foreign_below settings kept now value none renumber lines is line stays kind number has = elim (leb_tells number now) [
   | inl within ↦ within.1

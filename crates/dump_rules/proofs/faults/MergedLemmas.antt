@@ -13,7 +13,8 @@ bounds_first bounds next part others all is made =
     ap (parts_bounds bounds) is ∙ ap (λ (b : Option Bounds). parts_bounds b others) (sym made)
 
 -- one line more
-pub lines_first : (settings : Settings) (said next : Merged) (line : List ℕ) (others all : List (List ℕ)) → all ≡ line ∷ others
+pub lines_first : (settings : Settings) (said next : Merged) (line : List ℕ) (others all : List (List ℕ))
+    → all ≡ line ∷ others
     → line_merged settings said line ≡ Some next → lines_merged settings said all ≡ lines_merged settings next others
 lines_first settings said next line others all is made = ap (lines_merged settings said) is ∙ rw made refl
 
@@ -32,6 +33,7 @@ lines_last settings said line = last (line_merged settings said line)
     last (Some next) = refl
 
 -- a list's bounds are those of its parts
-pub list_bounds_is : (bounds : Option Bounds) (list : List ℕ) → list_bounds bounds list ≡ parts_bounds bounds (range_parts list)
+pub list_bounds_is : (bounds : Option Bounds) (list : List ℕ) → list_bounds bounds list ≡ parts_bounds bounds
+    (range_parts list)
 list_bounds_is bounds [] = refl
 list_bounds_is bounds (b ∷ list) = refl

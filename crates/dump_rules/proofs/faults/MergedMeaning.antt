@@ -52,11 +52,13 @@ spread false false x y = refl
 
 module _ (s : Settings) (first now : ℕ) where
   outside_widened : (bounds : Option Bounds) (r : Range)
-      → is_outside s first now (Some (widened bounds r)) ≡ (is_outside s first now bounds || range_foreign s first now r)
+      → is_outside s first now (Some (widened bounds r)) ≡
+      (is_outside s first now bounds || range_foreign s first now r)
   outside_widened None r = refl
   outside_widened (Some b) r =
       rw (below_greater now b.greatest r.to, lesser_below b.least r.from first)
-      (two_of_each (nat_lt now b.greatest) (nat_lt now r.to) (nat_lt b.least first) (nat_lt r.from first) (not s.skip_missing))
+      (two_of_each (nat_lt now b.greatest) (nat_lt now r.to) (nat_lt b.least first) (nat_lt r.from first)
+      (not s.skip_missing))
 
   outside_part : (bounds : Option Bounds) (o : Option Range)
       → is_outside s first now (widened_by bounds o) ≡ (is_outside s first now bounds || part_foreign s first now o)
@@ -101,7 +103,8 @@ module _ (s : Settings) (first now : ℕ) where
       by_line (outside_lines (line_said s said line) last lines) (line_reads line) refl
     where
       by_line : (lines_merged s (line_said s said line) lines ≡ Some last → is_outside s first now last.numbers
-          ≡ (is_outside s first now (line_said s said line).numbers || (s.renumber && list_any (line_foreign s first now) lines)))
+          ≡ (is_outside s first now (line_said s said line).numbers ||
+          (s.renumber && list_any (line_foreign s first now) lines)))
           → (b : Bool) → line_reads line ≡ b → is_outside s first now last.numbers
           ≡ (is_outside s first now said.numbers || (s.renumber && list_any (line_foreign s first now) (line ∷ lines)))
       by_line later false e = let bad : Path (Option Merged) None (Some last) = rw e at is in cc
@@ -176,14 +179,16 @@ module _ (s : Settings) where
   read_value said value = read_text said (without_lf value)
 
 -- what is said of a value, as far as it is mergeinfo
-pub said_sources : (s : Settings) (said : Merged) (value : List ℕ) (made : Option Merged) → made ≡ text_merged s said value
+pub said_sources : (s : Settings) (said : Merged) (value : List ℕ) (made : Option Merged)
+    → made ≡ text_merged s said value
     → IfSome made (λ m. m.misses ≡ (said.misses || value_misses s value))
 said_sources s said value None is = tt
 said_sources s said value (Some m) is = missed_value s said m value (sym is)
 
 pub said_numbers : (s : Settings) (first now : ℕ) (said : Merged) (value : List ℕ) (made : Option Merged)
     → made ≡ text_merged s said value
-    → IfSome made (λ m. is_outside s first now m.numbers ≡ (is_outside s first now said.numbers || value_foreign s first now value))
+    → IfSome made (λ m. is_outside s first now m.numbers ≡
+    (is_outside s first now said.numbers || value_foreign s first now value))
 said_numbers s first now said value None is = tt
 said_numbers s first now said value (Some m) is = outside_value s first now said m value (sym is)
 

@@ -36,7 +36,8 @@ alike_so true false e = cc
 alike_so false true e = cc
 alike_so false false e = refl
 
-clash : (a b : Bool) (ranges : List Range) (n : ℕ) → a ≢ b → IsConsistent ranges → HasNumber ranges a n → HasNumber ranges b n → ⊥
+clash : (a b : Bool) (ranges : List Range) (n : ℕ) → a ≢ b → IsConsistent ranges → HasNumber ranges a n
+    → HasNumber ranges b n → ⊥
 clash true true ranges n other consistent one two = other refl
 clash true false ranges n other consistent one two = consistent n one two
 clash false true ranges n other consistent one two = consistent n two one
@@ -76,7 +77,8 @@ same_cons r a b same kind n = (there, back)
     back (inl h) = inl h
     back (inr h) = inr ((same kind n).1 h)
 
-one_for_two : (r s : Range) (rest : List Range) → r.inheritable ≡ s.inheritable → r.from ≤ s.from → s.from ≤ r.to + 1 → r.from ≤ r.to
+one_for_two : (r s : Range) (rest : List Range) → r.inheritable ≡ s.inheritable → r.from ≤ s.from → s.from ≤ r.to + 1
+    → r.from ≤ r.to
     → IsSameMap (r ∷ s ∷ rest) (reaching r s.to ∷ rest)
 one_for_two r s rest alike low near order kind n = (there, back)
   where
@@ -105,7 +107,8 @@ rises_joined r s (t ∷ rest) up =
 pub record AreJoined (r : Range) (rest joint : List Range) : Type 0 where
   pub runs : AreRuns joint
   pub same : IsSameMap (r ∷ rest) joint
-  pub first : (first : Range) × (later : List Range) × (joint ≡ first ∷ later) × (first.from ≡ r.from) × (first.inheritable ≡ r.inheritable)
+  pub first : (first : Range) × (later : List Range) × (joint ≡ first ∷ later) × (first.from ≡ r.from)
+      × (first.inheritable ≡ r.inheritable)
 
 before : (r first : Range) (later runs : List Range) → runs ≡ first ∷ later → r.from ≤ r.to → r.to < first.from
     → (r.inheritable ≡ first.inheritable → r.to + 1 < first.from) → AreRuns runs → AreRuns (r ∷ runs)
@@ -114,25 +117,29 @@ before r first later runs is order above far are =
     (order, above, (λ next alike. let gap = far alike in absurd (omega arith)), subst AreRuns is are)
 
 together : (r s : Range) (rest : List Range) → Rises (r ∷ s ∷ rest) → IsConsistent (r ∷ s ∷ rest) → touches r s ≡ true
-    → (Rises (reaching r s.to ∷ rest) → IsConsistent (reaching r s.to ∷ rest) → AreJoined (reaching r s.to) rest (joined_from (reaching r s.to) rest))
+    → (Rises (reaching r s.to ∷ rest) → IsConsistent (reaching r s.to ∷ rest) → AreJoined (reaching r s.to) rest
+    (joined_from (reaching r s.to) rest))
     → AreJoined r (s ∷ rest) (joined_from (reaching r s.to) rest)
 together r s rest up consistent e next =
     let near = touching r s e in
     let same = one_for_two r s rest near.0 up.1 near.1 up.0 in
-    let later = next (rises_joined r s rest up) (consistent_same (r ∷ s ∷ rest) (reaching r s.to ∷ rest) same consistent) in
+    let later = next (rises_joined r s rest up) (consistent_same (r ∷ s ∷ rest)
+    (reaching r s.to ∷ rest) same consistent) in
     record {
       runs = later.runs;
       same = same_trans (r ∷ s ∷ rest) (reaching r s.to ∷ rest) (joined_from (reaching r s.to) rest) same later.same;
       first = later.first;
     }
 
-above : (r s : Range) (rest : List Range) → Rises (r ∷ s ∷ rest) → IsConsistent (r ∷ s ∷ rest) → touches r s ≡ false → r.to < s.from
+above : (r s : Range) (rest : List Range) → Rises (r ∷ s ∷ rest) → IsConsistent (r ∷ s ∷ rest) → touches r s ≡ false
+    → r.to < s.from
 above r s rest up consistent e = elim (leb_tells s.from r.to) [
   | inl within ↦
       let order = rises_first s rest up.2 in
       let low = up.1 in
       let high = within.1 in
-      absurd (clash r.inheritable s.inheritable (r ∷ s ∷ rest) s.from (λ alike. let gap = apart r s e alike in omega arith) consistent
+      absurd (clash r.inheritable s.inheritable (r ∷ s ∷ rest) s.from
+      (λ alike. let gap = apart r s e alike in omega arith) consistent
       (inl (refl, low, high)) (inr (inl (refl, omega arith, order))))
   | inr over ↦ over.1
 ]
@@ -150,23 +157,27 @@ separate r s rest up consistent e later =
       first = (r, joined_from s rest, refl, refl, refl);
     }
 
-pub are_joined : (r : Range) (rest : List Range) → Rises (r ∷ rest) → IsConsistent (r ∷ rest) → AreJoined r rest (joined_from r rest)
+pub are_joined : (r : Range) (rest : List Range) → Rises (r ∷ rest) → IsConsistent (r ∷ rest)
+    → AreJoined r rest (joined_from r rest)
 are_joined r [] up consistent = record {
   runs = up;
   same = λ kind n. (λ h. h, λ h. h);
   first = (r, [], refl, refl, refl);
 }
 are_joined r (s ∷ rest) up consistent =
-    go (touches r s) refl (are_joined (reaching r s.to) rest) (are_joined s rest up.2 (λ n one two. consistent n (inr one) (inr two)))
+    go (touches r s) refl (are_joined (reaching r s.to) rest)
+    (are_joined s rest up.2 (λ n one two. consistent n (inr one) (inr two)))
   where
     go : (t : Bool) → touches r s ≡ t
-        → (Rises (reaching r s.to ∷ rest) → IsConsistent (reaching r s.to ∷ rest) → AreJoined (reaching r s.to) rest (joined_from (reaching r s.to) rest))
+        → (Rises (reaching r s.to ∷ rest) → IsConsistent (reaching r s.to ∷ rest) → AreJoined (reaching r s.to) rest
+        (joined_from (reaching r s.to) rest))
         → AreJoined s rest (joined_from s rest) → AreJoined r (s ∷ rest) (joined_from r (s ∷ rest))
     go true e one two = rw e (together r s rest up consistent e one)
     go false e one two = rw e (separate r s rest up consistent e two)
 
 -- ranges that rise and don't contradict each other, joined, are runs, and mean the same map
-pub joined_runs : (ranges : List Range) → Rises ranges → IsConsistent ranges → AreRuns (joined ranges) × IsSameMap ranges (joined ranges)
+pub joined_runs : (ranges : List Range) → Rises ranges → IsConsistent ranges → AreRuns (joined ranges)
+    × IsSameMap ranges (joined ranges)
 joined_runs [] up consistent = (tt, λ kind n. (λ h. h, λ h. h))
 joined_runs (r ∷ rest) up consistent = let are = are_joined r rest up consistent in (are.runs, are.same)
 
@@ -194,7 +205,8 @@ into_order r [] order up = record {
 }
 into_order r (s ∷ rest) order up = go (nat_le r.from s.from) refl (into_order r rest order (rises_rest s rest up))
   where
-    go : (t : Bool) → nat_le r.from s.from ≡ t → AreOrdered r rest (ordered_into r rest) → AreOrdered r (s ∷ rest) (ordered_into r (s ∷ rest))
+    go : (t : Bool) → nat_le r.from s.from ≡ t → AreOrdered r rest (ordered_into r rest)
+        → AreOrdered r (s ∷ rest) (ordered_into r (s ∷ rest))
     go true e later =
         let low : r.from ≤ s.from = grind (arith, nat_tests) in
         rw e (record {
@@ -208,7 +220,8 @@ into_order r (s ∷ rest) order up = go (nat_le r.from s.from) refl (into_order 
         let behind = later.behind s has high up in
         rw e (record {
           up = behind;
-          same = same_trans (r ∷ s ∷ rest) (s ∷ r ∷ rest) (s ∷ ordered_into r rest) (swapped r s rest) (same_cons s (r ∷ rest) (ordered_into r rest) later.same);
+          same = same_trans (r ∷ s ∷ rest) (s ∷ r ∷ rest) (s ∷ ordered_into r rest) (swapped r s rest)
+              (same_cons s (r ∷ rest) (ordered_into r rest) later.same);
           behind = λ first some under before. (some, before.1, behind);
         })
 
@@ -216,21 +229,27 @@ pub in_order : (ranges : List Range) → HaveNumbers ranges → Rises (ordered r
 in_order [] have = (tt, λ kind n. (λ h. h, λ h. h))
 in_order (r ∷ rest) have =
     let later = in_order rest have.1 in
-    let here = into_order r (ordered rest) have.0 later.0 in
-    (here.up, same_trans (r ∷ rest) (r ∷ ordered rest) (ordered (r ∷ rest)) (same_cons r rest (ordered rest) later.1) here.same)
+    let here = into_order r (ordered rest) have.0 later.0 in (
+      here.up,
+      same_trans (r ∷ rest) (r ∷ ordered rest) (ordered (r ∷ rest))
+          (same_cons r rest (ordered rest) later.1) here.same,
+    )
 
 -- ranges that have numbers and don't contradict each other have runs of the same map
-pub runs_are : (ranges : List Range) → HaveNumbers ranges → IsConsistent ranges → AreRuns (runs_of ranges) × IsSameMap ranges (runs_of ranges)
+pub runs_are : (ranges : List Range) → HaveNumbers ranges → IsConsistent ranges → AreRuns (runs_of ranges)
+    × IsSameMap ranges (runs_of ranges)
 runs_are ranges have consistent =
     let order = in_order ranges have in
     let join = joined_runs (ordered ranges) order.0 (consistent_same ranges (ordered ranges) order.1 consistent) in
     (join.0, same_trans ranges (ordered ranges) (joined (ordered ranges)) order.1 join.1)
 
 -- ranges in any order of their lower ends have the same runs
-pub runs_any_order : (ranges others : List Range) → HaveNumbers ranges → IsConsistent ranges → Rises others → IsSameMap ranges others
+pub runs_any_order : (ranges others : List Range) → HaveNumbers ranges → IsConsistent ranges → Rises others
+    → IsSameMap ranges others
     → joined others ≡ runs_of ranges
 runs_any_order ranges others have consistent up same =
     let are = runs_are ranges have consistent in
     let join = joined_runs others up (consistent_same ranges others same consistent) in
     runs_once (joined others) (runs_of ranges) join.0 are.0
-    (same_trans (joined others) ranges (runs_of ranges) (same_sym ranges (joined others) (same_trans ranges others (joined others) same join.1)) are.1)
+    (same_trans (joined others) ranges (runs_of ranges)
+    (same_sym ranges (joined others) (same_trans ranges others (joined others) same join.1)) are.1)

@@ -34,7 +34,8 @@ below_most m (k ∷ numbers) =
     let one = one_at_most (nat_lt k m) in
     omega arith
 
-low_below : (first m : ℕ) (numbers : List ℕ) → RiseFrom first numbers → (i d : ℕ) → i < length numbers → m ≤ get_or numbers i d → below m numbers ≤ i
+low_below : (first m : ℕ) (numbers : List ℕ) → RiseFrom first numbers → (i d : ℕ) → i < length numbers
+    → m ≤ get_or numbers i d → below m numbers ≤ i
 low_below first m [] up i d within low = absurd (omega arith)
 low_below first m (k ∷ numbers) up zero d within low =
     let none = none_below k m (k ∷ numbers) low (omega arith, up.1) in
@@ -45,7 +46,8 @@ low_below first m (k ∷ numbers) up (suc i) d within low =
     let one = one_at_most (nat_lt k m) in
     omega arith
 
-high_below : (first m : ℕ) (numbers : List ℕ) → RiseFrom first numbers → (i d : ℕ) → i < length numbers → get_or numbers i d < m → i < below m numbers
+high_below : (first m : ℕ) (numbers : List ℕ) → RiseFrom first numbers → (i d : ℕ) → i < length numbers
+    → get_or numbers i d < m → i < below m numbers
 high_below first m [] up i d within high = absurd (omega arith)
 high_below first m (k ∷ numbers) up zero d within high =
     let passes = is_below k m high in
@@ -58,7 +60,8 @@ high_below first m (k ∷ numbers) up (suc i) d within high =
     let counted : below m (k ∷ numbers) ≡ 1 + below m numbers = below-cons m k numbers ∙ rw passes refl in
     omega arith
 
-at_place : (first : ℕ) (numbers : List ℕ) → RiseFrom first numbers → (i d : ℕ) → i < length numbers → below (get_or numbers i d) numbers ≡ i
+at_place : (first : ℕ) (numbers : List ℕ) → RiseFrom first numbers → (i d : ℕ) → i < length numbers
+    → below (get_or numbers i d) numbers ≡ i
 at_place first [] up i d within = absurd (omega arith)
 at_place first (k ∷ numbers) up zero d within =
     none_below k k (k ∷ numbers) (omega arith) (omega arith, up.1)
@@ -73,8 +76,13 @@ at_place first (k ∷ numbers) up (suc i) d within =
 -- the place of a kept number
 place_of : (kept : KeptRevisions) → RiseFrom kept.first kept.numbers → (k : ℕ) → Contains kept.numbers k
     → (i : ℕ) × (i < length kept.numbers) × (get_or kept.numbers i k ≡ k) × (below k kept.numbers ≡ i)
-place_of kept up k has =
-    (has.0, has.1, has.2, ap (λ n. below n kept.numbers) (sym has.2) ∙ at_place kept.first kept.numbers up has.0 k has.1)
+place_of kept up k has = (
+  has.0,
+  has.1,
+  has.2,
+  ap (λ n. below n kept.numbers) (sym has.2)
+      ∙ at_place kept.first kept.numbers up has.0 k has.1,
+)
 
 -- one range
 
@@ -84,32 +92,43 @@ InRange r kind n = (r.inheritable ≡ kind) × (r.from ≤ n) × (n ≤ r.to)
 abbrev IsNewOf : KeptRevisions → Range → Bool → ℕ → Type 0
 IsNewOf kept r kind n = (k : ℕ) × Contains kept.numbers k × (new_number kept k ≡ n) × InRange r kind k
 
-new_of : (kept : KeptRevisions) → RiseFrom kept.first kept.numbers → (r : Range) (kind : Bool) (n : ℕ) → r.inheritable ≡ kind
-    → below r.from kept.numbers < up_to r.to kept.numbers → kept.first + below r.from kept.numbers ≤ n → n ≤ kept.first + (up_to r.to kept.numbers - 1) → IsNewOf kept r kind n
+new_of : (kept : KeptRevisions) → RiseFrom kept.first kept.numbers → (r : Range) (kind : Bool) (n : ℕ)
+    → r.inheritable ≡ kind
+    → below r.from kept.numbers < up_to r.to kept.numbers → kept.first + below r.from kept.numbers ≤ n
+    → n ≤ kept.first + (up_to r.to kept.numbers - 1) → IsNewOf kept r kind n
 new_of kept up r kind n is some low high =
     let same = up_to_is r.to kept.numbers in
     let most = below_most (r.to + 1) kept.numbers in
     let within : n - kept.first < length kept.numbers = omega arith in
     let k = get_or kept.numbers (n - kept.first) 0 in
     let number = at_place kept.first kept.numbers up (n - kept.first) 0 within in
-    let from : r.from ≤ get_or kept.numbers (n - kept.first) 0 = elim (leb_tells r.from (get_or kept.numbers (n - kept.first) 0)) [
+    let from : r.from ≤ get_or kept.numbers (n - kept.first) 0 = elim
+    (leb_tells r.from (get_or kept.numbers (n - kept.first) 0)) [
       | inl t ↦ t.1
-      | inr t ↦ let far = high_below kept.first r.from kept.numbers up (n - kept.first) 0 within t.1 in absurd (omega arith)
+      | inr t ↦ let far = high_below kept.first r.from kept.numbers up (n - kept.first) 0 within t.1 in absurd
+          (omega arith)
     ] in
-    let to : get_or kept.numbers (n - kept.first) 0 ≤ r.to = elim (leb_tells (get_or kept.numbers (n - kept.first) 0) r.to) [
+    let to : get_or kept.numbers (n - kept.first) 0 ≤ r.to = elim
+    (leb_tells (get_or kept.numbers (n - kept.first) 0) r.to) [
       | inl t ↦ t.1
       | inr t ↦
           let over = t.1 in
-          let near = low_below kept.first (r.to + 1) kept.numbers up (n - kept.first) 0 within (omega arith) in absurd (omega arith)
-    ] in
-    (get_or kept.numbers (n - kept.first) 0, Contains-get_or kept.numbers (n - kept.first) 0 within, omega arith, (is, from, to))
+          let near = low_below kept.first (r.to + 1) kept.numbers up (n - kept.first) 0 within (omega arith) in absurd
+          (omega arith)
+    ] in (
+      get_or kept.numbers (n - kept.first) 0,
+      Contains-get_or kept.numbers (n - kept.first) 0 within,
+      omega arith,
+      (is, from, to),
+    )
 
 record Within (kept : KeptRevisions) (r : Range) (n : ℕ) : Type 0 where
   some : below r.from kept.numbers < up_to r.to kept.numbers
   low : kept.first + below r.from kept.numbers ≤ n
   high : n ≤ kept.first + (up_to r.to kept.numbers - 1)
 
-within_new : (kept : KeptRevisions) → RiseFrom kept.first kept.numbers → (r : Range) (k n : ℕ) → Contains kept.numbers k → new_number kept k ≡ n
+within_new : (kept : KeptRevisions) → RiseFrom kept.first kept.numbers → (r : Range) (k n : ℕ) → Contains kept.numbers k
+    → new_number kept k ≡ n
     → r.from ≤ k → k ≤ r.to → Within kept r n
 within_new kept up r k n has is low high =
     let place = place_of kept up k has in
@@ -120,7 +139,8 @@ within_new kept up r k n has is low high =
     let same = up_to_is r.to kept.numbers in
     record { some = omega arith; low = omega arith; high = omega arith }
 
-with_new : (kept : KeptRevisions) → RiseFrom kept.first kept.numbers → (r : Range) (ranges : List Range) (kind : Bool) (n : ℕ)
+with_new : (kept : KeptRevisions) → RiseFrom kept.first kept.numbers → (r : Range) (ranges : List Range) (kind : Bool)
+    (n : ℕ)
     → HasNumber (with_range (new_range kept r) ranges) kind n ↔ (IsNewOf kept r kind n ⊎ HasNumber ranges kind n)
 with_new kept up r ranges kind n = go (nat_lt (below r.from kept.numbers) (up_to r.to kept.numbers)) refl
   where
@@ -134,7 +154,8 @@ with_new kept up r ranges kind n = go (nat_lt (below r.from kept.numbers) (up_to
             | inr later ↦ inr later
           ]),
           (λ h. elim h [
-            | inl here ↦ let w = within_new kept up r here.0 n here.1 here.2 here.3.1 here.3.2 in inl (here.3.0, w.low, w.high)
+            | inl here ↦ let w = within_new kept up r here.0 n here.1 here.2 here.3.1 here.3.2 in inl
+                (here.3.0, w.low, w.high)
             | inr later ↦ inr later
           ]),
         )
@@ -151,30 +172,41 @@ with_new kept up r ranges kind n = go (nat_lt (below r.from kept.numbers) (up_to
 
 -- as it is computed
 
-pub new_range_none : (kept : KeptRevisions) (r : Range) → up_to r.to kept.numbers ≤ below r.from kept.numbers → new_range kept r ≡ None
+pub new_range_none : (kept : KeptRevisions) (r : Range) → up_to r.to kept.numbers ≤ below r.from kept.numbers
+    → new_range kept r ≡ None
 new_range_none kept r none =
     let test : nat_lt (below r.from kept.numbers) (up_to r.to kept.numbers) ≡ false = grind (arith, nat_tests) in
     rw test refl
 
-pub new_range_some : (kept : KeptRevisions) (r : Range) (first low high : ℕ) → first ≡ kept.first → low ≡ below r.from kept.numbers → high ≡ up_to r.to kept.numbers
-    → low < high → Some (record { from = first + low; to = first + (high - 1); inheritable = r.inheritable }) ≡ new_range kept r
+pub new_range_some : (kept : KeptRevisions) (r : Range) (first low high : ℕ) → first ≡ kept.first
+    → low ≡ below r.from kept.numbers → high ≡ up_to r.to kept.numbers
+    → low < high → Some (record {
+      from = first + low;
+      to = first +
+          (high - 1);
+      inheritable = r.inheritable;
+    }) ≡ new_range kept r
 new_range_some kept r first low high is low_is high_is some =
     let test : nat_lt (below r.from kept.numbers) (up_to r.to kept.numbers) ≡ true = grind (arith, nat_tests) in
     rw test (rw (is, low_is, high_is) refl)
 
-pub new_range_fits : (kept : KeptRevisions) → RiseFrom kept.first kept.numbers → (n high : ℕ) → high ≡ up_to n kept.numbers → 0 < high → kept.first + (high - 1) ≤ n
+pub new_range_fits : (kept : KeptRevisions) → RiseFrom kept.first kept.numbers → (n high : ℕ)
+    → high ≡ up_to n kept.numbers → 0 < high → kept.first + (high - 1) ≤ n
 new_range_fits kept up n high is some = (image_of_some kept n (high - 1) up (sym is ∙ omega arith)).1
 
 -- all ranges
 
-pub renumbered : (kept : KeptRevisions) → RiseFrom kept.first kept.numbers → (ranges : List Range) → IsRenumberedMap kept ranges (new_ranges true kept ranges)
+pub renumbered : (kept : KeptRevisions) → RiseFrom kept.first kept.numbers → (ranges : List Range)
+    → IsRenumberedMap kept ranges (new_ranges true kept ranges)
 renumbered kept up [] kind n = ((λ h. absurd h), (λ h. absurd h.3))
-renumbered kept up (r ∷ rest) kind n = go (with_new kept up r (new_ranges true kept rest) kind n) (renumbered kept up rest kind n)
+renumbered kept up (r ∷ rest) kind n = go (with_new kept up r (new_ranges true kept rest) kind n)
+    (renumbered kept up rest kind n)
   where
     Source : List Range → Type 0
     Source old = (k : ℕ) × Contains kept.numbers k × (new_number kept k ≡ n) × HasNumber old kind k
 
-    go : HasNumber (new_ranges true kept (r ∷ rest)) kind n ↔ (IsNewOf kept r kind n ⊎ HasNumber (new_ranges true kept rest) kind n)
+    go : HasNumber (new_ranges true kept (r ∷ rest)) kind n
+        ↔ (IsNewOf kept r kind n ⊎ HasNumber (new_ranges true kept rest) kind n)
         → HasNumber (new_ranges true kept rest) kind n ↔ Source rest
         → HasNumber (new_ranges true kept (r ∷ rest)) kind n ↔ Source (r ∷ rest)
     go one later = (
@@ -193,7 +225,8 @@ unchanged kept [] = refl
 unchanged kept (r ∷ rest) = ap (λ l. r ∷ l) (unchanged kept rest)
 
 -- two kept revisions have two new numbers
-once : (kept : KeptRevisions) → RiseFrom kept.first kept.numbers → (j k n : ℕ) → Contains kept.numbers j → Contains kept.numbers k
+once : (kept : KeptRevisions) → RiseFrom kept.first kept.numbers → (j k n : ℕ) → Contains kept.numbers j
+    → Contains kept.numbers k
     → new_number kept j ≡ n → new_number kept k ≡ n → j ≡ k
 once kept up j k n has_j has_k is_j is_k =
     let a = place_of kept up j has_j in
@@ -205,12 +238,15 @@ once kept up j k n has_j has_k is_j is_k =
     elim (leb_tells j k) [
       | inl t ↦ elim (leb_tells k j) [
         | inl u ↦ let x = t.1 in let y = u.1 in omega arith
-        | inr u ↦ let far = high_below kept.first k kept.numbers up a.0 j a.1 (let h = u.1 in omega arith) in absurd (omega arith)
+        | inr u ↦ let far = high_below kept.first k kept.numbers up a.0 j a.1 (let h = u.1 in omega arith) in absurd
+            (omega arith)
       ]
-      | inr t ↦ let far = high_below kept.first j kept.numbers up b.0 k b.1 (let h = t.1 in omega arith) in absurd (omega arith)
+      | inr t ↦ let far = high_below kept.first j kept.numbers up b.0 k b.1 (let h = t.1 in omega arith) in absurd
+          (omega arith)
     ]
 
-pub renumbered_consistent : (kept : KeptRevisions) → RiseFrom kept.first kept.numbers → (old new : List Range) → IsRenumberedMap kept old new → IsConsistent old → IsConsistent new
+pub renumbered_consistent : (kept : KeptRevisions) → RiseFrom kept.first kept.numbers → (old new : List Range)
+    → IsRenumberedMap kept old new → IsConsistent old → IsConsistent new
 renumbered_consistent kept up old new map consistent n plain starred =
     let a = (map true n).0 plain in
     let b = (map false n).0 starred in
@@ -218,9 +254,11 @@ renumbered_consistent kept up old new map consistent n plain starred =
 
 pub new_have_numbers : (kept : KeptRevisions) (ranges : List Range) → HaveNumbers (new_ranges true kept ranges)
 new_have_numbers kept [] = tt
-new_have_numbers kept (r ∷ rest) = go (nat_lt (below r.from kept.numbers) (up_to r.to kept.numbers)) refl (new_have_numbers kept rest)
+new_have_numbers kept (r ∷ rest) = go (nat_lt (below r.from kept.numbers) (up_to r.to kept.numbers)) refl
+    (new_have_numbers kept rest)
   where
-    go : (t : Bool) → nat_lt (below r.from kept.numbers) (up_to r.to kept.numbers) ≡ t → HaveNumbers (new_ranges true kept rest) → HaveNumbers (new_ranges true kept (r ∷ rest))
+    go : (t : Bool) → nat_lt (below r.from kept.numbers) (up_to r.to kept.numbers) ≡ t
+        → HaveNumbers (new_ranges true kept rest) → HaveNumbers (new_ranges true kept (r ∷ rest))
     go true e later =
         let some : below r.from kept.numbers < up_to r.to kept.numbers = grind (arith, nat_tests) in
         rw e (omega arith, later)
@@ -228,15 +266,18 @@ new_have_numbers kept (r ∷ rest) = go (nat_lt (below r.from kept.numbers) (up_
 
 -- the parts of a list
 
-pub parts_new : (renumber : Bool) (kept : KeptRevisions) (parts : List (List ℕ)) → parts_ranges renumber kept parts ≡ new_ranges renumber kept (ranges_of parts)
+pub parts_new : (renumber : Bool) (kept : KeptRevisions) (parts : List (List ℕ))
+    → parts_ranges renumber kept parts ≡ new_ranges renumber kept (ranges_of parts)
 parts_new renumber kept [] = refl
 parts_new renumber kept (part ∷ parts) = go (range_of part) refl (parts_new renumber kept parts)
   where
-    go : (o : Option Range) → range_of part ≡ o → parts_ranges renumber kept parts ≡ new_ranges renumber kept (ranges_of parts)
+    go : (o : Option Range) → range_of part ≡ o → parts_ranges renumber kept parts ≡ new_ranges renumber kept
+        (ranges_of parts)
         → parts_ranges renumber kept (part ∷ parts) ≡ new_ranges renumber kept (ranges_of (part ∷ parts))
     go None e later = rw e later
     go (Some r) e later = rw e (ap (with_range (kept_range renumber kept r)) later)
 
-pub list_new_is : (renumber : Bool) (kept : KeptRevisions) (list : List ℕ) → list_new renumber kept list ≡ new_ranges renumber kept (list_ranges list)
+pub list_new_is : (renumber : Bool) (kept : KeptRevisions) (list : List ℕ)
+    → list_new renumber kept list ≡ new_ranges renumber kept (list_ranges list)
 list_new_is renumber kept [] = refl
 list_new_is renumber kept (b ∷ list) = parts_new renumber kept (range_parts (b ∷ list))

@@ -28,7 +28,11 @@ own_spelled line own = record {
   path = own.path;
   one_line = own.one_line;
   consistent = own.consistent;
-  spelled = (runs_text line.ranges, (map run_text line.ranges, runs_spelled line.ranges own.runs own.small, refl), refl);
+  spelled = (
+    runs_text line.ranges,
+    (map run_text line.ranges, runs_spelled line.ranges own.runs own.small, refl),
+    refl,
+  );
 }
 
 -- the new ranges of a line
@@ -39,7 +43,8 @@ new_consistent true kept old new up numbers consistent = renumbered_consistent k
 new_consistent false kept old new up numbers consistent =
     λ n plain starred. consistent n ((numbers true n).0 plain) ((numbers false n).0 starred)
 
-new_small : (renumber : Bool) (kept : KeptRevisions) (old new : List Range) → RiseFrom kept.first kept.numbers → KeepsPositive kept
+new_small : (renumber : Bool) (kept : KeptRevisions) (old new : List Range) → RiseFrom kept.first kept.numbers
+    → KeepsPositive kept
     → MatchBool renumber (IsRenumberedMap kept old new) (IsSameMap old new) → AreSmall old → AreSmall new
 new_small true kept old new up positive numbers small kind n has =
     let source = (numbers kind n).0 has in
@@ -54,7 +59,8 @@ new_small true kept old new up positive numbers small kind n has =
     (omega arith, omega arith)
 new_small false kept old new up positive numbers small kind n has = small kind n ((numbers kind n).0 has)
 
-new_own : (settings : Settings) (kept : KeptRevisions) (text : List ℕ) (old new : MergeLine) → RiseFrom kept.first kept.numbers → KeepsPositive kept
+new_own : (settings : Settings) (kept : KeptRevisions) (text : List ℕ) (old new : MergeLine)
+    → RiseFrom kept.first kept.numbers → KeepsPositive kept
     → IsMergeLine text old → IsNewLine settings kept old new → IsOwnLine new
 new_own settings kept text old new up positive is made =
     let same = sym made.path in
@@ -63,7 +69,8 @@ new_own settings kept text old new up positive is made =
       one_line = subst (λ (path : List ℕ). has_byte 10 path ≡ false) same is.one_line;
       consistent = new_consistent settings.renumber kept old.ranges new.ranges up made.numbers is.consistent;
       runs = made.runs;
-      small = new_small settings.renumber kept old.ranges new.ranges up positive made.numbers (are_small is.spelled.1.0 old.ranges is.spelled.1.1);
+      small = new_small settings.renumber kept old.ranges new.ranges up positive made.numbers
+          (are_small is.spelled.1.0 old.ranges is.spelled.1.1);
     }
 
 -- all lines
@@ -72,14 +79,17 @@ abbrev AreOwn : List MergeLine → Type 0
 AreOwn [] = Unit {0}
 AreOwn (line ∷ lines) = IsOwnLine line × AreOwn lines
 
-all_own : (settings : Settings) (kept : KeptRevisions) → RiseFrom kept.first kept.numbers → KeepsPositive kept → (texts : List (List ℕ)) (lines new_lines : List MergeLine)
-    → AllZip IsMergeLine texts lines → AllZip (IsNewLine settings kept) (staying_lines settings lines) new_lines → AreOwn new_lines
+all_own : (settings : Settings) (kept : KeptRevisions) → RiseFrom kept.first kept.numbers → KeepsPositive kept
+    → (texts : List (List ℕ)) (lines new_lines : List MergeLine)
+    → AllZip IsMergeLine texts lines → AllZip (IsNewLine settings kept) (staying_lines settings lines) new_lines
+    → AreOwn new_lines
 all_own settings kept up positive [] [] [] all made = tt
 all_own settings kept up positive [] [] (new ∷ new_lines) all made = absurd made
 all_own settings kept up positive [] (line ∷ lines) new_lines all made = absurd all
 all_own settings kept up positive (text ∷ texts) [] new_lines all made = absurd all
 all_own settings kept up positive (text ∷ texts) (line ∷ lines) new_lines all made =
-    go (keeps_path settings line.path) refl new_lines (λ rest more. all_own settings kept up positive texts lines rest all.1 more) made
+    go (keeps_path settings line.path) refl new_lines
+    (λ rest more. all_own settings kept up positive texts lines rest all.1 more) made
   where
     go : (t : Bool) → keeps_path settings line.path ≡ t → (new_lines : List MergeLine)
         → ((rest : List MergeLine) → AllZip (IsNewLine settings kept) (staying_lines settings lines) rest → AreOwn rest)
@@ -94,7 +104,8 @@ some_own : (lines : List MergeLine) → AreOwn lines → AreOwn (nonempty_lines 
 some_own [] own = tt
 some_own (line ∷ lines) own = go (nat_lt 0 (length line.ranges)) refl (some_own lines own.1)
   where
-    go : (t : Bool) → nat_lt 0 (length line.ranges) ≡ t → AreOwn (nonempty_lines lines) → AreOwn (nonempty_lines (line ∷ lines))
+    go : (t : Bool) → nat_lt 0 (length line.ranges) ≡ t → AreOwn (nonempty_lines lines)
+        → AreOwn (nonempty_lines (line ∷ lines))
     go true e later = rw e (own.0, later)
     go false e later = rw e later
 
@@ -111,7 +122,8 @@ all_spelled : (lines : List MergeLine) → AreOwn lines → AllZip IsMergeLine (
 all_spelled [] own = tt
 all_spelled (line ∷ lines) own = (own_spelled line own.0, all_spelled lines own.1)
 
-module _ (all : Settings) (again : KeptRevisions) (same : all.renumber ≡ false) (keeps : (path : List ℕ) → keeps_path all path ≡ true) where
+module _ (all : Settings) (again : KeptRevisions) (same : all.renumber ≡ false)
+    (keeps : (path : List ℕ) → keeps_path all path ≡ true) where
   all_stay : (lines : List MergeLine) → staying_lines all lines ≡ lines
   all_stay [] = refl
   all_stay (line ∷ lines) = rw (keeps line.path) (ap (λ (l : List MergeLine). line ∷ l) (all_stay lines))
@@ -132,13 +144,15 @@ pub own_value : (settings : Settings) (kept : KeptRevisions) (old new : List ℕ
 own_value settings kept old new up positive (lines, new_lines, is, made, written) all again same keeps =
     let left = nonempty_lines new_lines in
     let own = some_own new_lines (all_own settings kept up positive is.0 lines new_lines is.1 made) in
-    let reads : IsMergeinfo new (nonempty_lines new_lines) = (map merge_line_text (nonempty_lines new_lines), all_spelled (nonempty_lines new_lines) own, inl written) in (
+    let reads : IsMergeinfo new (nonempty_lines new_lines) =
+    (map merge_line_text (nonempty_lines new_lines), all_spelled (nonempty_lines new_lines) own, inl written) in (
       (nonempty_lines new_lines, reads),
       (
         nonempty_lines new_lines,
         nonempty_lines new_lines,
         reads,
-        subst (λ (l : List MergeLine). AllZip (IsNewLine all again) l (nonempty_lines new_lines)) (sym (all_stay all again same keeps (nonempty_lines new_lines)))
+        subst (λ (l : List MergeLine). AllZip (IsNewLine all again) l (nonempty_lines new_lines))
+            (sym (all_stay all again same keeps (nonempty_lines new_lines)))
             (all_own_new all again same keeps (nonempty_lines new_lines) own),
         written ∙ ap mergeinfo_text (sym (some_twice new_lines)),
       ),

@@ -25,7 +25,8 @@ own = numerals_by_value (λ (ds : List ℕ). list_all is_ascii_digit ds ≡ true
 pub number_small : (digits : List ℕ) (n : ℕ) → number_of digits ≡ Some n → n < 10 ^ 18
 number_small digits n is =
     let value = (number_spells digits n is).value in
-    let parts = and_parts (nat_lt 0 (length digits) && nat_le (length digits) 18) (list_all is_ascii_digit digits) (number_parts digits n is) in
+    let parts = and_parts (nat_lt 0 (length digits) && nat_le (length digits) 18) (list_all is_ascii_digit digits)
+    (number_parts digits n is) in
     let sizes = and_parts (nat_lt 0 (length digits)) (nat_le (length digits) 18) parts.0 in
     let size = sizes.1 in
     let few : length digits ≤ 18 = grind (arith, nat_tests) in
@@ -35,7 +36,8 @@ number_small digits n is =
 -- a range's ends
 pub end_small : (text : List ℕ) (r : Range) → IsRangeText text r → r.to < 10 ^ 18
 end_small text r is = elim is.spelled [
-  | inl single ↦ let small = number_small single.0 r.from single.1 in let same = single.2 in subst (λ (m : ℕ). m < 10 ^ 18) (sym same) small
+  | inl single ↦ let small = number_small single.0 r.from single.1 in let same = single.2 in subst
+      (λ (m : ℕ). m < 10 ^ 18) (sym same) small
   | inr span ↦ number_small span.1 r.to span.3
 ]
 
@@ -88,7 +90,8 @@ run_spelled r low order small = go (r.from == r.to) refl
             spelled_number r.to,
             number_of-spelled r.from (omega arith),
             number_of-spelled r.to small,
-            rw e (ap (λ t. t ++ star r.inheritable) (sym (append_assoc (spelled_number r.from) (codes "-") (spelled_number r.to)))),
+            rw e (ap (λ t. t ++ star r.inheritable)
+                (sym (append_assoc (spelled_number r.from) (codes "-") (spelled_number r.to)))),
           );
         }
 
@@ -121,14 +124,21 @@ ranges_are (part ∷ parts) (r ∷ ranges) all =
     let here = range_of_text part r all.0 in
     rw here (ap (λ l. r ∷ l) (ranges_are parts ranges all.1))
 
-joined_some : (part : List ℕ) (parts : List (List ℕ)) (b : ℕ) (text : List ℕ) → part ≡ b ∷ text → (c : ℕ) × (rest : List ℕ) × (join_with_byte 44 (part ∷ parts) ≡ c ∷ rest)
+joined_some : (part : List ℕ) (parts : List (List ℕ)) (b : ℕ) (text : List ℕ) → part ≡ b ∷ text → (c : ℕ)
+    × (rest : List ℕ) × (join_with_byte 44 (part ∷ parts) ≡ c ∷ rest)
 joined_some part [] b text is = (b, text, is)
-joined_some part (next ∷ parts) b text is = (b, text ++ 44 ∷ join_with_byte 44 (next ∷ parts), ap (λ (t : List ℕ). t ++ 44 ∷ join_with_byte 44 (next ∷ parts)) is)
+joined_some part (next ∷ parts) b text is = (
+  b,
+  text ++ 44 ∷ join_with_byte 44 (next ∷ parts),
+  ap
+      (λ (t : List ℕ). t ++ 44 ∷ join_with_byte 44 (next ∷ parts)) is,
+)
 
 pub list_is : (list : List ℕ) (ranges : List Range) → IsRangeList list ranges → ranges ≡ list_ranges list
 list_is list ranges is = go list is.0 ranges is.1 is.2
   where
-    go : (list : List ℕ) (parts : List (List ℕ)) (ranges : List Range) → AllZip IsRangeText parts ranges → list ≡ join_with_byte 44 parts → ranges ≡ list_ranges list
+    go : (list : List ℕ) (parts : List (List ℕ)) (ranges : List Range) → AllZip IsRangeText parts ranges
+        → list ≡ join_with_byte 44 parts → ranges ≡ list_ranges list
     go [] [] ranges all e = ranges_are [] ranges all
     go (b ∷ list) [] ranges all e = let bad : b ∷ list ≡ [] = e in cc
     go [] (part ∷ parts) [] all e = refl
@@ -154,6 +164,8 @@ each_map_has_one_spelling text ranges is consistent =
       are.0,
       are.1,
       spelled,
-      (λ others runs same. runs_once others (runs_of ranges) runs are.0 (same_trans others ranges (runs_of ranges) (same_sym ranges others same) are.1)),
-      (λ read reads. list_is (runs_text (runs_of ranges)) read reads ∙ sym (list_is (runs_text (runs_of ranges)) (runs_of ranges) spelled)),
+      (λ others runs same. runs_once others (runs_of ranges) runs are.0
+          (same_trans others ranges (runs_of ranges) (same_sym ranges others same) are.1)),
+      (λ read reads. list_is (runs_text (runs_of ranges)) read reads
+          ∙ sym (list_is (runs_text (runs_of ranges)) (runs_of ranges) spelled)),
     )

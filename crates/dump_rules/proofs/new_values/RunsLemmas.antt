@@ -22,18 +22,24 @@ with_behind (Some r) ranges = refl
 
 parts_first : (renumber : Bool) (kept : KeptRevisions) (rest : List ℕ) (k : ℕ) → position (λ b. b == 44) rest ≡ Some k
     → parts_ranges renumber kept (range_parts rest)
-    ≡ with_range (part_range renumber kept (range_of (take k rest))) [] ++ parts_ranges renumber kept (range_parts (drop (k + 1) rest))
+    ≡ with_range (part_range renumber kept (range_of (take k rest))) [] ++ parts_ranges renumber kept
+    (range_parts (drop (k + 1) rest))
 parts_first renumber kept rest k is =
     ap (parts_ranges renumber kept) (position_split 44 k rest is)
-    ∙ with_behind (part_range renumber kept (range_of (take k rest))) (parts_ranges renumber kept (range_parts (drop (k + 1) rest)))
+    ∙ with_behind (part_range renumber kept (range_of (take k rest)))
+    (parts_ranges renumber kept (range_parts (drop (k + 1) rest)))
 
-pub parts_step : (renumber : Bool) (kept : KeptRevisions) (rest part behind : List ℕ) (k : ℕ) (old new : List Range) → position (λ b. b == 44) rest ≡ Some k
-    → part ≡ take k rest → behind ≡ drop (k + 1) rest → new ≡ old ++ with_range (part_range renumber kept (range_of part)) []
+pub parts_step : (renumber : Bool) (kept : KeptRevisions) (rest part behind : List ℕ) (k : ℕ) (old new : List Range)
+    → position (λ b. b == 44) rest ≡ Some k
+    → part ≡ take k rest → behind ≡ drop (k + 1) rest
+    → new ≡ old ++ with_range (part_range renumber kept (range_of part)) []
     → old ++ parts_ranges renumber kept (range_parts rest) ≡ new ++ parts_ranges renumber kept (range_parts behind)
 parts_step renumber kept rest part behind k old new is first later more =
     ap (λ l. old ++ l) (parts_first renumber kept rest k is)
-    ∙ sym (append_assoc old (with_range (part_range renumber kept (range_of (take k rest))) []) (parts_ranges renumber kept (range_parts (drop (k + 1) rest))))
-    ∙ ap (λ (t : List ℕ). (old ++ with_range (part_range renumber kept (range_of t)) []) ++ parts_ranges renumber kept (range_parts (drop (k + 1) rest))) (sym first)
+    ∙ sym (append_assoc old (with_range (part_range renumber kept (range_of (take k rest))) [])
+    (parts_ranges renumber kept (range_parts (drop (k + 1) rest))))
+    ∙ ap (λ (t : List ℕ). (old ++ with_range (part_range renumber kept (range_of t)) []) ++ parts_ranges renumber kept
+    (range_parts (drop (k + 1) rest))) (sym first)
     ∙ ap (λ (l : List Range). l ++ parts_ranges renumber kept (range_parts (drop (k + 1) rest))) (sym more)
     ∙ ap (λ (t : List ℕ). new ++ parts_ranges renumber kept (range_parts t)) (sym later)
 
@@ -52,7 +58,8 @@ has_contains (r ∷ rest) kind n (inr later) =
     let within = found.1.1 in
     (found.0, (suc found.1.0, omega arith, found.1.2), found.2, found.3, found.4)
 
-contains_has : (ranges : List Range) (kind : Bool) (n : ℕ) (r : Range) → Contains ranges r → r.inheritable ≡ kind → r.from ≤ n → n ≤ r.to → HasNumber ranges kind n
+contains_has : (ranges : List Range) (kind : Bool) (n : ℕ) (r : Range) → Contains ranges r → r.inheritable ≡ kind
+    → r.from ≤ n → n ≤ r.to → HasNumber ranges kind n
 contains_has [] kind n r (i, within, is) same low high = absurd (omega arith)
 contains_has (s ∷ rest) kind n r (zero, within, is) same low high =
     let from = ap (λ (x : Range). x.from) is in
@@ -75,39 +82,54 @@ all_numbers (r ∷ rest) have = All-cons (λ (r : Range). r.from ≤ r.to) r res
 
 have_from_all : (ranges : List Range) → All (λ r. r.from ≤ r.to) ranges → HaveNumbers ranges
 have_from_all [] all = tt
-have_from_all (r ∷ rest) all =
-    (All-head (λ (r : Range). r.from ≤ r.to) r rest all, have_from_all rest (All-tail (λ (r : Range). r.from ≤ r.to) r rest all))
+have_from_all (r ∷ rest) all = (
+  All-head (λ (r : Range). r.from ≤ r.to) r rest all,
+  have_from_all rest
+      (All-tail (λ (r : Range). r.from ≤ r.to) r rest all),
+)
 
-rises_spans : (spans : List Span) → IsNonDecreasingBy (λ s. s.from) spans → HaveNumbers (map span_range spans) → Rises (map span_range spans)
+rises_spans : (spans : List Span) → IsNonDecreasingBy (λ s. s.from) spans → HaveNumbers (map span_range spans)
+    → Rises (map span_range spans)
 rises_spans [] up have = tt
 rises_spans (s ∷ []) up have = have.0
-rises_spans (s ∷ t ∷ rest) up have =
-    (have.0, up 0 1 s (omega arith) (omega arith), rises_spans (t ∷ rest) (λ i j d low high. up (suc i) (suc j) d (omega arith) (omega arith)) have.1)
+rises_spans (s ∷ t ∷ rest) up have = (
+  have.0,
+  up 0 1 s (omega arith) (omega arith),
+  rises_spans (t ∷ rest)
+      (λ i j d low high. up (suc i) (suc j) d (omega arith) (omega arith)) have.1,
+)
 
 -- ranges that are sorted by their lower ends, joined, are the runs
-pub sorted_runs : (old new : List Span) → HaveNumbers (map span_range old) → IsConsistent (map span_range old) → IsPermutation old new
+pub sorted_runs : (old new : List Span) → HaveNumbers (map span_range old) → IsConsistent (map span_range old)
+    → IsPermutation old new
     → IsNonDecreasingBy (λ s. s.from) new → joined (map span_range new) ≡ runs_of (map span_range old)
 sorted_runs old new have consistent moved up =
     let ranges = IsPermutation-map span_range old new moved in
     let more = have_from_all (map span_range new)
-    (All-permutation (λ (r : Range). r.from ≤ r.to) (map span_range old) (map span_range new) ranges (all_numbers (map span_range old) have)) in
-    runs_any_order (map span_range old) (map span_range new) have consistent (rises_spans new up more) (permuted_same (map span_range old) (map span_range new) ranges)
+    (All-permutation (λ (r : Range). r.from ≤ r.to) (map span_range old) (map span_range new) ranges
+    (all_numbers (map span_range old) have)) in
+    runs_any_order (map span_range old) (map span_range new) have consistent (rises_spans new up more)
+    (permuted_same (map span_range old) (map span_range new) ranges)
 
 -- runs as they are written
 
-touched : (r s : Range) (rest : List Range) → touches r s ≡ true → joined_from r (s ∷ rest) ≡ joined_from (reaching r s.to) rest
+touched : (r s : Range) (rest : List Range) → touches r s ≡ true → joined_from r (s ∷ rest) ≡ joined_from
+    (reaching r s.to) rest
 touched r s rest e = rw e refl
 
-pub some_joined : (r : Range) (rest : List Range) → (first : Range) × (later : List Range) × (joined_from r rest ≡ first ∷ later)
+pub some_joined : (r : Range) (rest : List Range) → (first : Range) × (later : List Range)
+    × (joined_from r rest ≡ first ∷ later)
 some_joined r [] = (r, [], refl)
 some_joined r (s ∷ rest) = go (touches r s) refl (some_joined (reaching r s.to) rest)
   where
-    go : (t : Bool) → touches r s ≡ t → ((first : Range) × (later : List Range) × (joined_from (reaching r s.to) rest ≡ first ∷ later))
+    go : (t : Bool) → touches r s ≡ t → ((first : Range) × (later : List Range)
+        × (joined_from (reaching r s.to) rest ≡ first ∷ later))
         → (first : Range) × (later : List Range) × (joined_from r (s ∷ rest) ≡ first ∷ later)
     go true e found = (found.0, found.1, rw e found.2)
     go false e found = (r, joined_from s rest, rw e refl)
 
-text_before : (r first : Range) (later runs : List Range) → runs ≡ first ∷ later → runs_text (r ∷ runs) ≡ run_text r ++ codes "," ++ runs_text runs
+text_before : (r first : Range) (later runs : List Range) → runs ≡ first ∷ later
+    → runs_text (r ∷ runs) ≡ run_text r ++ codes "," ++ runs_text runs
 text_before r first later runs is =
     ap (λ (l : List Range). runs_text (r ∷ l)) is
     ∙ sym (append_assoc (run_text r) (codes ",") (runs_text (first ∷ later)))
@@ -120,21 +142,27 @@ left r s rest e =
     rw e (text_before r some.0 some.1 (joined_from s rest) some.2)
 
 -- the text from one run on, with the span at this place next
-pub next_touches : (run : Range) (spans : List Span) (i : ℕ) (d : Span) → i < length spans → touches run (span_range (get_or spans i d)) ≡ true
-    → joined_from run (map span_range (drop i spans)) ≡ joined_from (reaching run (get_or spans i d).to) (map span_range (drop (i + 1) spans))
+pub next_touches : (run : Range) (spans : List Span) (i : ℕ) (d : Span) → i < length spans
+    → touches run (span_range (get_or spans i d)) ≡ true
+    → joined_from run (map span_range (drop i spans)) ≡ joined_from (reaching run (get_or spans i d).to)
+    (map span_range (drop (i + 1) spans))
 next_touches run spans i d within e =
     ap (λ (l : List Span). joined_from run (map span_range l)) (drop_more spans i d within)
     ∙ touched run (span_range (get_or spans i d)) (map span_range (drop (i + 1) spans)) e
 
-pub next_left : (run : Range) (spans : List Span) (i : ℕ) (d : Span) → i < length spans → touches run (span_range (get_or spans i d)) ≡ false
+pub next_left : (run : Range) (spans : List Span) (i : ℕ) (d : Span) → i < length spans
+    → touches run (span_range (get_or spans i d)) ≡ false
     → runs_text (joined_from run (map span_range (drop i spans)))
-    ≡ run_text run ++ codes "," ++ runs_text (joined_from (span_range (get_or spans i d)) (map span_range (drop (i + 1) spans)))
+    ≡ run_text run ++ codes "," ++ runs_text (joined_from (span_range (get_or spans i d))
+    (map span_range (drop (i + 1) spans)))
 next_left run spans i d within e =
     ap (λ (l : List Span). runs_text (joined_from run (map span_range l))) (drop_more spans i d within)
     ∙ left run (span_range (get_or spans i d)) (map span_range (drop (i + 1) spans)) e
 
 -- what was written so far, and the next run and the text behind it
-pub written_on : (run comma rest old mid new : List ℕ) → mid ≡ old ++ run → new ≡ mid ++ comma → old ++ (run ++ comma ++ rest) ≡ new ++ rest
+pub written_on : (run comma rest old mid new : List ℕ) → mid ≡ old ++ run → new ≡ mid ++ comma
+    → old ++ (run ++ comma ++ rest) ≡ new ++ rest
 written_on run comma rest old mid new first second =
     sym (append_assoc old (run ++ comma) rest)
-    ∙ ap (λ (t : List ℕ). t ++ rest) (sym (append_assoc old run comma) ∙ ap (λ (t : List ℕ). t ++ comma) (sym first) ∙ sym second)
+    ∙ ap (λ (t : List ℕ). t ++ rest) (sym (append_assoc old run comma) ∙ ap (λ (t : List ℕ). t ++ comma) (sym first)
+    ∙ sym second)

@@ -37,12 +37,17 @@ line_parts text line is =
     record {
       path = ap (λ n. take n text) before ∙ ap (take (length line.path)) (whole ∙ append_assoc line.path (58 ∷ []) list)
           ∙ take_at line.path (58 ∷ list) (length line.path) refl;
-      ranges = ap list_ranges (ap (λ n. drop n text) place ∙ ap (drop (length line.path + 1)) whole ∙ drop_at (line.path ++ 58 ∷ []) list (length line.path + 1) front)
+      ranges = ap list_ranges (ap (λ n. drop n text) place ∙ ap (drop (length line.path + 1)) whole
+          ∙ drop_at (line.path ++ 58 ∷ []) list (length line.path + 1) front)
           ∙ sym (list_is list line.ranges ranges);
     }
 
 abbrev pub new_line : Settings → KeptRevisions → MergeLine → MergeLine
-new_line settings kept line = record { path = line.path; ranges = runs_of (new_ranges settings.renumber kept line.ranges) }
+new_line settings kept line = record {
+  path = line.path;
+  ranges = runs_of
+      (new_ranges settings.renumber kept line.ranges);
+}
 
 ranges_of_line_fit : (text : List ℕ) (line : MergeLine) → IsMergeLine text line → AreFit line.ranges
 ranges_of_line_fit text line is = record {
@@ -50,7 +55,8 @@ ranges_of_line_fit text line is = record {
   consistent = is.consistent;
 }
 
-new_runs : (renumber : Bool) (settings : Settings) (kept : KeptRevisions) → RiseFrom kept.first kept.numbers → (line : MergeLine) → AreFit line.ranges → settings.renumber ≡ renumber
+new_runs : (renumber : Bool) (settings : Settings) (kept : KeptRevisions) → RiseFrom kept.first kept.numbers
+    → (line : MergeLine) → AreFit line.ranges → settings.renumber ≡ renumber
     → IsNewLine settings kept line (new_line settings kept line)
 new_runs true settings kept up line fit e =
     let mid = new_ranges_fit true kept up line.ranges fit in
@@ -70,17 +76,25 @@ new_runs false settings kept up line fit e =
       numbers = rw e (rw same are.1);
     }
 
-pub all_new : (settings : Settings) (kept : KeptRevisions) → RiseFrom kept.first kept.numbers → (texts : List (List ℕ)) (lines : List MergeLine) → AllZip IsMergeLine texts lines
-    → AllZip (IsNewLine settings kept) (staying_lines settings lines) (map (new_line settings kept) (staying_lines settings lines))
+pub all_new : (settings : Settings) (kept : KeptRevisions) → RiseFrom kept.first kept.numbers
+    → (texts : List (List ℕ)) (lines : List MergeLine) → AllZip IsMergeLine texts lines
+    → AllZip (IsNewLine settings kept) (staying_lines settings lines)
+    (map (new_line settings kept) (staying_lines settings lines))
 all_new settings kept up [] [] all = tt
 all_new settings kept up [] (line ∷ lines) all = absurd all
 all_new settings kept up (text ∷ texts) [] all = absurd all
-all_new settings kept up (text ∷ texts) (line ∷ lines) all = go (keeps_path settings line.path) refl (all_new settings kept up texts lines all.1)
+all_new settings kept up (text ∷ texts) (line ∷ lines) all = go (keeps_path settings line.path) refl
+    (all_new settings kept up texts lines all.1)
   where
     go : (t : Bool) → keeps_path settings line.path ≡ t
-        → AllZip (IsNewLine settings kept) (staying_lines settings lines) (map (new_line settings kept) (staying_lines settings lines))
-        → AllZip (IsNewLine settings kept) (staying_lines settings (line ∷ lines)) (map (new_line settings kept) (staying_lines settings (line ∷ lines)))
-    go true e later = rw e (new_runs settings.renumber settings kept up line (ranges_of_line_fit text line all.0) refl, later)
+        → AllZip (IsNewLine settings kept) (staying_lines settings lines)
+        (map (new_line settings kept) (staying_lines settings lines))
+        → AllZip (IsNewLine settings kept) (staying_lines settings (line ∷ lines))
+        (map (new_line settings kept) (staying_lines settings (line ∷ lines)))
+    go true e later = rw e (
+      new_runs settings.renumber settings kept up line (ranges_of_line_fit text line all.0) refl,
+      later,
+    )
     go false e later = rw e later
 
 -- lines joined
@@ -98,19 +112,26 @@ all_some_push (first ∷ texts) text all some = (all.0, all_some_push texts text
 
 joined_some : (first : List ℕ) (texts : List (List ℕ)) → IsSome first → IsSome (join_with_byte 10 (first ∷ texts))
 joined_some first [] some = some
-joined_some first (next ∷ texts) some =
-    (some.0, some.1 ++ 10 ∷ join_with_byte 10 (next ∷ texts), ap (λ (t : List ℕ). t ++ 10 ∷ join_with_byte 10 (next ∷ texts)) some.2)
+joined_some first (next ∷ texts) some = (
+  some.0,
+  some.1 ++ 10 ∷ join_with_byte 10 (next ∷ texts),
+  ap
+      (λ (t : List ℕ). t ++ 10 ∷ join_with_byte 10 (next ∷ texts)) some.2,
+)
 
-joined_push : (first : List ℕ) (texts : List (List ℕ)) (text : List ℕ) → join_with_byte 10 (first ∷ texts) ++ 10 ∷ text ≡ join_with_byte 10 ((first ∷ texts) ++ text ∷ [])
+joined_push : (first : List ℕ) (texts : List (List ℕ)) (text : List ℕ)
+    → join_with_byte 10 (first ∷ texts) ++ 10 ∷ text ≡ join_with_byte 10 ((first ∷ texts) ++ text ∷ [])
 joined_push first [] text = refl
 joined_push first (next ∷ texts) text =
-    append_assoc first (10 ∷ join_with_byte 10 (next ∷ texts)) (10 ∷ text) ∙ ap (λ (t : List ℕ). first ++ 10 ∷ t) (joined_push next texts text)
+    append_assoc first (10 ∷ join_with_byte 10 (next ∷ texts)) (10 ∷ text) ∙ ap (λ (t : List ℕ). first ++ 10 ∷ t)
+    (joined_push next texts text)
 
 break_some : (out : List ℕ) → IsSome out → with_break out ≡ out ++ 10 ∷ []
 break_some [] some = let bad : [] ≡ some.0 ∷ some.1 = some.2 in cc
 break_some (b ∷ out) some = refl
 
-with_line : (done : List (List ℕ)) (text : List ℕ) → AllSome done → with_break (join_with_byte 10 done) ++ text ≡ join_with_byte 10 (done ++ text ∷ [])
+with_line : (done : List (List ℕ)) (text : List ℕ) → AllSome done
+    → with_break (join_with_byte 10 done) ++ text ≡ join_with_byte 10 (done ++ text ∷ [])
 with_line [] text all = refl
 with_line (first ∷ texts) text all =
     ap (λ (t : List ℕ). t ++ text) (break_some (join_with_byte 10 (first ∷ texts)) (joined_some first texts all.0))
@@ -131,90 +152,128 @@ staying_none : (settings : Settings) (line : MergeLine) (lines : List MergeLine)
     → staying_lines settings (line ∷ lines) ≡ staying_lines settings lines
 staying_none settings line lines e = rw e refl
 
-nonempty_none : (line : MergeLine) (lines : List MergeLine) → line.ranges ≡ [] → nonempty_lines (line ∷ lines) ≡ nonempty_lines lines
+nonempty_none : (line : MergeLine) (lines : List MergeLine) → line.ranges ≡ []
+    → nonempty_lines (line ∷ lines) ≡ nonempty_lines lines
 nonempty_none line lines is =
     let test : nat_lt 0 (length line.ranges) ≡ false = ap (λ (l : List Range). nat_lt 0 (length l)) is in
     rw test refl
 
-nonempty_first : (line : MergeLine) (lines : List MergeLine) (r : Range) (runs : List Range) → line.ranges ≡ r ∷ runs → nonempty_lines (line ∷ lines) ≡ line ∷ nonempty_lines lines
+nonempty_first : (line : MergeLine) (lines : List MergeLine) (r : Range) (runs : List Range) → line.ranges ≡ r ∷ runs
+    → nonempty_lines (line ∷ lines) ≡ line ∷ nonempty_lines lines
 nonempty_first line lines r runs is =
     let size = ap (λ (l : List Range). length l) is in
     let test : nat_lt 0 (length line.ranges) ≡ true = grind (arith, nat_tests) in
     rw test refl
 
 abbrev new_texts : Settings → KeptRevisions → List MergeLine → List (List ℕ)
-new_texts settings kept lines = map merge_line_text (nonempty_lines (map (new_line settings kept) (staying_lines settings lines)))
+new_texts settings kept lines = map merge_line_text
+    (nonempty_lines (map (new_line settings kept) (staying_lines settings lines)))
 
-texts_none : (settings : Settings) (kept : KeptRevisions) (line : MergeLine) (lines : List MergeLine) → keeps_path settings line.path ≡ false
+texts_none : (settings : Settings) (kept : KeptRevisions) (line : MergeLine) (lines : List MergeLine)
+    → keeps_path settings line.path ≡ false
     → new_texts settings kept lines ≡ new_texts settings kept (line ∷ lines)
 texts_none settings kept line lines e =
-    ap (λ (l : List MergeLine). map merge_line_text (nonempty_lines (map (new_line settings kept) l))) (sym (staying_none settings line lines e))
+    ap (λ (l : List MergeLine). map merge_line_text (nonempty_lines (map (new_line settings kept) l)))
+    (sym (staying_none settings line lines e))
 
-texts_empty : (settings : Settings) (kept : KeptRevisions) (line : MergeLine) (lines : List MergeLine) → keeps_path settings line.path ≡ true
+texts_empty : (settings : Settings) (kept : KeptRevisions) (line : MergeLine) (lines : List MergeLine)
+    → keeps_path settings line.path ≡ true
     → (new_line settings kept line).ranges ≡ [] → new_texts settings kept lines ≡ new_texts settings kept (line ∷ lines)
 texts_empty settings kept line lines e is =
-    sym (ap (λ (l : List MergeLine). map merge_line_text (nonempty_lines (map (new_line settings kept) l))) (staying_first settings line lines e)
-    ∙ ap (map merge_line_text) (nonempty_none (new_line settings kept line) (map (new_line settings kept) (staying_lines settings lines)) is))
+    sym (ap (λ (l : List MergeLine). map merge_line_text (nonempty_lines (map (new_line settings kept) l)))
+    (staying_first settings line lines e)
+    ∙ ap (map merge_line_text) (nonempty_none (new_line settings kept line)
+    (map (new_line settings kept) (staying_lines settings lines)) is))
 
-texts_some : (settings : Settings) (kept : KeptRevisions) (line : MergeLine) (lines : List MergeLine) (r : Range) (runs : List Range) → keeps_path settings line.path ≡ true
-    → (new_line settings kept line).ranges ≡ r ∷ runs → (line.path ++ codes ":" ++ runs_text (r ∷ runs)) ∷ new_texts settings kept lines ≡ new_texts settings kept (line ∷ lines)
+texts_some : (settings : Settings) (kept : KeptRevisions) (line : MergeLine) (lines : List MergeLine) (r : Range)
+    (runs : List Range) → keeps_path settings line.path ≡ true
+    → (new_line settings kept line).ranges ≡ r ∷ runs
+    → (line.path ++ codes ":" ++ runs_text (r ∷ runs)) ∷ new_texts settings kept lines ≡ new_texts settings kept
+    (line ∷ lines)
 texts_some settings kept line lines r runs e is =
-    sym (ap (λ (l : List MergeLine). map merge_line_text (nonempty_lines (map (new_line settings kept) l))) (staying_first settings line lines e)
-    ∙ ap (map merge_line_text) (nonempty_first (new_line settings kept line) (map (new_line settings kept) (staying_lines settings lines)) r runs is)
+    sym (ap (λ (l : List MergeLine). map merge_line_text (nonempty_lines (map (new_line settings kept) l)))
+    (staying_first settings line lines e)
+    ∙ ap (map merge_line_text) (nonempty_first (new_line settings kept line)
+    (map (new_line settings kept) (staying_lines settings lines)) r runs is)
     ∙ ap (λ (l : List Range). (line.path ++ codes ":" ++ runs_text l) ∷ new_texts settings kept lines) is)
 
 -- what a line adds
 
 abbrev line_added : Settings → KeptRevisions → List ℕ → MergeLine → List ℕ
-line_added settings kept out line = if keeps_path settings line.path then with_runs out line.path (new_line settings kept line).ranges else out
+line_added settings kept out line = if keeps_path settings line.path then with_runs out line.path
+    (new_line settings kept line).ranges else out
 
 added_is : (settings : Settings) (kept : KeptRevisions) (out text : List ℕ) (line : MergeLine) → IsMergeLine text line
     → with_new_line settings kept out text ≡ line_added settings kept out line
 added_is settings kept out text line is =
     let parts = line_parts text line is in
-    ap (λ (p : List ℕ). if keeps_path settings p then with_runs out p (runs_of (list_new settings.renumber kept (line_list text))) else out) parts.path
+    ap (λ (p : List ℕ). if keeps_path settings p then with_runs out p
+    (runs_of (list_new settings.renumber kept (line_list text))) else out) parts.path
     ∙ ap (λ (l : List Range). if keeps_path settings line.path then with_runs out line.path (runs_of l) else out)
     (list_new_is settings.renumber kept (line_list text) ∙ ap (new_ranges settings.renumber kept) parts.ranges)
 
 -- the lines, behind those that are done
-written : (settings : Settings) (kept : KeptRevisions) (texts : List (List ℕ)) (lines : List MergeLine) → AllZip IsMergeLine texts lines → (done : List (List ℕ)) → AllSome done
-    → with_new_lines settings kept (join_with_byte 10 done) texts ≡ join_with_byte 10 (done ++ new_texts settings kept lines)
+written : (settings : Settings) (kept : KeptRevisions) (texts : List (List ℕ)) (lines : List MergeLine)
+    → AllZip IsMergeLine texts lines → (done : List (List ℕ)) → AllSome done
+    → with_new_lines settings kept (join_with_byte 10 done) texts ≡ join_with_byte 10
+    (done ++ new_texts settings kept lines)
 written settings kept [] [] all done some = sym (ap (join_with_byte 10) (append-nil done))
 written settings kept [] (line ∷ lines) all done some = absurd all
 written settings kept (text ∷ texts) [] all done some = absurd all
 written settings kept (text ∷ texts) (line ∷ lines) all done some =
-    ap (λ (out : List ℕ). with_new_lines settings kept out texts) (added_is settings kept (join_with_byte 10 done) text line all.0)
-    ∙ go (keeps_path settings line.path) refl (new_line settings kept line).ranges refl (λ more so. written settings kept texts lines all.1 more so)
+    ap (λ (out : List ℕ). with_new_lines settings kept out texts)
+    (added_is settings kept (join_with_byte 10 done) text line all.0)
+    ∙ go (keeps_path settings line.path) refl (new_line settings kept line).ranges refl
+    (λ more so. written settings kept texts lines all.1 more so)
   where
-    go : (t : Bool) → keeps_path settings line.path ≡ t → (runs : List Range) → (new_line settings kept line).ranges ≡ runs
-        → ((more : List (List ℕ)) → AllSome more → with_new_lines settings kept (join_with_byte 10 more) texts ≡ join_with_byte 10 (more ++ new_texts settings kept lines))
-        → with_new_lines settings kept (line_added settings kept (join_with_byte 10 done) line) texts ≡ join_with_byte 10 (done ++ new_texts settings kept (line ∷ lines))
+    go : (t : Bool) → keeps_path settings line.path ≡ t → (runs : List Range)
+        → (new_line settings kept line).ranges ≡ runs
+        → ((more : List (List ℕ)) → AllSome more → with_new_lines settings kept
+        (join_with_byte 10 more) texts ≡ join_with_byte 10 (more ++ new_texts settings kept lines))
+        → with_new_lines settings kept (line_added settings kept
+        (join_with_byte 10 done) line) texts ≡ join_with_byte 10 (done ++ new_texts settings kept (line ∷ lines))
     go false e runs is later =
-        ap (λ (t : Bool). with_new_lines settings kept (if t then with_runs (join_with_byte 10 done) line.path (new_line settings kept line).ranges else join_with_byte 10 done) texts) e
-        ∙ later done some ∙ ap (λ (l : List (List ℕ)). join_with_byte 10 (done ++ l)) (texts_none settings kept line lines e)
+        ap (λ (t : Bool). with_new_lines settings kept
+        (if t then with_runs (join_with_byte 10 done) line.path
+        (new_line settings kept line).ranges else join_with_byte 10 done) texts) e
+        ∙ later done some ∙ ap (λ (l : List (List ℕ)). join_with_byte 10 (done ++ l))
+        (texts_none settings kept line lines e)
     go true e [] is later =
-        ap (λ (t : Bool). with_new_lines settings kept (if t then with_runs (join_with_byte 10 done) line.path (new_line settings kept line).ranges else join_with_byte 10 done) texts) e
-        ∙ ap (λ (l : List Range). with_new_lines settings kept (with_runs (join_with_byte 10 done) line.path l) texts) is
-        ∙ later done some ∙ ap (λ (l : List (List ℕ)). join_with_byte 10 (done ++ l)) (texts_empty settings kept line lines e is)
+        ap (λ (t : Bool). with_new_lines settings kept
+        (if t then with_runs (join_with_byte 10 done) line.path
+        (new_line settings kept line).ranges else join_with_byte 10 done) texts) e
+        ∙ ap (λ (l : List Range). with_new_lines settings kept
+        (with_runs (join_with_byte 10 done) line.path l) texts) is
+        ∙ later done some ∙ ap (λ (l : List (List ℕ)). join_with_byte 10 (done ++ l))
+        (texts_empty settings kept line lines e is)
     go true e (r ∷ runs) is later =
-        ap (λ (t : Bool). with_new_lines settings kept (if t then with_runs (join_with_byte 10 done) line.path (new_line settings kept line).ranges else join_with_byte 10 done) texts) e
-        ∙ ap (λ (l : List Range). with_new_lines settings kept (with_runs (join_with_byte 10 done) line.path l) texts) is
+        ap (λ (t : Bool). with_new_lines settings kept
+        (if t then with_runs (join_with_byte 10 done) line.path
+        (new_line settings kept line).ranges else join_with_byte 10 done) texts) e
+        ∙ ap (λ (l : List Range). with_new_lines settings kept
+        (with_runs (join_with_byte 10 done) line.path l) texts) is
         ∙ ap (λ (out : List ℕ). with_new_lines settings kept out texts)
-        (ap (λ (t : List ℕ). t ++ runs_text (r ∷ runs)) (append_assoc (with_break (join_with_byte 10 done)) line.path (codes ":"))
+        (ap (λ (t : List ℕ). t ++ runs_text (r ∷ runs))
+        (append_assoc (with_break (join_with_byte 10 done)) line.path (codes ":"))
         ∙ append_assoc (with_break (join_with_byte 10 done)) (line.path ++ codes ":") (runs_text (r ∷ runs))
         ∙ with_line done (line.path ++ codes ":" ++ runs_text (r ∷ runs)) some)
-        ∙ later (done ++ (line.path ++ codes ":" ++ runs_text (r ∷ runs)) ∷ []) (all_some_push done (line.path ++ codes ":" ++ runs_text (r ∷ runs)) some (line_some line.path (runs_text (r ∷ runs))))
-        ∙ ap (join_with_byte 10) (append_assoc done ((line.path ++ codes ":" ++ runs_text (r ∷ runs)) ∷ []) (new_texts settings kept lines))
+        ∙ later (done ++ (line.path ++ codes ":" ++ runs_text (r ∷ runs)) ∷ [])
+        (all_some_push done (line.path ++ codes ":" ++ runs_text (r ∷ runs)) some
+        (line_some line.path (runs_text (r ∷ runs))))
+        ∙ ap (join_with_byte 10) (append_assoc done ((line.path ++ codes ":" ++ runs_text (r ∷ runs)) ∷ [])
+        (new_texts settings kept lines))
         ∙ ap (λ (l : List (List ℕ)). join_with_byte 10 (done ++ l)) (texts_some settings kept line lines r runs e is)
 
 -- values
 
 -- the lines of a value are those that it is cut into
 pub texts_are : (texts : List (List ℕ)) (lines : List MergeLine) → AllZip IsMergeLine texts lines → (value : List ℕ)
-    → (value ≡ join_with_byte 10 texts) ⊎ (value ≡ join_with_byte 10 texts ++ 10 ∷ []) → text_lines (without_lf value) ≡ texts
+    → (value ≡ join_with_byte 10 texts) ⊎ (value ≡ join_with_byte 10 texts ++ 10 ∷ [])
+    → text_lines (without_lf value) ≡ texts
 texts_are texts lines all value is = ap text_lines (bare texts lines all value is) ∙ cut texts lines all
   where
-    cut_some : (text : List ℕ) (parts : List (List ℕ)) → IsSome text → slice_split (λ c. c == 10) text ≡ parts → text_lines text ≡ parts
+    cut_some : (text : List ℕ) (parts : List (List ℕ)) → IsSome text → slice_split (λ c. c == 10) text ≡ parts
+        → text_lines text ≡ parts
     cut_some [] parts some e = let bad : [] ≡ some.0 ∷ some.1 = some.2 in cc
     cut_some (b ∷ text) parts some e = e
 
@@ -223,19 +282,22 @@ texts_are texts lines all value is = ap text_lines (bare texts lines all value i
         let some = line_some line.path is.spelled.0 in
         (some.0, some.1, is.spelled.2 ∙ some.2)
 
-    cut : (texts : List (List ℕ)) (lines : List MergeLine) → AllZip IsMergeLine texts lines → text_lines (join_with_byte 10 texts) ≡ texts
+    cut : (texts : List (List ℕ)) (lines : List MergeLine) → AllZip IsMergeLine texts lines
+        → text_lines (join_with_byte 10 texts) ≡ texts
     cut [] lines all = refl
     cut (text ∷ texts) [] all = absurd all
     cut (text ∷ texts) (line ∷ lines) all =
         cut_some (join_with_byte 10 (text ∷ texts)) (text ∷ texts) (joined_some text texts (text_some text line all.0))
         (split_joined 10 text texts (all_read (text ∷ texts) (line ∷ lines) all).1)
 
-pub new_value : (settings : Settings) (kept : KeptRevisions) → RiseFrom kept.first kept.numbers → (value : List ℕ) (lines : List MergeLine) → IsMergeinfo value lines
+pub new_value : (settings : Settings) (kept : KeptRevisions) → RiseFrom kept.first kept.numbers
+    → (value : List ℕ) (lines : List MergeLine) → IsMergeinfo value lines
     → IsNewMergeinfo settings kept value (with_new_lines settings kept [] (text_lines (without_lf value)))
 new_value settings kept up value lines is = (
   lines,
   map (new_line settings kept) (staying_lines settings lines),
   is,
   all_new settings kept up is.0 lines is.1,
-  ap (with_new_lines settings kept []) (texts_are is.0 lines is.1 value is.2) ∙ written settings kept is.0 lines is.1 [] tt,
+  ap (with_new_lines settings kept []) (texts_are is.0 lines is.1 value is.2)
+      ∙ written settings kept is.0 lines is.1 [] tt,
 )

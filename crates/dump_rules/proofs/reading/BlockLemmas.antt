@@ -32,10 +32,12 @@ any_none : (parts : List (List ℕ)) → list_any (λ part. false) parts ≡ fal
 any_none [] = refl
 any_none (part ∷ parts) = any_none parts
 
-any_or : (f g : List ℕ → Bool) (parts : List (List ℕ)) → list_any (λ part. f part || g part) parts ≡ (list_any f parts || list_any g parts)
+any_or : (f g : List ℕ → Bool) (parts : List (List ℕ)) → list_any (λ part. f part || g part) parts ≡
+    (list_any f parts || list_any g parts)
 any_or f g [] = refl
 any_or f g (part ∷ parts) =
-    ap (λ (b : Bool). (f part || g part) || b) (any_or f g parts) ∙ swapped (f part) (g part) (list_any f parts) (list_any g parts)
+    ap (λ (b : Bool). (f part || g part) || b) (any_or f g parts) ∙ swapped (f part) (g part) (list_any f parts)
+    (list_any g parts)
   where
     swapped : (a b c d : Bool) → ((a || b) || (c || d)) ≡ ((a || c) || (b || d))
     swapped true b c d = refl
@@ -69,22 +71,28 @@ any_place f d (x ∷ xs) some =
       | inr there ↦ let behind = any_place f d xs there in (suc behind.0, omega arith, behind.2)
     ]
 
-place_any : {X : Type 0} (f : X → Bool) (d : X) (xs : List X) (k : ℕ) → k < length xs → f (get_or xs k d) ≡ true → list_any f xs ≡ true
+place_any : {X : Type 0} (f : X → Bool) (d : X) (xs : List X) (k : ℕ) → k < length xs → f (get_or xs k d) ≡ true
+    → list_any f xs ≡ true
 place_any f d [] k low is = absurd (omega arith)
 place_any f d (x ∷ xs) zero low is = or_left _ _ is
 place_any f d (x ∷ xs) (suc k) low is = or_right _ _ (place_any f d xs k (omega arith) is)
 
-none_any : {X : Type 0} (f : X → Bool) (d : X) (xs : List X) → ((k : ℕ) → k < length xs → f (get_or xs k d) ≡ false) → list_any f xs ≡ false
-none_any f d xs none = false_from_ne_true _ (λ some. let at = any_place f d xs some in both_ways _ (none at.0 at.1) at.2)
+none_any : {X : Type 0} (f : X → Bool) (d : X) (xs : List X) → ((k : ℕ) → k < length xs → f (get_or xs k d) ≡ false)
+    → list_any f xs ≡ false
+none_any f d xs none = false_from_ne_true _ (λ some. let at = any_place f d xs some in both_ways _
+    (none at.0 at.1) at.2)
 
-all_place : {X : Type 0} (f : X → Bool) (d : X) (xs : List X) → list_all f xs ≡ true → (k : ℕ) → k < length xs → f (get_or xs k d) ≡ true
+all_place : {X : Type 0} (f : X → Bool) (d : X) (xs : List X) → list_all f xs ≡ true → (k : ℕ) → k < length xs
+    → f (get_or xs k d) ≡ true
 all_place f d [] all k low = absurd (omega arith)
 all_place f d (x ∷ xs) all zero low = (and_parts _ _ all).0
 all_place f d (x ∷ xs) all (suc k) low = all_place f d xs (and_parts _ _ all).1 k (omega arith)
 
-place_all : {X : Type 0} (f : X → Bool) (d : X) (xs : List X) → ((k : ℕ) → k < length xs → f (get_or xs k d) ≡ true) → list_all f xs ≡ true
+place_all : {X : Type 0} (f : X → Bool) (d : X) (xs : List X) → ((k : ℕ) → k < length xs → f (get_or xs k d) ≡ true)
+    → list_all f xs ≡ true
 place_all f d [] each = refl
-place_all f d (x ∷ xs) each = and_from _ _ (each 0 (omega arith)) (place_all f d xs (λ k low. each (suc k) (omega arith)))
+place_all f d (x ∷ xs) each = and_from _ _ (each 0 (omega arith))
+    (place_all f d xs (λ k low. each (suc k) (omega arith)))
 
 same_if : (a b : Bool) → (a ≡ true → b ≡ true) → (b ≡ true → a ≡ true) → a ≡ b
 same_if true true there back = refl
@@ -116,7 +124,8 @@ third_kind false false c one two = let bad : false ≡ true = one in cc
 
 -- a range s of which it is known that its part agrees doesn't contradict the range r of a part of the other kind
 unlike : (kind : Bool) (all : List (List ℕ)) (r : Range) (k : ℕ) → k < length all → range_of (get_or all k []) ≡ Some r
-    → is_other kind r.inheritable ≡ true → (o : Option Range) → kind_part_agrees kind all o ≡ true → part_contradicts r o ≡ true → ⊥
+    → is_other kind r.inheritable ≡ true → (o : Option Range) → kind_part_agrees kind all o ≡ true
+    → part_contradicts r o ≡ true → ⊥
 unlike kind all r k low is other None agrees contra = let bad : false ≡ true = agrees in cc
 unlike kind all r k low is other (Some s) agrees contra =
     let kinds = and_parts _ _ (and_parts _ _ contra).0 in
@@ -129,7 +138,8 @@ unlike kind all r k low is other (Some s) agrees contra =
     ]
 
 whole : (kind : Bool) (all : List (List ℕ)) → kind_agrees kind all all ≡ true → (k : ℕ) → k < length all
-    → (o : Option Range) → range_of (get_or all k []) ≡ o → kind_part_agrees kind all o ≡ true → part_agrees all o ≡ true
+    → (o : Option Range) → range_of (get_or all k []) ≡ o → kind_part_agrees kind all o ≡ true
+    → part_agrees all o ≡ true
 whole kind all half k low None is agrees = agrees
 whole kind all half k low (Some r) is agrees =
     elim (or_cases _ _ agrees) [
@@ -138,7 +148,8 @@ whole kind all half k low (Some r) is agrees =
       | inr near ↦ near
     ]
 
-partly : (kind : Bool) (all : List (List ℕ)) (o : Option Range) → part_agrees all o ≡ true → kind_part_agrees kind all o ≡ true
+partly : (kind : Bool) (all : List (List ℕ)) (o : Option Range) → part_agrees all o ≡ true
+    → kind_part_agrees kind all o ≡ true
 partly kind all None agrees = agrees
 partly kind all (Some r) agrees = or_right _ _ agrees
 
@@ -146,7 +157,8 @@ partly kind all (Some r) agrees = or_right _ _ agrees
 pub one_kind_suffices : (kind : Bool) (all : List (List ℕ)) → kind_agrees kind all all ≡ parts_agree all all
 one_kind_suffices kind all =
     same_if _ _
-    (λ half. place_all _ [] all (λ k low. whole kind all half k low (range_of (get_or all k [])) refl (all_place _ [] all half k low)))
+    (λ half. place_all _ [] all (λ k low. whole kind all half k low (range_of (get_or all k [])) refl
+    (all_place _ [] all half k low)))
     (λ full. place_all _ [] all (λ k low. partly kind all (range_of (get_or all k [])) (all_place _ [] all full k low)))
 
 -- ranges in an order to be searched
@@ -155,13 +167,15 @@ length_raised : (highest : ℕ) (block : List Ends) → length (raised_ends high
 length_raised highest [] = refl
 length_raised highest (ends ∷ block) = ap suc (length_raised (max highest ends.to) block)
 
-from_raised : (highest : ℕ) (block : List Ends) (k : ℕ) (d : Ends) → (get_or (raised_ends highest block) k d).from ≡ (get_or block k d).from
+from_raised : (highest : ℕ) (block : List Ends) (k : ℕ) (d : Ends) → (get_or (raised_ends highest block) k d).from ≡
+    (get_or block k d).from
 from_raised highest [] k d = refl
 from_raised highest (ends ∷ block) zero d = refl
 from_raised highest (ends ∷ block) (suc k) d = from_raised (max highest ends.to) block k d
 
 -- raised ends leave the order of the beginnings
-pub from_rises : (highest : ℕ) (block : List Ends) → IsNonDecreasingBy (λ (e : Ends). e.from) block → IsNonDecreasingBy (λ (e : Ends). e.from) (raised_ends highest block)
+pub from_rises : (highest : ℕ) (block : List Ends) → IsNonDecreasingBy (λ (e : Ends). e.from) block
+    → IsNonDecreasingBy (λ (e : Ends). e.from) (raised_ends highest block)
 from_rises highest block up i j d order low =
     let size = length_raised highest block in
     let first = from_raised highest block i d in
@@ -169,7 +183,8 @@ from_rises highest block up i j d order low =
     let rises = up i j d order (omega arith) in
     omega arith
 
-above_raised : (highest : ℕ) (block : List Ends) (k : ℕ) (d : Ends) → k < length (raised_ends highest block) → highest ≤ (get_or (raised_ends highest block) k d).to
+above_raised : (highest : ℕ) (block : List Ends) (k : ℕ) (d : Ends) → k < length (raised_ends highest block)
+    → highest ≤ (get_or (raised_ends highest block) k d).to
 above_raised highest [] k d low = absurd (omega arith)
 above_raised highest (ends ∷ block) zero d low = omega arith
 above_raised highest (ends ∷ block) (suc k) d low =
@@ -181,7 +196,8 @@ to_rises highest [] i j d order low = absurd (omega arith)
 to_rises highest (ends ∷ block) zero zero d order low = omega arith
 to_rises highest (ends ∷ block) zero (suc j) d order low = above_raised (max highest ends.to) block j d (omega arith)
 to_rises highest (ends ∷ block) (suc i) zero d order low = absurd (omega arith)
-to_rises highest (ends ∷ block) (suc i) (suc j) d order low = to_rises (max highest ends.to) block i j d (omega arith) (omega arith)
+to_rises highest (ends ∷ block) (suc i) (suc j) d order low = to_rises (max highest ends.to) block i j d (omega arith)
+    (omega arith)
 
 head_low : (to : ℕ) (ends : Ends) (block : List Ends) → IsNonDecreasingBy (λ (e : Ends). e.from) (ends ∷ block)
     → list_any (λ e. nat_le e.from to) block ≡ true → nat_le ends.from to ≡ true
@@ -194,7 +210,8 @@ head_low to ends block up some =
 either_max : (from a b : ℕ) → nat_le from (max a b) ≡ (nat_le from a || nat_le from b)
 either_max from a b = grind (arith, nat_tests)
 
-regroup : (f h t m g : Bool) → (g ≡ true → f ≡ true) → ((f && (h || t)) || (m || ((h || t) && g))) ≡ (((f && t) || m) || (h && (f || g)))
+regroup : (f h t m g : Bool) → (g ≡ true → f ≡ true) → ((f && (h || t)) || (m || ((h || t) && g))) ≡
+    (((f && t) || m) || (h && (f || g)))
 regroup true true true m g up = refl
 regroup true true false true g up = refl
 regroup true true false false g up = refl
@@ -215,18 +232,23 @@ same_meets : (from to highest : ℕ) (block : List Ends) → IsNonDecreasingBy (
 same_meets from to highest [] up = sym (and_right _ _ refl)
 same_meets from to highest (ends ∷ block) up =
     let begun = λ (e : Ends). nat_le e.from to in
-    let behind = same_meets from to (max highest ends.to) block (λ i j d order low. up (suc i) (suc j) d (omega arith) (omega arith)) in
+    let behind = same_meets from to (max highest ends.to) block
+    (λ i j d order low. up (suc i) (suc j) d (omega arith) (omega arith)) in
     ap (λ b. (nat_le ends.from to && nat_le from (max highest ends.to)) || b) behind
-    ∙ ap (λ b. (nat_le ends.from to && b) || (list_any (meets from to) block || (b && list_any begun block))) (either_max from highest ends.to)
-    ∙ regroup (nat_le ends.from to) (nat_le from highest) (nat_le from ends.to) (list_any (meets from to) block) (list_any begun block) (head_low to ends block up)
+    ∙ ap (λ b. (nat_le ends.from to && b) || (list_any (meets from to) block || (b && list_any begun block)))
+    (either_max from highest ends.to)
+    ∙ regroup (nat_le ends.from to) (nat_le from highest) (nat_le from ends.to) (list_any (meets from to) block)
+    (list_any begun block) (head_low to ends block up)
 
 -- ranges in the order of their beginnings have a number in common with the same ranges when their ends are raised
 pub raised_meets : (from to : ℕ) (block : List Ends) → IsNonDecreasingBy (λ (e : Ends). e.from) block
     → list_any (meets from to) (raised_ends 0 block) ≡ list_any (meets from to) block
 raised_meets from to block up =
-    same_meets from to 0 block up ∙ same_if _ _ (λ some. elim (or_cases _ _ some) [ inl here ↦ here | inr there ↦ all_reach (and_parts _ _ there) ]) (or_left _ _)
+    same_meets from to 0 block up ∙ same_if _ _ (λ some. elim
+    (or_cases _ _ some) [ inl here ↦ here | inr there ↦ all_reach (and_parts _ _ there) ]) (or_left _ _)
   where
-    all_reach : (nat_le from 0 ≡ true) × (list_any (λ (e : Ends). nat_le e.from to) block ≡ true) → list_any (meets from to) block ≡ true
+    all_reach : (nat_le from 0 ≡ true) × (list_any (λ (e : Ends). nat_le e.from to) block ≡ true)
+        → list_any (meets from to) block ≡ true
     all_reach (none, some) =
         let d : Ends = record { from = 0; to = 0 } in
         let at = any_place (λ (e : Ends). nat_le e.from to) d block some in
@@ -248,7 +270,8 @@ pub last_meets : (from to begun : ℕ) (block : List Ends) (d : Ends) → 0 < be
     → nat_le from (get_or block (begun - 1) d).to ≡ list_any (meets from to) block
 last_meets from to begun block d some fits point up =
     same_if _ _
-    (λ reaches. place_any (meets from to) d block (begun - 1) (omega arith) (and_from _ _ (point.0 (begun - 1) d (omega arith) (omega arith)) reaches))
+    (λ reaches. place_any (meets from to) d block (begun - 1) (omega arith)
+    (and_from _ _ (point.0 (begun - 1) d (omega arith) (omega arith)) reaches))
     (λ met.
     let at = any_place (meets from to) d block met in
     let first : nat_le (get_or block at.0 d).from to ≡ true = (and_parts _ _ at.2).0 in
@@ -288,7 +311,8 @@ differ false false = refl
 -- two blocks that have a number in common with the same ranges contradict the same parts
 pub alike_contradict : (kind : Bool) (block other : List Ends)
     → ((from to : ℕ) → list_any (meets from to) other ≡ list_any (meets from to) block) → (parts : List (List ℕ))
-    → list_any (λ part. block_contradicts kind other (range_of part)) parts ≡ list_any (λ part. block_contradicts kind block (range_of part)) parts
+    → list_any (λ part. block_contradicts kind other (range_of part)) parts ≡ list_any
+    (λ part. block_contradicts kind block (range_of part)) parts
 alike_contradict kind block other same = any_alike _ _ (λ part. at (range_of part))
   where
     at : (o : Option Range) → block_contradicts kind other o ≡ block_contradicts kind block o

@@ -12,7 +12,8 @@ use Rattle.dump_rules.proofs.reading.RangeListLemmas.{Reads, all_agree}
 
 -- the numbers of each kind are above the highest of the other
 abbrev AreAbove : Tops → List Range → Type 0
-AreAbove tops ranges = ((n : ℕ) → HasNumber ranges true n → tops.starred < n) × ((n : ℕ) → HasNumber ranges false n → tops.inheritable < n)
+AreAbove tops ranges = ((n : ℕ) → HasNumber ranges true n → tops.starred < n)
+    × ((n : ℕ) → HasNumber ranges false n → tops.inheritable < n)
 
 record Climb (tops : Tops) (parts : List (List ℕ)) : Type 0 where
   ranges : List Range
@@ -20,7 +21,8 @@ record Climb (tops : Tops) (parts : List (List ℕ)) : Type 0 where
   consistent : IsConsistent ranges
   over : AreAbove tops ranges
 
-climb-cons : (tops : Tops) (part : List ℕ) (parts : List (List ℕ)) (r : Range) (next : Tops) → range_of part ≡ Some r → raised tops r ≡ Some next
+climb-cons : (tops : Tops) (part : List ℕ) (parts : List (List ℕ)) (r : Range) (next : Tops) → range_of part ≡ Some r
+    → raised tops r ≡ Some next
     → Climb next parts → Climb tops (part ∷ parts)
 climb-cons tops part parts r next read up rest = kinds r.inheritable refl
   where
@@ -33,8 +35,11 @@ climb-cons tops part parts r next read up rest = kinds r.inheritable refl
         low : (t : Bool) → nat_lt tops.starred r.from ≡ t → Climb tops (part ∷ parts)
         low false e = let bad : Path (Option Tops) None (Some next) = rw (kind, e) at up in cc
         low true e =
-            let made : Path (Option Tops) (Some (record { inheritable = max tops.inheritable r.to; starred = tops.starred })) (Some next) = rw (kind, e) at up in
-            let one : Path Tops (record { inheritable = max tops.inheritable r.to; starred = tops.starred }) next = cc in
+            let made : Path (Option Tops)
+            (Some (record { inheritable = max tops.inheritable r.to; starred = tops.starred })) (Some next) = rw
+            (kind, e) at up in
+            let one : Path Tops
+            (record { inheritable = max tops.inheritable r.to; starred = tops.starred }) next = cc in
             let plain = ap (λ (t : Tops). t.inheritable) one in
             let starred = ap (λ (t : Tops). t.starred) one in
             let far : tops.starred < r.from = grind (arith, nat_tests) in
@@ -45,16 +50,19 @@ climb-cons tops part parts r next read up rest = kinds r.inheritable refl
               over = (λ n has. plain_over n starred far has, λ n has. starred_over n plain has);
             }
           where
-            apart : (n : ℕ) → max tops.inheritable r.to ≡ next.inheritable → HasNumber (r ∷ rest.ranges) true n → HasNumber (r ∷ rest.ranges) false n → ⊥
+            apart : (n : ℕ) → max tops.inheritable r.to ≡ next.inheritable → HasNumber (r ∷ rest.ranges) true n
+                → HasNumber (r ∷ rest.ranges) false n → ⊥
             apart n plain first (inl here) = let bad : true ≡ false = sym kind ∙ here.0 in cc
             apart n plain (inl here) (inr later) = let over = rest.over.1 n later in let high = here.2 in omega arith
             apart n plain (inr first) (inr second) = rest.consistent n first second
 
-            plain_over : (n : ℕ) → tops.starred ≡ next.starred → tops.starred < r.from → HasNumber (r ∷ rest.ranges) true n → tops.starred < n
+            plain_over : (n : ℕ) → tops.starred ≡ next.starred → tops.starred < r.from
+                → HasNumber (r ∷ rest.ranges) true n → tops.starred < n
             plain_over n starred far (inl here) = let high = here.1 in omega arith
             plain_over n starred far (inr later) = let over = rest.over.0 n later in omega arith
 
-            starred_over : (n : ℕ) → max tops.inheritable r.to ≡ next.inheritable → HasNumber (r ∷ rest.ranges) false n → tops.inheritable < n
+            starred_over : (n : ℕ) → max tops.inheritable r.to ≡ next.inheritable → HasNumber (r ∷ rest.ranges) false n
+                → tops.inheritable < n
             starred_over n plain (inl here) = let bad : true ≡ false = sym kind ∙ here.0 in cc
             starred_over n plain (inr later) = let over = rest.over.1 n later in omega arith
     kinds false kind = low (nat_lt tops.inheritable r.from) refl
@@ -62,8 +70,11 @@ climb-cons tops part parts r next read up rest = kinds r.inheritable refl
         low : (t : Bool) → nat_lt tops.inheritable r.from ≡ t → Climb tops (part ∷ parts)
         low false e = let bad : Path (Option Tops) None (Some next) = rw (kind, e) at up in cc
         low true e =
-            let made : Path (Option Tops) (Some (record { inheritable = tops.inheritable; starred = max tops.starred r.to })) (Some next) = rw (kind, e) at up in
-            let one : Path Tops (record { inheritable = tops.inheritable; starred = max tops.starred r.to }) next = cc in
+            let made : Path (Option Tops)
+            (Some (record { inheritable = tops.inheritable; starred = max tops.starred r.to })) (Some next) = rw
+            (kind, e) at up in
+            let one : Path Tops
+            (record { inheritable = tops.inheritable; starred = max tops.starred r.to }) next = cc in
             let plain = ap (λ (t : Tops). t.inheritable) one in
             let starred = ap (λ (t : Tops). t.starred) one in
             let far : tops.inheritable < r.from = grind (arith, nat_tests) in
@@ -74,30 +85,41 @@ climb-cons tops part parts r next read up rest = kinds r.inheritable refl
               over = (λ n has. plain_over n starred has, λ n has. starred_over n plain far has);
             }
           where
-            apart : (n : ℕ) → max tops.starred r.to ≡ next.starred → HasNumber (r ∷ rest.ranges) true n → HasNumber (r ∷ rest.ranges) false n → ⊥
+            apart : (n : ℕ) → max tops.starred r.to ≡ next.starred → HasNumber (r ∷ rest.ranges) true n
+                → HasNumber (r ∷ rest.ranges) false n → ⊥
             apart n starred (inl here) second = let bad : false ≡ true = sym kind ∙ here.0 in cc
             apart n starred (inr later) (inl here) = let over = rest.over.0 n later in let high = here.2 in omega arith
             apart n starred (inr first) (inr second) = rest.consistent n first second
 
-            plain_over : (n : ℕ) → max tops.starred r.to ≡ next.starred → HasNumber (r ∷ rest.ranges) true n → tops.starred < n
+            plain_over : (n : ℕ) → max tops.starred r.to ≡ next.starred → HasNumber (r ∷ rest.ranges) true n
+                → tops.starred < n
             plain_over n starred (inl here) = let bad : false ≡ true = sym kind ∙ here.0 in cc
             plain_over n starred (inr later) = let over = rest.over.0 n later in omega arith
 
-            starred_over : (n : ℕ) → tops.inheritable ≡ next.inheritable → tops.inheritable < r.from → HasNumber (r ∷ rest.ranges) false n → tops.inheritable < n
+            starred_over : (n : ℕ) → tops.inheritable ≡ next.inheritable → tops.inheritable < r.from
+                → HasNumber (r ∷ rest.ranges) false n → tops.inheritable < n
             starred_over n plain far (inl here) = let high = here.1 in omega arith
             starred_over n plain far (inr later) = let over = rest.over.1 n later in omega arith
 
 climbs : (tops : Tops) (parts : List (List ℕ)) (last : Tops) → climbed tops parts ≡ Some last → Climb tops parts
 climbs tops [] last is =
-    record { ranges = []; reads = tt; consistent = λ n has. absurd has; over = (λ n has. absurd has, λ n has. absurd has) }
+    record {
+      ranges = [];
+      reads = tt;
+      consistent = λ n has. absurd has;
+      over =
+          (λ n has. absurd has, λ n has. absurd has);
+    }
 climbs tops (part ∷ parts) last is = go (range_of part) refl is (λ next later. climbs next parts last later)
   where
-    go : (o : Option Range) → range_of part ≡ o → option_and_then (λ next. climbed next parts) (raised_by tops o) ≡ Some last
+    go : (o : Option Range) → range_of part ≡ o → option_and_then (λ next. climbed next parts)
+        (raised_by tops o) ≡ Some last
         → ((next : Tops) → climbed next parts ≡ Some last → Climb next parts) → Climb tops (part ∷ parts)
     go None e is more = let bad : Path (Option Tops) None (Some last) = is in cc
     go (Some r) e is more = up (raised tops r) refl is
       where
-        up : (o : Option Tops) → raised tops r ≡ o → option_and_then (λ next. climbed next parts) o ≡ Some last → Climb tops (part ∷ parts)
+        up : (o : Option Tops) → raised tops r ≡ o → option_and_then (λ next. climbed next parts) o ≡ Some last
+            → Climb tops (part ∷ parts)
         up None f is = let bad : Path (Option Tops) None (Some last) = is in cc
         up (Some next) f is = climb-cons tops part parts r next e f (more next is)
 
@@ -123,7 +145,8 @@ climb_some tops list k next here some =
     ap (λ n. take n (drop (k + 1) list)) (sym size) ∙ take-length (drop (k + 1) list) in
     ap (climbed tops) (position_split 44 k list here) ∙ rw (some, rest) refl
 
-pub climb_last : (tops : Tops) (list : List ℕ) → position (λ b. b == 44) list ≡ None → climbed tops (range_parts list) ≡ raised_by tops (range_of list)
+pub climb_last : (tops : Tops) (list : List ℕ) → position (λ b. b == 44) list ≡ None
+    → climbed tops (range_parts list) ≡ raised_by tops (range_of list)
 climb_last tops list none = ap (climbed tops) (position_whole 44 list none) ∙ last (raised_by tops (range_of list))
   where
     last : (o : Option Tops) → option_and_then (λ next. climbed next []) o ≡ o
@@ -134,6 +157,7 @@ pub some_agrees : (tops : Tops) (parts : List (List ℕ)) → is_some (climbed t
     → list_all (λ part. part_agrees parts (range_of part)) parts ≡ true
 some_agrees tops parts some = go (climbed tops parts) refl some
   where
-    go : (o : Option Tops) → climbed tops parts ≡ o → is_some o ≡ true → list_all (λ part. part_agrees parts (range_of part)) parts ≡ true
+    go : (o : Option Tops) → climbed tops parts ≡ o → is_some o ≡ true
+        → list_all (λ part. part_agrees parts (range_of part)) parts ≡ true
     go None e some = let bad : false ≡ true = some in cc
     go (Some last) e some = climb_agrees tops parts last e

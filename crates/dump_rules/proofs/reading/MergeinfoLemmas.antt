@@ -18,7 +18,8 @@ use Rattle.dump_rules.proofs.reading.RangeListLemmas.{AllLack, none_all, split_j
 
 -- colons
 
-pub colon_end_is : (path list : List ℕ) → has_byte 58 list ≡ false → colon_end ((path ++ 58 ∷ []) ++ list) ≡ length path + 1
+pub colon_end_is : (path list : List ℕ) → has_byte 58 list ≡ false
+    → colon_end ((path ++ 58 ∷ []) ++ list) ≡ length path + 1
 colon_end_is path list none =
     let front = length-append path (58 ∷ []) in
     let whole = length-append (path ++ 58 ∷ []) list in
@@ -26,12 +27,14 @@ colon_end_is path list none =
     (λ k low high. behind k low high) (λ some. here) in
     omega arith
   where
-    behind : (k : ℕ) → length (path ++ 58 ∷ []) ≤ k → k < length ((path ++ 58 ∷ []) ++ list) → not (get_or ((path ++ 58 ∷ []) ++ list) k 0 == 58) ≡ true
+    behind : (k : ℕ) → length (path ++ 58 ∷ []) ≤ k → k < length ((path ++ 58 ∷ []) ++ list)
+        → not (get_or ((path ++ 58 ∷ []) ++ list) k 0 == 58) ≡ true
     behind k low high =
         let whole = length-append (path ++ 58 ∷ []) list in
         let place : length (path ++ 58 ∷ []) + (k - length (path ++ 58 ∷ [])) ≡ k = omega arith in
         let read : get_or ((path ++ 58 ∷ []) ++ list) k 0 ≡ get_or list (k - length (path ++ 58 ∷ [])) 0 =
-        ap (λ n. get_or ((path ++ 58 ∷ []) ++ list) n 0) (sym place) ∙ get_or-append-add (path ++ 58 ∷ []) list (k - length (path ++ 58 ∷ [])) 0 in
+        ap (λ n. get_or ((path ++ 58 ∷ []) ++ list) n 0) (sym place) ∙ get_or-append-add (path ++ 58 ∷ []) list
+        (k - length (path ++ 58 ∷ [])) 0 in
         let other = none_all 58 list none (k - length (path ++ 58 ∷ [])) 0 (omega arith) in
         ap (λ b. not (b == 58)) read ∙ rw other refl
 
@@ -45,15 +48,18 @@ colon_end_is path list none =
         ∙ get_or-append_seam path 58 list 0 in
         ap (λ b. not (b == 58)) read
 
-colon_parts : (line : List ℕ) → 0 < colon_end line → line ≡ (take (colon_end line - 1) line ++ 58 ∷ []) ++ drop (colon_end line) line
+colon_parts : (line : List ℕ) → 0 < colon_end line → line ≡ (take (colon_end line - 1) line ++ 58 ∷ []) ++ drop
+    (colon_end line) line
 colon_parts line some =
     let size = suffix_len-le-length (λ b. not (b == 58)) line in
     let turned = length-reverse line in
     let stops = prefix_len_stops (λ b. not (b == 58)) (reverse line) 0 (omega arith) in
     let place : length line - 1 - suffix_len (λ b. not (b == 58)) line ≡ colon_end line - 1 = omega arith in
-    let read = get_or-reverse line (suffix_len (λ b. not (b == 58)) line) 0 (omega arith) ∙ ap (λ n. get_or line n 0) place in
+    let read = get_or-reverse line (suffix_len (λ b. not (b == 58)) line) 0 (omega arith)
+    ∙ ap (λ n. get_or line n 0) place in
     let here : not (get_or line (colon_end line - 1) 0 == 58) ≡ false = ap (λ b. not (b == 58)) (sym read) ∙ stops in
-    let is : (get_or line (colon_end line - 1) 0 == 58) ≡ true = colon (get_or line (colon_end line - 1) 0 == 58) here in
+    let is : (get_or line (colon_end line - 1) 0 == 58) ≡ true = colon
+    (get_or line (colon_end line - 1) 0 == 58) here in
     let next : colon_end line - 1 + 1 ≡ colon_end line = omega arith in
     sym (take-append-drop (colon_end line - 1) line)
     ∙ ap (λ t. take (colon_end line - 1) line ++ t)
@@ -82,7 +88,8 @@ line_is_read text line is =
     ap colon_end whole ∙ colon_end_is line.path list (list_lacks 58 list line.ranges refl refl refl ranges) in
     let front = length-append line.path (58 ∷ []) in
     let behind : drop (colon_end text) text ≡ list =
-    ap (λ n. drop n text) place ∙ ap (drop (length line.path + 1)) whole ∙ drop_at (line.path ++ 58 ∷ []) list (length line.path + 1) front in
+    ap (λ n. drop n text) place ∙ ap (drop (length line.path + 1)) whole ∙ drop_at (line.path ++ 58 ∷ []) list
+    (length line.path + 1) front in
     let path = is.path in
     let far : nat_lt 1 (colon_end text) ≡ true = grind (arith, nat_tests) in
     let size = ap length whole ∙ length-append (line.path ++ 58 ∷ []) list in
@@ -94,7 +101,8 @@ line_is_read text line is =
       some = omega arith;
     }
 
-read_is_line : (text : List ℕ) → line_reads text ≡ true → has_byte 10 text ≡ false → (line : MergeLine) × IsMergeLine text line
+read_is_line : (text : List ℕ) → line_reads text ≡ true → has_byte 10 text ≡ false → (line : MergeLine)
+    × IsMergeLine text line
 read_is_line text reads one_line =
     let parts = and_parts (nat_lt 1 (colon_end text)) (list_reads (drop (colon_end text) text)) reads in
     let first = parts.0 in
@@ -104,7 +112,8 @@ read_is_line text reads one_line =
       record { path = take (colon_end text - 1) text; ranges = list.0 },
       record {
         path = omega arith;
-        one_line = front_lacks 10 (take (colon_end text - 1) text) (drop (colon_end text - 1) text) (ap (has_byte 10) (take-append-drop (colon_end text - 1) text) ∙ one_line);
+        one_line = front_lacks 10 (take (colon_end text - 1) text) (drop (colon_end text - 1) text)
+            (ap (has_byte 10) (take-append-drop (colon_end text - 1) text) ∙ one_line);
         consistent = list.2;
         spelled = (drop (colon_end text) text, list.1, colon_parts text (omega arith));
       },
@@ -126,7 +135,8 @@ record Joined (text : List ℕ) : Type 0 where
   some : 0 < length text
   ends : ends_in_lf text ≡ false
 
-joined : (part : List ℕ) (parts : List (List ℕ)) (line : MergeLine) (lines : List MergeLine) → AllZip IsMergeLine (part ∷ parts) (line ∷ lines)
+joined : (part : List ℕ) (parts : List (List ℕ)) (line : MergeLine) (lines : List MergeLine)
+    → AllZip IsMergeLine (part ∷ parts) (line ∷ lines)
     → Joined (join_with_byte 10 (part ∷ parts))
 joined part [] line lines all =
     let read = line_is_read part line all.0 in
@@ -143,7 +153,8 @@ joined part (next ∷ parts) line (second ∷ lines) all =
           ∙ rest.ends;
     }
 
-pub all_read : (texts : List (List ℕ)) (lines : List MergeLine) → AllZip IsMergeLine texts lines → (list_all line_reads texts ≡ true) × AllLack 10 texts
+pub all_read : (texts : List (List ℕ)) (lines : List MergeLine) → AllZip IsMergeLine texts lines
+    → (list_all line_reads texts ≡ true) × AllLack 10 texts
 all_read [] [] all = (refl, tt)
 all_read [] (line ∷ lines) all = absurd all
 all_read (text ∷ texts) [] all = absurd all
@@ -153,7 +164,8 @@ all_read (text ∷ texts) (line ∷ lines) all =
     let reads = first.reads in
     (rw reads rest.0, (first.one_line, rest.1))
 
-lines_from_reads : (texts : List (List ℕ)) → list_all line_reads texts ≡ true → AllLack 10 texts → (lines : List MergeLine) × AllZip IsMergeLine texts lines
+lines_from_reads : (texts : List (List ℕ)) → list_all line_reads texts ≡ true → AllLack 10 texts
+    → (lines : List MergeLine) × AllZip IsMergeLine texts lines
 lines_from_reads [] reads lack = ([], tt)
 lines_from_reads (text ∷ texts) reads lack =
     let parts = and_parts (line_reads text) (list_all line_reads texts) reads in
@@ -161,7 +173,8 @@ lines_from_reads (text ∷ texts) reads lack =
     let rest = lines_from_reads texts parts.1 lack.1 in
     (first.0 ∷ rest.0, (first.1, rest.1))
 
-lines_are_read : (texts : List (List ℕ)) (lines : List MergeLine) → AllZip IsMergeLine texts lines → (text : List ℕ) → text ≡ join_with_byte 10 texts
+lines_are_read : (texts : List (List ℕ)) (lines : List MergeLine) → AllZip IsMergeLine texts lines → (text : List ℕ)
+    → text ≡ join_with_byte 10 texts
     → lines_read text ≡ true
 lines_are_read texts lines all [] is = refl
 lines_are_read [] lines all (b ∷ text) is = let bad : b ∷ text ≡ [] = is in cc
@@ -170,7 +183,8 @@ lines_are_read (part ∷ parts) lines all (b ∷ text) is =
     ap (list_all line_reads) (ap (slice_split (λ c. c == 10)) is ∙ split_joined 10 part parts read.1) ∙ read.0
 
 pub read_are_lines : (text : List ℕ) → lines_read text ≡ true
-    → (texts : List (List ℕ)) × (lines : List MergeLine) × AllZip IsMergeLine texts lines × (text ≡ join_with_byte 10 texts)
+    → (texts : List (List ℕ)) × (lines : List MergeLine) × AllZip IsMergeLine texts lines
+    × (text ≡ join_with_byte 10 texts)
 read_are_lines [] reads = ([], [], tt, refl)
 read_are_lines (b ∷ text) reads =
     let found = lines_from_reads (slice_split (λ c. c == 10) (b ∷ text)) reads (parts_lack 10 (b ∷ text)) in
@@ -178,7 +192,8 @@ read_are_lines (b ∷ text) reads =
 
 -- the value without its LF is what the lines joined are
 pub bare : (texts : List (List ℕ)) (lines : List MergeLine) → AllZip IsMergeLine texts lines → (value : List ℕ)
-    → (value ≡ join_with_byte 10 texts) ⊎ (value ≡ join_with_byte 10 texts ++ 10 ∷ []) → without_lf value ≡ join_with_byte 10 texts
+    → (value ≡ join_with_byte 10 texts) ⊎ (value ≡ join_with_byte 10 texts ++ 10 ∷ [])
+    → without_lf value ≡ join_with_byte 10 texts
 bare [] lines all value (inl is) = ap without_lf is
 bare (text ∷ texts) [] all value (inl is) = absurd all
 bare (text ∷ texts) (line ∷ lines) all value (inl is) =
@@ -203,11 +218,13 @@ reads_exactly value = (there, λ has. back has.0 has.1.0 has.1.1 has.1.2)
         let found = read_are_lines (without_lf value) reads in
         (found.1, (found.0, found.2, spelled (value_parts value) found.0 found.3))
       where
-        spelled : (value ≡ without_lf value) ⊎ (value ≡ without_lf value ++ 10 ∷ []) → (texts : List (List ℕ)) → without_lf value ≡ join_with_byte 10 texts
+        spelled : (value ≡ without_lf value) ⊎ (value ≡ without_lf value ++ 10 ∷ []) → (texts : List (List ℕ))
+            → without_lf value ≡ join_with_byte 10 texts
             → (value ≡ join_with_byte 10 texts) ⊎ (value ≡ join_with_byte 10 texts ++ codes "\n")
         spelled (inl e) texts is = inl (e ∙ is)
         spelled (inr e) texts is = inr (e ∙ ap (λ t. t ++ 10 ∷ []) is)
 
     back : (lines : List MergeLine) (texts : List (List ℕ)) → AllZip IsMergeLine texts lines
-        → (value ≡ join_with_byte 10 texts) ⊎ (value ≡ join_with_byte 10 texts ++ codes "\n") → IsTrue (value_reads value)
+        → (value ≡ join_with_byte 10 texts) ⊎ (value ≡ join_with_byte 10 texts ++ codes "\n")
+        → IsTrue (value_reads value)
     back lines texts all is = lines_are_read texts lines all (without_lf value) (bare texts lines all value is)

@@ -21,7 +21,8 @@ use Rattle.dump_rules.specs.steps.ReadRanges.{ends_in_star, without_star, both, 
 not_digit : (b c : ℕ) → is_ascii_digit b ≡ false → is_ascii_digit c ≡ true → (c == b) ≡ false
 not_digit b c other digit = grind (arith, nat_tests)
 
-digits_lack : (b : ℕ) (text : List ℕ) → is_ascii_digit b ≡ false → list_all is_ascii_digit text ≡ true → has_byte b text ≡ false
+digits_lack : (b : ℕ) (text : List ℕ) → is_ascii_digit b ≡ false → list_all is_ascii_digit text ≡ true
+    → has_byte b text ≡ false
 digits_lack b [] other all = refl
 digits_lack b (c ∷ text) other all =
     let parts = and_parts _ _ all in
@@ -35,7 +36,8 @@ number_parts text n is = go (is_number text) refl
     go true e = e
     go false e = let bad : None ≡ Some n = rw e at is in cc
 
-pub number_lacks : (b : ℕ) (text : List ℕ) (n : ℕ) → is_ascii_digit b ≡ false → number_of text ≡ Some n → has_byte b text ≡ false
+pub number_lacks : (b : ℕ) (text : List ℕ) (n : ℕ) → is_ascii_digit b ≡ false → number_of text ≡ Some n
+    → has_byte b text ≡ false
 number_lacks b text n other is =
     let parts = and_parts _ _ (number_parts text n is) in digits_lack b text other parts.1
 
@@ -58,11 +60,13 @@ drop_lacks b k text none = back_lacks b (take k text) (drop k text) (ap (has_byt
 pub no_end : (b : ℕ) (text : List ℕ) → has_byte b text ≡ false → bytes_eq (drop (length text - 1) text) (b ∷ []) ≡ false
 no_end b text none = go (bytes_eq (drop (length text - 1) text) (b ∷ [])) refl
   where
-    go : (t : Bool) → bytes_eq (drop (length text - 1) text) (b ∷ []) ≡ t → bytes_eq (drop (length text - 1) text) (b ∷ []) ≡ false
+    go : (t : Bool) → bytes_eq (drop (length text - 1) text) (b ∷ []) ≡ t → bytes_eq (drop (length text - 1) text)
+        (b ∷ []) ≡ false
     go false e = e
     go true e =
         let same = (bytes_eq-Decides (drop (length text - 1) text) (b ∷ [])).0 e in
-        let bad : true ≡ false = sym (has_at b [] []) ∙ ap (has_byte b) (sym same) ∙ drop_lacks b (length text - 1) text none in
+        let bad : true ≡ false = sym (has_at b [] []) ∙ ap (has_byte b) (sym same)
+        ∙ drop_lacks b (length text - 1) text none in
         cc
 
 -- a text with the byte behind it does
@@ -73,7 +77,8 @@ pub front_so : (b : ℕ) (body : List ℕ) → take (length (body ++ b ∷ []) -
 front_so b body = front_is b body
 
 -- a text that ends in the byte is the rest with it behind
-pub ends_parts : (b : ℕ) (text : List ℕ) → bytes_eq (drop (length text - 1) text) (b ∷ []) ≡ true → text ≡ take (length text - 1) text ++ b ∷ []
+pub ends_parts : (b : ℕ) (text : List ℕ) → bytes_eq (drop (length text - 1) text) (b ∷ []) ≡ true
+    → text ≡ take (length text - 1) text ++ b ∷ []
 ends_parts b text e =
     sym (take-append-drop (length text - 1) text)
     ∙ ap (λ t. take (length text - 1) text ++ t) ((bytes_eq-Decides (drop (length text - 1) text) (b ∷ [])).0 e)
@@ -104,7 +109,8 @@ place_none b (c ∷ text) none =
     let later = place_none b text (second_false (c == b) (has_byte b text) none) in
     rw other (ap (λ n. 1 + n) later ∙ omega arith)
 
-place_at : (b : ℕ) (front rest : List ℕ) → has_byte b front ≡ false → position_or_len (λ c. c == b) (front ++ b ∷ rest) ≡ length front
+place_at : (b : ℕ) (front rest : List ℕ) → has_byte b front ≡ false → position_or_len (λ c. c == b)
+    (front ++ b ∷ rest) ≡ length front
 place_at b [] rest none = rw (same b) refl
 place_at b (c ∷ front) rest none =
     let other = first_false (c == b) (has_byte b front) none in
@@ -117,7 +123,8 @@ position_none b text none =
     ap (λ n. nat_lt n (length text)) (place_none b text none) ∙ (grind (arith, nat_tests)) in
     rw over refl
 
-position_some : (b : ℕ) (front rest : List ℕ) → has_byte b front ≡ false → position (λ c. c == b) (front ++ b ∷ rest) ≡ Some (length front)
+position_some : (b : ℕ) (front rest : List ℕ) → has_byte b front ≡ false
+    → position (λ c. c == b) (front ++ b ∷ rest) ≡ Some (length front)
 position_some b front rest none =
     let size = length-append front (b ∷ rest) in
     let is = place_at b front rest none in
@@ -127,10 +134,12 @@ position_some b front rest none =
     ap (λ n. nat_lt n (length (front ++ b ∷ rest))) is ∙ within in
     rw inside (ap Some is)
 
-position_parts : (b k : ℕ) (text : List ℕ) → position (λ c. c == b) text ≡ Some k → text ≡ take k text ++ b ∷ drop (k + 1) text
+position_parts : (b k : ℕ) (text : List ℕ) → position (λ c. c == b) text ≡ Some k → text ≡ take k text ++ b ∷ drop
+    (k + 1) text
 position_parts b k text is = go (nat_lt (position_or_len (λ c. c == b) text) (length text)) refl
   where
-    go : (t : Bool) → nat_lt (position_or_len (λ c. c == b) text) (length text) ≡ t → text ≡ take k text ++ b ∷ drop (k + 1) text
+    go : (t : Bool) → nat_lt (position_or_len (λ c. c == b) text) (length text) ≡ t → text ≡ take k text ++ b ∷ drop
+        (k + 1) text
     go false e = let bad : None ≡ Some k = rw e at is in cc
     go true e =
         let found : Some (position_or_len (λ c. c == b) text) ≡ Some k = rw e at is in
@@ -140,7 +149,8 @@ position_parts b k text is = go (nat_lt (position_or_len (λ c. c == b) text) (l
         let here : (get_or text k 0 == b) ≡ true =
         ap (λ n. get_or text n 0 == b) (sym place) ∙ passes_at_first (λ c. c == b) text 0 inside in
         sym (take-append-drop k text)
-        ∙ ap (λ t. take k text ++ t) (drop_more text k 0 below ∙ ap (λ c. c ∷ drop (k + 1) text) (eqb-true (get_or text k 0) b here))
+        ∙ ap (λ t. take k text ++ t) (drop_more text k 0 below ∙ ap (λ c. c ∷ drop (k + 1) text)
+        (eqb-true (get_or text k 0) b here))
 
 -- a text is cut at its first such byte
 pub position_split : (b k : ℕ) (text : List ℕ) → position (λ c. c == b) text ≡ Some k
@@ -158,10 +168,12 @@ position_split b k text is = go (nat_lt (position_or_len (λ c. c == b) text) (l
         ∙ ap (λ n. take n text ∷ slice_split (λ c. c == b) (drop (n + 1) text)) place
 
 -- and is whole where there is none
-pub position_whole : (b : ℕ) (text : List ℕ) → position (λ c. c == b) text ≡ None → slice_split (λ c. c == b) text ≡ text ∷ []
+pub position_whole : (b : ℕ) (text : List ℕ) → position (λ c. c == b) text ≡ None
+    → slice_split (λ c. c == b) text ≡ text ∷ []
 position_whole b text is = go (nat_lt (position_or_len (λ c. c == b) text) (length text)) refl
   where
-    go : (t : Bool) → nat_lt (position_or_len (λ c. c == b) text) (length text) ≡ t → slice_split (λ c. c == b) text ≡ text ∷ []
+    go : (t : Bool) → nat_lt (position_or_len (λ c. c == b) text) (length text) ≡ t
+        → slice_split (λ c. c == b) text ≡ text ∷ []
     go true e = let bad : Some (position_or_len (λ c. c == b) text) ≡ None = rw e at is in cc
     go false e =
         let over : length text ≤ position_or_len (λ c. c == b) text = grind (arith, nat_tests) in
@@ -186,7 +198,8 @@ ends_span from_text to_text from to is_from is_to =
 
 -- ranges
 
-between : (from to : ℕ) (kind : Bool) → 1 ≤ from → from ≤ to → range_between (Some (from, to)) kind ≡ Some (record { from = from; to = to; inheritable = kind })
+between : (from to : ℕ) (kind : Bool) → 1 ≤ from → from ≤ to → range_between (Some (from, to)) kind ≡ Some
+    (record { from = from; to = to; inheritable = kind })
 between from to kind low order =
     let first : nat_le 1 from ≡ true = grind (arith, nat_tests) in
     let second : nat_le from to ≡ true = grind (arith, nat_tests) in
@@ -197,10 +210,12 @@ not_not true = refl
 not_not false = refl
 
 -- what a text spells is read
-spelled : (body : List ℕ) (r : Range) → has_byte 42 body ≡ false → ends_of body ≡ Some (r.from, r.to) → 1 ≤ r.from → r.from ≤ r.to
+spelled : (body : List ℕ) (r : Range) → has_byte 42 body ≡ false → ends_of body ≡ Some (r.from, r.to) → 1 ≤ r.from
+    → r.from ≤ r.to
     → range_of (body ++ star r.inheritable) ≡ Some r
 spelled body r none ends low order =
-    rw (star_cut body r.inheritable none, star_is body r.inheritable none, not_not r.inheritable, ends) (between r.from r.to r.inheritable low order)
+    rw (star_cut body r.inheritable none, star_is body r.inheritable none, not_not r.inheritable, ends)
+    (between r.from r.to r.inheritable low order)
 
 pub range_of_text : (text : List ℕ) (r : Range) → IsRangeText text r → range_of text ≡ Some r
 range_of_text text r is = elim is.spelled [
@@ -209,7 +224,8 @@ range_of_text text r is = elim is.spelled [
       ap range_of single.3 ∙ spelled single.0 r (number_lacks 42 single.0 r.from refl single.1) ends is.low is.order
   | inr span ↦
       let ends = ends_span span.0 span.1 r.from r.to span.2 span.3 in
-      let none = has_byte-append 42 span.0 (45 ∷ span.1) (number_lacks 42 span.0 r.from refl span.2) (number_lacks 42 span.1 r.to refl span.3) in
+      let none = has_byte-append 42 span.0 (45 ∷ span.1) (number_lacks 42 span.0 r.from refl span.2)
+      (number_lacks 42 span.1 r.to refl span.3) in
       let whole : text ≡ (span.0 ++ 45 ∷ span.1) ++ star r.inheritable =
       span.4 ∙ ap (λ t. t ++ star r.inheritable) (append_assoc span.0 (45 ∷ []) span.1) in
       ap range_of whole ∙ spelled (span.0 ++ 45 ∷ span.1) r none ends is.low is.order
@@ -231,7 +247,8 @@ between_parts None kind r is = let bad : None ≡ Some r = is in cc
 between_parts (Some (from, to)) kind r is = go (nat_le 1 from && nat_le from to) refl
   where
     go : (t : Bool) → (nat_le 1 from && nat_le from to) ≡ t
-        → Path (Option (ℕ × ℕ)) (Some (from, to)) (Some (r.from, r.to)) × (kind ≡ r.inheritable) × (1 ≤ r.from) × (r.from ≤ r.to)
+        → Path (Option (ℕ × ℕ)) (Some (from, to)) (Some (r.from, r.to)) × (kind ≡ r.inheritable) × (1 ≤ r.from)
+        × (r.from ≤ r.to)
     go false e = let bad : None ≡ Some r = rw e at is in cc
     go true e =
         let parts = and_parts (nat_le 1 from) (nat_le from to) e in
@@ -275,5 +292,6 @@ text_of_range text r is =
     record {
       low = parts.2;
       order = parts.3;
-      spelled = subst (λ (t : List ℕ). IsSingle t r ⊎ IsSpan t r) (sym whole) (ends_parts_of (without_star text) r parts.0);
+      spelled = subst (λ (t : List ℕ). IsSingle t r ⊎ IsSpan t r) (sym whole)
+          (ends_parts_of (without_star text) r parts.0);
     }

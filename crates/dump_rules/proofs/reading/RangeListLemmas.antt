@@ -18,7 +18,8 @@ use Rattle.dump_rules.proofs.reading.RangeLemmas.{number_lacks, range_of_text, t
 pub none_all : (b : ℕ) (text : List ℕ) → has_byte b text ≡ false → All (λ c. (c == b) ≡ false) text
 none_all b [] none = λ k d small. absurd (omega arith)
 none_all b (c ∷ text) none =
-    All-cons (λ x. (x == b) ≡ false) c text (first_false (c == b) (has_byte b text) none) (none_all b text (second_false (c == b) (has_byte b text) none))
+    All-cons (λ x. (x == b) ≡ false) c text (first_false (c == b) (has_byte b text) none)
+    (none_all b text (second_false (c == b) (has_byte b text) none))
 
 -- each part lacks the byte
 abbrev pub AllLack : ℕ → List (List ℕ) → Type 0
@@ -41,7 +42,8 @@ pub parts_lack : (b : ℕ) (text : List ℕ) → AllLack b (slice_split (λ c. c
 parts_lack b [] = (refl, tt)
 parts_lack b (c ∷ text) = go (c == b) refl (parts_lack b text)
   where
-    go : (t : Bool) → (c == b) ≡ t → AllLack b (slice_split (λ x. x == b) text) → AllLack b (slice_split (λ x. x == b) (c ∷ text))
+    go : (t : Bool) → (c == b) ≡ t → AllLack b (slice_split (λ x. x == b) text)
+        → AllLack b (slice_split (λ x. x == b) (c ∷ text))
     go true e lack = rw e (refl, lack)
     go false e lack = rw e (onto_lack b c (slice_split (λ x. x == b) text) e lack)
 
@@ -50,20 +52,23 @@ parts_lack b (c ∷ text) = go (c == b) refl (parts_lack b text)
 abbrev pub Reads : List ℕ → Range → Type 0
 Reads part r = range_of part ≡ Some r
 
-reads_from_texts : (parts : List (List ℕ)) (ranges : List Range) → AllZip IsRangeText parts ranges → AllZip Reads parts ranges
+reads_from_texts : (parts : List (List ℕ)) (ranges : List Range) → AllZip IsRangeText parts ranges
+    → AllZip Reads parts ranges
 reads_from_texts [] [] all = tt
 reads_from_texts [] (r ∷ ranges) all = absurd all
 reads_from_texts (part ∷ parts) [] all = absurd all
 reads_from_texts (part ∷ parts) (r ∷ ranges) all = (range_of_text part r all.0, reads_from_texts parts ranges all.1)
 
-texts_from_reads : (parts : List (List ℕ)) (ranges : List Range) → AllZip Reads parts ranges → AllZip IsRangeText parts ranges
+texts_from_reads : (parts : List (List ℕ)) (ranges : List Range) → AllZip Reads parts ranges
+    → AllZip IsRangeText parts ranges
 texts_from_reads [] [] all = tt
 texts_from_reads [] (r ∷ ranges) all = absurd all
 texts_from_reads (part ∷ parts) [] all = absurd all
 texts_from_reads (part ∷ parts) (r ∷ ranges) all = (text_of_range part r all.0, texts_from_reads parts ranges all.1)
 
 -- a number that stands in the ranges is in one of the parts
-number_in_part : (parts : List (List ℕ)) (ranges : List Range) → AllZip Reads parts ranges → (kind : Bool) (n : ℕ) → HasNumber ranges kind n
+number_in_part : (parts : List (List ℕ)) (ranges : List Range) → AllZip Reads parts ranges → (kind : Bool) (n : ℕ)
+    → HasNumber ranges kind n
     → (test : Option Range → Bool) → ((r : Range) → r.inheritable ≡ kind → r.from ≤ n → n ≤ r.to → test (Some r) ≡ true)
     → list_any (λ part. test (range_of part)) parts ≡ true
 number_in_part [] [] all kind n has test passes = absurd has
@@ -76,13 +81,15 @@ number_in_part (part ∷ parts) (r ∷ ranges) all kind n (inr later) test passe
     let rest = number_in_part parts ranges all.1 kind n later test passes in
     go (test (range_of part)) rest
   where
-    go : (t : Bool) → list_any (λ p. test (range_of p)) parts ≡ true → (t || list_any (λ p. test (range_of p)) parts) ≡ true
+    go : (t : Bool) → list_any (λ p. test (range_of p)) parts ≡ true
+        → (t || list_any (λ p. test (range_of p)) parts) ≡ true
     go true rest = refl
     go false rest = rest
 
 -- a range of the list that passes
 abbrev Passing : List Range → (Range → Bool) → Type 0
-Passing ranges test = (s : Range) × (test s ≡ true) × (s.from ≤ s.to) × ((n : ℕ) → s.from ≤ n → n ≤ s.to → HasNumber ranges s.inheritable n)
+Passing ranges test = (s : Range) × (test s ≡ true) × (s.from ≤ s.to)
+    × ((n : ℕ) → s.from ≤ n → n ≤ s.to → HasNumber ranges s.inheritable n)
 
 part_passes : (parts : List (List ℕ)) (ranges : List Range) → AllZip Reads parts ranges → (r : Range)
     → list_any (λ part. part_contradicts r (range_of part)) parts ≡ true → Passing ranges (contradicts r)
@@ -92,8 +99,10 @@ part_passes (part ∷ parts) [] all r some = absurd all
 part_passes (part ∷ parts) (s ∷ ranges) all r some =
     go (contradicts r s) refl (rw all.0 at some) (λ rest. part_passes parts ranges all.1 r rest)
   where
-    go : (t : Bool) → contradicts r s ≡ t → (contradicts r s || list_any (λ p. part_contradicts r (range_of p)) parts) ≡ true
-        → (list_any (λ p. part_contradicts r (range_of p)) parts ≡ true → Passing ranges (contradicts r)) → Passing (s ∷ ranges) (contradicts r)
+    go : (t : Bool) → contradicts r s ≡ t → (contradicts r s || list_any
+        (λ p. part_contradicts r (range_of p)) parts) ≡ true
+        → (list_any (λ p. part_contradicts r (range_of p)) parts ≡ true → Passing ranges (contradicts r))
+        → Passing (s ∷ ranges) (contradicts r)
     go true e some rest = (s, e, (text_of_range part s all.0).order, (λ n low high. inl (refl, low, high)))
     go false e some rest =
         let found = rest (rw e at some) in
@@ -101,7 +110,8 @@ part_passes (part ∷ parts) (s ∷ ranges) all r some =
 
 -- contradictions
 
-overlap : (r s : Range) (n : ℕ) → is_other r.inheritable s.inheritable ≡ true → r.from ≤ n → n ≤ r.to → s.from ≤ n → n ≤ s.to → contradicts r s ≡ true
+overlap : (r s : Range) (n : ℕ) → is_other r.inheritable s.inheritable ≡ true → r.from ≤ n → n ≤ r.to → s.from ≤ n
+    → n ≤ s.to → contradicts r s ≡ true
 overlap r s n other r_low r_high s_low s_high =
     let first : r.from ≤ s.to = omega arith in
     let second : s.from ≤ r.to = omega arith in
@@ -109,7 +119,8 @@ overlap r s n other r_low r_high s_low s_high =
     let two : nat_le s.from r.to ≡ true = grind (arith, nat_tests) in
     rw (other, one, two) refl
 
-overlap_parts : (r s : Range) → contradicts r s ≡ true → (is_other r.inheritable s.inheritable ≡ true) × (r.from ≤ s.to) × (s.from ≤ r.to)
+overlap_parts : (r s : Range) → contradicts r s ≡ true → (is_other r.inheritable s.inheritable ≡ true) × (r.from ≤ s.to)
+    × (s.from ≤ r.to)
 overlap_parts r s h =
     let outer = and_parts (is_other r.inheritable s.inheritable && nat_le r.from s.to) (nat_le s.from r.to) h in
     let inner = and_parts (is_other r.inheritable s.inheritable) (nat_le r.from s.to) outer.0 in
@@ -117,13 +128,15 @@ overlap_parts r s h =
     let two = outer.1 in
     (inner.0, grind (arith, nat_tests), grind (arith, nat_tests))
 
-unlike : (a b : Bool) (ranges : List Range) (n : ℕ) → is_other a b ≡ true → IsConsistent ranges → HasNumber ranges a n → HasNumber ranges b n → ⊥
+unlike : (a b : Bool) (ranges : List Range) (n : ℕ) → is_other a b ≡ true → IsConsistent ranges → HasNumber ranges a n
+    → HasNumber ranges b n → ⊥
 unlike true true ranges n other consistent one two = let bad : false ≡ true = other in cc
 unlike true false ranges n other consistent one two = consistent n one two
 unlike false true ranges n other consistent one two = consistent n two one
 unlike false false ranges n other consistent one two = let bad : false ≡ true = other in cc
 
-all_not_any : {X : Type 0} (test : X → Bool) (xs : List X) → list_all test xs ≡ true → list_any (λ x. not (test x)) xs ≡ true → ⊥
+all_not_any : {X : Type 0} (test : X → Bool) (xs : List X) → list_all test xs ≡ true
+    → list_any (λ x. not (test x)) xs ≡ true → ⊥
 all_not_any test [] all some = let bad : false ≡ true = some in cc
 all_not_any test (x ∷ xs) all some =
     let parts = and_parts (test x) (list_all test xs) all in
@@ -134,7 +147,8 @@ consistent_from_agree : (parts : List (List ℕ)) (ranges : List Range) → AllZ
     → list_all (λ part. part_agrees parts (range_of part)) parts ≡ true → IsConsistent ranges
 consistent_from_agree parts ranges all agree n plain starred =
     all_not_any (λ part. part_agrees parts (range_of part)) parts agree
-    (number_in_part parts ranges all true n plain (λ o. not (part_agrees parts o)) (λ r kind low high. disagrees r kind low high))
+    (number_in_part parts ranges all true n plain (λ o. not (part_agrees parts o))
+    (λ r kind low high. disagrees r kind low high))
   where
     disagrees : (r : Range) → r.inheritable ≡ true → r.from ≤ n → n ≤ r.to → not (part_agrees parts (Some r)) ≡ true
     disagrees r kind low high =
@@ -144,14 +158,16 @@ consistent_from_agree parts ranges all agree n plain starred =
         rw some refl
 
 pub all_agree : (parts : List (List ℕ)) (ranges : List Range) → AllZip Reads parts ranges → IsConsistent ranges
-    → (some : List (List ℕ)) (found : List Range) → AllZip Reads some found → ((kind : Bool) (n : ℕ) → HasNumber found kind n → HasNumber ranges kind n)
+    → (some : List (List ℕ)) (found : List Range) → AllZip Reads some found
+    → ((kind : Bool) (n : ℕ) → HasNumber found kind n → HasNumber ranges kind n)
     → list_all (λ part. part_agrees parts (range_of part)) some ≡ true
 all_agree parts ranges all consistent [] [] these into = refl
 all_agree parts ranges all consistent [] (r ∷ found) these into = absurd these
 all_agree parts ranges all consistent (part ∷ some) [] these into = absurd these
 all_agree parts ranges all consistent (part ∷ some) (r ∷ found) these into =
     let rest = all_agree parts ranges all consistent some found these.1 (λ kind n has. into kind n (inr has)) in
-    let first : part_agrees parts (range_of part) ≡ true = ap (part_agrees parts) these.0 ∙ agrees (list_any (λ p. part_contradicts r (range_of p)) parts) refl in
+    let first : part_agrees parts (range_of part) ≡ true = ap (part_agrees parts) these.0
+    ∙ agrees (list_any (λ p. part_contradicts r (range_of p)) parts) refl in
     rw first rest
   where
     agrees : (t : Bool) → list_any (λ p. part_contradicts r (range_of p)) parts ≡ t → part_agrees parts (Some r) ≡ true
@@ -172,21 +188,25 @@ read_all : (parts some : List (List ℕ)) → list_all (λ part. part_agrees par
     → (found : List Range) × AllZip Reads some found
 read_all parts [] agree = ([], tt)
 read_all parts (part ∷ some) agree =
-    let both = and_parts (part_agrees parts (range_of part)) (list_all (λ p. part_agrees parts (range_of p)) some) agree in
+    let both = and_parts (part_agrees parts (range_of part))
+    (list_all (λ p. part_agrees parts (range_of p)) some) agree in
     go (range_of part) refl both.0 (read_all parts some both.1)
   where
-    go : (o : Option Range) → range_of part ≡ o → part_agrees parts (range_of part) ≡ true → ((found : List Range) × AllZip Reads some found)
+    go : (o : Option Range) → range_of part ≡ o → part_agrees parts (range_of part) ≡ true
+        → ((found : List Range) × AllZip Reads some found)
         → (found : List Range) × AllZip Reads (part ∷ some) found
     go None e agrees rest = let bad : false ≡ true = rw e at agrees in cc
     go (Some r) e agrees rest = (r ∷ rest.0, (e, rest.1))
 
 -- range lists
 
-part_lacks : (b : ℕ) (part : List ℕ) (r : Range) → is_ascii_digit b ≡ false → has_byte b (42 ∷ 45 ∷ []) ≡ false → IsRangeText part r → has_byte b part ≡ false
+part_lacks : (b : ℕ) (part : List ℕ) (r : Range) → is_ascii_digit b ≡ false → has_byte b (42 ∷ 45 ∷ []) ≡ false
+    → IsRangeText part r → has_byte b part ≡ false
 part_lacks b part r other marks is = elim is.spelled [
   | inl single ↦
       ap (has_byte b) single.3
-      ∙ has_byte-append b single.0 (star r.inheritable) (number_lacks b single.0 r.from other single.1) (no_star r.inheritable)
+      ∙ has_byte-append b single.0 (star r.inheritable) (number_lacks b single.0 r.from other single.1)
+      (no_star r.inheritable)
   | inr span ↦
       ap (has_byte b) span.4
       ∙ has_byte-append b (span.0 ++ 45 ∷ [] ++ span.1) (star r.inheritable)
@@ -203,31 +223,38 @@ part_lacks b part r other marks is = elim is.spelled [
     no_dash : has_byte b (45 ∷ []) ≡ false
     no_dash = second_false (42 == b) (has_byte b (45 ∷ [])) marks
 
-pub all_lack : (b : ℕ) (parts : List (List ℕ)) (ranges : List Range) → is_ascii_digit b ≡ false → has_byte b (42 ∷ 45 ∷ []) ≡ false
+pub all_lack : (b : ℕ) (parts : List (List ℕ)) (ranges : List Range) → is_ascii_digit b ≡ false
+    → has_byte b (42 ∷ 45 ∷ []) ≡ false
     → AllZip IsRangeText parts ranges → AllLack b parts
 all_lack b [] ranges other marks all = tt
 all_lack b (part ∷ parts) [] other marks all = absurd all
-all_lack b (part ∷ parts) (r ∷ ranges) other marks all = (part_lacks b part r other marks all.0, all_lack b parts ranges other marks all.1)
+all_lack b (part ∷ parts) (r ∷ ranges) other marks all =
+    (part_lacks b part r other marks all.0, all_lack b parts ranges other marks all.1)
 
-joined_lacks : (b c : ℕ) (parts : List (List ℕ)) → (c == b) ≡ false → AllLack b parts → has_byte b (join_with_byte c parts) ≡ false
+joined_lacks : (b c : ℕ) (parts : List (List ℕ)) → (c == b) ≡ false → AllLack b parts
+    → has_byte b (join_with_byte c parts) ≡ false
 joined_lacks b c [] other lack = refl
 joined_lacks b c (part ∷ []) other lack = lack.0
 joined_lacks b c (part ∷ next ∷ parts) other lack =
-    has_byte-append b part (c ∷ join_with_byte c (next ∷ parts)) lack.0 (rw other (joined_lacks b c (next ∷ parts) other lack.1))
+    has_byte-append b part (c ∷ join_with_byte c (next ∷ parts)) lack.0
+    (rw other (joined_lacks b c (next ∷ parts) other lack.1))
 
 -- a range list has no byte but digits, commas, dashes and stars
-pub list_lacks : (b : ℕ) (list : List ℕ) (ranges : List Range) → is_ascii_digit b ≡ false → has_byte b (42 ∷ 45 ∷ []) ≡ false → (44 == b) ≡ false
+pub list_lacks : (b : ℕ) (list : List ℕ) (ranges : List Range) → is_ascii_digit b ≡ false
+    → has_byte b (42 ∷ 45 ∷ []) ≡ false → (44 == b) ≡ false
     → IsRangeList list ranges → has_byte b list ≡ false
 list_lacks b list ranges other marks comma is =
     ap (has_byte b) is.2 ∙ joined_lacks b 44 is.0 comma (all_lack b is.0 ranges other marks is.1)
 
 -- a range list without contradictions is read
-pub list_is_read : (list : List ℕ) (ranges : List Range) → IsRangeList list ranges → IsConsistent ranges → list_reads list ≡ true
+pub list_is_read : (list : List ℕ) (ranges : List Range) → IsRangeList list ranges → IsConsistent ranges
+    → list_reads list ≡ true
 list_is_read [] ranges is consistent = refl
 list_is_read (b ∷ list) ranges is consistent =
     go is.0 is.1 is.2
   where
-    go : (parts : List (List ℕ)) → AllZip IsRangeText parts ranges → b ∷ list ≡ join_with_byte 44 parts → list_reads (b ∷ list) ≡ true
+    go : (parts : List (List ℕ)) → AllZip IsRangeText parts ranges → b ∷ list ≡ join_with_byte 44 parts
+        → list_reads (b ∷ list) ≡ true
     go [] all e = let bad : b ∷ list ≡ [] = e in cc
     go (part ∷ parts) all e =
         let cut : range_parts (b ∷ list) ≡ part ∷ parts =
@@ -237,11 +264,17 @@ list_is_read (b ∷ list) ranges is consistent =
         (all_agree (part ∷ parts) ranges reads consistent (part ∷ parts) ranges reads (λ kind n has. has))
 
 -- what is read is a range list without contradictions
-pub read_is_list : (list : List ℕ) → list_reads list ≡ true → (ranges : List Range) × IsRangeList list ranges × IsConsistent ranges
+pub read_is_list : (list : List ℕ) → list_reads list ≡ true → (ranges : List Range) × IsRangeList list ranges
+    × IsConsistent ranges
 read_is_list [] reads = ([], ([], tt, refl), λ n has. absurd has)
 read_is_list (b ∷ list) reads =
     let found = read_all (range_parts (b ∷ list)) (range_parts (b ∷ list)) reads in (
       found.0,
-      (range_parts (b ∷ list), texts_from_reads (range_parts (b ∷ list)) found.0 found.1, sym (join_with_byte-slice_split 44 (b ∷ list))),
+      (
+        range_parts (b ∷ list),
+        texts_from_reads (range_parts (b ∷ list)) found.0 found.1,
+        sym
+            (join_with_byte-slice_split 44 (b ∷ list)),
+      ),
       consistent_from_agree (range_parts (b ∷ list)) found.0 found.1 reads,
     )

@@ -12,7 +12,8 @@ returns-clause-app c =
     let e6 = one_more _ _ _ _ _ c.in_ok-arg-6.ensures c.switch-6.ensures.local e5 c.switch-6.ensures.rule in
     let e7 = one_more _ _ _ _ _ c.in_ok-arg-7.ensures c.workers.ensures.local e6 c.workers.ensures.rule in
     let e8 = one_more _ _ _ _ _ c.in_ok-arg-8.ensures c.window.ensures.local e7 c.window.ensures.rule in
-    IfOk-weaker c.arg-9.result _ _ (λ r adds. one_more _ _ _ _ _ adds c.prefixes.ensures.local e8 c.prefixes.ensures.rule) c.arg-9.ensures
+    IfOk-weaker c.arg-9.result _ _
+    (λ r adds. one_more _ _ _ _ _ adds c.prefixes.ensures.local e8 c.prefixes.ensures.rule) c.arg-9.ensures
 
 pub returns-clause-local : goal.returns-clause-local
 returns-clause-local c =

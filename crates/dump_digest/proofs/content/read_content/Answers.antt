@@ -12,7 +12,8 @@ read_revision-requires c =
 pub returns-else-is_some : goal.returns-else-is_some
 returns-else-is_some c =
     let item = c.args.item.now in
-    let none = sym (revision_told (record_item item) item.number item.stands.lawful) ∙ ap is_some (sym c.revision.ensures)
+    let none = sym (revision_told (record_item item) item.number item.stands.lawful)
+    ∙ ap is_some (sym c.revision.ensures)
     ∙ sym c.is_some.ensures ∙ c.if-is_some.false in
     let other = sym c.is_kept.ensures ∙ c.if-is_kept.false in
     c.read_nothing.ensures c.args.options.now (record_item item) none other

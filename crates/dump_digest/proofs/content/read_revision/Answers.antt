@@ -11,6 +11,7 @@ returns c settings other =
     let found = c.properties_of-props.result in
     let read = c.properties_of-props.ensures in
     content_of_other settings r _ found other
-    (other_verdict settings r c.is_some.result other (asked r c.is_some.result found c.requires c.is_some.ensures read.found))
+    (other_verdict settings r c.is_some.result other
+    (asked r c.is_some.result found c.requires c.is_some.ensures read.found))
     (sym c.is_some.ensures ∙ ap (λ b. (b || is_kept_node settings r) && c.is_some.result) (sym c.requires))
     (bytes_told r found read.bytes)

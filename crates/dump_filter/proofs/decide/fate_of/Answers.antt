@@ -14,7 +14,8 @@ pub returns-then-is_kept : goal.returns-then-is_kept
 returns-then-is_kept c = λ ps list.
     let d = c.args.done.now in
     let r = record_item (done_record d) in
-    let keep = subst (λ (s : Settings). is_kept_node s r ≡ true) c.requires.options (sym c.is_kept.ensures ∙ c.if-is_kept.true) in
+    let keep = subst (λ (s : Settings). is_kept_node s r ≡ true) c.requires.options
+    (sym c.is_kept.ensures ∙ c.if-is_kept.true) in
     c.node_fate.ensures ps (list keep)
     ∙ sym (fate_of_node c.args.options.now (view_state c.args.state.now) r (done_verdict d).merge_ok ps keep)
 
@@ -23,7 +24,8 @@ returns-in-Revision c = λ ps list.
     let d = c.args.done.now in
     let item = c.item.result in
     let kind = subst (λ (x : Record). IsOfKind (record_item x) kinds.Revision) c.item.ensures
-        (subst (IsOfKind (record_item item)) (sym c.kind.ensures ∙ c.in-Revision.is)
-        (of_kind (record_number item) (record_item item) item.stands.lawful)) in
-    fate_of_revision c.args.options.now (view_state c.args.state.now) (record_item (done_record d)) (done_verdict d).merge_ok ps
+    (subst (IsOfKind (record_item item)) (sym c.kind.ensures ∙ c.in-Revision.is)
+    (of_kind (record_number item) (record_item item) item.stands.lawful)) in
+    fate_of_revision c.args.options.now (view_state c.args.state.now) (record_item (done_record d))
+    (done_verdict d).merge_ok ps
     kind.0 kind.1

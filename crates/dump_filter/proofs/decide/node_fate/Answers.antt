@@ -14,7 +14,8 @@ returns-in-Some c = λ ps list.
     let r = record_item (done_record d) in
     let keep = subst (λ (s : Settings). is_kept_node s r ≡ true) (sym c.requires.options) c.requires.node in
     ap (λ fault. kept_unless fault c.in_ok-copy.copy) (sym c.in-Some.is)
-    ∙ node_fate_is (done_settings d) c.args.options.now (view_state c.args.state.now) r (done_verdict d).merge_ok ps c.first.result
+    ∙ node_fate_is (done_settings d) c.args.options.now (view_state c.args.state.now) r
+    (done_verdict d).merge_ok ps c.first.result
     c.node_revision-present.result c.in_ok-copy.copy c.merge_fault.result c.requires.options c.first.ensures.first
     c.node_revision-present.ensures (sym c.copy_change.ensures ∙ c.in_ok-copy.was) (c.merge_fault.ensures keep ps list)
 
@@ -24,6 +25,7 @@ returns-in-None c = λ ps list.
     let r = record_item (done_record d) in
     let keep = subst (λ (s : Settings). is_kept_node s r ≡ true) (sym c.requires.options) c.requires.node in
     ap (λ fault. kept_unless fault c.in_ok-copy.copy) (sym c.in-None.is)
-    ∙ node_fate_is (done_settings d) c.args.options.now (view_state c.args.state.now) r (done_verdict d).merge_ok ps c.first.result
+    ∙ node_fate_is (done_settings d) c.args.options.now (view_state c.args.state.now) r
+    (done_verdict d).merge_ok ps c.first.result
     c.node_revision-present.result c.in_ok-copy.copy c.merge_fault.result c.requires.options c.first.ensures.first
     c.node_revision-present.ensures (sym c.copy_change.ensures ∙ c.in_ok-copy.was) (c.merge_fault.ensures keep ps list)

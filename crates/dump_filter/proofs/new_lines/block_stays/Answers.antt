@@ -16,9 +16,11 @@ returns-then-revision_stays c = λ copied.
             (w.lengths_stay.ensures (sym w.value-is ∙ l.if-lengths_stay.true))
             (l.revision_stays.ensures (sym l.value-is ∙ c.if-revision_stays.true))
             (c.copy_stays.ensures copied)
-        | else-is_written w ↦ absurd (absurd_bool c.if-is_written.value l.if-lengths_stay.true (w.value-is ∙ w.if-is_written.false))
+        | else-is_written w ↦ absurd (absurd_bool c.if-is_written.value l.if-lengths_stay.true
+            (w.value-is ∙ w.if-is_written.false))
       ]
-      | else-lengths_stay l ↦ absurd (absurd_bool c.if-lengths_stay.value c.if-revision_stays.true (l.value-is ∙ l.if-lengths_stay.false))
+      | else-lengths_stay l ↦ absurd (absurd_bool c.if-lengths_stay.value c.if-revision_stays.true
+          (l.value-is ∙ l.if-lengths_stay.false))
     ]
 
 pub returns-else-revision_stays : goal.returns-else-revision_stays

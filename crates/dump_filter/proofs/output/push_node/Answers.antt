@@ -18,8 +18,10 @@ returns c =
     let own = new_record changes.result r.headers (chunk_bytes c.in_ok-props.props) r.text ++ codes "\n\n" in
     let written = subst (λ (x : Record). (ps : List Property) → HasPropertyList (record_item x) ps
     → (new : List Property) × AreNewProperties c.args.options.now c.args.kept.now ps new
-    × (chunk_bytes c.in_ok-props.props ≡ new_block false (record_item x) new)) (sym c.item-item.ensures) c.in_ok-props.ensures in
-    subst (λ (x : Record). OnOk c.push_record.result ((text : List ℕ) × (c.push_record.new.piece ≡ c.args.piece.now ++ text)
+    × (chunk_bytes c.in_ok-props.props ≡ new_block false (record_item x) new))
+    (sym c.item-item.ensures) c.in_ok-props.ensures in
+    subst (λ (x : Record). OnOk c.push_record.result
+    ((text : List ℕ) × (c.push_record.new.piece ≡ c.args.piece.now ++ text)
     × IsOwnNode c.args.options.now c.args.kept.now (record_item x) c.args.copy text)) c.item-item.ensures
     (on_ok c.push_record.result _ _ (λ pushed. (
       own,

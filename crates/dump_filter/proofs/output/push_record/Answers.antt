@@ -13,4 +13,5 @@ returns c =
     let lines = block_text (new_headers changes r.headers) in
     let first = c.in_ok-push.ensures.ok ∙ ap (λ t. c.args.piece.now ++ t) c.in_ok-block.ensures in
     let third = c.in_ok-push_some-2.ensures ∙ ap (λ t. c.push_some.new.piece ++ t) c.text_bytes.ensures in
-    on_ok c.push-2.result _ _ (λ pushed. chunks_out c.args.piece.now lines (chunk_bytes c.args.props) r.text c.args.end.now _ _ _ _ first c.in_ok-push_some.ensures third pushed) c.push-2.ensures.ok
+    on_ok c.push-2.result _ _ (λ pushed. chunks_out c.args.piece.now lines
+    (chunk_bytes c.args.props) r.text c.args.end.now _ _ _ _ first c.in_ok-push_some.ensures third pushed) c.push-2.ensures.ok

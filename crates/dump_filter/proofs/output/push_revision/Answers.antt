@@ -19,9 +19,11 @@ returns c =
     let changes = c.changes_of-changes in
     let item = c.item-item.result in
     subst (λ (r : Record). OnOk c.push_record.result ((ps : List Property) → HasPropertyList (record_item r) ps
-    → c.push_record.new.piece ≡ c.args.piece.now ++ revision_own (record_item r) c.args.number c.args.padded ps)) c.item-item.ensures
+    → c.push_record.new.piece ≡ c.args.piece.now ++ revision_own
+    (record_item r) c.args.number c.args.padded ps)) c.item-item.ensures
     (on_ok c.push_record.result _ _ (λ pushed ps is.
     pushed ∙ ap (λ t. c.args.piece.now ++ t)
-    (revision_is changes.result (record_item item) c.args.number c.args.padded _ _ ps changes.ensures.revision changes.ensures.copy
+    (revision_is changes.result
+    (record_item item) c.args.number c.args.padded _ _ ps changes.ensures.revision changes.ensures.copy
     changes.ensures.lengths c.text_bytes.ensures (c.in_ok-props.ensures ps is)))
     c.push_record.ensures)

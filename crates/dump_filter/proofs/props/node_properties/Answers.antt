@@ -29,7 +29,8 @@ respelled_block-requires c =
 
 pub returns-then-has_mergeinfo : goal.returns-then-has_mergeinfo
 returns-then-has_mergeinfo c =
-    subst (λ (r : Record). IfOk c.rewritten_block.result (λ chunk. (ps : List Property) → HasPropertyList (record_item r) ps
+    subst (λ (r : Record). IfOk c.rewritten_block.result
+    (λ chunk. (ps : List Property) → HasPropertyList (record_item r) ps
     → (new : List Property) × AreNewProperties c.args.options.now c.args.kept.now ps new
     × (chunk_bytes chunk ≡ new_block false (record_item r) new)))
     c.item-item.ensures c.rewritten_block.ensures
@@ -43,6 +44,7 @@ returns-else-has_mergeinfo c =
           (sym (c.has_mergeinfo.ensures kept ok ps is) ∙ c.if-has_mergeinfo.false),
       written ps is,
     ))
-    (subst (λ (r : Record). IfOk c.respelled_block.result (λ chunk. (ps : List Property) → HasPropertyList (record_item r) ps
+    (subst (λ (r : Record). IfOk c.respelled_block.result
+    (λ chunk. (ps : List Property) → HasPropertyList (record_item r) ps
     → chunk_bytes chunk ≡ new_block false (record_item r) ps))
     c.item-item.ensures c.respelled_block.ensures)

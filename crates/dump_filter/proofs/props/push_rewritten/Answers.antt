@@ -21,7 +21,9 @@ returns-in_ok-push_property-in-Ok c =
     let named = sym c.is_mergeinfo.ensures ∙ c.if-not-is_mergeinfo.false in (
       property_of p.name c.deref.result.now,
       with_new_value c.args.options.now c.args.kept.now p c.deref.result.now named
-          (subst (λ (v : List ℕ). IsNewMergeinfo c.args.options.now c.args.kept.now v c.deref.result.now) (sym (entry_value c.args.entry.now))
-          (subst (IsNewMergeinfo c.args.options.now c.args.kept.now c.args.entry.now.value.now) (sym c.deref.ensures.value) c.in-Ok.ensures)),
+          (subst (λ (v : List ℕ). IsNewMergeinfo c.args.options.now c.args.kept.now v c.deref.result.now)
+          (sym (entry_value c.args.entry.now))
+          (subst (IsNewMergeinfo c.args.options.now c.args.kept.now c.args.entry.now.value.now)
+          (sym c.deref.ensures.value) c.in-Ok.ensures)),
       c.in_ok-push_property-in-Ok.ensures,
     )

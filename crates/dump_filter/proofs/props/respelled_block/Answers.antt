@@ -13,4 +13,5 @@ returns-then-has_props c =
     c.respelled.ensures
 
 pub returns-in-None : goal.returns-in-None
-returns-in-None c = λ ps is. absurd (none_read (record_item c.args.item.now) c.args.props.now c.requires c.in-None.is ps is)
+returns-in-None c = λ ps is. absurd
+    (none_read (record_item c.args.item.now) c.args.props.now c.requires c.in-None.is ps is)

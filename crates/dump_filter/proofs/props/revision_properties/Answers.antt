@@ -8,5 +8,6 @@ use Rattle.dump_filter.proofs.props.revision_properties.Goals as goal
 pub returns-then-padded : goal.returns-then-padded
 returns-then-padded c = λ ps is.
     rw c.if-padded.true
-    (c.in_ok-bytes.ensures ∙ ap (λ date. property_block_text (dated_padding date)) (c.date_of.ensures (record_item c.args.item.now) c.requires ps is)
+    (c.in_ok-bytes.ensures ∙ ap (λ date. property_block_text (dated_padding date))
+    (c.date_of.ensures (record_item c.args.item.now) c.requires ps is)
     ∙ sym (ap property_block_text (padding_is ps)))

@@ -19,8 +19,12 @@ returns-in_ok-bytes-in-Some c = λ ps is.
 pub returns-else-has_props : goal.returns-else-has_props
 returns-else-has_props c = λ ps is.
     let r = record_item c.args.item.now in
-    let none = sym c.has_props.ensures ∙ c.if-has_props.false in
-    ([], no_block c.args.options.now c.args.kept.now r none c.args.item.now.stands.props_fit ps is, block_without r [] none)
+    let none = sym c.has_props.ensures ∙ c.if-has_props.false in (
+      [],
+      no_block c.args.options.now c.args.kept.now r none c.args.item.now.stands.props_fit ps is,
+      block_without r [] none,
+    )
 
 pub returns-in-None : goal.returns-in-None
-returns-in-None c = λ ps is. absurd (none_read (record_item c.args.item.now) c.args.props.now c.requires.read c.in-None.is ps is)
+returns-in-None c = λ ps is. absurd
+    (none_read (record_item c.args.item.now) c.args.props.now c.requires.read c.in-None.is ps is)

@@ -9,14 +9,16 @@ pub loop-entry-init : goal.loop-entry-init
 loop-entry-init c = (
   tt,
   tt,
-  none_rewritten c.args.options.now c.args.kept.now (props_bytes c.args.props.now) _ _ c.new-out.ensures.items c.entries-entries.ensures.lent,
+  none_rewritten c.args.options.now c.args.kept.now
+      (props_bytes c.args.props.now) _ _ c.new-out.ensures.items c.entries-entries.ensures.lent,
   subst HasLines (sym c.entries-entries.ensures.lent) c.requires,
 )
 
 pub push_rewritten-requires : goal.push_rewritten-requires
 push_rewritten-requires c =
     let (front, cut, one) = c.in-Some.ensures.steps in
-    entry_lines _ _ front (entry_property c.in-Some.entry) c.loop-entry.invariant.3 (untruncated _ c.loop-entry.entries.reads) cut one
+    entry_lines _ _ front (entry_property c.in-Some.entry) c.loop-entry.invariant.3
+    (untruncated _ c.loop-entry.entries.reads) cut one
 
 pub loop-entry-preserved : goal.loop-entry-preserved
 loop-entry-preserved c =
@@ -24,7 +26,8 @@ loop-entry-preserved c =
     let (new, is, pushed) = c.in_ok-push_rewritten.ensures in (
       tt,
       tt,
-      next_rewritten c.args.options.now c.args.kept.now _ _ _ _ _ (entry_property c.in-Some.entry) front c.loop-entry.invariant.2 cut one new is pushed,
+      next_rewritten c.args.options.now c.args.kept.now _ _ _ _ _
+          (entry_property c.in-Some.entry) front c.loop-entry.invariant.2 cut one new is pushed,
       left_lines _ _ front (entry_property c.in-Some.entry) c.loop-entry.invariant.3 cut one,
     )
 

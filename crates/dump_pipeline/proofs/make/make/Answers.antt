@@ -12,10 +12,12 @@ invariant_of-result g c =
     let none : Option E = None in
     let opened = c.in_ok-ports.ensures.opened in record {
       cutter = c.in_ok-ports.ensures.cutter ∙ sym (ap (λ (s : PoolState). new_cutter {J = J} s) opened);
-      working = c.in_ok-ports.ensures.workers ∙ sym (ap (λ (s : PoolState). map (new_worker {J = J} {D = E} s) (range_with_len 0 s.workers)) opened);
+      working = c.in_ok-ports.ensures.workers ∙ sym
+          (ap (λ (s : PoolState). map (new_worker {J = J} {D = E} s) (range_with_len 0 s.workers)) opened);
       sequencer = c.in_ok-ports.ensures.sequencer ∙ sym (ap (λ (s : PoolState). new_sequencer {D = E} s) opened);
       writer = c.in_ok-ports.ensures.writer ∙ sym (ap (λ (s : PoolState). new_writer s) opened);
-      places = c.in_ok-slots.ensures ∙ ap (λ (n : ℕ). replicate n none) (sym (ap (λ (s : PoolState). s.window) opened ∙ c.in_ok-pool.ensures.window));
+      places = c.in_ok-slots.ensures ∙ ap (λ (n : ℕ). replicate n none)
+          (sym (ap (λ (s : PoolState). s.window) opened ∙ c.in_ok-pool.ensures.window));
       lane = search rules;
       nothing_put = search rules;
       nothing_taken = search rules;

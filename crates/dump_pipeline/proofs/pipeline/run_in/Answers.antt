@@ -18,16 +18,20 @@ use Rattle.dump_pipeline.proofs.Joined.{nothing_written, threads_fail}
 use Rattle.dump_pipeline.proofs.pipeline.run_in.Goals as goal
 
 pub returns-in_default-clause-leaves : goal.returns-in_default-clause-leaves
-returns-in_default-clause-leaves g c = nothing_written g.D.Run.settings g.D.Run.dump (g.S.Sink.taken c.args.held.sink.now) failures.Threads
+returns-in_default-clause-leaves g c = nothing_written g.D.Run.settings g.D.Run.dump
+    (g.S.Sink.taken c.args.held.sink.now) failures.Threads
 
 pub start_workers-requires-clause-open : goal.start_workers-requires-clause-open
-start_workers-requires-clause-open g c κs within = none_closed (pool_state c.args.ends.pool) c.args.ends.ports.workers.items c.args.ends.working
+start_workers-requires-clause-open g c κs within = none_closed
+    (pool_state c.args.ends.pool) c.args.ends.ports.workers.items c.args.ends.working
 
 pub start_workers-requires-clause-untaken : goal.start_workers-requires-clause-untaken
-start_workers-requires-clause-untaken g c κs within = none_taken (pool_state c.args.ends.pool) c.args.ends.ports.workers.items c.args.ends.working
+start_workers-requires-clause-untaken g c κs within = none_taken
+    (pool_state c.args.ends.pool) c.args.ends.ports.workers.items c.args.ends.working
 
 pub start_workers-requires-clause-ungiven : goal.start_workers-requires-clause-ungiven
-start_workers-requires-clause-ungiven g c κs within = none_given (pool_state c.args.ends.pool) c.args.ends.ports.workers.items c.args.ends.working
+start_workers-requires-clause-ungiven g c κs within = none_given
+    (pool_state c.args.ends.pool) c.args.ends.ports.workers.items c.args.ends.working
 
 pub start_workers-requires-clause-room : goal.start_workers-requires-clause-room
 start_workers-requires-clause-room g c κs within =
@@ -37,11 +41,13 @@ start_workers-requires-clause-room g c κs within =
 
 pub returns-in_default-start_workers-clause-leaves :
     goal.returns-in_default-start_workers-clause-leaves
-returns-in_default-start_workers-clause-leaves g c = nothing_written g.D.Run.settings g.D.Run.dump (g.S.Sink.taken c.args.held.sink.now) failures.Threads
+returns-in_default-start_workers-clause-leaves g c = nothing_written g.D.Run.settings g.D.Run.dump
+    (g.S.Sink.taken c.args.held.sink.now) failures.Threads
 
 pub returns-in_default-start_cutter-clause-leaves :
     goal.returns-in_default-start_cutter-clause-leaves
-returns-in_default-start_cutter-clause-leaves g c = nothing_written g.D.Run.settings g.D.Run.dump (g.S.Sink.taken c.args.held.sink.now) failures.Threads
+returns-in_default-start_cutter-clause-leaves g c = nothing_written g.D.Run.settings g.D.Run.dump
+    (g.S.Sink.taken c.args.held.sink.now) failures.Threads
 
 pub join_threads-joined-requires-clause-room : goal.join_threads-joined-requires-clause-room
 join_threads-joined-requires-clause-room g c =
@@ -51,7 +57,8 @@ join_threads-joined-requires-clause-room g c =
     let ports : List (WorkerPort J E) = c.args.ends.ports.workers.items in
     let long : length started ≡ length ports =
     sym (length_of_map (λ w. (worker_port w.promise.port.value).index) started)
-    ∙ (ap (λ (l : List ℕ). length l) c.in-Some-start_workers.ensures.index ∙ length_of_map (λ (p : WorkerPort J E). (worker_port p).index) ports) in
+    ∙ (ap (λ (l : List ℕ). length l) c.in-Some-start_workers.ensures.index
+    ∙ length_of_map (λ (p : WorkerPort J E). (worker_port p).index) ports) in
     let count = workers_count (pool_state c.args.ends.pool) ports c.args.ends.working in
     let room = c.args.ends.room_at_end in
     (room.0, let most = room.1 in omega arith)
@@ -62,15 +69,24 @@ conclude-answer-requires-clause-workers g c =
     let E : Type 0 = Checked g.row.D.Denot g.D.Run in
     let ports : List (WorkerPort J E) = c.args.ends.ports.workers.items in
     let new : List (WorkerPort J E) = c.join_threads-joined.result.workers.items in
-    let at : AreWorkersOf (job_port c.args.ends.ports.cutter).pool (job_port c.args.ends.ports.cutter).workers (map (λ (p : WorkerPort J E). worker_port p) ports) =
-    fresh_workers (pool_state c.args.ends.pool) (job_port c.args.ends.ports.cutter) (map (λ (p : WorkerPort J E). worker_port p) ports) c.args.ends.cutter c.args.ends.working in
-    let all : AreWorkersOf (job_port c.args.ends.ports.cutter).pool (job_port c.args.ends.ports.cutter).workers (map (λ (p : WorkerPort J E). worker_port p) new) =
+    let at : AreWorkersOf (job_port c.args.ends.ports.cutter).pool (job_port c.args.ends.ports.cutter).workers
+    (map (λ (p : WorkerPort J E). worker_port p) ports) =
+    fresh_workers (pool_state c.args.ends.pool) (job_port c.args.ends.ports.cutter)
+    (map (λ (p : WorkerPort J E). worker_port p) ports) c.args.ends.cutter c.args.ends.working in
+    let all : AreWorkersOf (job_port c.args.ends.ports.cutter).pool (job_port c.args.ends.ports.cutter).workers
+    (map (λ (p : WorkerPort J E). worker_port p) new) =
     same_ports (job_port c.args.ends.ports.cutter).pool (job_port c.args.ends.ports.cutter).workers ports new
-    (c.join_threads-joined.ensures.worker_pools ∙ c.in-Some-start_workers.ensures.pool) (c.join_threads-joined.ensures.worker_indices ∙ c.in-Some-start_workers.ensures.index) at in
+    (c.join_threads-joined.ensures.worker_pools ∙ c.in-Some-start_workers.ensures.pool)
+    (c.join_threads-joined.ensures.worker_indices ∙ c.in-Some-start_workers.ensures.index) at in
     let same : c.in-Some-start_cutter.cutter.promise.port.value ≡ c.args.ends.ports.cutter = c.in-Some-start_cutter.ensures.port ∙ c.in-Some-start_workers.ensures.cutter in
-    let same_pool : (job_port c.join_threads-joined.result.cutter.port).pool ≡ (job_port c.args.ends.ports.cutter).pool = c.join_threads-joined.ensures.cutter.0 ∙ ap (λ (p : JobPort J E). (job_port p).pool) same in
-    let same_workers : (job_port c.join_threads-joined.result.cutter.port).workers ≡ (job_port c.args.ends.ports.cutter).workers = c.join_threads-joined.ensures.cutter.1 ∙ ap (λ (p : JobPort J E). (job_port p).workers) same in
-    subst (λ (x : PoolName × ℕ). AreWorkersOf x.0 x.1 (map (λ (p : WorkerPort J E). worker_port p) new)) (λ i. (sym same_pool i, sym same_workers i)) all
+    let same_pool : (job_port c.join_threads-joined.result.cutter.port).pool ≡
+    (job_port c.args.ends.ports.cutter).pool = c.join_threads-joined.ensures.cutter.0
+    ∙ ap (λ (p : JobPort J E). (job_port p).pool) same in
+    let same_workers : (job_port c.join_threads-joined.result.cutter.port).workers ≡
+    (job_port c.args.ends.ports.cutter).workers = c.join_threads-joined.ensures.cutter.1
+    ∙ ap (λ (p : JobPort J E). (job_port p).workers) same in
+    subst (λ (x : PoolName × ℕ). AreWorkersOf x.0 x.1 (map (λ (p : WorkerPort J E). worker_port p) new))
+    (λ i. (sym same_pool i, sym same_workers i)) all
 
 pub conclude-answer-requires-clause-sequenced : goal.conclude-answer-requires-clause-sequenced
 conclude-answer-requires-clause-sequenced g c =
@@ -80,11 +96,13 @@ conclude-answer-requires-clause-sequenced g c =
     let joined = c.join_threads-joined.result in
     let wide : length (slot_places c.in-Some.sequencer.promise.slots.value) ≡ (pool_state c.args.ends.pool).window =
     ap (λ (s : Slots E). length (slot_places s)) c.in-Some.ensures.slots
-    ∙ (ap (λ (l : List (Option E)). length l) c.args.ends.places ∙ length-replicate (pool_state c.args.ends.pool).window none) in
+    ∙ (ap (λ (l : List (Option E)). length l) c.args.ends.places
+    ∙ length-replicate (pool_state c.args.ends.pool).window none) in
     let window : (credit_port joined.writer).window ≡ (pool_state c.args.ends.pool).window =
     ap (λ (p : CreditPort J E). (credit_port p).window) c.join_threads-joined.ensures.writer.0
     ∙ (c.write-written.ensures.window ∙ ap (λ (x : WriterSide). x.window) c.args.ends.writer) in
-    subst (λ (w : ℕ). HasSequenced g.D.Run.settings g.D.Run.dump w (done_port joined.sequencer).taken (sent joined.put.value).put joined.end joined.stray)
+    subst (λ (w : ℕ). HasSequenced g.D.Run.settings g.D.Run.dump w (done_port joined.sequencer).taken
+    (sent joined.put.value).put joined.end joined.stray)
     (wide ∙ sym window) c.join_threads-joined.ensures.sequencer.3
 
 pub returns-clause-threads : goal.returns-clause-threads

@@ -4,7 +4,8 @@ use Rattle.dump_pipeline.proofs.plain.run_plain.Given as goal
 
 abbrev pub invariant-loop-record : goal.invariant-loop-record
 invariant-loop-record g l = record {
-  progress : Progress l.options l.dump l.cutter l.filter (g.S.Sink.taken l.initial.sink) (g.S.Sink.taken l.sink) l.written;
+  progress : Progress l.options l.dump l.cutter l.filter (g.S.Sink.taken l.initial.sink)
+      (g.S.Sink.taken l.sink) l.written;
   failures : g.S.Sink.failure_count l.sink ≡ g.S.Sink.failure_count l.initial.sink;
   through : g.S.Sink.through l.sink ≡ g.S.Sink.through l.initial.sink;
 }

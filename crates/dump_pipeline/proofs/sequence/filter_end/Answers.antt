@@ -5,7 +5,8 @@ use Rattle.dump_pipeline.proofs.sequence.filter_end.Goals as goal
 pub returns-in-Some : goal.returns-in-Some
 returns-in-Some g c = record {
   text = λ text h.
-      ended_with_nothing g.D.Run.settings g.D.Run.dump (ends.Fault c.in-Some.kind c.args.number c.in-Some.place) text c.new.result c.new.ensures
+      ended_with_nothing g.D.Run.settings g.D.Run.dump
+      (ends.Fault c.in-Some.kind c.args.number c.in-Some.place) text c.new.result c.new.ensures
       (last_fault g.D.Run.settings g.D.Run.dump c.args.filter c.args.number c.in-Some.place text c.in-Some.kind c.args.last c.in-Some.is c.requires.ends h);
 }
 

@@ -13,8 +13,10 @@ pub returns-in-Ok : goal.returns-in-Ok
 returns-in-Ok g c =
     let r : Record = done_record c.args.done in record {
       text = λ text h.
-          subst (λ (f : FilterState). HasFiltered g.D.Run.settings g.D.Run.dump f (record_number r + 1) (text ++ c.in-Ok.piece)) (sym c.in-Ok.ensures.accepted)
-          (steps g.D.Run.settings g.D.Run.dump c.args.filter (record_number r) text c.in-Ok.piece r h c.requires.dump refl
+          subst (λ (f : FilterState). HasFiltered g.D.Run.settings g.D.Run.dump f (record_number r + 1)
+          (text ++ c.in-Ok.piece)) (sym c.in-Ok.ensures.accepted)
+          (steps g.D.Run.settings g.D.Run.dump c.args.filter
+          (record_number r) text c.in-Ok.piece r h c.requires.dump refl
           (record_is g.D.Run.dump r c.requires.dump) c.in-Ok.ensures.piece);
     }
 
@@ -22,9 +24,12 @@ pub returns-in-Err-Rule : goal.returns-in-Err-Rule
 returns-in-Err-Rule g c =
     let kind = c.in-Err-Rule.kind in record {
       text = λ text h.
-          subst (λ (k : FaultKind). IsEndOf g.D.Run.settings g.D.Run.dump (ends.Fault k c.number.result c.place.result) (text ++ c.new.result)) (sym c.in-Err-Rule.kind-is)
-          (ended_with_nothing g.D.Run.settings g.D.Run.dump (ends.Fault kind c.number.result c.place.result) text c.new.result c.new.ensures
-          (record_fault g.D.Run.settings g.D.Run.dump c.args.filter c.number.result c.place.result text (done_record c.args.done) c.item-record.result kind
+          subst (λ (k : FaultKind). IsEndOf g.D.Run.settings g.D.Run.dump (ends.Fault k c.number.result c.place.result)
+          (text ++ c.new.result)) (sym c.in-Err-Rule.kind-is)
+          (ended_with_nothing g.D.Run.settings g.D.Run.dump
+          (ends.Fault kind c.number.result c.place.result) text c.new.result c.new.ensures
+          (record_fault g.D.Run.settings g.D.Run.dump c.args.filter c.number.result c.place.result text
+          (done_record c.args.done) c.item-record.result kind
           c.requires.dump c.item-record.ensures c.number.ensures c.place.ensures
           ((c.step.ensures.rule kind).0 (c.in-Err-Rule.is ∙ ap Err c.in-Err-Rule.field-0-is)).1 h));
     }

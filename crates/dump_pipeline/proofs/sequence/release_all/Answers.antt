@@ -19,18 +19,23 @@ loop-init g c = record {
   pool = refl;
   lane = refl;
   seat = search rules;
-  text = begins_with g.D.Run.settings c.args.options.now g.D.Run.dump c.new.result (sending c.args.to.now).put c.requires.options c.new.ensures c.requires.nothing_put;
+  text = begins_with g.D.Run.settings c.args.options.now g.D.Run.dump c.new.result
+      (sending c.args.to.now).put c.requires.options c.new.ensures c.requires.nothing_put;
   numbered = numbers_at_first (sending c.args.to.now).put c.requires.nothing_put;
   count = ap (λ (l : List NumberedPiece). length l) c.requires.nothing_put;
-  row = row_first (done_port c.args.port.now).taken (slot_places c.args.slots.now) c.requires.nothing_taken c.requires.empty;
+  row = row_first (done_port c.args.port.now).taken
+      (slot_places c.args.slots.now) c.requires.nothing_taken c.requires.empty;
 }
 
 pub returns-then-number-next-clause-sequenced : goal.returns-then-number-next-clause-sequenced
 returns-then-number-next-clause-sequenced g c =
-    sequenced_so g.D.Run.settings g.D.Run.dump (length (slot_places c.args.slots.now)) c.loop.next (done_port c.loop.port).taken (sending c.loop.to).put c.end.result true
-    (ended_so g.D.Run.settings g.D.Run.dump c.loop.stage c.end.result c.loop.next (text_of (sending c.loop.to).put) c.end.ensures c.loop.invariant.text)
+    sequenced_so g.D.Run.settings g.D.Run.dump (length (slot_places c.args.slots.now)) c.loop.next
+    (done_port c.loop.port).taken (sending c.loop.to).put c.end.result true
+    (ended_so g.D.Run.settings g.D.Run.dump c.loop.stage c.end.result c.loop.next
+    (text_of (sending c.loop.to).put) c.end.ensures c.loop.invariant.text)
     c.loop.invariant.numbered c.loop.invariant.count
-    (lifted_wrong (length (slot_places c.args.slots.now)) c.loop.next (checked_numbers (done_port c.loop.port).taken) (slot_places c.loop.slots) c.lift.result c.in-Some-lift.checked
+    (lifted_wrong (length (slot_places c.args.slots.now)) c.loop.next (checked_numbers (done_port c.loop.port).taken)
+    (slot_places c.loop.slots) c.lift.result c.in-Some-lift.checked
     c.loop.slots.some_places c.loop.invariant.row c.lift.ensures.value c.in-Some-lift.is c.if-number-next.true)
 
 pub loop-preserved-in-Some-lift : goal.loop-preserved-in-Some-lift
@@ -41,13 +46,18 @@ loop-preserved-in-Some-lift g c =
       pool = c.loop.invariant.pool;
       lane = ap (λ (x : Sending NumberedPiece). x.lane) c.release.ensures ∙ c.loop.invariant.lane;
       seat = search rules;
-      text = text_released g.D.Run.settings g.D.Run.dump c.step-behind.result.0 c.loop.next checked.number (sending c.loop.to) (sending c.release.new.to) piece c.release.ensures
+      text = text_released g.D.Run.settings g.D.Run.dump c.step-behind.result.0 c.loop.next checked.number
+          (sending c.loop.to) (sending c.release.new.to) piece c.release.ensures
           c.if-number-next.false
           (c.step-behind.ensures.text (text_of (sending c.loop.to).put)
-          (subst (λ (n : ℕ). HasReleased g.D.Run.settings g.D.Run.dump c.loop.stage n (text_of (sending c.loop.to).put)) (sym c.if-number-next.false) c.loop.invariant.text));
-      numbered = numbers_released c.loop.next (sending c.loop.to) (sending c.release.new.to) piece c.release.ensures c.if-number-next.false c.loop.invariant.numbered;
-      count = count_released c.loop.next (sending c.loop.to) (sending c.release.new.to) piece c.release.ensures c.loop.invariant.count;
-      row = row_lifted (length (slot_places c.args.slots.now)) c.loop.next (checked_numbers (done_port c.loop.port).taken) (slot_places c.loop.slots) (slot_places c.lift.new.self)
+          (subst (λ (n : ℕ). HasReleased g.D.Run.settings g.D.Run.dump c.loop.stage n (text_of (sending c.loop.to).put))
+          (sym c.if-number-next.false) c.loop.invariant.text));
+      numbered = numbers_released c.loop.next (sending c.loop.to)
+          (sending c.release.new.to) piece c.release.ensures c.if-number-next.false c.loop.invariant.numbered;
+      count = count_released c.loop.next (sending c.loop.to)
+          (sending c.release.new.to) piece c.release.ensures c.loop.invariant.count;
+      row = row_lifted (length (slot_places c.args.slots.now)) c.loop.next
+          (checked_numbers (done_port c.loop.port).taken) (slot_places c.loop.slots) (slot_places c.lift.new.self)
           c.lift.result checked c.loop.slots.some_places c.loop.invariant.row c.lift.ensures.value c.in-Some-lift.is c.if-number-next.false c.lift.ensures.emptied;
     }
 
@@ -62,9 +72,11 @@ loop-preserved g c =
       text = c.loop.invariant.text;
       numbered = c.loop.invariant.numbered;
       count = c.loop.invariant.count;
-      row = row_placed w c.loop.next (done_port c.loop.port).taken (done_port c.take.new.self).taken (slot_places c.lift.new.self) (slot_places c.place.new.self) c.in-Some-take.checked
+      row = row_placed w c.loop.next (done_port c.loop.port).taken (done_port c.take.new.self).taken
+          (slot_places c.lift.new.self) (slot_places c.place.new.self) c.in-Some-take.checked
           c.lift.new.self.some_places
-          (row_unlifted w c.loop.next (checked_numbers (done_port c.loop.port).taken) (slot_places c.loop.slots) (slot_places c.lift.new.self) c.lift.result c.loop.invariant.row
+          (row_unlifted w c.loop.next (checked_numbers (done_port c.loop.port).taken) (slot_places c.loop.slots)
+          (slot_places c.lift.new.self) c.lift.result c.loop.invariant.row
           c.lift.ensures.value c.in-None-lift.is c.lift.ensures.emptied)
           (ap (λ (x : SequencerSide (Checked g.row.D.Denot g.D.Run)). x.taken) took)
           (c.in-Ok.ensures.free.0 refl) c.in-Ok.ensures.placed;
@@ -74,12 +86,16 @@ pub returns-in-Err-clause-sequenced : goal.returns-in-Err-clause-sequenced
 returns-in-Err-clause-sequenced g c =
     let w : ℕ = length (slot_places c.args.slots.now) in
     let took = c.in-Some-take.ensures.1 in
-    sequenced_so g.D.Run.settings g.D.Run.dump w c.loop.next (done_port c.take.new.self).taken (sending c.loop.to).put c.end-in-Err.result true
-    (ended_so g.D.Run.settings g.D.Run.dump c.loop.stage c.end-in-Err.result c.loop.next (text_of (sending c.loop.to).put) c.end-in-Err.ensures c.loop.invariant.text)
+    sequenced_so g.D.Run.settings g.D.Run.dump w c.loop.next (done_port c.take.new.self).taken
+    (sending c.loop.to).put c.end-in-Err.result true
+    (ended_so g.D.Run.settings g.D.Run.dump c.loop.stage c.end-in-Err.result c.loop.next
+    (text_of (sending c.loop.to).put) c.end-in-Err.ensures c.loop.invariant.text)
     c.loop.invariant.numbered c.loop.invariant.count
-    (place_clash w c.loop.next (done_port c.loop.port).taken (done_port c.take.new.self).taken (slot_places c.lift.new.self) c.in-Some-take.checked
+    (place_clash w c.loop.next (done_port c.loop.port).taken (done_port c.take.new.self).taken
+    (slot_places c.lift.new.self) c.in-Some-take.checked
     c.lift.new.self.some_places
-    (row_unlifted w c.loop.next (checked_numbers (done_port c.loop.port).taken) (slot_places c.loop.slots) (slot_places c.lift.new.self) c.lift.result c.loop.invariant.row
+    (row_unlifted w c.loop.next (checked_numbers (done_port c.loop.port).taken) (slot_places c.loop.slots)
+    (slot_places c.lift.new.self) c.lift.result c.loop.invariant.row
     c.lift.ensures.value c.in-None-lift.is c.lift.ensures.emptied)
     (ap (λ (x : SequencerSide (Checked g.row.D.Denot g.D.Run)). x.taken) took)
     (λ h. false≢true (c.in-Err.ensures.free.1 h)))
@@ -87,9 +103,13 @@ returns-in-Err-clause-sequenced g c =
 pub returns-in-None-take-clause-sequenced : goal.returns-in-None-take-clause-sequenced
 returns-in-None-take-clause-sequenced g c =
     let w : ℕ = length (slot_places c.args.slots.now) in
-    let same : (done_port c.take.new.self).taken ≡ (done_port c.loop.port).taken = ap (λ (x : SequencerSide (Checked g.row.D.Denot g.D.Run)). x.taken) c.in-None-take.ensures in
-    sequenced_so g.D.Run.settings g.D.Run.dump w c.loop.next (done_port c.take.new.self).taken (sending c.loop.to).put c.end-in-None-take.result false
-    (ended_so g.D.Run.settings g.D.Run.dump c.loop.stage c.end-in-None-take.result c.loop.next (text_of (sending c.loop.to).put) c.end-in-None-take.ensures c.loop.invariant.text)
+    let same : (done_port c.take.new.self).taken ≡ (done_port c.loop.port).taken = ap
+    (λ (x : SequencerSide (Checked g.row.D.Denot g.D.Run)). x.taken) c.in-None-take.ensures in
+    sequenced_so g.D.Run.settings g.D.Run.dump w c.loop.next (done_port c.take.new.self).taken
+    (sending c.loop.to).put c.end-in-None-take.result false
+    (ended_so g.D.Run.settings g.D.Run.dump c.loop.stage c.end-in-None-take.result c.loop.next
+    (text_of (sending c.loop.to).put) c.end-in-None-take.ensures c.loop.invariant.text)
     c.loop.invariant.numbered c.loop.invariant.count
     (subst (λ (l : List (Checked g.row.D.Denot g.D.Run)). IsWaiting c.loop.next (checked_numbers l)) (sym same)
-    (none_lifted w c.loop.next (checked_numbers (done_port c.loop.port).taken) (slot_places c.loop.slots) c.lift.result c.loop.invariant.row c.lift.ensures.value c.in-None-lift.is))
+    (none_lifted w c.loop.next (checked_numbers (done_port c.loop.port).taken)
+    (slot_places c.loop.slots) c.lift.result c.loop.invariant.row c.lift.ensures.value c.in-None-lift.is))

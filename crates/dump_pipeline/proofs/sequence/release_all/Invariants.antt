@@ -15,5 +15,6 @@ invariant-loop g l = record {
   text : HasReleased g.D.Run.settings g.D.Run.dump l.stage l.next (text_of (sending l.to).put);
   numbered : piece_numbers (sending l.to).put ≡ first_numbers l.next;
   count : length (sending l.to).put ≡ l.next;
-  row : Row checked_number (length (slot_places l.initial.slots)) l.next (checked_numbers (done_port l.port).taken) (slot_places l.slots);
+  row : Row checked_number (length (slot_places l.initial.slots)) l.next (checked_numbers (done_port l.port).taken)
+      (slot_places l.slots);
 }

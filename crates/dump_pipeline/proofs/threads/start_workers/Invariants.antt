@@ -7,6 +7,7 @@ abbrev pub invariant-loop-port : goal.invariant-loop-port
 invariant-loop-port g l =
     ForSome l.waiting (λ p. (p ≡ l.fn.cutter)
     × (map (λ s. (worker_port s.promise.port.value).pool) l.workers.items ≡ map (λ p. (worker_port p).pool) l.yielded)
-    × (map (λ s. (worker_port s.promise.port.value).index) l.workers.items ≡ map (λ p. (worker_port p).index) l.yielded))
+    × (map (λ s. (worker_port s.promise.port.value).index) l.workers.items ≡ map
+    (λ p. (worker_port p).index) l.yielded))
     × (vec_len l.workers ≤ length l.yielded)
     × (length l.fn.ports.items ≤ vec_capacity l.workers)

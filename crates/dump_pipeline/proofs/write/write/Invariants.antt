@@ -12,7 +12,8 @@ invariant-loop g l = record {
   back : (credit_port l.port).back ≡ length (receiving l.from).taken;
   lane : (receiving l.from).lane ≡ (receiving l.initial.from).lane;
   seat : l.seat ≡ record l.initial.seat { raised = l.failed };
-  text : HasReceived l.failed (text_of (receiving l.from).taken) (g.S.Sink.taken l.initial.sink) (g.S.Sink.taken l.sink) l.count;
+  text : HasReceived l.failed (text_of (receiving l.from).taken) (g.S.Sink.taken l.initial.sink)
+      (g.S.Sink.taken l.sink) l.count;
   failures : CountsFailed l.failed (g.S.Sink.failure_count l.initial.sink) (g.S.Sink.failure_count l.sink);
   through : g.S.Sink.through l.sink ≡ g.S.Sink.through l.initial.sink;
 }

@@ -9,7 +9,8 @@ use Rattle.dump_rules.proofs.blocks.part_contradicts_some.Goals as goal
 pub returns-in-None : goal.returns-in-None
 returns-in-None c =
     let none : range_of c.args.part.now ≡ None = sym c.range.ensures ∙ ap (option_map span_range) c.in-None.is in
-    sym (ap (block_contradicts c.args.inheritable c.args.block.now) none ∙ none_contradicts c.args.inheritable c.args.block.now)
+    sym (ap (block_contradicts c.args.inheritable c.args.block.now) none
+    ∙ none_contradicts c.args.inheritable c.args.block.now)
 
 pub returns-then-inheritable-other : goal.returns-then-inheritable-other
 returns-then-inheritable-other c =

@@ -8,7 +8,8 @@ returns-in_default-raised_by c =
     let here = c.in-Some.is in
     let read = c.raised_by.ensures in
     let none = c.in_default-raised_by.is in
-    sym (c.loop-comma.invariant ∙ climb_none c.loop-comma.tops c.loop-comma.rest.now c.in-Some.comma (sym at ∙ here) (sym read ∙ none))
+    sym (c.loop-comma.invariant ∙ climb_none c.loop-comma.tops c.loop-comma.rest.now c.in-Some.comma (sym at ∙ here)
+    (sym read ∙ none))
 
 pub loop-comma-preserved : goal.loop-comma-preserved
 loop-comma-preserved c =
@@ -16,10 +17,12 @@ loop-comma-preserved c =
     let here = c.in-Some.is in
     let read = c.raised_by.ensures in
     let some = c.in-Some-raised_by.is in
-    c.loop-comma.invariant ∙ climb_some c.loop-comma.tops c.loop-comma.rest.now c.in-Some.comma c.in-Some-raised_by.next (sym at ∙ here) (sym read ∙ some)
+    c.loop-comma.invariant ∙ climb_some c.loop-comma.tops c.loop-comma.rest.now c.in-Some.comma c.in-Some-raised_by.next
+    (sym at ∙ here) (sym read ∙ some)
 
 pub returns : goal.returns
 returns c =
     let at = c.find.ensures in
     let none = c.in_default.is in
-    c.raised_by-2.ensures ∙ sym (c.loop-comma.invariant ∙ climb_last c.loop-comma.tops c.loop-comma.rest.now (sym at ∙ none))
+    c.raised_by-2.ensures ∙ sym (c.loop-comma.invariant ∙ climb_last c.loop-comma.tops c.loop-comma.rest.now
+    (sym at ∙ none))

@@ -17,6 +17,7 @@ returns c =
     let has = has_lines c.args.value.now c.requires.reads in
     IfOk-weaker c.new_text.result _ _
     (λ v is. subst (IsNewMergeinfo c.args.options.now c.args.reach.now c.args.value.now)
-    (sym (is ∙ ap (λ (t : List ℕ). with_new_lines c.args.options.now c.args.reach.now [] (text_lines t)) c.cut_lf.ensures))
+    (sym (is ∙ ap (λ (t : List ℕ). with_new_lines c.args.options.now c.args.reach.now []
+    (text_lines t)) c.cut_lf.ensures))
     (new_value c.args.options.now c.args.reach.now c.rises.ensures c.args.value.now has.0 has.1))
     c.new_text.ensures

@@ -17,5 +17,6 @@ returns c =
     let at = c.find.ensures in
     let none = c.in_default.is in
     c.in_ok-push_new-2.ensures
-    ∙ ap (λ (l : List Range). map span_range c.loop-comma.spans.items ++ l) (sym (parts_last c.args.renumber c.args.reach.now c.loop-comma.rest.now (sym at ∙ none)))
+    ∙ ap (λ (l : List Range). map span_range c.loop-comma.spans.items ++ l)
+    (sym (parts_last c.args.renumber c.args.reach.now c.loop-comma.rest.now (sym at ∙ none)))
     ∙ sym c.loop-comma.invariant

@@ -17,7 +17,9 @@ loop-left-preserved c =
       size = length-set _ _ _ ∙ i.size;
       small = rw back (tenth _ _ i.small some);
       bound = omega arith;
-      spelled = rw back (spelled_more c.args.n c.loop-left.left c.loop-left.start c.loop-left.bytes c.loop-left-test.true i.bound (omega arith) i.spelled);
+      spelled = rw back
+          (spelled_more c.args.n c.loop-left.left c.loop-left.start c.loop-left.bytes c.loop-left-test.true i.bound
+          (omega arith) i.spelled);
     }
 
 pub returns : goal.returns

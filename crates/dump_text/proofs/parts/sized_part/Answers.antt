@@ -9,7 +9,8 @@ returns-in_default-number c =
 
 pub returns-then-size-behind : goal.returns-then-size-behind
 returns-then-size-behind c = λ has.
-    let room = sized_room _ _ _ _ _ _ c.in-Some.ensures c.in-Some-first_line.ensures (sym c.in-Some-number.ensures.value) has in
+    let room = sized_room _ _ _ _ _ _ c.in-Some.ensures c.in-Some-first_line.ensures
+    (sym c.in-Some-number.ensures.value) has in
     let below = room.0 in
     let lf = room.1 in
     elim c.then-size-behind.branch [

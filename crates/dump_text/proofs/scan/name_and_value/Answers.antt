@@ -6,7 +6,8 @@ use Rattle.dump_text.proofs.scan.name_and_value.Goals as goal
 use Rattle.dump_text.proofs.scan.name_and_value.Goals.{then-colon-eq0-via-then-colon-eq0, then-colon-eq0-via-else-colon-eq0+then-whole-colon-lt2, then-colon-eq0-via-else-colon-eq0+else-whole-colon-lt2+then-whole-colon-ne32}
 
 pub returns-in_default : goal.returns-in_default
-returns-in_default c = λ h good is. clash 58 _ _ _ (no_place 58 c.args.whole.now c.in_default.ensures) (is ∙ header_text-is h)
+returns-in_default c = λ h good is. clash 58 _ _ _ (no_place 58 c.args.whole.now c.in_default.ensures)
+    (is ∙ header_text-is h)
 
 pub returns-then-colon-eq0 : goal.returns-then-colon-eq0
 returns-then-colon-eq0 c = λ h good is.

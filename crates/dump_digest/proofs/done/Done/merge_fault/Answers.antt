@@ -15,7 +15,8 @@ returns-then-has_foreign_number c kept ps block =
     let said = judged.said kept ps block c.in-Some.mergeinfo c.in-Some.is in
     let ok = sym (judged.read kept) ∙ ap is_some c.in-Some.is in
     let none = sym said.sources ∙ sym c.misses_source.ensures ∙ c.if-misses_source.false in
-    let foreign = sym (said.numbers c.args.first c.args.present) ∙ sym c.has_foreign_number.ensures ∙ c.if-has_foreign_number.true in
+    let foreign = sym (said.numbers c.args.first c.args.present) ∙ sym c.has_foreign_number.ensures
+    ∙ c.if-has_foreign_number.true in
     rw (ok, none, foreign) refl
 
 pub returns-else-has_foreign_number : goal.returns-else-has_foreign_number
@@ -24,5 +25,6 @@ returns-else-has_foreign_number c kept ps block =
     let said = judged.said kept ps block c.in-Some.mergeinfo c.in-Some.is in
     let ok = sym (judged.read kept) ∙ ap is_some c.in-Some.is in
     let none = sym said.sources ∙ sym c.misses_source.ensures ∙ c.if-misses_source.false in
-    let foreign = sym (said.numbers c.args.first c.args.present) ∙ sym c.has_foreign_number.ensures ∙ c.if-has_foreign_number.false in
+    let foreign = sym (said.numbers c.args.first c.args.present) ∙ sym c.has_foreign_number.ensures
+    ∙ c.if-has_foreign_number.false in
     rw (ok, none, foreign) refl

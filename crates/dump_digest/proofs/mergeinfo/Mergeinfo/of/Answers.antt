@@ -12,8 +12,15 @@ use Rattle.dump_digest.proofs.SaidLemmas.{entry_value, IsSaidUpTo, said_at_first
 use Rattle.dump_digest.proofs.mergeinfo.Mergeinfo.of.Goals as goal
 
 pub loop-entry-init : goal.loop-entry-init
-loop-entry-init c =
-    (tt, tt, λ ps is. (ps, c.entries-entries.ensures.properties ps is, said_at_first c.args.options.now ps c.new-said.result c.new-said.ensures))
+loop-entry-init c = (
+  tt,
+  tt,
+  λ ps is. (
+    ps,
+    c.entries-entries.ensures.properties ps is,
+    said_at_first c.args.options.now ps c.new-said.result c.new-said.ensures,
+  ),
+)
 
 pub returns-in_err-said : goal.returns-in_err-said
 returns-in_err-said c = λ ps is.

@@ -14,6 +14,7 @@ returns-clause-piece c =
       own,
       pushed,
       c.in_ok-piece.ensures.piece,
-      subst (λ (k : KeptRevisions). IsOwnNode c.args.options.now k (record_item (done_record c.args.done.now)) c.args.copy own) kept
+      subst (λ (k : KeptRevisions). IsOwnNode c.args.options.now k
+          (record_item (done_record c.args.done.now)) c.args.copy own) kept
           is,
     )

@@ -14,7 +14,8 @@ absorb-requires-clause-rule g c = merges _ _ _ _ c.args.other.puts.may_put c.arg
 
 pub learn_as-requires-clause-rule : goal.learn_as-requires-clause-rule
 learn_as-requires-clause-rule g c =
-    let joined = c.absorb.ensures.rule in totals _ _ (ap (λ (l : Log g.row.T.Denot). l.puts) joined) (ap (λ (l : Log g.row.T.Denot). l.takes) joined)
+    let joined = c.absorb.ensures.rule in totals _ _ (ap (λ (l : Log g.row.T.Denot). l.puts) joined)
+    (ap (λ (l : Log g.row.T.Denot). l.takes) joined)
 
 pub returns : goal.returns
 returns g c =
@@ -23,11 +24,14 @@ returns g c =
     let joined = c.absorb.ensures.rule in
     let put = (view c.args.other.pass).put in
     let taken = (view c.args.self.pass).taken in
-    let both : put ≡ taken ++ left = ap (λ (l : Log g.row.T.Denot). l.put) (sym joined) ∙ (c.learn_as.ensures.rule.1.0 ∙ ap (λ (l : Log g.row.T.Denot). l.taken ++ left) joined) in
+    let both : put ≡ taken ++ left = ap (λ (l : Log g.row.T.Denot). l.put) (sym joined)
+    ∙ (c.learn_as.ensures.rule.1.0 ∙ ap (λ (l : Log g.row.T.Denot). l.taken ++ left) joined) in
     record {
       in_order = (items_of left, is_prefix put taken left both);
-      whole = whole_at_end put taken left (is_ok c.args.other.marked) c.args.self.told c.args.other.puts.marks c.args.self.takes.marks both;
-      told = marked_at_end put taken left (is_ok c.args.other.marked) c.args.self.told c.args.other.puts.marks c.args.self.takes.marks both;
+      whole = whole_at_end put taken left
+          (is_ok c.args.other.marked) c.args.self.told c.args.other.puts.marks c.args.self.takes.marks both;
+      told = marked_at_end put taken left
+          (is_ok c.args.other.marked) c.args.self.told c.args.other.puts.marks c.args.self.takes.marks both;
       steps = record {
         happened = k.happened;
         left = items_of left;

@@ -29,16 +29,25 @@ invariant_of-self-in-Ok-End g c =
 pub returns-in-Ok-Item : goal.returns-in-Ok-Item
 returns-in-Ok-Item g c =
     let step = rw c.in-Ok-Item.field-0-is at c.in-Ok-Item.ensures in
-    let more = take_item _ _ c.in-Ok-Item.item step.taken in
-    (ap told c.in-MayCome.is, same_receiving (receives_on c.args.self.now.receiver) c.receive.new.pass c.args.self.now.pass c.args.self.now.told _ c.receive.ensures.seated c.args.self.now.seated more)
+    let more = take_item _ _ c.in-Ok-Item.item step.taken in (
+      ap told c.in-MayCome.is,
+      same_receiving
+          (receives_on c.args.self.now.receiver) c.receive.new.pass c.args.self.now.pass c.args.self.now.told _ c.receive.ensures.seated c.args.self.now.seated more,
+    )
 
 pub returns-in-Ok-End : goal.returns-in-Ok-End
 returns-in-Ok-End g c =
     let step = rw c.in-Ok-End.field-0-is at c.in-Ok-End.ensures in
-    let same = take_end _ _ step.taken in
-    (same_receiving (receives_on c.args.self.now.receiver) c.receive.new.pass c.args.self.now.pass Ended _ c.receive.ensures.seated c.args.self.now.seated same, nothing_told _ _ c.in-MayCome.is)
+    let same = take_end _ _ step.taken in (
+      same_receiving
+          (receives_on c.args.self.now.receiver) c.receive.new.pass c.args.self.now.pass Ended _ c.receive.ensures.seated c.args.self.now.seated same,
+      nothing_told _ _ c.in-MayCome.is,
+    )
 
 pub returns-in-Err : goal.returns-in-Err
 returns-in-Err g c =
-    let same = ap (λ (l : Log g.row.T.Denot). items_of l.taken) c.in-Err.ensures.same in
-    (same_receiving (receives_on c.args.self.now.receiver) c.receive.new.pass c.args.self.now.pass SenderGone _ c.receive.ensures.seated c.args.self.now.seated same, nothing_told _ _ c.in-MayCome.is)
+    let same = ap (λ (l : Log g.row.T.Denot). items_of l.taken) c.in-Err.ensures.same in (
+      same_receiving
+          (receives_on c.args.self.now.receiver) c.receive.new.pass c.args.self.now.pass SenderGone _ c.receive.ensures.seated c.args.self.now.seated same,
+      nothing_told _ _ c.in-MayCome.is,
+    )

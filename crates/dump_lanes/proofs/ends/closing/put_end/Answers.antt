@@ -14,7 +14,9 @@ returns-in-Ok-clause-puts g c = closes _ _ c.requires.puts c.in-Ok.ensures.rule
 
 pub returns-in-Ok-clause-same : goal.returns-in-Ok-clause-same
 returns-in-Ok-clause-same g c =
-    same_sending (sends_on c.args.sender.now) c.send_as.new.pass c.args.pass.now _ c.send_as.ensures.channel.0 c.requires.seated (close_keeps _ _ c.in-Ok.ensures.rule)
+    same_sending
+    (sends_on c.args.sender.now) c.send_as.new.pass c.args.pass.now _ c.send_as.ensures.channel.0 c.requires.seated
+    (close_keeps _ _ c.in-Ok.ensures.rule)
 
 pub returns-clause-puts : goal.returns-clause-puts
 returns-clause-puts g c = subst (IsPutting []) (sym c.in-Err.ensures.rule.1) c.requires.puts
@@ -22,4 +24,5 @@ returns-clause-puts g c = subst (IsPutting []) (sym c.in-Err.ensures.rule.1) c.r
 pub returns-clause-same : goal.returns-clause-same
 returns-clause-same g c =
     let same = ap (λ (l : Log g.row.T.Denot). items_of l.put) c.in-Err.ensures.rule.1 in
-    same_sending (sends_on c.args.sender.now) c.send_as.new.pass c.args.pass.now _ c.send_as.ensures.channel.0 c.requires.seated same
+    same_sending
+    (sends_on c.args.sender.now) c.send_as.new.pass c.args.pass.now _ c.send_as.ensures.channel.0 c.requires.seated same

@@ -18,8 +18,11 @@ use Rattle.dump_lanes.proofs.pool.Ports.settle.Goals as goal
 
 pub gather-requires-clause-workers : goal.gather-requires-clause-workers
 gather-requires-clause-workers g c =
-    let all = all_of_map (λ (w : WorkerSide g.row.J.Denot g.row.D.Denot). w.pool ≡ (job_port c.args.self.cutter).pool) (λ (p : WorkerPort g.row.J.Denot g.row.D.Denot). worker_port p) c.args.self.workers.items c.requires.workers.same_pool in
-    subst (λ (q : Queues g.row.J.Denot g.row.D.Denot). All (λ (p : WorkerPort g.row.J.Denot g.row.D.Denot). (worker_port p).pool ≡ name_of q) c.args.self.workers.items) (sym c.deref.ensures) all
+    let all = all_of_map (λ (w : WorkerSide g.row.J.Denot g.row.D.Denot). w.pool ≡ (job_port c.args.self.cutter).pool)
+    (λ (p : WorkerPort g.row.J.Denot g.row.D.Denot). worker_port p) c.args.self.workers.items c.requires.workers.same_pool in
+    subst (λ (q : Queues g.row.J.Denot g.row.D.Denot). All
+    (λ (p : WorkerPort g.row.J.Denot g.row.D.Denot). (worker_port p).pool ≡ name_of q) c.args.self.workers.items)
+    (sym c.deref.ensures) all
 
 pub absorb-requires-clause-rule : goal.absorb-requires-clause-rule
 absorb-requires-clause-rule g c = credits.merges _ _ _ _ c.args.self.cutter.draws c.args.self.writer.gives.may_give
@@ -29,16 +32,21 @@ learn_as-requires-clause-rule g c =
     let v = c.gather.ensures.jobs in
     let parts = v.parts in
     let all = c.args.self.cutter.cuts.parts in
-    let long = sym (length_of_map (λ (p : WorkerPort g.row.J.Denot g.row.D.Denot). worker_port p) c.args.self.workers.items) ∙ c.requires.workers.as_many in
+    let long = sym
+    (length_of_map (λ (p : WorkerPort g.row.J.Denot g.row.D.Denot). worker_port p) c.args.self.workers.items)
+    ∙ c.requires.workers.as_many in
     jobs.learns _ _ v.may_put (omega arith)
 
 pub learn_as-requires-2-clause-rule : goal.learn_as-requires-2-clause-rule
 learn_as-requires-2-clause-rule g c =
     let v = c.gather.ensures.dones in
     let parts = v.parts in
-    let same = same_workers (arc_value c.args.self.sequencer.queues) (arc_value c.args.self.cutter.queues) c.requires.sequencer in
+    let same = same_workers (arc_value c.args.self.sequencer.queues)
+    (arc_value c.args.self.cutter.queues) c.requires.sequencer in
     let all = c.args.self.sequencer.sequences.parts in
-    let long = sym (length_of_map (λ (p : WorkerPort g.row.J.Denot g.row.D.Denot). worker_port p) c.args.self.workers.items) ∙ c.requires.workers.as_many in
+    let long = sym
+    (length_of_map (λ (p : WorkerPort g.row.J.Denot g.row.D.Denot). worker_port p) c.args.self.workers.items)
+    ∙ c.requires.workers.as_many in
     dones.learns _ _ v.may_take (omega arith)
 
 pub learn_as-requires-3-clause-rule : goal.learn_as-requires-3-clause-rule
@@ -48,17 +56,24 @@ learn_as-requires-3-clause-rule g c =
 pub returns-clause-jobs : goal.returns-clause-jobs
 returns-clause-jobs g c =
     let cutter = c.args.self.cutter in
-    let done = all_of_map (λ (w : WorkerSide g.row.J.Denot g.row.D.Denot). IsDone w) (λ (p : WorkerPort g.row.J.Denot g.row.D.Denot). worker_port p) c.args.self.workers.items c.requires.done in
-    let long = sym (length_of_map (λ (p : WorkerPort g.row.J.Denot g.row.D.Denot). worker_port p) c.args.self.workers.items) ∙ c.requires.workers.as_many in
-    settles_jobs (arc_value cutter.queues).workers (view cutter.jobs) (view c.gather.new.jobs) c.args.self.workers.items c.learn_as.ensures.rule.0 (arc_value cutter.queues).some_workers cutter.cuts c.requires.closed long done c.gather.ensures.jobs c.learn_as.ensures.rule.1.0
+    let done = all_of_map (λ (w : WorkerSide g.row.J.Denot g.row.D.Denot). IsDone w)
+    (λ (p : WorkerPort g.row.J.Denot g.row.D.Denot). worker_port p) c.args.self.workers.items c.requires.done in
+    let long = sym
+    (length_of_map (λ (p : WorkerPort g.row.J.Denot g.row.D.Denot). worker_port p) c.args.self.workers.items)
+    ∙ c.requires.workers.as_many in
+    settles_jobs (arc_value cutter.queues).workers (view cutter.jobs)
+    (view c.gather.new.jobs) c.args.self.workers.items c.learn_as.ensures.rule.0
+    (arc_value cutter.queues).some_workers cutter.cuts c.requires.closed long done c.gather.ensures.jobs c.learn_as.ensures.rule.1.0
 
 pub returns-clause-dones : goal.returns-clause-dones
 returns-clause-dones g c =
     let sequencer = c.args.self.sequencer in
     let same = same_workers (arc_value sequencer.queues) (arc_value c.args.self.cutter.queues) c.requires.sequencer in
-    let done = all_of_map (λ (w : WorkerSide g.row.J.Denot g.row.D.Denot). IsDone w) (λ (p : WorkerPort g.row.J.Denot g.row.D.Denot). worker_port p) c.args.self.workers.items c.requires.done in
+    let done = all_of_map (λ (w : WorkerSide g.row.J.Denot g.row.D.Denot). IsDone w)
+    (λ (p : WorkerPort g.row.J.Denot g.row.D.Denot). worker_port p) c.args.self.workers.items c.requires.done in
     let sequences = subst (λ n. IsSequencing n sequencer.left (view sequencer.dones)) same sequencer.sequences in
-    settles_dones _ _ sequencer.left (view sequencer.dones) (view c.gather.new.dones) c.args.self.workers.items c.learn_as-2.ensures.rule.0 sequences c.requires.ended c.requires.workers done c.gather.ensures.dones c.learn_as-2.ensures.rule.1.0
+    settles_dones _ _ sequencer.left (view sequencer.dones)
+    (view c.gather.new.dones) c.args.self.workers.items c.learn_as-2.ensures.rule.0 sequences c.requires.ended c.requires.workers done c.gather.ensures.dones c.learn_as-2.ensures.rule.1.0
 
 pub returns-clause-steps : goal.returns-clause-steps
 returns-clause-steps g c =
@@ -84,7 +99,8 @@ returns-clause-steps g c =
       credits = record {
         happened = k.happened;
         free = length c.learn_as-3.ensures.rule.0;
-        steps = subst (λ n. AreSteps n k.happened (length c.learn_as-3.ensures.rule.0)) (ap (λ (p : Purse). p.first) joined ∙ c.args.self.writer.gives.first) k.steps;
+        steps = subst (λ n. AreSteps n k.happened (length c.learn_as-3.ensures.rule.0))
+            (ap (λ (p : Purse). p.first) joined ∙ c.args.self.writer.gives.first) k.steps;
         each = λ t. ap (λ (p : Purse). steps_of t p.steps) (sym joined) ∙ k.each t;
         drawn_is = ap (λ (p : Purse). p.drawn) (sym joined) ∙ k.drawn_is;
         back_is = ap (λ (p : Purse). p.back) (sym joined) ∙ k.back_is;

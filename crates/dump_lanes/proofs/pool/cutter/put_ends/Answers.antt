@@ -4,4 +4,5 @@ use Rattle.dump_lanes.proofs.JobSteps.{puts}
 use Rattle.dump_lanes.proofs.pool.cutter.put_ends.Goals as goal
 
 pub push-requires-clause-rule : goal.push-requires-clause-rule
-push-requires-clause-rule g c = puts _ _ _ _ (ap (λ (v : Hand g.row.J.Denot). v.puts) c.loop.invariant.1 ∙ c.requires.puts)
+push-requires-clause-rule g c = puts _ _ _ _ (ap (λ (v : Hand g.row.J.Denot). v.puts) c.loop.invariant.1
+    ∙ c.requires.puts)

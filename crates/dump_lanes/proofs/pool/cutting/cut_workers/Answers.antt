@@ -18,21 +18,27 @@ use Rattle.dump_lanes.proofs.Settling.{map-then, range-more}
 use Rattle.dump_lanes.proofs.pool.cutting.cut_workers.Goals as goal
 
 -- what all elements of a list have, the one at this place has
-at_place : {X : Type 0} (P : X → Type 0) (xs : List X) (k : ℕ) (x : X) → All P xs → (k < length xs) × (x ≡ slice_index_or xs k x) → P x
+at_place : {X : Type 0} (P : X → Type 0) (xs : List X) (k : ℕ) (x : X) → All P xs → (k < length xs)
+    × (x ≡ slice_index_or xs k x) → P x
 at_place P xs k x all at = subst P (sym at.1) (all k x at.0)
 
 pub another-takes-requires-clause-rule : goal.another-takes-requires-clause-rule
 another-takes-requires-clause-rule g c =
-    let turn = YieldsList-turn (YieldsList-from_vec {s = c.into_iter-share-iterator.result} c.args.shares.items (search rules) (search rules)) c.loop-share.yielded c.loop-share.share-iterator c.loop-share.yielded_by c.next.result c.next.new.self c.in-Some.share c.in-Some.is c.next.ensures.steps in
+    let turn = YieldsList-turn (YieldsList-from_vec {s = c.into_iter-share-iterator.result} c.args.shares.items
+    (search rules)
+    (search rules)) c.loop-share.yielded c.loop-share.share-iterator c.loop-share.yielded_by c.next.result c.next.new.self c.in-Some.share c.in-Some.is c.next.ensures.steps in
     let parts = ap (λ (v : Hand g.row.J.Denot). v.parts) c.loop-share.invariant.2 in
     let below = turn.0 in
     let many = c.requires.as_many in
     let most = c.args.queues.now.most_workers in
-    jobs.forks _ _ (ap (λ (v : Hand g.row.J.Denot). v.puts) c.loop-share.invariant.2) (ap (λ (v : Hand g.row.J.Denot). v.takes) c.loop-share.invariant.2) (omega arith)
+    jobs.forks _ _ (ap (λ (v : Hand g.row.J.Denot). v.puts) c.loop-share.invariant.2)
+    (ap (λ (v : Hand g.row.J.Denot). v.takes) c.loop-share.invariant.2) (omega arith)
 
 pub another-gives-requires-clause-rule : goal.another-gives-requires-clause-rule
 another-gives-requires-clause-rule g c =
-    let turn = YieldsList-turn (YieldsList-from_vec {s = c.into_iter-share-iterator.result} c.args.shares.items (search rules) (search rules)) c.loop-share.yielded c.loop-share.share-iterator c.loop-share.yielded_by c.next.result c.next.new.self c.in-Some.share c.in-Some.is c.next.ensures.steps in
+    let turn = YieldsList-turn (YieldsList-from_vec {s = c.into_iter-share-iterator.result} c.args.shares.items
+    (search rules)
+    (search rules)) c.loop-share.yielded c.loop-share.share-iterator c.loop-share.yielded_by c.next.result c.next.new.self c.in-Some.share c.in-Some.is c.next.ensures.steps in
     let parts = ap (λ (v : Desk g.row.D.Denot). v.parts) c.loop-share.invariant.3 in
     let below = turn.0 in
     let many = c.requires.as_many in
@@ -41,21 +47,29 @@ another-gives-requires-clause-rule g c =
 
 pub new-requires-clause-of_jobs : goal.new-requires-clause-of_jobs
 new-requires-clause-of_jobs g c =
-    let turn = YieldsList-turn (YieldsList-from_vec {s = c.into_iter-share-iterator.result} c.args.shares.items (search rules) (search rules)) c.loop-share.yielded c.loop-share.share-iterator c.loop-share.yielded_by c.next.result c.next.new.self c.in-Some.share c.in-Some.is c.next.ensures.steps in
-    let same = at_place (λ a. arc_value a ≡ c.args.queues.now) c.args.shares.items _ c.in-Some.share c.requires.shares turn in
+    let turn = YieldsList-turn (YieldsList-from_vec {s = c.into_iter-share-iterator.result} c.args.shares.items
+    (search rules)
+    (search rules)) c.loop-share.yielded c.loop-share.share-iterator c.loop-share.yielded_by c.next.result c.next.new.self c.in-Some.share c.in-Some.is c.next.ensures.steps in
+    let same = at_place
+    (λ a. arc_value a ≡ c.args.queues.now) c.args.shares.items _ c.in-Some.share c.requires.shares turn in
     let of = c.another-takes.ensures.queue.1 in
     (of.0 ∙ ap (λ (q : Queues g.row.J.Denot g.row.D.Denot). q.jobs.table.shared.table_id) (sym same), of.1)
 
 pub new-requires-clause-of_dones : goal.new-requires-clause-of_dones
 new-requires-clause-of_dones g c =
-    let turn = YieldsList-turn (YieldsList-from_vec {s = c.into_iter-share-iterator.result} c.args.shares.items (search rules) (search rules)) c.loop-share.yielded c.loop-share.share-iterator c.loop-share.yielded_by c.next.result c.next.new.self c.in-Some.share c.in-Some.is c.next.ensures.steps in
-    let same = at_place (λ a. arc_value a ≡ c.args.queues.now) c.args.shares.items _ c.in-Some.share c.requires.shares turn in
+    let turn = YieldsList-turn (YieldsList-from_vec {s = c.into_iter-share-iterator.result} c.args.shares.items
+    (search rules)
+    (search rules)) c.loop-share.yielded c.loop-share.share-iterator c.loop-share.yielded_by c.next.result c.next.new.self c.in-Some.share c.in-Some.is c.next.ensures.steps in
+    let same = at_place
+    (λ a. arc_value a ≡ c.args.queues.now) c.args.shares.items _ c.in-Some.share c.requires.shares turn in
     let of = c.another-gives.ensures.queue.1 in
     (of.0 ∙ ap (λ (q : Queues g.row.J.Denot g.row.D.Denot). q.dones.table.shared.table_id) (sym same), of.1)
 
 pub push_reserved-requires : goal.push_reserved-requires
 push_reserved-requires g c =
-    let turn = YieldsList-turn (YieldsList-from_vec {s = c.into_iter-share-iterator.result} c.args.shares.items (search rules) (search rules)) c.loop-share.yielded c.loop-share.share-iterator c.loop-share.yielded_by c.next.result c.next.new.self c.in-Some.share c.in-Some.is c.next.ensures.steps in
+    let turn = YieldsList-turn (YieldsList-from_vec {s = c.into_iter-share-iterator.result} c.args.shares.items
+    (search rules)
+    (search rules)) c.loop-share.yielded c.loop-share.share-iterator c.loop-share.yielded_by c.next.result c.next.new.self c.in-Some.share c.in-Some.is c.next.ensures.steps in
     let below = turn.0 in
     let many = c.requires.as_many in
     let long = c.loop-share.invariant.5 in
@@ -63,34 +77,55 @@ push_reserved-requires g c =
 
 pub loop-share-preserved : goal.loop-share-preserved
 loop-share-preserved g c =
-    let turn = YieldsList-turn (YieldsList-from_vec {s = c.into_iter-share-iterator.result} c.args.shares.items (search rules) (search rules)) c.loop-share.yielded c.loop-share.share-iterator c.loop-share.yielded_by c.next.result c.next.new.self c.in-Some.share c.in-Some.is c.next.ensures.steps in
-    let same = at_place (λ a. arc_value a ≡ c.args.queues.now) c.args.shares.items _ c.in-Some.share c.requires.shares turn in
+    let turn = YieldsList-turn (YieldsList-from_vec {s = c.into_iter-share-iterator.result} c.args.shares.items
+    (search rules)
+    (search rules)) c.loop-share.yielded c.loop-share.share-iterator c.loop-share.yielded_by c.next.result c.next.new.self c.in-Some.share c.in-Some.is c.next.ensures.steps in
+    let same = at_place
+    (λ a. arc_value a ≡ c.args.queues.now) c.args.shares.items _ c.in-Some.share c.requires.shares turn in
     let inv = c.loop-share.invariant in
     let side = new_worker {J = g.row.J.Denot} {D = g.row.D.Denot} (state_of c.args.queues.now) in
     let index = c.len-index.ensures ∙ inv.5 in
     let new = c.new.ensures ∙ (λ i. new_worker {J = g.row.J.Denot} {D = g.row.D.Denot} (state_of (same i)) (index i)) in
     let longer = length-append c.loop-share.yielded (c.in-Some.share ∷ []) in
-    let ports : map (λ p. worker_port p) c.push_reserved.new.self.items ≡ map side (range_with_len 0 (length c.loop-share.yielded + 1)) =
+    let ports : map (λ p. worker_port p) c.push_reserved.new.self.items ≡ map side
+    (range_with_len 0 (length c.loop-share.yielded + 1)) =
     ap (map (λ p. worker_port p)) c.push_reserved.ensures.items
     ∙ (map-then (λ p. worker_port p) c.loop-share.workers.items c.new.result
-    ∙ ((λ i. inv.4 i ++ new i ∷ []) ∙ (sym (map-then side (range_with_len 0 (length c.loop-share.yielded)) (length c.loop-share.yielded)) ∙ ap (map side) (sym (range-more (length c.loop-share.yielded)))))) in
-    let fewer : 128 - length c.loop-share.yielded - 1 ≡ 128 - length (c.loop-share.yielded ++ c.in-Some.share ∷ []) = omega (arith, longer) in
-    let takes = c.another-takes.ensures.rule.0 ∙ (ap (λ (v : Hand g.row.J.Denot). after_fork v) inv.2 ∙ (λ i. cutter_hand (fewer i) (sym longer i))) in
-    let gives = c.another-gives.ensures.rule.0 ∙ (ap (λ (v : Desk g.row.D.Denot). dones_after_fork v) inv.3 ∙ (λ i. reader (fewer i) [] (sym longer i) [] [] [])) in
-    (search rules, search rules, takes, gives, ports ∙ ap (λ n. map side (range_with_len 0 n)) (sym longer), c.push_reserved.ensures.len ∙ (ap (λ n. n + 1) inv.5 ∙ sym longer), search rules)
+    ∙ ((λ i. inv.4 i ++ new i ∷ []) ∙ (sym (map-then side (range_with_len 0 (length c.loop-share.yielded))
+    (length c.loop-share.yielded)) ∙ ap (map side) (sym (range-more (length c.loop-share.yielded)))))) in
+    let fewer : 128 - length c.loop-share.yielded - 1 ≡ 128 - length
+    (c.loop-share.yielded ++ c.in-Some.share ∷ []) = omega (arith, longer) in
+    let takes = c.another-takes.ensures.rule.0 ∙ (ap (λ (v : Hand g.row.J.Denot). after_fork v) inv.2
+    ∙ (λ i. cutter_hand (fewer i) (sym longer i))) in
+    let gives = c.another-gives.ensures.rule.0 ∙ (ap (λ (v : Desk g.row.D.Denot). dones_after_fork v) inv.3
+    ∙ (λ i. reader (fewer i) [] (sym longer i) [] [] [])) in (
+      search rules,
+      search rules,
+      takes,
+      gives,
+      ports ∙ ap (λ n. map side (range_with_len 0 n)) (sym longer),
+      c.push_reserved.ensures.len ∙ (ap (λ n. n + 1) inv.5 ∙ sym longer),
+      search rules,
+    )
 
 pub returns-clause-jobs : goal.returns-clause-jobs
 returns-clause-jobs g c =
-    let end = YieldsList-end (YieldsList-from_vec {s = c.into_iter-share-iterator.result} c.args.shares.items (search rules) (search rules)) c.loop-share.yielded c.loop-share.share-iterator c.loop-share.yielded_by c.next.result c.next.new.self c.in-None.is c.next.ensures.steps in
+    let end = YieldsList-end (YieldsList-from_vec {s = c.into_iter-share-iterator.result} c.args.shares.items
+    (search rules)
+    (search rules)) c.loop-share.yielded c.loop-share.share-iterator c.loop-share.yielded_by c.next.result c.next.new.self c.in-None.is c.next.ensures.steps in
     c.loop-share.invariant.2 ∙ ap (λ n. cutter_hand (128 - n) n) (end.1 ∙ c.requires.as_many)
 
 pub returns-clause-dones : goal.returns-clause-dones
 returns-clause-dones g c =
-    let end = YieldsList-end (YieldsList-from_vec {s = c.into_iter-share-iterator.result} c.args.shares.items (search rules) (search rules)) c.loop-share.yielded c.loop-share.share-iterator c.loop-share.yielded_by c.next.result c.next.new.self c.in-None.is c.next.ensures.steps in
+    let end = YieldsList-end (YieldsList-from_vec {s = c.into_iter-share-iterator.result} c.args.shares.items
+    (search rules)
+    (search rules)) c.loop-share.yielded c.loop-share.share-iterator c.loop-share.yielded_by c.next.result c.next.new.self c.in-None.is c.next.ensures.steps in
     c.loop-share.invariant.3 ∙ ap (λ n. reader (128 - n) [] n [] [] []) (end.1 ∙ c.requires.as_many)
 
 pub returns-clause-workers : goal.returns-clause-workers
 returns-clause-workers g c =
-    let end = YieldsList-end (YieldsList-from_vec {s = c.into_iter-share-iterator.result} c.args.shares.items (search rules) (search rules)) c.loop-share.yielded c.loop-share.share-iterator c.loop-share.yielded_by c.next.result c.next.new.self c.in-None.is c.next.ensures.steps in
+    let end = YieldsList-end (YieldsList-from_vec {s = c.into_iter-share-iterator.result} c.args.shares.items
+    (search rules)
+    (search rules)) c.loop-share.yielded c.loop-share.share-iterator c.loop-share.yielded_by c.next.result c.next.new.self c.in-None.is c.next.ensures.steps in
     let side = new_worker {J = g.row.J.Denot} {D = g.row.D.Denot} (state_of c.args.queues.now) in
     c.loop-share.invariant.4 ∙ ap (λ n. map side (range_with_len 0 n)) (end.1 ∙ c.requires.as_many)

@@ -14,6 +14,7 @@ invariant-loop-share g l =
     × IsPassOf l.queues.dones l.dones
     × (view l.jobs ≡ cutter_hand (128 - length l.yielded) (length l.yielded))
     × (view l.dones ≡ reader (128 - length l.yielded) [] (length l.yielded) [] [] [])
-    × (map (λ p. worker_port p) l.workers.items ≡ map (new_worker (state_of l.queues)) (range_with_len 0 (length l.yielded)))
+    × (map (λ p. worker_port p) l.workers.items ≡ map (new_worker (state_of l.queues))
+    (range_with_len 0 (length l.yielded)))
     × (vec_len l.workers ≡ length l.yielded)
     × (l.queues.workers ≤ vec_capacity l.workers)

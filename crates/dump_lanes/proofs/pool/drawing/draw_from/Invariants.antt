@@ -8,4 +8,5 @@ abbrev unseen : Seat → Seat
 unseen seat = record seat { seen = false }
 
 abbrev pub invariant-loop : goal.invariant-loop
-invariant-loop g l = IsSamePass l.initial.pass l.pass × (view l.pass ≡ view l.initial.pass) × (unseen l.seat ≡ unseen l.initial.seat)
+invariant-loop g l = IsSamePass l.initial.pass l.pass × (view l.pass ≡ view l.initial.pass)
+    × (unseen l.seat ≡ unseen l.initial.seat)

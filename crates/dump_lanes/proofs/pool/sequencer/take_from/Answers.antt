@@ -10,17 +10,24 @@ pop-mark-requires-clause-rule g c =
     takes _ _ so_far.may_take (let e = so_far.parts in let p = c.requires.takes.1 in omega arith)
 
 pub returns-in-Item-clause-read : goal.returns-in-Item-clause-read
-returns-in-Item-clause-read g c = read_item _ (view c.loop-left.pass) _ _ _ c.in-Item.is c.loop-left.invariant.1 c.pop-mark.ensures.rule
+returns-in-Item-clause-read g c = read_item _
+    (view c.loop-left.pass) _ _ _ c.in-Item.is c.loop-left.invariant.1 c.pop-mark.ensures.rule
 
 pub returns-in-Item-clause-ends : goal.returns-in-Item-clause-ends
 returns-in-Item-clause-ends g c =
-    ap (λ n. n + c.loop-left.left) (read_item_ends (view c.loop-left.pass) _ _ _ c.in-Item.is c.pop-mark.ensures.rule) ∙ c.loop-left.invariant.2
+    ap (λ n. n + c.loop-left.left) (read_item_ends (view c.loop-left.pass) _ _ _ c.in-Item.is c.pop-mark.ensures.rule)
+    ∙ c.loop-left.invariant.2
 
 pub loop-left-preserved : goal.loop-left-preserved
 loop-left-preserved g c =
     let inv = c.loop-left.invariant in
     let ends = read_end_ends (view c.loop-left.pass) _ _ c.in-End.is c.pop-mark.ensures.rule in (
-      (c.pop-mark.ensures.queue.0 ∙ inv.0.0, c.pop-mark.ensures.queue.1 ∙ inv.0.1, c.pop-mark.ensures.queue.2 ∙ inv.0.2),
+      (
+        c.pop-mark.ensures.queue.0 ∙ inv.0.0,
+        c.pop-mark.ensures.queue.1 ∙ inv.0.1,
+        c.pop-mark.ensures.queue.2
+            ∙ inv.0.2,
+      ),
       read_end _ (view c.loop-left.pass) _ _ c.in-End.is inv.1 c.pop-mark.ensures.rule,
       (let e = inv.2 in omega arith),
       (let e = inv.3 in omega arith),

@@ -3,4 +3,5 @@ use Rattle.crossbeam_queue.specs.Passes.{view, IsSamePass}
 use Rattle.dump_lanes.proofs.pool.waiting.push.Given as goal
 
 abbrev pub invariant-loop : goal.invariant-loop
-invariant-loop g l = IsSamePass l.initial.pass l.pass × (view l.pass ≡ view l.initial.pass) × (l.waiting ≡ l.initial.waiting)
+invariant-loop g l = IsSamePass l.initial.pass l.pass × (view l.pass ≡ view l.initial.pass)
+    × (l.waiting ≡ l.initial.waiting)

@@ -10,8 +10,10 @@ settle-requires-clause-workers g c =
     let name : CutterSide ℕ → PoolName × ℕ = λ x. (x.pool, x.workers) in
     let same = ap name c.close.ensures ∙ (ap name c.put.ensures ∙ ap name c.in-Credit.ensures.drawn.1) in
     let all = same_ports _ _ c.args.ports.workers.items c.in_ok-workers.workers.items c.in_ok-workers.ensures.pool c.in_ok-workers.ensures.index c.requires.workers in
-    subst (λ (x : PoolName × ℕ). AreWorkersOf x.0 x.1 (map (λ (p : WorkerPort ℕ ℕ). worker_port p) c.in_ok-workers.workers.items)) (sym same) all
+    subst (λ (x : PoolName × ℕ). AreWorkersOf x.0 x.1
+    (map (λ (p : WorkerPort ℕ ℕ). worker_port p) c.in_ok-workers.workers.items)) (sym same) all
 
 pub settle-requires-clause-done : goal.settle-requires-clause-done
 settle-requires-clause-done g c =
-    map_of_all (λ (w : WorkerSide ℕ ℕ). IsDone w) (λ (p : WorkerPort ℕ ℕ). worker_port p) c.in_ok-workers.workers.items c.in_ok-workers.ensures.done
+    map_of_all (λ (w : WorkerSide ℕ ℕ). IsDone w) (λ
+    (p : WorkerPort ℕ ℕ). worker_port p) c.in_ok-workers.workers.items c.in_ok-workers.ensures.done

@@ -14,7 +14,8 @@ join_workers-workers-requires g c =
     let ports = c.args.given.ports.workers.items in
     let long : length started ≡ length ports =
     sym (length_of_map (λ (w : Worker). (worker_port w.port.value).index) started)
-    ∙ (ap length c.start_workers-workers.ensures.index ∙ length_of_map (λ (p : WorkerPort Piece Piece). (worker_port p).index) ports) in
+    ∙ (ap length c.start_workers-workers.ensures.index
+    ∙ length_of_map (λ (p : WorkerPort Piece Piece). (worker_port p).index) ports) in
     let room = c.args.given.room_at_end in
     (room.0, let most = room.1 in omega arith)
 
@@ -23,10 +24,15 @@ settle-requires-2-clause-workers g c =
     let pool = c.join_workers-workers.ensures.pool ∙ c.start_workers-workers.ensures.pool in
     let index = c.join_workers-workers.ensures.index ∙ c.start_workers-workers.ensures.index in
     let all = same_ports _ _ c.args.given.ports.workers.items c.join_workers-workers.result.items pool index c.requires.workers in
-    let same_pool = c.join-cutter.ensures.pool ∙ ap (λ (p : JobPort Piece Piece). (job_port p).pool) c.start-cutter.ensures.port in
-    let same_workers = c.join-cutter.ensures.workers ∙ ap (λ (p : JobPort Piece Piece). (job_port p).workers) c.start-cutter.ensures.port in
-    subst (λ (x : PoolName × ℕ). AreWorkersOf x.0 x.1 (map (λ (p : WorkerPort Piece Piece). worker_port p) c.join_workers-workers.result.items)) (λ i. (sym same_pool i, sym same_workers i)) all
+    let same_pool = c.join-cutter.ensures.pool ∙ ap
+    (λ (p : JobPort Piece Piece). (job_port p).pool) c.start-cutter.ensures.port in
+    let same_workers = c.join-cutter.ensures.workers
+    ∙ ap (λ (p : JobPort Piece Piece). (job_port p).workers) c.start-cutter.ensures.port in
+    subst (λ (x : PoolName × ℕ). AreWorkersOf x.0 x.1
+    (map (λ (p : WorkerPort Piece Piece). worker_port p) c.join_workers-workers.result.items))
+    (λ i. (sym same_pool i, sym same_workers i)) all
 
 pub settle-requires-2-clause-done : goal.settle-requires-2-clause-done
 settle-requires-2-clause-done g c =
-    map_of_all (λ (w : WorkerSide Piece Piece). IsDone w) (λ (p : WorkerPort Piece Piece). worker_port p) c.join_workers-workers.result.items c.join_workers-workers.ensures.done
+    map_of_all (λ (w : WorkerSide Piece Piece). IsDone w)
+    (λ (p : WorkerPort Piece Piece). worker_port p) c.join_workers-workers.result.items c.join_workers-workers.ensures.done

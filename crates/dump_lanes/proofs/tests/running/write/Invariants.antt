@@ -5,4 +5,5 @@ use Rattle.dump_lanes.proofs.tests.running.write.Given as goal
 
 abbrev pub invariant-loop : goal.invariant-loop
 invariant-loop g l =
-    ((credit_port l.port).pool ≡ (credit_port l.initial.port).pool) × ((receiving l.from).lane ≡ (receiving l.initial.from).lane)
+    ((credit_port l.port).pool ≡ (credit_port l.initial.port).pool)
+    × ((receiving l.from).lane ≡ (receiving l.initial.from).lane)

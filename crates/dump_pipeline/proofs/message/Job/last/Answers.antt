@@ -9,6 +9,7 @@ use Rattle.dump_pipeline.proofs.message.Job.last.Goals as goal
 pub invariant_of-result : goal.invariant_of-result
 invariant_of-result g c = record {
   item = search rules;
-  last = for_err {T = Record} (λ (e : Option (FaultKind × ℕ)). ∥ EndsAfter g.D.Run.dump c.args.number (ending_of e) ∥₁) c.args.end c.requires.ends;
+  last = for_err {T = Record} (λ (e : Option (FaultKind × ℕ)). ∥ EndsAfter g.D.Run.dump c.args.number
+      (ending_of e) ∥₁) c.args.end c.requires.ends;
   counted = c.requires.few;
 }

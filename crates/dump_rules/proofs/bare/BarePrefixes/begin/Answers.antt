@@ -15,7 +15,8 @@ returns-then-has c =
 pub returns-then-has-3 : goal.returns-then-has-3
 returns-then-has-3 c =
     let near : c.loop-place.place < c.min-near.result = omega (arith, length-take c.min-near.result c.args.path.now) in
-    let low : c.loop-place.place < length c.args.path.now = omega (arith, length-take c.min-near.result c.args.path.now) in
+    let low : c.loop-place.place < length c.args.path.now = omega
+    (arith, length-take c.min-near.result c.args.path.now) in
     sym (cut_begins c.args.path.now c.loop-place.place low
     (sym (get_or-take c.min-near.result c.args.path.now c.loop-place.place 0 near) ∙ c.if-byte-eq47.true)
     c.args.self.now (sym c.if-has-3.ensures))

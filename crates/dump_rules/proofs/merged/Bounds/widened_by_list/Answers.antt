@@ -14,7 +14,8 @@ loop-comma-preserved c =
     let cut = parts_first 44 rest c.cut_at.result.0.now c.cut_at.result.1.now c.in-Some.comma (sym at ∙ here)
     c.cut_at.ensures.before c.cut_at.ensures.behind in
     c.loop-comma.invariant
-    ∙ bounds_first c.loop-comma.bounds _ c.cut_at.result.0.now (range_parts c.cut_at.result.1.now) (range_parts rest) cut
+    ∙ bounds_first c.loop-comma.bounds _ c.cut_at.result.0.now (range_parts c.cut_at.result.1.now)
+    (range_parts rest) cut
     c.widened_by-bounds.ensures
 
 pub returns : goal.returns

@@ -13,7 +13,8 @@ said c = c.with_text.ensures ∙ ap (λ t. lines_merged c.args.options.now c.arg
 pub returns-clause-read : goal.returns-clause-read
 returns-clause-read c =
     subst (λ (b : Bool). IsTrue b ↔ HasMergeLines c.args.value.now)
-    (sym (ap is_some (said c) ∙ read_value c.args.options.now c.args.self c.args.value.now)) (reads_exactly c.args.value.now)
+    (sym (ap is_some (said c) ∙ read_value c.args.options.now c.args.self c.args.value.now))
+    (reads_exactly c.args.value.now)
 
 pub returns-clause-sources : goal.returns-clause-sources
 returns-clause-sources c = said_sources c.args.options.now c.args.self c.args.value.now c.with_text.result (said c)

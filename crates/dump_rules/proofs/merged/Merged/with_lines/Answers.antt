@@ -11,9 +11,11 @@ returns-in_err-merged c =
     let here = c.in-Some.is in
     let line = c.cut_at.result.0.now in
     let others = c.cut_at.result.1.now in
-    let cut = parts_first 10 c.loop-lf.rest.now line others c.in-Some.lf (sym at ∙ here) c.cut_at.ensures.before c.cut_at.ensures.behind in
+    let cut = parts_first 10 c.loop-lf.rest.now line others c.in-Some.lf
+    (sym at ∙ here) c.cut_at.ensures.before c.cut_at.ensures.behind in
     c.from_residual.ensures
-    ∙ sym (c.loop-lf.invariant ∙ lines_bad c.args.options.now c.loop-lf.merged line _ _ cut (sym c.with_line.ensures ∙ c.in_err-merged.was))
+    ∙ sym (c.loop-lf.invariant ∙ lines_bad c.args.options.now c.loop-lf.merged line _ _ cut
+    (sym c.with_line.ensures ∙ c.in_err-merged.was))
 
 pub loop-lf-preserved : goal.loop-lf-preserved
 loop-lf-preserved c =
@@ -21,14 +23,17 @@ loop-lf-preserved c =
     let here = c.in-Some.is in
     let line = c.cut_at.result.0.now in
     let others = c.cut_at.result.1.now in
-    let cut = parts_first 10 c.loop-lf.rest.now line others c.in-Some.lf (sym at ∙ here) c.cut_at.ensures.before c.cut_at.ensures.behind in
+    let cut = parts_first 10 c.loop-lf.rest.now line others c.in-Some.lf
+    (sym at ∙ here) c.cut_at.ensures.before c.cut_at.ensures.behind in
     c.loop-lf.invariant
-    ∙ lines_first c.args.options.now c.loop-lf.merged c.in_ok-merged.merged line _ _ cut (sym c.with_line.ensures ∙ c.in_ok-merged.was)
+    ∙ lines_first c.args.options.now c.loop-lf.merged c.in_ok-merged.merged line _ _ cut
+    (sym c.with_line.ensures ∙ c.in_ok-merged.was)
 
 pub returns : goal.returns
 returns c =
     let at = c.find.ensures in
     let none = c.in_default.is in
     c.with_line-2.ensures
-    ∙ sym (c.loop-lf.invariant ∙ ap (lines_merged c.args.options.now c.loop-lf.merged) (position_whole 10 c.loop-lf.rest.now (sym at ∙ none))
+    ∙ sym (c.loop-lf.invariant ∙ ap (lines_merged c.args.options.now c.loop-lf.merged)
+    (position_whole 10 c.loop-lf.rest.now (sym at ∙ none))
     ∙ lines_last c.args.options.now c.loop-lf.merged c.loop-lf.rest.now)

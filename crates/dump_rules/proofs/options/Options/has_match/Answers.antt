@@ -12,6 +12,7 @@ returns c =
     c.begin.ensures
     ∙ ap (λ (p : List ℕ). list_any (λ (prefix : List ℕ). begins_path prefix p) c.self.inside.bare) c.trim_path.ensures
     ∙ c.self.invariant (bare_path path)
-    ∙ any_mapped (λ prefix. bare_prefix prefix.items) (λ (prefix : List ℕ). begins_path prefix (bare_path path)) prefixes
+    ∙ any_mapped (λ prefix. bare_prefix prefix.items)
+    (λ (prefix : List ℕ). begins_path prefix (bare_path path)) prefixes
     ∙ sym (any_mapped (λ prefix. prefix.items) (λ (prefix : List ℕ). matches_path prefix path) prefixes)
     ∙ ap (λ (s : Settings). list_any (λ (prefix : List ℕ). matches_path prefix path) s.prefixes) c.self.view_is

@@ -5,12 +5,16 @@ use Rattle.dump_rules.proofs.ReachLemmas.{parted_from_rise, count_at_point, imag
 use Rattle.dump_rules.proofs.reach.Reach.reach.Goals as goal
 use Rattle.dump_rules.proofs.reach.Reach.reach.Goals.{After-partition_point-up_to}
 
-found : (c : After-partition_point-up_to) → c.partition_point-up_to.result ≡ count_by (λ k. nat_le k c.args.revision) c.args.self.now.numbers
+found : (c : After-partition_point-up_to) → c.partition_point-up_to.result ≡ count_by
+    (λ k. nat_le k c.args.revision) c.args.self.now.numbers
 found c =
     let is = c.deref.ensures.value in
     let parted = parted_from_rise c.self.inside.first c.args.revision c.self.inside.numbers.items c.self.invariant in
-    let point = IsPartitionPoint-from_clause (λ k. nat_le k c.args.revision) c.deref.result.now _ c.partition_point-up_to.ensures.partitioned (rw is parted) (λ a r q k. search rules) in
-    count_at_point (λ k. nat_le k c.args.revision) c.partition_point-up_to.result c.deref.result.now c.partition_point-up_to.ensures.bound point
+    let point = IsPartitionPoint-from_clause
+    (λ k. nat_le k c.args.revision) c.deref.result.now _ c.partition_point-up_to.ensures.partitioned (rw is parted)
+    (λ a r q k. search rules) in
+    count_at_point
+    (λ k. nat_le k c.args.revision) c.partition_point-up_to.result c.deref.result.now c.partition_point-up_to.ensures.bound point
     ∙ ap (count_by (λ k. nat_le k c.args.revision)) is
     ∙ ap (λ (kept : KeptRevisions). count_by (λ k. nat_le k c.args.revision) kept.numbers) c.self.view_is
 

@@ -8,7 +8,10 @@ pub returns : goal.returns
 returns c =
     let is = c.deref.ensures.value in
     let parted = parted_from_rise c.self.inside.first c.args.revision c.self.inside.numbers.items c.self.invariant in
-    let point = IsPartitionPoint-from_clause (λ k. nat_le k c.args.revision) c.deref.result.now _ c.partition_point.ensures.partitioned (rw is parted) (λ a r q k. search rules) in
-    count_at_point (λ k. nat_le k c.args.revision) c.partition_point.result c.deref.result.now c.partition_point.ensures.bound point
+    let point = IsPartitionPoint-from_clause
+    (λ k. nat_le k c.args.revision) c.deref.result.now _ c.partition_point.ensures.partitioned (rw is parted)
+    (λ a r q k. search rules) in
+    count_at_point
+    (λ k. nat_le k c.args.revision) c.partition_point.result c.deref.result.now c.partition_point.ensures.bound point
     ∙ ap (count_by (λ k. nat_le k c.args.revision)) is
     ∙ ap (λ (kept : KeptRevisions). count_by (λ k. nat_le k c.args.revision) kept.numbers) c.self.view_is

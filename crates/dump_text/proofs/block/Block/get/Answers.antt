@@ -13,6 +13,7 @@ pub loop-line-preserved : goal.loop-line-preserved
 loop-line-preserved c =
     let part = c.loop-line.invariant.3 in
     let value =
-    sym (value_behind c.args.name.now (line_header c.in-Some.line) (lines_left c.next.new.self) (sym c.eq.ensures ∙ c.if-eq.false)) ∙ ap (header_value c.args.name.now) (sym c.in-Some.ensures.steps.1)
+    sym (value_behind c.args.name.now (line_header c.in-Some.line) (lines_left c.next.new.self)
+    (sym c.eq.ensures ∙ c.if-eq.false)) ∙ ap (header_value c.args.name.now) (sym c.in-Some.ensures.steps.1)
     ∙ c.loop-line.invariant.2 in
     (tt, tt, value, rest_between _ _ _ _ _ _ part c.in-Some.ensures.steps.0)

@@ -18,5 +18,6 @@ invariant_of-self g c =
 pub returns : goal.returns
 returns g c =
     let side = λ (n : ℕ). record (job_port c.args.self.now) { marks = n } in
-    cutter_is _ _ _ (cut_ends_put _ (view c.args.self.now.jobs) _ c.put_ends.ensures.put) (cut_ends_marks _ (view c.args.self.now.jobs) _ c.requires c.put_ends.ensures.put)
+    cutter_is _ _ _ (cut_ends_put _ (view c.args.self.now.jobs) _ c.put_ends.ensures.put)
+    (cut_ends_marks _ (view c.args.self.now.jobs) _ c.requires c.put_ends.ensures.put)
     ∙ ap side (ap (λ (q : Queues g.row.J.Denot g.row.D.Denot). q.workers) c.deref-3.ensures)

@@ -4,7 +4,8 @@ use Rattle.dump_lanes.proofs.PortSteps.{work_item, work_item_taken, work_end, wo
 use Rattle.dump_lanes.proofs.pool.worker.WorkerPort.take.Goals as goal
 
 pub pop-requires-clause-rule : goal.pop-requires-clause-rule
-pop-requires-clause-rule g c = let works = c.args.self.now.works in takes _ _ (let e = works.parts in omega arith) works.puts_none works.may_take
+pop-requires-clause-rule g c = let works = c.args.self.now.works in takes _ _
+    (let e = works.parts in omega arith) works.puts_none works.may_take
 
 pub invariant_of-self : goal.invariant_of-self
 invariant_of-self g c =
@@ -34,4 +35,5 @@ returns-in-Item g c =
     (c.if-self.false, worker_is _ _ (work_item_taken _ _ _ step) refl refl refl)
 
 pub returns-in-End : goal.returns-in-End
-returns-in-End g c = let step = rw c.in-End.is at c.pop.ensures.rule in worker_is _ _ (work_end_taken _ _ step) refl refl refl
+returns-in-End g c = let step = rw c.in-End.is at c.pop.ensures.rule in worker_is _ _
+    (work_end_taken _ _ step) refl refl refl
