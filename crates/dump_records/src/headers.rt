@@ -37,7 +37,7 @@ fn numbers_of(headers: &Headers<'_>) -> Numbers
 }
 
 /// Whether not exactly one deciding name stands in the block, or one copyfrom header alone in a node.
-fn breaks_kind(headers: &Headers<'_>) -> bool
+fn has_bad_kind(headers: &Headers<'_>) -> bool
     ensures { result ≡ has_bad_kind (lines_of headers.now) }
 {
     let is_node = headers.has(HeaderName::NodePath);
@@ -51,7 +51,7 @@ fn breaks_kind(headers: &Headers<'_>) -> bool
 }
 
 /// Whether the first record of the dump is no version record, or a version isn't 2 or 3.
-fn breaks_version(headers: &Headers<'_>, numbers: &Numbers, number: u64) -> bool
+fn has_bad_version(headers: &Headers<'_>, numbers: &Numbers, number: u64) -> bool
     requires { AreNumbers (lines_of headers.now) numbers.now }
     ensures { result ≡ has_bad_version number (lines_of headers.now) }
 {
@@ -73,7 +73,7 @@ fn is_no_number(headers: &Headers<'_>, name: HeaderName, found: Option<u64>) -> 
 }
 
 /// Whether a revision number, a copy revision or a length isn't a number.
-fn breaks_number(headers: &Headers<'_>, numbers: &Numbers) -> bool
+fn has_bad_number(headers: &Headers<'_>, numbers: &Numbers) -> bool
     requires { AreNumbers (lines_of headers.now) numbers.now }
     ensures { result ≡ has_bad_number (lines_of headers.now) }
 {
@@ -96,7 +96,7 @@ fn lengths_of(numbers: &Numbers) -> Lengths
 }
 
 /// Whether the lengths don't add up, or the record may not have one of them.
-fn breaks_lengths(headers: &Headers<'_>, numbers: &Numbers) -> bool
+fn has_bad_lengths(headers: &Headers<'_>, numbers: &Numbers) -> bool
     requires { AreNumbers (lines_of headers.now) numbers.now }
     ensures { result ≡ has_bad_lengths (lines_of headers.now) }
 {
@@ -204,16 +204,16 @@ pub(crate) fn read_header<'a>(
         (IsUnlawful number (lines_of headers.now)) }
 {
     let numbers = numbers_of(headers);
-    if breaks_kind(headers) {
+    if has_bad_kind(headers) {
         return Err(FaultKind::Kind);
     }
-    if breaks_version(headers, &numbers, number) {
+    if has_bad_version(headers, &numbers, number) {
         return Err(FaultKind::Version);
     }
-    if breaks_number(headers, &numbers) {
+    if has_bad_number(headers, &numbers) {
         return Err(FaultKind::Number);
     }
-    if breaks_lengths(headers, &numbers) {
+    if has_bad_lengths(headers, &numbers) {
         return Err(FaultKind::Lengths);
     }
     let header = RecordHeader {

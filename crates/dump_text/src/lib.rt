@@ -4,10 +4,10 @@
 //! finds the block at a place of the dump, with the values of the names that have a meaning, or says
 //! what is wrong there: it walks the lines once, and each [`HeaderName`] is then looked up without a
 //! walk. A block lends its lines and its values as parts of the dump: nothing is copied, and no
-//! memory is taken. [`number`] reads a number as headers have it, and [`spell`] writes one. [`Props`]
-//! is a property block: names and values, each behind its length, and their end; under format version 3
-//! a node's block may delete properties too. [`FaultKind`] names
-//! all that may be wrong with a record of a dump, with the number and the name that users see.
+//! memory is taken. [`find`] seeks a byte. [`number`] reads a number as headers have it, and
+//! [`spell`] writes one. [`Props`] is a property block: names and values, each behind its length,
+//! and their end; under format version 3 a node's block may delete properties too. [`FaultKind`]
+//! names all that may be wrong with a record of a dump, with the number and the name that users see.
 //!
 //! ```
 //! let text = b"Node-path: a: b\nNote: c\nNode-kind: \nProp-delta: true\n\nbehind: it\n\n";

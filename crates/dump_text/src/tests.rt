@@ -1,7 +1,7 @@
 //! What no clause says: worked examples, and each call once.
 use crate::laws::{blocks_are_read_as_written, properties_are_read_as_written};
 use crate::{
-    Block, FaultKind, HeaderName, Headers, Props, number, push_block_end, push_deletion,
+    Block, FaultKind, HeaderName, Headers, Props, find, number, push_block_end, push_deletion,
     push_header, push_property, spell,
 };
 use std::alloc::{AllocError, Global};
@@ -131,6 +131,12 @@ fn a_property_block_without_entries_is_read(rt: HostRuntime) -> Result<(), Fail>
         assert_eq!(rt; props.spelled(), spelled, "{block:?}");
     }
     Ok(())
+}
+
+#[test]
+fn a_byte_is_found_where_it_stands_first(rt: HostRuntime) {
+    assert_eq!(rt; find(b':', b"a: b: c"), Some(1));
+    assert_eq!(rt; find(b':', b"a"), None);
 }
 
 #[test]

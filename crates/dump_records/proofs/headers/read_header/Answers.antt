@@ -7,4 +7,4 @@ pub parts_of-requires-clause-version : goal.parts_of-requires-clause-version
 parts_of-requires-clause-version c =
     ap is_some c.numbers_of-numbers.ensures.version
     ∙ version_there c.args.number (lines_of c.args.headers.now)
-    (sym c.breaks_version.ensures ∙ c.if-breaks_version.false)
+    (sym c.has_bad_version.ensures ∙ c.if-has_bad_version.false)
