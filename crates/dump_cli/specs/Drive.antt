@@ -34,8 +34,7 @@ pub record BreaksOff (old new : Option (List ℕ)) (sent : List ℕ) (told : Ans
   pub told_is : told ≡ Failed failures.Sink written
 
 -- a run on the input gave an answer and sent bytes: all of them reached the writer and the answer is told, or the
--- output
--- broke off
+-- output broke off
 pub record Ran (settings : Settings) (input : List ℕ) (old new : Option (List ℕ)) (told : Answer) : Type 0 where
   pub answer : Answer
   pub sent : List ℕ
@@ -43,8 +42,7 @@ pub record Ran (settings : Settings) (input : List ℕ) (old new : Option (List 
   pub arrived : (Appends old new sent × (told ≡ answer)) ⊎ BreaksOff old new sent told
 
 -- what is told behind a run: its answer, where nothing waits any more; or the failure of the sink, with the bytes that
--- the
--- writer took
+-- the writer took
 abbrev pub TellsBehind : LentState → Answer → Answer → Type 0
 TellsBehind sink ran told = ((told ≡ ran) × (sink.waiting ≡ []))
     ⊎ ((told ≡ Failed failures.Sink sink.out.written) × GrowsBy sink.out.start sink.out.taken sink.out.written)

@@ -77,16 +77,14 @@ abbrev pub spent_purse : Purse
 spent_purse = purse false false 0 0 0 []
 
 -- a pass that may draw is the cutter's and knows how many were drawn; one that gives back is the writer's, and knows
--- how
--- many there were at first and came back; and a pass knows just the steps of the threads whose it is
+-- how many there were at first and came back; and a pass knows just the steps of the threads whose it is
 pub record Fits (cutter writer first : ℕ) (happened : List CreditStep) (pass : ℕ) (v : Purse) : Type 0 where
   pub draws : v.draws ≡ true → (pass ≡ cutter) × (v.drawn ≡ drawn_in happened)
   pub gives : v.gives ≡ true → (pass ≡ writer) × (v.first ≡ first) × (v.back ≡ back_in happened)
   pub knows : Knows (two_owners cutter writer) happened pass v.steps
 
 -- there is one history: its steps are the credits' share of their events, and lead from the credits that were put at
--- first
--- to those that are free; each thread's steps in it are those that its pass knows
+-- first to those that are free; each thread's steps in it are those that its pass knows
 pub record IsCreditQueue {T : Type 0} (items : List T) (views : List Purse) : Type 0 where
   pub cutter : ℕ
   pub writer : ℕ

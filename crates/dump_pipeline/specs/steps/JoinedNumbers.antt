@@ -7,8 +7,7 @@ use Rattle.dump_pipeline.specs.declared.message.Run.{Ghosts}
 use Rattle.dump_pipeline.specs.steps.Messages.{piece_numbers}
 
 -- the numbers are those of the dump's first items, each once and in order; the last word is an item too, numbered
--- behind
--- the records
+-- behind the records
 abbrev pub AreFirstItems : List ℕ → Type 0
 AreFirstItems numbers = numbers ≡ first_numbers (length numbers)
 
