@@ -16,10 +16,12 @@ use Rattle.dump_cli.specs.Words.{AreFilled, IsNumber, IsSwitch}
 use Rattle.dump_cli.proofs.RowLemmas.{AreAlone, IsRead, IsSetOnce, both_empty, is_filled, row_read}
 use Rattle.dump_cli.proofs.LineLemmas.{level_gives}
 
+-- the program's command is simple, so that the words give its matches
 pub simple : is_simple program ≡ true
 unfolding clap_on_literals
 simple = refl
 
+-- the program's command is simple, and no argument of it has a rule on another
 pub free : is_simple_and_free program ≡ true
 unfolding clap_on_literals
 free = refl

@@ -22,9 +22,11 @@ use Rattle.clap.specs.declared.parser.matches.ValueSource.TheVariants.{DefaultVa
 
 -- ---- kinds and tests
 
+-- a list with an element isn't empty
 pub is_filled : {X : Type 0} (x : X) (xs : List X) → is_empty (x ∷ xs) ≡ false
 is_filled x xs = ne_eqb _ _ (λ e. omega (arith, e))
 
+-- where the first faults, or else the second ones, are none, there are none of either
 pub both_empty : (a b : Kinds) → or_else a b ≡ [] → (a ≡ []) × (b ≡ [])
 both_empty [] b e = (refl, e)
 both_empty (k ∷ ks) b e = cc
@@ -33,6 +35,7 @@ pub both_false : (a b : Bool) → (a || b) ≡ false → (a ≡ false) × (b ≡
 both_false true b e = cc
 both_false false b e = (refl, e)
 
+-- ids whose bytes pass the test for equality are the same
 pub same_id : (x y : Text) → bytes_eq x y ≡ true → x ≡ y
 same_id x y e = (bytes_eq-Decides x y).0 e
 
@@ -131,6 +134,7 @@ row_added id how s values (r ∷ rest) none =
 abbrev pub IsGood : Rule → Row → Type 0
 IsGood a r = (values_fault a r.values ≡ []) × (r.reading ≡ reading_by a) × (is_empty r.values ≡ false)
 
+-- the row of the argument, if it has one, is good
 abbrev pub Fits : Rule → List Row → Type 0
 Fits a rows = IfSome (row_for a.id rows) (IsGood a)
 
@@ -168,6 +172,7 @@ module _ (a : Rule) (once : IsSetOnce a) where
       ∙ row_added a.id (reading_by a) CommandLine vals rows none in
       subst (λ o. IfSome o (IsGood a)) (sym row) (set.1, refl, once.some values two.0)
 
+  -- a use of this argument or of another, without a fault, leaves the argument's row good
   pub used_fits : (b : Rule) → IsAlone a b → (values : List Text) (rows : List Row) → use_fault false b values rows ≡ []
       → Fits a rows → Fits a (used b values rows)
   used_fits b alone values rows ok fits = go (bytes_eq b.id a.id) refl
@@ -204,6 +209,7 @@ abbrev pub AreAlone : Rule → List Rule → Type 0
 AreAlone a [] = ⊤
 AreAlone a (b ∷ rest) = IsAlone a b × AreAlone a rest
 
+-- a search among arguments of which no other has this id finds no other that has it
 pub find_alone : (a : Rule) (test : Rule → Bool) (rules : List Rule) → AreAlone a rules
     → IfSome (find test rules) (IsAlone a)
 find_alone a test [] alone = tt
@@ -298,10 +304,12 @@ accepted true kinds e some = refl
 accepted false [] e some = cc
 accepted false (k ∷ ks) e some = cc
 
+-- one value is read of the argument's row, and the argument's parser accepts it
 abbrev pub IsRead : Rule → List Row → Type 0
 IsRead a rows = (v : Text) × (one_of a.id rows ≡ Some (read_as (reading_by a) v))
     × (accepts a.ignore_case (parser_of_value a.parser) v ≡ true)
 
+-- of an argument with a good row one value is read, and its parser accepts it
 pub row_read : (a : Rule) (rows : List Row) → HasRow a rows → IsRead a rows
 row_read a rows has = go has.0.values refl has.2.0 has.2.2
   where

@@ -20,6 +20,7 @@ use Rattle.dump_cli.specs.declared.words.Usage.TheVariants.{Words, BothDrops, Me
 use Rattle.dump_cli.proofs.RowLemmas.{is_filled, same_id}
 use Rattle.dump_cli.proofs.ProgramLemmas.{lawful_line}
 
+-- a flag that follows the word of its switch says whether that switch is set
 pub flag_is : (m : Found) (name : Text) (b : Bool) → IsSwitch name (rows_of m)
     → (one_text m name ≡ Some (codes "true") → b ≡ true)
     → (one_text m name ≡ Some (codes "false") → b ≡ false) → b ≡ is_set name (rows_of m)
@@ -90,6 +91,7 @@ refused words kinds is some = ap (λ (k : Kinds). cond (is_empty k)
     (option_map_or order_of (subcommand_of program words) (Err Words)) (Err Words)) is
     ∙ ap (λ (b : Bool). cond b (option_map_or order_of (subcommand_of program words) (Err Words)) (Err Words)) some
 
+-- a refusal for the words or for want of memory is an answer to words with such a fault
 pub refusal_answers : (words : List Text) (e : Error) (u : Usage) → HasKind (fault_of program words) e
     → (kind_of e ≡ OutOfMemory → u ≡ Memory) → ((u ≡ Words) ⊎ (u ≡ Memory))
     → AnswersTo (meaning_of words) (Err u)
@@ -104,6 +106,7 @@ refusal_answers words e u has memory (inl is) = subst (λ (x : Usage). AnswersTo
     go [] same (inr among) = absurd among
     go (k ∷ ks) same (inr among) = refused words (k ∷ ks) same (is_filled k ks)
 
+-- a lawful line isn't refused for its words
 pub refusal_unlawful : (words : List Text) (e : Error) (u : Usage) → HasKind (fault_of program words) e
     → (kind_of e ≡ OutOfMemory → u ≡ Memory)
     → is_lawful words ≡ true → u ≡ Words → ⊥

@@ -9,6 +9,7 @@ use Rattle.dump_text.proofs.ValueLemmas.{some_copied}
 use Rattle.dump_digest.specs.RecordParts.{has_text, has_whole_text}
 use Rattle.dump_digest.specs.steps.Checks.{TellsOther, HasOtherDigest, is_told_text}
 
+-- nothing is both true and false
 pub clash : {b : Bool} → b ≡ true → b ≡ false → ⊥
 clash e f = let bad : true ≡ false = sym e ∙ f in cc
 
@@ -35,6 +36,7 @@ no_whole_there r delta = rw delta (by_length (has_text r))
     by_length true = refl
     by_length false = refl
 
+-- a text that is taken from a record is its whole text
 pub text_there : (r : DumpRecord) (text : List ℕ) → Some text ≡ whole_part r → (has_whole_text r ≡ true)
     × (text ≡ r.text)
 text_there r text is = by_whole (has_whole_text r) refl
@@ -50,6 +52,7 @@ no_text r is = by_whole (has_whole_text r) refl
     by_whole true e = let bad : None ≡ Some r.text = is ∙ rw e refl in cc
     by_whole false e = e
 
+-- a digest isn't ok exactly where the record tells another of its text
 pub digest_told : (name : List ℕ) (r : DumpRecord) (size : ℕ) (digest : List ℕ) (ok : Bool) (told : Option (List ℕ))
     → has_whole_text r ≡ true
     → told ≡ header_value name r.headers → (IsFalse ok ↔ TellsOther told size digest) → IsFalse ok
@@ -60,6 +63,7 @@ digest_told name r size digest ok told text is means =
       λ other. means.1 (there ∙ other.1.0, λ digits h. other.1.1 digits (sym is ∙ h)),
     )
 
+-- a text is checked exactly where the record tells a digest of it
 pub text_told : (r : DumpRecord) (checked : Bool) (md5 sha1 : Option (Bor (List ℕ))) → has_whole_text r ≡ true
     → option_copied md5 ≡ header_value md5_name r.headers
     → option_copied sha1 ≡ header_value sha1_name r.headers → checked ≡ (is_some md5 || is_some sha1)

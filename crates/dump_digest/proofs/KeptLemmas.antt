@@ -11,12 +11,14 @@ use Rattle.dump_text.proofs.BlockLemmas.{has_value}
 use Rattle.dump_rules.specs.Settings.{Settings, keeps_path}
 use Rattle.dump_digest.specs.RecordParts.{is_revision, is_kept_node, has_lost_source}
 
+-- a record with a path is a kept node exactly where its path is kept
 pub kept_some : (settings : Settings) (r : DumpRecord) (path : List ℕ) → header_value path_name r.headers ≡ Some path
     → keeps_path settings path ≡ is_kept_node settings r
 kept_some settings r path is =
     let node : has_header path_name r.headers ≡ true = sym (has_value path_name r.headers) ∙ ap is_some is in
     sym (rw (node, is) refl)
 
+-- a record without a path is no kept node
 pub kept_none : (settings : Settings) (r : DumpRecord) → header_value path_name r.headers ≡ None
     → false ≡ is_kept_node settings r
 kept_none settings r is =
@@ -31,6 +33,7 @@ lost_some settings r path is =
     let copy : has_header copy_path_name r.headers ≡ true = sym (has_value copy_path_name r.headers) ∙ ap is_some is in
     sym (rw (copy, is) refl)
 
+-- a record without a copy source has lost none
 pub lost_none : (settings : Settings) (r : DumpRecord) → header_value copy_path_name r.headers ≡ None
     → false ≡ has_lost_source settings r
 lost_none settings r is =

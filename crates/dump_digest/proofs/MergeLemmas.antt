@@ -17,6 +17,7 @@ use Rattle.dump_digest.proofs.DigestLemmas.{clash}
 
 -- one property
 
+-- a value was read exactly where it is some lines
 pub read_is : (value : List ℕ) (reads : Bool) → (IsTrue reads ↔ HasMergeLines value) → reads ≡ value_reads value
 read_is value reads means = by_reads reads refl (value_reads value) refl
   where
@@ -53,6 +54,7 @@ entry_bad p bad = by_value (value_reads (value_of p)) refl
 abbrev pub HasBadEntry : List Property → Type 0
 HasBadEntry ps = (p : Property) × Contains ps p × BadEntry p
 
+-- properties that can't all be read have one that is bad
 pub bad_of : (ps : List Property) → properties_read ps ≡ false → HasBadEntry ps
 bad_of [] bad = cc
 bad_of (p ∷ ps) bad = by_first (property_reads p) refl (bad_of ps)
@@ -74,6 +76,7 @@ read_none (q ∷ ps) p read (suc i, within, is) =
 
 -- a kept node
 
+-- mergeinfo of a kept node can't be read exactly where it is bad
 pub merge_means : (settings : Settings) (r : DumpRecord) (ok : Bool) (ps : List Property)
     → IsTrue (is_kept_node settings r) → HasPropertyList r ps
     → ok ≡ properties_read ps → IsFalse ok ↔ ∥ HasBadMergeinfo settings r ∥₁
@@ -96,6 +99,7 @@ merge_means settings r ok ps kept block is = (
             let entry : BadEntry p = record { named = named; none = λ has. none (subst HasMergeLines same has) } in
             absurd (clash read (entry_bad p entry))
 
+-- a record whose property block can't be read has no bad mergeinfo
 pub merge_unread : (settings : Settings) (r : DumpRecord) → ¬ HasPropertyBlock r → IsFalse true
     ↔ ∥ HasBadMergeinfo settings r ∥₁
 merge_unread settings r none = (
@@ -103,6 +107,7 @@ merge_unread settings r none = (
   λ bad. ∥∥₁_elim bad (Bool-set true false) (λ (value, mine, lines). absurd (none (mine.1, mine.2))),
 )
 
+-- a record that is no kept node has no bad mergeinfo
 pub merge_other : (settings : Settings) (r : DumpRecord) → IsFalse (is_kept_node settings r) → IsFalse true
     ↔ ∥ HasBadMergeinfo settings r ∥₁
 merge_other settings r other = (

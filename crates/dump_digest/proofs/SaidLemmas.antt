@@ -117,6 +117,7 @@ pub unread_value : (value : List ℕ) (o : Option Merged) → (IsSome o ↔ HasM
     → value_reads value ≡ false
 unread_value value o means is = sym (read_is value (is_some o) means) ∙ ap is_some is
 
+-- a value that was parsed can be read
 pub reads_value : (value : List ℕ) (o : Option Merged) (next : Merged) → (IsSome o ↔ HasMergeLines value)
     → o ≡ Some next
     → value_reads value ≡ true

@@ -122,6 +122,7 @@ merge_choice settings r = by_kept (is_kept_node settings r) refl
     ]
     by_kept false drop = inr (λ (value, of, bad). absurd_bool (is_kept_node settings r) of.0 drop)
 
+-- each record has a verdict
 pub verdict_exists : (settings : Settings) (r : DumpRecord) → (v : Verdict) × IsVerdict settings r v
 verdict_exists settings r =
     let (props_ok, props) = told (HasBadProperties settings r) (properties_choice settings r) in

@@ -34,6 +34,7 @@ deleted name = record { name = name; value = None }
 abbrev bare_record : List Header → DumpRecord
 bare_record headers = record { place = 0; version = 2; headers = headers; props = []; text = [] }
 
+-- a version record alone
 abbrev pub version : DumpRecord
 version = bare_record (header (codes "SVN-fs-dump-format-version") (codes "2") ∷ [])
 
@@ -63,6 +64,7 @@ including empty renumber = record {
   skip_missing = false;
 }
 
+-- the options that include trunk and pad emptied revisions
 abbrev pub padding : Settings
 padding = including Pad false
 
@@ -488,6 +490,7 @@ stands = refl
 outputs : AreOutputs padding true kept (uuid ∷ other ∷ []) (codes "UUID: 7bf7a5ef\n\n")
 outputs = (codes "UUID: 7bf7a5ef\n\n", [], refl, refl, ([], [], refl, refl, refl))
 
+-- the bytes of a version record alone
 abbrev pub version_text : List ℕ
 version_text = codes "SVN-fs-dump-format-version: 2\n\n"
 
@@ -512,6 +515,7 @@ version_alone = (
   (refl, lit< tt),
 )
 
+-- a dump that is a version record alone stays as it is
 pub clean : IsCleanText padding version_text (version ∷ []) version_text
 clean = record { whole = version_alone; fault_free = version_is_free; written = version_written }
 

@@ -193,6 +193,7 @@ module _ {T : Type 0} (number : T → ℕ) where
   none_stands (suc n) zero item e = none-some item e
   none_stands (suc n) (suc k) item e = none_stands n k item e
 
+  -- at first nothing has arrived, and each place is free
   pub empty_row : (window : ℕ) → Row number window 0 [] (replicate window None)
   empty_row window = record {
     wide = length-replicate window None;

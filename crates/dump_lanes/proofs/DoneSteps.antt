@@ -50,6 +50,7 @@ module _ {T : Type 0} where
   give_one : (x : Note T) → cond (x.from == x.from) (x ∷ []) [] ≡ x ∷ []
   give_one x = ap (λ b. cond b (x ∷ []) []) (eq-eqb x.from x.from refl)
 
+  -- a worker's step puts its note behind the dones
   pub give_is_step : (x : Note T) (items : List (Note T)) → IsStep dones_part items (give_step x) (items ++ x ∷ [])
   give_is_step x items = record {
     one_entry = ap (λ l. l ++ []) (give_one x);
@@ -58,6 +59,7 @@ module _ {T : Type 0} where
     in_turn = ap (λ l. items ++ l) (give_one x);
   }
 
+  -- the sequencer's step takes the first note of the dones
   pub arrive_is_step : (x : Note T) (items : List (Note T)) → IsStep dones_part (x ∷ items) (arrive_step x) items
   arrive_is_step x items = record {
     one_entry = refl;

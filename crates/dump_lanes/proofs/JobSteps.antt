@@ -35,6 +35,7 @@ module _ {T : Type 0} where
   cut_is_step (Item x) items = record { one_entry = refl; allowed = refl; share = refl; in_turn = refl }
   cut_is_step End items = record { one_entry = refl; allowed = refl; share = refl; in_turn = refl }
 
+  -- a worker's step takes the first mark of the jobs
   pub take_is_step : (k : ℕ) (x : Mark T) (items : List (Mark T)) → IsStep jobs_part (x ∷ items) (take_step k x) items
   take_is_step k x items = record {
     one_entry = refl;

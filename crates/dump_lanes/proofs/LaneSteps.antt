@@ -42,12 +42,15 @@ module _ {T : Type 0} where
       → told end ≡ next → receiving_of pass end ≡ record (receiving_of pass end) { told = next }
   ends_as pass end next e i = record { lane = lane_of pass; taken = items_of (view pass).taken; told = e i }
 
+  -- where the sender put an item, that item follows those that it had put
   pub put_item : (v w : Log T) (x : T) → w ≡ after_put v (Item x) → items_of w.put ≡ items_of v.put ++ x ∷ []
   put_item v w x e = ap (λ (l : Log T). items_of l.put) e ∙ items_of-then_item v.put x
 
+  -- where the receiver took an item, that item follows those that it had taken
   pub take_item : (v w : Log T) (x : T) → w ≡ after_take v (Item x) → items_of w.taken ≡ items_of v.taken ++ x ∷ []
   take_item v w x e = ap (λ (l : Log T). items_of l.taken) e ∙ items_of-then_item v.taken x
 
+  -- where the receiver took the end mark, it has taken the same items as before
   pub take_end : (v w : Log T) → w ≡ after_take v End → items_of w.taken ≡ items_of v.taken
   take_end v w e = ap (λ (l : Log T). items_of l.taken) e ∙ items_of-then_end v.taken
 

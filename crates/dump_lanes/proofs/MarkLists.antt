@@ -6,6 +6,7 @@ use Rattle.dump_lanes.specs.declared.protocol.Mark.TheVariants.{Item, End}
 use Rattle.dump_lanes.specs.LaneMarks.{items_of, AreItemsThen, mark_if}
 
 module _ {T : Type 0} where
+  -- marks joined to others have the items of both
   pub items_of-append : (xs ys : List (Mark T)) → items_of (xs ++ ys) ≡ items_of xs ++ items_of ys
   items_of-append [] ys = refl
   items_of-append (Item x ∷ xs) ys = ap (λ l. x ∷ l) (items_of-append xs ys)
@@ -24,6 +25,7 @@ module _ {T : Type 0} where
   all_items : (ms : List (Mark T)) → AreItemsThen [] ms → ms ≡ map Item (items_of ms)
   all_items ms h = h ∙ append-nil (map Item (items_of ms))
 
+  -- items alone, which an item joins, are items alone
   pub then_item : (ms : List (Mark T)) (x : T) → AreItemsThen [] ms → AreItemsThen [] (ms ++ Item x ∷ [])
   then_item ms x h =
       let items : List T = items_of ms in
@@ -34,6 +36,7 @@ module _ {T : Type 0} where
       ap (λ l. map {B = Mark T} Item l) (sym (items_of-then_item ms x)) in
       one ∙ (two ∙ sym (append-nil (map Item more)))
 
+  -- items alone, which the end mark joins, are items and then the end mark
   pub then_end : (ms : List (Mark T)) → AreItemsThen [] ms → AreItemsThen (End ∷ []) (ms ++ End ∷ [])
   then_end ms h =
       ap (λ l. l ++ End ∷ []) (all_items ms h ∙ ap (λ l. map {B = Mark T} Item l) (sym (items_of-then_end ms)))

@@ -21,9 +21,11 @@ use Rattle.dump_lanes.proofs.TwoMoves.{all_own, fork_left, fork_right, fork_else
 use Rattle.dump_lanes.proofs.Views.{AllViews, AllViews-set, AllViews-one, AllViews-more, within, set_long}
 
 module _ {T : Type 0} where
+  -- the sequencer's step, which puts a piece into the lane
   abbrev pub release : T → Step T
   release x = record { event = move.Release; entry = x }
 
+  -- the writer's step, which takes a piece from the lane
   abbrev pub write : T → Step T
   write x = record { event = move.Write; entry = x }
 
@@ -31,6 +33,7 @@ module _ {T : Type 0} where
   pub release_is_step : (x : T) (items : List T) → IsStep lane_part items (release x) (items ++ x ∷ [])
   release_is_step x items = record { one_entry = refl; allowed = refl; share = refl; in_turn = refl }
 
+  -- the writer's step takes the first piece of the lane
   pub write_is_step : (x : T) (items : List T) → IsStep lane_part (x ∷ items) (write x) items
   write_is_step x items = record {
     one_entry = refl;

@@ -52,6 +52,7 @@ module _ {E : Type 0} where
   step_other t s steps ne = ap (λ b. cond b (s ∷ steps_of t steps) (steps_of t steps))
       (other_thread t (thread_of (event_of s.event)) ne)
 
+  -- what left in all steps is what left in the earlier ones, and then what left in the later ones
   pub all_taken-append : (part : Part E) (xs ys : List (Step E))
       → all_taken part (xs ++ ys) ≡ all_taken part ys ++ all_taken part xs
   all_taken-append part [] ys = sym (append-nil (all_taken part ys))
@@ -72,50 +73,63 @@ module _ {E : Type 0} where
 
 -- a worker's steps go to a new pass
 module _ (owner : Thread → ℕ) (k new : ℕ) where
+  -- the pass that each thread's steps belong to, once the worker's have gone to the new pass
   abbrev pub forked : Thread → ℕ
   forked t = cond (is_thread (Thread.Worker k) t) new (owner t)
 
+  -- the worker's steps belong to the new pass
   pub forked_goes : forked (Thread.Worker k) ≡ new
   forked_goes = ap (λ b. cond b new (owner (Thread.Worker k))) (eq-eqb k k refl)
 
+  -- a thread that is the worker has the new pass
   pub forked_to : (t : Thread) → t ≡ Thread.Worker k → forked t ≡ new
   forked_to t e = ap forked e ∙ forked_goes
 
+  -- a thread that isn't the worker keeps its pass
   pub forked_stays : (t : Thread) → t ≢ Thread.Worker k → forked t ≡ owner t
   forked_stays t ne = ⊎_elim (λ (y : (t ≡ Thread.Worker k) × (is_thread (Thread.Worker k) t ≡ true)). absurd (ne y.0))
       (λ (y : (t ≢ Thread.Worker k) × (is_thread (Thread.Worker k) t ≡ false)). ap (λ b. cond b new (owner t)) y.1)
       (worker_or_other k t)
 
+  -- a thread that now has another pass than the new one had that pass before
   pub forked_had : (t : Thread) (j : ℕ) → j ≢ new → forked t ≡ j → owner t ≡ j
   forked_had t j ne e = ⊎_elim (λ (y : (t ≡ Thread.Worker k) × (is_thread (Thread.Worker k) t ≡ true)). absurd
       (ne (sym e ∙ forked_to t y.0)))
       (λ (y : (t ≢ Thread.Worker k) × (is_thread (Thread.Worker k) t ≡ false)). sym (forked_stays t y.0) ∙ e)
       (worker_or_other k t)
 
+  -- a thread of a pass that the worker didn't belong to still has that pass
   pub forked_kept : (t : Thread) (j : ℕ) → owner (Thread.Worker k) ≢ j → owner t ≡ j → forked t ≡ j
   forked_kept t j ne e = forked_stays t (λ w. ne (sym (ap owner w) ∙ e)) ∙ e
 
 -- all steps that a pass knows go to another
 module _ (owner : Thread → ℕ) (pass other : ℕ) (two : other ≢ pass) where
+  -- the pass that each thread's steps belong to, once the one pass has taken in the other
   abbrev pub joined : Thread → ℕ
   joined t = cond (owner t == other) pass (owner t)
 
+  -- a thread keeps its pass, where that isn't the one that is taken in
   pub joined_stays : (t : Thread) → owner t ≢ other → joined t ≡ owner t
   joined_stays t ne = ap (λ b. cond b pass (owner t)) (ne_eqb (owner t) other ne)
 
+  -- a thread of the pass that is taken in comes to the one that takes it in
   pub joined_comes : (t : Thread) → owner t ≡ other → joined t ≡ pass
   joined_comes t e = ap (λ b. cond b pass (owner t)) (eq-eqb (owner t) other e)
 
+  -- a thread of the pass that takes in the other stays with it
   pub joined_is : (t : Thread) → owner t ≡ pass → joined t ≡ pass
   joined_is t e = joined_stays t (λ o. two (sym o ∙ e)) ∙ e
 
+  -- a thread that had another pass than the one that is taken in still has that pass
   pub joined_kept : (t : Thread) (j : ℕ) → j ≢ other → owner t ≡ j → joined t ≡ j
   joined_kept t j ne e = joined_stays t (λ o. ne (sym e ∙ o)) ∙ e
 
+  -- a thread that now has another pass than the one that takes in had that pass before
   pub joined_had : (t : Thread) (j : ℕ) → j ≢ pass → joined t ≡ j → owner t ≡ j
   joined_had t j ne e = dite (ℕ_discrete (owner t) other) (λ o. absurd (ne (sym e ∙ joined_comes t o)))
       (λ o. sym (joined_stays t o) ∙ e)
 
+  -- no thread is left with the pass that was taken in
   pub joined_left : (t : Thread) → joined t ≢ other
   joined_left t e = dite (ℕ_discrete (owner t) other) (λ o. two (sym e ∙ joined_comes t o))
       (λ ne. ne (sym (joined_stays t ne) ∙ e))
@@ -129,6 +143,7 @@ module _ {E : Type 0} (owner : Thread → ℕ) (happened : List (Step E)) where
     others = λ t ne. step_other t s steps (λ e. ne (ap owner e ∙ owns)) ∙ h.others t ne;
   }
 
+  -- a step of a thread whose pass this isn't leaves what the pass knows
   pub knows_else : (pass : ℕ) (steps : List (Step E)) (s : Step E) → owner (thread_of (event_of s.event)) ≢ pass
       → Knows owner happened pass steps → Knows owner (s ∷ happened) pass steps
   knows_else pass steps s apart h =
@@ -138,6 +153,7 @@ module _ {E : Type 0} (owner : Thread → ℕ) (happened : List (Step E)) where
         others = h.others;
       }
 
+  -- a pass that knows no step of the worker knows its threads' steps after the worker went to a new pass
   pub knows_fork_left : (pass k new : ℕ) (steps : List (Step E)) → pass ≢ new → steps_of (Thread.Worker k) steps ≡ []
       → Knows owner happened pass steps → Knows (forked owner k new) happened pass steps
   knows_fork_left pass k new steps apart none h = record {
@@ -148,6 +164,7 @@ module _ {E : Type 0} (owner : Thread → ℕ) (happened : List (Step E)) where
         (λ e. ne (forked_stays owner k new t y.0 ∙ e))) (worker_or_other k t);
   }
 
+  -- a pass that the worker didn't have knows its threads' steps after the worker went to a new pass
   pub knows_fork_else : (j k new : ℕ) (steps : List (Step E)) → j ≢ new → owner (Thread.Worker k) ≢ j
       → Knows owner happened j steps → Knows (forked owner k new) happened j steps
   knows_fork_else j k new steps apart other h = record {
@@ -155,6 +172,7 @@ module _ {E : Type 0} (owner : Thread → ℕ) (happened : List (Step E)) where
     others = λ t ne. h.others t (λ e. ne (forked_kept owner k new t j other e));
   }
 
+  -- the new pass knows all steps of its worker, where the worker has made none
   pub knows_fork_new : (k new : ℕ) → ((t : Thread) → owner t ≢ new) → steps_of (Thread.Worker k) happened ≡ []
       → Knows (forked owner k new) happened new []
   knows_fork_new k new fresh none = record {
@@ -165,6 +183,7 @@ module _ {E : Type 0} (owner : Thread → ℕ) (happened : List (Step E)) where
     others = λ t ne. refl;
   }
 
+  -- a pass that has taken in another knows the steps of its own threads and of the other's
   pub knows_join_both : (pass other : ℕ) (two : other ≢ pass) (mine theirs : List (Step E))
       → Knows owner happened pass mine
       → Knows owner happened other theirs → Knows (joined owner pass other two) happened pass (theirs ++ mine)
@@ -182,6 +201,7 @@ module _ {E : Type 0} (owner : Thread → ℕ) (happened : List (Step E)) where
             (λ b. mine_alone t b ∙ h.others t (λ o. ne (joined_is owner pass other two t o)));
       }
 
+  -- a third pass knows its threads' steps after one pass has taken in another
   pub knows_join_else : (pass other : ℕ) (two : other ≢ pass) (j : ℕ) (steps : List (Step E)) → j ≢ pass → j ≢ other
       → Knows owner happened j steps → Knows (joined owner pass other two) happened j steps
   knows_join_else pass other two j steps apart away h = record {
@@ -189,6 +209,7 @@ module _ {E : Type 0} (owner : Thread → ℕ) (happened : List (Step E)) where
     others = λ t ne. h.others t (λ e. ne (joined_kept owner pass other two t j away e));
   }
 
+  -- a pass that was taken in has no thread left, and knows no step
   pub knows_join_spent : (pass other : ℕ) (two : other ≢ pass) → Knows (joined owner pass other two) happened other []
   knows_join_spent pass other two = record {
     own = λ t e. absurd

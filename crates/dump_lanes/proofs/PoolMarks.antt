@@ -8,6 +8,7 @@ use Rattle.dump_lanes.specs.LaneMarks.{items_of}
 use Rattle.dump_lanes.specs.steps.PoolPasses.{count_ends, marks_in}
 use Rattle.dump_lanes.proofs.MarkLists.{items_of-append}
 
+-- so many end marks are counted as so many
 pub count_ends-replicate : (T : Type 0) (n : ℕ) → count_ends {T = T} (replicate n End) ≡ n
 count_ends-replicate T zero = refl
 count_ends-replicate T (suc n) = let t = count_ends-replicate T n in omega arith
@@ -17,6 +18,7 @@ items_of-ends T zero = refl
 items_of-ends T (suc n) = items_of-ends T n
 
 module _ {T : Type 0} where
+  -- marks joined to others have the end marks of both
   pub count_ends-append : (xs ys : List (Mark T)) → count_ends (xs ++ ys) ≡ count_ends xs + count_ends ys
   count_ends-append [] ys = omega arith
   count_ends-append (Item x ∷ xs) ys = count_ends-append xs ys

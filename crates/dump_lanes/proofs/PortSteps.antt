@@ -28,9 +28,11 @@ module _ {T : Type 0} where
       subst (IsCutting workers)
       (sym e) record { may_put = h.may_put; takes_none = h.takes_none; parts = h.parts; nothing_taken = h.nothing_taken; marks = after }
 
+  -- where the cutter put an item, that item follows those that it had put
   pub cut_item_put : (v w : Hand T) (x : T) → w ≡ after_put v (Item x) → items_of w.put ≡ items_of v.put ++ x ∷ []
   cut_item_put v w x e = ap (λ (k : Hand T). items_of k.put) e ∙ items_of-then_item v.put x
 
+  -- where the cutter put an item, it has put as many end marks as before
   pub cut_item_marks : (v w : Hand T) (x : T) → w ≡ after_put v (Item x) → count_ends w.put ≡ count_ends v.put
   cut_item_marks v w x e =
       ap (λ (k : Hand T). count_ends k.put) e ∙ (let a = count_ends-append v.put (Item x ∷ []) in omega arith)
@@ -52,15 +54,18 @@ module _ {T : Type 0} where
       subst (IsCutting workers)
       (sym e) record { may_put = h.may_put; takes_none = h.takes_none; parts = h.parts; nothing_taken = h.nothing_taken; marks = after }
 
+  -- where the cutter put its end marks, it has put the same items as before
   pub cut_ends_put : (n : ℕ) (v w : Hand T) → w ≡ after_ends v n → items_of w.put ≡ items_of v.put
   cut_ends_put n v w e = ap (λ (k : Hand T). items_of k.put) e ∙ items_of-then_ends v.put n
 
+  -- a cutter that had put no end mark and puts so many has put so many
   pub cut_ends_marks : (n : ℕ) (v w : Hand T) → count_ends v.put ≡ 0 → w ≡ after_ends v n → count_ends w.put ≡ n
   cut_ends_marks n v w none e =
       ap (λ (k : Hand T). count_ends k.put) e
       ∙ (let a = count_ends-append v.put (replicate n End) in let b : count_ends {T = T}
       (replicate n End) ≡ n = count_ends-replicate T n in omega arith)
 
+  -- the cutter's port is the same where it put the same jobs and as many end marks
   pub cutter_is : (pool : PoolName) (workers drawn : ℕ) {put put' : List T} {marks marks' : ℕ} → put ≡ put'
       → marks ≡ marks'
       → ◌≡◌ {A = CutterSide T} record { pool = pool; workers = workers; put = put; marks = marks; drawn = drawn } record { pool = pool; workers = workers; put = put'; marks = marks'; drawn = drawn }
@@ -75,6 +80,7 @@ module _ {T : Type 0} where
       (Item x)) = record { may_take = h.may_take; puts_none = h.puts_none; from = h.from; parts = h.parts; marks = then_item v.taken x before } in
       subst (λ b. IsWorking worker b w) (sym unended) (subst (IsWorking worker false) (sym e) after)
 
+  -- where a worker took a job, that job follows those that it had taken
   pub work_item_taken : (v w : Hand T) (x : T) → w ≡ after_take v (Item x)
       → items_of w.taken ≡ items_of v.taken ++ x ∷ []
   work_item_taken v w x e = ap (λ (k : Hand T). items_of k.taken) e ∙ items_of-then_item v.taken x
@@ -88,6 +94,7 @@ module _ {T : Type 0} where
       (after_take v End) = record { may_take = h.may_take; puts_none = h.puts_none; from = h.from; parts = h.parts; marks = then_end v.taken before } in
       subst (IsWorking worker true) (sym e) after
 
+  -- where a worker took an end mark, it has taken the same jobs as before
   pub work_end_taken : (v w : Hand T) → w ≡ after_take v End → items_of w.taken ≡ items_of v.taken
   work_end_taken v w e = ap (λ (k : Hand T). items_of k.taken) e ∙ items_of-then_end v.taken
 
@@ -106,6 +113,7 @@ module _ {T : Type 0} where
       (after_give v n) = record { may_put = refl; from = h.from; parts = h.parts; marks = all } in
       subst (λ b. IsGiving worker b w) (sym unended) (subst (IsGiving worker false) (sym e) after)
 
+  -- where a worker gave an item, that item follows those that it had given
   pub give_item_given : (v w : Desk T) (n : Note T) (x : T) → n.mark ≡ Item x
       → w ≡ after_give v n → items_of (marks_in w.put) ≡ items_of (marks_in v.put) ++ x ∷ []
   give_item_given v w n x is e =
@@ -128,6 +136,7 @@ module _ {T : Type 0} where
       (after_give v n) = record { may_put = refl; from = h.from; parts = h.parts; marks = all } in
       subst (IsGiving worker true) (sym e) after
 
+  -- where a worker gave an end mark, it has given the same items as before
   pub give_end_given : (v w : Desk T) (n : Note T) → n.mark ≡ End
       → w ≡ after_give v n → items_of (marks_in w.put) ≡ items_of (marks_in v.put)
   give_end_given v w n is e =
@@ -151,6 +160,7 @@ module _ {T : Type 0} where
         taken = ap items_of one ∙ (items_of-then_item (marks_in w.got) x ∙ ap (λ l. l ++ x ∷ []) before);
       } in subst (HasRead (x ∷ []) v) (sym e) after
 
+  -- where an item arrived at the sequencer, as many end marks have arrived as before
   pub read_item_ends : (w w' : Desk T) (n : Note T) (x : T) → n.mark ≡ Item x
       → w' ≡ after_arrive w n → count_ends (marks_in w'.got) ≡ count_ends (marks_in w.got)
   read_item_ends w w' n x is e =
@@ -174,6 +184,7 @@ module _ {T : Type 0} where
         taken = ap items_of one ∙ (items_of-then_end (marks_in w.got) ∙ h.taken);
       } in subst (HasRead [] v) (sym e) after
 
+  -- where an end mark arrived at the sequencer, one more has arrived than before
   pub read_end_ends : (w w' : Desk T) (n : Note T) → n.mark ≡ End
       → w' ≡ after_arrive w n → count_ends (marks_in w'.got) ≡ count_ends (marks_in w.got) + 1
   read_end_ends w w' n is e =
@@ -210,6 +221,7 @@ module _ {T : Type 0} where
       (a, λ i. record { pool = pool; taken = h.taken i; ended = (b ∙ sym a) i })
 
 module _ {J D : Type 0} where
+  -- a worker's port is the same where it took and gave the same, and ended and closed alike
   pub worker_is : (pool : PoolName)
       (index : ℕ) {taken taken' : List J} {ended ended' : Bool} {given given' : List D} {closed closed' : Bool}
       → taken ≡ taken' → ended ≡ ended' → given ≡ given' → closed ≡ closed'

@@ -31,6 +31,7 @@ module _ {X Y : Type 0} where
   index_of_map f (x ∷ xs) zero d = refl
   index_of_map f (x ∷ xs) (suc k) d = index_of_map f xs k d
 
+  -- a mapped list is as long as the list
   pub length_of_map : (f : X → Y) (xs : List X) → length (map f xs) ≡ length xs
   length_of_map f [] = refl
   length_of_map f (x ∷ xs) = ap suc (length_of_map f xs)
@@ -219,6 +220,7 @@ module _ {J D : Type 0} where
       ap (λ l. l ++ (view q.dones).steps) (done_steps-then ps p) ∙ append_assoc (view p.dones).steps (done_steps ps)
       (view q.dones).steps
 
+  -- the cutter's pass is just its own where it has taken in no worker's
   pub no_jobs : (v : Hand J) → v.puts ≡ true → v.takes ≡ false → HasJobsOf {J = J} {D = D} [] v v
   no_jobs v may idle = record {
     may_put = may;
@@ -230,6 +232,7 @@ module _ {J D : Type 0} where
     steps = refl;
   }
 
+  -- after the cutter's pass takes in one more worker's, it has taken in those of all of them
   pub more_jobs : (ps : List (WorkerPort J D)) (p : WorkerPort J D) (old v w : Hand J) → HasJobsOf ps old v
       → w ≡ job_rule.after_join v (view p.jobs) → HasJobsOf (ps ++ p ∷ []) old w
   more_jobs ps p old v w h e =
@@ -262,6 +265,7 @@ module _ {J D : Type 0} where
     steps = refl;
   }
 
+  -- after the sequencer's pass takes in one more worker's, it has taken in those of all of them
   pub more_dones : (ps : List (WorkerPort J D)) (p : WorkerPort J D) (old v w : Desk D) → HasDonesOf ps old v
       → w ≡ done_rule.after_join v (view p.dones)
       → HasDonesOf (ps ++ p ∷ []) old w
@@ -334,6 +338,7 @@ module _ {J D : Type 0} where
             (t.0, t.1, t.2 n ∙ omega arith);
       } in subst (AreWorkersOf pool.name pool.workers) (sym e) of_new
 
+  -- none of a new pool's workers' ports is closed
   pub none_closed : (pool : PoolState) (ports : List (WorkerPort J D))
       → map (λ (p : WorkerPort J D). worker_port p) ports ≡ map (new_worker pool) (range_with_len 0 pool.workers)
       → All (λ (p : WorkerPort J D). (worker_port p).closed ≡ false) ports
@@ -342,6 +347,7 @@ module _ {J D : Type 0} where
       (subst (All (λ (w : WorkerSide J D). w.closed ≡ false)) (sym e)
       (λ k d lt. (all_new pool 0 pool.workers k d lt).1))
 
+  -- the workers' ports of a new pool are those of its cutter's pool, each of them once
   pub fresh_workers : (pool : PoolState) (cutter : CutterSide J) (sides : List (WorkerSide J D))
       → cutter ≡ new_cutter pool
       → sides ≡ map (new_worker pool) (range_with_len 0 pool.workers) → AreWorkersOf cutter.pool cutter.workers sides

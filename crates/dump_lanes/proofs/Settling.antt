@@ -26,6 +26,7 @@ module _ {X Y : Type 0} where
   flat_map-then f (y ∷ xs) x = ap (λ l. f y ++ l) (flat_map-then f xs x)
       ∙ sym (append_assoc (f y) (flat_map f xs) (f x))
 
+  -- a list with one more, mapped, is the mapped list with that one mapped behind it
   pub map-then : (f : X → Y) (xs : List X) (x : X) → map f (xs ++ x ∷ []) ≡ map f xs ++ f x ∷ []
   map-then f xs x = map-append f xs (x ∷ [])
 
@@ -43,6 +44,7 @@ range-then a (suc n) =
     let e : a + 1 + n ≡ a + suc n = omega arith in
     ap (λ l. a ∷ l) (range-then (a + 1) n ∙ ap (λ k. range_with_len (a + 1) n ++ k ∷ []) e)
 
+-- the numbers below one more are those below n, and then n
 pub range-more : (n : ℕ) → range_with_len 0 (n + 1) ≡ range_with_len 0 n ++ n ∷ []
 range-more n =
     let more : n + 1 ≡ suc n = omega arith in
@@ -127,6 +129,7 @@ module _ {T : Type 0} where
       sym (weigh_items weight taken) ∙ (whole.weighs (item_weight weight)
       ∙ (weigh_items weight whole.gone ∙ ap (λ l. sum_by weight (items_of l)) (sym all)))
 
+  -- notes joined to others have the marks of both
   pub marks_in-append : (xs ys : List (Note T)) → marks_in (xs ++ ys) ≡ marks_in xs ++ marks_in ys
   marks_in-append xs ys = map-append (λ (n : Note T). n.mark) xs ys
 

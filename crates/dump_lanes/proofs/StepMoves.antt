@@ -70,6 +70,7 @@ module _ {E : Type 0} where
   piece move.Draw x old new one turn = none x one
   piece move.Give x old new one turn = none x one
 
+  -- in each step on the lane the sequencer puts one piece, or the writer takes one
   pub pieces : PiecesMoveOne E
   pieces old new s h = piece s.event s.entry old new h.one_entry h.in_turn
 
@@ -91,6 +92,7 @@ module _ {T : Type 0} where
   job move.Release x old new one turn = none x one
   job move.Write x old new one turn = none x one
 
+  -- in each step on the jobs the cutter puts one mark, or a worker takes one
   pub jobs_move : JobsMoveOne T
   jobs_move old new s h = job s.event s.entry old new h.one_entry h.in_turn
 
@@ -116,6 +118,7 @@ module _ {T : Type 0} where
   done move.Release n old new one turn = none n one
   done move.Write n old new one turn = none n one
 
+  -- in each step on the dones a worker puts one note of its own, or the sequencer takes one
   pub dones_move : DonesMoveOne T
   dones_move old new s h = done s.event s.entry old new h.one_entry h.in_turn
 
@@ -148,10 +151,12 @@ credit move.Arrive old new one turn = absurd (omega arith)
 credit move.Release old new one turn = absurd (omega arith)
 credit move.Write old new one turn = absurd (omega arith)
 
+-- in each step on the credits the cutter draws one, or the writer gives one back
 pub credits_move : CreditsMoveOne
 credits_move old new s h = credit s.event old new h.one_credit
     (one_balance old new s.event h.one_credit h.allowed h.share)
 
+-- a raise puts the stop word up, and a look finds what it is and leaves it
 pub word_rises : WordOnlyRises
 word_rises was up kind.Raise h = inl (refl, h.share Event.WriterRaises refl)
 word_rises was up (kind.Look found) h = inr (ap kind.Look h.says, h.share Event.Look refl)

@@ -59,9 +59,11 @@ look_share up Event.Write e = refl
 look_share up Event.Give e = refl
 look_share up Event.Shut e = refl
 
+-- a raise puts the stop word up, whatever it was
 pub raise_is_step : (was : Bool) → IsStep was kind.Raise true
 raise_is_step was = record { event = Event.WriterRaises; named = refl; share = raise_share was; says = refl }
 
+-- a look finds what the stop word is, and leaves it
 pub look_is_step : (up found : Bool) → found ≡ up → IsStep up (kind.Look found) up
 look_is_step up found e = record {
   event = Event.Look;

@@ -21,6 +21,7 @@ third p o j Thread.Sequencer a b e = a (sym e)
 third p o j Thread.Writer a b e = b (sym e)
 
 module _ {E : Type 0} (happened : List (Step E)) where
+  -- a pass that is both knows all steps of each thread
   pub all_own : (p : ℕ) (steps : List (Step E)) → Knows (two_owners p p) happened p steps → (t : Thread)
       → steps_of t steps ≡ steps_of t happened
   all_own p steps h t = h.own t (one_owner p t)
@@ -47,9 +48,11 @@ module _ {E : Type 0} (happened : List (Step E)) where
   right_own p o apart none Thread.Sequencer e = absurd (apart e)
   right_own p o apart none Thread.Writer e = sym none
 
+  -- the writer's new pass knows no step, where the writer has made none
   pub fork_right : (p o : ℕ) → p ≢ o → steps_of Thread.Writer happened ≡ [] → Knows (two_owners p o) happened o []
   fork_right p o apart none = record { own = right_own p o apart none; others = λ t ne. refl }
 
+  -- a third pass knows its threads' steps after the first one is cut in two
   pub fork_else : (p o j : ℕ) (steps : List (Step E)) → j ≢ p → j ≢ o → Knows (two_owners p p) happened j steps
       → Knows (two_owners p o) happened j steps
   fork_else p o j steps a b h =
@@ -79,10 +82,12 @@ module _ {E : Type 0} (happened : List (Step E)) where
     others = λ t ne. absurd (ne (one_owner p t));
   }
 
+  -- a third pass knows its threads' steps after one of the two has taken in the other
   pub join_else : (p o j : ℕ) (steps : List (Step E)) → j ≢ p → j ≢ o → Knows (two_owners p o) happened j steps
       → Knows (two_owners p p) happened j steps
   join_else p o j steps a b h =
       record { own = λ t e. absurd (third p p j t a a e); others = λ t ne. h.others t (third p o j t a b) }
 
+  -- a pass that was taken in has no thread left, and knows no step
   pub join_spent : (p o : ℕ) → o ≢ p → Knows (two_owners p p) happened o []
   join_spent p o two = record { own = λ t e. absurd (third p p o t two two e); others = λ t ne. refl }

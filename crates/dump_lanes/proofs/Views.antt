@@ -6,6 +6,7 @@ use lib.ListN.{get_elem?}
 use Rattle.atomic_table.proofs.Lists.{at_set}
 
 module _ {V : Type 0} where
+  -- the fact holds of each pass and its view
   abbrev pub AllViews : (ℕ → V → Type 0) → List V → Type 0
   AllViews F views = (pass : ℕ) (v : V) → get_elem? views pass ≡ some v → F pass v
 
@@ -37,16 +38,19 @@ module _ {V : Type 0} where
       (λ (x : (j ≡ length views) × (w ≡ u)). subst (λ (y : ℕ × V). F y.0 y.1) (λ i. (sym x.0 i, x.1 i)) new)
       (at_new views w u j e)
 
+  -- a pass with a view is less than the number of views
   pub within : (views : List V) (pass : ℕ) (v : V) → get_elem? views pass ≡ some v → pass < length views
   within [] pass v e = absurd (some-ne-none v (sym e))
   within (x ∷ xs) zero v e = omega arith
   within (x ∷ xs) (suc pass) v e = let t = within xs pass v e in omega arith
 
+  -- a change of one view leaves as many views
   pub set_long : (views : List V) (pass : ℕ) (w : V) → length (set views pass w) ≡ length views
   set_long [] pass w = refl
   set_long (x ∷ xs) zero w = refl
   set_long (x ∷ xs) (suc pass) w = ap suc (set_long xs pass w)
 
+  -- each pass that is less than the number of views has a view
   pub at_some : (views : List V) (pass : ℕ) → pass < length views → (v : V) × (get_elem? views pass ≡ some v)
   at_some [] pass lt = absurd (omega arith)
   at_some (x ∷ xs) zero lt = (x, refl)

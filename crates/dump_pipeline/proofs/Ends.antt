@@ -17,6 +17,7 @@ same_count m n = Coded-set coded_ℕ m n
 same_ending : (a b : Ending) → IsProp (a ≡ b)
 same_ending a b = hlevel props
 
+-- a list of records that is merely known to end so ends so
 pub ends_once : (dump : List ℕ) (count : ℕ) (ending : Ending) → ∥ EndsAfter dump count ending ∥₁
     → EndsAfter dump count ending
 ends_once dump count ending t = by (each_dump_has_one_list dump)

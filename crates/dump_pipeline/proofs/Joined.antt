@@ -201,6 +201,7 @@ module _ {D : Type 0} {run : Ghosts D} where
       ∙ ap (λ (l : List NumberedPiece). text_of l) same))
       (subst (λ (e : Option End). HasEndedWith settings dump e (length put) (text_of put)) at h.text)
 
+  -- where the writer took all that was put and the sink didn't fail, the run leaves what its end says
   pub ended_so : (settings : Settings) (dump : List ℕ) (window : ℕ) (taken : List (Checked D run))
       (put got : List NumberedPiece) (end : Option End) (last : End) (stray failed : Bool)
       (first now : Option (List ℕ)) (count : ℕ) → HasSequenced settings dump window taken put end stray

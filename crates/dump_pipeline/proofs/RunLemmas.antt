@@ -33,6 +33,7 @@ use Rattle.dump_pipeline.specs.steps.Progress.{Progress}
 use Rattle.dump_pipeline.specs.RunAnswer.{IsFilterPrefix, RunLeaves}
 use Rattle.dump_pipeline.specs.steps.Sending.{Sends, StopsShort, EndsRun}
 
+-- what begins the beginning of a text begins the text
 pub prefix_trans : (a b c : List ℕ) → IsPrefixOf a b → IsPrefixOf b c → IsPrefixOf a c
 prefix_trans a b c (x, is) (y, at) = (x ++ y, at ∙ ap (λ t. t ++ y) is ∙ append_assoc a x y)
 
@@ -126,6 +127,7 @@ goes_on settings dump before text begins free written = by_law (each_dump_has_on
               prefix (reached.text ++ more) more refl,
             )
 
+-- before the first record a run has written nothing, and its filter is in its first state
 pub begun : (settings : Settings) (dump : List ℕ) (cutter : CutterState) (filter : FilterState) (old : Option (List ℕ))
     → cutter ≡ record { dump = dump; number = 0 } → filter ≡ first_state settings
     → Progress settings dump cutter filter old old 0
@@ -215,6 +217,7 @@ module _ (settings : Settings) (dump : List ℕ) (cutter : CutterState) (filter 
         (sym p.settings_is) p.out));
   }
 
+  -- a run behind the last record of a whole dump leaves the filter's answer, or why its end couldn't be written
   pub finished : (new : Option (List ℕ)) (answer : Answer) → EndsAfter cutter.dump cutter.number Ending.Whole
       → EndsRun filter mid new written answer → RunLeaves settings dump old new answer
   finished new (answers.Clean report) ends (piece, finishes, appended, reports) = record {
@@ -247,6 +250,7 @@ module _ (settings : Settings) (dump : List ℕ) (cutter : CutterState) (filter 
   finished new (answers.Failed failures.Threads count) ends is = absurd is
   finished new (answers.Fault fault number place) ends is = absurd is
 
+  -- where no further record stands in the dump, for a fault, the run leaves that fault
   pub broken : (kind : FaultKind) (place number : ℕ) → EndsAfter cutter.dump cutter.number (Ending.Broken kind place)
       → number ≡ count_up_to filter.last → RunLeaves settings dump old mid (answers.Fault kind number place)
   broken kind place number ends is = record {
@@ -255,6 +259,7 @@ module _ (settings : Settings) (dump : List ℕ) (cutter : CutterState) (filter 
     answered = (p.before, (p.free, inr (ends_here (Ending.Broken kind place) ends)), p.out, is ∙ p.next ∙ sym p.count);
   }
 
+  -- where the next record has a fault, the run leaves that fault
   pub refused : (r : DumpRecord) (kind : FaultKind) (place number : ℕ) → IsRecordOf cutter.dump cutter.number r
       → Refuses filter r kind
       → number ≡ cutter.number → place ≡ r.place → RunLeaves settings dump old mid (answers.Fault kind number place)
@@ -279,6 +284,7 @@ module _ (settings : Settings) (dump : List ℕ) (cutter : CutterState) (filter 
     );
   }
 
+  -- a run that lacks memory leaves what it has written so far
   pub no_memory : RunLeaves settings dump old mid (answers.Failed failures.Memory written)
   no_memory = record {
     received = p.text;
@@ -286,6 +292,7 @@ module _ (settings : Settings) (dump : List ℕ) (cutter : CutterState) (filter 
     answered = (goes_on settings dump p.before p.text p.begins p.free p.out, p.sized);
   }
 
+  -- where the sink fails in a record's piece, the run leaves what it received up to there
   pub sink_failed : (r : DumpRecord) (piece : List ℕ) (new : Option (List ℕ)) (count : ℕ)
       → IsRecordOf cutter.dump cutter.number r
       → Accepts filter r piece → StopsShort mid new piece written count → RunLeaves settings dump old new
@@ -301,6 +308,7 @@ module _ (settings : Settings) (dump : List ℕ) (cutter : CutterState) (filter 
     );
   }
 
+  -- with one more record accepted and its piece sent, the run has come one record further
   pub stepped : (r : Record) (cutter' : CutterState) (filter' : FilterState) (piece : List ℕ) (new : Option (List ℕ))
       (count : ℕ)
       → CutStep cutter (cuts.Item r) cutter' → Accepts filter (record_item r) piece

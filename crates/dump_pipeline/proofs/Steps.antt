@@ -37,12 +37,14 @@ pub cut_number : (old new : CutterState) (dump : List ℕ) (number : ℕ) (r : R
     → CutStep old (cuts.Item r) new → record_number r ≡ number
 cut_number old new dump number r is (of, same, item, next) = same ∙ ap (λ (c : CutterState). c.number) is
 
+-- behind the next record the cutter has given one more of the same dump
 pub cut_next : (old new : CutterState) (dump : List ℕ) (number : ℕ) (r : Record)
     → old ≡ record { dump = dump; number = number }
     → CutStep old (cuts.Item r) new → new ≡ record { dump = dump; number = number + 1 }
 cut_next old new dump number r is (of, same, item, next) =
     next ∙ ap (λ (c : CutterState). record c { number = c.number + 1 }) is
 
+-- the end that a cutter tells is that of its dump
 pub cut_end : (old : CutterState) (dump : List ℕ) (number : ℕ) (ending : Ending)
     → old ≡ record { dump = dump; number = number }
     → EndsAfter old.dump old.number ending → EndsAfter dump number ending
@@ -198,6 +200,7 @@ pub text_more : (pieces : List NumberedPiece) (piece : NumberedPiece)
 text_more pieces piece = flat_map-append (λ (p : NumberedPiece). p.piece) pieces (piece ∷ [])
     ∙ ap (λ (l : List ℕ). text_of pieces ++ l) (append-nil piece.piece)
 
+-- with one more piece put, what was released is the text of all of them
 pub text_released : (settings : Settings) (dump : List ℕ) (stage : Stage) (next number : ℕ)
     (old new : Sending NumberedPiece) (piece : NumberedPiece)
     → new ≡ record old { put = old.put ++ piece ∷ [] } → number ≡ next
@@ -208,12 +211,14 @@ text_released settings dump stage next number old new piece put is h =
     (subst (HasReleased settings dump stage (number + 1))
     (sym (ap (λ (x : Sending NumberedPiece). text_of x.put) put ∙ text_more old.put piece)) h)
 
+-- with one more piece put, their count is one more
 pub count_released : (next : ℕ) (old new : Sending NumberedPiece) (piece : NumberedPiece)
     → new ≡ record old { put = old.put ++ piece ∷ [] } → length old.put ≡ next
     → length new.put ≡ next + 1
 count_released next old new piece put is = ap (λ (x : Sending NumberedPiece). length x.put) put
     ∙ (length-append old.put (piece ∷ []) ∙ ap (λ (n : ℕ). n + 1) is)
 
+-- with one more piece put, under the next number, their numbers are still the first ones
 pub numbers_released : (next : ℕ) (old new : Sending NumberedPiece) (piece : NumberedPiece)
     → new ≡ record old { put = old.put ++ piece ∷ [] } → piece.number ≡ next
     → piece_numbers old.put ≡ first_numbers next → piece_numbers new.put ≡ first_numbers (next + 1)
@@ -241,13 +246,16 @@ map_push {X} {Y} {Z} f g xs xs' x ys y more same at =
     ∙ (ap (λ (l : List Z). l ++ f x ∷ []) same
     ∙ (ap (λ (z : Z). map g ys ++ z ∷ []) at ∙ sym (map-append g ys (y ∷ [])))))
 
+-- what holds of each item holds of them all with one more of which it holds
 pub all_push : {X : Type 0} (P : X → Type 0) (xs xs' : List X) (x : X) → xs' ≡ xs ++ x ∷ [] → All P xs → P x → All P xs'
 all_push {X} P xs xs' x more h p = subst (λ (l : List X). All P l) (sym more) (all_then P xs x h p)
 
+-- a count of items rises by one with one more item
 pub len_push : {Y : Type 0} (old new : ℕ) (ys : List Y) (y : Y) → new ≡ old + 1 → old ≡ length ys
     → new ≡ length (ys ++ y ∷ [])
 len_push old new ys y more same = more ∙ (ap (λ (n : ℕ). n + 1) same ∙ sym (length-append ys (y ∷ [])))
 
+-- before any piece is put, their numbers are the first ones, of which there are none
 pub numbers_at_first : (put : List NumberedPiece) → put ≡ [] → piece_numbers put ≡ first_numbers 0
 numbers_at_first put none = ap (λ (l : List NumberedPiece). piece_numbers l) none
 

@@ -31,6 +31,7 @@ empty_dump = (
   ),
 )
 
+-- an empty dump's answer is a fault: its header is cut
 pub empty_answer : IsFilterAnswer padding [] [] (Fault faults.HeaderCut 0 0)
 empty_answer = ([], empty_dump, refl, refl)
 

@@ -22,6 +22,7 @@ lfs_add (suc m) n = let e : suc (m + n) ≡ suc m + n = omega arith in ap (λ t.
 lfs_join : (m n : ℕ) (rest : List ℕ) → line_feeds m ++ (line_feeds n ++ rest) ≡ line_feeds (m + n) ++ rest
 lfs_join m n rest = sym (append_assoc (line_feeds m) (line_feeds n) rest) ∙ ap (λ t. t ++ rest) (lfs_add m n)
 
+-- some LFs are as long as their count
 pub lfs_length : (n : ℕ) → length (line_feeds n) ≡ n
 lfs_length zero = refl
 lfs_length (suc n) = ap suc (lfs_length n)
@@ -33,6 +34,7 @@ pub record Stripped (text : List ℕ) : Type 0 where
   pub is : text ≡ line_feeds count ++ rest
   pub stop : starts_with_lf rest ≡ false
 
+-- each text is some LFs and a rest that doesn't begin with one
 pub strip : (text : List ℕ) → Stripped text
 strip [] = record { count = 0; rest = []; is = refl; stop = refl }
 strip (b ∷ text) = strip_cons b text (strip text) (b == 10) refl
@@ -95,6 +97,7 @@ record_some r =
     let lines = length-append (lines_bytes r.headers) (10 ∷ []) in
     omega arith
 
+-- a text is cut into no more records than it has bytes
 pub count_fits : (number place : ℕ) (text rest : List ℕ) (rs : List DumpRecord) → IsCutInto number place text rs rest
     → length rs ≤ length text
 count_fits number place text rest [] cut = omega arith
@@ -273,10 +276,12 @@ item_of parts =
     parts.version
 
 module _ (dump : List ℕ) (place number before : ℕ) (parts : Parts) (at : StandsAt dump place number before parts) where
+  -- the places of the record's parts rise and lie in its block's dump
   pub own_inside : AreInside (block_dump parts.block) (block_after parts.block) parts.text_from parts.after
   own_inside = subst (λ (d : List ℕ). AreInside d (block_after parts.block) parts.text_from parts.after)
       (sym at.dump_is) at.inside
 
+  -- the record stands at its place in its block's dump
   pub own_stands : BeginsWithRecord number (drop (block_place parts.block) (block_dump parts.block)) (item_of parts)
       (drop parts.after (block_dump parts.block))
   own_stands =
@@ -295,6 +300,7 @@ module _ (dump : List ℕ) (place number before : ℕ) (parts : Parts) (at : Sta
       ∙ ap (λ d. record_between d (block_place parts.block) (block_after parts.block) parts.text_from parts.after
       parts.version) (sym at.dump_is)
 
+  -- a record of the dump with its number is one of its block's dump, too
   pub own_number : IsRecordOf dump number (item_of parts) → IsRecordOf (block_dump parts.block) number (item_of parts)
   own_number is = subst (λ (d : List ℕ). IsRecordOf d number (item_of parts)) (sym at.dump_is) is
 
@@ -307,19 +313,23 @@ module _ (dump : List ℕ) (number place version gap : ℕ) (parts : Parts) (up 
   in_force : parts.version ≡ version_from version (headers_between dump (place + gap) (block_after parts.block))
   in_force = at.version_is ∙ ap (λ (r : DumpRecord). version_from version r.headers) (sym stands_as)
 
+  -- the record behind the LFs is the dump's record of this number
   pub item_record : IsRecordOf dump number (item_of parts)
   item_record = subst (IsRecordOf dump number) stands_as
       (is_record dump number place version gap up lfs _ parts.after refl in_force at.stands)
 
+  -- the dump is cut up to behind the record, one record more
   pub item_cut : IsCutUpTo dump (number + 1) parts.after parts.version
   item_cut = cut_on dump number place version gap up lfs _ parts.after refl in_force at.stands at.inside.end
 
+  -- the records with this one are no more than the dump's bytes
   pub item_room : number + 1 ≤ length dump
   item_room =
       let fits = number_fits dump (number + 1) parts.after parts.version item_cut in
       let end = at.inside.end in
       omega arith
 
+-- the LFs behind the records end within the dump
 pub room_behind : (dump : List ℕ) (number place version gap : ℕ) → IsCutUpTo dump number place version
     → IsGap (drop place dump) gap → place + gap ≤ length dump
 room_behind dump number place version gap up lfs =

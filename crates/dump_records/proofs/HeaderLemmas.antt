@@ -94,6 +94,7 @@ pub no_value : (name : List ℕ) (headers : List Header) → has_header name hea
     → None ≡ header_value name headers
 no_value name headers missing = none_of (header_value name headers) (has_value name headers ∙ missing)
 
+-- a name that isn't among the lines tells no number
 pub no_number : (name : List ℕ) (headers : List Header) → has_header name headers ≡ false
     → None ≡ header_number name headers
 no_number name headers missing = ap (option_and_then number_of) (no_value name headers missing)
@@ -124,11 +125,13 @@ module _ (headers : List Header) (good : has_bad_number headers ≡ false) where
       (copy_revision_name ∷ length_names) ≡ false
   rest = second_false (has_header revision_name headers && is_none (header_number revision_name headers)) _ good
 
+  -- the revision number is told exactly where it is read
   pub revision_there : has_header revision_name headers ≡ is_some (header_number revision_name headers)
   revision_there = number_there revision_name headers
       (first_false _ (list_any (λ name. has_header name headers && is_none (header_number name headers))
       (copy_revision_name ∷ length_names)) good)
 
+  -- the copy revision is told exactly where it is read
   pub copy_there : has_header copy_revision_name headers ≡ is_some (header_number copy_revision_name headers)
   copy_there = number_there copy_revision_name headers
       (first_false _ (list_any (λ name. has_header name headers && is_none

@@ -249,6 +249,7 @@ list zero size number place version text fits small =
 list (suc fuel) size number place version text fits small = list_step size number place version text fits
     (λ at before rest fits' less. list fuel size (number + 1) at before rest fits' (omega arith))
 
+-- each dump has a list of records, and no other
 pub each_dump_has_one_list : EachDumpHasOneList
 each_dump_has_one_list dump =
     let l = list (length dump) (length dump) 0 0 0 dump (omega arith) (omega arith) in

@@ -177,6 +177,7 @@ gap_at text i front below other = record {
   stop = ap starts_with_lf (drop_more text i 0 below) ∙ ne_eqb (get_or text i 0) 10 other;
 }
 
+-- a text that is all LFs is a gap to its end
 pub gap_whole : (text : List ℕ) (i : ℕ) → take i text ≡ line_feeds i → length text ≤ i → i ≤ length text
     → IsGap text (length text)
 gap_whole text i front end bound =
@@ -204,6 +205,7 @@ module _ (dump : List ℕ) (place number : ℕ) (b : Block) (dump_is : block_dum
   headers_here = ap (λ d. headers_between d (block_place b) (block_after b)) dump_is
       ∙ ap (λ p. headers_between dump p (block_after b)) place_is
 
+  -- the first rule that the lines break is the fault at this place
   pub unlawful_here : (fault : FaultKind) → IsUnlawful number (block_headers b) fault
       → IsCutFault number (drop place dump) fault
   unlawful_here fault found =
@@ -213,6 +215,7 @@ module _ (dump : List ℕ) (place number : ℕ) (b : Block) (dump_is : block_dum
       subst (IsCutFault number (drop place dump)) (sym which)
       (unlawful number (drop place dump) headers (drop (block_after b) dump) here.block broken)
 
+  -- content that is longer than the rest of the dump is the fault of the record at this place
   pub short_here : (lengths : Lengths) → LengthsOf number (block_headers b) lengths
       → length dump - block_after b < lengths.props + lengths.text
       → IsCutFault number (drop place dump) faults.ContentCut
@@ -224,6 +227,7 @@ module _ (dump : List ℕ) (place number : ℕ) (b : Block) (dump_is : block_dum
       cut_short number (drop place dump) headers (drop (block_after b) dump) here.block
       (ap (is_lawful number) (sym headers_here) ∙ found.lawful) (omega arith)
 
+  -- the parts that were read at this place stand there
   pub stands_here : (header : RecordHeader) (lengths : Lengths) (before version text_from after : ℕ)
       → IsHeaderOf (block_headers b) header → LengthsOf number (block_headers b) lengths
       → version ≡ unwrap_or (version_in header.parts) before

@@ -43,6 +43,7 @@ cut_prefix number place text rest (r ∷ rs) ss (lfs, front, after, is, at, b, m
     let left = cut_prefix (number + 1) (r.place + length (record_text r)) after rest rs ss more in
     (left.0, (lfs, front, after, is, at, b, left.1))
 
+-- a dump that begins with records and others begins with the first of them
 pub begins_prefix : (dump : List ℕ) (rs ss : List DumpRecord) → BeginsWithRecords dump (rs ++ ss)
     → BeginsWithRecords dump rs
 begins_prefix dump rs ss (rest, cut, have) =
@@ -73,6 +74,7 @@ cut_once number place before text x y (r ∷ rs) (s ∷ ss) same (lfs, start, af
     more moved have have_same in
     (λ i. one.0 i ∷ rest i)
 
+-- two lists of as many records that a dump begins with are the same
 pub begins_once : (dump : List ℕ) (rs ss : List DumpRecord) → length rs ≡ length ss → BeginsWithRecords dump rs
     → BeginsWithRecords dump ss → rs ≡ ss
 begins_once dump rs ss same (x, cut, have) (y, cut', have') = cut_once 0 0 0 dump x y rs ss same cut cut' have have'
@@ -106,6 +108,7 @@ cut_within size number place text x y (r ∷ all) (s ∷ ss) e (lfs, start, afte
     omega arith
 
 module _ (dump : List ℕ) (all : List DumpRecord) (ending : Ending) (has : HasRecords dump all ending) where
+  -- no dump begins with more records than it has
   pub within : (rs : List DumpRecord) → BeginsWithRecords dump rs → length rs ≤ length all
   within rs (y, cut, have) =
       let count : length all ≡ 0 + length all = omega arith in
@@ -120,6 +123,7 @@ module _ (dump : List ℕ) (all : List DumpRecord) (ending : Ending) (has : HasR
     subst (HaveVersions 0) (sym (take-append-drop n all)) has.2,
   )
 
+  -- the records that a dump begins with are the first of its list
   pub is_front : (rs : List DumpRecord) → BeginsWithRecords dump rs → rs ≡ take (length rs) all
   is_front rs b = begins_once dump rs (take (length rs) all) (sym (length-take-le (length rs) all (within rs b))) b
       (whole_front (length rs))

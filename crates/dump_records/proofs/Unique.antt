@@ -29,6 +29,7 @@ begins number text r after b = record {
       ∙ append_assoc (block_text r.headers) r.props (r.text ++ after);
 }
 
+-- records of the same place, version, lines, properties and text are the same
 pub record-eq : (r s : DumpRecord) → r.place ≡ s.place → r.version ≡ s.version → r.headers ≡ s.headers
     → r.props ≡ s.props → r.text ≡ s.text → r ≡ s
 record-eq r s p v h q t = λ i. record { place = p i; version = v i; headers = h i; props = q i; text = t i }
@@ -68,6 +69,7 @@ pub record Keeps (number : ℕ) (headers : List line.Header) : Type 0 where
   pub number_ok : has_bad_number headers ≡ true → ⊥
   pub lengths : has_bad_lengths headers ≡ true → ⊥
 
+-- a lawful block breaks none of the rules
 pub keeps : (number : ℕ) (headers : List line.Header) → is_lawful number headers ≡ true → Keeps number headers
 keeps number headers e =
     let k = not (has_bad_kind headers) in
@@ -238,6 +240,7 @@ cuts_once size number place before count other text (r ∷ rs) (s ∷ ss) x y e 
     (omega arith) (omega arith) more moved have have_same a z in
     ((λ i. one.0 i ∷ rest.0 i), rest.1)
 
+-- how a list of records ends is told by its length and the dump's
 pub ending_of : (dump : List ℕ) (records : List DumpRecord) (rest : List ℕ) (e : Ending) → HasEnding dump records rest e
     → EndsWith (length dump) (length records) rest e
 ending_of dump records rest Ending.Whole h = h

@@ -11,6 +11,7 @@ and_assoc : (a b c : Bool) → (a && (b && c)) ≡ ((a && b) && c)
 and_assoc true b c = refl
 and_assoc false b c = refl
 
+-- a path begins with a prefix and a slash where it begins with the prefix and a slash comes next
 pub slash_behind : (prefix path : List ℕ)
     → starts_with nat_eq path (prefix ++ 47 ∷ []) ≡
     (bytes_eq (take (length prefix) path) prefix && has_slash_first (drop (length prefix) path))
@@ -23,6 +24,7 @@ slash_behind (a ∷ prefix) (b ∷ path) =
     (eq_sym a b)
     ∙ and_assoc (nat_eq b a) (bytes_eq (take (length prefix) path) prefix) (has_slash_first (drop (length prefix) path))
 
+-- a mapped list has an element that passes where the list has one whose image passes
 pub any_mapped : {X Y : Type 0} (f : X → Y) (p : Y → Bool) (xs : List X) → list_any p (map f xs) ≡ list_any
     (λ x. p (f x)) xs
 any_mapped f p [] = refl

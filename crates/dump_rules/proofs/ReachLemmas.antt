@@ -10,21 +10,27 @@ use Rattle.dump_rules.specs.Renumbering.{KeptRevisions, RiseFrom, new_number, la
 
 -- counts of numbers
 
+-- how many of the numbers are less than n
 abbrev pub below : ℕ → List ℕ → ℕ
 below n numbers = count_by (λ k. nat_lt k n) numbers
 
+-- how many of the numbers are at most n
 abbrev pub up_to : ℕ → List ℕ → ℕ
 up_to n numbers = count_by (λ k. nat_le k n) numbers
 
+-- a number in front counts as one of those below n where it is less than n
 pub below-cons : (n k : ℕ) (numbers : List ℕ) → below n (k ∷ numbers) ≡ cond (nat_lt k n) 1 0 + below n numbers
 below-cons n k numbers = sum_by-cons (λ j. cond (nat_lt j n) 1 0) k numbers
 
+-- a number in front counts as one of those up to n where it is at most n
 pub up_to-cons : (n k : ℕ) (numbers : List ℕ) → up_to n (k ∷ numbers) ≡ cond (nat_le k n) 1 0 + up_to n numbers
 up_to-cons n k numbers = sum_by-cons (λ j. cond (nat_le j n) 1 0) k numbers
 
+-- the test for less holds of a smaller number
 pub is_below : (k n : ℕ) → k < n → nat_lt k n ≡ true
 is_below k n h = grind (arith, nat_tests)
 
+-- the test for less fails of a number that isn't smaller
 pub is_not_below : (k n : ℕ) → n ≤ k → nat_lt k n ≡ false
 is_not_below k n h = grind (arith, nat_tests)
 
@@ -227,6 +233,7 @@ image_at_pushed kept n r all low =
 
 -- the search
 
+-- no number of a list that rises from a first one is less than that
 pub from_first : (first : ℕ) (numbers : List ℕ) → RiseFrom first numbers → (j : ℕ) (d : ℕ) → j < length numbers
     → first ≤ get_or numbers j d
 from_first first [] up j d within = absurd (omega arith)
@@ -250,6 +257,7 @@ pub parted_from_rise : (first n : ℕ) (numbers : List ℕ) → RiseFrom first n
     → IsPartitionedBy (λ k. nat_le k n) numbers
 parted_from_rise first n numbers up = IsPartitionedBy-leb (λ k. k) numbers n (rises first numbers up)
 
+-- where numbers rise, those below n stand in front of the others
 pub parted_below : (first n : ℕ) (numbers : List ℕ) → RiseFrom first numbers → IsPartitionedBy (λ k. nat_lt k n) numbers
 parted_below first n numbers up = IsPartitionedBy-ltb (λ k. k) numbers n (rises first numbers up)
 

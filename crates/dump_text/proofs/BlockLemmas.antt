@@ -21,6 +21,7 @@ use Rattle.dump_text.proofs.ScanLemmas.{headers_of-lines, lines_behind}
 abbrev pub counts_once : List (List ℕ) → List line.Header → Bool
 counts_once names headers = list_all (λ name. nat_le (count_named name headers) 1) names
 
+-- one more line adds one to the count of its own name, and nothing to that of another
 pub count_cons : (name : List ℕ) (h : line.Header) (hs : List line.Header)
     → count_named name (h ∷ hs) ≡ (if is_named name h then 1 else 0) + count_named name hs
 count_cons name h hs = sum_by-cons (λ (x : line.Header). if is_named name x then 1 else 0) h hs
@@ -115,6 +116,7 @@ same_lines text rest hs size found b =
     (sym (append_assoc (lines_bytes hs) (10 ∷ []) rest) ∙ sym b.spelled ∙ found.ended
     ∙ ap (λ t. t ++ 10 ∷ drop (size + 1) text) found.lines.spelled)).0
 
+-- header lines and the empty line behind them are a block, if each known name stands once
 pub block_end : (text : List ℕ) (size : ℕ) → IsLinesEnd text size → 0 < size
     → counts_once known_names (headers_of (take size text)) ≡ true
     → IsBlockEnd text (size + 1) × (headers_of (take (size + 1) text) ≡ headers_of (take size text))
@@ -165,6 +167,7 @@ no_block-once text others hs all is twice (ks, rest, b) =
     let once = second_true (nat_lt 0 (length ks) && list_all is_header ks) (counts_once known_names ks) b.block in
     absurd_bool _ (once_front known_names hs more (ap (counts_once known_names) same ∙ once)) twice
 
+-- where the empty line comes first, no block begins
 pub no_block-empty : (text : List ℕ) (size : ℕ) → IsLinesEnd text size → size ≤ 0 → ¬ HasBlock text
 no_block-empty text size found none (hs, rest, b) =
     let same = same_lines text rest hs size found b in
@@ -175,6 +178,7 @@ no_block-empty text size found none (hs, rest, b) =
     let bad : true ≡ false = sym some ∙ ap (λ (g : List line.Header). nat_lt 0 (length g)) empty in
     cc
 
+-- where no header lines with an empty line begin the text, no block does
 pub no_block-lines : (text : List ℕ) → ¬ HasLines text → ¬ HasBlock text
 no_block-lines text none (hs, rest, b) =
     none (hs, rest, lawful_lines hs b.block, b.spelled ∙ append_assoc (lines_bytes hs) (10 ∷ []) rest)
@@ -184,6 +188,7 @@ pub record LinesOf (dump : List ℕ) (place after : ℕ) (text : List ℕ) : Typ
   pub lines : AreHeaderLines text
   pub headers : headers_of text ≡ headers_of (slice_range dump place after)
 
+-- a block's lines are its bytes without the empty line
 pub lines_of : (dump : List ℕ) (place after : ℕ) → IsBlockBetween dump place after
     → LinesOf dump place after (take (after - 1 - place) (drop place dump))
 lines_of dump place after stands =
@@ -240,6 +245,7 @@ value_between dump place after text whole name value rest part is spelled =
     (subst (IsPartBetween dump place after) (is ∙ ap (λ w. w ++ 10 ∷ rest) spelled
     ∙ append_assoc (name ++ codes ": ") value (10 ∷ rest)) part)
 
+-- what stands behind a line of a part lies between the same places of the dump
 pub rest_between : (dump : List ℕ) (place after : ℕ) (text whole rest : List ℕ) → IsPartBetween dump place after text
     → text ≡ whole ++ 10 ∷ rest → IsPartBetween dump place after rest
 rest_between dump place after text whole rest part is =
@@ -247,6 +253,7 @@ rest_between dump place after text whole rest part is =
     (subst (IsPartBetween dump place after) (is ∙ sym (append_assoc whole (10 ∷ []) rest)
     ∙ ap (λ t. (whole ++ 10 ∷ []) ++ t) (sym (append-nil rest))) part)
 
+-- a name that the first line doesn't have has the value of the lines behind it
 pub value_behind : (name : List ℕ) (h : line.Header) (hs : List line.Header) → is_named name h ≡ false
     → header_value name (h ∷ hs) ≡ header_value name hs
 value_behind name h hs other = rw other refl

@@ -1,49 +1,61 @@
 -- Both, either and not.
 use Rattle.std.proofs.Common.{◌≡◌, ℕ, ◌==◌, arith, Bool, true, false, not, ◌&&◌, ◌||◌, refl}
 
+-- where both hold, the first holds
 pub first_true : (a b : Bool) → (a && b) ≡ true → a ≡ true
 first_true true b h = refl
 first_true false b h = cc
 
+-- where both hold, the second holds
 pub second_true : (a b : Bool) → (a && b) ≡ true → b ≡ true
 second_true true b h = h
 second_true false b h = cc
 
+-- where neither holds, the first doesn't
 pub first_false : (a b : Bool) → (a || b) ≡ false → a ≡ false
 first_false true b h = h
 first_false false b h = refl
 
+-- where neither holds, the second doesn't
 pub second_false : (a b : Bool) → (a || b) ≡ false → b ≡ false
 second_false true b h = cc
 second_false false b h = h
 
+-- what is denied is false
 pub not_true : (a : Bool) → not a ≡ true → a ≡ false
 not_true true h = cc
 not_true false h = refl
 
+-- nothing is both true and false
 pub absurd_bool : (b : Bool) → b ≡ true → b ≡ false → ⊥
 absurd_bool true t f = cc
 absurd_bool false t f = cc
 
+-- where the first and the second hold, both hold
 pub both_true : (a b : Bool) → a ≡ true → b ≡ true → (a && b) ≡ true
 both_true true true t u = refl
 both_true true false t u = cc
 both_true false b t u = cc
 
+-- of what is false the denial is true
 pub not_false : (a : Bool) → a ≡ false → not a ≡ true
 not_false true h = cc
 not_false false h = refl
 
+-- false isn't true
 pub false_true : false ≡ true → ⊥
 false_true bad = cc
 
+-- where the second holds, one of both holds
 pub either_second : (a b : Bool) → b ≡ true → (a || b) ≡ true
 either_second true b e = refl
 either_second false b e = e
 
+-- what isn't true is false
 pub not_so : (b : Bool) → (b ≡ true → ⊥) → b ≡ false
 not_so true bad = absurd (bad refl)
 not_so false bad = refl
 
+-- a number is equal to itself
 pub equals_itself : (n : ℕ) → (n == n) ≡ true
 equals_itself n = grind arith

@@ -15,6 +15,7 @@ use Rattle.dump_text.specs.steps.Scanning.{is_known}
 pub find_behind : {X : Type 0} (p : X → Bool) (x : X) (xs : List X) → p x ≡ false → find p (x ∷ xs) ≡ find p xs
 find_behind p x xs other = rw other refl
 
+-- an item at the front is found, if it is one that is sought
 pub find_here : {X : Type 0} (p : X → Bool) (x : X) (xs : List X) → p x ≡ true → find p (x ∷ xs) ≡ Some x
 find_here p x xs here = rw here refl
 
@@ -144,6 +145,7 @@ tag_place TextContentSha1 = refl
 tag_place TextDelta = refl
 tag_place PropDelta = refl
 
+-- each name has its place among all names
 pub place_inside : (name : HeaderName) → name_place name < length all_names
 place_inside FormatVersion = lit< tt
 place_inside Uuid = lit< tt

@@ -12,6 +12,7 @@ use Rattle.std.proofs.Math.Nat.{pow-succ'}
 pub digit_is : (c : ℕ) → is_ascii_digit c ≡ true → digit_value c ≡ c - 48
 digit_is c h = grind arith
 
+-- a number with one more digit is ten times itself and the digit
 pub value_more : (bytes : List ℕ) (i c : ℕ) → i < length bytes → get_or bytes i 0 ≡ c → is_ascii_digit c ≡ true
     → digits_value 10 (take i bytes) * 10 + (c - 48) ≡ digits_value 10 (take (i + 1) bytes)
 value_more bytes i c below is digit =
@@ -19,18 +20,22 @@ value_more bytes i c below is digit =
     sym (one ∙ ap (λ n. digits_value 10 (take i bytes) * 10 + digit_value n) is
     ∙ ap (λ n. digits_value 10 (take i bytes) * 10 + n) (digit_is c digit))
 
+-- digits and one more are digits
 pub digits_more : (bytes : List ℕ) (i c : ℕ) → i < length bytes → get_or bytes i 0 ≡ c → is_ascii_digit c ≡ true
     → list_all is_ascii_digit (take i bytes) ≡ true → list_all is_ascii_digit (take (i + 1) bytes) ≡ true
 digits_more bytes i c below is digit before =
     let more = list_all_more is_ascii_digit bytes i 0 below in
     more ∙ rw (before, is, digit) refl
 
+-- a number of so many digits, with one more, stays below the next power of ten
 pub small_more : (v d i : ℕ) → v < 10 ^ i → d ≤ 9 → v * 10 + d < 10 ^ (i + 1)
 small_more v d i small one = let e : 10 ^ (suc i) ≡ 10 * 10 ^ i = pow-succ' 10 i in grind (arith, e)
 
+-- without its last digit a number has one digit less
 pub tenth : (n k : ℕ) → n < 10 ^ (k + 1) → 0 < k → n / 10 < 10 ^ k
 tenth n k small some = let e : 10 ^ (suc k) ≡ 10 * 10 ^ k = pow-succ' 10 k in grind (arith, e)
 
+-- a number of one digit is below ten
 pub one_digit : (n k : ℕ) → n < 10 ^ (k + 1) → k ≤ 0 → n < 10
 one_digit n k small none = let e : k + 1 ≡ 1 = omega arith in let f : 10 ^ (k + 1) ≡ 10 = ap
     (λ (m : ℕ). 10 ^ m) e in omega arith
@@ -55,5 +60,6 @@ spelled_last n left start bytes one below before =
     ∙ ap (λ t. t ++ drop (start + 1) bytes) (sym (decimal_digit left one))
     ∙ sym before
 
+-- a digit is at most nine
 pub digit_small : (c : ℕ) → is_ascii_digit c ≡ true → c - 48 ≤ 9
 digit_small c h = grind arith

@@ -88,6 +88,7 @@ sized_once letter d e b c x y s t is =
     let parts = split_by_length b c (10 ∷ x) (10 ∷ y) sizes cut.1 in
     (cut.0, parts.0, tail-eq 10 10 x y parts.1)
 
+-- a text begins with a part of this letter in one way
 pub part_once : (letter : ℕ) (text other d e b c x y : List ℕ) → IsSized letter text d b x → IsSized letter other e c y
     → text ≡ other
     → (d ≡ e) × (b ≡ c) × (x ≡ y)

@@ -29,6 +29,7 @@ pub record DeletedParts (text : List ℕ) (p : Property) (rest : List ℕ) : Typ
   pub none : p.value ≡ None
   pub name : IsSized 68 text digits p.name rest
 
+-- a text begins with an entry, of a value or of a deleted property
 abbrev pub EntryParts : List ℕ → Property → List ℕ → Type 0
 EntryParts text p rest = SetParts text p rest ⊎ DeletedParts text p rest
 
@@ -86,6 +87,7 @@ scanned_parts text (Deleted name) rest named is = inr (record {
 pub property-eq : (p q : Property) → p.name ≡ q.name → p.value ≡ q.value → p ≡ q
 property-eq p q n v = λ i. record { name = n i; value = v i }
 
+-- a number that is less than another isn't that one
 pub apart : (m n : ℕ) → m < n → m ≡ n → ⊥
 apart m n below e = omega arith
 
@@ -187,6 +189,7 @@ pub record Left (ps : List Property) (p : Property) (rest : List ℕ) : Type 0 w
   pub list : ps ≡ p ∷ others
   pub entries : AreEntries rest others
 
+-- behind its first entry a property block is that of the other properties
 pub left_of : (text : List ℕ) (p : Property) (rest : List ℕ) (ps : List Property) → EntryParts text p rest
     → IsPropertyBlock text ps → Left ps p rest
 left_of text p rest ps e b = elim b [
@@ -204,6 +207,7 @@ left_of text p rest ps e b = elim b [
           entries = subst (λ (t : List ℕ). AreEntries t qs) same.1 more;
         }
 
+-- the rest behind an entry is the property block of some list, if the whole is
 pub properties_left : (text : List ℕ) (p : Property) (rest : List ℕ) → EntryParts text p rest → HasPropertyChanges text
     → HasPropertyChanges rest
 properties_left text p rest e (ps, b) = let left = left_of text p rest ps e b in (left.others, inr left.entries)
@@ -249,6 +253,7 @@ end_of text (p ∷ ps) none (entry, rest, is, one, more) = absurd (none (p, entr
 pub entries_end : (text : List ℕ) → ¬ HasEntry text → HasEntries text ↔ (text ≡ block_end)
 entries_end text none = (λ (ps, all). end_of text ps none all, λ is. ([], is))
 
+-- a property block that begins with no entry is the line that ends it
 pub block_ends : (text : List ℕ) → ¬ HasEntry text → ∥ HasPropertyChanges text ∥₁ → IsPropertyBlock text []
 block_ends [] none reads = inl (refl, refl)
 block_ends (c ∷ text) none reads =

@@ -32,6 +32,7 @@ lacks b (c ∷ text) none = lacks_cons b c text (none 0 (omega arith))
       | false ↦ λ bad. tail
     ] head
 
+-- a byte that stands behind a front is in the text
 pub has_at : (b : ℕ) (front rest : List ℕ) → has_byte b (front ++ b ∷ rest) ≡ true
 has_at b [] rest = rw (same b) refl
 has_at b (c ∷ front) rest = or_right (c == b) (has_byte b (front ++ b ∷ rest)) (has_at b front rest)
@@ -139,6 +140,7 @@ headers_of-cons whole rest some none =
 some_text : (h : line.Header) → Lawful h → nat_lt 0 (length (header_text h)) ≡ true
 some_text h l = let s = l.some in grind (arith, length-append, s)
 
+-- a header line is its name, a colon, a space and its value
 pub header_text-is : (h : line.Header) → header_text h ≡ h.name ++ 58 ∷ 32 ∷ h.value
 header_text-is h = append_assoc h.name (codes ": ") h.value
 
@@ -185,6 +187,7 @@ pub record FirstHeader (hs : List line.Header) (whole rest : List ℕ) : Type 0 
   pub all : list_all is_header others ≡ true
   pub left : rest ≡ lines_bytes others
 
+-- the first line of the text of some headers is that of the first header
 pub first_header : (hs : List line.Header) (text whole rest : List ℕ) → list_all is_header hs ≡ true
     → text ≡ lines_bytes hs
     → IsFirstLine text whole rest → FirstHeader hs whole rest
@@ -227,6 +230,7 @@ lines_left hs whole rest f =
       spelled = f.left ∙ ap lines_bytes (sym read);
     }
 
+-- a byte that a text lacks is not in its front
 pub front_lacks : (b : ℕ) (x y : List ℕ) → has_byte b (x ++ y) ≡ false → has_byte b x ≡ false
 front_lacks b [] y none = refl
 front_lacks b (c ∷ x) y none =
@@ -234,6 +238,7 @@ front_lacks b (c ∷ x) y none =
     let more = front_lacks b x y (second_false (c == b) (has_byte b (x ++ y)) none) in
     rw (no, more) refl
 
+-- a byte that a text lacks is not in its back
 pub back_lacks : (b : ℕ) (x y : List ℕ) → has_byte b (x ++ y) ≡ false → has_byte b y ≡ false
 back_lacks b [] y none = none
 back_lacks b (c ∷ x) y none = back_lacks b x y (second_false (c == b) (has_byte b (x ++ y)) none)
@@ -256,6 +261,7 @@ pub record ColonAt (h : line.Header) (whole : List ℕ) (k : ℕ) : Type 0 where
   pub size : k + 2 ≤ length whole
   pub space : slice_index whole (k + 1) ≡ 32
 
+-- a header line is cut at its first colon
 pub colon_at : (h : line.Header) (whole : List ℕ) (k : ℕ) → is_header h ≡ true → whole ≡ header_text h
     → IsFirstAt 58 whole k → ColonAt h whole k
 colon_at h whole k good is at =
@@ -275,6 +281,7 @@ colon_at h whole k good is at =
           ∙ ap (λ t. get_or t 0 0) cut.1;
     }
 
+-- a text without LF has no empty line
 pub empty_line-none : (text : List ℕ) → has_byte 10 text ≡ false → has_empty_line text ≡ false
 empty_line-none [] none = refl
 empty_line-none (c ∷ text) none =
@@ -282,6 +289,7 @@ empty_line-none (c ∷ text) none =
     let more = empty_line-none text (second_false (c == 10) (has_byte 10 text) none) in
     rw (no, more) refl
 
+-- behind a line the empty line begins the rest, or stands in it
 pub empty_line-step : (whole rest : List ℕ) → has_byte 10 whole ≡ false → has_empty_line (whole ++ 10 ∷ rest) ≡
     (starts_with_lf rest || has_empty_line rest)
 empty_line-step [] rest none = refl
@@ -299,6 +307,7 @@ headers_step text whole rest name value first cut =
     ap headers_of first.cut ∙ headers_of-cons whole rest some first.one_line
     ∙ ap (λ (h : line.Header). h ∷ headers_of rest) (ap header_of cut.spelled ∙ header_of-text name value cut.no_colon)
 
+-- one more line, cut at its colon, is one more header
 pub lines_more : (text whole rest others : List ℕ) (hs : List line.Header) (h : line.Header)
     → text ≡ lines_bytes hs ++ rest → IsFirstLine rest whole others → IsCutAtColon whole h.name h.value
     → text ≡ lines_bytes (hs ++ h ∷ []) ++ others
@@ -308,14 +317,17 @@ lines_more text whole rest others hs h is first cut =
     ∙ sym (append_assoc (lines_bytes hs) (header_text h ++ 10 ∷ []) others)
     ∙ ap (λ t. t ++ others) (flat_map_more ended [] hs h)
 
+-- lawful headers and one more lawful header are lawful
 pub all_more : (hs : List line.Header) (h : line.Header) → list_all is_header hs ≡ true → is_header h ≡ true
     → list_all is_header (hs ++ h ∷ []) ≡ true
 all_more hs h all good = list_all-append is_header hs (h ∷ []) ∙ rw (all, good) refl
 
+-- a text of length 0 is empty
 pub empty_text : (text : List ℕ) → length text ≡ 0 → text ≡ []
 empty_text [] none = refl
 empty_text (c ∷ text) none = absurd (omega arith)
 
+-- where an empty line follows some header lines they end, and are read as they are
 pub lines_end : (text whole rest others : List ℕ) (hs : List line.Header) → text ≡ lines_bytes hs ++ rest
     → list_all is_header hs ≡ true
     → IsFirstLine rest whole others → length whole ≡ 0

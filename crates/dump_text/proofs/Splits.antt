@@ -8,6 +8,7 @@ pub data Split (b : ℕ) (text : List ℕ) : Type 0 where
   Cut : (front rest : List ℕ) → text ≡ front ++ b ∷ rest → has_byte b front ≡ false → Split b text
   Lacks : has_byte b text ≡ false → Split b text
 
+-- each text has a first place of the byte, or lacks it
 pub split : (b : ℕ) (text : List ℕ) → Split b text
 split b [] = Lacks refl
 split b (c ∷ text) = add b c text (split b text) (c == b) refl

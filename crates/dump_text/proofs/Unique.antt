@@ -14,6 +14,7 @@ same_number n h = grind arith
 head-eq : {A : Type 0} (x y : A) (xs ys : List A) → x ∷ xs ≡ y ∷ ys → x ≡ y
 head-eq x y xs ys e = cc
 
+-- where two lists are the same, so are their rests
 pub tail-eq : {A : Type 0} (x y : A) (xs ys : List A) → x ∷ xs ≡ y ∷ ys → xs ≡ ys
 tail-eq x y xs ys e = cc
 
@@ -39,6 +40,7 @@ pub record Lawful (h : line.Header) : Type 0 where
   pub no_lf : has_byte 10 h.name ≡ false
   pub value_no_lf : has_byte 10 h.value ≡ false
 
+-- a header that may stand in a block lacks what would break its line
 pub lawful : (h : line.Header) → is_header h ≡ true → Lawful h
 lawful h e =
     let last = second_true (nat_lt 0 (length h.name) && not (has_byte 58 h.name) && not (has_byte 10 h.name))
@@ -54,6 +56,7 @@ lawful h e =
       value_no_lf = not-true (has_byte 10 h.value) last;
     }
 
+-- a byte that two texts lack is not in both together
 pub has_byte-append : (c : ℕ) (xs ys : List ℕ) → has_byte c xs ≡ false → has_byte c ys ≡ false
     → has_byte c (xs ++ ys) ≡ false
 has_byte-append c [] ys nx ny = ny
@@ -62,10 +65,12 @@ has_byte-append c (x ∷ xs) ys nx ny =
     let rest = has_byte-append c xs ys (second_false (x == c) (has_byte c xs) nx) ny in
     rw (first, rest) refl
 
+-- a lawful header line has no LF
 pub text_no_lf : (h : line.Header) → Lawful h → has_byte 10 (header_text h) ≡ false
 text_no_lf h l = has_byte-append 10 (h.name ++ codes ": ") h.value
     (has_byte-append 10 h.name (codes ": ") l.no_lf refl) l.value_no_lf
 
+-- headers of the same name and value are the same
 pub header-eq : (h k : line.Header) → h.name ≡ k.name → h.value ≡ k.value → h ≡ k
 header-eq h k n v = λ i. record { name = n i; value = v i }
 
@@ -76,21 +81,26 @@ line_once h k l m e =
     (sym (append_assoc h.name (codes ": ") h.value) ∙ e ∙ append_assoc k.name (codes ": ") k.value) in
     header-eq h k cut.0 (tail-eq 32 32 h.value k.value cut.1)
 
+-- a lawful header line isn't empty
 pub not_empty : (h : line.Header) → Lawful h → [] ≡ header_text h → ⊥
 not_empty h l e = let n : 0 ≡ length (header_text h) = ap length e in let s = l.some in grind
     (arith, length-append, n, s)
 
+-- the bytes of a header line with its LF
 abbrev pub ended : line.Header → List ℕ
 ended h = header_text h ++ 10 ∷ []
 
+-- the bytes of some lines begin with those of the first and its LF
 pub regroup : (h : line.Header) (hs : List line.Header) (x : List ℕ)
     → flat_map ended (h ∷ hs) ++ x ≡ header_text h ++ 10 ∷ (flat_map ended hs ++ x)
 regroup h hs x = append_assoc (ended h) (flat_map ended hs) x ∙ append_assoc (header_text h) (10 ∷ [])
     (flat_map ended hs ++ x)
 
+-- the first of some lawful lines is lawful
 pub all_first : (h : line.Header) (hs : List line.Header) → list_all is_header (h ∷ hs) ≡ true → Lawful h
 all_first h hs e = lawful h (first_true (is_header h) (list_all is_header hs) e)
 
+-- the lines behind the first of some lawful lines are lawful
 pub all_rest : (h : line.Header) (hs : List line.Header) → list_all is_header (h ∷ hs) ≡ true
     → list_all is_header hs ≡ true
 all_rest h hs e = second_true (is_header h) (list_all is_header hs) e
@@ -115,6 +125,7 @@ lines_once (h ∷ hs) (k ∷ ks) x y l m e =
     let rest = lines_once hs ks x y (all_rest h hs l) (all_rest k ks m) cut.1 in
     ((λ i. line_once h k lh lk cut.0 i ∷ rest.0 i), rest.1)
 
+-- the lines of a block are lawful
 pub lawful_lines : (headers : List line.Header) → is_block headers ≡ true → list_all is_header headers ≡ true
 lawful_lines headers e =
     second_true (nat_lt 0 (length headers)) (list_all is_header headers)
@@ -169,6 +180,7 @@ blank_once (suc m) (suc n) x y fx fy e =
     let rest = blank_once m n x y fx fy (tail-eq 10 10 (replicate m 10 ++ x) (replicate n 10 ++ y) e) in
     (ap suc rest.0, rest.1)
 
+-- where the second holds, one of both holds
 pub or_right : (p q : Bool) → q ≡ true → (p || q) ≡ true
 or_right true q h = refl
 or_right false q h = h

@@ -63,6 +63,7 @@ module _ (headers : List line.Header) (values : List (Option (Bor (List ℕ)))) 
   pub unknown_follows : known_name name ≡ None → true ≡ may_follow headers name
   unknown_follows none = let no : is_known name ≡ false = known_is name ∙ ap is_some none in rw no refl
 
+  -- a line of a name that isn't known changes no value
   pub unknown_noted : known_name name ≡ None → (value : List ℕ) → AreValues (headers ++ line_of name value ∷ []) values
   unknown_noted none value n = are n ∙ sym (value_other (name_text n) headers (line_of name value) (not_so _ other))
     where

@@ -279,6 +279,7 @@ first (b ∷ text) = b
 apart : (c : ℕ) → c < 80 → ¬ (◌≡◌ {A = ℕ} 80 c)
 apart c below e = omega arith
 
+-- the end line without its LF is no property block
 pub no_changes : ¬ HasPropertyChanges (codes "PROPS-END")
 no_changes ([], inl (e, _)) = let same = ap length e in omega arith
 no_changes ([], inr e) = no_end e

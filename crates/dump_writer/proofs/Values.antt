@@ -67,6 +67,7 @@ takes_three (_, e, _) = omega arith
 fails_once : (down : SinkDown) → OutStep after_two (Err down) (record after_two { failures = 1 })
 fails_once down = (refl, refl, refl)
 
+-- a sink over a writer that is lent, with one byte waiting behind two that the writer took
 abbrev pub lent : GName → LentState
 lent through = record { through = through; waiting = codes "c"; out = after_two }
 

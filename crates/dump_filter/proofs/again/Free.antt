@@ -286,6 +286,7 @@ no_fault before s order clean faults.MergeInfo h = clean.merge h
 no_fault before s order clean faults.MergeSource (value, of, missing) = let bad : true ≡ false = missing.5 in cc
 no_fault before s order clean faults.MergeRange (value, of, foreign) = let bad : false ≡ true = foreign.0 in cc
 
+-- the records that are read again have no fault, where everything is kept
 pub free_again : (settings : Settings) (records : List DumpRecord) (text : List ℕ) (again : List DumpRecord)
     → AllLawful records → AreFaultFree settings records
     → AreReadAgain settings (kept_revisions settings records) records text again → AreFaultFree keep_all again

@@ -66,6 +66,7 @@ module _ (props text : List ℕ) (headers : List Header) (small : length props +
   unfolding one two
   content_change = length_change content_length_name (length props + length text) two small (λ no_lf. rw no_lf refl)
 
+  -- new lengths change no line but those of lengths
   pub lengths_change : IsChange is_length_name headers (with_lengths props text headers)
   lengths_change =
       both_changes (λ name. bytes_eq property_length_name name || bytes_eq text_length_name name) headers two
@@ -77,6 +78,7 @@ module _ (props text : List ℕ) (headers : List Header) (small : length props +
   text_there : has_header text_length_name one ≡ has_header text_length_name headers
   text_there = same_has (λ name. bytes_eq property_length_name name) headers one props_change text_length_name refl
 
+  -- a text length is neither added nor taken away
   pub text_stays : has_header text_length_name (with_lengths props text headers) ≡ has_header text_length_name headers
   unfolding two
   text_stays =
@@ -94,6 +96,7 @@ module _ (props text : List ℕ) (headers : List Header) (small : length props +
       ∙ same_has (λ name. bytes_eq text_length_name name) one two text_change property_length_name refl
       ∙ rw (none, empty) none
 
+  -- where no text stands without a text length, the new lengths tell the content
   pub lengths_told : (has_header text_length_name headers ≡ false → length text ≡ 0)
       → AreTold props text (with_lengths props text headers)
   unfolding one two
@@ -232,5 +235,6 @@ module _ (number : ℕ) (old new : List Header) (lawful : is_lawful number old �
         sum true n is = rw (is, equals_itself n) refl
         sum false n is = rw is refl
 
+    -- new lines that tell their lengths break no rule in any place, but that a version record stands first
     pub lawful_again : (m : ℕ) → (m ≡ 0 → has_header version_name old ≡ true) → is_lawful m new ≡ true
     lawful_again m first = rw (new_kind, new_version m first, new_number, new_lengths) refl

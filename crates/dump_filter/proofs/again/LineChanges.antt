@@ -47,6 +47,7 @@ each_once old new once (name ∷ names) all =
     (once name (first_true (test name) (list_all test names) all))
     (each_once old new once names (second_true (test name) (list_all test names) all))
 
+-- each known name stands at most once in a block
 pub block_names : (headers : List Header) → is_block headers ≡ true
     → list_all (λ name. nat_le (count_named name headers) 1) known_names ≡ true
 block_names headers block =
@@ -75,6 +76,7 @@ both_changes touches old mid new others first second = record {
       ∙ first.same name (first_false (touches name) (others name) free);
 }
 
+-- lines that stay as they are have changed under no name
 pub no_change : (touches : List ℕ → Bool) (headers : List Header) → IsChange touches headers headers
 no_change touches headers = record { lines = λ all. all; once = λ name few. few; same = λ name free. refl }
 
@@ -90,6 +92,7 @@ changed_name name value h = cases (is_named name h) refl
     cases true is = rw is (sym ((bytes_eq-Decides h.name name).0 is))
     cases false is = rw is refl
 
+-- a new value in a line adds no name and takes none away
 pub put_has : (other name value : List ℕ) (headers : List Header)
     → has_header other (with_header_value name value headers) ≡ has_header other headers
 put_has other name value [] = refl
@@ -150,6 +153,7 @@ put_other name value other apart (h ∷ headers) = by_name (put_other name value
         rw (is, apart, unlike) more
     by_name more false is = by_other more is (is_named other h) refl
 
+-- a new value without LF changes only the line of its name
 pub put_change : (name value : List ℕ) (headers : List Header) → has_byte 10 value ≡ false
     → IsChange (λ other. bytes_eq name other) headers (with_header_value name value headers)
 put_change name value headers no_lf = record {
@@ -207,6 +211,7 @@ counted_some name (h ∷ headers) has = by_name (counted_some name headers) (is_
         let later = more (sym (ap (λ b. b || has_header name headers) is) ∙ has) in
         omega (arith, size)
 
+-- the value that a name has, put into its line again, changes nothing
 pub put_same : (name value : List ℕ) (headers : List Header) → nat_le (count_named name headers) 1 ≡ true
     → header_value name headers ≡ Some value
     → with_header_value name value headers ≡ headers
@@ -354,6 +359,7 @@ go_value name other (h ∷ headers) = by_test (go_value name other headers) (is_
     by_test more true is = rw (is, unlike is (is_named name h) refl) more
     by_test more false is = rw is (by_name more (is_named name h) refl)
 
+-- to leave out a node's copy lines touches only those
 pub go_change : (headers : List Header) → IsChange is_copy_line headers (without_copy_headers headers)
 go_change headers = record {
   lines = go_lines headers;
@@ -361,6 +367,7 @@ go_change headers = record {
   same = λ name other. go_value name other headers;
 }
 
+-- where the copy source is left out, no copy line is left
 pub gone : (name : List ℕ) → is_copy_line name ≡ true → (headers : List Header)
     → has_header name (without_copy_headers headers) ≡ false
 gone name copy [] = refl
@@ -383,6 +390,7 @@ abbrev pub IsTold : List ℕ → ℕ → List Header → Type 0
 IsTold name n headers = MatchBool (has_header name headers) (header_value name headers ≡ Some (spelled_number n))
     (n ≡ 0)
 
+-- what a line tells it tells still, where only other names were touched
 pub told_later : (name : List ℕ) (n : ℕ) (touches : List ℕ → Bool) (old new : List Header) → IsChange touches old new
     → touches name ≡ false → IsTold name n old → IsTold name n new
 told_later name n touches old new change free told = by_case (has_header name old) refl told
@@ -392,6 +400,7 @@ told_later name n touches old new change free told = by_case (has_header name ol
     by_case true is t = rw (same_has touches old new change name free ∙ is) (change.same name free ∙ t)
     by_case false is t = rw (same_has touches old new change name free ∙ is) t
 
+-- a number put into its line is told, where without a line it is 0
 pub told_put : (name : List ℕ) (n : ℕ) (headers : List Header) → (has_header name headers ≡ false → n ≡ 0)
     → IsTold name n (with_header_value name (spelled_number n) headers)
 told_put name n headers missing = by_case (has_header name headers) refl
@@ -402,6 +411,7 @@ told_put name n headers missing = by_case (has_header name headers) refl
         (put_own name (spelled_number n) headers is)
     by_case false is = rw (put_has name name (spelled_number n) headers ∙ is) (missing is)
 
+-- a length put into its line, or added where there is none, is told
 pub told_length : (name : List ℕ) (n : ℕ) (headers : List Header) → IsTold name n (with_length name n headers)
 told_length name n headers = by_case (has_header name headers) refl
   where
@@ -416,9 +426,11 @@ told_length name n headers = by_case (has_header name headers) refl
     by_case true is = rw is (told_put name n headers (λ none. absurd (absurd_bool (has_header name headers) is none)))
     by_case false is = rw is (by_zero is (n == 0) refl)
 
+-- a number has no LF in its digits
 pub spelled_line : (n : ℕ) → n < 10 ^ 18 → has_byte 10 (spelled_number n) ≡ false
 spelled_line n small = (spelled_spells n (omega arith)).one_line
 
+-- a new length changes only the line of its name
 pub length_change : (name : List ℕ) (n : ℕ) (headers : List Header) → n < 10 ^ 18
     → (has_byte 10 (spelled_number n) ≡ false → is_header (record { name = name; value = spelled_number n }) ≡ true)
     → IsChange (λ other. bytes_eq name other) headers (with_length name n headers)
@@ -437,6 +449,7 @@ length_change name n headers small good = by_case (has_header name headers) refl
 
 -- a told number is read, and told again it changes nothing
 
+-- a told number is read as that length, and none of its name is unreadable
 pub told_reads : (name : List ℕ) (n : ℕ) (headers : List Header) → n < 10 ^ 18 → IsTold name n headers
     → (header_length name headers ≡ n) × ((has_header name headers && is_none (header_number name headers)) ≡ false)
 told_reads name n headers small told = by_case (has_header name headers) refl told
@@ -454,6 +467,7 @@ told_reads name n headers small told = by_case (has_header name headers) refl to
       rw is refl,
     )
 
+-- a told number, put into its line again, changes nothing
 pub told_put_again : (name : List ℕ) (n : ℕ) (headers : List Header) → nat_le (count_named name headers) 1 ≡ true
     → IsTold name n headers
     → with_header_value name (spelled_number n) headers ≡ headers
@@ -465,6 +479,7 @@ told_put_again name n headers few told = by_case (has_header name headers) refl 
     by_case true is t = put_same name (spelled_number n) headers few t
     by_case false is t = put_absent name (spelled_number n) headers is
 
+-- a told length, put into its line again, changes nothing
 pub told_length_again : (name : List ℕ) (n : ℕ) (headers : List Header) → nat_le (count_named name headers) 1 ≡ true
     → IsTold name n headers
     → with_length name n headers ≡ headers

@@ -15,16 +15,19 @@ use Rattle.dump_filter.proofs.again.ReadAgain.{AtEach}
 
 -- the kept numbers of a list that a record begins
 
+-- a kept revision's number stands before the kept numbers of the records behind it
 pub kept_revision : (settings : Settings) (r : DumpRecord) (rest : List DumpRecord) → is_revision r ≡ true
     → keeps_group settings (group_of r rest) ≡ true
     → kept_numbers settings (r ∷ rest) ≡ revision_number r ∷ kept_numbers settings rest
 kept_revision settings r rest rev keep = rw rev (rw keep refl)
 
+-- a dropped revision adds no kept number
 pub dropped_revision : (settings : Settings) (r : DumpRecord) (rest : List DumpRecord) → is_revision r ≡ true
     → keeps_group settings (group_of r rest) ≡ false
     → kept_numbers settings (r ∷ rest) ≡ kept_numbers settings rest
 dropped_revision settings r rest rev drop = rw rev (rw drop refl)
 
+-- a record that is no revision adds no kept number
 pub no_revision : (settings : Settings) (r : DumpRecord) (rest : List DumpRecord) → is_revision r ≡ false
     → kept_numbers settings (r ∷ rest) ≡ kept_numbers settings rest
 no_revision settings r rest other = rw other refl
@@ -83,6 +86,7 @@ rise_first settings g (r ∷ rest) are = cases (is_revision r) refl (λ h is. ri
         let first : first_number (revision_numbers (r ∷ rest)) ≡ first_number (revision_numbers rest) = rw other refl in
         rw (first, no_revision settings r rest other) (later _ more)
 
+-- where no record has a fault, the kept numbers rise from the first revision's on
 pub kept_rise : (settings : Settings) (records : List DumpRecord) → AreFaultFree settings records
     → RiseFrom (kept_revisions settings records).first (kept_revisions settings records).numbers
 kept_rise settings records free = rise_first settings false records (in_order settings records free)
@@ -160,6 +164,7 @@ zero_kept settings (r ∷ rest) first k has some = cases (is_revision r) refl
         let in_rest = rw (no_revision settings r rest other) at has in
         rw (no_revision settings r rest other) (later is in_rest)
 
+-- a kept revision above 0 is given a new number above 0
 pub positive : (settings : Settings) (records : List DumpRecord) (k : ℕ)
     → Contains (kept_revisions settings records).numbers k → 1 ≤ k
     → 1 ≤ new_number (kept_revisions settings records) k
@@ -215,6 +220,7 @@ above_first before g (r ∷ rest) are = cases (is_revision r) refl
         subst (λ (n : ℕ). Above n before (r ∷ rest)) (sym first)
         ((λ is. absurd (absurd_bool (is_revision r) is other)), later _ (rw other at order))
 
+-- where no record has a fault, no revision's number is below the first one
 pub revisions_above : (settings : Settings) (records : List DumpRecord) → AreFaultFree settings records
     → AtEach (λ before r after. is_revision r ≡ true
     → (kept_revisions settings records).first ≤ revision_number r) [] records

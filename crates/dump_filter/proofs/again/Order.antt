@@ -119,6 +119,7 @@ order_behind settings before (r ∷ rest) free =
           (subst (AreFaultFree settings) (sym moved) free)),
     )
 
+-- records without a fault are in order
 pub in_order : (settings : Settings) (records : List DumpRecord) → AreFaultFree settings records
     → AreInOrder false None records
 in_order settings records free = order_behind settings [] records free
@@ -148,6 +149,7 @@ order_split before (x ∷ mid) after r are =
     subst (λ (l : List DumpRecord). ¬ IsOutOfOrder l r) (append_assoc before (x ∷ []) mid)
     (order_split (before ++ x ∷ []) mid after r (order_less before x (mid ++ r ∷ after) are.2))
 
+-- no record of a list in order is out of order behind those before it
 pub order_fits : (records : List DumpRecord) → AreInOrder false None records → (before after : List DumpRecord)
     (r : DumpRecord)
     → records ≡ before ++ r ∷ after → ¬ IsOutOfOrder before r

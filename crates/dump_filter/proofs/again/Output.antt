@@ -70,6 +70,7 @@ second_side : (b : Bool) (A B : Type 0) → b ≡ false → B → MatchBool b A 
 second_side true A B is b = absurd (false_true (sym is))
 second_side false A B is b = b
 
+-- a number that a header tells is below 10 ^ 18
 pub header_small : (name : List ℕ) (headers : List Header) (n : ℕ) → header_number name headers ≡ Some n → n < 10 ^ 18
 header_small name headers n is = by_value (header_value name headers) is
   where

@@ -126,5 +126,6 @@ module _ (settings : Settings) (dump text : List ℕ) (records : List DumpRecord
         },
       )
 
+-- what the filter writes of a clean dump is a clean dump, which it leaves as it is where it keeps everything
 pub keeps_its_own_text : KeepsItsOwnText
 keeps_its_own_text settings dump text records clean fit = whole_again settings dump text records clean fit

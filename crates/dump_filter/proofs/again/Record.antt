@@ -70,6 +70,7 @@ module _ (headers : List Header) (good : has_bad_kind headers ≡ false) (fine :
       when_true true b is none = none
       when_true false b is none = cc
 
+  -- such a record's lengths of properties and text are 0
   pub no_content : (property_length headers ≡ 0) × (text_length headers ≡ 0)
   no_content = (
     no_length property_length_name headers (first_false _ _ no_lengths),
@@ -79,6 +80,7 @@ module _ (headers : List Header) (good : has_bad_kind headers ≡ false) (fine :
 
 -- what the new lines of a revision or node keep
 
+-- lawful lines that don't change keep what they need to break no rule
 pub stays_same : (number : ℕ) (headers : List Header) → is_lawful number headers ≡ true → StaysLawful headers headers
 stays_same number headers lawful =
     let k = keeps number headers lawful in
@@ -94,6 +96,7 @@ stays_same number headers lawful =
       copy_number = first_false _ _ (second_false _ _ numbers);
     }
 
+-- a revision's lines under a new number keep what they need to break no rule
 pub stays_revision : (old : List Header) (n : ℕ) → n < 10 ^ 18 → has_header revision_name old ≡ true
     → StaysLawful old old → StaysLawful old (with_header_value revision_name (spelled_number n) old)
 stays_revision old n small has stays =
@@ -118,6 +121,7 @@ stays_revision old n small has stays =
       ) stays.copy_number;
     }
 
+-- a node's lines under a new copy revision keep what they need to break no rule
 pub stays_copy_number : (old : List Header) (n : ℕ) → n < 10 ^ 18 → has_header copy_revision_name old ≡ true
     → StaysLawful old old
     → StaysLawful old (with_header_value copy_revision_name (spelled_number n) old)
@@ -144,6 +148,7 @@ stays_copy_number old n small has stays =
       copy_number = (told_reads copy_revision_name n (with_header_value copy_revision_name v old) small told).1;
     }
 
+-- lines without their copy source keep what they need to break no rule
 pub stays_plain : (old : List Header) → StaysLawful old old → StaysLawful old (without_copy_headers old)
 stays_plain old stays =
     let change = go_change old in
@@ -208,18 +213,22 @@ module _ (number : ℕ) (r : DumpRecord) (is_lines : is_block r.headers ≡ true
   abbrev pub lines : List Header
   lines = with_lengths props r.text mid
 
+  -- the record that is written, at a place of the new text
   abbrev pub again : ℕ → DumpRecord
   again place = record { place = place; version = r.version; headers = lines; props = props; text = r.text }
 
   no_text : has_header text_length_name mid ≡ false → length r.text ≡ 0
   no_text missing = fits ∙ no_length text_length_name r.headers (sym stays.text ∙ missing)
 
+  -- the new lines tell the lengths of the properties and of the text
   pub told : AreTold props r.text lines
   told = lengths_told props r.text mid small no_text
 
+  -- the new lines keep what they need of the old ones to break no rule
   pub new_stays : StaysLawful r.headers lines
   new_stays = stays_lengths r.headers mid props r.text small stays
 
+  -- the new lines are a block
   pub new_is_block : is_block lines ≡ true
   new_is_block = by_revision (has_header revision_name r.headers) refl
     where
@@ -234,6 +243,7 @@ module _ (number : ℕ) (r : DumpRecord) (is_lines : is_block r.headers ≡ true
       by_revision false is = stay path_name (new_stays.node ∙ sym (ap (λ b. b || has_header path_name r.headers) is)
           ∙ either)
 
+  -- the new lines break no rule in any place of a dump, but that a version record stands first
   pub new_lawful : (m : ℕ) → (m ≡ 0 → has_header version_name r.headers ≡ true) → is_lawful m lines ≡ true
   new_lawful = lawful_again number r.headers lines lawful either new_stays props r.text small told
 

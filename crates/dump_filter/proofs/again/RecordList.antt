@@ -32,6 +32,7 @@ at_each_behind P done (r ∷ rest) holds = (
       (sym (append_assoc done (r ∷ []) rest) ∙ is)),
 )
 
+-- what holds of each record where it stands holds at each of the list
 pub at_each : (P : List DumpRecord → DumpRecord → List DumpRecord → Type 0) (records : List DumpRecord)
     → ((before after : List DumpRecord) (r : DumpRecord) → records ≡ before ++ r ∷ after → P before r after)
     → AtEach P [] records
@@ -182,6 +183,7 @@ module _ (settings : Settings) (kept : KeptRevisions) where
           again_written r found.0 rest front behind text old number place pending b.lawful low written is found.1 found.2 later
       cases false dropped none later = again_dropped r rest front behind text old number place pending b.lawful low dropped is none later
 
+-- where each record that is written is a record again, the whole text is cut into those records
 pub records_again : (settings : Settings) (kept : KeptRevisions) (dump text : List ℕ) (records : List DumpRecord)
     → IsCutInto 0 0 dump records []
     → AtEach (λ before r after. HasAgain settings kept r after) [] records → AreOutputs settings true kept records text
@@ -201,6 +203,7 @@ some_again settings kept dump text (r ∷ rest) again (lfs, start, end, cut_is, 
 
 -- where everything is kept
 
+-- the options that keep everything keep each path
 pub all_paths : (path : List ℕ) → keeps_path keep_all path ≡ true
 all_paths path = refl
 

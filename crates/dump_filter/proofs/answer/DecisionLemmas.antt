@@ -52,6 +52,7 @@ pub record IsTaken (settings : Settings) (before : List DumpRecord) (s : State) 
   pub readable : (is_revision r || is_kept_node settings r) ≡ true → HasPropertyBlock r
   pub is : IsFate settings s r fate
 
+-- the record is of this fate, or has this fault
 abbrev pub IsAnswer : Settings → List DumpRecord → State → DumpRecord → Result Fate FaultKind → Type 0
 IsAnswer settings before s r (Ok fate) = IsTaken settings before s r fate
 IsAnswer settings before s r (Err fault) = IsRecordFault settings before r fault
@@ -320,6 +321,7 @@ module _ (settings : Settings) (before : List DumpRecord) (s : State) (text : Li
       by_kind false k false other keep no_rev =
           other_taken fates.Pass good (not_kept settings r other) none (other, no_rev)
 
+  -- the answer by a record's verdict and its properties is true of it
   pub answered : (v : Verdict) → IsVerdict settings r v → (ps : List Property) → AreAsked settings r v ps
       → IsAnswer settings before s r (decided settings s r v ps)
   answered v means ps asked = by_order (is_in_order s r) refl
@@ -397,6 +399,7 @@ fate_of_node settings s r ok ps keep =
     ap (λ b. if b then kept else if is_revision r then Ok fates.Hold else Ok fates.Pass) (first_true (is_node r) _ keep)
     ∙ ap (λ b. if b then node_fate settings s r ok ps else Ok fates.Drop) keep
 
+-- the fate of a revision is to be held
 pub fate_of_revision : (settings : Settings) (s : State) (r : DumpRecord) (ok : Bool) (ps : List Property)
     → is_node r ≡ false → is_revision r ≡ true → Ok fates.Hold ≡ fate_of settings s r ok ps
 fate_of_revision settings s r ok ps no_node revision =

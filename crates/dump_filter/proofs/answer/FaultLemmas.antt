@@ -39,6 +39,7 @@ module _ (settings : Settings) (before : List DumpRecord) (s : State) (text : Li
   ends_is : ends_in_group (last_or None before) ≡ is_open s.group
   ends_is = ends_open settings before s st.shape
 
+  -- a record that may come next isn't out of order
   pub ordered : (is_node r ≡ true → is_revision r ≡ false) → is_in_order s r ≡ true → ¬ IsOutOfOrder before r
   ordered alone good (inl bad) =
       let node : is_node r ≡ true = first_true (is_node r) (not (ends_in_group (last_or None before))) bad in
@@ -54,6 +55,7 @@ module _ (settings : Settings) (before : List DumpRecord) (s : State) (text : Li
       (ap (λ p. rises p (revision_number r)) (sym (st.present_is ∙ at)) ∙ up) in
       absurd (omega arith)
 
+  -- a record that may not come next is out of order
   pub disordered : is_in_order s r ≡ false → IsOutOfOrder before r
   disordered bad = by_kind (is_node r) (is_revision r) refl refl bad
     where
@@ -251,6 +253,7 @@ module _ (settings : Settings) (kept : KeptRevisions) (present : ℕ) (number : 
           λ h. absurd_bool settings.renumber (first_true settings.renumber (stays_copy settings r) h.0) renumber,
         )
 
+  -- what is decided of a kept node's copy source is what becomes of it, or its fault
   pub copy_judged : CopyJudged settings kept present r (copy_change settings kept present r)
   copy_judged = by_lost (has_lost_source settings r) refl
     where

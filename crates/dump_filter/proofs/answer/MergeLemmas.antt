@@ -108,6 +108,7 @@ module _ (settings : Settings) (r : DumpRecord) (keep : is_kept_node settings r 
         by_source true some = inr (inl (refl, fine, some_misses some))
         by_source false none = by_range (none_misses none) (list_any (is_foreign settings kept.first present) ps) refl
 
+  -- the fault that is found in a kept node's mergeinfo is there, where the verdict is right
   pub merge_judged : (kept : KeptRevisions) (present : ℕ) (ok : Bool) → IsFalse ok ↔ ∥ HasBadMergeinfo settings r ∥₁
       → MergeJudged settings kept present r (merge_fault settings kept.first present ok ps)
   merge_judged kept present true means = values_judged kept present

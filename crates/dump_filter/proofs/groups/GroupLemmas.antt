@@ -14,6 +14,7 @@ use Rattle.dump_filter.specs.steps.Knowledge.{is_plain}
 use Rattle.dump_text.proofs.BoolLemmas.{first_true, second_true, first_false, second_false, not_true}
 use Rattle.dump_filter.specs.Written.{is_open, is_written, AreOutputs}
 
+-- what is taken from a list begins with its first record
 pub take_cons : (n : ℕ) (x : DumpRecord) (xs : List DumpRecord) → take (1 + n) (x ∷ xs) ≡ x ∷ take n xs
 take_cons n x xs = let e : 1 + n ≡ suc n = omega arith in ap (λ m. take m (x ∷ xs)) e
 
@@ -35,6 +36,7 @@ pub group_before : (x : DumpRecord) (xs zs : List DumpRecord) (y : DumpRecord) �
 group_before x xs zs y other = ap (λ (ns : List DumpRecord). record { revision = x; nodes = ns })
     (nodes_before xs zs y other)
 
+-- a record that is no node ends the groups before it
 pub groups_before : (xs zs : List DumpRecord) (y : DumpRecord) → is_node y ≡ false
     → groups (xs ++ y ∷ zs) ≡ groups xs ++ groups (y ∷ zs)
 groups_before [] zs y other = refl
@@ -46,9 +48,11 @@ groups_before (x ∷ xs) zs y other = cases (is_revision x) refl (groups_before 
         ∙ ap (λ (gs : List Group). group_of x xs ∷ gs) more)
     cases false is more = rw is more
 
+-- what is a node and nothing else is a node
 pub plain_node : (r : DumpRecord) → is_plain r ≡ true → is_node r ≡ true
 plain_node r h = first_true (is_node r) (not (is_revision r)) h
 
+-- what is a node and nothing else is no revision
 pub plain_other : (r : DumpRecord) → is_plain r ≡ true → is_revision r ≡ false
 plain_other r h = not_true (is_revision r) (second_true (is_node r) (not (is_revision r)) h)
 
@@ -77,18 +81,22 @@ pub own_group : (y : DumpRecord) (ns : List DumpRecord) → list_all is_plain ns
     → group_of y ns ≡ record { revision = y; nodes = ns }
 own_group y ns all = ap (λ (t : List DumpRecord). record { revision = y; nodes = t }) (take_nodes ns all)
 
+-- a revision and its nodes are one group
 pub groups_revision : (y : DumpRecord) (ns : List DumpRecord) → is_revision y ≡ true → list_all is_plain ns ≡ true
     → groups (y ∷ ns) ≡ record { revision = y; nodes = ns } ∷ []
 groups_revision y ns is all = rw is (ap (λ (g : Group). g ∷ groups ns) (own_group y ns all)
     ∙ ap (λ (gs : List Group). record { revision = y; nodes = ns } ∷ gs) (no_groups ns all))
 
+-- a record that is no revision, alone, is no group
 pub groups_other : (y : DumpRecord) → is_revision y ≡ false → groups (y ∷ []) ≡ []
 groups_other y is = rw is refl
 
+-- nodes and nothing else, with one more, are so still
 pub plain_more : (ns : List DumpRecord) (r : DumpRecord) → list_all is_plain ns ≡ true → is_plain r ≡ true
     → list_all is_plain (ns ++ r ∷ []) ≡ true
 plain_more ns r all one = list_all-append is_plain ns (r ∷ []) ∙ rw (all, one) refl
 
+-- of nodes and one more some is kept exactly where one of them is, or that one
 pub any_more : (settings : Settings) (ns : List DumpRecord) (r : DumpRecord)
     → list_any (is_kept_node settings) (ns ++ r ∷ []) ≡ (list_any (is_kept_node settings) ns || is_kept_node settings r)
 any_more settings ns r = list_any-append (is_kept_node settings) ns (r ∷ [])
@@ -465,6 +473,7 @@ module _ (settings : Settings) (k : KeptRevisions) (closed ns : List DumpRecord)
       (nodes_end settings k false true ns [] all (empty_nodes none))
       (ap (λ t. t ++ rt) (nothing none) ∙ ap (λ t. parts.before ++ t) (sym (append-nil rt)))
 
+  -- where the last group has no kept node and isn't kept, what was written is all
   pub waits_dropped : list_any (is_kept_node settings) ns ≡ false
       → keeps_group settings (record { revision = y; nodes = ns }) ≡ false
       → AreOutputs settings true k (closed ++ y ∷ ns) text

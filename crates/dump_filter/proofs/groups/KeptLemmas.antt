@@ -40,6 +40,7 @@ image_goes_on first numbers (n ∷ later) m all =
     ∙ image_goes_on first (numbers ++ n ∷ []) later m (All-tail (λ k. m < k) n later all)
     ∙ image_pushed (record { first = first; numbers = numbers }) n m (All-head (λ k. m < k) n later all)
 
+-- the kept revisions of a list that goes on are those kept so far and the later ones
 pub whole_is : (kept : KeptRevisions) (from : ℕ) (whole : KeptRevisions) (g : GoesOn kept from whole)
     → whole ≡ record { first = kept.first; numbers = kept.numbers ++ g.later }
 whole_is kept from whole g = λ i. record { first = g.first_is i; numbers = g.numbers_are i }
@@ -81,6 +82,7 @@ reopened kept whole r p q is low g = record {
       (all_weaker (λ n. q ≤ n) (λ n. p ≤ n) g.later (λ n up. omega (arith, up, low)) g.behind);
 }
 
+-- a list that goes on from a number goes on from a lower one, too
 pub lowered : (kept whole : KeptRevisions) (p q : ℕ) → p ≤ q → GoesOn kept q whole → GoesOn kept p whole
 lowered kept whole p q low g = record {
   first_is = g.first_is;
@@ -89,6 +91,7 @@ lowered kept whole p q low g = record {
   behind = all_weaker (λ n. q ≤ n) (λ n. p ≤ n) g.later (λ n up. omega (arith, up, low)) g.behind;
 }
 
+-- a list that goes on where the pending revision is kept goes on from the least number that was open
 pub front_reopened : (kept whole : KeptRevisions) (group : PresentGroup) (present : ℕ) → AreRising kept present group
     → GoesOn (front_kept kept group) (present + 1) whole → GoesOn kept (open_from present group) whole
 front_reopened kept whole NoGroup present up g = g
@@ -96,6 +99,7 @@ front_reopened kept whole Written present up g = g
 front_reopened kept whole (Pending w) present up g =
     reopened kept whole w.revision present (present + 1) up.waits (omega arith) g
 
+-- a list that goes on behind the group's end goes on from the least number that was open
 pub end_reopened : (settings : Settings) (kept whole : KeptRevisions) (group : PresentGroup) (present next : ℕ)
     → AreRising kept present group → present < next
     → GoesOn (end_kept settings kept group) next whole → GoesOn kept (open_from present group) whole
@@ -144,6 +148,7 @@ written_rising kept present up = record { low = up.low; rise = up.rise; below = 
 closed_rising : (kept : KeptRevisions) (present : ℕ) → AreRising kept present Written → AreRising kept present NoGroup
 closed_rising kept present up = record { low = up.low; rise = up.rise; below = up.below; waits = tt }
 
+-- the kept revisions rise where a pending one is kept for its node
 pub front_rising : (kept : KeptRevisions) (group : PresentGroup) (present : ℕ) → AreRising kept present group
     → AreRising (front_kept kept group) present Written
 front_rising kept NoGroup present up = written_rising kept present up
@@ -151,6 +156,7 @@ front_rising kept Written present up = up
 front_rising kept (Pending w) present up =
     written_rising (with_kept kept w.revision) present (pushed_rising kept w.revision w.bare present up)
 
+-- the kept revisions rise where the present group ends
 pub end_rising : (settings : Settings) (kept : KeptRevisions) (group : PresentGroup) (present : ℕ)
     → AreRising kept present group
     → AreRising (end_kept settings kept group) present NoGroup
@@ -174,6 +180,7 @@ next_rising kept r present up above = let low = up.low in record {
   waits = refl;
 }
 
+-- where the first revision is pending and none is kept yet, the kept revisions rise
 pub first_rising : (r : DumpRecord)
     → AreRising (record { first = revision_number r; numbers = [] }) (revision_number r)
     (Pending (record { revision = r; bare = true }))

@@ -17,6 +17,7 @@ IsOfKind r kinds.Uuid = (is_node r ≡ false) × (is_revision r ≡ false)
 IsOfKind r kinds.Revision = (is_node r ≡ false) × (is_revision r ≡ true)
 IsOfKind r kinds.Node = (is_node r ≡ true) × (is_revision r ≡ false)
 
+-- the kind that the lines of a lawful record give is its own
 pub of_kind : (number : ℕ) (r : DumpRecord) → IsTrue (is_lawful number r.headers) → IsOfKind r (kind_of r.headers)
 of_kind number r lawful =
     cases (has_header version_name r.headers) (has_header uuid_name r.headers) (has_header revision_name r.headers)

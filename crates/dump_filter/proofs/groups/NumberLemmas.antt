@@ -34,16 +34,19 @@ last_number : (first : Option ℕ) (ns : List ℕ) (n : ℕ) → last_or first (
 last_number first [] n = refl
 last_number first (m ∷ ns) n = last_number (Some m) ns n
 
+-- a record that is no revision leaves the present revision as it is
 pub present_other : (before : List DumpRecord) (r : DumpRecord) → is_revision r ≡ false
     → present_revision (before ++ r ∷ []) ≡ present_revision before
 present_other before r other = ap (last_or None) (numbers_other before r other)
 
+-- behind a revision and its nodes that revision is the present one
 pub present_group : (before : List DumpRecord) (r : DumpRecord) (ns : List DumpRecord) → is_node r ≡ false
     → is_revision r ≡ true → list_all is_plain ns ≡ true
     → present_revision (before ++ r ∷ ns) ≡ Some (revision_number r)
 present_group before r ns other rev all = ap (last_or None) (numbers_revision before r ns other rev all)
     ∙ last_number None (revision_numbers before) (revision_number r)
 
+-- a record that is no revision leaves the first number as it is
 pub first_other : (before : List DumpRecord) (r : DumpRecord) → is_revision r ≡ false
     → first_number (revision_numbers (before ++ r ∷ [])) ≡ first_number (revision_numbers before)
 first_other before r other = ap first_number (numbers_other before r other)
@@ -72,6 +75,7 @@ first_stays before r present other rev is = ap first_number (numbers_revision be
     cases [] e = cc
     cases (n ∷ ns) e = refl
 
+-- the first revision's number is the first number
 pub first_begins : (before : List DumpRecord) (r : DumpRecord) → is_node r ≡ false → is_revision r ≡ true
     → present_revision before ≡ None
     → first_number (revision_numbers (before ++ r ∷ [])) ≡ revision_number r
@@ -102,6 +106,7 @@ kept_group settings closed ns y other rev all =
         by_case true is = rw is refl
         by_case false is = rw is refl
 
+-- a version or UUID record adds no kept number
 pub kept_other : (settings : Settings) (closed : List DumpRecord) (y : DumpRecord) → is_node y ≡ false
     → is_revision y ≡ false
     → kept_numbers settings (closed ++ y ∷ []) ≡ kept_numbers settings closed
@@ -115,6 +120,7 @@ pub count_one : {X : Type 0} (p : X → Bool) (xs : List X) (x : X) → count_by
     (if p x then 1 else 0)
 count_one p xs x = sum_by-append (λ y. if p y then 1 else 0) xs (x ∷ []) ∙ ap (λ n. count_by p xs + n) (omega arith)
 
+-- a revision and its nodes add one group to a count, if it is counted
 pub group_counts : (p : Group → Bool) (closed ns : List DumpRecord) (y : DumpRecord) → is_node y ≡ false
     → is_revision y ≡ true → list_all is_plain ns ≡ true
     → count_by p (groups (closed ++ y ∷ ns)) ≡ count_by p (groups closed) +
@@ -124,6 +130,7 @@ group_counts p closed ns y other rev all =
     (groups_revision y ns rev all))
     ∙ count_one p (groups closed) (record { revision = y; nodes = ns })
 
+-- a version or UUID record adds no group to a count
 pub other_counts : (p : Group → Bool) (closed : List DumpRecord) (y : DumpRecord) → is_node y ≡ false
     → is_revision y ≡ false
     → count_by p (groups (closed ++ y ∷ [])) ≡ count_by p (groups closed)

@@ -140,6 +140,7 @@ front_exists settings kept NoGroup readable = ([], refl)
 front_exists settings kept Written readable = ([], refl)
 front_exists settings kept (Pending w) readable = revision_exists settings kept w.revision false readable
 
+-- something is written at the group's end, where the pending revision can be read
 pub end_exists : (settings : Settings) (kept : KeptRevisions) (group : PresentGroup) → IsReadable group
     → (text : List ℕ) × IsEndText settings kept group text
 end_exists settings kept NoGroup readable = ([], refl)
@@ -165,6 +166,7 @@ rising s = by_present s.revisions.present
         (sym (ap (front_kept s.revisions.kept) free ∙ none)) tt
     by_present (Some p) up = (front_rising s.revisions.kept s.group p up).rise
 
+-- something is written of a record with a fate, where the pending revision can be read
 pub piece_exists : (settings : Settings) (before : List DumpRecord) (s : State) (r : DumpRecord) (fate : Fate)
     → AreKept s.revisions s.group → IsReadable s.group → IsTaken settings before s r fate → (piece : List ℕ)
     × IsPiece settings s r fate piece
@@ -187,6 +189,7 @@ pub stands_written : (settings : Settings) (before : List DumpRecord) (s : State
 stands_written settings before s text st =
     st.written (kept_revisions settings before) (becomes settings before s text st)
 
+-- what stands written of the records is the only text that is written of them
 pub stands_once : (settings : Settings) (before : List DumpRecord) (s : State) (text other : List ℕ)
     → Stands settings before s text → IsWritten settings false before other → text ≡ other
 stands_once settings before s text other st written =
@@ -212,6 +215,7 @@ ended_counted settings s is = by_group s.group
             ∙ sym (length-append s.revisions.kept.numbers (revision_number w.revision ∷ []))
         by_stays false = is
 
+-- behind one more record the report's count of kept revisions is right, too
 pub next_counted : (settings : Settings) (s : State) (r : DumpRecord) (fate : Fate) (checked : Bool)
     → AreKept s.revisions s.group → s.report.revisions_kept ≡ length s.revisions.kept.numbers
     → (next_state settings s r fate checked).report.revisions_kept
@@ -251,6 +255,7 @@ ended_room settings (Pending w) report n room = by_stays (stays settings w)
     by_stays true = omega arith
     by_stays false = omega arith
 
+-- one more record adds at most one to the count of revisions
 pub next_room : (settings : Settings) (s : State) (r : DumpRecord) (fate : Fate) (checked : Bool) (n : ℕ)
     → revision_count s ≤ n
     → revision_count (next_state settings s r fate checked) ≤ n + 1
@@ -311,6 +316,7 @@ module _ (settings : Settings) (before : List DumpRecord) (s : State) (r : DumpR
       (is_node r && not (is_kept_node settings r)) 1 0
   one_dropped = count_one (λ x. is_node x && not (is_kept_node settings x)) before r
 
+  -- behind one more record the report counts the kept nodes of all of them
   pub kept_nodes : (fate : Fate) → IsTaken settings before s r fate
       → (next_state settings s r fate checked).report.nodes_kept ≡ count_by (is_kept_node settings) (before ++ r ∷ [])
   kept_nodes (fates.Keep copy) taken =
@@ -321,6 +327,7 @@ module _ (settings : Settings) (before : List DumpRecord) (s : State) (r : DumpR
   kept_nodes fates.Pass taken =
       (ended_others settings s.group s.report).0 ∙ kept_is ∙ sym (one_kept ∙ rw taken.is.0 (omega arith))
 
+  -- behind one more record the report counts those of all the nodes that aren't kept
   pub dropped_nodes : (fate : Fate) → IsTaken settings before s r fate
       → (next_state settings s r fate checked).report.nodes_dropped
       ≡ count_by (λ x. is_node x && not (is_kept_node settings x)) (before ++ r ∷ [])

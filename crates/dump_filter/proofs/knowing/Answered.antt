@@ -24,16 +24,19 @@ abbrev pub AllLawful : List DumpRecord → Type 0
 AllLawful [] = Unit {0}
 AllLawful (r ∷ rs) = ((number : ℕ) × IsTrue (is_lawful number r.headers)) × AllLawful rs
 
+-- the records that a text is cut into break no rule
 pub all_lawful : (number place : ℕ) (text rest : List ℕ) (rs : List DumpRecord) → IsCutInto number place text rs rest
     → AllLawful rs
 all_lawful number place text rest [] cut = tt
 all_lawful number place text rest (r ∷ rs) (lfs, front, after, is, at, b, more) =
     ((number, b.lawful), all_lawful (number + 1) (r.place + length (record_text r)) after rest rs more)
 
+-- the last of some lawful records are lawful
 pub lawful_behind : (rs ss : List DumpRecord) → AllLawful (rs ++ ss) → AllLawful ss
 lawful_behind [] ss all = all
 lawful_behind (r ∷ rs) ss all = lawful_behind rs ss all.1
 
+-- the first of some lawful records are lawful
 pub lawful_front : (rs ss : List DumpRecord) → AllLawful (rs ++ ss) → AllLawful rs
 lawful_front [] ss all = tt
 lawful_front (r ∷ rs) ss all = (all.0, lawful_front rs ss all.1)
@@ -44,9 +47,11 @@ pub record Reached (settings : Settings) (before : List DumpRecord) : Type 0 whe
   pub text : List ℕ
   pub stands : Stands settings before state text
 
+-- before the first record nothing is written
 pub reached_none : (settings : Settings) → Reached settings []
 reached_none settings = record { state = new_state; text = []; stands = new_stands settings }
 
+-- what was reached is what is written of these records
 pub reached_written : (settings : Settings) (before : List DumpRecord) (reached : Reached settings before)
     → IsWritten settings false before reached.text
 reached_written settings before d = stands_written settings before d.state d.text d.stands
@@ -152,6 +157,7 @@ further settings before rest r text turn next is (Ends free more written end who
     (subst (λ (t : List ℕ). IsWritten settings true (before ++ r ∷ rest) (t ++ end)) texts
     (subst (λ (l : List DumpRecord). IsWritten settings true l ((next ++ more) ++ end)) moved whole))
 
+-- lawful records behind those without a fault end without one, or stop at the first that has one
 pub follow : (settings : Settings) (before rest : List DumpRecord) → AllLawful rest → AreFaultFree settings before
     → (reached : Reached settings before)
     → Outcome settings before rest reached.text

@@ -65,6 +65,7 @@ no_snoc : (b a : List DumpRecord) (x : DumpRecord) → [] ≡ b ++ x ∷ a → �
 no_snoc [] a x e = cc
 no_snoc (c ∷ b) a x e = cc
 
+-- an empty list of records has no fault
 pub free_none : (settings : Settings) → AreFaultFree settings []
 free_none settings = λ b a x is. absurd (no_snoc b a x is)
 
@@ -93,6 +94,7 @@ snoc_split (y ∷ before) (c ∷ b) a r x is =
     tail_of : (x y : DumpRecord) (xs ys : List DumpRecord) → x ∷ xs ≡ y ∷ ys → xs ≡ ys
     tail_of x y xs ys e = cc
 
+-- records without a fault, with one more that has none, have no fault
 pub free_more : (settings : Settings) (before : List DumpRecord) (r : DumpRecord) → AreFaultFree settings before
     → NoFault (HoldsOfRecord settings before r) → AreFaultFree settings (before ++ r ∷ [])
 free_more settings before r free last b a x is fault h =
@@ -345,6 +347,7 @@ module _ {f : Inside} {state : FilterState} (h : Holds f state) where
       pub held_is_revision : fate ≡ fates.Hold → is_revision r ≡ true
       held_is_revision held = (subst (IsTaken settings before s r) held taken).is.1
 
+      -- a record with a fate is accepted, with what is written of it
       pub accepts : (piece : List ℕ) → IsPiece settings s r fate piece → Accepts state r piece
       accepts piece is_piece list accepted =
           let same = is_before list accepted in
@@ -362,6 +365,7 @@ module _ {f : Inside} {state : FilterState} (h : Holds f state) where
                 (h.knows.text ++ piece) (next piece is_piece)),
           ))
 
+      -- behind the next record of the dump, with its fate, the filter's state says what it has accepted
       pub next_knows : (piece : List ℕ) → IsPiece settings s r fate piece
           → IsOfSameDump state (record_dump (done_record done))
           → record_number (done_record done) ≡ count_up_to state.last

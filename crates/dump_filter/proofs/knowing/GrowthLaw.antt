@@ -21,6 +21,7 @@ front_free : (settings : Settings) (records more : List DumpRecord) → AreFault
 front_free settings records more free before after r is =
     free before (after ++ more) r (ap (λ (l : List DumpRecord). l ++ more) is ∙ append_assoc before (r ∷ after) more)
 
+-- what is written of the first records begins what is written of them and more
 pub written_only_grows : WrittenOnlyGrows
 written_only_grows settings ended dump records more old new begins free was is = by_outcome
     (follow settings records more later first_free reached)

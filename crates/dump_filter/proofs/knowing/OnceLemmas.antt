@@ -110,6 +110,7 @@ output_once settings k r after x y = cases (is_revision r) (is_node r)
     cases false true a b = node_once settings k r x y a b
     cases false false a b = a ∙ sym b
 
+-- what is written of the same records is the same text
 pub outputs_once : (settings : Settings) (ended : Bool) (k : KeptRevisions) (rs : List DumpRecord) (x y : List ℕ)
     → AreOutputs settings ended k rs x → AreOutputs settings ended k rs y → x ≡ y
 outputs_once settings ended k [] x y a b = a ∙ sym b

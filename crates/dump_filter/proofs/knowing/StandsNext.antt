@@ -147,6 +147,7 @@ ended_text settings before s text end (Waits t closed y ns other rev all none c)
         (waits_dropped settings whole closed ns y text other rev all (written whole g) none
         (stays_is settings y ns none ∙ is))
 
+-- the last of some records and one more is that one
 pub last_is : (first : Option DumpRecord) (closed : List DumpRecord) (y : DumpRecord)
     → last_or first (closed ++ y ∷ []) ≡ Some y
 last_is first [] y = refl
@@ -193,6 +194,7 @@ module _ (settings : Settings) (r : DumpRecord) (plain : is_plain r ≡ true) (t
       → s.revisions.kept.first ≡ (kept_revisions settings (before ++ r ∷ [])).first
   same_first before s st = st.first_is ∙ sym (first_other before r (plain_other r plain))
 
+  -- behind a kept node its revision, if it was pending, and the node are written, too
   pub keep_stands : (before : List DumpRecord) (s : State) (copy : CopyChange) (report : Report) (front own : List ℕ)
       → Shape settings before s → Stands settings before s text → is_kept_node settings r ≡ true
       → is_open s.group ≡ true
@@ -266,6 +268,7 @@ module _ (settings : Settings) (r : DumpRecord) (plain : is_plain r ≡ true) (t
             (node_out settings (with_kept kept y) whole present r copy own may keep good known props new at_own));
       }
 
+  -- behind a node that isn't kept no more is written
   pub drop_stands : (before : List DumpRecord) (s : State) (report : Report)
       → Shape settings before s → Stands settings before s text → is_kept_node settings r ≡ false
       → is_open s.group ≡ true
@@ -325,6 +328,7 @@ module _ (settings : Settings) (before : List DumpRecord) (s : State) (r : DumpR
   AreKeptAt p = MatchOption p ((s.revisions.kept ≡ no_revisions.kept) × (s.group ≡ NoGroup))
       (λ present. AreRising s.revisions.kept present s.group)
 
+  -- behind a version or UUID record the group's end and the record are written, too
   pub pass_stands : is_revision r ≡ false
       → Stands settings (before ++ r ∷ []) (record (ended settings s) { report = report })
       (text ++ (end ++ block_text r.headers))
@@ -350,6 +354,7 @@ module _ (settings : Settings) (before : List DumpRecord) (s : State) (r : DumpR
       by_present None (kept_is, none) = (ap (λ g. end_kept settings s.revisions.kept g) none ∙ kept_is, refl)
       by_present (Some p) up = end_rising settings s.revisions.kept s.group p up
 
+  -- behind a revision record the end of the group before it is written, too, and the revision is pending
   pub hold_stands : is_revision r ≡ true → ((p : ℕ) → s.revisions.present ≡ Some p → p < revision_number r)
       → Stands settings (before ++ r ∷ []) (record (begun (ended settings s) r) { report = report }) (text ++ end)
   hold_stands rev above = record {

@@ -5,6 +5,7 @@ use Rattle.dump_text.specs.HeaderLine.{Header, is_named, has_header, header_valu
 use Rattle.dump_text.proofs.BoolLemmas.{first_false, second_false}
 use Rattle.dump_records.specs.HeaderRules.{header_length}
 
+-- a name that isn't among the lines has no value
 pub no_value : (name : List ℕ) (headers : List Header) → has_header name headers ≡ false
     → header_value name headers ≡ None
 no_value name [] none = refl

@@ -17,10 +17,12 @@ use Rattle.dump_filter.specs.RecordOutput.{whole_text}
 use Rattle.dump_filter.specs.steps.OwnText.{copied_headers, revision_own, node_own}
 use Rattle.dump_filter.proofs.written.LineLemmas.{revision_lines, node_lines}
 
+-- the same claim, made where a result is Ok, weakened
 pub on_ok : {T E : Type 0} (r : Result T E) (P Q : Type 0) → (P → Q) → OnOk r P → OnOk r Q
 on_ok (Ok x) P Q f p = f p
 on_ok (Err e) P Q f p = tt
 
+-- the same claim of an Ok result's value, weakened
 pub if_ok : {T E : Type 0} (r : Result T E) (P Q : T → Type 0) → ((x : T) → P x → Q x) → IfOk r P → IfOk r Q
 if_ok (Ok x) P Q f p = f x p
 if_ok (Err e) P Q f p = tt
@@ -43,6 +45,7 @@ record_is : (c : Changes) (headers lines : List Header) (bytes props text : List
 record_is c headers lines bytes props text lines_are bytes_are =
     ap (λ h. block_text h ++ bytes ++ text) lines_are ∙ ap (λ b. whole_text lines b text) bytes_are
 
+-- a revision's changed lines, new properties and text are the revision under its new number
 pub revision_is : (c : Changes) (r : DumpRecord) (number : ℕ) (padded : Bool) (bytes text : List ℕ) (ps : List Property)
     → c.revision ≡ Some number → c.copy ≡ Same → AreLengths bytes text c → text ≡ r.text
     → bytes ≡ new_block padded r (revision_properties padded ps)
@@ -54,6 +57,7 @@ revision_is c r number padded bytes text ps revision copy lengths text_is bytes_
     (revision_lines c r.headers number bytes r.text revision copy
     (subst (λ t. AreLengths bytes t c) text_is lengths)) bytes_are)
 
+-- a node's changed lines, new properties and text are the node with its new copy source
 pub node_is : (c : Changes) (r : DumpRecord) (copy : CopyChange) (bytes text : List ℕ) (ps : List Property)
     → c.revision ≡ None → c.copy ≡ copy → AreLengths bytes text c → text ≡ r.text → bytes ≡ new_block false r ps
     → new_record c r.headers bytes r.text ++ codes "\n\n" ≡ node_own r copy ps

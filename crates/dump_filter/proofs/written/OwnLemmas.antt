@@ -27,6 +27,7 @@ use Rattle.dump_text.proofs.BoolLemmas.{both_true, not_false}
 use Rattle.dump_filter.proofs.groups.KeptLemmas.{all_weaker, whole_is, next_written, image_kept}
 use Rattle.dump_filter.proofs.answer.MergeLemmas.{IsForeign}
 
+-- a revision's own text is what is written of it, whatever revisions are kept later
 pub revision_out : (settings : Settings) (kept : KeptRevisions) (from : ℕ) (whole : KeptRevisions) (y : DumpRecord)
     (ns : List DumpRecord) (padded : Bool) (text : List ℕ)
     → GoesOn kept from whole → revision_number y ≤ from → All (λ n. n < revision_number y) kept.numbers
@@ -134,6 +135,7 @@ properties_kept settings kept whole present g (p ∷ ps) (q ∷ new) known ((nam
     by_case true is (v, set, new_value) = (v, set, moved (known p (0, omega arith, refl) is) v new_value)
     by_case false is new_value = new_value
 
+-- a kept node's own text is what is written of it, whatever revisions are kept later
 pub node_out : (settings : Settings) (kept whole : KeptRevisions) (present : ℕ) (r : DumpRecord) (copy : CopyChange)
     (text : List ℕ) → GoesOn kept (present + 1) whole
     → is_kept_node settings r ≡ true → ¬ HasNoSource settings kept present r → ¬ IsForeign settings kept present r

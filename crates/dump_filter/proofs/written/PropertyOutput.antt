@@ -32,6 +32,7 @@ abbrev pub IsLeftOf : List ℕ → List ℕ → List ℕ → Type 0
 IsLeftOf block out rest = (ps : List Property) → IsPropertyBlock block ps
     → (qs : List Property) × IsPropertyBlock rest qs × (property_block_text ps ≡ out ++ property_block_text qs)
 
+-- with one more entry written, what is left of the list is the rest behind it
 pub next_left : (block out text rest new : List ℕ) (p : Property) (front : List ℕ) → IsLeftOf block out text
     → text ≡ front ++ rest → IsEntry front p → new ≡ out ++ entry_text p → IsLeftOf block new rest
 next_left block out text rest new p front before cut one new_is = λ ps is.
@@ -45,6 +46,7 @@ next_left block out text rest new p front before cut one new_is = λ ps is.
           ∙ sym (append_assoc out (entry_text p) more) ∙ ap (λ t. t ++ more) (sym new_is),
     )
 
+-- where no entry is left, the entries written and the end line are the text of the list
 pub none_left : (block out rest new : List ℕ) → IsLeftOf block out rest → IsPropertyBlock rest []
     → new ≡ out ++ block_end
     → (ps : List Property) → IsPropertyBlock block ps → new ≡ property_block_text ps
@@ -77,6 +79,7 @@ pub unchanged : (settings : Settings) (kept : KeptRevisions) (p : Property) → 
     → IsNewProperty settings kept p p
 unchanged settings kept p other = (refl, rw other refl)
 
+-- mergeinfo with its new value is what is written of that property
 pub with_new_value : (settings : Settings) (kept : KeptRevisions) (p : Property) (value : List ℕ)
     → is_mergeinfo p ≡ true
     → IsNewMergeinfo settings kept (value_of p) value → IsNewProperty settings kept p (property_of p.name value)
@@ -98,6 +101,7 @@ AreRewritten settings kept block out rest = (ps : List Property) → IsPropertyB
     × AreNewProperties settings kept done new
     × (out ≡ flat_map entry_text new)
 
+-- before the first entry nothing is written
 pub none_rewritten : (settings : Settings) (kept : KeptRevisions) (block out rest : List ℕ) → out ≡ [] → rest ≡ block
     → AreRewritten settings kept block out rest
 none_rewritten settings kept block out rest empty same = λ ps is.
@@ -111,6 +115,7 @@ one_more settings kept [] (y ∷ qs) p q all one = absurd all
 one_more settings kept (x ∷ ps) [] p q all one = absurd all
 one_more settings kept (x ∷ ps) (y ∷ qs) p q all one = (all.0, one_more settings kept ps qs p q all.1 one)
 
+-- with one more entry written under its new value, what is left of the block is the rest behind it
 pub next_rewritten : (settings : Settings) (kept : KeptRevisions) (block out text rest after : List ℕ) (p : Property)
     (front : List ℕ) → AreRewritten settings kept block out text
     → text ≡ front ++ rest → IsEntry front p → (q : Property) → IsNewProperty settings kept p q
@@ -130,6 +135,7 @@ next_rewritten settings kept block out text rest after p front before cut one q 
           ∙ sym (flat_map-append entry_text new (q ∷ [])),
     )
 
+-- where no entry is left, the entries written and the end line are the text of the new properties
 pub all_rewritten : (settings : Settings) (kept : KeptRevisions) (block out rest after : List ℕ)
     → AreRewritten settings kept block out rest → IsPropertyBlock rest []
     → after ≡ out ++ block_end → (ps : List Property) → IsPropertyBlock block ps
@@ -152,6 +158,7 @@ left_lines block rest front p lines cut one ps is q (i, within, at) = elim is [
   | inr more ↦ lines (p ∷ ps) (inr (front, rest, cut, one, more)) q (suc i, omega arith, at)
 ]
 
+-- a mergeinfo entry's value is some lines, where each of the block's is
 pub entry_lines : (block rest front : List ℕ) (p : Property) → HasLines block → HasPropertyChanges block
     → block ≡ front ++ rest → IsEntry front p → IsTrue (is_mergeinfo p) → ¬ ¬ HasMergeLines (value_of p)
 entry_lines block rest front p lines (ps, is) cut one merge =
@@ -175,6 +182,7 @@ pub block_with : (r : DumpRecord) (ps : List Property) → has_header property_l
     → property_block_text ps ≡ new_block false r ps
 block_with r ps has = rw has refl
 
+-- a record without a property length that isn't padded gets no property block
 pub block_without : (r : DumpRecord) (ps : List Property) → has_header property_length_name r.headers ≡ false
     → [] ≡ new_block false r ps
 block_without r ps none = rw none refl

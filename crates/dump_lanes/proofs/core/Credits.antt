@@ -9,6 +9,7 @@ use Rattle.dump_lanes.specs.PoolEvents.{Event, is_enabled, after_event, taken_by
 abbrev pub held : Bool → ℕ
 held b = if b then 1 else 0
 
+-- the credits, the one that is held and the items cut add up to the window and the items finished
 abbrev pub IsBounded : PoolSize → World → Type 0
 IsBounded size w = w.credits + held w.holds_credit + w.cut ≡ size.window + length w.finished
 
@@ -47,6 +48,7 @@ cut_bounded : (size : PoolSize) (w : World) (last : Bool) → IsTrue (is_enabled
 cut_bounded size w last e h =
     let one : held w.holds_credit ≡ 1 = ap held (and_parts w.holds_credit _ e).0 in omega arith
 
+-- after an event that may happen credits and items in flight add up to the window
 pub bounded_kept : (size : PoolSize) (w : World) (event : Event) → IsTrue (is_enabled size w event)
     → IsBounded size w → IsBounded size (after_event size w event)
 bounded_kept size w Event.Draw e h = draw_bounded size w e h
@@ -65,5 +67,6 @@ bounded_kept size w Event.WriterRaises e h = h
 bounded_kept size w Event.Look e h = h
 bounded_kept size w Event.Shut e h = h
 
+-- at first the free credits are the window
 pub bounded_first : (size : PoolSize) → IsBounded size (opening size)
 bounded_first size = omega arith

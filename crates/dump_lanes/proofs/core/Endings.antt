@@ -188,15 +188,18 @@ by_thread : (size : PoolSize) (w : World)
 by_thread size w (inl d) = inl d
 by_thread size w (inr m) = inr (next_move size w, m.0, m.1, refl)
 
+-- in each state that a run reaches all is done, or the thread that the state names can make the next move
 pub no_dead_end : NoDeadEnd
 no_dead_end = record { who = λ size w r. by_thread size w (next_or_done size w r); next = next_or_done }
 
+-- a pool stands still where all is done, and nowhere else
 pub only_done_stands_still : OnlyDoneStandsStill
 only_done_stands_still = record {
   done = λ size w r s. done_where_stuck size w (reached_holds size w r) (still_stuck size w s);
   still = λ size w r d. still_where_done size w (reached_holds size w r) d;
 }
 
+-- once all end marks are put, a worker with nothing in hand that hasn't its own may take an entry
 pub closed_keeps_nobody : ClosedKeepsNobody
 closed_keeps_nobody size w worker r = may_take_once_closed size w worker (reached_holds size w r)
 
@@ -319,6 +322,7 @@ all_left most old le = omega arith
 fewer : (size : PoolSize) (old cut more : ℕ) → cut ≤ more → most_moves cut size - old ≤ most_moves more size - old
 fewer size old cut more le = omega arith
 
+-- from each state that a run reaches the next moves in turn lead to the end
 pub every_run_can_end : EveryRunCanEnd
 every_run_can_end size w r =
     let h : Holds size w = reached_holds size w r in

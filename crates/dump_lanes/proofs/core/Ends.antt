@@ -23,6 +23,7 @@ pub record HasDones (workers : ℕ) (taken : List Bool) (hands : List (Option En
   pub own_last : (k : ℕ) → get_or taken k false ≡ true → items_of (option_to_list (get_or hands k None)) ≡ []
   pub closed : marks dones + arrived ≡ workers → AreMarkedAfter dones
 
+-- the end marks stand where they may, in the jobs, the hands and the dones of the state
 abbrev pub IsEnding : PoolSize → World → Type 0
 IsEnding size w = HasJobs size.workers w.cutter_ended w.marks_put w.jobs w.marks_taken
     × HasDones size.workers w.marks_taken w.hands w.dones w.marks_arrived
@@ -244,6 +245,7 @@ write_ending : (size : PoolSize) (w : World) (lane : List ℕ) → IsEnding size
 write_ending size w [] h = h
 write_ending size w (n ∷ rest) h = h
 
+-- after an event that may happen the end marks stand where they may
 pub ending_kept : (size : PoolSize) (w : World) (event : Event) → IsTrue (is_enabled size w event) → IsSized size w
     → IsEnding size w → IsEnding size (after_event size w event)
 ending_kept size w Event.Draw e s h = h
@@ -265,6 +267,7 @@ ending_kept size w Event.WriterRaises e s h = h
 ending_kept size w Event.Look e s h = (end_jobs size w w.stop_up (not-true w.cutter_ended e) h.0, h.1)
 ending_kept size w Event.Shut e s h = (end_jobs size w true (not-true w.cutter_ended e) h.0, h.1)
 
+-- at first the end marks stand where they may, for none is put
 pub ending_first : (size : PoolSize) → 0 < size.workers → IsEnding size (opening size)
 ending_first size some_worker = (
   record {

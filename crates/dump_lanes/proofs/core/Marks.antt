@@ -8,6 +8,7 @@ use Rattle.dump_lanes.proofs.core.Weights.{items_of-append}
 abbrev bit : Bool → ℕ
 bit b = cond b 1 0
 
+-- how many of these workers took their end marks
 abbrev pub count_taken : List Bool → ℕ
 count_taken [] = 0
 count_taken (t ∷ taken) = bit t + count_taken taken
@@ -24,6 +25,7 @@ AreMarkedAfter [] = Unit {0}
 AreMarkedAfter (Entry.Item n ∷ es) = (0 < marks es) × AreMarkedAfter es
 AreMarkedAfter (Entry.Mark ∷ es) = AreMarkedAfter es
 
+-- entries joined to others have the end marks of both
 pub marks-append : (es fs : List Entry) → marks (es ++ fs) ≡ marks es + marks fs
 marks-append [] fs = omega arith
 marks-append (Entry.Item n ∷ es) fs = marks-append es fs
@@ -35,6 +37,7 @@ item_joins [] n e = tt
 item_joins (Entry.Item m ∷ es) n e = item_joins es n e
 item_joins (Entry.Mark ∷ es) n e = absurd (omega arith)
 
+-- no item comes after a mark, where an end mark joins such entries
 pub mark_joins : (es : List Entry) → AreItemsFirst es → AreItemsFirst (es ++ Entry.Mark ∷ [])
 mark_joins [] h = refl
 mark_joins (Entry.Item m ∷ es) h = mark_joins es h
@@ -52,6 +55,7 @@ none_left [] h e = refl
 none_left (Entry.Item n ∷ es) h e = absurd (omega (arith, h.0))
 none_left (Entry.Mark ∷ es) h e = absurd (omega arith)
 
+-- after a change of one hand, the hands have the new hand's end marks more and the old hand's less
 pub hand_set : (hands : List (Option Entry)) (k : ℕ) (hand : Option Entry) → k < length hands
     → marks_in_hands (set hands k hand) + marks (option_to_list (get_or hands k None)) ≡ marks_in_hands hands + marks
     (option_to_list hand)
@@ -92,14 +96,17 @@ no_item_in_hands (h ∷ hands) (true ∷ taken) l all own =
     ap (λ (l : List ℕ). l ++ items_in_hands hands) (own zero refl) ∙ rest
 no_item_in_hands (h ∷ hands) (false ∷ taken) l all own = absurd (omega (arith, taken_within taken))
 
+-- there are no end marks in empty hands
 pub no_marks_in_hands : (n : ℕ) → marks_in_hands (replicate n None) ≡ 0
 no_marks_in_hands zero = refl
 no_marks_in_hands (suc n) = let more = no_marks_in_hands n in omega arith
 
+-- where no worker took its end mark, none is counted
 pub none_taken : (n : ℕ) → count_taken (replicate n false) ≡ 0
 none_taken zero = refl
 none_taken (suc n) = let more = none_taken n in omega arith
 
+-- where no worker took its end mark, this one didn't
 pub none_taken_at : (n k : ℕ) → get_or (replicate n false) k false ≡ false
 none_taken_at zero k = refl
 none_taken_at (suc n) zero = refl

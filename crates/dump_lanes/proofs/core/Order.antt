@@ -7,6 +7,7 @@ use Rattle.dump_lanes.specs.PoolEvents.{Event, is_enabled, after_event, taken_by
 use Rattle.dump_lanes.proofs.core.Places.{is_none_from}
 use Rattle.dump_lanes.proofs.core.Weights.{range_next}
 
+-- what was released is the first items in order
 abbrev pub IsInOrder : World → Type 0
 IsInOrder w = items_released w ≡ range_with_len 0 w.released
 
@@ -35,6 +36,7 @@ release_ordered size w h =
     sym (append_assoc (w.finished ++ option_to_list w.writing) w.lane (w.released ∷ []))
     ∙ (ap (λ (l : List ℕ). l ++ w.released ∷ []) h ∙ sym (range_next w.released))
 
+-- after an event that may happen what was released is the first items in order
 pub order_kept : (size : PoolSize) (w : World) (event : Event) → IsTrue (is_enabled size w event)
     → IsInOrder w → IsInOrder (after_event size w event)
 order_kept size w Event.Draw e h = h
@@ -55,5 +57,6 @@ order_kept size w Event.WriterRaises e h = h
 order_kept size w Event.Look e h = h
 order_kept size w Event.Shut e h = h
 
+-- at first nothing was released
 pub order_first : (size : PoolSize) → IsInOrder (opening size)
 order_first size = refl

@@ -14,6 +14,7 @@ pub record AreSized (size : PoolSize) (hands : List (Option Entry)) (marks : Lis
   pub each_slot : length slots ≡ size.window
   pub some_slot : 0 < size.window
 
+-- the rows of a state have a place for each worker and for each item that the window admits
 abbrev pub IsSized : PoolSize → World → Type 0
 IsSized size w = AreSized size w.hands w.marks_taken w.slots
 
@@ -27,6 +28,7 @@ weight f w = weigh f (items_of w.jobs) + weigh f (items_in_hands w.hands) + weig
 abbrev pub IsEachOnce : World → Type 0
 IsEachOnce w = (f : ℕ → ℕ) → weight f w ≡ weigh f (range_with_len 0 w.cut)
 
+-- an option that passes the test for nothing is nothing
 pub is_none_from : {A : Type 0} (o : Option A) → is_none o ≡ true → o ≡ None
 is_none_from None e = refl
 is_none_from (Some x) e = cc
@@ -37,6 +39,7 @@ pub record MayTake (size : PoolSize) (w : World) (k : ℕ) : Type 0 where
   pub empty : hand_of w k ≡ None
   pub unmarked : slice_index_or w.marks_taken k false ≡ false
 
+-- where a worker may take a job, it is one of the pool's, has nothing in hand, and hasn't taken its end mark
 pub may_take : (size : PoolSize) (w : World) (k : ℕ) → IsTrue (is_enabled size w (Event.Take k)) → MayTake size w k
 may_take size w k e =
     let a = (and_parts (nat_lt k size.workers && is_none (hand_of w k) && not
@@ -110,6 +113,7 @@ by_order : (size : PoolSize) (w : World) → (w.released < w.cut) ⊎ (w.cut ≤
 by_order size w (inl lt) here all = record { below = lt; single = omega (arith, within_range w.released w.cut lt) }
 by_order size w (inr le) here all = absurd (omega (arith, above_range w.released w.cut le))
 
+-- where the sequencer finds the next item, that item is cut and stands in its slot once
 pub is_next : (size : PoolSize) (w : World) → IsEachOnce w → IsTrue (has_next size w) → IsNext size w
 is_next size w h e =
     let here : 0 < weigh (only w.released) (slot_of size w w.released) = weighs w.released
@@ -162,6 +166,7 @@ once_kept size w Event.WriterRaises e s h = h
 once_kept size w Event.Look e s h = h
 once_kept size w Event.Shut e s h = h
 
+-- at first the items of the state are those that are cut, which are none
 pub once_first : (size : PoolSize) → IsEachOnce (opening size)
 once_first size f =
     omega (arith, ap (weigh f) (no_hands size.workers), ap (weigh f) (no_slots size.window))

@@ -209,6 +209,7 @@ counts_all size events w some_worker some_slot run =
       run_counts size events (opening size) w run (first_holds size some_worker some_slot),
     )
 
+-- the moves of a run are counted by the state that it leads to
 pub every_move_counts : EveryMoveCounts
 every_move_counts = record {
   of_run = counts_all;
@@ -234,6 +235,7 @@ pub record Totals (size : PoolSize) (w : World) : Type 0 where
   pub marks : marks w.jobs + marks_in_hands w.hands + marks w.dones + w.marks_arrived ≡ w.marks_put
   pub put : w.marks_put ≤ size.workers
 
+-- the items in all places are as many as are cut, and the end marks as many as were put
 pub totals : (size : PoolSize) (w : World) → Holds size w → Totals size w
 totals size w h = record {
   items = h.once each ∙ range_each w.cut;
@@ -274,6 +276,7 @@ has_place size w Event.WriterRaises e r = tt
 has_place size w Event.Look e r = tt
 has_place size w Event.Shut e r = tt
 
+-- in each state that a run reaches no queue holds more than there is room for
 pub never_full : NeverFull
 never_full = record {
   room = λ size w r. has_room size w (reached_holds size w r);
@@ -307,6 +310,7 @@ falls size w event cut r e le =
     fewer_left (most_moves cut size) (progress w) (progress (after_event size w event)) (count_move event)
     (step_counts size w event e h) (within_more size (after_event size w event) cut (step_holds size w event e h) le)
 
+-- no run goes on without an end, but by cutting
 pub no_endless_way : NoEndlessWay
 no_endless_way = record {
   within = λ size w r. progress_within size w (reached_holds size w r);

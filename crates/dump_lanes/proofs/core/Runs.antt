@@ -94,6 +94,7 @@ pub record Holds (size : PoolSize) (w : World) : Type 0 where
   pub ending : IsEnding size w
   pub stop : HasStopCause w
 
+-- an event that may happen keeps what holds of a state
 pub step_holds : (size : PoolSize) (w : World) (event : Event) → IsTrue (is_enabled size w event) → Holds size w
     → Holds size (after_event size w event)
 step_holds size w event e h = record {
@@ -107,12 +108,14 @@ step_holds size w event e h = record {
   stop = stop_kept size w event e h.stop;
 }
 
+-- a run keeps what holds of a state
 pub run_holds : (size : PoolSize) (events : List Event) (u w : World) → IsRun size events u w → Holds size u
     → Holds size w
 run_holds size [] u w run h = subst (Holds size) (sym run) h
 run_holds size (event ∷ events) u w run h = run_holds size events (after_event size u event) w run.1
     (step_holds size u event run.0 h)
 
+-- at first all of it holds, where there is a worker and room for an item
 pub first_holds : (size : PoolSize) → 0 < size.workers → 0 < size.window → Holds size (opening size)
 first_holds size some_worker some_slot = record {
   some_worker = some_worker;
@@ -136,6 +139,7 @@ way_weight f w =
           (items_of w.jobs) (items_in_hands w.hands),
     )
 
+-- the released items weigh what the finished ones, the one being written and those in the lane weigh
 pub released_weight : (f : ℕ → ℕ) (w : World) → weigh f (items_released w) ≡ weigh f w.finished + weigh f
     (option_to_list w.writing) + weigh f w.lane
 released_weight f w =
@@ -171,6 +175,7 @@ flight_weight f w =
           (items_on_the_way w) (concat w.slots),
     )
 
+-- the numbers below n weigh n, where each weighs one
 pub range_each : (n : ℕ) → weigh each (range_with_len 0 n) ≡ n
 range_each n = sym (length_is (range_with_len 0 n)) ∙ length-range_with_len 0 n
 
@@ -182,6 +187,7 @@ module _ (size : PoolSize) (w : World) (h : Holds size w) where
   released_each : weigh each w.finished + weigh each (option_to_list w.writing) + weigh each w.lane ≡ w.released
   released_each = sym (released_weight each w) ∙ (ap (weigh each) h.in_order ∙ range_each w.released)
 
+  -- no more items are released than are cut
   pub released_cut : w.released ≤ w.cut
   released_cut = omega (arith, released_each, h.once each, range_each w.cut)
 
@@ -250,6 +256,7 @@ module _ (size : PoolSize) (w : World) (h : Holds size w) where
     up_failed = h.stop.up_failed;
   }
 
+-- every run of the pool leads to a sound state
 pub every_run_is_sound : EveryRunIsSound
 every_run_is_sound size events w some_worker some_slot run =
     sound size w (run_holds size events (opening size) w run (first_holds size some_worker some_slot))

@@ -105,6 +105,7 @@ look_idle w a b =
     ap (λ (s : Bool). record w { stop_seen = s; cutter_ended = w.stop_up }) (seen_none w.stop_seen w.stop_up b)
     ∙ ap (λ (e : Bool). record w { cutter_ended = e }) (b ∙ sym a)
 
+-- each event that is no move changes something at most once
 pub idle_events_settle : IdleEventsSettle
 idle_events_settle = record {
   signal = λ size events w new event m run. again size w new event m
@@ -241,6 +242,7 @@ run_cuts size looked (event ∷ events) w new up run l =
     run_cuts size (then_looked looked event) events v new still run.1 (looks_on looked event events l) in
     both_le new.cut (cut_most (then_looked looked event) v) (cut_most looked w) more step
 
+-- in a run whose cutter looks before each draw, at most one item is cut once the stop is up
 pub after_a_stop : AfterAStop
 after_a_stop size before after w new run up more l =
     let rest = looks_after false before after l in
@@ -307,5 +309,6 @@ shut_writes size events w some_worker some_slot run =
     omega (arith, (totals size w h).items, shut_cuts size events w run) in
     (no_piece w.lane (omega (arith, none)), no_writing w.writing (omega (arith, none)))
 
+-- a pool whose cutter has ended cuts nothing more, and one that is shut at first cuts nothing ever
 pub ended_cuts_nothing : EndedCutsNothing
 ended_cuts_nothing = record { ended = run_ended; shut = shut_cuts; no_writer = shut_writes }

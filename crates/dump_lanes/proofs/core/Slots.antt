@@ -11,6 +11,7 @@ use Rattle.dump_lanes.proofs.core.Places.{IsSized}
 abbrev pub ArePlaced : ℕ → List (List ℕ) → Type 0
 ArePlaced window slots = (i m : ℕ) → 0 < weigh (only m) (get_or slots i []) → m % window ≡ i
 
+-- each item in a slot of the state has that slot
 abbrev pub IsPlaced : PoolSize → World → Type 0
 IsPlaced size w = ArePlaced size.window w.slots
 
@@ -73,6 +74,7 @@ release_placed size w s h =
     (λ m here. h (w.released % size.window) m (omega
     (arith, without_le (only m) w.released (slot_of size w w.released))))
 
+-- after an event that may happen each item in a slot has that slot
 pub placed_kept : (size : PoolSize) (w : World) (event : Event) → IsTrue (is_enabled size w event) → IsSized size w
     → IsPlaced size w → IsPlaced size (after_event size w event)
 placed_kept size w Event.Draw e s h = h
@@ -96,6 +98,7 @@ first_empty zero i = refl
 first_empty (suc n) zero = refl
 first_empty (suc n) (suc i) = first_empty n i
 
+-- at first there is no item in a slot that hasn't that slot
 pub placed_first : (size : PoolSize) → IsPlaced size (opening size)
 placed_first size i m here =
     let none : weigh (only m) (get_or (replicate size.window []) i []) ≡ 0 = ap (weigh (only m))
@@ -109,6 +112,7 @@ near_at : (window low high m n : ℕ) → low ≤ m → low ≤ n → m < high �
 near_at window low high m n a b c d e f (inl lt) = one_turn m n window (omega arith) (omega arith) f
 near_at window low high m n a b c d e f (inr le) = sym (one_turn n m window le (omega arith) (sym f))
 
+-- two numbers of one window that have one slot are one number
 pub near : (window low high m n : ℕ) → low ≤ m → low ≤ n → m < high → n < high → high ≤ low + window
     → m % window ≡ n % window → m ≡ n
 near window low high m n a b c d e f = near_at window low high m n a b c d e f (cases_lt m n)

@@ -212,6 +212,7 @@ run_makes size [] before u w run h = subst (MakesSteps size before) (sym run) h
 run_makes size (event ∷ events) before u w run h =
     run_makes size events (event ∷ before) (after_event size u event) w run.1 (step_makes size u event before run.0 h)
 
+-- every run of the pool makes steps that the rules of its queues and of the stop word allow
 pub every_run_makes_steps : EveryRunMakesSteps
 every_run_makes_steps size events w run =
     run_makes size events [] (opening size) w run record {

@@ -272,6 +272,7 @@ module _ (size : PoolSize) (w : World) (h : Holds size w) where
     done_at (inl e) = done_ended e
     done_at (inr e) = absurd (not_ended e)
 
+    -- where no move may be made all is done
     pub done_where_stuck : IsAllDone size w
     done_where_stuck = done_at (cases_Bool w.cutter_ended)
 
@@ -323,6 +324,7 @@ module _ (size : PoolSize) (w : World) (h : Holds size w) (d : IsAllDone size w)
         weighs_none (only w.released),
       )
 
+  -- where all is done no move may be made
   pub still_where_done : StandsStill size w
   still_where_done Event.Draw m =
       and_left (not w.cutter_ended && not w.holds_credit) _

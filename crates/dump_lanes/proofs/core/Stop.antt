@@ -9,6 +9,7 @@ pub record HasCause (up seen sequencer writer : Bool) : Type 0 where
   pub seen_up : IsTrue seen → IsTrue up
   pub up_failed : IsTrue up → IsTrue sequencer ⊎ IsTrue writer
 
+-- a stop that was seen in the state is up, and one that is up has a cause
 abbrev pub HasStopCause : World → Type 0
 HasStopCause w = HasCause w.stop_up w.stop_seen w.sequencer_failed w.writer_failed
 
@@ -30,6 +31,7 @@ seen_again : (up seen : Bool) → (IsTrue seen → IsTrue up) → (IsTrue seen �
 seen_again up seen h (inl a) = h a
 seen_again up seen h (inr b) = b
 
+-- after an event that may happen a stop that was seen is up, and one that is up has a cause
 pub stop_kept : (size : PoolSize) (w : World) (event : Event) → IsTrue (is_enabled size w event)
     → HasStopCause w → HasStopCause (after_event size w event)
 stop_kept size w Event.Draw e h = h
@@ -53,5 +55,6 @@ stop_kept size w Event.Look e h =
     }
 stop_kept size w Event.Shut e h = h
 
+-- at first the stop isn't up, and wasn't seen
 pub stop_first : (size : PoolSize) → HasStopCause (opening size)
 stop_first size = record { seen_up = λ seen. absurd (cc); up_failed = λ up. absurd (cc) }

@@ -6,6 +6,7 @@ use Rattle.std.proofs.lemmas.List.FromFn.{map-range_with_len_more}
 use Rattle.std.proofs.lemmas.List.Sums.{sum_by-cons}
 use Rattle.dump_lanes.specs.PoolWorld.{Entry, items_of, items_in_hands}
 
+-- what the numbers in a list weigh together
 abbrev pub weigh : (ℕ → ℕ) → List ℕ → ℕ
 weigh f [] = 0
 weigh f (x ∷ xs) = f x + weigh f xs
@@ -18,6 +19,7 @@ only n m = cond (m == n) 1 0
 abbrev pub each : ℕ → ℕ
 each m = 1
 
+-- a list joined to another weighs what both weigh
 pub weigh-append : (f : ℕ → ℕ) (xs ys : List ℕ) → weigh f (xs ++ ys) ≡ weigh f xs + weigh f ys
 weigh-append f [] ys = omega arith
 weigh-append f (x ∷ xs) ys = let more = weigh-append f xs ys in omega arith
@@ -30,13 +32,16 @@ weigh_is_sum f (x ∷ xs) = let more = weigh_is_sum f xs in omega (arith, sum_by
 pub times_is : (n : ℕ) (xs : List ℕ) → count_by (λ m. m == n) xs ≡ weigh (only n) xs
 times_is n xs = sym (weigh_is_sum (only n) xs)
 
+-- a list is as long as it weighs where each number weighs one
 pub length_is : (xs : List ℕ) → length xs ≡ weigh each xs
 length_is [] = refl
 length_is (x ∷ xs) = let more = length_is xs in omega arith
 
+-- where one number alone weighs something, it weighs one
 pub only_itself : (n : ℕ) → only n n ≡ 1
 only_itself n = ap (λ b. cond b 1 0) (eq-eqb n n refl)
 
+-- where one number alone weighs something, another weighs nothing
 pub only_other : (n m : ℕ) → (m ≡ n → ⊥) → only n m ≡ 0
 only_other n m h = ap (λ b. cond b 1 0) (ne_eqb m n h)
 
@@ -46,6 +51,7 @@ items_of-append [] fs = refl
 items_of-append (Entry.Item n ∷ es) fs = ap (λ l. n ∷ l) (items_of-append es fs)
 items_of-append (Entry.Mark ∷ es) fs = items_of-append es fs
 
+-- the items of entries joined to others weigh what the items of both weigh
 pub weigh_entries : (f : ℕ → ℕ) (es fs : List Entry) → weigh f (items_of (es ++ fs)) ≡ weigh f (items_of es) + weigh f
     (items_of fs)
 weigh_entries f es fs = ap (weigh f) (items_of-append es fs) ∙ weigh-append f (items_of es) (items_of fs)
@@ -54,6 +60,7 @@ weigh_entries f es fs = ap (weigh f) (items_of-append es fs) ∙ weigh-append f 
 abbrev pub weigh_hand : (ℕ → ℕ) → Option Entry → ℕ
 weigh_hand f hand = weigh f (items_of (option_to_list hand))
 
+-- after a change of one hand, the items in hands weigh the new hand's more and the old hand's less
 pub hands_set : (f : ℕ → ℕ) (hands : List (Option Entry)) (k : ℕ) (hand : Option Entry) → k < length hands
     → weigh f (items_in_hands (set hands k hand)) + weigh_hand f (get_or hands k None) ≡ weigh f
     (items_in_hands hands) + weigh_hand f hand
@@ -74,6 +81,7 @@ hands_set f (h ∷ hands) (suc k) hand lt =
           (items_of (option_to_list h)) (items_in_hands (set hands k hand)),
     )
 
+-- there are no items in empty hands
 pub no_hands : (n : ℕ) → items_in_hands (replicate n None) ≡ []
 no_hands zero = refl
 no_hands (suc n) = no_hands n
@@ -88,11 +96,13 @@ slots_set f (s ∷ slots) (suc k) slot lt =
     let more = slots_set f slots k slot (omega arith) in
     omega (arith, weigh-append f s (concat slots), weigh-append f s (concat (set slots k slot)))
 
+-- no slot weighs more than all slots together
 pub slot_le : (f : ℕ → ℕ) (slots : List (List ℕ)) (k : ℕ) → weigh f (get_or slots k []) ≤ weigh f (concat slots)
 slot_le f [] k = omega arith
 slot_le f (s ∷ slots) zero = omega (arith, weigh-append f s (concat slots))
 slot_le f (s ∷ slots) (suc k) = let more = slot_le f slots k in omega (arith, weigh-append f s (concat slots))
 
+-- there are no items in empty slots
 pub no_slots : (n : ℕ) → concat (replicate n []) ≡ []
 no_slots zero = refl
 no_slots (suc n) = no_slots n
@@ -106,6 +116,7 @@ weighs_at n x xs false h e rest =
     let more : 0 < weigh (only n) xs = rest later in
     omega arith
 
+-- a list that a number stands in weighs something, where that number alone does
 pub weighs : (n : ℕ) (xs : List ℕ) → list_any (λ m. m == n) xs ≡ true → 0 < weigh (only n) xs
 weighs n [] e = cc
 weighs n (x ∷ xs) e = weighs_at n x xs (x == n) refl e (weighs n xs)
@@ -162,6 +173,7 @@ without_le_at f n x xs false h rest =
     (λ (b : Bool). cond (not b) (x ∷ without n xs) (without n xs)) h in
     omega (arith, ap (weigh f) kept)
 
+-- a list without its numbers n weighs no more than with them
 pub without_le : (f : ℕ → ℕ) (n : ℕ) (xs : List ℕ) → weigh f (without n xs) ≤ weigh f xs
 without_le f n [] = omega arith
 without_le f n (x ∷ xs) = without_le_at f n x xs (x == n) refl (without_le f n xs)
@@ -175,12 +187,14 @@ range_next n =
     let more = map-range_with_len_more (λ (x : ℕ). x) 0 n n (omega arith) in
     sym (map-id (range_with_len 0 (n + 1))) ∙ (more ∙ ap (λ (l : List ℕ). l ++ n ∷ []) (map-id (range_with_len 0 n)))
 
+-- the numbers up to n weigh what those below n weigh, and what n weighs
 pub weigh_range : (f : ℕ → ℕ) (n : ℕ) → weigh f (range_with_len 0 (n + 1)) ≡ weigh f (range_with_len 0 n) + f n
 weigh_range f n = omega (arith, ap (weigh f) (range_next n), weigh-append f (range_with_len 0 n) (n ∷ []))
 
 weigh_range_at : (f : ℕ → ℕ) (n : ℕ) → weigh f (range_with_len 0 (suc n)) ≡ weigh f (range_with_len 0 n) + f n
 weigh_range_at f n = ap (λ (k : ℕ). weigh f (range_with_len 0 k)) (sym (add-one n)) ∙ weigh_range f n
 
+-- a number doesn't stand among the numbers below one that isn't greater
 pub above_range : (n c : ℕ) → c ≤ n → weigh (only n) (range_with_len 0 c) ≡ 0
 above_range n zero le = refl
 above_range n (suc c) le =
@@ -201,6 +215,7 @@ within_at n c lt rest (inr h) =
     let last : only n c ≡ 0 = only_other n c h in
     omega arith
 
+-- a number stands once among the numbers below a greater one
 pub within_range : (n c : ℕ) → n < c → weigh (only n) (range_with_len 0 c) ≡ 1
 within_range n zero lt = absurd (omega arith)
 within_range n (suc c) lt =

@@ -36,6 +36,7 @@ any_line test passes (text ∷ texts) [] all same = absurd all
 any_line test passes (text ∷ texts) (line ∷ lines) all same =
     rw (same text line all.0, any_line test passes texts lines all.1 same) refl
 
+-- a list of which some element passes the test contains one that passes
 pub found : {X : Type 0} (passes : X → Bool) (xs : List X) → list_any passes xs ≡ true → (x : X) × Contains xs x
     × (passes x ≡ true)
 found passes [] some = let bad : false ≡ true = some in cc
@@ -45,6 +46,7 @@ found passes (x ∷ xs) some = elim (or_parts (passes x) (list_any passes xs) so
       (more.0, (suc more.1.0, omega arith, more.1.2), more.2))
 ]
 
+-- some element of a list passes the test, where it contains one that passes
 pub finds : {X : Type 0} (passes : X → Bool) (xs : List X) (x : X) → Contains xs x → passes x ≡ true
     → list_any passes xs ≡ true
 finds passes [] x (i, within, is) so = absurd (omega arith)
@@ -64,6 +66,7 @@ misses_is settings value lines is =
     (any_line (line_misses settings) (λ (line : MergeLine). not (keeps_path settings line.path)) is.0 lines is.1
     (λ text line of. ap (λ (p : List ℕ). not (keeps_path settings p)) (line_parts text line of).path))
 
+-- mergeinfo in which the test finds a missing source has one
 pub missing_there : (settings : Settings) (value : List ℕ) → HasMergeLines value
     → text_misses settings (without_lf value) ≡ true → HasMissingSource settings value
 missing_there settings value has e =
@@ -80,6 +83,7 @@ missing_there settings value has e =
           (keeps_path settings some.0.path) some.2,
     )
 
+-- the test finds a missing source in each value that has one
 pub missing_back : (settings : Settings) (value : List ℕ) → HasMissingSource settings value
     → text_misses settings (without_lf value) ≡ true
 missing_back settings value (skip, lines, is, line, within, misses) =
@@ -236,6 +240,7 @@ ranges_have (text ∷ texts) (first ∷ lines) all line (zero, within, is) =
 ranges_have (text ∷ texts) (first ∷ lines) all line (suc i, within, is) = ranges_have texts lines all.1 line
     (i, omega arith, is)
 
+-- mergeinfo in which the test finds a foreign number has one
 pub foreign_there : (settings : Settings) (kept : KeptRevisions) (now : ℕ) (value : List ℕ) → HasMergeLines value
     → text_foreign settings kept.first now (without_lf value) ≡ true
     → HasForeignNumber settings kept now value
@@ -258,6 +263,7 @@ foreign_there settings kept now value has e =
       number.3,
     )
 
+-- the test finds a foreign number in each value that has one
 pub foreign_back : (settings : Settings) (kept : KeptRevisions) (now : ℕ) (value : List ℕ)
     → HasForeignNumber settings kept now value
     → text_foreign settings kept.first now (without_lf value) ≡ true

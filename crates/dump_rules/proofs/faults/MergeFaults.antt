@@ -9,11 +9,13 @@ use Rattle.dump_rules.specs.Rewriting.{staying_lines, HasMissingSource, HasForei
 use Rattle.dump_rules.specs.steps.NewLines.{value_misses, value_foreign}
 use Rattle.dump_rules.proofs.faults.FaultLemmas.{missing_there, missing_back, foreign_there, foreign_back, has_lines}
 
+-- the test for missing sources passes of mergeinfo just where one is missing
 pub misses_means : (settings : Settings) (value : List ℕ) → ¬ ¬ HasMergeLines value
     → (value_misses settings value ≡ true) ↔ HasMissingSource settings value
 misses_means settings value some =
     (missing_there settings value (has_lines value some), missing_back settings value)
 
+-- the test for foreign numbers passes of mergeinfo just where it has one
 pub foreign_means : (settings : Settings) (kept : KeptRevisions) (now : ℕ) (value : List ℕ) → ¬ ¬ HasMergeLines value
     → (value_foreign settings kept.first now value ≡ true) ↔ HasForeignNumber settings kept now value
 foreign_means settings kept now value some =

@@ -32,10 +32,12 @@ two_of_each false false c d false = refl
 
 -- truth values
 
+-- false behind an or changes nothing
 pub or_false : (a : Bool) → a ≡ (a || false)
 or_false true = refl
 or_false false = refl
 
+-- an or of three doesn't depend on where the brackets stand
 pub or_or : (a b c : Bool) → ((a || b) || c) ≡ (a || (b || c))
 or_or true b c = refl
 or_or false b c = refl
@@ -185,6 +187,7 @@ pub said_sources : (s : Settings) (said : Merged) (value : List ℕ) (made : Opt
 said_sources s said value None is = tt
 said_sources s said value (Some m) is = missed_value s said m value (sym is)
 
+-- with one more value, a number is outside where one was before or where the value has a foreign one
 pub said_numbers : (s : Settings) (first now : ℕ) (said : Merged) (value : List ℕ) (made : Option Merged)
     → made ≡ text_merged s said value
     → IfSome made (λ m. is_outside s first now m.numbers ≡
@@ -197,6 +200,7 @@ pub first_sources : (s : Settings) (said last : Merged) (value : List ℕ) → s
     → last.misses ≡ (said.misses || value_misses s value) → last.misses ≡ value_misses s value
 first_sources s said last value none is = is ∙ ap (λ (m : Merged). m.misses || value_misses s value) none
 
+-- where no value said anything before, a number is outside where this value has a foreign one
 pub first_numbers : (s : Settings) (first now : ℕ) (said last : Merged) (value : List ℕ) → said ≡ nothing_merged
     → is_outside s first now last.numbers ≡ (is_outside s first now said.numbers || value_foreign s first now value)
     → is_outside s first now last.numbers ≡ value_foreign s first now value

@@ -57,9 +57,11 @@ apart r s e same =
 
 -- maps
 
+-- where one list means the same map as another, and that as a third, the first means the same as the third
 pub same_trans : (a b c : List Range) → IsSameMap a b → IsSameMap b c → IsSameMap a c
 same_trans a b c one two kind n = (λ h. (one kind n).0 ((two kind n).0 h), λ h. (two kind n).1 ((one kind n).1 h))
 
+-- where one list means the same map as another, the other means the same as it
 pub same_sym : (a b : List Range) → IsSameMap a b → IsSameMap b a
 same_sym a b one kind n = ((one kind n).1, (one kind n).0)
 

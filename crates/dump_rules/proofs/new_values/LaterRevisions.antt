@@ -104,6 +104,7 @@ each_line settings before after (old ∷ lines) (new ∷ new_lines) one all = (
       (let within = has.1 in (suc has.0, omega arith, has.2))) all.1,
 )
 
+-- a new value stays one after higher revisions are kept, where the old value has no foreign number
 pub later_revisions : (settings : Settings) (kept : KeptRevisions) (more : List ℕ) (now : ℕ) (value new : List ℕ)
     → (settings.renumber ≡ true → All (λ later. now < later) more) → ¬ HasForeignNumber settings kept now value
     → IsNewMergeinfo settings kept value new → IsNewMergeinfo settings

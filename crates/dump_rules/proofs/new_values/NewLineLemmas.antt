@@ -56,6 +56,7 @@ written_runs out path a b new sorted ranges some same first second third =
 
 -- the ranges of a list that is read
 
+-- each range has numbers, and no number stands as both kinds
 pub record AreFit (ranges : List Range) : Type 0 where
   pub numbers : HaveNumbers ranges
   pub consistent : IsConsistent ranges
@@ -69,6 +70,7 @@ ranges_fit list reads =
       consistent = subst IsConsistent same found.2;
     }
 
+-- what becomes of fit ranges is fit, with renumbering or without
 pub new_ranges_fit : (renumber : Bool) (kept : KeptRevisions) → RiseFrom kept.first kept.numbers → (ranges : List Range)
     → AreFit ranges → AreFit (new_ranges renumber kept ranges)
 new_ranges_fit true kept up ranges fit = record {
@@ -78,6 +80,7 @@ new_ranges_fit true kept up ranges fit = record {
 }
 new_ranges_fit false kept up ranges fit = subst AreFit (sym (unchanged kept ranges)) fit
 
+-- what becomes of the range list of a line that is read is fit
 pub line_fits : (renumber : Bool) (kept : KeptRevisions) → RiseFrom kept.first kept.numbers → (line : List ℕ)
     → line_reads line ≡ true → AreFit (list_new renumber kept (line_list line))
 line_fits renumber kept up line reads =
@@ -96,14 +99,17 @@ parts_first b rest part others k is first later =
     ∙ ap (λ (l : List ℕ). l ∷ slice_split (λ c. c == b) (drop (k + 1) rest)) (sym first)
     ∙ ap (λ (t : List ℕ). part ∷ slice_split (λ c. c == b) t) (sym later)
 
+-- a text without an LF is one line
 pub lines_last : (rest : List ℕ) → position (λ b. b == 10) rest ≡ None → slice_split (λ b. b == 10) rest ≡ rest ∷ []
 lines_last rest is = position_whole 10 rest is
 
+-- where all lines are read, the first one is, and all others are
 pub first_reads : (line : List ℕ) (lines all : List (List ℕ)) → all ≡ line ∷ lines → list_all line_reads all ≡ true
     → (line_reads line ≡ true) × (list_all line_reads lines ≡ true)
 first_reads line lines all is reads =
     and_parts (line_reads line) (list_all line_reads lines) (ap (list_all line_reads) (sym is) ∙ reads)
 
+-- what becomes of all lines is what becomes of the others, behind what became of the first one
 pub step_lines : (settings : Settings) (kept : KeptRevisions) (out new line : List ℕ) (lines all : List (List ℕ))
     → all ≡ line ∷ lines
     → new ≡ with_new_line settings kept out line

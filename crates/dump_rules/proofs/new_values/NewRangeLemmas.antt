@@ -172,12 +172,14 @@ with_new kept up r ranges kind n = go (nat_lt (below r.from kept.numbers) (up_to
 
 -- as it is computed
 
+-- a range without a kept revision has no new range
 pub new_range_none : (kept : KeptRevisions) (r : Range) → up_to r.to kept.numbers ≤ below r.from kept.numbers
     → new_range kept r ≡ None
 new_range_none kept r none =
     let test : nat_lt (below r.from kept.numbers) (up_to r.to kept.numbers) ≡ false = grind (arith, nat_tests) in
     rw test refl
 
+-- a range with a kept revision becomes the new numbers from its first kept revision's to its last one's
 pub new_range_some : (kept : KeptRevisions) (r : Range) (first low high : ℕ) → first ≡ kept.first
     → low ≡ below r.from kept.numbers → high ≡ up_to r.to kept.numbers
     → low < high → Some (record {
@@ -190,12 +192,14 @@ new_range_some kept r first low high is low_is high_is some =
     let test : nat_lt (below r.from kept.numbers) (up_to r.to kept.numbers) ≡ true = grind (arith, nat_tests) in
     rw test (rw (is, low_is, high_is) refl)
 
+-- the new number of the last kept revision up to n is at most n
 pub new_range_fits : (kept : KeptRevisions) → RiseFrom kept.first kept.numbers → (n high : ℕ)
     → high ≡ up_to n kept.numbers → 0 < high → kept.first + (high - 1) ≤ n
 new_range_fits kept up n high is some = (image_of_some kept n (high - 1) up (sym is ∙ omega arith)).1
 
 -- all ranges
 
+-- with renumbering, the new ranges hold just the new numbers of the kept revisions in the old ones
 pub renumbered : (kept : KeptRevisions) → RiseFrom kept.first kept.numbers → (ranges : List Range)
     → IsRenumberedMap kept ranges (new_ranges true kept ranges)
 renumbered kept up [] kind n = ((λ h. absurd h), (λ h. absurd h.3))
@@ -220,6 +224,7 @@ renumbered kept up (r ∷ rest) kind n = go (with_new kept up r (new_ranges true
       ]),
     )
 
+-- without renumbering, the ranges stay as they are
 pub unchanged : (kept : KeptRevisions) (ranges : List Range) → new_ranges false kept ranges ≡ ranges
 unchanged kept [] = refl
 unchanged kept (r ∷ rest) = ap (λ l. r ∷ l) (unchanged kept rest)
@@ -245,6 +250,7 @@ once kept up j k n has_j has_k is_j is_k =
           (omega arith)
     ]
 
+-- renumbered ranges have no number as both kinds, where the old ones have none
 pub renumbered_consistent : (kept : KeptRevisions) → RiseFrom kept.first kept.numbers → (old new : List Range)
     → IsRenumberedMap kept old new → IsConsistent old → IsConsistent new
 renumbered_consistent kept up old new map consistent n plain starred =
@@ -252,6 +258,7 @@ renumbered_consistent kept up old new map consistent n plain starred =
     let b = (map false n).0 starred in
     consistent b.0 (subst (HasNumber old true) (once kept up a.0 b.0 n a.1 b.1 a.2 b.2) a.3) b.3
 
+-- with renumbering, each new range has numbers
 pub new_have_numbers : (kept : KeptRevisions) (ranges : List Range) → HaveNumbers (new_ranges true kept ranges)
 new_have_numbers kept [] = tt
 new_have_numbers kept (r ∷ rest) = go (nat_lt (below r.from kept.numbers) (up_to r.to kept.numbers)) refl
@@ -277,6 +284,7 @@ parts_new renumber kept (part ∷ parts) = go (range_of part) refl (parts_new re
     go None e later = rw e later
     go (Some r) e later = rw e (ap (with_range (kept_range renumber kept r)) later)
 
+-- what becomes of a range list is what becomes of the ranges that it is read as
 pub list_new_is : (renumber : Bool) (kept : KeptRevisions) (list : List ℕ)
     → list_new renumber kept list ≡ new_ranges renumber kept (list_ranges list)
 list_new_is renumber kept [] = refl

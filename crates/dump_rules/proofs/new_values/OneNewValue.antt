@@ -63,6 +63,7 @@ one_new_list settings kept (old ∷ lines) (line ∷ a) [] all_a all_b = absurd 
 one_new_list settings kept (old ∷ lines) (first ∷ a) (second ∷ b) all_a all_b =
     λ i. one_new_line settings kept old first second all_a.0 all_b.0 i ∷ one_new_list settings kept lines a b all_a.1 all_b.1 i
 
+-- a value has at most one new value
 pub one_new_value : (settings : Settings) (kept : KeptRevisions) (value a b : List ℕ)
     → IsNewMergeinfo settings kept value a → IsNewMergeinfo settings kept value b → a ≡ b
 one_new_value settings kept value a b (lines_a, new_a, is_a, all_a, written_a)

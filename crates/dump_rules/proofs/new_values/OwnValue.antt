@@ -135,6 +135,7 @@ module _ (all : Settings) (again : KeptRevisions) (same : all.renumber ≡ false
   all_own_new [] own = tt
   all_own_new (line ∷ lines) own = (own_new line own.0, all_own_new lines own.1)
 
+-- a new value is mergeinfo, and its own new value where every path is kept and nothing is renumbered
 pub own_value : (settings : Settings) (kept : KeptRevisions) (old new : List ℕ)
     → RiseFrom kept.first kept.numbers
     → ((k : ℕ) → Contains kept.numbers k → 1 ≤ k → 1 ≤ new_number kept k)

@@ -22,6 +22,7 @@ use Rattle.dump_rules.proofs.new_values.Unique.{runs_once}
 own : IsNumeralModel (λ (ds : List ℕ). list_all is_ascii_digit ds ≡ true) (digits_value 10)
 own = numerals_by_value (λ (ds : List ℕ). list_all is_ascii_digit ds ≡ true) (search rules)
 
+-- a number that is read from digits is less than ten to the eighteenth
 pub number_small : (digits : List ℕ) (n : ℕ) → number_of digits ≡ Some n → n < 10 ^ 18
 number_small digits n is =
     let value = (number_spells digits n is).value in
@@ -41,6 +42,7 @@ end_small text r is = elim is.spelled [
   | inr span ↦ number_small span.1 r.to span.3
 ]
 
+-- each range that a text spells has numbers
 pub have_numbers : (parts : List (List ℕ)) (ranges : List Range) → AllZip IsRangeText parts ranges → HaveNumbers ranges
 have_numbers [] [] all = tt
 have_numbers [] (r ∷ ranges) all = absurd all
@@ -51,6 +53,7 @@ have_numbers (part ∷ parts) (r ∷ ranges) all = (all.0.order, have_numbers pa
 abbrev pub AreSmall : List Range → Type 0
 AreSmall ranges = (kind : Bool) (n : ℕ) → HasNumber ranges kind n → (1 ≤ n) × (n < 10 ^ 18)
 
+-- each number of ranges that texts spell is at least one and less than ten to the eighteenth
 pub are_small : (parts : List (List ℕ)) (ranges : List Range) → AllZip IsRangeText parts ranges → AreSmall ranges
 are_small [] [] all kind n has = absurd has
 are_small [] (r ∷ ranges) all kind n has = absurd all
@@ -103,6 +106,7 @@ later_of : (r : Range) (rest : List Range) → AreRuns (r ∷ rest) → AreRuns 
 later_of r [] are = tt
 later_of r (s ∷ rest) are = are.3
 
+-- each run, as it is written, is a text of that run
 pub runs_spelled : (runs : List Range) → AreRuns runs → AreSmall runs → AllZip IsRangeText (map run_text runs) runs
 runs_spelled [] are small = tt
 runs_spelled (r ∷ rest) are small =
@@ -134,6 +138,7 @@ joined_some part (next ∷ parts) b text is = (
       (λ (t : List ℕ). t ++ 44 ∷ join_with_byte 44 (next ∷ parts)) is,
 )
 
+-- a range list is read as the ranges that it is
 pub list_is : (list : List ℕ) (ranges : List Range) → IsRangeList list ranges → ranges ≡ list_ranges list
 list_is list ranges is = go list is.0 ranges is.1 is.2
   where
@@ -151,6 +156,7 @@ list_is list ranges is = go list is.0 ranges is.1 is.2
         ap range_parts e ∙ split_joined 44 part parts (all_lack 44 (part ∷ parts) ranges refl refl all) in
         ranges_are (part ∷ parts) ranges all ∙ ap ranges_of (sym cut)
 
+-- each map that a range list means has one spelling, which is read as that map
 pub each_map_has_one_spelling : EachMapHasOneSpelling
 each_map_has_one_spelling text ranges is consistent =
     let are = runs_are ranges (have_numbers is.0 ranges is.1) consistent in

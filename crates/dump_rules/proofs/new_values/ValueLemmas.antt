@@ -25,6 +25,7 @@ pub record LineParts (text : List ℕ) (line : MergeLine) : Type 0 where
   pub path : line_path text ≡ line.path
   pub ranges : list_ranges (line_list text) ≡ line.ranges
 
+-- a line of mergeinfo is read as its path and its ranges
 pub line_parts : (text : List ℕ) (line : MergeLine) → IsMergeLine text line → LineParts text line
 line_parts text line is =
     let list = is.spelled.0 in
@@ -290,6 +291,7 @@ texts_are texts lines all value is = ap text_lines (bare texts lines all value i
         cut_some (join_with_byte 10 (text ∷ texts)) (text ∷ texts) (joined_some text texts (text_some text line all.0))
         (split_joined 10 text texts (all_read (text ∷ texts) (line ∷ lines) all).1)
 
+-- the lines of mergeinfo, rewritten one by one, are its new value
 pub new_value : (settings : Settings) (kept : KeptRevisions) → RiseFrom kept.first kept.numbers
     → (value : List ℕ) (lines : List MergeLine) → IsMergeinfo value lines
     → IsNewMergeinfo settings kept value (with_new_lines settings kept [] (text_lines (without_lf value)))

@@ -15,6 +15,7 @@ use Rattle.dump_rules.proofs.reading.RangeLemmas.{position_split}
 
 -- the first part
 
+-- the parts of a list are the text before its first comma, and then the parts behind it
 pub cut_first : (k : ℕ) (list : List ℕ) → position (λ b. b == 44) list ≡ Some k
     → range_parts list ≡ take k list ∷ range_parts (take (length list - (k + 1)) (drop (k + 1) list))
 cut_first k list is =
@@ -24,6 +25,7 @@ cut_first k list is =
 
 -- the block held against the parts
 
+-- a part that is no range contradicts no range of a block
 pub none_contradicts : (kind : Bool) (block : List Ends) → block_contradicts kind block None ≡ false
 none_contradicts kind [] = refl
 none_contradicts kind (ends ∷ block) = none_contradicts kind block

@@ -132,10 +132,12 @@ climb_agrees tops parts last is =
 
 -- one part more
 
+-- a list with a comma can't be climbed where its first part is no range or begins too low
 pub climb_none : (tops : Tops) (list : List ℕ) (k : ℕ) → position (λ b. b == 44) list ≡ Some k
     → raised_by tops (range_of (take k list)) ≡ None → climbed tops (range_parts list) ≡ None
 climb_none tops list k here none = ap (climbed tops) (position_split 44 k list here) ∙ rw none refl
 
+-- a list is climbed as the parts behind its first comma are, from where its first part leads
 pub climb_some : (tops : Tops) (list : List ℕ) (k : ℕ) (next : Tops) → position (λ b. b == 44) list ≡ Some k
     → raised_by tops (range_of (take k list)) ≡ Some next
     → climbed tops (range_parts list) ≡ climbed next (range_parts (take (length list - (k + 1)) (drop (k + 1) list)))
@@ -145,6 +147,7 @@ climb_some tops list k next here some =
     ap (λ n. take n (drop (k + 1) list)) (sym size) ∙ take-length (drop (k + 1) list) in
     ap (climbed tops) (position_split 44 k list here) ∙ rw (some, rest) refl
 
+-- a list without a comma is climbed where its one part is
 pub climb_last : (tops : Tops) (list : List ℕ) → position (λ b. b == 44) list ≡ None
     → climbed tops (range_parts list) ≡ raised_by tops (range_of list)
 climb_last tops list none = ap (climbed tops) (position_whole 44 list none) ∙ last (raised_by tops (range_of list))
@@ -153,6 +156,7 @@ climb_last tops list none = ap (climbed tops) (position_whole 44 list none) ∙ 
     last None = refl
     last (Some next) = refl
 
+-- parts that can be climbed are ranges, and none of them contradicts another
 pub some_agrees : (tops : Tops) (parts : List (List ℕ)) → is_some (climbed tops parts) ≡ true
     → list_all (λ part. part_agrees parts (range_of part)) parts ≡ true
 some_agrees tops parts some = go (climbed tops parts) refl some

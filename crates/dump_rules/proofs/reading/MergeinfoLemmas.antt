@@ -18,6 +18,7 @@ use Rattle.dump_rules.proofs.reading.RangeListLemmas.{AllLack, none_all, split_j
 
 -- colons
 
+-- the last colon of a line is the one behind its path, where the list behind it has none
 pub colon_end_is : (path list : List ℕ) → has_byte 58 list ≡ false
     → colon_end ((path ++ 58 ∷ []) ++ list) ≡ length path + 1
 colon_end_is path list none =
@@ -153,6 +154,7 @@ joined part (next ∷ parts) line (second ∷ lines) all =
           ∙ rest.ends;
     }
 
+-- texts that are lines of mergeinfo are read as such, and none of them has an LF
 pub all_read : (texts : List (List ℕ)) (lines : List MergeLine) → AllZip IsMergeLine texts lines
     → (list_all line_reads texts ≡ true) × AllLack 10 texts
 all_read [] [] all = (refl, tt)

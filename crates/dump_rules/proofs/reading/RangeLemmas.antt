@@ -29,6 +29,7 @@ digits_lack b (c ∷ text) other all =
     let first = not_digit b c other parts.0 in
     rw first (digits_lack b text other parts.1)
 
+-- a text that is read as a number passes the test for numbers
 pub number_parts : (text : List ℕ) (n : ℕ) → number_of text ≡ Some n → is_number text ≡ true
 number_parts text n is = go (is_number text) refl
   where
@@ -36,6 +37,7 @@ number_parts text n is = go (is_number text) refl
     go true e = e
     go false e = let bad : None ≡ Some n = rw e at is in cc
 
+-- a text that is read as a number lacks each byte that is no digit
 pub number_lacks : (b : ℕ) (text : List ℕ) (n : ℕ) → is_ascii_digit b ≡ false → number_of text ≡ Some n
     → has_byte b text ≡ false
 number_lacks b text n other is =
@@ -73,6 +75,7 @@ no_end b text none = go (bytes_eq (drop (length text - 1) text) (b ∷ [])) refl
 pub ends_so : (b : ℕ) (body : List ℕ) → bytes_eq (drop (length (body ++ b ∷ []) - 1) (body ++ b ∷ [])) (b ∷ []) ≡ true
 ends_so b body = (bytes_eq-Decides (drop (length (body ++ b ∷ []) - 1) (body ++ b ∷ [])) (b ∷ [])).1 (ends_is b body)
 
+-- a text without the byte at its end is what stands before that byte
 pub front_so : (b : ℕ) (body : List ℕ) → take (length (body ++ b ∷ []) - 1) (body ++ b ∷ []) ≡ body
 front_so b body = front_is b body
 
@@ -217,6 +220,7 @@ spelled body r none ends low order =
     rw (star_cut body r.inheritable none, star_is body r.inheritable none, not_not r.inheritable, ends)
     (between r.from r.to r.inheritable low order)
 
+-- a text that is a range is read as that range
 pub range_of_text : (text : List ℕ) (r : Range) → IsRangeText text r → range_of text ≡ Some r
 range_of_text text r is = elim is.spelled [
   | inl single ↦
@@ -284,6 +288,7 @@ ends_parts_of body r is = go (position (λ b. b == 45) body) refl is
           ap (λ t. t ++ star r.inheritable) (cut ∙ sym (append_assoc (take k body) (45 ∷ []) (drop (k + 1) body))),
         )
 
+-- a text that is read as a range is that range
 pub text_of_range : (text : List ℕ) (r : Range) → range_of text ≡ Some r → IsRangeText text r
 text_of_range text r is =
     let parts = between_parts (ends_of (without_star text)) (not (ends_in_star text)) r is in

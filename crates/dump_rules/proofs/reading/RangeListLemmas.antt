@@ -15,6 +15,7 @@ use Rattle.dump_rules.proofs.reading.RangeLemmas.{number_lacks, range_of_text, t
 
 -- parts that lack the byte, joined by it, are cut into themselves
 
+-- each byte of a text that lacks the byte is another
 pub none_all : (b : ℕ) (text : List ℕ) → has_byte b text ≡ false → All (λ c. (c == b) ≡ false) text
 none_all b [] none = λ k d small. absurd (omega arith)
 none_all b (c ∷ text) none =
@@ -26,6 +27,7 @@ abbrev pub AllLack : ℕ → List (List ℕ) → Type 0
 AllLack b [] = Unit {0}
 AllLack b (part ∷ parts) = (has_byte b part ≡ false) × AllLack b parts
 
+-- cutting at the byte gives back the parts that it joins, where they lack it
 pub split_joined : (b : ℕ) (part : List ℕ) (parts : List (List ℕ)) → AllLack b (part ∷ parts)
     → slice_split (λ c. c == b) (join_with_byte b (part ∷ parts)) ≡ part ∷ parts
 split_joined b part [] lack = slice_split_none (λ c. c == b) part (none_all b part lack.0)
@@ -49,6 +51,7 @@ parts_lack b (c ∷ text) = go (c == b) refl (parts_lack b text)
 
 -- the parts that are read
 
+-- the part is read as this range
 abbrev pub Reads : List ℕ → Range → Type 0
 Reads part r = range_of part ≡ Some r
 
@@ -157,6 +160,7 @@ consistent_from_agree parts ranges all agree n plain starred =
         (λ s other s_low s_high. overlap r s n (rw (kind, other) refl) low high s_low s_high) in
         rw some refl
 
+-- no part contradicts a list without contradictions, where the list has each of the part's numbers
 pub all_agree : (parts : List (List ℕ)) (ranges : List Range) → AllZip Reads parts ranges → IsConsistent ranges
     → (some : List (List ℕ)) (found : List Range) → AllZip Reads some found
     → ((kind : Bool) (n : ℕ) → HasNumber found kind n → HasNumber ranges kind n)
@@ -223,6 +227,7 @@ part_lacks b part r other marks is = elim is.spelled [
     no_dash : has_byte b (45 ∷ []) ≡ false
     no_dash = second_false (42 == b) (has_byte b (45 ∷ [])) marks
 
+-- the texts of ranges lack each byte that is no digit, star or dash
 pub all_lack : (b : ℕ) (parts : List (List ℕ)) (ranges : List Range) → is_ascii_digit b ≡ false
     → has_byte b (42 ∷ 45 ∷ []) ≡ false
     → AllZip IsRangeText parts ranges → AllLack b parts
