@@ -1,12 +1,11 @@
 -- A header tells another digest than the text's exactly where it stands there, and isn't it.
-use Rattle.std.proofs.Common.{◌≡◌, ◌↔◌, ℕ, Bool, true, false, ◌&&◌, ◌||◌, List, refl, sym, ap, ◌∙◌, Option, Some, None, is_some, option_copied, Bor, IsFalse, if◌then◌else◌}
-use Rattle.dump_text.specs.Names.{text_length_name, md5_name, sha1_name}
+use Rattle.std.proofs.Common.{◌≡◌, ◌↔◌, ℕ, Bool, true, false, ◌||◌, List, refl, sym, ap, ◌∙◌, Option, Some, None, is_some, option_copied, Bor, IsFalse, if◌then◌else◌}
+use Rattle.dump_text.specs.Names.{md5_name, sha1_name}
 use Rattle.dump_text.specs.HeaderLine.{has_header, header_value}
-use Rattle.dump_records.specs.RecordText.{DumpRecord, has_text_delta}
-use Rattle.dump_records.specs.steps.RecordViews.{part_with}
+use Rattle.dump_records.specs.RecordText.{DumpRecord}
 use Rattle.dump_text.proofs.BlockLemmas.{has_value}
 use Rattle.dump_text.proofs.ValueLemmas.{some_copied}
-use Rattle.dump_digest.specs.RecordParts.{has_text, has_whole_text}
+use Rattle.dump_digest.specs.RecordParts.{has_whole_text}
 use Rattle.dump_digest.specs.steps.Checks.{TellsOther, HasOtherDigest, is_told_text}
 
 -- nothing is both true and false
@@ -19,22 +18,6 @@ same_digits a b e = cc
 -- the text of a record, where it has one that isn't a delta
 abbrev pub whole_part : DumpRecord → Option (List ℕ)
 whole_part r = if has_whole_text r then Some r.text else None
-
--- a text that isn't a delta is the record's text
-pub whole_there : (r : DumpRecord) → has_text_delta r ≡ false → part_with text_length_name r r.text ≡ whole_part r
-whole_there r whole = rw whole (by_length (has_text r))
-  where
-    by_length : (b : Bool) → (if b then Some r.text else None) ≡ (if b && true then Some r.text else None)
-    by_length true = refl
-    by_length false = refl
-
--- and of a delta there is none
-pub no_whole_there : (r : DumpRecord) → has_text_delta r ≡ true → None ≡ whole_part r
-no_whole_there r delta = rw delta (by_length (has_text r))
-  where
-    by_length : (b : Bool) → None ≡ (if b && false then Some r.text else None)
-    by_length true = refl
-    by_length false = refl
 
 -- a text that is taken from a record is its whole text
 pub text_there : (r : DumpRecord) (text : List ℕ) → Some text ≡ whole_part r → (has_whole_text r ≡ true)

@@ -1,6 +1,6 @@
 -- A record's properties can be read or can't, and which list they are.
-use Rattle.std.proofs.Common.{◌≡◌, ◌⊎◌, ◌↔◌, Bool, true, false, List, refl, sym, ap, ◌∙◌, inl, inr}
-use Rattle.dump_text.specs.PropertyList.{Property, IsPropertyBlock, HasProperties, HasPropertyChanges, has_deletes}
+use Rattle.std.proofs.Common.{◌≡◌, ◌⊎◌, Bool, true, false, List, refl, sym, ap, ◌∙◌, inl, inr}
+use Rattle.dump_text.specs.PropertyList.{Property, IsPropertyBlock, has_deletes}
 use Rattle.dump_text.proofs.BoolLemmas.{absurd_bool}
 use Rattle.dump_text.proofs.PropertyLemmas.{property_block_once}
 use Rattle.dump_text.proofs.PropertyChoice.{changes_or_not}
@@ -11,23 +11,6 @@ use Rattle.dump_digest.specs.RecordParts.{takes_deletes, HasPropertyList, HasPro
 pub property_list_once : (r : DumpRecord) (ps qs : List Property) → HasPropertyList r ps → HasPropertyList r qs
     → ps ≡ qs
 property_list_once r ps qs list other = property_block_once r.props ps qs list.0 other.0
-
--- where deleted properties may stand, any property block is the record's
-pub with_deletes : (r : DumpRecord) → takes_deletes r ≡ true → HasPropertyChanges r.props ↔ HasPropertyBlock r
-with_deletes r takes = (λ (ps, block). (ps, (block, λ deletes. takes)), λ (ps, list). (ps, list.0))
-
--- and elsewhere one without them
-pub without_deletes : (r : DumpRecord) → takes_deletes r ≡ false → HasProperties r.props ↔ HasPropertyBlock r
-without_deletes r takes = (
-  λ (ps, block, kept). (ps, (block, λ deletes. absurd (absurd_bool (has_deletes ps) deletes kept))),
-  λ (ps, list). (ps, list.0, by_deletes ps list.1 (has_deletes ps) refl),
-)
-  where
-    by_deletes : (ps : List Property) → (has_deletes ps ≡ true → takes_deletes r ≡ true) → (b : Bool)
-        → has_deletes ps ≡ b
-        → has_deletes ps ≡ false
-    by_deletes ps may true deletes = absurd (absurd_bool (takes_deletes r) (may deletes) takes)
-    by_deletes ps may false kept = kept
 
 -- a record's properties can be read, or can't
 pub block_or_not : (r : DumpRecord) → HasPropertyBlock r ⊎ (¬ HasPropertyBlock r)

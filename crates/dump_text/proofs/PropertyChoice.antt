@@ -6,7 +6,7 @@ use Rattle.std.proofs.lemmas.Bool.{eqb-true, eqb-false}
 use Rattle.std.proofs.lemmas.Slice.Eq.{bytes_eq-Decides}
 use borrow.Author.Tests.{ltb-true, ltb-false}
 use Rattle.dump_text.specs.Number.{number_of}
-use Rattle.dump_text.specs.PropertyList.{Property, IsPropertyBlock, HasProperties, HasPropertyChanges, has_deletes, block_end}
+use Rattle.dump_text.specs.PropertyList.{Property, HasPropertyChanges, block_end}
 use Rattle.dump_text.specs.steps.Scanning.{IsFirstLine}
 use Rattle.dump_text.specs.steps.PropertyScan.{IsSized, HasSized, HasEntry, HasEntries}
 use Rattle.dump_text.proofs.Unique.{tail-eq}
@@ -14,7 +14,7 @@ use Rattle.dump_text.proofs.ScanLemmas.{clash}
 use Rattle.dump_text.proofs.Splits.{Split, split}
 use Rattle.dump_text.proofs.Splits.Split.{Cut, Lacks}
 use Rattle.dump_text.proofs.PartLemmas.{sized_cut, line_of, no_sized-number, sized_room}
-use Rattle.dump_text.proofs.PropertyLemmas.{EntryParts, no_entry-name, no_entry-value, entry_shorter, entries_more, entries_end, property_block_once}
+use Rattle.dump_text.proofs.PropertyLemmas.{EntryParts, no_entry-name, no_entry-value, entry_shorter, entries_more, entries_end}
 
 -- the part of this letter at the front of a text, or that there is none
 data Sized (letter : ℕ) (text : List ℕ) : Type 0 where
@@ -147,26 +147,6 @@ changes_or_not (c ∷ text) = elim (entries_choice (length (c ∷ text)) (c ∷ 
     | inl empty ↦ let bad : c ∷ text ≡ [] = empty.0 in cc
     | inr all ↦ none (ps, all)
   ])
-]
-
--- and the same of one without deleted properties
-pub properties_or_not : (text : List ℕ) → HasProperties text ⊎ (¬ HasProperties text)
-properties_or_not text = elim (changes_or_not text) [
-  | inl (ps, block) ↦ by_deletes ps block (has_deletes ps) refl
-  | inr none ↦ inr (λ (ps, block, kept). none (ps, block))
-]
-  where
-    by_deletes : (ps : List Property) → IsPropertyBlock text ps → (b : Bool) → has_deletes ps ≡ b
-        → HasProperties text ⊎ (¬ HasProperties text)
-    by_deletes ps block false kept = inl (ps, block, kept)
-    by_deletes ps block true deletes = inr (λ (qs, other, kept).
-        let bad : true ≡ false = sym deletes ∙ ap has_deletes (property_block_once text ps qs block other) ∙ kept in cc)
-
--- a text that can't be no property block is one
-pub properties_stable : (text : List ℕ) → ¬ ¬ HasProperties text → HasProperties text
-properties_stable text possible = elim (properties_or_not text) [
-  | inl has ↦ has
-  | inr none ↦ absurd (possible none)
 ]
 
 pub changes_stable : (text : List ℕ) → ¬ ¬ HasPropertyChanges text → HasPropertyChanges text

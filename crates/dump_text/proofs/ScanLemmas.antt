@@ -1,5 +1,5 @@
 -- A text is cut at a byte in one way, and so into header lines.
-use Rattle.std.proofs.Common.{◌≡◌, ℕ, suc, ◌+◌, ◌-◌, ◌<◌, ◌≤◌, nat_lt, Bool, true, false, ◌||◌, ◌==◌, List, [], ◌∷◌, ◌++◌, take, drop, map, filter, length, get_or, slice_index, refl, sym, ap, ◌∙◌, arith, append_assoc, length-append, codes, Option, Some, None, MatchOption, position}
+use Rattle.std.proofs.Common.{◌≡◌, ℕ, suc, ◌+◌, ◌-◌, ◌<◌, ◌≤◌, nat_lt, Bool, true, false, ◌||◌, ◌==◌, List, [], ◌∷◌, ◌++◌, take, drop, map, filter, length, get_or, slice_index, refl, sym, ap, ◌∙◌, arith, append_assoc, length-append, codes, Option, Some, None, position}
 use Rattle.std.specs.List.{list_all, position_or_len, All}
 use Rattle.std.proofs.lemmas.List.{take-append-drop, drop_more, get_or-take, get_or-drop, length-drop, length-take-le, take_at, drop_at, append-nil, flat_map_more}
 use Rattle.std.proofs.lemmas.List.Elements.{All-cons}
