@@ -11,12 +11,10 @@ use Rattle.clap.specs.declared.error.kind.ErrorKind.TheVariants.{OutOfMemory}
 use Rattle.clap.specs.declared.parser.matches.ArgMatches.{ArgMatches}
 use Rattle.clap.specs.declared.parser.matches.Found.{Found}
 use Rattle.clap.proofs.WalkLemmas.{one_text-rows}
-use Rattle.dump_rules.specs.declared.options.Empty.{Empty}
 use Rattle.dump_cli.specs.CommandLine.{program}
-use Rattle.dump_cli.specs.Words.{AnswersTo, AreFilled, IsNumber, IsSwitch, empty_in, is_lawful, is_set, meaning_of, meaning_with, number_of, order_of, side_of}
-use Rattle.dump_cli.specs.declared.words.Order.{Order}
+use Rattle.dump_cli.specs.Words.{AnswersTo, AreFilled, IsNumber, IsSwitch, is_lawful, is_set, meaning_of, number_of, order_of}
 use Rattle.dump_cli.specs.declared.words.Usage.{Usage}
-use Rattle.dump_cli.specs.declared.words.Usage.TheVariants.{Words, BothDrops, Memory}
+use Rattle.dump_cli.specs.declared.words.Usage.TheVariants.{Words, Memory}
 use Rattle.dump_cli.proofs.RowLemmas.{is_filled, same_id}
 use Rattle.dump_cli.proofs.ProgramLemmas.{lawful_line}
 
@@ -120,17 +118,6 @@ refusal_unlawful words e u has memory lawful is = go (fault_of program words) la
     go (k ∷ ks) none (inr among) =
         let bad : true ≡ false = sym none ∙ is_filled k ks in
         cc
-
--- a side and its rows are never other words
-pub never_words : (line : Text × List Row) (r : Result Order Usage) → AnswersTo (order_of line) r → r ≡ Err Words → ⊥
-never_words line (Ok order) answers is = cc
-never_words line (Err BothDrops) answers is = cc
-never_words line (Err Memory) answers is = cc
-never_words line (Err Words) answers is = go (empty_in line.1) answers
-  where
-    go : (o : Option Empty) → meaning_with o (side_of line.0) line.1 ≡ Err Words → ⊥
-    go None e = cc
-    go (Some x) e = cc
 
 abbrev pub both_of : {X : Type 0} → (X → Text) → (X → List Row) → X → Text × List Row
 both_of n r b = (n b, r b)

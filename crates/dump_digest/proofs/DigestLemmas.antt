@@ -8,10 +8,6 @@ use Rattle.dump_text.proofs.ValueLemmas.{some_copied}
 use Rattle.dump_digest.specs.RecordParts.{has_whole_text}
 use Rattle.dump_digest.specs.steps.Checks.{TellsOther, HasOtherDigest, is_told_text}
 
--- nothing is both true and false
-pub clash : {b : Bool} → b ≡ true → b ≡ false → ⊥
-clash e f = let bad : true ≡ false = sym e ∙ f in cc
-
 same_digits : (a b : List ℕ) → Some a ≡ Some b → a ≡ b
 same_digits a b e = cc
 

@@ -1,5 +1,6 @@
 -- Mergeinfo is bad where a property of its name has a value that isn't mergeinfo.
 use Rattle.std.proofs.Common.{◌≡◌, ◌↔◌, ℕ, zero, suc, Bool, true, false, List, [], ◌∷◌, refl, sym, ap, subst, ◌∙◌, arith, Contains, IsTrue, IsFalse}
+use Rattle.dump_text.proofs.BoolLemmas.{absurd_bool}
 use Rattle.std.proofs.Math.Bool.{Bool-set}
 use Rattle.std.proofs.Math.Logic.{∥∥₁_elim}
 use Rattle.std.proofs.lemmas.Bool.{and_parts}
@@ -13,7 +14,6 @@ use Rattle.dump_rules.proofs.reading.MergeinfoLemmas.{reads_exactly}
 use Rattle.dump_digest.specs.RecordParts.{is_kept_node, is_mergeinfo, value_of, HasPropertyList, HasPropertyBlock}
 use Rattle.dump_digest.specs.ContentFaults.{HasBadMergeinfo}
 use Rattle.dump_digest.specs.steps.Checks.{property_reads, properties_read}
-use Rattle.dump_digest.proofs.DigestLemmas.{clash}
 
 -- one property
 
@@ -23,8 +23,8 @@ read_is value reads means = by_reads reads refl (value_reads value) refl
   where
     by_reads : (a : Bool) → reads ≡ a → (b : Bool) → value_reads value ≡ b → reads ≡ value_reads value
     by_reads true e true f = e ∙ sym f
-    by_reads true e false f = absurd (clash ((reads_exactly value).1 (means.0 e)) f)
-    by_reads false e true f = absurd (clash (means.1 ((reads_exactly value).0 f)) e)
+    by_reads true e false f = absurd (absurd_bool _ ((reads_exactly value).1 (means.0 e)) f)
+    by_reads false e true f = absurd (absurd_bool _ (means.1 ((reads_exactly value).0 f)) e)
     by_reads false e false f = e ∙ sym f
 
 pub record BadEntry (p : Property) : Type 0 where
@@ -37,10 +37,10 @@ bad_entry p bad = by_name (is_mergeinfo p) refl
     by_name : (b : Bool) → is_mergeinfo p ≡ b → BadEntry p
     by_name true e = record {
       named = e;
-      none = λ has. clash ((reads_exactly (value_of p)).1 has)
+      none = λ has. absurd_bool _ ((reads_exactly (value_of p)).1 has)
           (let unread : value_reads (value_of p) ≡ property_reads p = rw e refl in unread ∙ bad);
     }
-    by_name false e = let read : true ≡ property_reads p = rw e refl in absurd (clash (sym read) bad)
+    by_name false e = let read : true ≡ property_reads p = rw e refl in absurd (absurd_bool _ (sym read) bad)
 
 entry_bad : (p : Property) → BadEntry p → property_reads p ≡ false
 entry_bad p bad = by_value (value_reads (value_of p)) refl
@@ -97,7 +97,7 @@ merge_means settings r ok ps kept block is = (
             let here = subst (λ (l : List Property). Contains l p) lists within in
             let read = read_none ps p (sym is ∙ e) here in
             let entry : BadEntry p = record { named = named; none = λ has. none (subst HasMergeLines same has) } in
-            absurd (clash read (entry_bad p entry))
+            absurd (absurd_bool _ read (entry_bad p entry))
 
 -- a record whose property block can't be read has no bad mergeinfo
 pub merge_unread : (settings : Settings) (r : DumpRecord) → ¬ HasPropertyBlock r → IsFalse true
@@ -112,5 +112,5 @@ pub merge_other : (settings : Settings) (r : DumpRecord) → IsFalse (is_kept_no
     ↔ ∥ HasBadMergeinfo settings r ∥₁
 merge_other settings r other = (
   λ e. cc,
-  λ bad. ∥∥₁_elim bad (Bool-set true false) (λ (value, mine, lines). absurd (clash mine.0 other)),
+  λ bad. ∥∥₁_elim bad (Bool-set true false) (λ (value, mine, lines). absurd (absurd_bool _ mine.0 other)),
 )

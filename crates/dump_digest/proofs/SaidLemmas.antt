@@ -1,12 +1,13 @@
 -- What the mergeinfo of some properties says, property by property.
 use Rattle.std.proofs.Common.{◌≡◌, ◌↔◌, ℕ, Bool, true, false, ◌&&◌, ◌||◌, List, [], ◌∷◌, refl, sym, ap, subst, ◌∙◌, Option, Some, None, IsSome, IsNone, IfSome, is_some, unwrap_or, if◌then◌else◌, MatchOption, IsTrue, IsFalse}
+use Rattle.std.proofs.lemmas.Bool.{or_right}
 use Rattle.std.specs.List.{list_any}
 use Rattle.std.specs.Option.{ForSome}
 use Rattle.dump_text.specs.declared.props.Props.{Props}
 use Rattle.dump_text.specs.PropertyList.{Property, IsPropertyBlock}
 use Rattle.dump_text.specs.declared.props.Entry.{Entry}
 use Rattle.dump_text.specs.steps.PropertyViews.{props_bytes, entry_property}
-use Rattle.dump_text.proofs.BoolLemmas.{absurd_bool, both_true, second_true, either_second}
+use Rattle.dump_text.proofs.BoolLemmas.{absurd_bool, both_true, second_true}
 use Rattle.dump_records.specs.RecordText.{DumpRecord}
 use Rattle.dump_rules.specs.declared.merged.Merged.{Merged}
 use Rattle.dump_rules.specs.Settings.{Settings}
@@ -172,7 +173,7 @@ pub asked_kept : (s : Settings) (r : DumpRecord) (found : Option Props) (ok : Bo
     → ok ≡ is_some found
     → is_some found ≡ (is_asked s r && ok)
 asked_kept s r found ok kept is = sym is ∙ ap (λ b. b && ok)
-    (sym (either_second (is_revision r) (is_kept_node s r) kept))
+    (sym (or_right (is_revision r) (is_kept_node s r) kept))
 
 -- of another record no mergeinfo is read, and no copy source
 pub content_of_other : (s : Settings) (r : DumpRecord) (v : Verdict) (found : Option Props) → IsFalse (is_kept_node s r)

@@ -1,7 +1,8 @@
 -- What a verdict's parts mean together.
 use Rattle.std.proofs.Common.{◌≡◌, ◌↔◌, Bool, true, false, ◌||◌, refl, sym, ◌∙◌, Option, is_some, IsTrue, IsFalse, IsSome}
+use Rattle.dump_text.proofs.BoolLemmas.{absurd_bool}
+use Rattle.std.proofs.lemmas.Bool.{or_right}
 use Rattle.dump_text.specs.Names.{md5_name, sha1_name}
-use Rattle.dump_text.proofs.BoolLemmas.{either_second}
 use Rattle.dump_records.specs.RecordText.{DumpRecord}
 use Rattle.dump_rules.specs.Settings.{Settings}
 use Rattle.dump_digest.specs.declared.verdict.Verdict.{Verdict}
@@ -9,7 +10,6 @@ use Rattle.dump_digest.specs.RecordParts.{is_revision, is_kept_node, HasProperty
 use Rattle.dump_digest.specs.ContentFaults.{HasBadMergeinfo}
 use Rattle.dump_digest.specs.steps.Checks.{HasOtherDigest, is_told_text}
 use Rattle.dump_digest.specs.steps.VerdictMeaning.{IsVerdict}
-use Rattle.dump_digest.proofs.DigestLemmas.{clash}
 use Rattle.dump_digest.proofs.MergeLemmas.{merge_other}
 use Rattle.md5.specs.Md5.{md5}
 use Rattle.sha1.specs.Sha1.{sha1}
@@ -19,7 +19,7 @@ or_none true b e = refl
 or_none false b e = e
 
 unread : (r : DumpRecord) (ok : Bool) → (IsTrue ok ↔ HasPropertyBlock r) → IsFalse ok ↔ (¬ HasPropertyBlock r)
-unread r ok means = (λ none has. clash (means.1 has) none, λ none. by_ok ok refl none)
+unread r ok means = (λ none has. absurd_bool _ (means.1 has) none, λ none. by_ok ok refl none)
   where
     by_ok : (b : Bool) → ok ≡ b → ¬ HasPropertyBlock r → IsFalse ok
     by_ok true e none = absurd (none (means.0 e))
@@ -28,7 +28,7 @@ unread r ok means = (λ none has. clash (means.1 has) none, λ none. by_ok ok re
 -- properties that aren't asked
 pub not_asked : (r : DumpRecord) → IsFalse (is_revision r) → IsFalse true
     ↔ (IsTrue (is_revision r) × ¬ HasPropertyBlock r)
-not_asked r none = (λ e. cc, λ bad. absurd (clash bad.0 none))
+not_asked r none = (λ e. cc, λ bad. absurd (absurd_bool _ bad.0 none))
 
 -- properties that are, of a node
 pub found_properties : {T : Type 0} (r : DumpRecord) (found : Option T) (ok : Bool) → ok ≡ is_some found
@@ -51,7 +51,7 @@ pub kept_verdict : (settings : Settings) (r : DumpRecord) (v : Verdict) → IsTr
     → v.checked ≡ is_told_text r
     → IsVerdict settings r v
 kept_verdict settings r v kept props first second merge checked = record {
-  props = (λ e. (either_second (is_revision r) (is_kept_node settings r) kept, props.0 e), λ bad. props.1 bad.1);
+  props = (λ e. (or_right (is_revision r) (is_kept_node settings r) kept, props.0 e), λ bad. props.1 bad.1);
   md5 = (λ e. let other = first.0 e in (kept, other.0, other.1), λ bad. first.1 (bad.1, bad.2));
   sha1 = (λ e. let other = second.0 e in (kept, other.0, other.1), λ bad. second.1 (bad.1, bad.2));
   merge = merge;
@@ -67,8 +67,8 @@ other_verdict settings r props_ok other props = record {
   props =
       let revision = or_none (is_revision r) (is_kept_node settings r) other in
       (λ e. let bad = props.0 e in (revision ∙ bad.0, bad.1), λ bad. props.1 (sym revision ∙ bad.0, bad.1));
-  md5 = (λ e. cc, λ bad. absurd (clash bad.0 other));
-  sha1 = (λ e. cc, λ bad. absurd (clash bad.0 other));
+  md5 = (λ e. cc, λ bad. absurd (absurd_bool _ bad.0 other));
+  sha1 = (λ e. cc, λ bad. absurd (absurd_bool _ bad.0 other));
   merge = merge_other settings r other;
   checked = rw other refl;
 }

@@ -1,5 +1,5 @@
 -- Each move on a pool's queue of jobs keeps its rule.
-use Rattle.std.proofs.Common.{zero, suc, ◌≡◌, ◌≢◌, ◌==◌, ◌+◌, ◌<◌, ℕ, true, false, true≢false, List, [], ◌∷◌, ◌++◌, length, set, sum_by, replicate, cond, sym, refl, ap, ◌∙◌, subst, ⊎_elim, append_assoc, eq-eqb, ne_eqb, arith}
+use Rattle.std.proofs.Common.{zero, suc, ◌≡◌, ◌≢◌, ◌==◌, ◌<◌, ℕ, true, false, true≢false, List, [], ◌∷◌, ◌++◌, length, set, sum_by, replicate, cond, sym, refl, ap, ◌∙◌, subst, ⊎_elim, eq-eqb, ne_eqb, arith}
 use Rattle.std.proofs.lemmas.Bool.{lt-ltb}
 use Rattle.std.proofs.lemmas.List.{append-nil, length-append}
 use Rattle.std.proofs.lemmas.List.Elements.{filter-append}
@@ -16,7 +16,7 @@ use Rattle.dump_lanes.specs.declared.protocol.Mark.TheVariants.{Item, End}
 use Rattle.dump_lanes.specs.declared.steps.Step.{Step}
 use Rattle.dump_lanes.specs.PoolParts.{Thread, thread_of}
 use Rattle.dump_lanes.specs.PartSteps.{event_of, IsStep, is_thread, all_put, all_taken, steps_of}
-use Rattle.dump_lanes.specs.JobRule.{cut_event, jobs_part, put_step, take_step, cutter_hand, worker_hand, spent_hand, after_put, after_ends, after_take, after_fork, after_join, Fits, IsJobQueue, IsWhole, KnowsSteps}
+use Rattle.dump_lanes.specs.JobRule.{cut_event, jobs_part, put_step, take_step, cutter_hand, worker_hand, spent_hand, after_put, after_take, after_fork, after_join, Fits, IsJobQueue, IsWhole, KnowsSteps}
 use Rattle.dump_lanes.proofs.PartMoves.{worker_or_other, step_both, step_other, all_taken-append, in_order}
 use Rattle.dump_lanes.proofs.Views.{AllViews, AllViews-set, AllViews-one, AllViews-more, within, set_long, at_some, sum_by-set, sum_by-least, sum_by-alone}
 
@@ -391,14 +391,3 @@ module _ {T : Type 0} where
         put_is = c.1;
       } in
       (whole, knows)
-
-  -- the cutter put one more end mark
-  pub one_end_more : (v : Hand T) (n : ℕ) → after_put (after_ends v n) End ≡ after_ends v (n + 1)
-  one_end_more v n =
-      let more : n + 1 ≡ suc n = omega arith in
-      let marks : (v.put ++ replicate n End) ++ End ∷ [] ≡ v.put ++ replicate (n + 1) End =
-      append_assoc v.put (replicate n End) (End ∷ [])
-      ∙ ap (λ l. v.put ++ l) (sym (ends_last n) ∙ ap (λ k. replicate k End) (sym more)) in
-      let steps : put_step End ∷ (replicate n (put_step End) ++ v.steps) ≡ replicate (n + 1) (put_step End) ++ v.steps =
-      ap (λ k. replicate k (put_step End) ++ v.steps) (sym more) in
-      λ i. record v { put = marks i; steps = steps i }

@@ -1,5 +1,6 @@
 -- Each step on the stop word keeps its rule.
 use Rattle.std.proofs.Common.{◌≡◌, ◌==◌, ◌/◌, ◌%◌, ◌*◌, ◌<◌, ◌≤◌, ◌||◌, ℕ, Bool, true, false, true≢false, List, [], ◌∷◌, length, set, sum_by, IsTrue, sym, refl, ap, ◌∙◌, subst, slice_index, arith}
+use Rattle.std.proofs.lemmas.Bool.{or_left, or_right}
 use Rattle.std.proofs.lemmas.List.Sums.{sum_by_push, sum_by-cons, sum_by-append}
 use mathlib.Core.Option.{some, some-injective}
 use lib.ListN.{get_elem?}
@@ -298,13 +299,6 @@ splits id v even shared s h at =
       shares = let k = sum_by-set share_of s.views id v w at in let l = sum_by_push share_of cut r in let all = h.shares in omega arith;
       fits = AllViews-more (Fits h.up) cut r old theirs;
     }
-
-or_left : (a b : Bool) → IsTrue a → IsTrue (a || b)
-or_left a b e = ap (λ c. c || b) e
-
-or_right : (a b : Bool) → IsTrue b → IsTrue (a || b)
-or_right true b e = refl
-or_right false b e = e
 
 or_gives : (a b up : Bool) → (IsTrue a → IsTrue up) → (IsTrue b → IsTrue up) → IsTrue (a || b) → IsTrue up
 or_gives true b up f g e = f refl

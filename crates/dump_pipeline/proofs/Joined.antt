@@ -24,7 +24,7 @@ use Rattle.dump_pipeline.specs.declared.stage.End.{End}
 use Rattle.dump_pipeline.specs.declared.stage.End.TheVariants as ends
 use Rattle.dump_pipeline.specs.steps.Messages.{job_number, job_numbers, checked_number, checked_numbers, text_of}
 use Rattle.dump_pipeline.specs.steps.Parts.{end_answer, HasCut, HasWorked, HasEndedWith, HasSequenced, HasReceived, IsEndOf}
-use Rattle.dump_pipeline.specs.RunAnswer.{IsFilterPrefix, RunLeaves, SinkFailsOnly, ThreadsFailFirst}
+use Rattle.dump_pipeline.specs.RunAnswer.{IsFilterPrefix, RunLeaves, ThreadsFailFirst}
 use Rattle.dump_pipeline.proofs.Released.{begins, memory}
 use Rattle.dump_pipeline.proofs.RunLemmas.{prefix_trans}
 
@@ -239,26 +239,3 @@ threads_fail (answers.Fault which number place) h = tt
 threads_fail (answers.Failed failures.Sink written) h = tt
 threads_fail (answers.Failed failures.Memory written) h = tt
 threads_fail (answers.Failed failures.Threads written) h = absurd (h written refl)
-
--- no end of the sequencer is a refused thread or a failure of the sink
-pub end_no_threads : (end : End) (count written : ℕ) → end_answer end count ≡ answers.Failed failures.Threads written
-    → ⊥
-end_no_threads end count written is = by end (is_threads-of end is)
-  where
-    is_threads : Answer → Bool
-    is_threads (answers.Failed failures.Threads n) = true
-    is_threads other = false
-
-    is_threads-of : (e : End) → end_answer e count ≡ answers.Failed failures.Threads written
-        → is_threads (end_answer e count) ≡ true
-    is_threads-of e same = ap is_threads same
-
-    by : (e : End) → is_threads (end_answer e count) ≡ true → ⊥
-    by (ends.Clean report) h = false≢true h
-    by (ends.Fault which number place) h = false≢true h
-    by ends.Memory h = false≢true h
-
-pub end_counts : (end : End) (count first now : ℕ) → now ≡ first → SinkFailsOnly first now (end_answer end count)
-end_counts (ends.Clean report) count first now same = same
-end_counts (ends.Fault which number place) count first now same = same
-end_counts ends.Memory count first now same = same

@@ -46,11 +46,6 @@ not_false false h = refl
 pub false_true : false ≡ true → ⊥
 false_true bad = cc
 
--- where the second holds, one of both holds
-pub either_second : (a b : Bool) → b ≡ true → (a || b) ≡ true
-either_second true b e = refl
-either_second false b e = e
-
 -- what isn't true is false
 pub not_so : (b : Bool) → (b ≡ true → ⊥) → b ≡ false
 not_so true bad = absurd (bad refl)

@@ -6,7 +6,7 @@ use Rattle.std.proofs.lemmas.List.Elements.{All-cons}
 use Rattle.std.proofs.lemmas.List.Quantifiers.{position-Some}
 use Rattle.std.proofs.lemmas.List.Sums.{position_or_len_is, fails_before_first}
 use Rattle.std.proofs.lemmas.List.Splits.{slice_split_at}
-use Rattle.std.proofs.lemmas.Bool.{eqb-true}
+use Rattle.std.proofs.lemmas.Bool.{eqb-true, or_right}
 use Rattle.std.proofs.lemmas.Bool.Decides.{nat_tests}
 use Rattle.std.proofs.lemmas.List.Folds.{list_all-append}
 use Rattle.memchr.specs.Find.{IsFirstByte, is_byte}
@@ -16,7 +16,7 @@ use Rattle.dump_text.specs.HeaderLine.{has_byte, header_text, is_header}
 use Rattle.dump_text.specs.HeaderBlock.{lines_bytes, starts_with_lf, has_empty_line}
 use Rattle.dump_text.specs.steps.ReadHeaders.{header_of, headers_of, AreHeaderLines}
 use Rattle.dump_text.specs.steps.Scanning.{IsFirstAt, IsFirstLine, IsCutAtColon, IsNoHeader, IsLinesEnd}
-use Rattle.dump_text.proofs.Unique.{split_once, Lawful, lawful, text_no_lf, regroup, all_first, all_rest, not_empty, or_right, ended}
+use Rattle.dump_text.proofs.Unique.{split_once, Lawful, lawful, text_no_lf, regroup, all_first, all_rest, not_empty, ended}
 
 -- a byte that stands at no place of a text isn't in it
 pub lacks : (b : ℕ) (text : List ℕ) → ((k : ℕ) → k < length text → (slice_index text k == b) ≡ true → ⊥)

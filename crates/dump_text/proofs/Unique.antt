@@ -1,6 +1,6 @@
 -- A text begins with at most one block.
-use Rattle.std.proofs.Common.{◌≡◌, ℕ, zero, suc, nat_lt, refl, sym, ◌∙◌, ap, subst, Bool, true, false, ◌||◌, ◌&&◌, not, ◌==◌, List, [], ◌∷◌, ◌++◌, length, codes, arith, append_assoc, length-append, flat_map, nat_le, replicate}
-use Rattle.std.proofs.lemmas.Bool.{not-true}
+use Rattle.std.proofs.Common.{◌≡◌, ℕ, zero, suc, nat_lt, refl, sym, ◌∙◌, ap, subst, true, false, ◌&&◌, not, ◌==◌, List, [], ◌∷◌, ◌++◌, length, codes, arith, append_assoc, length-append, flat_map, nat_le, replicate}
+use Rattle.std.proofs.lemmas.Bool.{not-true, or_right}
 use Rattle.std.specs.List.{list_all}
 use Rattle.dump_text.proofs.BoolLemmas.{first_true, second_true, first_false, second_false}
 use Rattle.dump_text.specs.Names.{known_names}
@@ -179,11 +179,6 @@ blank_once (suc m) zero x y fx fy e = let impossible : true ≡ false = subst (�
 blank_once (suc m) (suc n) x y fx fy e =
     let rest = blank_once m n x y fx fy (tail-eq 10 10 (replicate m 10 ++ x) (replicate n 10 ++ y) e) in
     (ap suc rest.0, rest.1)
-
--- where the second holds, one of both holds
-pub or_right : (p q : Bool) → q ≡ true → (p || q) ≡ true
-or_right true q h = refl
-or_right false q h = h
 
 empty_line_behind : (front text : List ℕ) → has_empty_line text ≡ true → has_empty_line (front ++ text) ≡ true
 empty_line_behind [] text h = h

@@ -1,5 +1,6 @@
 -- What is written of records without a fault has none where everything is kept.
 use Rattle.std.proofs.Common.{◌≡◌, ℕ, zero, suc, ◌<◌, Bool, true, false, not, ◌&&◌, ◌||◌, MatchBool, List, [], ◌∷◌, ◌++◌, take_while, refl, sym, ap, ◌∙◌, subst, arith, Option, Some, None, MatchOption, Contains, if◌then◌else◌}
+use Rattle.std.proofs.lemmas.Bool.{or_right}
 use Rattle.std.specs.Bool.{⊤}
 use Rattle.std.specs.List.{list_any, prefix_len}
 use Rattle.dump_text.specs.declared.fault.FaultKind.{FaultKind}
@@ -18,7 +19,7 @@ use Rattle.dump_filter.specs.Written.{is_written}
 use Rattle.dump_filter.proofs.again.Numbers.{kept_revision, dropped_revision, no_revision, new_number_rises}
 use Rattle.dump_filter.proofs.again.Order.{RisesFrom, present_behind, AreInOrder, in_order, order_fits}
 use Rattle.dump_filter.proofs.knowing.Answered.{AllLawful}
-use Rattle.dump_text.proofs.BoolLemmas.{absurd_bool, both_true, first_true, either_second}
+use Rattle.dump_text.proofs.BoolLemmas.{absurd_bool, both_true, first_true}
 use Rattle.dump_filter.proofs.groups.GroupLemmas.{take_cons}
 use Rattle.dump_filter.proofs.groups.KindLemmas.{alone}
 use Rattle.dump_filter.proofs.groups.NumberLemmas.{passed_keeps}
@@ -166,7 +167,7 @@ module _ (settings : Settings) (kept : KeptRevisions) where
       cases true n rev node = absurd (dropped_group settings r rest rev dropped any)
       cases false true other node =
           follows (node_ok node)
-          (any_cons settings r rest node ∙ either_second (is_kept_node settings r)
+          (any_cons settings r rest node ∙ or_right (is_kept_node settings r)
           (list_any (is_kept_node settings) (take_while is_node rest)) any)
       cases false false other no_node = absurd (absurd_bool (is_written settings true r rest)
           (rw (other, no_node) refl) dropped)

@@ -16,7 +16,7 @@ use Rattle.dump_text.proofs.PartLemmas.{number_of-spelled, spelled_spells}
 use Rattle.dump_records.specs.HeaderRules.{header_number, header_length}
 use Rattle.dump_filter.specs.NewHeaders.{with_length, without_copy_headers}
 use Rattle.dump_filter.specs.steps.NewLines.{is_copy_line}
-use Rattle.dump_filter.proofs.written.HeaderLemmas.{no_value}
+use Rattle.dump_records.proofs.HeaderLemmas.{no_number}
 use Rattle.dump_text.proofs.BoolLemmas.{first_true, second_true, first_false, second_false, both_true, absurd_bool, not_so}
 
 -- the lines changed only under names that are touched; no line and no name came that a block refuses
@@ -462,8 +462,7 @@ told_reads name n headers small told = by_case (has_header name headers) refl to
         ∙ number_of-spelled n small in
         (ap (λ o. unwrap_or o 0) number, rw (is, number) refl)
     by_case false is t = (
-      ap (λ o. unwrap_or (option_and_then number_of o) 0) (no_value name headers is)
-          ∙ sym t,
+      ap (λ o. unwrap_or o 0) (sym (no_number name headers is)) ∙ sym t,
       rw is refl,
     )
 

@@ -29,7 +29,8 @@ use Rattle.dump_digest.specs.RecordParts.{is_copy}
 use Rattle.dump_filter.specs.steps.NewLines.{is_copy_line}
 use Rattle.dump_filter.specs.RecordOutput.{whole_text, revision_text, IsRevisionOutput, IsNodeOutput, IsWrittenBlock}
 use Rattle.dump_text.proofs.BoolLemmas.{first_true, second_true, first_false, second_false, not_so, absurd_bool, false_true}
-use Rattle.dump_filter.proofs.written.HeaderLemmas.{no_value, no_length}
+use Rattle.dump_records.proofs.HeaderLemmas.{no_number}
+use Rattle.dump_filter.proofs.written.HeaderLemmas.{no_length}
 use Rattle.dump_filter.proofs.again.LineChanges.{IsChange, same_has, spelled_line, no_change, put_has, put_change, go_change, gone, IsTold, told_later, told_put, told_reads, told_put_again}
 use Rattle.dump_filter.proofs.again.Headers.{is_length_name, lengths_change, told_lengths, known_once, StaysLawful}
 use Rattle.dump_filter.proofs.again.Record.{no_bytes, any_number, no_content, stays_same, stays_revision, stays_copy_number, stays_plain, again, told, new_stays, new_is_block, new_lawful, new_version_line, reads_list, same_text}
@@ -292,8 +293,7 @@ number_there name headers n is = by_case (has_header name headers) refl
   where
     by_case : (b : Bool) → has_header name headers ≡ b → has_header name headers ≡ true
     by_case true there = there
-    by_case false none = let bad : None ≡ Some n = sym (ap (option_and_then number_of) (no_value name headers none))
-        ∙ is in cc
+    by_case false none = let bad : None ≡ Some n = no_number name headers none ∙ is in cc
 
 node_lines : (settings : Settings) (kept : KeptRevisions) (number : ℕ) (r : DumpRecord) (mid : List Header)
     → RiseFrom kept.first kept.numbers

@@ -1,5 +1,6 @@
 -- What is written of a list of records, read again.
 use Rattle.std.proofs.Common.{◌≡◌, ℕ, ◌+◌, ◌<◌, ◌==◌, Bool, true, false, ◌||◌, MatchBool, List, [], ◌∷◌, ◌++◌, length, refl, sym, ap, ◌∙◌, subst, arith, append_assoc}
+use Rattle.std.proofs.lemmas.Bool.{or_right}
 use Rattle.dump_text.specs.Names.{version_name}
 use Rattle.dump_text.specs.HeaderLine.{has_header}
 use Rattle.dump_records.specs.DumpText.{line_feeds, IsCutInto, HaveVersions}
@@ -15,7 +16,7 @@ use Rattle.dump_filter.specs.FilterLaws.{keep_all}
 use Rattle.dump_filter.specs.Groups.{Group, group_of, group_number, has_kept_node, keeps_group}
 use Rattle.dump_filter.specs.RecordOutput.{IsOutput}
 use Rattle.dump_filter.specs.Written.{is_written, AreOutputs}
-use Rattle.dump_text.proofs.BoolLemmas.{absurd_bool, both_true, either_second, not_so}
+use Rattle.dump_text.proofs.BoolLemmas.{absurd_bool, both_true, not_so}
 use Rattle.dump_filter.proofs.groups.KindLemmas.{IsOfKind, of_kind}
 use Rattle.dump_filter.proofs.knowing.Answered.{AllLawful}
 use Rattle.dump_filter.proofs.again.ReadAgain.{IsReadAgain, AreReadAgain, AtEach}
@@ -208,7 +209,7 @@ pub all_paths : (path : List ℕ) → keeps_path keep_all path ≡ true
 all_paths path = refl
 
 all_groups : (g : Group) → keeps_group keep_all g ≡ true
-all_groups g = either_second (group_number g == 0 || has_kept_node keep_all g) true refl
+all_groups g = or_right (group_number g == 0 || has_kept_node keep_all g) true refl
 
 pub all_written : (s : DumpRecord) (after : List DumpRecord) → is_written keep_all true s after ≡ true
 all_written s after = cases (is_revision s) (is_node s) refl refl

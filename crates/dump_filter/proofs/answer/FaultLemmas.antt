@@ -1,10 +1,10 @@
 -- Which fault a record has behind others.
-use Rattle.std.proofs.Common.{◌≡◌, ◌⊎◌, ℕ, ◌==◌, ◌<◌, nat_lt, Bool, true, false, not, ◌&&◌, ◌||◌, List, [], ◌∷◌, ◌++◌, refl, sym, ap, ◌∙◌, subst, arith, append_assoc, inl, inr, Option, Some, None, IsTrue, MatchBool, Result, Ok, Err, is_none, is_some, count_by, option_and_then, if◌then◌else◌}
+use Rattle.std.proofs.Common.{◌≡◌, ◌⊎◌, ℕ, ◌==◌, ◌<◌, nat_lt, Bool, true, false, not, ◌&&◌, ◌||◌, List, [], ◌∷◌, ◌++◌, refl, sym, ap, ◌∙◌, subst, arith, append_assoc, inl, inr, Option, Some, None, IsTrue, MatchBool, Result, Ok, Err, is_none, is_some, count_by, if◌then◌else◌}
 use Rattle.std.specs.List.{last_or, list_any}
 use borrow.Author.Tests.{ltb-true, ltb-false}
 use Rattle.dump_text.specs.declared.fault.FaultKind.{FaultKind}
 use Rattle.dump_text.specs.declared.fault.FaultKind.TheVariants as faults
-use Rattle.dump_text.specs.Number.{number_of, spelled_number}
+use Rattle.dump_text.specs.Number.{spelled_number}
 use Rattle.dump_text.specs.Names.{deciding_names, length_names, revision_name, copy_revision_name, copy_path_name}
 use Rattle.dump_text.specs.HeaderLine.{has_header, with_header_value}
 use Rattle.dump_records.specs.HeaderRules.{header_number, is_one_alone, has_bad_kind, has_bad_number}
@@ -26,7 +26,7 @@ use Rattle.dump_filter.specs.steps.Advance.{front_kept}
 use Rattle.dump_filter.specs.steps.Decision.{is_open, rises, is_in_order, is_orphan, HasNoSource, imaged, source_change, copy_change}
 use Rattle.dump_filter.specs.steps.Knowledge.{is_plain, kept_numbers, Shape, Stands}
 use Rattle.dump_filter.specs.steps.Knowledge.Shape.{Fresh, Idle, Passed, Waits}
-use Rattle.dump_filter.proofs.written.HeaderLemmas.{no_value}
+use Rattle.dump_records.proofs.HeaderLemmas.{no_number}
 use Rattle.dump_text.proofs.BoolLemmas.{false_true, not_so, first_true, second_true, first_false, second_false, not_true, not_false, both_true, absurd_bool}
 use Rattle.dump_filter.proofs.groups.GroupLemmas.{plain_other, plain_more, any_more}
 use Rattle.dump_filter.proofs.groups.NumberLemmas.{first_other, kept_group, passed_keeps}
@@ -159,7 +159,7 @@ module _ (number : ℕ) (r : DumpRecord) (lawful : IsTrue (is_lawful number r.he
       (sym (ap (λ b. b && is_none (header_number copy_revision_name r.headers)) has) ∙ copy_number)
 
   not_copied : is_copy r ≡ false → header_number copy_revision_name r.headers ≡ None
-  not_copied is = ap (option_and_then number_of) (no_value copy_revision_name r.headers (pair ∙ is))
+  not_copied is = sym (no_number copy_revision_name r.headers (pair ∙ is))
 
 -- what becomes of a kept node's copy source, or which fault it has
 abbrev pub CopyJudged : Settings → KeptRevisions → ℕ → DumpRecord → Result CopyChange FaultKind → Type 0

@@ -1,10 +1,11 @@
 -- The faults of the mergeinfo of a kept node.
 use Rattle.std.proofs.Common.{◌≡◌, ◌⊎◌, ◌↔◌, ◌||◌, ℕ, Bool, true, false, List, refl, sym, ap, subst, inl, inr, Option, Some, None, Contains, IsFalse, IsTrue, if◌then◌else◌}
+use Rattle.std.proofs.lemmas.Bool.{or_right}
 use Rattle.std.specs.List.{list_any}
 use Rattle.std.proofs.Math.Logic.{∥∥₁_elim}
 use Rattle.dump_text.specs.declared.fault.FaultKind.{FaultKind}
 use Rattle.dump_text.specs.declared.fault.FaultKind.TheVariants as faults
-use Rattle.dump_text.specs.PropertyList.{Property, IsPropertyBlock}
+use Rattle.dump_text.specs.PropertyList.{Property}
 use Rattle.dump_text.proofs.PropertyLemmas.{property_block_once}
 use Rattle.dump_records.specs.RecordText.{DumpRecord}
 use Rattle.dump_rules.specs.Settings.{Settings}
@@ -22,7 +23,7 @@ use Rattle.dump_filter.specs.steps.NewProperties.{IsReadNode}
 use Rattle.dump_digest.specs.ContentFaults.{IsMergeinfoValueOf, HasBadMergeinfo}
 use Rattle.dump_digest.proofs.VerdictChoice.{bad_choice}
 use Rattle.dump_digest.specs.steps.MergeFaults.{misses, is_foreign, merge_fault, HasLines}
-use Rattle.dump_text.proofs.BoolLemmas.{first_true, second_true, both_true, false_true, absurd_bool, either_second}
+use Rattle.dump_text.proofs.BoolLemmas.{first_true, second_true, both_true, false_true, absurd_bool}
 use Rattle.dump_digest.proofs.PropertyBlocks.{property_list_once}
 
 -- some element that passes a test
@@ -131,7 +132,7 @@ lines_told settings r keep fine (qs, list) ps block p within is none =
 
 -- a kept node's properties are asked for
 pub asked_node : (d : Done) → IsReadNode d → IsTrue (is_asked (done_settings d) (record_item (done_record d)))
-asked_node d (kept, ok) = either_second (is_revision (record_item (done_record d)))
+asked_node d (kept, ok) = or_right (is_revision (record_item (done_record d)))
     (is_kept_node (done_settings d) (record_item (done_record d))) kept
 
 -- each value of its mergeinfo is some lines

@@ -1,10 +1,10 @@
 -- One more record of its fate: what then stands, the text that is written, and the counts.
 use Rattle.std.proofs.Common.{◌≡◌, ℕ, ◌+◌, ◌≤◌, Bool, true, false, not, ◌&&◌, ◌||◌, List, [], ◌∷◌, ◌++◌, length, refl, sym, ap, ◌∙◌, subst, length-append, suc, arith, Option, Some, None, Contains, MatchBool, MatchOption, count_by, cond, if◌then◌else◌}
+use Rattle.std.proofs.lemmas.Bool.{or_right}
 use Rattle.std.proofs.lemmas.List.{append-nil}
 use Rattle.dump_text.specs.declared.fault.FaultKind.TheVariants as faults
 use Rattle.dump_text.specs.HeaderBlock.{block_text}
-use Rattle.dump_text.specs.PropertyList.{Property, HasProperties}
-use Rattle.dump_text.proofs.PropertyLemmas.{property_block_once}
+use Rattle.dump_text.specs.PropertyList.{Property}
 use Rattle.dump_digest.proofs.PropertyBlocks.{block_stable}
 use Rattle.dump_records.specs.RecordText.{DumpRecord}
 use Rattle.dump_rules.specs.Settings.{Settings}
@@ -29,7 +29,6 @@ use Rattle.dump_filter.specs.steps.State.PresentGroup.{NoGroup, Pending, Written
 use Rattle.dump_filter.specs.steps.Advance.{stays, pads, next_number, IsOwnRevision, IsOwnNode, IsEndText, IsFrontText, IsPiece, with_kept, front_kept, end_kept, with_kept_revision, with_dropped_revision, front_report, end_report, ended, emptied, started, text_count, next_state}
 use Rattle.dump_filter.specs.steps.Knowledge.{Shape, AreRising, AreKept, Stands}
 use Rattle.dump_filter.specs.steps.Knowledge.Shape.{Fresh, Idle, Passed, Waits}
-use Rattle.dump_text.proofs.BoolLemmas.{either_second}
 use Rattle.dump_filter.proofs.groups.GroupLemmas.{plain_node}
 use Rattle.dump_filter.proofs.groups.KeptLemmas.{front_rising}
 use Rattle.dump_filter.proofs.groups.NumberLemmas.{count_one}
@@ -70,7 +69,7 @@ next_stands settings before s text r (fates.Keep copy) checked piece st readable
     subst (λ (t : List ℕ). Stands settings (before ++ r ∷ []) next (text ++ t)) (sym joined)
     (keep_stands settings r plain text before s copy next.report front own st.shape st keep
     (sym (rw (plain_node r plain) refl) ∙ taken.in_order) (front_dropped s.group s.report) readable
-    (taken.readable (either_second (is_revision r) (is_kept_node settings r) keep)) new source known at_front at_own)
+    (taken.readable (or_right (is_revision r) (is_kept_node settings r) keep)) new source known at_front at_own)
 next_stands settings before s text r fates.Drop checked piece st readable taken none =
     let (plain, drop) = taken.is in
     let next = next_state settings s r fates.Drop checked in
@@ -173,7 +172,7 @@ pub piece_exists : (settings : Settings) (before : List DumpRecord) (s : State) 
 piece_exists settings before s r (fates.Keep copy) up readable taken =
     let keep = taken.is.1 in
     let front = front_exists settings s.revisions.kept s.group readable in
-    let block = taken.readable (either_second (is_revision r) (is_kept_node settings r) keep) in
+    let block = taken.readable (or_right (is_revision r) (is_kept_node settings r) keep) in
     let own = node_exists settings (front_kept s.revisions.kept s.group) r copy (rising s up) block
     (lines_told settings r keep (taken.free faults.MergeInfo) block) in
     (front.0 ++ own.0, (front.0, own.0, refl, front.1, own.1))

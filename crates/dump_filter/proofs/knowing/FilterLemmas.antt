@@ -1,5 +1,6 @@
 -- A filter's step and end, by what it knows of the records that it has accepted.
 use Rattle.std.proofs.Common.{◌≡◌, ◌↔◌, ◌⊎◌, ℕ, ◌+◌, ◌≤◌, Bool, true, false, not, ◌&&◌, List, [], ◌∷◌, ◌++◌, length, refl, sym, ap, ◌∙◌, subst, arith, length-append, filter, inl, inr, Option, Some, None, option_map, IsTrue, Result, Ok, Err}
+use Rattle.std.proofs.lemmas.Bool.{or_right}
 use Rattle.std.proofs.lemmas.List.{length-map}
 use Rattle.std.proofs.lemmas.List.Sums.{count_by-le-length, length-filter}
 use Rattle.dump_text.specs.declared.fault.FaultKind.{FaultKind}
@@ -35,7 +36,7 @@ use Rattle.dump_filter.specs.steps.Advance.{IsEndText, IsPiece, ended, next_stat
 use Rattle.dump_filter.specs.steps.Decision.{decided, AreAsked}
 use Rattle.dump_filter.specs.steps.Knowledge.{Stands, AreUpTo, Knows}
 use Rattle.dump_filter.specs.steps.Knowledge.Shape.{Fresh}
-use Rattle.dump_text.proofs.BoolLemmas.{absurd_bool, either_second, not_so, not_true}
+use Rattle.dump_text.proofs.BoolLemmas.{absurd_bool, not_so, not_true}
 use Rattle.dump_filter.proofs.knowing.StandsNext.{IsReadable, ended_numbers, ended_dropped, ended_text, becomes_ended}
 use Rattle.std.proofs.Math.Logic.{∥∥₁_elim}
 use Rattle.dump_filter.specs.steps.NewProperties.{IsReadNode}
@@ -173,7 +174,7 @@ asked_properties settings r v means = elim (block_or_not r) [
     [],
     λ keep ok. absurd
         (absurd_bool v.props_ok ok
-        (means.props.1 (either_second (is_revision r) (is_kept_node settings r) keep, none))),
+        (means.props.1 (or_right (is_revision r) (is_kept_node settings r) keep, none))),
   )
 ]
 

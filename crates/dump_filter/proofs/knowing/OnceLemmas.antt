@@ -5,7 +5,7 @@ use Rattle.dump_text.specs.Names.{copy_revision_name}
 use Rattle.dump_text.specs.HeaderLine.{Header, with_header_value}
 use Rattle.dump_text.specs.HeaderBlock.{block_text}
 use Rattle.dump_text.specs.PropertyList.{Property}
-use Rattle.dump_text.proofs.PropertyLemmas.{property-eq, property_block_once}
+use Rattle.dump_text.proofs.PropertyLemmas.{property-eq}
 use Rattle.dump_records.specs.HeaderRules.{header_number}
 use Rattle.dump_records.specs.RecordText.{DumpRecord}
 use Rattle.dump_rules.specs.Settings.{Settings}

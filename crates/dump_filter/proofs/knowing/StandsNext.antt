@@ -5,7 +5,6 @@ use Rattle.std.specs.List.{list_all, list_any, last_or}
 use Rattle.std.proofs.lemmas.List.{append-nil}
 use Rattle.std.proofs.lemmas.List.Elements.{All-cons, All-nil}
 use Rattle.dump_text.specs.HeaderBlock.{block_text}
-use Rattle.dump_text.specs.PropertyList.{HasProperties}
 use Rattle.dump_records.specs.RecordText.{DumpRecord}
 use Rattle.dump_rules.specs.Settings.{Settings}
 use Rattle.dump_rules.specs.Renumbering.{KeptRevisions}

@@ -1,10 +1,9 @@
 -- What is written of the properties of a record.
-use Rattle.std.proofs.Common.{◌≡◌, ℕ, ◌<◌, ◌^◌, suc, Bool, true, false, List, [], ◌∷◌, ◌++◌, length, flat_map, refl, sym, ap, ◌∙◌, subst, arith, append_assoc, inl, inr, codes, bytes_eq, Option, Some, None, option_and_then, unwrap_or, is_some, IsTrue}
+use Rattle.std.proofs.Common.{◌≡◌, ℕ, ◌<◌, ◌^◌, suc, Bool, true, false, List, [], ◌∷◌, ◌++◌, length, flat_map, refl, sym, ap, ◌∙◌, subst, arith, append_assoc, inl, inr, codes, bytes_eq, Option, Some, None, unwrap_or, is_some, IsTrue}
 use Rattle.std.specs.List.{list_any}
 use Rattle.std.proofs.lemmas.List.{append-nil}
 use Rattle.std.proofs.lemmas.Grind.{flat_map-append}
 use Rattle.std.proofs.lemmas.Slice.Eq.{bytes_eq-Decides}
-use Rattle.dump_text.specs.Number.{number_of}
 use Rattle.dump_text.specs.Names.{property_length_name}
 use Rattle.dump_text.specs.HeaderLine.{has_header}
 use Rattle.dump_text.specs.steps.PropertyScan.{IsWritten}
@@ -25,7 +24,7 @@ use Rattle.dump_digest.specs.steps.ContentViews.{ArePropertiesOf}
 use Rattle.dump_text.specs.declared.props.Props.{Props}
 use Rattle.dump_text.specs.steps.PropertyViews.{props_bytes}
 use Rattle.dump_text.proofs.BoolLemmas.{false_true, first_false, second_false}
-use Rattle.dump_filter.proofs.written.HeaderLemmas.{no_value}
+use Rattle.dump_records.proofs.HeaderLemmas.{no_number}
 
 -- the rest of a list is written behind what stands already
 abbrev pub IsLeftOf : List ℕ → List ℕ → List ℕ → Type 0
@@ -192,8 +191,7 @@ pub no_block : (settings : Settings) (kept : KeptRevisions) (r : DumpRecord)
     → has_header property_length_name r.headers ≡ false → length r.props ≡ property_length r.headers
     → (ps : List Property) → HasPropertyList r ps → AreNewProperties settings kept ps []
 no_block settings kept r none size ps is =
-    let number : header_number property_length_name r.headers ≡ None = ap (option_and_then number_of)
-    (no_value property_length_name r.headers none) in
+    let number : header_number property_length_name r.headers ≡ None = sym (no_number property_length_name r.headers none) in
     let empty : r.props ≡ [] = no_bytes r.props (size ∙ ap (λ (n : Option ℕ). unwrap_or n 0) number) in
     let same : ps ≡ [] = property_block_once [] ps [] (subst (λ (t : List ℕ). IsPropertyBlock t ps) empty is.0)
     (inl (refl, refl)) in

@@ -2,8 +2,8 @@
 use Rattle.std.proofs.Common.{◌≡◌, ◌⊎◌, ℕ, ◌<◌, zero, suc, Bool, true, false, not, ◌&&◌, ◌||◌, List, [], ◌∷◌, nat_lt, refl, sym, ap, subst, ◌∙◌, inl, inr, arith, Some, None, Option, Contains}
 use Rattle.std.specs.List.{list_any, AllZip}
 use Rattle.std.proofs.lemmas.Bool.Decides.{nat_tests}
-use Rattle.std.proofs.lemmas.Bool.{and_parts}
-use Rattle.dump_text.proofs.BoolLemmas.{either_second, both_true as both, not_true, not_false}
+use Rattle.std.proofs.lemmas.Bool.{and_parts, or_right}
+use Rattle.dump_text.proofs.BoolLemmas.{both_true as both, not_true, not_false}
 use Rattle.dump_rules.specs.Settings.{Settings, keeps_path}
 use Rattle.dump_rules.specs.Renumbering.{KeptRevisions}
 use Rattle.dump_rules.specs.RangeList.{Range, HasNumber}
@@ -51,7 +51,7 @@ pub finds : {X : Type 0} (passes : X → Bool) (xs : List X) (x : X) → Contain
     → list_any passes xs ≡ true
 finds passes [] x (i, within, is) so = absurd (omega arith)
 finds passes (y ∷ xs) x (zero, within, is) so = or_first (passes y) (list_any passes xs) (ap passes is ∙ so)
-finds passes (y ∷ xs) x (suc i, within, is) so = either_second (passes y) (list_any passes xs)
+finds passes (y ∷ xs) x (suc i, within, is) so = or_right (passes y) (list_any passes xs)
     (finds passes xs x (i, omega arith, is) so)
 
 -- sources that are missing
@@ -174,7 +174,7 @@ number_back : (settings : Settings) (first now : ℕ) (ranges : List Range) (kin
     → list_any (range_foreign settings first now) ranges ≡ true
 number_back settings first now [] kind number has foreign = absurd has
 number_back settings first now (r ∷ rest) kind number (inr has) foreign =
-    either_second (range_foreign settings first now r) (list_any (range_foreign settings first now) rest)
+    or_right (range_foreign settings first now r) (list_any (range_foreign settings first now) rest)
     (number_back settings first now rest kind number has foreign)
 number_back settings first now (r ∷ rest) kind number (inl has) (inl over) =
     let high = has.2 in
@@ -184,7 +184,7 @@ number_back settings first now (r ∷ rest) kind number (inl has) (inr under) =
     let low = has.1 in
     let lower = under.1 in
     or_first (range_foreign settings first now r) (list_any (range_foreign settings first now) rest)
-    (either_second (nat_lt now r.to) (not settings.skip_missing && nat_lt r.from first)
+    (or_right (nat_lt now r.to) (not settings.skip_missing && nat_lt r.from first)
     (both (not settings.skip_missing) (nat_lt r.from first) (not_false settings.skip_missing under.0)
     (lt_true r.from first (omega arith))))
 

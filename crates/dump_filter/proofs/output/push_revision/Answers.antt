@@ -1,5 +1,5 @@
 use Rattle.std.proofs.Common.{◌≡◌, List, ap, sym, subst, ◌∙◌, ◌++◌, OnOk}
-use Rattle.dump_text.specs.PropertyList.{Property, IsPropertyBlock}
+use Rattle.dump_text.specs.PropertyList.{Property}
 use Rattle.dump_records.specs.steps.RecordViews.{record_item}
 use Rattle.dump_records.specs.declared.record.Record.{Record}
 use Rattle.dump_digest.specs.steps.ContentViews.{ArePropertiesOf}

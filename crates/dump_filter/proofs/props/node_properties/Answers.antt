@@ -1,5 +1,5 @@
 use Rattle.std.proofs.Common.{◌≡◌, List, false, IfOk, sym, subst, ◌∙◌}
-use Rattle.dump_text.specs.PropertyList.{Property, IsPropertyBlock}
+use Rattle.dump_text.specs.PropertyList.{Property}
 use Rattle.dump_writer.specs.steps.ChunkBytes.{chunk_bytes}
 use Rattle.dump_records.specs.steps.RecordViews.{record_item}
 use Rattle.dump_records.specs.declared.record.Record.{Record}

@@ -3,7 +3,6 @@ use Rattle.dump_text.specs.steps.PropertyViews.{entry_property}
 use Rattle.dump_rules.specs.Rewriting.{IsNewMergeinfo}
 use Rattle.dump_filter.specs.steps.NewProperties.{property_of}
 use Rattle.dump_filter.proofs.written.PropertyOutput.{unchanged, with_new_value}
-use Rattle.dump_digest.specs.RecordParts.{value_of}
 use Rattle.dump_digest.proofs.SaidLemmas.{entry_value}
 use Rattle.dump_filter.proofs.props.push_rewritten.Goals as goal
 
