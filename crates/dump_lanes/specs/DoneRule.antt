@@ -27,8 +27,7 @@ module _ {T : Type 0} where
   abbrev pub dones_part : Part (Note T)
   dones_part = record {
     puts = λ s. put_by (event_of s.event) s.entry;
-    takes = λ s. taken_by
-        (event_of s.event) s.entry;
+    takes = λ s. taken_by (event_of s.event) s.entry;
     share = dones_share;
     allow = dones_allow;
   }

@@ -32,8 +32,7 @@ module _ {T : Type 0} where
   abbrev pub jobs_part : Part (Mark T)
   jobs_part = record {
     puts = λ s. put_by (event_of s.event) s.entry;
-    takes = λ s. taken_by
-        (event_of s.event) s.entry;
+    takes = λ s. taken_by (event_of s.event) s.entry;
     share = jobs_share;
     allow = jobs_allow;
   }

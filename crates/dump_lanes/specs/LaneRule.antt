@@ -25,8 +25,7 @@ module _ {T : Type 0} where
   abbrev pub lane_part : Part T
   lane_part = record {
     puts = λ s. put_by (event_of s.event) s.entry;
-    takes = λ s. taken_by
-        (event_of s.event) s.entry;
+    takes = λ s. taken_by (event_of s.event) s.entry;
     share = lane_share;
     allow = lane_allow;
   }
