@@ -1,5 +1,5 @@
 -- Each move on a pool's queue of credits keeps its rule.
-use Rattle.std.proofs.Common.{◌≡◌, ◌≢◌, ◌≤◌, ℕ, ◌+◌, suc, true, true≢false, List, [], ◌∷◌, ◌++◌, length, set, sym, refl, ap, ◌∙◌, subst, IsTrue, arith}
+use Rattle.std.proofs.Common.{◌≡◌, ◌≢◌, ◌≤◌, ℕ, ◌+◌, suc, true, false, true≢false, ⊎_elim, List, [], ◌∷◌, ◌++◌, length, set, sym, refl, ap, ◌∙◌, subst, IsTrue, arith}
 use Rattle.std.proofs.lemmas.Bool.{lt-ltb, ltb-true}
 use Rattle.std.proofs.lemmas.List.{length-append}
 use mathlib.Core.Option.{some}
@@ -10,10 +10,9 @@ use Rattle.dump_lanes.specs.declared.pool.credits.Purse.{Purse}
 use Rattle.dump_lanes.specs.declared.steps.Move.{Move}
 use Rattle.dump_lanes.specs.declared.steps.Move.TheVariants as move
 use Rattle.dump_lanes.specs.PoolParts.{Thread, credits_share, credits_allow}
-use Rattle.dump_lanes.specs.PartSteps.{event_of, steps_of, two_owners, Knows}
+use Rattle.dump_lanes.specs.PartSteps.{event_of, is_thread, steps_of}
 use Rattle.dump_lanes.specs.CreditRule.{put_by, taken_by, CreditStep, draw_step, back_step, IsStep, AreSteps, drawn_in, back_in, purse, after_first, after_draw, after_back, cutter_purse, writer_purse, joined_purse, spent_purse, Fits, IsCreditQueue, KnowsSteps}
-use Rattle.dump_lanes.proofs.PartMoves.{knows_step, knows_else}
-use Rattle.dump_lanes.proofs.TwoMoves.{all_own, fork_left, fork_right, fork_else, join_both, join_else, join_spent}
+use Rattle.dump_lanes.proofs.PartMoves.{other_thread, one_or_other, forked, forked_stays, forked_to, joined as joined_owner, joined_is, joined_comes, knows_step, knows_else, knows_fork_left, knows_fork_else, knows_fork_new, knows_join_both, knows_join_else, knows_join_spent}
 use Rattle.dump_lanes.proofs.Views.{AllViews, AllViews-set, AllViews-one, AllViews-more, within, set_long}
 
 -- the cutter's step, and the writer's, is the credits' share of its event
@@ -51,6 +50,16 @@ nothing : (first : ℕ) (happened : List CreditStep) (free : ℕ) → AreSteps f
 nothing first [] free h d b = refl
 nothing first (s ∷ before) free h d b = let o = h.1.one_credit in absurd (omega arith)
 
+cutter_not_writer : Thread.Cutter ≢ Thread.Writer
+cutter_not_writer = other_thread Thread.Cutter Thread.Writer refl
+
+-- a pass that has the writer and all others has all
+has_all : (owner : Thread → ℕ) (pass : ℕ) → ((t : Thread) → t ≢ Thread.Writer → owner t ≡ pass)
+    → owner Thread.Writer ≡ pass → (t : Thread) → owner t ≡ pass
+has_all owner pass others writer t =
+    ⊎_elim (λ (y : (t ≡ Thread.Writer) × (is_thread Thread.Writer t ≡ true)). ap owner y.0 ∙ writer)
+    (λ (y : (t ≢ Thread.Writer) × (is_thread Thread.Writer t ≡ false)). others t y.0) (one_or_other Thread.Writer t)
+
 module _ {T : Type 0} where
   length_more : (items : List T) (x : T) → length (items ++ x ∷ []) ≡ length items + 1
   length_more items x = length-append items (x ∷ [])
@@ -58,13 +67,12 @@ module _ {T : Type 0} where
   -- an empty queue
   pub begins : IsCreditQueue {T = T} [] (purse true true 0 0 0 [] ∷ [])
   begins = record {
-    cutter = 0;
-    writer = 0;
+    owner = λ t. 0;
     first = 0;
     happened = [];
     steps = refl;
-    fits = AllViews-one (Fits 0 0 0 []) (purse true true 0 0 0 []) record {
-      draws = λ d. (refl, refl);
+    fits = AllViews-one (Fits (λ t. 0) 0 []) (purse true true 0 0 0 []) record {
+      draws = λ d. (λ t ne. refl, refl);
       gives = λ g. (refl, refl, refl);
       knows = record { own = λ t e. refl; others = λ t ne. refl };
     };
@@ -82,20 +90,19 @@ module _ {T : Type 0} where
       (sym g.2 ∙ none_back) in
       let opened : length items ≡ h.first = subst (λ l. AreSteps h.first l (length items)) none h.steps in
       let long : length (items ++ x ∷ []) ≡ h.first + 1 = let l = length_more items x in omega arith in
-      let one : Fits h.cutter h.writer (h.first + 1) h.happened pass w =
+      let one : Fits h.owner (h.first + 1) h.happened pass w =
       record { draws = λ p. d; gives = λ p. (g.0, ap (λ k. k + 1) g.1, g.2); knows = mine.knows } in
       let others : (j : ℕ) (u : Purse) → j ≢ pass → get_elem? views j ≡ some u
-      → Fits h.cutter h.writer (h.first + 1) h.happened j u =
+      → Fits h.owner (h.first + 1) h.happened j u =
       λ j u other e.
       let f = h.fits j u e in
-      record { draws = f.draws; gives = λ p. absurd (other ((f.gives p).0 ∙ sym g.0)); knows = f.knows } in
+      record { draws = f.draws; gives = λ p. absurd (other (sym (f.gives p).0 ∙ g.0)); knows = f.knows } in
       let after : IsCreditQueue (items ++ x ∷ []) (set views pass w) = record {
-        cutter = h.cutter;
-        writer = h.writer;
+        owner = h.owner;
         first = h.first + 1;
         happened = h.happened;
         steps = subst (λ l. AreSteps (h.first + 1) l (length (items ++ x ∷ []))) (sym none) long;
-        fits = AllViews-set (Fits h.cutter h.writer (h.first + 1) h.happened) views pass w one others;
+        fits = AllViews-set (Fits h.owner (h.first + 1) h.happened) views pass w one others;
       } in (w, after, refl)
 
   -- a credit is drawn
@@ -104,29 +111,27 @@ module _ {T : Type 0} where
       let w : Purse = after_draw v in
       let mine = h.fits pass v at in
       let d = mine.draws may in
-      let owner : Thread → ℕ = two_owners h.cutter h.writer in
       let happened : List CreditStep = draw_step ∷ h.happened in
-      let owns : owner Thread.Cutter ≡ pass = sym d.0 in
-      let one : Fits h.cutter h.writer h.first happened pass w = record {
+      let owns : h.owner Thread.Cutter ≡ pass = d.0 Thread.Cutter cutter_not_writer in
+      let one : Fits h.owner h.first happened pass w = record {
         draws = λ p. (d.0, ap (λ k. k + 1) d.1);
         gives = λ p. let g = mine.gives p in (g.0, g.1, let e = g.2 in omega arith);
-        knows = knows_step owner h.happened pass v.steps draw_step owns mine.knows;
+        knows = knows_step h.owner h.happened pass v.steps draw_step owns mine.knows;
       } in
       let others : (j : ℕ) (u : Purse) → j ≢ pass → get_elem? views j ≡ some u
-      → Fits h.cutter h.writer h.first happened j u =
+      → Fits h.owner h.first happened j u =
       λ j u other e.
       let f = h.fits j u e in record {
-        draws = λ p. absurd (other ((f.draws p).0 ∙ sym d.0));
+        draws = λ p. absurd (other (sym ((f.draws p).0 Thread.Cutter cutter_not_writer) ∙ owns));
         gives = λ p. let g = f.gives p in (g.0, g.1, let e = g.2 in omega arith);
-        knows = knows_else owner h.happened j u.steps draw_step (λ o. other (sym o ∙ owns)) f.knows;
+        knows = knows_else h.owner h.happened j u.steps draw_step (λ o. other (sym o ∙ owns)) f.knows;
       } in
       let after : IsCreditQueue items (set views pass w) = record {
-        cutter = h.cutter;
-        writer = h.writer;
+        owner = h.owner;
         first = h.first;
         happened = happened;
         steps = (length (x ∷ items), draw_is_step (length items), h.steps);
-        fits = AllViews-set (Fits h.cutter h.writer h.first happened) views pass w one others;
+        fits = AllViews-set (Fits h.owner h.first happened) views pass w one others;
       } in (w, after, refl)
 
   -- a credit is given back
@@ -136,25 +141,23 @@ module _ {T : Type 0} where
       let w : Purse = after_back v in
       let mine = h.fits pass v at in
       let g = mine.gives may in
-      let owner : Thread → ℕ = two_owners h.cutter h.writer in
       let happened : List CreditStep = back_step ∷ h.happened in
-      let owns : owner Thread.Writer ≡ pass = sym g.0 in
-      let one : Fits h.cutter h.writer h.first happened pass w = record {
+      let owns : h.owner Thread.Writer ≡ pass = g.0 in
+      let one : Fits h.owner h.first happened pass w = record {
         draws = λ p. let d = mine.draws p in (d.0, let e = d.1 in omega arith);
         gives = λ p. (g.0, g.1, ap (λ k. k + 1) g.2);
-        knows = knows_step owner h.happened pass v.steps back_step owns mine.knows;
+        knows = knows_step h.owner h.happened pass v.steps back_step owns mine.knows;
       } in
       let others : (j : ℕ) (u : Purse) → j ≢ pass → get_elem? views j ≡ some u
-      → Fits h.cutter h.writer h.first happened j u =
+      → Fits h.owner h.first happened j u =
       λ j u other e.
       let f = h.fits j u e in record {
         draws = λ p. let d = f.draws p in (d.0, let e = d.1 in omega arith);
-        gives = λ p. absurd (other ((f.gives p).0 ∙ sym g.0));
-        knows = knows_else owner h.happened j u.steps back_step (λ o. other (sym o ∙ owns)) f.knows;
+        gives = λ p. absurd (other (sym (f.gives p).0 ∙ g.0));
+        knows = knows_else h.owner h.happened j u.steps back_step (λ o. other (sym o ∙ owns)) f.knows;
       } in
       let after : IsCreditQueue (items ++ x ∷ []) (set views pass w) = record {
-        cutter = h.cutter;
-        writer = h.writer;
+        owner = h.owner;
         first = h.first;
         happened = happened;
         steps = (
@@ -163,7 +166,7 @@ module _ {T : Type 0} where
               (back_is_step (length items)),
           h.steps,
         );
-        fits = AllViews-set (Fits h.cutter h.writer h.first happened) views pass w one others;
+        fits = AllViews-set (Fits h.owner h.first happened) views pass w one others;
       } in (w, after, refl)
 
   -- the first pass is cut into the cutter's and the writer's
@@ -181,36 +184,37 @@ module _ {T : Type 0} where
       let cut : List Purse = set views pass left in
       let long = set_long views pass left in
       let here = within views pass v at in
-      let apart : pass ≢ length cut = λ e. absurd (omega arith) in
-      let both : (j : ℕ) (u : Purse) → Knows (two_owners h.cutter h.writer) h.happened j u.steps
-      → Knows (two_owners pass pass) h.happened j u.steps =
-      λ j u k. subst (λ (y : ℕ × ℕ). Knows (two_owners y.0 y.1) h.happened j u.steps) (λ i. (sym d.0 i, sym g.0 i)) k in
-      let Now : ℕ → Purse → Type 0 = Fits pass (length cut) h.first h.happened in
+      let new : ℕ = length cut in
+      let owner : Thread → ℕ = forked h.owner Thread.Writer new in
+      let Now : ℕ → Purse → Type 0 = Fits owner h.first h.happened in
       let one : Now pass left = record {
-        draws = λ p. (refl, d.1);
+        draws = λ p. (λ t ne. forked_stays h.owner Thread.Writer new t ne ∙ d.0 t ne, d.1);
         gives = λ p. absurd (true≢false (sym p));
-        knows = fork_left h.happened pass (length cut) v.steps unwritten (both pass v mine.knows);
+        knows = knows_fork_left h.owner h.happened pass Thread.Writer new v.steps (λ e. absurd (omega arith))
+            (mine.knows.own Thread.Writer g.0 ∙ unwritten) mine.knows;
       } in
       let others : (j : ℕ) (u : Purse) → j ≢ pass → get_elem? views j ≡ some u → Now j u =
       λ j u other e.
       let f = h.fits j u e in
       let there = within views j u e in record {
-        draws = λ p. absurd (other ((f.draws p).0 ∙ sym d.0));
-        gives = λ p. absurd (other ((f.gives p).0 ∙ sym g.0));
-        knows = fork_else h.happened pass (length cut) j u.steps other (λ e. absurd (omega arith)) (both j u f.knows);
+        draws = λ p. absurd (other (sym ((f.draws p).0 Thread.Cutter cutter_not_writer)
+            ∙ d.0 Thread.Cutter cutter_not_writer));
+        gives = λ p. absurd (other (sym (f.gives p).0 ∙ g.0));
+        knows = knows_fork_else h.owner h.happened j Thread.Writer new u.steps (λ e. absurd (omega arith))
+            (λ o. other (sym o ∙ g.0)) f.knows;
       } in
-      let new : Now (length cut) right = record {
+      let last : Now new right = record {
         draws = λ p. absurd (true≢false (sym p));
-        gives = λ p. (refl, g.1, g.2);
-        knows = fork_right h.happened pass (length cut) apart unwritten;
+        gives = λ p. (forked_to h.owner Thread.Writer new Thread.Writer refl, g.1, g.2);
+        knows = knows_fork_new h.owner h.happened Thread.Writer new
+            (λ t e. let o = has_all h.owner pass d.0 g.0 t in absurd (omega arith)) unwritten;
       } in
       record {
-        cutter = pass;
-        writer = length cut;
+        owner = owner;
         first = h.first;
         happened = h.happened;
         steps = h.steps;
-        fits = AllViews-more Now cut right (AllViews-set Now views pass left one others) new;
+        fits = AllViews-more Now cut right (AllViews-set Now views pass left one others) last;
       }
 
   -- the cutter's pass takes in the writer's
@@ -225,33 +229,30 @@ module _ {T : Type 0} where
       let theirs = h.fits other u was in
       let d = mine.draws may_draw in
       let g = theirs.gives may_give in
-      let those : (j : ℕ) (y : Purse) → Knows (two_owners h.cutter h.writer) h.happened j y.steps
-      → Knows (two_owners pass other) h.happened j y.steps =
-      λ j y k. subst (λ (z : ℕ × ℕ). Knows (two_owners z.0 z.1) h.happened j y.steps) (λ i. (sym d.0 i, sym g.0 i)) k in
-      let Now : ℕ → Purse → Type 0 = Fits pass pass h.first h.happened in
+      let owner : Thread → ℕ = joined_owner h.owner pass other two in
+      let Now : ℕ → Purse → Type 0 = Fits owner h.first h.happened in
       let NowElse : ℕ → Purse → Type 0 = λ j y. j ≢ other → Now j y in
       let here : NowElse pass both = λ apart. record {
-        draws = λ p. (refl, d.1);
-        gives = λ p. (refl, g.1, g.2);
-        knows = join_both h.happened pass other two v.steps u.steps (those pass v mine.knows)
-            (those other u theirs.knows);
+        draws = λ p. (λ t ne. joined_is h.owner pass other two t (d.0 t ne), d.1);
+        gives = λ p. (joined_comes h.owner pass other two Thread.Writer g.0, g.1, g.2);
+        knows = knows_join_both h.owner h.happened pass other two v.steps u.steps mine.knows theirs.knows;
       } in
       let others : (j : ℕ) (y : Purse) → j ≢ pass → get_elem? views j ≡ some y → NowElse j y =
       λ j y away e apart.
       let f = h.fits j y e in record {
-        draws = λ p. absurd (away ((f.draws p).0 ∙ sym d.0));
-        gives = λ p. absurd (apart ((f.gives p).0 ∙ sym g.0));
-        knows = join_else h.happened pass other j y.steps away apart (those j y f.knows);
+        draws = λ p. absurd (away (sym ((f.draws p).0 Thread.Cutter cutter_not_writer)
+            ∙ d.0 Thread.Cutter cutter_not_writer));
+        gives = λ p. absurd (apart (sym (f.gives p).0 ∙ g.0));
+        knows = knows_join_else h.owner h.happened pass other two j y.steps away apart f.knows;
       } in
       let now : AllViews NowElse joined = AllViews-set NowElse views pass both here others in
       let none : Now other spent = record {
         draws = λ p. absurd (true≢false (sym p));
         gives = λ p. absurd (true≢false (sym p));
-        knows = join_spent h.happened pass other two;
+        knows = knows_join_spent h.owner h.happened pass other two;
       } in
       record {
-        cutter = pass;
-        writer = pass;
+        owner = owner;
         first = h.first;
         happened = h.happened;
         steps = h.steps;
@@ -265,13 +266,10 @@ module _ {T : Type 0} where
       let mine = h.fits pass v at in
       let d = mine.draws may_draw in
       let g = mine.gives may_give in
-      let all : Knows (two_owners pass pass) h.happened pass v.steps =
-      subst (λ (z : ℕ × ℕ). Knows (two_owners z.0 z.1) h.happened pass v.steps)
-      (λ i. (sym d.0 i, sym g.0 i)) mine.knows in
       let knows : KnowsSteps v (length items) = record {
         happened = h.happened;
         steps = subst (λ n. AreSteps n h.happened (length items)) (sym g.1) h.steps;
-        each = all_own h.happened pass v.steps all;
+        each = λ t. mine.knows.own t (has_all h.owner pass d.0 g.0 t);
         drawn_is = d.1;
         back_is = g.2;
       } in

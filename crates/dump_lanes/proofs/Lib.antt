@@ -12,10 +12,10 @@ pub mod PartMoves
 pub mod PoolMarks
 pub mod PortSteps
 pub mod PortsTogether
+pub mod QueueSteps
 pub mod Settling
 pub mod StepMoves
 pub mod StopSteps
-pub mod TwoMoves
 pub mod Values
 pub mod Views
 pub mod core

@@ -1,5 +1,7 @@
 -- One more step of a history: whose it is, and what it moves.
-use Rattle.std.proofs.Common.{◌≡◌, ◌≢◌, ◌==◌, ◌⊎◌, inl, inr, ℕ, true, false, true≢false, List, [], ◌∷◌, ◌++◌, cond, sym, refl, ap, ◌∙◌, subst, ⊎_elim, append_assoc, eq-eqb, ne_eqb}
+use Rattle.std.proofs.Common.{◌≡◌, ◌≢◌, ◌==◌, ◌⊎◌, inl, inr, ℕ, Bool, true, false, true≢false, List, [], ◌∷◌, ◌++◌, cond, sum_by, sym, refl, ap, ◌∙◌, subst, ⊎_elim, append_assoc, eq-eqb, ne_eqb, arith}
+use Rattle.std.proofs.lemmas.Bool.{eqb-true}
+use Rattle.std.proofs.lemmas.List.Sums.{sum_by-append, sum_by-cons}
 use Rattle.std.proofs.lemmas.List.{append-nil}
 use Rattle.std.proofs.lemmas.List.Elements.{filter-append}
 use mathlib.Core.Logic.{dite}
@@ -8,37 +10,56 @@ use Rattle.dump_lanes.specs.declared.steps.Step.{Step}
 use Rattle.dump_lanes.specs.PoolParts.{Thread, thread_of}
 use Rattle.dump_lanes.specs.PartSteps.{event_of, Part, AreSteps, is_thread, all_put, all_taken, steps_of, Knows}
 
-pub other_thread : (t u : Thread) → t ≢ u → is_thread t u ≡ false
-other_thread Thread.Cutter Thread.Cutter ne = absurd (ne refl)
-other_thread Thread.Cutter (Thread.Worker k) ne = refl
-other_thread Thread.Cutter Thread.Sequencer ne = refl
-other_thread Thread.Cutter Thread.Writer ne = refl
-other_thread (Thread.Worker j) Thread.Cutter ne = refl
-other_thread (Thread.Worker j) (Thread.Worker k) ne = ne_eqb j k (λ e. ne (ap Thread.Worker e))
-other_thread (Thread.Worker j) Thread.Sequencer ne = refl
-other_thread (Thread.Worker j) Thread.Writer ne = refl
-other_thread Thread.Sequencer Thread.Cutter ne = refl
-other_thread Thread.Sequencer (Thread.Worker k) ne = refl
-other_thread Thread.Sequencer Thread.Sequencer ne = absurd (ne refl)
-other_thread Thread.Sequencer Thread.Writer ne = refl
-other_thread Thread.Writer Thread.Cutter ne = refl
-other_thread Thread.Writer (Thread.Worker k) ne = refl
-other_thread Thread.Writer Thread.Sequencer ne = refl
-other_thread Thread.Writer Thread.Writer ne = absurd (ne refl)
+abbrev number_of : Thread → ℕ
+number_of (Thread.Worker k) = k
+number_of other = 0
 
-pub not_worker : (k : ℕ) (t : Thread) → is_thread (Thread.Worker k) t ≡ false → t ≢ Thread.Worker k
-not_worker k t other e = true≢false (sym (ap (is_thread (Thread.Worker k)) e ∙ eq-eqb k k refl) ∙ other)
+-- workers that are the same have the same number
+pub worker_number : {j k : ℕ} → Thread.Worker j ≡ Thread.Worker k → j ≡ k
+worker_number e = ap number_of e
 
--- a thread is this worker, or another
-pub worker_or_other : (k : ℕ) (t : Thread)
-    → ((t ≡ Thread.Worker k) × (is_thread (Thread.Worker k) t ≡ true))
-    ⊎ ((t ≢ Thread.Worker k) × (is_thread (Thread.Worker k) t ≡ false))
-worker_or_other k Thread.Cutter = inr (not_worker k Thread.Cutter refl, refl)
-worker_or_other k (Thread.Worker j) =
-    dite (ℕ_discrete k j) (λ e. inl (ap Thread.Worker (sym e), eq-eqb k j e))
-    (λ ne. inr (not_worker k (Thread.Worker j) (ne_eqb k j ne), ne_eqb k j ne))
-worker_or_other k Thread.Sequencer = inr (not_worker k Thread.Sequencer refl, refl)
-worker_or_other k Thread.Writer = inr (not_worker k Thread.Writer refl, refl)
+-- a thread is the same as itself
+pub is_same_thread : (t : Thread) → is_thread t t ≡ true
+is_same_thread Thread.Cutter = refl
+is_same_thread (Thread.Worker k) = eq-eqb k k refl
+is_same_thread Thread.Sequencer = refl
+is_same_thread Thread.Writer = refl
+
+-- threads that aren't the same differ
+pub other_thread : (t u : Thread) → is_thread t u ≡ false → t ≢ u
+other_thread t u differs e = true≢false (sym (is_same_thread t) ∙ (ap (is_thread t) e ∙ differs))
+
+one_thread : (t u : Thread) → is_thread t u ≡ true → u ≡ t
+one_thread Thread.Cutter Thread.Cutter e = refl
+one_thread Thread.Cutter (Thread.Worker k) e = absurd (true≢false (sym e))
+one_thread Thread.Cutter Thread.Sequencer e = absurd (true≢false (sym e))
+one_thread Thread.Cutter Thread.Writer e = absurd (true≢false (sym e))
+one_thread (Thread.Worker j) Thread.Cutter e = absurd (true≢false (sym e))
+one_thread (Thread.Worker j) (Thread.Worker k) e = ap Thread.Worker (sym (eqb-true j k e))
+one_thread (Thread.Worker j) Thread.Sequencer e = absurd (true≢false (sym e))
+one_thread (Thread.Worker j) Thread.Writer e = absurd (true≢false (sym e))
+one_thread Thread.Sequencer Thread.Cutter e = absurd (true≢false (sym e))
+one_thread Thread.Sequencer (Thread.Worker k) e = absurd (true≢false (sym e))
+one_thread Thread.Sequencer Thread.Sequencer e = refl
+one_thread Thread.Sequencer Thread.Writer e = absurd (true≢false (sym e))
+one_thread Thread.Writer Thread.Cutter e = absurd (true≢false (sym e))
+one_thread Thread.Writer (Thread.Worker k) e = absurd (true≢false (sym e))
+one_thread Thread.Writer Thread.Sequencer e = absurd (true≢false (sym e))
+one_thread Thread.Writer Thread.Writer e = refl
+
+one_or_not : (t u : Thread) (same : Bool) → is_thread t u ≡ same
+    → ((u ≡ t) × (is_thread t u ≡ true)) ⊎ ((u ≢ t) × (is_thread t u ≡ false))
+one_or_not t u true e = inl (one_thread t u e, e)
+one_or_not t u false e = inr (λ k. other_thread t u e (sym k), e)
+
+-- a thread is this one, or another
+pub one_or_other : (t u : Thread) → ((u ≡ t) × (is_thread t u ≡ true)) ⊎ ((u ≢ t) × (is_thread t u ≡ false))
+one_or_other t u = one_or_not t u (is_thread t u) refl
+
+-- other threads aren't this one
+pub not_thread : (t u : Thread) → t ≢ u → is_thread t u ≡ false
+not_thread t u ne = ⊎_elim (λ (y : (u ≡ t) × (is_thread t u ≡ true)). absurd (ne (sym y.0)))
+    (λ (y : (u ≢ t) × (is_thread t u ≡ false)). y.1) (one_or_other t u)
 
 module _ {E : Type 0} where
   -- a step joins what is known of its thread, and what happened
@@ -50,7 +71,54 @@ module _ {E : Type 0} where
   pub step_other : (t : Thread) (s : Step E) (steps : List (Step E)) → t ≢ thread_of (event_of s.event)
       → steps_of t (s ∷ steps) ≡ steps_of t steps
   step_other t s steps ne = ap (λ b. cond b (s ∷ steps_of t steps) (steps_of t steps))
-      (other_thread t (thread_of (event_of s.event)) ne)
+      (not_thread t (thread_of (event_of s.event)) ne)
+
+  -- where one thread alone puts, what joined is what joined in its steps
+  pub put_alone : (part : Part E) (t : Thread)
+      → ((s : Step E) → is_thread t (thread_of (event_of s.event)) ≡ false → part.puts s ≡ [])
+      → (steps : List (Step E)) → all_put part steps ≡ all_put part (steps_of t steps)
+  put_alone part t none [] = refl
+  put_alone part t none (s ∷ before) =
+      let all : List E = all_put part before in
+      let own : List (Step E) = steps_of t before in
+      let rest : all ≡ all_put part own = put_alone part t none before in
+      ⊎_elim (λ (y : (thread_of (event_of s.event) ≡ t) × (is_thread t (thread_of (event_of s.event)) ≡ true)).
+      ap (λ l. l ++ part.puts s) rest ∙ ap (λ b. all_put part (cond b (s ∷ own) own)) (sym y.1))
+      (λ (y : (thread_of (event_of s.event) ≢ t) × (is_thread t (thread_of (event_of s.event)) ≡ false)).
+      ap (λ l. all ++ l) (none s y.1) ∙ (append-nil all ∙ (rest ∙ ap (λ b. all_put part (cond b (s ∷ own) own))
+      (sym y.1)))) (one_or_other t (thread_of (event_of s.event)))
+
+  -- and where one alone takes, what left likewise
+  pub taken_alone : (part : Part E) (t : Thread)
+      → ((s : Step E) → is_thread t (thread_of (event_of s.event)) ≡ false → part.takes s ≡ [])
+      → (steps : List (Step E)) → all_taken part steps ≡ all_taken part (steps_of t steps)
+  taken_alone part t none [] = refl
+  taken_alone part t none (s ∷ before) =
+      let all : List E = all_taken part before in
+      let own : List (Step E) = steps_of t before in
+      let rest : all ≡ all_taken part own = taken_alone part t none before in
+      ⊎_elim (λ (y : (thread_of (event_of s.event) ≡ t) × (is_thread t (thread_of (event_of s.event)) ≡ true)).
+      ap (λ l. l ++ part.takes s) rest ∙ ap (λ b. all_taken part (cond b (s ∷ own) own)) (sym y.1))
+      (λ (y : (thread_of (event_of s.event) ≢ t) × (is_thread t (thread_of (event_of s.event)) ≡ false)).
+      ap (λ l. all ++ l) (none s y.1) ∙ (append-nil all ∙ (rest ∙ ap (λ b. all_taken part (cond b (s ∷ own) own))
+      (sym y.1)))) (one_or_other t (thread_of (event_of s.event)))
+
+  -- what joined weighs what its steps weigh, and what left likewise
+  pub put_weight : (part : Part E) (weight : E → ℕ) (steps : List (Step E))
+      → sum_by weight (all_put part steps) ≡ sum_by (λ s. sum_by weight (part.puts s)) steps
+  put_weight part weight [] = refl
+  put_weight part weight (s ∷ before) =
+      let a = sum_by-append weight (all_put part before) (part.puts s) in
+      let b = sum_by-cons (λ s. sum_by weight (part.puts s)) s before in
+      let t = put_weight part weight before in omega arith
+
+  pub taken_weight : (part : Part E) (weight : E → ℕ) (steps : List (Step E))
+      → sum_by weight (all_taken part steps) ≡ sum_by (λ s. sum_by weight (part.takes s)) steps
+  taken_weight part weight [] = refl
+  taken_weight part weight (s ∷ before) =
+      let a = sum_by-append weight (all_taken part before) (part.takes s) in
+      let b = sum_by-cons (λ s. sum_by weight (part.takes s)) s before in
+      let t = taken_weight part weight before in omega arith
 
   -- what left in all steps is what left in the earlier ones, and then what left in the later ones
   pub all_taken-append : (part : Part E) (xs ys : List (Step E))
@@ -59,6 +127,14 @@ module _ {E : Type 0} where
   all_taken-append part (s ∷ xs) ys =
       ap (λ l. l ++ part.takes s) (all_taken-append part xs ys) ∙ append_assoc (all_taken part ys) (all_taken part xs)
       (part.takes s)
+
+  -- and what joined likewise
+  pub all_put-append : (part : Part E) (xs ys : List (Step E))
+      → all_put part (xs ++ ys) ≡ all_put part ys ++ all_put part xs
+  all_put-append part [] ys = sym (append-nil (all_put part ys))
+  all_put-append part (s ∷ xs) ys =
+      ap (λ l. l ++ part.puts s) (all_put-append part xs ys) ∙ append_assoc (all_put part ys) (all_put part xs)
+      (part.puts s)
 
   -- a part holds what was put less what was taken, in order
   pub in_order : (part : Part E) (happened : List (Step E)) (items : List E) → AreSteps part happened items
@@ -71,35 +147,28 @@ module _ {E : Type 0} where
       ∙ (append_assoc gone h.0 (part.puts s) ∙ (ap (λ l. gone ++ l) h.1.in_turn
       ∙ sym (append_assoc gone (part.takes s) items)))
 
--- a worker's steps go to a new pass
-module _ (owner : Thread → ℕ) (k new : ℕ) where
-  -- the pass that each thread's steps belong to, once the worker's have gone to the new pass
+-- a thread's steps go to a new pass
+module _ (owner : Thread → ℕ) (next : Thread) (new : ℕ) where
+  -- the pass that each thread's steps belong to, once this one's have gone to the new pass
   abbrev pub forked : Thread → ℕ
-  forked t = cond (is_thread (Thread.Worker k) t) new (owner t)
+  forked t = cond (is_thread next t) new (owner t)
 
-  -- the worker's steps belong to the new pass
-  pub forked_goes : forked (Thread.Worker k) ≡ new
-  forked_goes = ap (λ b. cond b new (owner (Thread.Worker k))) (eq-eqb k k refl)
+  -- a thread that is this one has the new pass
+  pub forked_to : (t : Thread) → t ≡ next → forked t ≡ new
+  forked_to t e = ap forked e ∙ ap (λ b. cond b new (owner next)) (is_same_thread next)
 
-  -- a thread that is the worker has the new pass
-  pub forked_to : (t : Thread) → t ≡ Thread.Worker k → forked t ≡ new
-  forked_to t e = ap forked e ∙ forked_goes
-
-  -- a thread that isn't the worker keeps its pass
-  pub forked_stays : (t : Thread) → t ≢ Thread.Worker k → forked t ≡ owner t
-  forked_stays t ne = ⊎_elim (λ (y : (t ≡ Thread.Worker k) × (is_thread (Thread.Worker k) t ≡ true)). absurd (ne y.0))
-      (λ (y : (t ≢ Thread.Worker k) × (is_thread (Thread.Worker k) t ≡ false)). ap (λ b. cond b new (owner t)) y.1)
-      (worker_or_other k t)
+  -- a thread that isn't this one keeps its pass
+  pub forked_stays : (t : Thread) → t ≢ next → forked t ≡ owner t
+  forked_stays t ne = ap (λ b. cond b new (owner t)) (not_thread next t (λ e. ne (sym e)))
 
   -- a thread that now has another pass than the new one had that pass before
   pub forked_had : (t : Thread) (j : ℕ) → j ≢ new → forked t ≡ j → owner t ≡ j
-  forked_had t j ne e = ⊎_elim (λ (y : (t ≡ Thread.Worker k) × (is_thread (Thread.Worker k) t ≡ true)). absurd
+  forked_had t j ne e = ⊎_elim (λ (y : (t ≡ next) × (is_thread next t ≡ true)). absurd
       (ne (sym e ∙ forked_to t y.0)))
-      (λ (y : (t ≢ Thread.Worker k) × (is_thread (Thread.Worker k) t ≡ false)). sym (forked_stays t y.0) ∙ e)
-      (worker_or_other k t)
+      (λ (y : (t ≢ next) × (is_thread next t ≡ false)). sym (forked_stays t y.0) ∙ e) (one_or_other next t)
 
-  -- a thread of a pass that the worker didn't belong to still has that pass
-  pub forked_kept : (t : Thread) (j : ℕ) → owner (Thread.Worker k) ≢ j → owner t ≡ j → forked t ≡ j
+  -- a thread of a pass that this one didn't belong to still has that pass
+  pub forked_kept : (t : Thread) (j : ℕ) → owner next ≢ j → owner t ≡ j → forked t ≡ j
   forked_kept t j ne e = forked_stays t (λ w. ne (sym (ap owner w) ∙ e)) ∙ e
 
 -- all steps that a pass knows go to another
@@ -153,33 +222,34 @@ module _ {E : Type 0} (owner : Thread → ℕ) (happened : List (Step E)) where
         others = h.others;
       }
 
-  -- a pass that knows no step of the worker knows its threads' steps after the worker went to a new pass
-  pub knows_fork_left : (pass k new : ℕ) (steps : List (Step E)) → pass ≢ new → steps_of (Thread.Worker k) steps ≡ []
-      → Knows owner happened pass steps → Knows (forked owner k new) happened pass steps
-  knows_fork_left pass k new steps apart none h = record {
-    own = λ t e. h.own t (forked_had owner k new t pass apart e);
-    others = λ t ne. ⊎_elim (λ (y : (t ≡ Thread.Worker k) × (is_thread (Thread.Worker k) t ≡ true)). subst
+  -- a pass that knows no step of a thread knows its threads' steps after that one went to a new pass
+  pub knows_fork_left : (pass : ℕ) (next : Thread) (new : ℕ) (steps : List (Step E)) → pass ≢ new
+      → steps_of next steps ≡ []
+      → Knows owner happened pass steps → Knows (forked owner next new) happened pass steps
+  knows_fork_left pass next new steps apart none h = record {
+    own = λ t e. h.own t (forked_had owner next new t pass apart e);
+    others = λ t ne. ⊎_elim (λ (y : (t ≡ next) × (is_thread next t ≡ true)). subst
         (λ (w : Thread). steps_of w steps ≡ []) (sym y.0) none)
-        (λ (y : (t ≢ Thread.Worker k) × (is_thread (Thread.Worker k) t ≡ false)). h.others t
-        (λ e. ne (forked_stays owner k new t y.0 ∙ e))) (worker_or_other k t);
+        (λ (y : (t ≢ next) × (is_thread next t ≡ false)). h.others t (λ e. ne (forked_stays owner next new t y.0 ∙ e)))
+        (one_or_other next t);
   }
 
-  -- a pass that the worker didn't have knows its threads' steps after the worker went to a new pass
-  pub knows_fork_else : (j k new : ℕ) (steps : List (Step E)) → j ≢ new → owner (Thread.Worker k) ≢ j
-      → Knows owner happened j steps → Knows (forked owner k new) happened j steps
-  knows_fork_else j k new steps apart other h = record {
-    own = λ t e. h.own t (forked_had owner k new t j apart e);
-    others = λ t ne. h.others t (λ e. ne (forked_kept owner k new t j other e));
+  -- a pass that didn't have the thread knows its threads' steps after that one went to a new pass
+  pub knows_fork_else : (j : ℕ) (next : Thread) (new : ℕ) (steps : List (Step E)) → j ≢ new → owner next ≢ j
+      → Knows owner happened j steps → Knows (forked owner next new) happened j steps
+  knows_fork_else j next new steps apart other h = record {
+    own = λ t e. h.own t (forked_had owner next new t j apart e);
+    others = λ t ne. h.others t (λ e. ne (forked_kept owner next new t j other e));
   }
 
-  -- the new pass knows all steps of its worker, where the worker has made none
-  pub knows_fork_new : (k new : ℕ) → ((t : Thread) → owner t ≢ new) → steps_of (Thread.Worker k) happened ≡ []
-      → Knows (forked owner k new) happened new []
-  knows_fork_new k new fresh none = record {
-    own = λ t e. ⊎_elim (λ (y : (t ≡ Thread.Worker k) × (is_thread (Thread.Worker k) t ≡ true)). subst
+  -- the new pass knows all steps of its thread, where that has made none
+  pub knows_fork_new : (next : Thread) (new : ℕ) → ((t : Thread) → owner t ≢ new) → steps_of next happened ≡ []
+      → Knows (forked owner next new) happened new []
+  knows_fork_new next new fresh none = record {
+    own = λ t e. ⊎_elim (λ (y : (t ≡ next) × (is_thread next t ≡ true)). subst
         (λ (w : Thread). [] ≡ steps_of w happened) (sym y.0) (sym none))
-        (λ (y : (t ≢ Thread.Worker k) × (is_thread (Thread.Worker k) t ≡ false)). absurd
-        (fresh t (sym (forked_stays owner k new t y.0) ∙ e))) (worker_or_other k t);
+        (λ (y : (t ≢ next) × (is_thread next t ≡ false)). absurd
+        (fresh t (sym (forked_stays owner next new t y.0) ∙ e))) (one_or_other next t);
     others = λ t ne. refl;
   }
 

@@ -1,24 +1,28 @@
 -- What a call leaves a port with.
-use Rattle.std.proofs.Common.{◌≡◌, ◌+◌, ◌<◌, ◌==◌, ℕ, Bool, true, false, List, [], ◌∷◌, ◌++◌, map, replicate, sym, refl, ap, ◌∙◌, subst, Option, Some, None, IfSome, IfNone, option_to_list, eq-eqb, ne_eqb, arith}
+use Rattle.std.proofs.Common.{◌≡◌, ◌≢◌, ◌+◌, ◌<◌, ◌==◌, ℕ, Bool, true, false, true≢false, cond, List, [], ◌∷◌, ◌++◌, map, replicate, sym, ap, ◌∙◌, subst, Option, Some, None, IfSome, IfNone, option_to_list, eq-eqb, ne_eqb, arith}
 use Rattle.std.proofs.lemmas.List.{append-nil}
-use Rattle.dump_lanes.specs.declared.pool.dones.Desk.{Desk}
 use Rattle.dump_lanes.specs.declared.pool.dones.Note.{Note}
-use Rattle.dump_lanes.specs.declared.pool.jobs.Hand.{Hand}
 use Rattle.dump_lanes.specs.declared.protocol.Mark.{Mark}
 use Rattle.dump_lanes.specs.declared.protocol.Mark.TheVariants.{Item, End}
-use Rattle.dump_lanes.specs.DoneRule.{after_give, after_arrive}
-use Rattle.dump_lanes.specs.JobRule.{after_put, after_ends, after_take}
+use Rattle.dump_lanes.specs.declared.steps.Step.{Step}
+use Rattle.dump_lanes.specs.declared.passes.View.{View}
+use Rattle.dump_lanes.specs.DoneRule.{give_step, arrive_step}
+use Rattle.dump_lanes.specs.JobRule.{put_step, after_ends, after_job}
+use Rattle.dump_lanes.specs.QueueRule.{after_put, after_take}
 use Rattle.dump_lanes.specs.LaneMarks.{items_of, AreItemsThen, mark_if}
-use Rattle.dump_lanes.specs.steps.PoolPasses.{count_ends, marks_in, IsCutting, IsWorking, IsGiving, IsSequencing, HasRead}
+use Rattle.dump_lanes.specs.steps.PoolPasses.{count_ends, marks_in, EndsLast, IsCutting, IsWorking, IsGiving, IsSequencing, HasRead}
+use Rattle.dump_lanes.specs.PoolParts.{Thread}
+use Rattle.dump_lanes.specs.PartSteps.{steps_of}
 use Rattle.dump_lanes.specs.PortSides.{PoolName, CutterSide, WorkerSide, SequencerSide}
 use Rattle.dump_lanes.specs.steps.PortViews.{DoneStep}
 use Rattle.dump_lanes.proofs.MarkLists.{items_of-then_item, items_of-then_end, then_item, then_end}
+use Rattle.dump_lanes.proofs.PartMoves.{step_other, worker_number}
 use Rattle.dump_lanes.proofs.PoolMarks.{count_ends-append, count_ends-replicate, items_of-then_ends, marks_in-then}
 
 module _ {T : Type 0} where
   -- the cutter put a job
-  pub cut_item : (workers : ℕ) (v w : Hand T) (x : T) → IsCutting workers v → count_ends v.put ≡ 0
-      → w ≡ after_put v (Item x) → IsCutting workers w
+  pub cut_item : (workers : ℕ) (v w : View (Mark T)) (x : T) → IsCutting workers v → count_ends v.put ≡ 0
+      → w ≡ after_put v (put_step (Item x)) → IsCutting workers w
   cut_item workers v w x h none e =
       let put : List (Mark T) = v.put ++ Item x ∷ [] in
       let still : count_ends put ≡ 0 = let a = count_ends-append v.put (Item x ∷ []) in omega arith in
@@ -26,19 +30,19 @@ module _ {T : Type 0} where
       let after : AreItemsThen (replicate (count_ends put) End) put =
       subst (λ n. AreItemsThen (replicate n End) put) (sym still) (then_item v.put x before) in
       subst (IsCutting workers)
-      (sym e) record { may_put = h.may_put; takes_none = h.takes_none; parts = h.parts; nothing_taken = h.nothing_taken; marks = after }
+      (sym e) record { leads = h.leads; parts = h.parts; nothing_taken = h.nothing_taken; marks = after }
 
   -- where the cutter put an item, that item follows those that it had put
-  pub cut_item_put : (v w : Hand T) (x : T) → w ≡ after_put v (Item x) → items_of w.put ≡ items_of v.put ++ x ∷ []
-  cut_item_put v w x e = ap (λ (k : Hand T). items_of k.put) e ∙ items_of-then_item v.put x
+  pub cut_item_put : (v w : View (Mark T)) (x : T) → w ≡ after_put v (put_step (Item x)) → items_of w.put ≡ items_of v.put ++ x ∷ []
+  cut_item_put v w x e = ap (λ (k : View (Mark T)). items_of k.put) e ∙ items_of-then_item v.put x
 
   -- where the cutter put an item, it has put as many end marks as before
-  pub cut_item_marks : (v w : Hand T) (x : T) → w ≡ after_put v (Item x) → count_ends w.put ≡ count_ends v.put
+  pub cut_item_marks : (v w : View (Mark T)) (x : T) → w ≡ after_put v (put_step (Item x)) → count_ends w.put ≡ count_ends v.put
   cut_item_marks v w x e =
-      ap (λ (k : Hand T). count_ends k.put) e ∙ (let a = count_ends-append v.put (Item x ∷ []) in omega arith)
+      ap (λ (k : View (Mark T)). count_ends k.put) e ∙ (let a = count_ends-append v.put (Item x ∷ []) in omega arith)
 
   -- the cutter put its end marks
-  pub cut_ends : (workers n : ℕ) (v w : Hand T) → IsCutting workers v → count_ends v.put ≡ 0
+  pub cut_ends : (workers n : ℕ) (v w : View (Mark T)) → IsCutting workers v → count_ends v.put ≡ 0
       → w ≡ after_ends v n → IsCutting workers w
   cut_ends workers n v w h none e =
       let put : List (Mark T) = v.put ++ replicate n End in
@@ -52,16 +56,16 @@ module _ {T : Type 0} where
       let after : AreItemsThen (replicate (count_ends put) End) put = subst (λ k. AreItemsThen (replicate k End) put)
       (sym now) all in
       subst (IsCutting workers)
-      (sym e) record { may_put = h.may_put; takes_none = h.takes_none; parts = h.parts; nothing_taken = h.nothing_taken; marks = after }
+      (sym e) record { leads = h.leads; parts = h.parts; nothing_taken = h.nothing_taken; marks = after }
 
   -- where the cutter put its end marks, it has put the same items as before
-  pub cut_ends_put : (n : ℕ) (v w : Hand T) → w ≡ after_ends v n → items_of w.put ≡ items_of v.put
-  cut_ends_put n v w e = ap (λ (k : Hand T). items_of k.put) e ∙ items_of-then_ends v.put n
+  pub cut_ends_put : (n : ℕ) (v w : View (Mark T)) → w ≡ after_ends v n → items_of w.put ≡ items_of v.put
+  cut_ends_put n v w e = ap (λ (k : View (Mark T)). items_of k.put) e ∙ items_of-then_ends v.put n
 
   -- a cutter that had put no end mark and puts so many has put so many
-  pub cut_ends_marks : (n : ℕ) (v w : Hand T) → count_ends v.put ≡ 0 → w ≡ after_ends v n → count_ends w.put ≡ n
+  pub cut_ends_marks : (n : ℕ) (v w : View (Mark T)) → count_ends v.put ≡ 0 → w ≡ after_ends v n → count_ends w.put ≡ n
   cut_ends_marks n v w none e =
-      ap (λ (k : Hand T). count_ends k.put) e
+      ap (λ (k : View (Mark T)). count_ends k.put) e
       ∙ (let a = count_ends-append v.put (replicate n End) in let b : count_ends {T = T}
       (replicate n End) ≡ n = count_ends-replicate T n in omega arith)
 
@@ -72,148 +76,169 @@ module _ {T : Type 0} where
   cutter_is pool workers drawn e m i = record { pool = pool; workers = workers; put = e i; marks = m i; drawn = drawn }
 
   -- a worker took a job
-  pub work_item : (worker : ℕ) (ended : Bool) (v w : Hand T) (x : T) → ended ≡ false → IsWorking worker ended v
-      → w ≡ after_take v (Item x) → IsWorking worker ended w
+  pub work_item : (worker : ℕ) (ended : Bool) (v w : View (Mark T)) (x : T) → ended ≡ false → IsWorking worker ended v
+      → w ≡ after_job v (Item x) → IsWorking worker ended w
   work_item worker ended v w x unended h e =
       let before : AreItemsThen [] v.taken = subst (λ b. AreItemsThen (mark_if b) v.taken) unended h.marks in
-      let after : IsWorking worker false (after_take v
-      (Item x)) = record { may_take = h.may_take; puts_none = h.puts_none; from = h.from; parts = h.parts; marks = then_item v.taken x before } in
+      let after : IsWorking worker false (after_job v
+      (Item x)) = record { follows = h.follows; from = h.from; parts = h.parts; nothing_put = h.nothing_put; marks = then_item v.taken x before } in
       subst (λ b. IsWorking worker b w) (sym unended) (subst (IsWorking worker false) (sym e) after)
 
   -- where a worker took a job, that job follows those that it had taken
-  pub work_item_taken : (v w : Hand T) (x : T) → w ≡ after_take v (Item x)
+  pub work_item_taken : (v w : View (Mark T)) (x : T) → w ≡ after_job v (Item x)
       → items_of w.taken ≡ items_of v.taken ++ x ∷ []
-  work_item_taken v w x e = ap (λ (k : Hand T). items_of k.taken) e ∙ items_of-then_item v.taken x
+  work_item_taken v w x e = ap (λ (k : View (Mark T)). items_of k.taken) e ∙ items_of-then_item v.taken x
 
   -- a worker took its end mark
-  pub work_end : (worker : ℕ) (ended : Bool) (v w : Hand T) → ended ≡ false → IsWorking worker ended v
-      → w ≡ after_take v End → IsWorking worker true w
+  pub work_end : (worker : ℕ) (ended : Bool) (v w : View (Mark T)) → ended ≡ false → IsWorking worker ended v
+      → w ≡ after_job v End → IsWorking worker true w
   work_end worker ended v w unended h e =
       let before : AreItemsThen [] v.taken = subst (λ b. AreItemsThen (mark_if b) v.taken) unended h.marks in
       let after : IsWorking worker true
-      (after_take v End) = record { may_take = h.may_take; puts_none = h.puts_none; from = h.from; parts = h.parts; marks = then_end v.taken before } in
+      (after_job v End) = record { follows = h.follows; from = h.from; parts = h.parts; nothing_put = h.nothing_put; marks = then_end v.taken before } in
       subst (IsWorking worker true) (sym e) after
 
   -- where a worker took an end mark, it has taken the same jobs as before
-  pub work_end_taken : (v w : Hand T) → w ≡ after_take v End → items_of w.taken ≡ items_of v.taken
-  work_end_taken v w e = ap (λ (k : Hand T). items_of k.taken) e ∙ items_of-then_end v.taken
+  pub work_end_taken : (v w : View (Mark T)) → w ≡ after_job v End → items_of w.taken ≡ items_of v.taken
+  work_end_taken v w e = ap (λ (k : View (Mark T)). items_of k.taken) e ∙ items_of-then_end v.taken
+
+  gives_own : (worker : ℕ) (n : Note T) (steps : List (Step (Note T))) → n.from ≡ worker
+      → ((other : ℕ) → other ≢ worker → steps_of (Thread.Worker other) steps ≡ [])
+      → (other : ℕ) → other ≢ worker → steps_of (Thread.Worker other) (give_step n ∷ steps) ≡ []
+  gives_own worker n steps mine own other ne = step_other (Thread.Worker other) (give_step n) steps
+      (λ e. ne (worker_number e ∙ mine)) ∙ own other ne
 
   -- a worker gave an item
-  pub give_item : (worker : ℕ) (closed : Bool) (v w : Desk T) (n : Note T) (x : T) → n.mark ≡ Item x → closed ≡ false
-      → IsGiving worker closed v
-      → w ≡ after_give v n → IsGiving worker closed w
-  give_item worker closed v w n x is unended h e =
+  pub give_item : (worker : ℕ) (closed : Bool) (v w : View (Note T)) (n : Note T) (x : T) → n.from ≡ worker
+      → n.mark ≡ Item x → closed ≡ false → IsGiving worker closed v
+      → w ≡ after_put v (give_step n) → IsGiving worker closed w
+  give_item worker closed v w n x mine is unended h e =
       let before : AreItemsThen [] (marks_in v.put) = subst
       (λ b. AreItemsThen (mark_if b) (marks_in v.put)) unended h.marks in
       let joined : marks_in (v.put ++ n ∷ []) ≡ marks_in v.put ++ Item x ∷ [] = marks_in-then v.put n
       ∙ ap (λ m. marks_in v.put ++ m ∷ []) is in
       let all : AreItemsThen [] (marks_in (v.put ++ n ∷ [])) = subst (AreItemsThen []) (sym joined)
       (then_item (marks_in v.put) x before) in
-      let after : IsGiving worker false
-      (after_give v n) = record { may_put = refl; from = h.from; parts = h.parts; marks = all } in
+      let after : IsGiving worker false (after_put v (give_step n)) = record {
+        follows = h.follows;
+        from = h.from;
+        parts = h.parts;
+        nothing_taken = h.nothing_taken;
+        marks = all;
+        own = gives_own worker n v.steps mine h.own;
+        last = λ no. absurd (true≢false (sym no));
+      } in
       subst (λ b. IsGiving worker b w) (sym unended) (subst (IsGiving worker false) (sym e) after)
 
   -- where a worker gave an item, that item follows those that it had given
-  pub give_item_given : (v w : Desk T) (n : Note T) (x : T) → n.mark ≡ Item x
-      → w ≡ after_give v n → items_of (marks_in w.put) ≡ items_of (marks_in v.put) ++ x ∷ []
+  pub give_item_given : (v w : View (Note T)) (n : Note T) (x : T) → n.mark ≡ Item x
+      → w ≡ after_put v (give_step n) → items_of (marks_in w.put) ≡ items_of (marks_in v.put) ++ x ∷ []
   give_item_given v w n x is e =
-      ap (λ (k : Desk T). items_of (marks_in k.put)) e
+      ap (λ (k : View (Note T)). items_of (marks_in k.put)) e
       ∙ (ap items_of (marks_in-then v.put n ∙ ap (λ m. marks_in v.put ++ m ∷ []) is)
       ∙ items_of-then_item (marks_in v.put) x)
 
   -- a worker put its end mark
-  pub give_end : (worker : ℕ) (closed : Bool) (v w : Desk T) (n : Note T) → n.mark ≡ End → closed ≡ false
-      → IsGiving worker closed v
-      → w ≡ after_give v n → IsGiving worker true w
-  give_end worker closed v w n is unended h e =
+  pub give_end : (worker : ℕ) (closed : Bool) (v w : View (Note T)) (n : Note T) → n.from ≡ worker → n.mark ≡ End
+      → closed ≡ false → IsGiving worker closed v
+      → w ≡ after_put v (give_step n) → IsGiving worker true w
+  give_end worker closed v w n mine is unended h e =
       let before : AreItemsThen [] (marks_in v.put) = subst
       (λ b. AreItemsThen (mark_if b) (marks_in v.put)) unended h.marks in
       let joined : marks_in (v.put ++ n ∷ []) ≡ marks_in v.put ++ End ∷ [] = marks_in-then v.put n
       ∙ ap (λ m. marks_in v.put ++ m ∷ []) is in
       let all : AreItemsThen (End ∷ []) (marks_in (v.put ++ n ∷ [])) = subst (AreItemsThen (End ∷ [])) (sym joined)
       (then_end (marks_in v.put) before) in
-      let after : IsGiving worker true
-      (after_give v n) = record { may_put = refl; from = h.from; parts = h.parts; marks = all } in
+      let after : IsGiving worker true (after_put v (give_step n)) = record {
+        follows = h.follows;
+        from = h.from;
+        parts = h.parts;
+        nothing_taken = h.nothing_taken;
+        marks = all;
+        own = gives_own worker n v.steps mine h.own;
+        last = λ _. subst (λ b. EndsLast (cond b (give_step n ∷ steps_of (Thread.Worker worker) v.steps)
+            (steps_of (Thread.Worker worker) v.steps))) (sym (eq-eqb worker n.from (sym mine))) is;
+      } in
       subst (IsGiving worker true) (sym e) after
 
   -- where a worker gave an end mark, it has given the same items as before
-  pub give_end_given : (v w : Desk T) (n : Note T) → n.mark ≡ End
-      → w ≡ after_give v n → items_of (marks_in w.put) ≡ items_of (marks_in v.put)
+  pub give_end_given : (v w : View (Note T)) (n : Note T) → n.mark ≡ End
+      → w ≡ after_put v (give_step n) → items_of (marks_in w.put) ≡ items_of (marks_in v.put)
   give_end_given v w n is e =
-      ap (λ (k : Desk T). items_of (marks_in k.put)) e
+      ap (λ (k : View (Note T)). items_of (marks_in k.put)) e
       ∙ (ap items_of (marks_in-then v.put n ∙ ap (λ m. marks_in v.put ++ m ∷ []) is)
       ∙ items_of-then_end (marks_in v.put))
 
   -- the sequencer took a note with an item
-  pub read_item : (v w w' : Desk T) (n : Note T) (x : T) → n.mark ≡ Item x → HasRead [] v w
-      → w' ≡ after_arrive w n → HasRead (x ∷ []) v w'
+  pub read_item : (v w w' : View (Note T)) (n : Note T) (x : T) → n.mark ≡ Item x → HasRead [] v w
+      → w' ≡ after_take w (arrive_step n) → HasRead (x ∷ []) v w'
   read_item v w w' n x is h e =
-      let before = h.taken ∙ append-nil (items_of (marks_in v.got)) in
-      let one : marks_in (w.got ++ n ∷ []) ≡ marks_in w.got ++ Item x ∷ [] = marks_in-then w.got n
-      ∙ ap (λ m. marks_in w.got ++ m ∷ []) is in
-      let after : HasRead (x ∷ []) v (after_arrive w n) = record {
-        may_take = refl;
+      let before = h.taken ∙ append-nil (items_of (marks_in v.taken)) in
+      let one : marks_in (w.taken ++ n ∷ []) ≡ marks_in w.taken ++ Item x ∷ [] = marks_in-then w.taken n
+      ∙ ap (λ m. marks_in w.taken ++ m ∷ []) is in
+      let after : HasRead (x ∷ []) v (after_take w (arrive_step n)) = record {
+        leads = h.leads;
         parts = h.parts;
         made = h.made;
         put = h.put;
-        known = h.known;
-        taken = ap items_of one ∙ (items_of-then_item (marks_in w.got) x ∙ ap (λ l. l ++ x ∷ []) before);
+        puts_none = h.puts_none;
+        taken = ap items_of one ∙ (items_of-then_item (marks_in w.taken) x ∙ ap (λ l. l ++ x ∷ []) before);
       } in subst (HasRead (x ∷ []) v) (sym e) after
 
   -- where an item arrived at the sequencer, as many end marks have arrived as before
-  pub read_item_ends : (w w' : Desk T) (n : Note T) (x : T) → n.mark ≡ Item x
-      → w' ≡ after_arrive w n → count_ends (marks_in w'.got) ≡ count_ends (marks_in w.got)
+  pub read_item_ends : (w w' : View (Note T)) (n : Note T) (x : T) → n.mark ≡ Item x
+      → w' ≡ after_take w (arrive_step n) → count_ends (marks_in w'.taken) ≡ count_ends (marks_in w.taken)
   read_item_ends w w' n x is e =
-      let one : marks_in (w.got ++ n ∷ []) ≡ marks_in w.got ++ Item x ∷ [] = marks_in-then w.got n
-      ∙ ap (λ m. marks_in w.got ++ m ∷ []) is in
-      ap (λ (k : Desk T). count_ends (marks_in k.got)) e
-      ∙ (ap count_ends one ∙ (let a = count_ends-append (marks_in w.got) (Item x ∷ []) in omega arith))
+      let one : marks_in (w.taken ++ n ∷ []) ≡ marks_in w.taken ++ Item x ∷ [] = marks_in-then w.taken n
+      ∙ ap (λ m. marks_in w.taken ++ m ∷ []) is in
+      ap (λ (k : View (Note T)). count_ends (marks_in k.taken)) e
+      ∙ (ap count_ends one ∙ (let a = count_ends-append (marks_in w.taken) (Item x ∷ []) in omega arith))
 
   -- the sequencer took a worker's end mark
-  pub read_end : (v w w' : Desk T) (n : Note T) → n.mark ≡ End → HasRead [] v w
-      → w' ≡ after_arrive w n → HasRead [] v w'
+  pub read_end : (v w w' : View (Note T)) (n : Note T) → n.mark ≡ End → HasRead [] v w
+      → w' ≡ after_take w (arrive_step n) → HasRead [] v w'
   read_end v w w' n is h e =
-      let one : marks_in (w.got ++ n ∷ []) ≡ marks_in w.got ++ End ∷ [] = marks_in-then w.got n
-      ∙ ap (λ m. marks_in w.got ++ m ∷ []) is in
-      let after : HasRead [] v (after_arrive w n) = record {
-        may_take = refl;
+      let one : marks_in (w.taken ++ n ∷ []) ≡ marks_in w.taken ++ End ∷ [] = marks_in-then w.taken n
+      ∙ ap (λ m. marks_in w.taken ++ m ∷ []) is in
+      let after : HasRead [] v (after_take w (arrive_step n)) = record {
+        leads = h.leads;
         parts = h.parts;
         made = h.made;
         put = h.put;
-        known = h.known;
-        taken = ap items_of one ∙ (items_of-then_end (marks_in w.got) ∙ h.taken);
+        puts_none = h.puts_none;
+        taken = ap items_of one ∙ (items_of-then_end (marks_in w.taken) ∙ h.taken);
       } in subst (HasRead [] v) (sym e) after
 
   -- where an end mark arrived at the sequencer, one more has arrived than before
-  pub read_end_ends : (w w' : Desk T) (n : Note T) → n.mark ≡ End
-      → w' ≡ after_arrive w n → count_ends (marks_in w'.got) ≡ count_ends (marks_in w.got) + 1
+  pub read_end_ends : (w w' : View (Note T)) (n : Note T) → n.mark ≡ End
+      → w' ≡ after_take w (arrive_step n) → count_ends (marks_in w'.taken) ≡ count_ends (marks_in w.taken) + 1
   read_end_ends w w' n is e =
-      let one : marks_in (w.got ++ n ∷ []) ≡ marks_in w.got ++ End ∷ [] = marks_in-then w.got n
-      ∙ ap (λ m. marks_in w.got ++ m ∷ []) is in
-      ap (λ (k : Desk T). count_ends (marks_in k.got)) e
-      ∙ (ap count_ends one ∙ count_ends-append (marks_in w.got) (End ∷ []))
+      let one : marks_in (w.taken ++ n ∷ []) ≡ marks_in w.taken ++ End ∷ [] = marks_in-then w.taken n
+      ∙ ap (λ m. marks_in w.taken ++ m ∷ []) is in
+      ap (λ (k : View (Note T)). count_ends (marks_in k.taken)) e
+      ∙ (ap count_ends one ∙ count_ends-append (marks_in w.taken) (End ∷ []))
 
   -- the sequencer took notes
-  pub sequences : (workers left left' : ℕ) (items : List T) (v w : Desk T) → IsSequencing workers left v
+  pub sequences : (workers left left' : ℕ) (items : List T) (v w : View (Note T)) → IsSequencing workers left v
       → HasRead items v w
-      → count_ends (marks_in w.got) + left' ≡ count_ends (marks_in v.got) + left → IsSequencing workers left' w
+      → count_ends (marks_in w.taken) + left' ≡ count_ends (marks_in v.taken) + left → IsSequencing workers left' w
   sequences workers left left' items v w h r e = record {
-    may_take = r.may_take;
+    leads = r.leads;
     parts = ap (λ k. k + workers) r.parts ∙ h.parts;
     made = r.made ∙ h.made;
     nothing_put = r.put ∙ h.nothing_put;
-    nothing_known = r.known ∙ h.nothing_known;
+    puts_none = λ worker. r.puts_none worker ∙ h.puts_none worker;
     marks = e ∙ h.marks;
   }
 
-  abbrev side : PoolName → Desk T → ℕ → SequencerSide T
-  side pool v left = record { pool = pool; taken = items_of (marks_in v.got); ended = left == 0 }
+  abbrev side : PoolName → View (Note T) → ℕ → SequencerSide T
+  side pool v left = record { pool = pool; taken = items_of (marks_in v.taken); ended = left == 0 }
 
-  pub reads : (pool : PoolName) (left left' : ℕ) (v w : Desk T) (r : Option T) → HasRead (option_to_list r) v w
+  pub reads : (pool : PoolName) (left left' : ℕ) (v w : View (Note T)) (r : Option T) → HasRead (option_to_list r) v w
       → IfSome r (λ x. (0 < left) × (0 < left')) → IfNone r (left' ≡ 0) → DoneStep (side pool v left) r
       (side pool w left')
   reads pool left left' v w None h some_left none_left =
-      let e = h.taken ∙ append-nil (items_of (marks_in v.got)) in
+      let e = h.taken ∙ append-nil (items_of (marks_in v.taken)) in
       let z : (left' == 0) ≡ true = eq-eqb left' 0 none_left in λ i. record { pool = pool; taken = e i; ended = z i }
   reads pool left left' v w (Some x) h some_left none_left =
       let a : (left == 0) ≡ false = ne_eqb left 0 (λ z. absurd (let p = some_left.0 in omega arith)) in

@@ -3,26 +3,28 @@ use Rattle.std.proofs.Common.{◌≡◌, ◌+◌, ◌<◌, ◌==◌, ℕ, zero, 
 use Rattle.std.specs.List.{range_with_len}
 use Rattle.std.proofs.lemmas.Bool.{eqb-true}
 use Rattle.std.proofs.lemmas.List.{append-nil, length-append}
-use mathlib.Core.Option.{some}
-use lib.ListN.{get_elem?}
+use mathlib.Core.Logic.{dite}
+use native.Mathlib.Decide.{ℕ_discrete}
 use Rattle.crossbeam_queue.specs.Passes.{view}
-use Rattle.dump_lanes.specs.declared.pool.dones.Desk.{Desk}
 use Rattle.dump_lanes.specs.declared.pool.dones.Note.{Note}
-use Rattle.dump_lanes.specs.declared.pool.jobs.Hand.{Hand}
 use Rattle.dump_lanes.specs.declared.pool.queues.Queues.{Queues}
 use Rattle.dump_lanes.specs.declared.pool.worker.WorkerPort.{WorkerPort}
 use Rattle.dump_lanes.specs.declared.protocol.Mark.{Mark}
 use Rattle.dump_lanes.specs.declared.protocol.Mark.TheVariants.{End}
-use Rattle.dump_lanes.specs.DoneRule as done_rule
-use Rattle.dump_lanes.specs.JobRule as job_rule
+use Rattle.dump_lanes.specs.declared.passes.View.{View}
+use Rattle.dump_lanes.specs.DoneRule.{dones_part, sequencer_crew}
+use Rattle.dump_lanes.specs.JobRule.{jobs_part, cutter_crew}
+use Rattle.dump_lanes.specs.QueueRule.{after_join, KnowsSteps}
 use Rattle.dump_lanes.specs.LaneMarks.{items_of, AreItemsThen, mark_if}
 use Rattle.dump_lanes.specs.steps.PoolNames.{name_of}
-use Rattle.dump_lanes.specs.steps.PoolPasses.{count_ends, marks_in, IsCutting, IsSequencing}
+use Rattle.dump_lanes.specs.steps.PoolPasses.{count_ends, marks_in, EndsLast, IsCutting, IsSequencing}
+use Rattle.dump_lanes.specs.PartSteps.{steps_of}
+use Rattle.dump_lanes.specs.PoolParts.{Thread}
 use Rattle.dump_lanes.specs.PortSides.{PoolName, PoolState, CutterSide, WorkerSide, new_cutter, new_worker, AreWorkersOf, IsDone, all_taken, all_given}
-use Rattle.dump_lanes.specs.steps.PortViews.{worker_port, HasJobsOf, HasDonesOf, job_steps, done_steps}
+use Rattle.dump_lanes.specs.steps.PortViews.{worker_port, steps_by, HasTakenIn, HasJobsOf, HasDonesOf, done_steps}
 use Rattle.dump_lanes.proofs.MarkLists.{items_of-append}
 use Rattle.dump_lanes.proofs.PoolMarks.{count_ends-append}
-use Rattle.dump_lanes.proofs.Settling.{one_end, all_jobs, all_dones, HasEnded, marks_in-append, flat_map-then, map-then}
+use Rattle.dump_lanes.proofs.Settling.{one_end, all_jobs, all_dones, HasEnded, AllEndLast, all_end_last-append, marks_in-append, flat_map-then}
 
 module _ {X Y : Type 0} where
   index_of_map : (f : X → Y) (xs : List X) (k : ℕ) (d : X) → slice_index_or (map f xs) k (f d) ≡ f
@@ -40,6 +42,48 @@ module _ {X Y : Type 0} where
   pub all_of_map : (P : Y → Type 0) (f : X → Y) (xs : List X) → All P (map f xs) → All (λ x. P (f x)) xs
   all_of_map P f xs h k d lt = subst P (index_of_map f xs k d)
       (h k (f d) (subst (λ n. k < n) (sym (length_of_map f xs)) lt))
+
+module _ {P E : Type 0} where
+  -- what is nothing of each is nothing together
+  nothing_in : (f : P → List E) → ((p : P) → f p ≡ []) → (ps : List P) → flat_map f ps ≡ []
+  nothing_in f none [] = refl
+  nothing_in f none (p ∷ ps) = ap (λ l. l ++ flat_map f ps) (none p) ∙ nothing_in f none ps
+
+module _ {P E : Type 0} (pass_of : P → View E) where
+  steps_by-then : (ps : List P) (p : P) → steps_by pass_of (ps ++ p ∷ []) ≡ (pass_of p).steps ++ steps_by pass_of ps
+  steps_by-then [] p = sym (append-nil (pass_of p).steps)
+  steps_by-then (q ∷ ps) p =
+      ap (λ l. l ++ (pass_of q).steps) (steps_by-then ps p) ∙ append_assoc (pass_of p).steps (steps_by pass_of ps)
+      (pass_of q).steps
+
+  -- the pass that leads is just its own where it has taken in no other
+  pub none_in : (v : View E) → v.leads ≡ true → HasTakenIn pass_of [] v v
+  none_in v leads = record {
+    leads = leads;
+    parts = omega arith;
+    put = sym (append-nil v.put);
+    taken = sym (append-nil v.taken);
+    steps = refl;
+  }
+
+  -- after it takes in one more, it has taken in all of them
+  pub more_in : (ps : List P) (p : P) (old v w : View E) → (pass_of p).parts ≡ 1 → HasTakenIn pass_of ps old v
+      → w ≡ after_join v (pass_of p) → HasTakenIn pass_of (ps ++ p ∷ []) old w
+  more_in ps p old v w one h e =
+      let long = length-append ps (p ∷ []) in
+      let puts : P → List E = λ q. (pass_of q).put in
+      let takes : P → List E = λ q. (pass_of q).taken in
+      let after : HasTakenIn pass_of (ps ++ p ∷ []) old (after_join v (pass_of p)) = record {
+        leads = h.leads;
+        parts = let k = h.parts in omega arith;
+        put = ap (λ l. l ++ puts p) h.put ∙ (append_assoc old.put (flat_map puts ps) (puts p)
+            ∙ ap (λ l. old.put ++ l) (sym (flat_map-then puts ps p)));
+        taken = ap (λ l. l ++ takes p) h.taken ∙ (append_assoc old.taken (flat_map takes ps) (takes p)
+            ∙ ap (λ l. old.taken ++ l) (sym (flat_map-then takes ps p)));
+        steps = ap (λ l. (pass_of p).steps ++ l) h.steps
+            ∙ (sym (append_assoc (pass_of p).steps (steps_by pass_of ps) old.steps)
+            ∙ ap (λ l. l ++ old.steps) (sym (steps_by-then ps p)));
+      } in subst (HasTakenIn pass_of (ps ++ p ∷ []) old) (sym e) after
 
 length_range : (a n : ℕ) → length (range_with_len a n) ≡ n
 length_range a zero = refl
@@ -97,9 +141,6 @@ module _ {J D : Type 0} where
   abbrev put_of : WorkerPort J D → List (Note D)
   put_of p = (view p.dones).put
 
-  abbrev known_of : WorkerPort J D → ℕ × List (Note D)
-  known_of p = ((view p.dones).from, (view p.dones).put)
-
   abbrev AreDone : List (WorkerPort J D) → Type 0
   AreDone ps = All (λ (p : WorkerPort J D). IsDone (worker_port p)) ps
 
@@ -145,148 +186,63 @@ module _ {J D : Type 0} where
       ∙ (items_of-append (marks_in (put_of p)) (marks_in (flat_map put_of ps))
       ∙ ap (λ l. items_of (marks_in (put_of p)) ++ l) (items_put ps))
 
-  -- the port of a worker that has put its end mark
-  found : (ps : List (WorkerPort J D)) (k worker d : ℕ) → AreDone ps → k < length ps
-      → slice_index_or (map (λ (w : WorkerSide J D). w.index)
-      (map (λ (p : WorkerPort J D). worker_port p) ps)) k d ≡ worker
-      → (put : List (Note D)) × (get_elem? (map known_of ps) k ≡ some (worker, put)) × HasEnded put
-  found [] k worker d h lt e = absurd (omega arith)
-  found (p ∷ ps) zero worker d h lt e =
-      (put_of p, ap (λ n. some (n, put_of p)) (p.gives.from ∙ e), has_ended p (first_done p ps h))
-  found (p ∷ ps) (suc k) worker d h lt e = found ps k worker d (rest_done p ps h) (omega arith) e
+  -- the last step of each worker put its end mark
+  own_last : (p : WorkerPort J D) → IsDone (worker_port p) → AllEndLast (view p.dones).steps
+  own_last p h worker = dite (ℕ_discrete worker p.index)
+      (λ e. subst (λ k. EndsLast (steps_of (Thread.Worker k) (view p.dones).steps)) (sym e) (p.gives.last h.1))
+      (λ ne. subst EndsLast (sym (p.gives.own worker ne)) refl)
+
+  all_last : (ps : List (WorkerPort J D)) → AreDone ps → AllEndLast (done_steps ps)
+  all_last [] h = λ worker. refl
+  all_last (p ∷ ps) h = all_end_last-append (done_steps ps) (view p.dones).steps (all_last ps (rest_done p ps h))
+      (own_last p (first_done p ps h))
+
+  -- workers put no job, and take no done
+  pub same_put : (ps : List (WorkerPort J D)) (old v : View (Mark J)) → HasJobsOf ps old v → v.put ≡ old.put
+  same_put ps old v h = h.put ∙ (ap (λ l. old.put ++ l) (nothing_in (λ (p : WorkerPort J D). (view p.jobs).put)
+      (λ p. p.works.nothing_put) ps) ∙ append-nil old.put)
+
+  -- so what the sequencer took is the same before and after
+  pub same_taken : (ps : List (WorkerPort J D)) (old v : View (Note D)) → HasDonesOf ps old v → v.taken ≡ old.taken
+  same_taken ps old v h = h.taken ∙ (ap (λ l. old.taken ++ l) (nothing_in (λ (p : WorkerPort J D). (view p.dones).taken)
+      (λ p. p.gives.nothing_taken) ps) ∙ append-nil old.taken)
 
   -- each job was taken as often as it was put
-  pub settles_jobs : (workers : ℕ) (cutter v : Hand J) (ps : List (WorkerPort J D)) (items : List (Mark J))
+  pub settles_jobs : (workers : ℕ) (cutter v : View (Mark J)) (ps : List (WorkerPort J D)) (items : List (Mark J))
       → 0 < workers
       → IsCutting workers cutter → count_ends cutter.put ≡ workers → length ps ≡ workers → AreDone ps
-      → HasJobsOf ps cutter v → job_rule.IsWhole v.put v.taken items
+      → HasJobsOf ps cutter v → KnowsSteps jobs_part cutter_crew v items
       → (weight : J → ℕ) → sum_by weight (all_taken (map (λ (p : WorkerPort J D). worker_port p) ps)) ≡ sum_by weight
       (items_of cutter.put)
   settles_jobs workers cutter v ps items more h marks long done e whole weight =
       let taken : List (Mark J) = flat_map taken_of ps in
-      let first : v.taken ≡ taken = e.taken ∙ ap (λ l. l ++ taken) h.nothing_taken in
-      let now : job_rule.IsWhole cutter.put taken items =
-      subst (λ l. job_rule.IsWhole cutter.put l items) first
-      (subst (λ l. job_rule.IsWhole l v.taken items) e.put whole) in
-      let last : AreItemsThen (replicate workers End) cutter.put = subst
-      (λ n. AreItemsThen (replicate n End) cutter.put) marks h.marks in
-      ap (sum_by weight) (sym (items_taken ps)) ∙ all_jobs workers cutter.put taken items more last marks
-      (ends_taken ps done ∙ long) now weight
+      let taken_is : v.taken ≡ taken = e.taken ∙ ap (λ l. l ++ taken) h.nothing_taken in
+      let last : AreItemsThen (replicate workers End) v.put =
+      subst (AreItemsThen (replicate workers End)) (sym (same_put ps cutter v e))
+      (subst (λ n. AreItemsThen (replicate n End) cutter.put) marks h.marks) in
+      let of_taken : count_ends v.taken ≡ workers = ap count_ends taken_is ∙ (ends_taken ps done ∙ long) in
+      ap (sum_by weight) (sym (items_taken ps)) ∙ (ap (λ l. sum_by weight (items_of l)) (sym taken_is)
+      ∙ (all_jobs workers v items more last of_taken whole weight ∙ ap (λ l. sum_by weight (items_of l)) (same_put ps cutter v e)))
 
   -- each item was taken as often as the workers put it
-  pub settles_dones : (pool : PoolName) (workers left : ℕ) (sequencer v : Desk D) (ps : List (WorkerPort J D))
-      (items : List (Note D))
-      → IsSequencing workers left sequencer → (left == 0) ≡ true
-      → AreWorkersOf pool workers (map (λ (p : WorkerPort J D). worker_port p) ps) → AreDone ps
-      → HasDonesOf ps sequencer v → done_rule.IsWhole v items
-      → (weight : D → ℕ) → sum_by weight (items_of (marks_in sequencer.got)) ≡ sum_by weight
+  pub settles_dones : (workers left : ℕ) (sequencer v : View (Note D)) (ps : List (WorkerPort J D)) (items : List (Note D))
+      → IsSequencing workers left sequencer → (left == 0) ≡ true → length ps ≡ workers → AreDone ps
+      → HasDonesOf ps sequencer v → KnowsSteps dones_part sequencer_crew v items
+      → (weight : D → ℕ) → sum_by weight (items_of (marks_in sequencer.taken)) ≡ sum_by weight
       (all_given (map (λ (p : WorkerPort J D). worker_port p) ps))
-  settles_dones pool workers left sequencer v ps items h none all done e whole weight =
+  settles_dones workers left sequencer v ps items h none long done e whole weight =
       let put : List (Note D) = flat_map put_of ps in
-      let long : length ps ≡ workers = sym (length_of_map (λ (p : WorkerPort J D). worker_port p) ps) ∙ all.as_many in
-      let got : v.got ≡ sequencer.got = e.got in
       let put_is : v.put ≡ put = e.put ∙ ap (λ l. l ++ put) h.nothing_put in
-      let known : v.known ≡ map known_of ps = e.known ∙ ap (λ l. l ++ map known_of ps) h.nothing_known in
       let no_left : left ≡ 0 = eqb-true left 0 none in
-      let of_got : count_ends (marks_in v.got) ≡ workers =
-      ap (λ l. count_ends (marks_in l)) got ∙ (let m = h.marks in omega arith) in
+      let of_got : count_ends (marks_in v.taken) ≡ workers =
+      ap (λ l. count_ends (marks_in l)) (same_taken ps sequencer v e) ∙ (let m = h.marks in omega arith) in
       let of_put : count_ends (marks_in v.put) ≡ workers = ap (λ l. count_ends (marks_in l)) put_is
       ∙ (ends_put ps done ∙ long) in
-      let each : (worker : ℕ) → worker < workers → (i : ℕ) × (put : List (Note D))
-      × (get_elem? v.known i ≡ some (worker, put)) × HasEnded put =
-      λ worker lt.
-      let x = all.each worker lt in
-      let short : x.0 < length ps = subst (λ n. x.0 < n)
-      (length_of_map (λ (w : WorkerSide J D). w.index) _
-      ∙ length_of_map (λ (p : WorkerPort J D). worker_port p) ps) x.1 in
-      let y = found ps x.0 worker worker done short x.2 in
-      (x.0, y.0, ap (λ l. get_elem? l x.0) known ∙ y.1, y.2) in
-      ap (λ l. sum_by weight (items_of (marks_in l))) (sym got)
-      ∙ (all_dones workers v items (e.made ∙ h.made) of_got of_put each whole weight
+      let last : AllEndLast v.steps = subst AllEndLast (sym e.steps) (all_end_last-append
+      (done_steps ps) sequencer.steps (all_last ps done) (λ worker. subst EndsLast (sym (h.puts_none worker)) refl)) in
+      ap (λ l. sum_by weight (items_of (marks_in l))) (sym (same_taken ps sequencer v e))
+      ∙ (all_dones workers v items of_got of_put last whole weight
       ∙ (ap (λ l. sum_by weight (items_of (marks_in l))) put_is ∙ ap (sum_by weight) (items_put ps)))
-
-  -- the cutter's pass takes in one worker's after another
-  job_steps-then : (ps : List (WorkerPort J D)) (p : WorkerPort J D)
-      → job_steps (ps ++ p ∷ []) ≡ (view p.jobs).steps ++ job_steps ps
-  job_steps-then [] p = sym (append-nil (view p.jobs).steps)
-  job_steps-then (q ∷ ps) p =
-      ap (λ l. l ++ (view q.jobs).steps) (job_steps-then ps p) ∙ append_assoc (view p.jobs).steps (job_steps ps)
-      (view q.jobs).steps
-
-  done_steps-then : (ps : List (WorkerPort J D)) (p : WorkerPort J D)
-      → done_steps (ps ++ p ∷ []) ≡ (view p.dones).steps ++ done_steps ps
-  done_steps-then [] p = sym (append-nil (view p.dones).steps)
-  done_steps-then (q ∷ ps) p =
-      ap (λ l. l ++ (view q.dones).steps) (done_steps-then ps p) ∙ append_assoc (view p.dones).steps (done_steps ps)
-      (view q.dones).steps
-
-  -- the cutter's pass is just its own where it has taken in no worker's
-  pub no_jobs : (v : Hand J) → v.puts ≡ true → v.takes ≡ false → HasJobsOf {J = J} {D = D} [] v v
-  no_jobs v may idle = record {
-    may_put = may;
-    takes_none = idle;
-    parts = omega arith;
-    put = refl;
-    taken = sym
-        (append-nil v.taken);
-    steps = refl;
-  }
-
-  -- after the cutter's pass takes in one more worker's, it has taken in those of all of them
-  pub more_jobs : (ps : List (WorkerPort J D)) (p : WorkerPort J D) (old v w : Hand J) → HasJobsOf ps old v
-      → w ≡ job_rule.after_join v (view p.jobs) → HasJobsOf (ps ++ p ∷ []) old w
-  more_jobs ps p old v w h e =
-      let one = p.works.parts in
-      let long = length-append ps (p ∷ []) in
-      let both : Hand J = job_rule.after_join v (view p.jobs) in
-      let after : HasJobsOf (ps ++ p ∷ []) old both = record {
-        may_put = h.may_put;
-        takes_none = h.takes_none;
-        parts = let k = h.parts in omega arith;
-        put = h.put;
-        taken = ap (λ l. l ++ taken_of p) h.taken ∙
-            (append_assoc old.taken (flat_map taken_of ps) (taken_of p)
-            ∙ ap (λ l. old.taken ++ l) (sym (flat_map-then taken_of ps p)));
-        steps = ap (λ l. (view p.jobs).steps ++ l) h.steps
-            ∙ (sym (append_assoc (view p.jobs).steps (job_steps ps) old.steps)
-            ∙ ap (λ l. l ++ old.steps) (sym (job_steps-then ps p)));
-      } in subst (HasJobsOf (ps ++ p ∷ []) old) (sym e) after
-
-  -- and so does the sequencer's
-  pub no_dones : (v : Desk D) → v.gets ≡ true → HasDonesOf {J = J} {D = D} [] v v
-  no_dones v may = record {
-    may_take = may;
-    parts = omega arith;
-    put = sym
-        (append-nil v.put);
-    made = refl;
-    got = refl;
-    known = sym (append-nil v.known);
-    steps = refl;
-  }
-
-  -- after the sequencer's pass takes in one more worker's, it has taken in those of all of them
-  pub more_dones : (ps : List (WorkerPort J D)) (p : WorkerPort J D) (old v w : Desk D) → HasDonesOf ps old v
-      → w ≡ done_rule.after_join v (view p.dones)
-      → HasDonesOf (ps ++ p ∷ []) old w
-  more_dones ps p old v w h e =
-      let one = p.gives.parts in
-      let long = length-append ps (p ∷ []) in
-      let both : Desk D = done_rule.after_join v (view p.dones) in
-      let after : HasDonesOf (ps ++ p ∷ []) old both = record {
-        may_take = refl;
-        parts = let k = h.parts in omega arith;
-        put = ap (λ l. l ++ put_of p) h.put ∙ (append_assoc old.put (flat_map put_of ps) (put_of p)
-            ∙ ap (λ l. old.put ++ l) (sym (flat_map-then put_of ps p)));
-        made = h.made;
-        got = h.got;
-        known = ap (λ l. l ++ known_of p ∷ []) h.known
-            ∙ (append_assoc old.known (map known_of ps) (known_of p ∷ [])
-            ∙ ap (λ l. old.known ++ l) (sym (map-then known_of ps p)));
-        steps = ap (λ l. (view p.dones).steps ++ l) h.steps
-            ∙ (sym (append_assoc (view p.dones).steps (done_steps ps) old.steps)
-            ∙ ap (λ l. l ++ old.steps) (sym (done_steps-then ps p)));
-      } in subst (HasDonesOf (ps ++ p ∷ []) old) (sym e) after
 
   -- other ports of the same workers
   pub same_ports : (pool : PoolName) (count : ℕ) (old new : List (WorkerPort J D))

@@ -1,23 +1,29 @@
 -- What the passes of all ports say together.
-use Rattle.std.proofs.Common.{◌≡◌, ◌+◌, ◌<◌, ◌≤◌, ◌==◌, ℕ, zero, suc, Bool, true, false, List, [], ◌∷◌, ◌++◌, map, replicate, cond, flat_map, sum_by, sym, refl, ap, ◌∙◌, subst, append_assoc, eq-eqb, lt_of_not-le, arith}
+use Rattle.std.proofs.Common.{◌≡◌, ◌⊎◌, inl, inr, ◌+◌, ◌<◌, ◌==◌, ℕ, zero, suc, Bool, true, false, List, [], ◌∷◌, ◌++◌, length, map, replicate, cond, flat_map, sum_by, sym, refl, ap, ◌∙◌, subst, ⊎_elim, append_assoc, eq-eqb, arith}
 use Rattle.std.specs.List.{range_with_len}
 use Rattle.std.proofs.lemmas.List.{append-nil, map-append}
 use Rattle.std.proofs.lemmas.List.Elements.{filter-append}
 use Rattle.std.proofs.lemmas.List.Sums.{sum_by-cons}
-use mathlib.Core.Option.{some}
-use mathlib.Core.Logic.{dite}
-use native.Mathlib.Decide.{dec_le}
-use lib.ListN.{get_elem?}
-use Rattle.dump_lanes.specs.declared.pool.dones.Desk.{Desk}
 use Rattle.dump_lanes.specs.declared.pool.dones.Note.{Note}
 use Rattle.dump_lanes.specs.declared.protocol.Mark.{Mark}
 use Rattle.dump_lanes.specs.declared.protocol.Mark.TheVariants.{Item, End}
+use Rattle.dump_lanes.specs.declared.steps.Move.{Move}
+use Rattle.dump_lanes.specs.declared.steps.Move.TheVariants as move
+use Rattle.dump_lanes.specs.declared.steps.Step.{Step}
 use Rattle.dump_lanes.specs.DoneRule as done_rule
-use Rattle.dump_lanes.specs.DoneRule.{notes_of}
-use Rattle.dump_lanes.specs.JobRule as job_rule
+use Rattle.dump_lanes.specs.DoneRule.{dones_part, sequencer_crew}
+use Rattle.dump_lanes.specs.JobRule.{jobs_part, cutter_crew}
 use Rattle.dump_lanes.specs.LaneMarks.{items_of, AreItemsThen}
-use Rattle.dump_lanes.specs.steps.PoolPasses.{count_ends, marks_in}
-use Rattle.dump_lanes.proofs.PoolMarks.{count_ends-append}
+use Rattle.dump_lanes.specs.PartSteps.{event_of, AreSteps, is_thread, all_put, all_taken, steps_of}
+use Rattle.dump_lanes.specs.QueueRule.{KnowsSteps}
+use Rattle.dump_lanes.specs.declared.passes.View.{View}
+use Rattle.dump_lanes.specs.PoolParts.{Thread, thread_of}
+use Rattle.dump_lanes.specs.steps.PoolPasses.{count_ends, marks_in, EndsLast}
+use Rattle.dump_lanes.proofs.DoneSteps.{knows_taken}
+use Rattle.dump_lanes.proofs.JobSteps.{knows_put}
+use Rattle.dump_lanes.proofs.PartMoves.{in_order}
+use Rattle.dump_lanes.proofs.QueueSteps.{weighs_put, weighs_taken}
+use Rattle.dump_lanes.proofs.PoolMarks.{count_ends-append, count_ends-replicate, marks_in-then}
 
 module _ {X Y : Type 0} where
   -- one more in a list whose parts are put together
@@ -115,115 +121,113 @@ module _ {T : Type 0} where
       no_tail (before ++ replicate n End) gone items (sym last ∙ order) none
 
   -- where as many end marks were taken as were put, behind all jobs, each job was taken as often as it was put
-  pub all_jobs : (n : ℕ) (put taken items : List (Mark T)) → 0 < n → AreItemsThen (replicate n End) put
-      → count_ends put ≡ n → count_ends taken ≡ n
-      → job_rule.IsWhole put taken items → (weight : T → ℕ) → sum_by weight (items_of taken) ≡ sum_by weight
-      (items_of put)
-  all_jobs n put taken items more h of_put of_taken whole weight =
-      let gone : count_ends whole.gone ≡ n = sym (weigh_ends whole.gone)
-      ∙ (sym (whole.weighs end_weight) ∙ (weigh_ends taken ∙ of_taken)) in
+  pub all_jobs : (n : ℕ) (v : View (Mark T)) (items : List (Mark T)) → 0 < n → AreItemsThen (replicate n End) v.put
+      → count_ends v.taken ≡ n → KnowsSteps jobs_part cutter_crew v items
+      → (weight : T → ℕ) → sum_by weight (items_of v.taken) ≡ sum_by weight (items_of v.put)
+  all_jobs n v items more h of_taken k weight =
+      let gone : List (Mark T) = all_taken jobs_part k.happened in
+      let order : v.put ≡ gone ++ items = knows_put v items k ∙ in_order jobs_part k.happened items k.steps in
+      let weighs : (f : Mark T → ℕ) → sum_by f v.taken ≡ sum_by f gone = weighs_taken jobs_part cutter_crew v items k in
+      let of_put : count_ends v.put ≡ n = ap count_ends h
+      ∙ (let a = count_ends-append (map {B = Mark T} Item (items_of v.put)) (replicate n End) in
+      let b = ends_of_items (items_of v.put) in
+      let c : count_ends {T = T} (replicate n End) ≡ n = count_ends-replicate T n in omega arith) in
+      let of_gone : count_ends gone ≡ n = sym (weigh_ends gone) ∙ (sym (weighs end_weight) ∙ (weigh_ends v.taken
+      ∙ of_taken)) in
       let none : count_ends items ≡ 0 =
-      (let a = ap count_ends whole.in_order in let b = count_ends-append whole.gone items in omega arith) in
-      let left : items ≡ [] = nothing_left n put whole.gone items more h whole.in_order none in
-      let all : put ≡ whole.gone = whole.in_order ∙ (ap (λ l. whole.gone ++ l) left ∙ append-nil whole.gone) in
-      sym (weigh_items weight taken) ∙ (whole.weighs (item_weight weight)
-      ∙ (weigh_items weight whole.gone ∙ ap (λ l. sum_by weight (items_of l)) (sym all)))
+      (let a = ap count_ends order in let b = count_ends-append gone items in omega arith) in
+      let left : items ≡ [] = nothing_left n v.put gone items more h order none in
+      let all : v.put ≡ gone = order ∙ (ap (λ l. gone ++ l) left ∙ append-nil gone) in
+      sym (weigh_items weight v.taken) ∙ (weighs (item_weight weight)
+      ∙ (weigh_items weight gone ∙ ap (λ l. sum_by weight (items_of l)) (sym all)))
 
   -- notes joined to others have the marks of both
   pub marks_in-append : (xs ys : List (Note T)) → marks_in (xs ++ ys) ≡ marks_in xs ++ marks_in ys
   marks_in-append xs ys = map-append (λ (n : Note T). n.mark) xs ys
 
-  ends_cons : (m : Mark T) (xs ys : List (Mark T)) → count_ends xs ≤ count_ends ys → count_ends (m ∷ xs) ≤ count_ends
-      (m ∷ ys)
-  ends_cons (Item x) xs ys le = le
-  ends_cons End xs ys le = omega arith
-
-  ends_more : (m : Mark T) (xs ys : List (Mark T)) → count_ends xs ≤ count_ends ys → count_ends xs ≤ count_ends (m ∷ ys)
-  ends_more (Item x) xs ys le = le
-  ends_more End xs ys le = omega arith
-
-  no_notes_after : (gone items : List (Note T)) → [] ≡ gone ++ items → items ≡ []
-  no_notes_after [] items e = sym e
-  no_notes_after (x ∷ gone) items e = absurd (cc)
-
-  ends_cond : (b : Bool) (n : Note T) (notes more : List (Note T)) → count_ends (marks_in notes) ≤ count_ends
-      (marks_in more)
-      → count_ends (marks_in (cond b (n ∷ notes) notes)) ≤ count_ends (marks_in (n ∷ more))
-  ends_cond true n notes more le = ends_cons n.mark (marks_in notes) (marks_in more) le
-  ends_cond false n notes more le = ends_more n.mark (marks_in notes) (marks_in more) le
-
-  ends_of_one : (worker : ℕ) (notes : List (Note T)) → count_ends (marks_in (notes_of worker notes)) ≤ count_ends
-      (marks_in notes)
-  ends_of_one worker [] = omega arith
-  ends_of_one worker (n ∷ notes) = ends_cond (n.from == worker) n (notes_of worker notes) notes
-      (ends_of_one worker notes)
-
-  no_notes : (notes : List (Note T)) → marks_in notes ≡ [] → notes ≡ []
-  no_notes [] e = refl
-  no_notes (n ∷ notes) e = absurd (cc)
-
-  none_of_any : (notes : List (Note T)) → ((worker : ℕ) → notes_of worker notes ≡ []) → notes ≡ []
-  none_of_any [] none = refl
-  none_of_any (n ∷ notes) none =
-      let e : n ∷ notes_of n.from notes ≡ [] = ap (λ b. cond b (n ∷ notes_of n.from notes) (notes_of n.from notes))
-      (sym (eq-eqb n.from n.from refl)) ∙ none n.from in absurd (cc)
-
   -- what a worker put, whose end mark is its last
   abbrev pub HasEnded : List (Note T) → Type 0
   HasEnded put = AreItemsThen (End ∷ []) (marks_in put)
 
-  -- nothing of a worker is left that put its end mark, where none is left
-  none_left : (worker : ℕ) (put log got items : List (Note T)) → HasEnded put → put ≡ notes_of worker log
-      → log ≡ got ++ items
-      → count_ends (marks_in items) ≡ 0 → notes_of worker items ≡ []
-  none_left worker put log got items h is order none =
-      let parts : put ≡ notes_of worker got ++ notes_of worker items =
-      is ∙ (ap (notes_of worker) order ∙ filter-append (λ (n : Note T). n.from == worker) got items) in
-      let marks : map {B = Mark T} Item (items_of (marks_in put)) ++ End ∷ [] ≡ marks_in
-      (notes_of worker got) ++ marks_in (notes_of worker items) =
-      sym h ∙ (ap marks_in parts ∙ marks_in-append (notes_of worker got) (notes_of worker items)) in
-      let no_ends : count_ends
-      (marks_in (notes_of worker items)) ≡ 0 = let a = ends_of_one worker items in omega arith in
-      no_notes (notes_of worker items) (no_tail (map {B = Mark T} Item (items_of (marks_in put)))
-      (marks_in (notes_of worker got)) (marks_in (notes_of worker items)) marks no_ends)
+  -- the last step of each worker, if it made any, put an end mark
+  abbrev pub AllEndLast : List (Step (Note T)) → Type 0
+  AllEndLast steps = (worker : ℕ) → EndsLast (steps_of (Thread.Worker worker) steps)
 
-  none_after : (worker : ℕ) (log got items : List (Note T)) → notes_of worker log ≡ [] → log ≡ got ++ items
-      → notes_of worker items ≡ []
-  none_after worker log got items none order =
-      let parts = ap (notes_of worker) order ∙ filter-append (λ (n : Note T). n.from == worker) got items in
-      no_notes_after (notes_of worker got) (notes_of worker items) (sym none ∙ parts)
+  ends_last-append : (xs ys : List (Step (Note T))) → EndsLast xs → EndsLast ys → EndsLast (xs ++ ys)
+  ends_last-append [] ys a b = b
+  ends_last-append (x ∷ xs) ys a b = a
+
+  -- where the last step of each worker put an end mark in both, it does in both together
+  pub all_end_last-append : (xs ys : List (Step (Note T))) → AllEndLast xs → AllEndLast ys → AllEndLast (xs ++ ys)
+  all_end_last-append xs ys a b worker =
+      subst EndsLast (sym (filter-append (λ (s : Step (Note T)). is_thread (Thread.Worker worker)
+      (thread_of (event_of s.event))) xs ys)) (ends_last-append (steps_of (Thread.Worker worker) xs)
+      (steps_of (Thread.Worker worker) ys) (a worker) (b worker))
+
+  -- no mark, or an end mark behind others
+  abbrev NoneOrEnd : List (Mark T) → Type 0
+  NoneOrEnd marks = (marks ≡ []) ⊎ ((before : List (Mark T)) × (marks ≡ before ++ End ∷ []))
+
+  no_entry : {A : Type 0} (n : Note T) → [] ≡ n ∷ [] → A
+  no_entry n e = absurd (let l = ap length e in omega arith)
+
+  put_last : (all : List (Note T)) (n : Note T) (same : Bool) → cond same (n ∷ []) [] ++ [] ≡ n ∷ [] → n.mark ≡ End
+      → NoneOrEnd (marks_in (all ++ cond same (n ∷ []) []))
+  put_last all n true one is = inr (marks_in all, marks_in-then all n ∙ ap (λ m. marks_in all ++ m ∷ []) is)
+  put_last all n false one is = no_entry n one
+
+  last_note : (m : Move) (n : Note T) (before : List (Step (Note T)))
+      → done_rule.put_by (event_of m) n ++ done_rule.taken_by (event_of m) n ≡ n ∷ []
+      → AllEndLast (record { event = m; entry = n } ∷ before)
+      → (AllEndLast before → NoneOrEnd (marks_in (all_put dones_part before)))
+      → NoneOrEnd (marks_in (all_put dones_part before ++ done_rule.put_by (event_of m) n))
+  last_note (move.Put k) n before one ends rest =
+      let mine : List (Step (Note T)) = steps_of (Thread.Worker k) before in
+      let s : Step (Note T) = record { event = move.Put k; entry = n } in
+      put_last (all_put dones_part before) n (n.from == k) one
+      (subst (λ b. EndsLast (cond b (s ∷ mine) mine)) (eq-eqb k k refl) (ends k))
+  last_note move.Arrive n before one ends rest = subst (λ l. NoneOrEnd (marks_in l))
+      (sym (append-nil (all_put dones_part before))) (rest ends)
+  last_note move.Cut n before one ends rest = no_entry n one
+  last_note move.CutMark n before one ends rest = no_entry n one
+  last_note (move.Take k) n before one ends rest = no_entry n one
+  last_note move.Draw n before one ends rest = no_entry n one
+  last_note move.Give n before one ends rest = no_entry n one
+  last_note move.Release n before one ends rest = no_entry n one
+  last_note move.Write n before one ends rest = no_entry n one
+
+  -- where the last step of each worker put an end mark, the last note that was put is one
+  last_put : (happened : List (Step (Note T))) (items : List (Note T)) → AreSteps dones_part happened items
+      → AllEndLast happened → NoneOrEnd (marks_in (all_put dones_part happened))
+  last_put [] items h ends = inl refl
+  last_put (s ∷ before) items h ends = last_note s.event s.entry before h.1.one_entry ends (last_put before h.0 h.2)
 
   weigh_marks : (h : Mark T → ℕ) (notes : List (Note T)) → sum_by (λ (n : Note T). h n.mark) notes ≡ sum_by h
       (marks_in notes)
   weigh_marks h notes = sym (sum_by-map (λ (n : Note T). n.mark) h notes)
 
-  -- where each worker's end mark was taken, each item was taken as often as the workers put it
-  pub all_dones : (n : ℕ) (v : Desk T) (items : List (Note T)) → v.made ≡ n → count_ends (marks_in v.got) ≡ n
-      → count_ends (marks_in v.put) ≡ n
-      → ((worker : ℕ) → worker < n → (i : ℕ) × (put : List (Note T)) × (get_elem? v.known i ≡ some (worker, put))
-      × HasEnded put)
-      → done_rule.IsWhole v items → (weight : T → ℕ) → sum_by weight (items_of (marks_in v.got)) ≡ sum_by weight
-      (items_of (marks_in v.put))
-  all_dones n v items made of_got of_put each whole weight =
-      let log = whole.log in
-      let ends : (l : List (Note T)) → sum_by (λ (k : Note T). end_weight k.mark) l ≡ count_ends (marks_in l) =
-      λ l. weigh_marks end_weight l ∙ weigh_ends (marks_in l) in
-      let of_log : count_ends (marks_in log) ≡ n = sym (ends log)
-      ∙ (sym (whole.weighs (λ (k : Note T). end_weight k.mark)) ∙ (ends v.put ∙ of_put)) in
-      let order : count_ends (marks_in log) ≡ count_ends (marks_in v.got) + count_ends (marks_in items) =
-      ap (λ l. count_ends (marks_in l)) whole.in_order
-      ∙ (ap count_ends (marks_in-append v.got items) ∙ count_ends-append (marks_in v.got) (marks_in items)) in
-      let none : count_ends (marks_in items) ≡ 0 = omega arith in
-      let of_worker : (worker : ℕ) → notes_of worker items ≡ [] = λ worker. dite (dec_le n worker)
-      (λ le. none_after worker log v.got items (whole.to_come worker
-      (subst (λ k. k ≤ worker) (sym made) le)) whole.in_order)
-      (λ no.
-      let x = each worker (lt_of_not-le no) in
-      none_left worker x.1 log v.got items x.3 (whole.knows x.0 worker x.1 x.2) whole.in_order none) in
-      let left : items ≡ [] = none_of_any items of_worker in
-      let all : log ≡ v.got = whole.in_order ∙ (ap (λ l. v.got ++ l) left ∙ append-nil v.got) in
-      let weigh : (l : List (Note T)) → sum_by (λ (k : Note T). item_weight weight k.mark) l ≡ sum_by weight
-      (items_of (marks_in l)) =
-      λ l. weigh_marks (item_weight weight) l ∙ weigh_items weight (marks_in l) in
-      sym (sym (weigh v.put) ∙ (whole.weighs (λ (k : Note T). item_weight weight k.mark)
-      ∙ (weigh log ∙ ap (λ l. sum_by weight (items_of (marks_in l))) all)))
+  -- where each worker's end mark was taken, and is the last that it put, each item was taken as often as the workers put
+  -- it
+  pub all_dones : (n : ℕ) (v : View (Note T)) (items : List (Note T)) → count_ends (marks_in v.taken) ≡ n
+      → count_ends (marks_in v.put) ≡ n → AllEndLast v.steps → KnowsSteps dones_part sequencer_crew v items
+      → (weight : T → ℕ) → sum_by weight (items_of (marks_in v.taken)) ≡ sum_by weight (items_of (marks_in v.put))
+  all_dones n v items of_got of_put ends whole weight =
+      let log : List (Note T) = all_put dones_part whole.happened in
+      let order : log ≡ v.taken ++ items = in_order dones_part whole.happened items whole.steps
+      ∙ ap (λ l. l ++ items) (sym (knows_taken v items whole)) in
+      let marks : marks_in log ≡ marks_in v.taken ++ marks_in items = ap marks_in order ∙ marks_in-append v.taken items in
+      let weigh : (h : Mark T → ℕ) → sum_by h (marks_in v.put) ≡ sum_by h (marks_in log) =
+      λ h. sym (weigh_marks h v.put) ∙ (weighs_put dones_part sequencer_crew v items whole (λ (k : Note T). h k.mark) ∙ weigh_marks h log) in
+      let of_log : count_ends (marks_in log) ≡ n = sym (weigh_ends (marks_in log))
+      ∙ (sym (weigh end_weight) ∙ (weigh_ends (marks_in v.put) ∙ of_put)) in
+      let none : count_ends (marks_in items) ≡ 0 =
+      (let a = ap count_ends marks in let b = count_ends-append (marks_in v.taken) (marks_in items) in omega arith) in
+      let last : NoneOrEnd (marks_in log) = last_put whole.happened items whole.steps
+      (λ worker. subst EndsLast (whole.each (Thread.Worker worker)) (ends worker)) in
+      let left : marks_in items ≡ [] = ⊎_elim (λ e. no_rest (marks_in v.taken) (marks_in items) (sym e ∙ marks))
+      (λ (y : (before : List (Mark T)) × (marks_in log ≡ before ++ End ∷ [])). no_tail y.0 (marks_in v.taken)
+      (marks_in items) (sym y.1 ∙ marks) none) last in
+      let all : marks_in log ≡ marks_in v.taken = marks ∙ (ap (λ l. marks_in v.taken ++ l) left
+      ∙ append-nil (marks_in v.taken)) in
+      sym (sym (weigh_items weight (marks_in v.put)) ∙ (weigh (item_weight weight)
+      ∙ (weigh_items weight (marks_in log) ∙ ap (λ l. sum_by weight (items_of l)) all)))

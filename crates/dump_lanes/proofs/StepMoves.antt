@@ -1,10 +1,10 @@
 -- What a step on each shared part can be, and nothing else.
-use Rattle.std.proofs.Common.{◌≡◌, ◌⊎◌, inl, inr, ◌+◌, ◌==◌, ℕ, Bool, true, false, true≢false, List, [], ◌∷◌, ◌++◌, length, cond, sym, refl, ap, ◌∙◌, subst, eq-eqb, ne_eqb, arith}
+use Rattle.std.proofs.Common.{◌≡◌, ◌⊎◌, inl, inr, ◌+◌, ◌==◌, ℕ, Bool, true, false, true≢false, List, [], ◌∷◌, ◌++◌, length, cond, sym, refl, ap, ◌∙◌, ne_eqb, arith}
 use Rattle.std.proofs.lemmas.List.{append-nil, length-append}
 use mathlib.Core.Logic.{dite}
 use native.Mathlib.Decide.{ℕ_discrete}
+use Rattle.dump_lanes.specs.declared.passes.TheConstants.{PARTS}
 use Rattle.dump_lanes.specs.declared.pool.dones.Note.{Note}
-use Rattle.dump_lanes.specs.declared.pool.jobs.Hand.{Hand}
 use Rattle.dump_lanes.specs.declared.protocol.Mark.{Mark}
 use Rattle.dump_lanes.specs.declared.protocol.Mark.TheVariants.{Item, End}
 use Rattle.dump_lanes.specs.declared.steps.Move.{Move}
@@ -13,21 +13,18 @@ use Rattle.dump_lanes.specs.declared.steps.Step.{Step}
 use Rattle.dump_lanes.specs.declared.stop.protocol.WordStep.TheVariants as kind
 use Rattle.dump_lanes.specs.PoolEvents.{Event}
 use Rattle.dump_lanes.specs.PoolParts.{Thread, thread_of}
-use Rattle.dump_lanes.specs.PartSteps.{event_of, Part, AreSteps, is_thread, all_put, all_taken, steps_of}
+use Rattle.dump_lanes.specs.PartSteps.{event_of, Part, AreSteps, all_put, all_taken}
 use Rattle.dump_lanes.specs.CreditRule as credits
 use Rattle.dump_lanes.specs.DoneRule as dones
 use Rattle.dump_lanes.specs.JobRule as jobs
-use Rattle.dump_lanes.specs.JobRule.{jobs_part, cutter_hand, Fits, IsJobQueue}
+use Rattle.dump_lanes.specs.JobRule.{jobs_part, cutter_crew}
+use Rattle.dump_lanes.specs.QueueRule.{leading, Fits}
+use Rattle.dump_lanes.specs.declared.passes.View.{View}
 use Rattle.dump_lanes.specs.LaneRule as lane
 use Rattle.dump_lanes.specs.StepMoves.{Joins, Leaves, JobsMoveOne, DonesMoveOne, PiecesMoveOne, CreditsMoveOne, WordOnlyRises, NoCutIsUnnoted}
 use Rattle.dump_lanes.proofs.CreditSteps.{one_balance}
-use Rattle.dump_lanes.proofs.JobSteps.{begins}
-
-is_same_thread : (t : Thread) → is_thread t t ≡ true
-is_same_thread Thread.Cutter = refl
-is_same_thread (Thread.Worker k) = eq-eqb k k refl
-is_same_thread Thread.Sequencer = refl
-is_same_thread Thread.Writer = refl
+use Rattle.dump_lanes.proofs.JobSteps.{cutter_apart}
+use Rattle.dump_lanes.proofs.QueueSteps.{begins}
 
 module _ {E : Type 0} where
   -- a step moves one entry, no more
@@ -40,15 +37,6 @@ module _ {E : Type 0} where
       let a = length-append (part.puts s) (part.takes s) in
       let b = length-append (all_put part before) (part.puts s) in
       let c = length-append (all_taken part before) (part.takes s) in omega arith
-
-  -- where no thread has a step, nothing happened
-  nothing : (happened : List (Step E)) → ((t : Thread) → [] ≡ steps_of t happened) → happened ≡ []
-  nothing [] h = refl
-  nothing (s ∷ before) h =
-      let t : Thread = thread_of (event_of s.event) in
-      let e : [] ≡ s ∷ steps_of t before = h t ∙ ap (λ b. cond b (s ∷ steps_of t before) (steps_of t before))
-      (is_same_thread t) in
-      absurd (let l = ap length e in omega arith)
 
   none : {A : Type 0} (x : E) → [] ≡ x ∷ [] → A
   none x e = absurd (let l = ap length e in omega arith)
@@ -125,17 +113,13 @@ module _ {T : Type 0} where
   -- a rule that lets the cutter put a mark and note no step would be kept at the first push, and isn't
   pub not_unnoted : NoCutIsUnnoted T
   not_unnoted x rule =
-      let first : Hand T = cutter_hand 128 0 in
-      let after = rule 1 0 first refl [] (first ∷ []) (omega arith) begins refl in
-      let w : Hand T = after.0 in
-      let h : IsJobQueue (x ∷ []) (w ∷ []) = after.1 in
-      let f : Fits h.owner h.happened 0 w = h.fits 0 w refl in
-      let steps : w.steps ≡ [] = ap (λ (k : Hand T). k.steps) after.2 in
-      let none : h.happened ≡ [] = nothing h.happened (λ t.
-      let o = h.owned t in
-      let e : h.owner t ≡ 0 = omega arith in ap (steps_of t) (sym steps) ∙ f.own t e) in
-      let empty : x ∷ [] ≡ [] = subst (λ l. AreSteps jobs_part l (x ∷ [])) none h.steps in
-      absurd (let l = ap length empty in omega arith)
+      let first : View (Mark T) = leading PARTS 0 in
+      let after = rule 1 0 first refl [] (first ∷ []) (omega arith) (begins jobs_part cutter_crew cutter_apart) refl in
+      let w : View (Mark T) = after.0 in
+      let f : Fits jobs_part cutter_crew after.1.owner after.1.happened 0 w = after.1.fits 0 w refl in
+      let steps : w.steps ≡ [] = ap (λ (k : View (Mark T)). k.steps) after.2 in
+      let put : w.put ≡ x ∷ [] = ap (λ (k : View (Mark T)). k.put) after.2 in
+      none x (ap (all_put jobs_part) (sym steps) ∙ (sym f.put_is ∙ put))
 
 credit : (m : Move) (old new : ℕ) → credits.put_by (event_of m) + credits.taken_by (event_of m) ≡ 1
     → old + credits.put_by (event_of m) ≡ credits.taken_by (event_of m) + new

@@ -1,5 +1,5 @@
 -- The rule that each call on a pool's queue of credits keeps.
-use Rattle.std.specs.Prelude.{◌≡◌, ℕ, ◌+◌, Bool, true, false, List, [], ◌∷◌, ◌++◌, length, IsTrue}
+use Rattle.std.specs.Prelude.{◌≡◌, ◌≢◌, ℕ, ◌+◌, Bool, true, false, List, [], ◌∷◌, ◌++◌, length, IsTrue}
 use mathlib.Core.Option.{some}
 use lib.ListN.{get_elem?}
 use Rattle.dump_lanes.specs.declared.pool.credits.Purse.{Purse}
@@ -7,7 +7,7 @@ use Rattle.dump_lanes.specs.declared.steps.Move.TheVariants as move
 use Rattle.dump_lanes.specs.declared.steps.Step.{Step}
 use Rattle.dump_lanes.specs.PoolEvents.{Event}
 use Rattle.dump_lanes.specs.PoolParts.{Thread, credits_share, credits_allow}
-use Rattle.dump_lanes.specs.PartSteps.{event_of, steps_of, two_owners, Knows}
+use Rattle.dump_lanes.specs.PartSteps.{event_of, steps_of, Knows}
 
 -- credits are all alike, so a step has no entry but its event
 abbrev pub CreditStep : Type 0
@@ -76,22 +76,22 @@ joined_purse v w = purse true true w.first v.drawn w.back (w.steps ++ v.steps)
 abbrev pub spent_purse : Purse
 spent_purse = purse false false 0 0 0 []
 
--- a pass that may draw is the cutter's and knows how many were drawn; one that gives back is the writer's, and knows
--- how many there were at first and came back; and a pass knows just the steps of the threads whose it is
-pub record Fits (cutter writer first : ℕ) (happened : List CreditStep) (pass : ℕ) (v : Purse) : Type 0 where
-  pub draws : v.draws ≡ true → (pass ≡ cutter) × (v.drawn ≡ drawn_in happened)
-  pub gives : v.gives ≡ true → (pass ≡ writer) × (v.first ≡ first) × (v.back ≡ back_in happened)
-  pub knows : Knows (two_owners cutter writer) happened pass v.steps
+-- a pass that may draw has all threads but the writer, and knows how many were drawn; one that gives back has the
+-- writer, and knows how many there were at first and came back; and a pass knows just the steps of its threads
+pub record Fits (owner : Thread → ℕ) (first : ℕ) (happened : List CreditStep) (pass : ℕ) (v : Purse) : Type 0 where
+  pub draws : v.draws ≡ true → ((thread : Thread) → thread ≢ Thread.Writer → owner thread ≡ pass)
+      × (v.drawn ≡ drawn_in happened)
+  pub gives : v.gives ≡ true → (owner Thread.Writer ≡ pass) × (v.first ≡ first) × (v.back ≡ back_in happened)
+  pub knows : Knows owner happened pass v.steps
 
 -- there is one history: its steps are the credits' share of their events, and lead from the credits that were put at
 -- first to those that are free; each thread's steps in it are those that its pass knows
 pub record IsCreditQueue {T : Type 0} (items : List T) (views : List Purse) : Type 0 where
-  pub cutter : ℕ
-  pub writer : ℕ
+  pub owner : Thread → ℕ
   pub first : ℕ
   pub happened : List CreditStep
   pub steps : AreSteps first happened (length items)
-  pub fits : (pass : ℕ) (v : Purse) → get_elem? views pass ≡ some v → Fits cutter writer first happened pass v
+  pub fits : (pass : ℕ) (v : Purse) → get_elem? views pass ≡ some v → Fits owner first happened pass v
 
 -- what a pass that both draws and gives back learns: all steps of each thread, and so how many were drawn
 pub record KnowsSteps (v : Purse) (free : ℕ) : Type 0 where

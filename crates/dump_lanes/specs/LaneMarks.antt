@@ -1,8 +1,9 @@
 -- The items among the marks that a pass has put or taken.
-use Rattle.std.specs.Prelude.{◌≡◌, Bool, true, false, List, [], ◌∷◌, ◌++◌, map}
+use Rattle.std.specs.Prelude.{◌≡◌, ◌+◌, Bool, true, false, List, [], ◌∷◌, ◌++◌, map}
+use Rattle.dump_lanes.specs.declared.passes.TheConstants.{PARTS}
 use Rattle.dump_lanes.specs.declared.ends.Told.{Told}
 use Rattle.dump_lanes.specs.declared.ends.Told.TheVariants.{MayCome, Ended, SenderGone}
-use Rattle.dump_lanes.specs.declared.protocol.Log.{Log}
+use Rattle.dump_lanes.specs.declared.passes.View.{View}
 use Rattle.dump_lanes.specs.declared.protocol.Mark.{Mark}
 use Rattle.dump_lanes.specs.declared.protocol.Mark.TheVariants.{Item, End}
 
@@ -18,13 +19,18 @@ module _ {T : Type 0} where
   AreItemsThen last marks = marks ≡ map Item (items_of marks) ++ last
 
   -- a pass that may put, and has put items and then these marks
-  pub record IsPutting (last : List (Mark T)) (v : Log T) : Type 0 where
-    pub may_put : v.puts ≡ true
+  pub record IsPutting (last : List (Mark T)) (v : View (Mark T)) : Type 0 where
+    pub leads : v.leads ≡ true
+    pub parts : v.parts + 1 ≡ PARTS
+    pub nothing_taken : v.taken ≡ []
     pub marks : AreItemsThen last v.put
 
   -- a pass that may take, and has taken items and then these marks
-  pub record IsTaking (last : List (Mark T)) (v : Log T) : Type 0 where
-    pub may_take : v.takes ≡ true
+  pub record IsTaking (last : List (Mark T)) (v : View (Mark T)) : Type 0 where
+    pub follows : v.leads ≡ false
+    pub from : v.from ≡ 0
+    pub parts : v.parts ≡ 1
+    pub nothing_put : v.put ≡ []
     pub marks : AreItemsThen last v.taken
 
   -- the end mark, where it was put

@@ -13,6 +13,7 @@ pub mod PoolProgress
 pub mod PoolSettling
 pub mod PoolWorld
 pub mod PortSides
+pub mod QueueRule
 pub mod RunSteps
 pub mod StepMoves
 pub mod StopRule

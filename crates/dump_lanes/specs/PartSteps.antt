@@ -33,13 +33,6 @@ is_thread Thread.Sequencer Thread.Sequencer = true
 is_thread Thread.Writer Thread.Writer = true
 is_thread other thread = false
 
--- whose steps are whose, where one pass is the writer's and another everyone else's
-abbrev pub two_owners : ℕ → ℕ → Thread → ℕ
-two_owners other writer Thread.Cutter = other
-two_owners other writer (Thread.Worker k) = other
-two_owners other writer Thread.Sequencer = other
-two_owners other writer Thread.Writer = writer
-
 module _ {E : Type 0} where
   -- a step turns what the queue held into what it holds: by the part's share of its event, which it allows, and with
   -- that one entry

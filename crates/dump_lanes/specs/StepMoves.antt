@@ -2,11 +2,11 @@
 use Rattle.std.specs.Prelude.{◌≡◌, ◌⊎◌, ℕ, ◌+◌, Bool, true, List, [], ◌∷◌, ◌++◌}
 use Rattle.crossbeam_queue.specs.Fifo.{Pushes}
 use Rattle.dump_lanes.specs.declared.pool.dones.Note.{Note}
-use Rattle.dump_lanes.specs.declared.pool.jobs.Hand.{Hand}
 use Rattle.dump_lanes.specs.declared.protocol.Mark.{Mark}
 use Rattle.dump_lanes.specs.declared.steps.Step.{Step}
 use Rattle.dump_lanes.specs.declared.stop.protocol.WordStep.{WordStep}
 use Rattle.dump_lanes.specs.declared.stop.protocol.WordStep.TheVariants as kind
+use Rattle.dump_lanes.specs.declared.passes.View.{View}
 use Rattle.dump_lanes.specs.PoolParts.{Thread, thread_of}
 use Rattle.dump_lanes.specs.PartSteps.{event_of, IsStep}
 use Rattle.dump_lanes.specs.CreditRule.{CreditStep, IsStep as IsCreditStep}
@@ -56,5 +56,5 @@ WordOnlyRises = (was up : Bool) (step : WordStep) → IsWordStep was step up →
 -- no rule lets the cutter put a mark and note no step
 abbrev pub NoCutIsUnnoted : Type 0 → Type 0
 NoCutIsUnnoted T = (x : Mark T)
-    → ¬ ((n pass : ℕ) (v : Hand T) → v.puts ≡ true → Pushes IsJobQueue n pass v x
+    → ¬ ((n pass : ℕ) (v : View (Mark T)) → v.leads ≡ true → Pushes IsJobQueue n pass v x
     (λ w. w ≡ record v { put = v.put ++ x ∷ [] }))

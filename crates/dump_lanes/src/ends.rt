@@ -5,7 +5,8 @@ ghost use Rattle.crossbeam_channel.specs.Claims.{IsSeatAt, view};
 ghost use Rattle.crossbeam_channel.specs.Ends.{sends_on, receives_on};
 ghost use Rattle.dump_lanes.specs.LaneMarks.{IsPutting, IsTaking, mark_if, mark_of};
 
-use crate::protocol::{InOrder, Log, Mark, Puts, Roles, Total};
+use crate::passes::{Roles, View};
+use crate::protocol::{InOrder, Mark, Puts, Total};
 use crossbeam_channel::{Pass, RuledReceiver, RuledSender};
 use std::sync::Wait;
 
@@ -20,8 +21,8 @@ use receiving::receive;
 /// The sending end of a lane.
 #[derive(Drop)]
 pub struct LaneIn<T: Drop> {
-    sender: RuledSender<Mark<T>, Log<T>, InOrder>,
-    pass: Pass<Mark<T>, Log<T>>,
+    sender: RuledSender<Mark<T>, View<Mark<T>>, InOrder>,
+    pass: Pass<Mark<T>, View<Mark<T>>>,
     ghost seated: { IsSeatAt (sends_on sender) pass },
     ghost puts: { IsPutting [] (view pass) },
 }
@@ -29,8 +30,8 @@ pub struct LaneIn<T: Drop> {
 /// A sending end that was closed. It keeps what was put, for `LaneOut::settle`.
 #[derive(Drop)]
 pub struct Sent<T: Drop> {
-    sender: RuledSender<Mark<T>, Log<T>, InOrder>,
-    pass: Pass<Mark<T>, Log<T>>,
+    sender: RuledSender<Mark<T>, View<Mark<T>>, InOrder>,
+    pass: Pass<Mark<T>, View<Mark<T>>>,
     marked: Result<(), Unheard>,
     ghost seated: { IsSeatAt (sends_on sender) pass },
     ghost puts: { IsPutting (mark_if (is_ok marked)) (view pass) },
@@ -39,8 +40,8 @@ pub struct Sent<T: Drop> {
 /// The receiving end of a lane.
 #[derive(Drop)]
 pub struct LaneOut<T: Drop> {
-    receiver: RuledReceiver<Mark<T>, Log<T>, InOrder>,
-    pass: Pass<Mark<T>, Log<T>>,
+    receiver: RuledReceiver<Mark<T>, View<Mark<T>>, InOrder>,
+    pass: Pass<Mark<T>, View<Mark<T>>>,
     told: Told,
     ghost seated: { IsSeatAt (receives_on receiver) pass },
     ghost takes: { IsTaking (mark_of told) (view pass) },

@@ -118,6 +118,7 @@
 
 mod ends;
 pub mod laws;
+mod passes;
 mod pool;
 mod protocol;
 mod slots;

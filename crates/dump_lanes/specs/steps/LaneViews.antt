@@ -10,12 +10,12 @@ use Rattle.dump_lanes.specs.declared.ends.Taken.{Taken}
 use Rattle.dump_lanes.specs.declared.ends.Taken.TheVariants as takes
 use Rattle.dump_lanes.specs.declared.ends.Told.{Told}
 use Rattle.dump_lanes.specs.declared.ends.Told.TheVariants as tells
-use Rattle.dump_lanes.specs.declared.protocol.Log.{Log}
+use Rattle.dump_lanes.specs.declared.passes.View.{View}
 use Rattle.dump_lanes.specs.declared.protocol.Mark.{Mark}
 use Rattle.dump_lanes.specs.declared.steps.Step.{Step}
 use Rattle.dump_lanes.specs.steps.LaneEnds.{LaneName, LaneEnd, Sending, Receiving, IsWholeAtEnd}
 use Rattle.dump_lanes.specs.LaneMarks.{items_of}
-use Rattle.dump_lanes.specs.LaneRule.{lane_part}
+use Rattle.dump_lanes.specs.LaneRule.{lane_part, item_steps}
 use Rattle.dump_lanes.specs.PoolParts.{Thread}
 use Rattle.dump_lanes.specs.PartSteps.{AreSteps, all_put, all_taken, steps_of}
 
@@ -27,15 +27,15 @@ told tells.SenderGone = LaneEnd.SenderGone
 
 module _ {T : Type 0} where
   -- the lane that a pass is for
-  abbrev pub lane_of : Pass (Mark T) (Log T) → LaneName T
+  abbrev pub lane_of : Pass (Mark T) (View (Mark T)) → LaneName T
   lane_of pass = record { table = pass.table_id; key = pass.me.0.of }
 
   -- what the pass of a sending end says
-  abbrev pub sending_of : Pass (Mark T) (Log T) → Sending T
+  abbrev pub sending_of : Pass (Mark T) (View (Mark T)) → Sending T
   sending_of pass = record { lane = lane_of pass; put = items_of (view pass).put }
 
   -- what the pass of a receiving end says, with what the end was last told
-  abbrev pub receiving_of : Pass (Mark T) (Log T) → Told → Receiving T
+  abbrev pub receiving_of : Pass (Mark T) (View (Mark T)) → Told → Receiving T
   receiving_of pass end = record { lane = lane_of pass; taken = items_of (view pass).taken; told = told end }
 
   -- the sending end
@@ -65,7 +65,7 @@ module _ {T : Type 0} (end : LaneOut T) (other : Sent T) where
     pub left : List T
     pub steps : AreSteps lane_part happened left
     pub each : (thread : Thread) → steps_of thread
-        ((view end.pass).steps ++ (view other.pass).steps) ≡ steps_of thread happened
+        (item_steps ((view end.pass).steps ++ (view other.pass).steps)) ≡ steps_of thread happened
     pub put_is : (sent other).put ≡ all_put lane_part happened
     pub taken_is : (receiving end).taken ≡ all_taken lane_part happened
 

@@ -2,12 +2,12 @@
 use Rattle.std.specs.Prelude.{◌≡◌, true, false, [], length, All}
 use Rattle.std.specs.Arc.{arc_value}
 use Rattle.crossbeam_queue.specs.Passes.{view, IsPassOf}
+use Rattle.dump_lanes.specs.declared.passes.TheConstants.{PARTS}
 use Rattle.dump_lanes.specs.declared.pool.queues.Queues.{Queues}
 use Rattle.dump_lanes.specs.declared.pool.queues.Passes.{Passes}
 use Rattle.dump_lanes.specs.declared.pool.shares.Shares.{Shares}
 use Rattle.dump_lanes.specs.CreditRule.{purse}
-use Rattle.dump_lanes.specs.DoneRule.{reader}
-use Rattle.dump_lanes.specs.JobRule.{cutter_hand}
+use Rattle.dump_lanes.specs.QueueRule.{leading}
 use Rattle.dump_lanes.specs.PortSides.{PoolName, PoolState}
 
 module _ {J D : Type 0} where
@@ -28,8 +28,8 @@ module _ {J D : Type 0} where
     pub of_jobs : IsPassOf q.jobs p.jobs
     pub of_dones : IsPassOf q.dones p.dones
     pub of_credits : IsPassOf q.credits p.credits
-    pub jobs : view p.jobs ≡ cutter_hand 128 0
-    pub dones : view p.dones ≡ reader 128 [] 0 [] [] []
+    pub jobs : view p.jobs ≡ leading PARTS 0
+    pub dones : view p.dones ≡ leading PARTS 0
     pub credits : view p.credits ≡ purse true true q.window 0 0 []
 
   -- the queues, once for each port

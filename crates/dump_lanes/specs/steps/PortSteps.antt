@@ -30,7 +30,7 @@ module _ {J D : Type 0} (ports : Ports J D) where
     pub steps : AreSteps dones_part happened left
     pub each : (thread : Thread) → steps_of thread
         (done_steps ports.workers.items ++ (view ports.sequencer.dones).steps) ≡ steps_of thread happened
-    pub taken_is : (view ports.sequencer.dones).got ≡ all_taken dones_part happened
+    pub taken_is : (view ports.sequencer.dones).taken ≡ all_taken dones_part happened
 
   -- one of the credits: it leads from those that the pool had at first to those that are free
   pub record HaveCreditSteps : Type 0 where

@@ -8,13 +8,12 @@ use Rattle.dump_lanes.specs.declared.pool.cutter.JobPort.{JobPort}
 use Rattle.dump_lanes.specs.declared.pool.sequencer.DonePort.{DonePort}
 use Rattle.dump_lanes.specs.declared.pool.worker.WorkerPort.{WorkerPort}
 use Rattle.dump_lanes.specs.declared.pool.writer.CreditPort.{CreditPort}
-use Rattle.dump_lanes.specs.declared.pool.dones.Desk.{Desk}
 use Rattle.dump_lanes.specs.declared.pool.drawing.Drawn.{Drawn}
 use Rattle.dump_lanes.specs.declared.pool.drawing.Drawn.TheVariants as draws
-use Rattle.dump_lanes.specs.declared.pool.jobs.Hand.{Hand}
 use Rattle.dump_lanes.specs.declared.pool.dones.Note.{Note}
 use Rattle.dump_lanes.specs.declared.protocol.Mark.{Mark}
 use Rattle.dump_lanes.specs.declared.steps.Step.{Step}
+use Rattle.dump_lanes.specs.declared.passes.View.{View}
 use Rattle.dump_lanes.specs.steps.CreditViews.{credit_pool}
 use Rattle.dump_lanes.specs.LaneMarks.{items_of}
 use Rattle.dump_lanes.specs.steps.PoolNames.{name_of, state_of}
@@ -52,7 +51,7 @@ module _ {J D : Type 0} where
   done_port p = record {
     pool = name_of (arc_value p.queues);
     taken = items_of
-        (marks_in (view p.dones).got);
+        (marks_in (view p.dones).taken);
     ended = p.left == 0;
   }
 
@@ -69,34 +68,34 @@ module _ {J D : Type 0} where
   abbrev pub worker_ports : Ports J D → List (WorkerSide J D)
   worker_ports ports = map (λ (p : WorkerPort J D). worker_port p) ports.workers.items
 
+module _ {P E : Type 0} (pass_of : P → View E) where
+  -- the steps that the passes of these ports made, the last ones first
+  abbrev pub steps_by : List P → List (Step E)
+  steps_by [] = []
+  steps_by (p ∷ ports) = steps_by ports ++ (pass_of p).steps
+
+  -- the pass that leads, after it has taken in those of these ports
+  pub record HasTakenIn (ports : List P) (old new : View E) : Type 0 where
+    pub leads : new.leads ≡ true
+    pub parts : new.parts ≡ old.parts + length ports
+    pub put : new.put ≡ old.put ++ flat_map (λ (p : P). (pass_of p).put) ports
+    pub taken : new.taken ≡ old.taken ++ flat_map (λ (p : P). (pass_of p).taken) ports
+    pub steps : new.steps ≡ steps_by ports ++ old.steps
+
 module _ {J D : Type 0} where
-  -- the steps on the jobs, and on the dones, that these workers made, the last ones first
+  -- the steps on the jobs, and on the dones, that these workers made
   abbrev pub job_steps : List (WorkerPort J D) → List (Step (Mark J))
-  job_steps [] = []
-  job_steps (p ∷ ports) = job_steps ports ++ (view p.jobs).steps
+  job_steps = steps_by (λ (p : WorkerPort J D). view p.jobs)
 
   abbrev pub done_steps : List (WorkerPort J D) → List (Step (Note D))
-  done_steps [] = []
-  done_steps (p ∷ ports) = done_steps ports ++ (view p.dones).steps
+  done_steps = steps_by (λ (p : WorkerPort J D). view p.dones)
 
-  -- the cutter's pass for the jobs, after it has taken in these workers'
-  pub record HasJobsOf (ports : List (WorkerPort J D)) (old new : Hand J) : Type 0 where
-    pub may_put : new.puts ≡ true
-    pub takes_none : new.takes ≡ false
-    pub parts : new.parts ≡ old.parts + length ports
-    pub put : new.put ≡ old.put
-    pub taken : new.taken ≡ old.taken ++ flat_map (λ (p : WorkerPort J D). (view p.jobs).taken) ports
-    pub steps : new.steps ≡ job_steps ports ++ old.steps
+  -- the cutter's pass for the jobs, and the sequencer's for the dones, after it has taken in these workers'
+  abbrev pub HasJobsOf : List (WorkerPort J D) → View (Mark J) → View (Mark J) → Type 0
+  HasJobsOf = HasTakenIn (λ (p : WorkerPort J D). view p.jobs)
 
-  -- the sequencer's pass, after it has taken in these workers'
-  pub record HasDonesOf (ports : List (WorkerPort J D)) (old new : Desk D) : Type 0 where
-    pub may_take : new.gets ≡ true
-    pub parts : new.parts ≡ old.parts + length ports
-    pub put : new.put ≡ old.put ++ flat_map (λ (p : WorkerPort J D). (view p.dones).put) ports
-    pub made : new.made ≡ old.made
-    pub got : new.got ≡ old.got
-    pub known : new.known ≡ old.known ++ map (λ (p : WorkerPort J D). ((view p.dones).from, (view p.dones).put)) ports
-    pub steps : new.steps ≡ done_steps ports ++ old.steps
+  abbrev pub HasDonesOf : List (WorkerPort J D) → View (Note D) → View (Note D) → Type 0
+  HasDonesOf = HasTakenIn (λ (p : WorkerPort J D). view p.dones)
 
 -- one call of a worker: a job joins the taken ones, or its end mark came, now or before
 abbrev pub JobStep : {J D : Type 0} → WorkerSide J D → Option J → WorkerSide J D → Type 0

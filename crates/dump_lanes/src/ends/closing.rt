@@ -6,7 +6,8 @@ ghost use Rattle.crossbeam_channel.specs.Ends.{sends_on};
 ghost use Rattle.dump_lanes.specs.LaneMarks.{IsPutting, mark_if};
 ghost use Rattle.dump_lanes.specs.steps.LaneViews.{sending_of};
 
-use crate::protocol::{InOrder, Log, Mark, Puts};
+use crate::passes::View;
+use crate::protocol::{InOrder, Mark, Puts};
 use crossbeam_channel::{Pass, RuledSender};
 use std::sync::Wait;
 
@@ -19,8 +20,8 @@ pub struct Unheard {
 /// Puts the end mark, and waits for a place.
 pub fn put_end<T: Drop, R: Wait>(
     rt: &R,
-    sender: &RuledSender<Mark<T>, Log<T>, InOrder>,
-    pass: &mut Pass<Mark<T>, Log<T>>,
+    sender: &RuledSender<Mark<T>, View<Mark<T>>, InOrder>,
+    pass: &mut Pass<Mark<T>, View<Mark<T>>>,
 ) -> Result<(), Unheard>
     requires seated { IsSeatAt (sends_on sender.now) pass.old }
     requires puts { IsPutting [] (view pass.old) }

@@ -4,7 +4,8 @@ ghost use Rattle.dump_lanes.specs.steps.LaneEnds.{LaneEnd};
 ghost use Rattle.dump_lanes.specs.steps.LaneViews.{sending, receiving, places};
 
 use super::{LaneIn, LaneOut, Told};
-use crate::protocol::{InOrder, Log, Mark, Roles};
+use crate::passes::{Roles, View};
+use crate::protocol::{InOrder, Mark};
 use crossbeam_channel::bounded_with;
 use std::alloc::Global;
 
@@ -19,7 +20,7 @@ pub fn lane<T: Drop>(alloc: Global, capacity: usize) -> Result<(LaneIn<T>, LaneO
     ensures nothing_taken { IfOk result (λ ends. (receiving ends.1).taken ≡ []) }
     ensures nothing_told { IfOk result (λ ends. (receiving ends.1).told ≡ LaneEnd.MayCome) }
 {
-    let Ok((sender, receiver, mut pass)) = bounded_with::<Mark<T>, Log<T>, InOrder, Global>(
+    let Ok((sender, receiver, mut pass)) = bounded_with::<Mark<T>, View<Mark<T>>, InOrder, Global>(
         alloc,
         capacity + 1,
     ) else {

@@ -1,10 +1,12 @@
 //! How the receiving end waits.
-ghost use Rattle.std.specs.Prelude.{◌≡◌, true, IfOk, OnErr};
+ghost use Rattle.std.specs.Prelude.{◌≡◌, ◌<◌, false, IfOk, OnErr};
 ghost use Rattle.crossbeam_channel.specs.Claims.{IsSeatAt, view};
 ghost use Rattle.crossbeam_channel.specs.Ends.{receives_on};
-ghost use Rattle.dump_lanes.specs.LaneRule.{after_take};
+ghost use Rattle.dump_lanes.specs.LaneRule.{take_step};
+ghost use Rattle.dump_lanes.specs.QueueRule.{after_take};
 
-use crate::protocol::{InOrder, Log, Mark, Takes};
+use crate::passes::View;
+use crate::protocol::{InOrder, Mark, Takes};
 use crate::turns::TURNS;
 use crossbeam_channel::{Pass, RecvError, RuledReceiver, TryRecvError};
 use std::sync::Wait;
@@ -13,13 +15,13 @@ use std::thread;
 /// Takes the mark at the front, and waits for one. An error: none is there, and the sending end is gone.
 pub fn receive<T: Drop, R: Wait>(
     rt: &R,
-    receiver: &RuledReceiver<Mark<T>, Log<T>, InOrder>,
-    pass: &mut Pass<Mark<T>, Log<T>>,
+    receiver: &RuledReceiver<Mark<T>, View<Mark<T>>, InOrder>,
+    pass: &mut Pass<Mark<T>, View<Mark<T>>>,
 ) -> Result<Mark<T>, RecvError>
     requires seated { IsSeatAt (receives_on receiver.now) pass.old }
-    requires may_take { (view pass.old).takes ≡ true }
+    requires follows { ((view pass.old).leads ≡ false) × (0 < (view pass.old).parts) × ((view pass.old).from ≡ 0) }
     ensures seated { IsSeatAt (receives_on receiver.now) pass.new }
-    ensures taken { IfOk result (λ mark. view pass.new ≡ after_take (view pass.old) mark) }
+    ensures taken { IfOk result (λ mark. view pass.new ≡ after_take (view pass.old) (take_step mark)) }
     ensures same { OnErr result (view pass.new ≡ view pass.old) }
 {
     for _ in 0..TURNS {

@@ -10,9 +10,10 @@ ghost use Rattle.dump_lanes.specs.declared.protocol.Mark.TheVariants.{End};
 use super::bell::Bells;
 use super::credits::{Purse, Token};
 use super::drawing::{Drawn, draw_from};
-use super::jobs::{Hand, JobQueue, PutsJob};
+use super::jobs::{JobQueue, PutsJob};
 use super::queues::Queues;
 use super::waiting::push;
+use crate::passes::View;
 use crate::protocol::Mark;
 use crate::stop::{StopSeat, StopWord};
 use crossbeam_queue::Pass;
@@ -22,7 +23,7 @@ use std::sync::{Arc, Wait};
 #[derive(Drop)]
 pub struct JobPort<J: Drop, D: Drop> {
     pub(super) queues: Arc<Queues<J, D>>,
-    pub(super) jobs: Pass<Mark<J>, Hand<J>>,
+    pub(super) jobs: Pass<Mark<J>, View<Mark<J>>>,
     pub(super) credits: Pass<Token, Purse>,
     ghost of_jobs: { IsPassOf (arc_value queues).jobs jobs },
     ghost of_credits: { IsPassOf (arc_value queues).credits credits },
@@ -85,11 +86,11 @@ fn put_ends<J: Drop, R: Wait>(
     rt: &R,
     queue: &JobQueue<J>,
     bells: &Bells,
-    pass: &mut Pass<Mark<J>, Hand<J>>,
+    pass: &mut Pass<Mark<J>, View<Mark<J>>>,
     count: usize,
 )
     requires pass { IsPassOf queue.now pass.old }
-    requires puts { (view pass.old).puts ≡ true }
+    requires leads { (view pass.old).leads ≡ true }
     ensures pass { IsSamePass pass.old pass.new }
     ensures put { view pass.new ≡ after_ends (view pass.old) count }
 {

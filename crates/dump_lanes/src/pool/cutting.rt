@@ -3,8 +3,8 @@ ghost use Rattle.std.specs.Prelude.{◌≡◌, ◌-◌, ◌≤◌, [], true, len
 ghost use Rattle.std.specs.List.{range_with_len};
 ghost use Rattle.std.specs.Arc.{arc_value};
 ghost use Rattle.crossbeam_queue.specs.Passes.{view, IsPassOf};
-ghost use Rattle.dump_lanes.specs.DoneRule.{reader};
-ghost use Rattle.dump_lanes.specs.JobRule.{cutter_hand};
+ghost use Rattle.dump_lanes.specs.QueueRule.{leading};
+ghost use Rattle.dump_lanes.specs.declared.passes.TheConstants.{PARTS};
 ghost use Rattle.dump_lanes.specs.steps.PoolNames.{AreFirst, AreShares, state_of};
 ghost use Rattle.dump_lanes.specs.PortSides.{new_cutter, new_worker, new_sequencer, new_writer};
 ghost use Rattle.dump_lanes.specs.steps.PortViews.{job_port, worker_port, worker_ports, done_port, credit_port};
@@ -12,13 +12,13 @@ ghost use Rattle.dump_lanes.specs.steps.PortViews.{job_port, worker_port, worker
 use super::Ports;
 use super::credits::CreditRoles;
 use super::cutter::JobPort;
-use super::dones::{Desk, DoneRoles, Note};
-use super::jobs::{Hand, JobRoles};
+use super::dones::Note;
 use super::queues::{Passes, Queues};
 use super::sequencer::DonePort;
 use super::shares::Shares;
 use super::worker::WorkerPort;
 use super::writer::CreditPort;
+use crate::passes::{Roles, View};
 use crate::protocol::Mark;
 use crossbeam_queue::Pass;
 use std::sync::Arc;
@@ -72,29 +72,29 @@ pub fn cut<J: Drop, D: Drop>(
 
 fn cut_workers<J: Drop, D: Drop>(
     queues: &Queues<J, D>,
-    jobs: &mut Pass<Mark<J>, Hand<J>>,
-    dones: &mut Pass<Note<D>, Desk<D>>,
+    jobs: &mut Pass<Mark<J>, View<Mark<J>>>,
+    dones: &mut Pass<Note<D>, View<Note<D>>>,
     shares: Vec<Arc<Queues<J, D>>>,
     room: Vec<WorkerPort<J, D>>,
 ) -> Vec<WorkerPort<J, D>>
     requires of_jobs { IsPassOf queues.now.jobs jobs.old }
     requires of_dones { IsPassOf queues.now.dones dones.old }
-    requires jobs { view jobs.old ≡ cutter_hand 128 0 }
-    requires dones { view dones.old ≡ reader 128 [] 0 [] [] [] }
+    requires jobs { view jobs.old ≡ leading PARTS 0 }
+    requires dones { view dones.old ≡ leading PARTS 0 }
     requires shares { All (λ a. arc_value a ≡ queues.now) shares.items }
     requires as_many { length shares.items ≡ queues.now.workers }
     requires room { (room.items ≡ []) × (queues.now.workers ≤ vec_capacity room) }
     ensures of_jobs { IsPassOf queues.now.jobs jobs.new }
     ensures of_dones { IsPassOf queues.now.dones dones.new }
-    ensures jobs { view jobs.new ≡ cutter_hand (128 - queues.now.workers) queues.now.workers }
-    ensures dones { view dones.new ≡ reader (128 - queues.now.workers) [] queues.now.workers [] [] [] }
+    ensures jobs { view jobs.new ≡ leading (PARTS - queues.now.workers) queues.now.workers }
+    ensures dones { view dones.new ≡ leading (PARTS - queues.now.workers) queues.now.workers }
     ensures workers { map (λ p. worker_port p) result.items ≡ map (new_worker (state_of queues.now)) (range_with_len 0 queues.now.workers) }
 {
     let mut workers = room;
     for share in shares {
         let index = workers.len();
-        let takes = queues.jobs.another::<JobRoles>(jobs);
-        let gives = queues.dones.another::<DoneRoles>(dones);
+        let takes = queues.jobs.another::<Roles>(jobs);
+        let gives = queues.dones.another::<Roles>(dones);
         workers.push_reserved(WorkerPort::new(share, index, takes, gives));
     }
     workers

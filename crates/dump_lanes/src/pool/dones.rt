@@ -3,18 +3,14 @@
 //! 1. The queue carries notes: a mark, which is an item or a worker's end mark, with that worker's index.
 //! 2. There is one history of steps, each of which is the dones' share of one event of the pool, with one note. It leads
 //!    from the empty queue to what the queue holds, and has of each thread just the steps that its pass made.
-//! 3. A worker has one pass, which knows what it put itself, in order; one pass alone takes, and knows all that was taken.
-//! 4. A pass has parts, 128 in all. A pass that takes in a worker's keeps that worker's list beside its index.
-//! 5. A pass with all parts learns that the workers together put each note as often as it was taken or is left, and that
-//!    it knows each thread's steps in the history.
+//! 3. The sequencer's pass leads, and makes the takes; the others are the workers', and make the puts.
+use crate::passes::View;
 use crate::protocol::Mark;
-use crate::steps::Step;
 use crossbeam_queue::RuledArrayQueue;
-use crossbeam_queue::protocol::{Join, Lesson, Outcome, Protocol, Split};
-use std::collections::LinkedList;
+use crossbeam_queue::protocol::{Lesson, Outcome, Protocol};
 
 /// The queue of dones.
-pub type DoneQueue<D> = RuledArrayQueue<Note<D>, Desk<D>, DoneShares>;
+pub type DoneQueue<D> = RuledArrayQueue<Note<D>, View<Note<D>>, DoneShares>;
 
 /// A mark, and the index of the worker that put it.
 #[derive(Drop)]
@@ -23,84 +19,55 @@ pub struct Note<T> {
     pub mark: Mark<T>,
 }
 
-/// What a pass may do and what it has seen. Only its type is used: no value of it is made.
-pub struct Desk<T> {
-    pub parts: u64,
-    pub sends: bool,
-    pub from: u64,
-    pub put: LinkedList<Note<T>>,
-    pub gets: bool,
-    pub made: u64,
-    pub got: LinkedList<Note<T>>,
-    pub known: LinkedList<(u64, LinkedList<Note<T>>)>,
-    pub steps: LinkedList<Step<Note<T>>>,
-}
-
 /// The rule: each step on the queue is its share of the event that its pass notes.
 pub struct DoneShares;
 
-impl<T> Protocol<Note<T>, Desk<T>> for DoneShares {
-    ghost use Rattle.std.specs.Prelude.{[]};
-    ghost use Rattle.dump_lanes.specs.DoneRule.{reader, IsDoneQueue};
+impl<T> Protocol<Note<T>, View<Note<T>>> for DoneShares {
+    ghost use Rattle.dump_lanes.specs.DoneRule.{IsDoneQueue};
+    ghost use Rattle.dump_lanes.specs.QueueRule.{leading};
+    ghost use Rattle.dump_lanes.specs.declared.passes.TheConstants.{PARTS};
 
     ghost holds = { IsDoneQueue };
 
-    ghost first = { reader 128 [] 0 [] [] [] };
-}
-
-/// A worker's pass is cut off the sequencer's.
-pub struct DoneRoles;
-
-impl<T> Split<Desk<T>> for DoneRoles {
-    ghost use Rattle.std.specs.Prelude.{[]};
-    ghost use Rattle.dump_lanes.specs.DoneRule.{after_fork, sender};
-
-    ghost left = { λ v. after_fork v };
-
-    ghost right = { λ v. sender 1 v.made [] [] };
-}
-
-impl<T> Join<Desk<T>> for DoneRoles {
-    ghost use Rattle.dump_lanes.specs.DoneRule.{after_join, spent};
-
-    ghost both = { λ v w. after_join v w };
-
-    ghost spent = { spent };
+    ghost first = { leading PARTS 0 };
 }
 
 /// A note joins those that were put.
 pub struct PutsNote;
 
-impl<T> Outcome<Note<T>, Desk<T>> for PutsNote {
+impl<T> Outcome<Note<T>, View<Note<T>>> for PutsNote {
     ghost use Rattle.std.specs.Prelude.{◌≡◌};
-    ghost use Rattle.dump_lanes.specs.DoneRule.{after_give};
+    ghost use Rattle.dump_lanes.specs.DoneRule.{give_step};
+    ghost use Rattle.dump_lanes.specs.QueueRule.{after_put};
 
-    ghost then = { λ v x w. w ≡ after_give v x };
+    ghost then = { λ v x w. w ≡ after_put v (give_step x) };
 }
 
-impl<T> Lesson<Note<T>, Desk<T>> for PutsNote {
+impl<T> Lesson<Note<T>, View<Note<T>>> for PutsNote {
     ghost fact = { λ v items. Unit {0} };
 }
 
 /// A note joins those that were taken.
 pub struct TakesNote;
 
-impl<T> Outcome<Note<T>, Desk<T>> for TakesNote {
+impl<T> Outcome<Note<T>, View<Note<T>>> for TakesNote {
     ghost use Rattle.std.specs.Prelude.{◌≡◌};
-    ghost use Rattle.dump_lanes.specs.DoneRule.{after_arrive};
+    ghost use Rattle.dump_lanes.specs.DoneRule.{arrive_step};
+    ghost use Rattle.dump_lanes.specs.QueueRule.{after_take};
 
-    ghost then = { λ v x w. w ≡ after_arrive v x };
+    ghost then = { λ v x w. w ≡ after_take v (arrive_step x) };
 }
 
-impl<T> Lesson<Note<T>, Desk<T>> for TakesNote {
+impl<T> Lesson<Note<T>, View<Note<T>>> for TakesNote {
     ghost fact = { λ v items. Unit {0} };
 }
 
-/// What a pass that takes and has all parts learns.
+/// What a pass with all parts learns.
 pub struct AllNotes;
 
-impl<T> Lesson<Note<T>, Desk<T>> for AllNotes {
-    ghost use Rattle.dump_lanes.specs.DoneRule.{IsWhole, KnowsSteps};
+impl<T> Lesson<Note<T>, View<Note<T>>> for AllNotes {
+    ghost use Rattle.dump_lanes.specs.DoneRule.{dones_part, sequencer_crew};
+    ghost use Rattle.dump_lanes.specs.QueueRule.{KnowsSteps};
 
-    ghost fact = { λ v items. IsWhole v items × KnowsSteps v items };
+    ghost fact = { λ v items. KnowsSteps dones_part sequencer_crew v items };
 }

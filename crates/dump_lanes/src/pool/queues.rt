@@ -4,8 +4,9 @@ ghost use Rattle.crossbeam_queue.specs.Passes.{ruled_capacity};
 
 use super::bell::Bells;
 use super::credits::{CreditQueue, Purse, Token};
-use super::dones::{Desk, DoneQueue, Note};
-use super::jobs::{Hand, JobQueue};
+use super::dones::{DoneQueue, Note};
+use super::jobs::JobQueue;
+use crate::passes::View;
 use crate::protocol::Mark;
 use crossbeam_queue::Pass;
 
@@ -30,7 +31,7 @@ pub struct Queues<J: Drop, D: Drop> {
 /// The first passes of the queues.
 #[derive(Drop)]
 pub struct Passes<J: Drop, D: Drop> {
-    pub jobs: Pass<Mark<J>, Hand<J>>,
-    pub dones: Pass<Note<D>, Desk<D>>,
+    pub jobs: Pass<Mark<J>, View<Mark<J>>>,
+    pub dones: Pass<Note<D>, View<Note<D>>>,
     pub credits: Pass<Token, Purse>,
 }

@@ -5,9 +5,10 @@ ghost use Rattle.crossbeam_queue.specs.Passes.{view, IsSamePass, IsPassOf};
 ghost use Rattle.dump_lanes.specs.steps.PoolPasses.{IsSequencing, HasRead, count_ends, marks_in};
 
 use super::bell::Bells;
-use super::dones::{Desk, DoneQueue, Note, TakesNote};
+use super::dones::{DoneQueue, Note, TakesNote};
 use super::queues::Queues;
 use super::waiting::pop;
+use crate::passes::View;
 use crate::protocol::Mark;
 use crossbeam_queue::Pass;
 use std::sync::{Arc, Wait};
@@ -16,7 +17,7 @@ use std::sync::{Arc, Wait};
 #[derive(Drop)]
 pub struct DonePort<J: Drop, D: Drop> {
     pub(super) queues: Arc<Queues<J, D>>,
-    pub(super) dones: Pass<Note<D>, Desk<D>>,
+    pub(super) dones: Pass<Note<D>, View<Note<D>>>,
     pub(super) left: usize,
     ghost of_dones: { IsPassOf (arc_value queues).dones dones },
     ghost sequences: { IsSequencing (arc_value queues).workers left (view dones) },
@@ -44,14 +45,14 @@ fn take_from<D: Drop, R: Wait>(
     rt: &R,
     queue: &DoneQueue<D>,
     bells: &Bells,
-    pass: &mut Pass<Note<D>, Desk<D>>,
+    pass: &mut Pass<Note<D>, View<Note<D>>>,
     left: &mut usize,
 ) -> Option<D>
     requires pass { IsPassOf queue.now pass.old }
-    requires takes { ((view pass.old).gets ≡ true) × (0 < (view pass.old).parts) }
+    requires leads { (view pass.old).leads ≡ true }
     ensures pass { IsSamePass pass.old pass.new }
     ensures read { HasRead (option_to_list result) (view pass.old) (view pass.new) }
-    ensures ends { count_ends (marks_in (view pass.new).got) + left.new ≡ count_ends (marks_in (view pass.old).got) + left.old }
+    ensures ends { count_ends (marks_in (view pass.new).taken) + left.new ≡ count_ends (marks_in (view pass.old).taken) + left.old }
     ensures some { IfSome result (λ _. (0 < left.old) × (0 < left.new)) }
     ensures none { IfNone result (left.new ≡ 0) }
 {

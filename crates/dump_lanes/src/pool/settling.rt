@@ -9,12 +9,13 @@ ghost use Rattle.dump_lanes.specs.steps.PortViews.{job_port, worker_port, worker
 use super::Ports;
 use super::credits::{AllCredits, CreditRoles};
 use super::cutter::JobPort;
-use super::dones::{AllNotes, Desk, DoneRoles, Note};
-use super::jobs::{AllJobs, Hand, JobRoles};
+use super::dones::{AllNotes, Note};
+use super::jobs::AllJobs;
 use super::queues::Queues;
 use super::sequencer::DonePort;
 use super::worker::WorkerPort;
 use super::writer::CreditPort;
+use crate::passes::{Roles, View};
 use crate::protocol::Mark;
 use crossbeam_queue::Pass;
 
@@ -65,14 +66,14 @@ impl<J: Drop, D: Drop> Ports<J, D> {
 // Takes in the passes of the workers.
 fn gather<J: Drop, D: Drop>(
     queues: &Queues<J, D>,
-    jobs: &mut Pass<Mark<J>, Hand<J>>,
-    dones: &mut Pass<Note<D>, Desk<D>>,
+    jobs: &mut Pass<Mark<J>, View<Mark<J>>>,
+    dones: &mut Pass<Note<D>, View<Note<D>>>,
     workers: Vec<WorkerPort<J, D>>,
 )
     requires of_jobs { IsPassOf queues.now.jobs jobs.old }
     requires of_dones { IsPassOf queues.now.dones dones.old }
-    requires cutter { ((view jobs.old).puts ≡ true) × ((view jobs.old).takes ≡ false) × (0 < (view jobs.old).parts) }
-    requires sequencer { ((view dones.old).gets ≡ true) × (0 < (view dones.old).parts) }
+    requires cutter { ((view jobs.old).leads ≡ true) × (0 < (view jobs.old).parts) }
+    requires sequencer { ((view dones.old).leads ≡ true) × (0 < (view dones.old).parts) }
     requires workers { All (λ p. (worker_port p).pool ≡ name_of queues.now) workers.items }
     ensures of_jobs { IsPassOf queues.now.jobs jobs.new }
     ensures of_dones { IsPassOf queues.now.dones dones.new }
@@ -88,7 +89,7 @@ fn gather<J: Drop, D: Drop>(
             dones: gives,
             closed: _,
         } = worker;
-        queues.jobs.absorb::<JobRoles>(jobs, takes);
-        queues.dones.absorb::<DoneRoles>(dones, gives);
+        queues.jobs.absorb::<Roles>(jobs, takes);
+        queues.dones.absorb::<Roles>(dones, gives);
     }
 }

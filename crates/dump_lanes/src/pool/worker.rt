@@ -2,14 +2,14 @@
 ghost use Rattle.std.specs.Prelude.{◌≡◌, [], ◌∷◌, ◌++◌, true, false};
 ghost use Rattle.std.specs.Arc.{arc_value};
 ghost use Rattle.crossbeam_queue.specs.Passes.{view, IsPassOf};
-ghost use Rattle.dump_lanes.specs.DoneRule.{sender};
-ghost use Rattle.dump_lanes.specs.JobRule.{worker_hand};
+ghost use Rattle.dump_lanes.specs.QueueRule.{following};
 ghost use Rattle.dump_lanes.specs.steps.PoolPasses.{IsWorking, IsGiving};
 
-use super::dones::{Desk, Note, PutsNote};
-use super::jobs::{Hand, TakesJob};
+use super::dones::{Note, PutsNote};
+use super::jobs::TakesJob;
 use super::queues::Queues;
 use super::waiting::{pop, push};
+use crate::passes::View;
 use crate::protocol::Mark;
 use crossbeam_queue::Pass;
 use std::sync::{Arc, Wait};
@@ -19,9 +19,9 @@ use std::sync::{Arc, Wait};
 pub struct WorkerPort<J: Drop, D: Drop> {
     pub(super) queues: Arc<Queues<J, D>>,
     pub(super) index: usize,
-    pub(super) jobs: Pass<Mark<J>, Hand<J>>,
+    pub(super) jobs: Pass<Mark<J>, View<Mark<J>>>,
     pub(super) ended: bool,
-    pub(super) dones: Pass<Note<D>, Desk<D>>,
+    pub(super) dones: Pass<Note<D>, View<Note<D>>>,
     pub(super) closed: bool,
     ghost of_jobs: { IsPassOf (arc_value queues).jobs jobs },
     ghost of_dones: { IsPassOf (arc_value queues).dones dones },
@@ -37,13 +37,13 @@ impl<J: Drop, D: Drop> WorkerPort<J, D> {
     pub(super) fn new(
         queues: Arc<Queues<J, D>>,
         index: usize,
-        jobs: Pass<Mark<J>, Hand<J>>,
-        dones: Pass<Note<D>, Desk<D>>,
+        jobs: Pass<Mark<J>, View<Mark<J>>>,
+        dones: Pass<Note<D>, View<Note<D>>>,
     ) -> WorkerPort<J, D>
         requires of_jobs { IsPassOf (arc_value queues).jobs jobs }
         requires of_dones { IsPassOf (arc_value queues).dones dones }
-        requires jobs { view jobs ≡ worker_hand index }
-        requires dones { view dones ≡ sender 1 index [] [] }
+        requires jobs { view jobs ≡ following index }
+        requires dones { view dones ≡ following index }
         ensures { worker_port result ≡ new_worker (state_of (arc_value queues)) index }
     {
         WorkerPort {

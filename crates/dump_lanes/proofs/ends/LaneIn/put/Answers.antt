@@ -7,7 +7,7 @@ use Rattle.dump_lanes.proofs.Moves.{sends}
 use Rattle.dump_lanes.proofs.ends.LaneIn.put.Goals as goal
 
 pub send_as-requires-clause-rule : goal.send_as-requires-clause-rule
-send_as-requires-clause-rule g c = (sends _ _ _ _ c.args.self.now.puts.may_put, λ items views h at. tt)
+send_as-requires-clause-rule g c = (sends _ _ _ _ c.args.self.now.puts.leads, λ items views h at. tt)
 
 pub invariant_of-self-clause-puts : goal.invariant_of-self-clause-puts
 invariant_of-self-clause-puts g c =

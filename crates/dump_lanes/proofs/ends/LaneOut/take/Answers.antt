@@ -1,7 +1,8 @@
-use Rattle.std.proofs.Common.{ap}
+use Rattle.std.proofs.Common.{ap, arith}
 use Rattle.crossbeam_channel.specs.Ends.{receives_on}
 use Rattle.dump_lanes.specs.declared.ends.Told.TheVariants.{Ended, SenderGone}
-use Rattle.dump_lanes.specs.declared.protocol.Log.{Log}
+use Rattle.dump_lanes.specs.declared.passes.View.{View}
+use Rattle.dump_lanes.specs.declared.protocol.Mark.{Mark}
 use Rattle.dump_lanes.specs.LaneMarks.{items_of}
 use Rattle.dump_lanes.specs.steps.LaneViews.{told}
 use Rattle.dump_lanes.proofs.LaneSteps.{same_receiving, ends_as, take_item, take_end, still_takes, ends, nothing_told}
@@ -13,8 +14,10 @@ returns-in-Ended g c = let is = ap told c.in-Ended.is in (ends_as c.args.self.no
 pub returns-in-SenderGone : goal.returns-in-SenderGone
 returns-in-SenderGone g c = let is = ap told c.in-SenderGone.is in (ends_as c.args.self.now.pass _ _ is, λ _. is)
 
-pub receive-requires-clause-may_take : goal.receive-requires-clause-may_take
-receive-requires-clause-may_take g c = c.args.self.now.takes.may_take
+pub receive-requires-clause-follows : goal.receive-requires-clause-follows
+receive-requires-clause-follows g c =
+    let takes = c.args.self.now.takes in
+    (takes.follows, (let e = takes.parts in omega arith), takes.from)
 
 pub invariant_of-self : goal.invariant_of-self
 invariant_of-self g c =
@@ -46,7 +49,7 @@ returns-in-Ok-End g c =
 
 pub returns-in-Err : goal.returns-in-Err
 returns-in-Err g c =
-    let same = ap (λ (l : Log g.row.T.Denot). items_of l.taken) c.in-Err.ensures.same in (
+    let same = ap (λ (l : View (Mark g.row.T.Denot)). items_of l.taken) c.in-Err.ensures.same in (
       same_receiving
           (receives_on c.args.self.now.receiver) c.receive.new.pass c.args.self.now.pass SenderGone _ c.receive.ensures.seated c.args.self.now.seated same,
       nothing_told _ _ c.in-MayCome.is,

@@ -1,13 +1,14 @@
 use Rattle.std.proofs.Common.{ap, subst, sym, []}
 use Rattle.crossbeam_channel.specs.Ends.{sends_on}
-use Rattle.dump_lanes.specs.declared.protocol.Log.{Log}
+use Rattle.dump_lanes.specs.declared.passes.View.{View}
+use Rattle.dump_lanes.specs.declared.protocol.Mark.{Mark}
 use Rattle.dump_lanes.specs.LaneMarks.{items_of, IsPutting}
 use Rattle.dump_lanes.proofs.LaneSteps.{same_sending, closes, close_keeps}
 use Rattle.dump_lanes.proofs.Moves.{sends}
 use Rattle.dump_lanes.proofs.ends.closing.put_end.Goals as goal
 
 pub send_as-requires-clause-rule : goal.send_as-requires-clause-rule
-send_as-requires-clause-rule g c = (sends _ _ _ _ c.requires.puts.may_put, λ items views h at. tt)
+send_as-requires-clause-rule g c = (sends _ _ _ _ c.requires.puts.leads, λ items views h at. tt)
 
 pub returns-in-Ok-clause-puts : goal.returns-in-Ok-clause-puts
 returns-in-Ok-clause-puts g c = closes _ _ c.requires.puts c.in-Ok.ensures.rule
@@ -23,6 +24,6 @@ returns-clause-puts g c = subst (IsPutting []) (sym c.in-Err.ensures.rule.1) c.r
 
 pub returns-clause-same : goal.returns-clause-same
 returns-clause-same g c =
-    let same = ap (λ (l : Log g.row.T.Denot). items_of l.put) c.in-Err.ensures.rule.1 in
+    let same = ap (λ (l : View (Mark g.row.T.Denot)). items_of l.put) c.in-Err.ensures.rule.1 in
     same_sending
     (sends_on c.args.sender.now) c.send_as.new.pass c.args.pass.now _ c.send_as.ensures.channel.0 c.requires.seated same

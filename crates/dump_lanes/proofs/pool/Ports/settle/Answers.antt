@@ -11,9 +11,12 @@ use Rattle.dump_lanes.specs.steps.PoolPasses.{IsSequencing}
 use Rattle.dump_lanes.specs.PortSides.{WorkerSide, IsDone}
 use Rattle.dump_lanes.specs.steps.PortViews.{worker_port, job_port}
 use Rattle.dump_lanes.proofs.CreditSteps as credits
-use Rattle.dump_lanes.proofs.DoneSteps as dones
-use Rattle.dump_lanes.proofs.JobSteps as jobs
-use Rattle.dump_lanes.proofs.PortsTogether.{all_of_map, length_of_map, same_workers, settles_jobs, settles_dones}
+use Rattle.dump_lanes.specs.DoneRule.{dones_part, sequencer_crew}
+use Rattle.dump_lanes.specs.JobRule.{jobs_part, cutter_crew}
+use Rattle.dump_lanes.proofs.DoneSteps.{sequencer_apart, knows_taken}
+use Rattle.dump_lanes.proofs.JobSteps.{cutter_apart, knows_put}
+use Rattle.dump_lanes.proofs.QueueSteps.{learns}
+use Rattle.dump_lanes.proofs.PortsTogether.{all_of_map, length_of_map, same_workers, same_put, same_taken, settles_jobs, settles_dones}
 use Rattle.dump_lanes.proofs.pool.Ports.settle.Goals as goal
 
 pub gather-requires-clause-workers : goal.gather-requires-clause-workers
@@ -35,7 +38,7 @@ learn_as-requires-clause-rule g c =
     let long = sym
     (length_of_map (λ (p : WorkerPort g.row.J.Denot g.row.D.Denot). worker_port p) c.args.self.workers.items)
     ∙ c.requires.workers.as_many in
-    jobs.learns _ _ v.may_put (omega arith)
+    learns jobs_part cutter_crew cutter_apart _ _ (omega arith)
 
 pub learn_as-requires-2-clause-rule : goal.learn_as-requires-2-clause-rule
 learn_as-requires-2-clause-rule g c =
@@ -47,7 +50,7 @@ learn_as-requires-2-clause-rule g c =
     let long = sym
     (length_of_map (λ (p : WorkerPort g.row.J.Denot g.row.D.Denot). worker_port p) c.args.self.workers.items)
     ∙ c.requires.workers.as_many in
-    dones.learns _ _ v.may_take (omega arith)
+    learns dones_part sequencer_crew sequencer_apart _ _ (omega arith)
 
 pub learn_as-requires-3-clause-rule : goal.learn_as-requires-3-clause-rule
 learn_as-requires-3-clause-rule g c =
@@ -63,7 +66,7 @@ returns-clause-jobs g c =
     ∙ c.requires.workers.as_many in
     settles_jobs (arc_value cutter.queues).workers (view cutter.jobs)
     (view c.gather.new.jobs) c.args.self.workers.items c.learn_as.ensures.rule.0
-    (arc_value cutter.queues).some_workers cutter.cuts c.requires.closed long done c.gather.ensures.jobs c.learn_as.ensures.rule.1.0
+    (arc_value cutter.queues).some_workers cutter.cuts c.requires.closed long done c.gather.ensures.jobs c.learn_as.ensures.rule.1
 
 pub returns-clause-dones : goal.returns-clause-dones
 returns-clause-dones g c =
@@ -72,13 +75,16 @@ returns-clause-dones g c =
     let done = all_of_map (λ (w : WorkerSide g.row.J.Denot g.row.D.Denot). IsDone w)
     (λ (p : WorkerPort g.row.J.Denot g.row.D.Denot). worker_port p) c.args.self.workers.items c.requires.done in
     let sequences = subst (λ n. IsSequencing n sequencer.left (view sequencer.dones)) same sequencer.sequences in
-    settles_dones _ _ sequencer.left (view sequencer.dones)
-    (view c.gather.new.dones) c.args.self.workers.items c.learn_as-2.ensures.rule.0 sequences c.requires.ended c.requires.workers done c.gather.ensures.dones c.learn_as-2.ensures.rule.1.0
+    let long = sym
+    (length_of_map (λ (p : WorkerPort g.row.J.Denot g.row.D.Denot). worker_port p) c.args.self.workers.items)
+    ∙ c.requires.workers.as_many in
+    settles_dones _ sequencer.left (view sequencer.dones)
+    (view c.gather.new.dones) c.args.self.workers.items c.learn_as-2.ensures.rule.0 sequences c.requires.ended long done c.gather.ensures.dones c.learn_as-2.ensures.rule.1
 
 pub returns-clause-steps : goal.returns-clause-steps
 returns-clause-steps g c =
-    let j = c.learn_as.ensures.rule.1.1 in
-    let d = c.learn_as-2.ensures.rule.1.1 in
+    let j = c.learn_as.ensures.rule.1 in
+    let d = c.learn_as-2.ensures.rule.1 in
     let k = c.learn_as-3.ensures.rule.1.1 in
     let joined = c.absorb.ensures.rule in
     record {
@@ -87,14 +93,14 @@ returns-clause-steps g c =
         left = c.learn_as.ensures.rule.0;
         steps = j.steps;
         each = λ t. ap (λ l. steps_of t l) (sym c.gather.ensures.jobs.steps) ∙ j.each t;
-        put_is = sym c.gather.ensures.jobs.put ∙ j.put_is;
+        put_is = sym (same_put _ _ _ c.gather.ensures.jobs) ∙ knows_put _ _ j;
       };
       dones = record {
         happened = d.happened;
         left = c.learn_as-2.ensures.rule.0;
         steps = d.steps;
         each = λ t. ap (λ l. steps_of t l) (sym c.gather.ensures.dones.steps) ∙ d.each t;
-        taken_is = sym c.gather.ensures.dones.got ∙ d.got_is;
+        taken_is = sym (same_taken _ _ _ c.gather.ensures.dones) ∙ knows_taken _ _ d;
       };
       credits = record {
         happened = k.happened;

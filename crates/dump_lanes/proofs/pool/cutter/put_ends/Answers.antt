@@ -1,8 +1,9 @@
 use Rattle.std.proofs.Common.{ap, ◌∙◌}
-use Rattle.dump_lanes.specs.declared.pool.jobs.Hand.{Hand}
+use Rattle.dump_lanes.specs.declared.protocol.Mark.{Mark}
+use Rattle.dump_lanes.specs.declared.passes.View.{View}
 use Rattle.dump_lanes.proofs.JobSteps.{puts}
 use Rattle.dump_lanes.proofs.pool.cutter.put_ends.Goals as goal
 
 pub push-requires-clause-rule : goal.push-requires-clause-rule
-push-requires-clause-rule g c = puts _ _ _ _ (ap (λ (v : Hand g.row.J.Denot). v.puts) c.loop.invariant.1
-    ∙ c.requires.puts)
+push-requires-clause-rule g c = puts _ _ _ _ (ap (λ (v : View (Mark g.row.J.Denot)). v.leads) c.loop.invariant.1
+    ∙ c.requires.leads)

@@ -4,16 +4,20 @@ use Rattle.std.proofs.lemmas.Iterator.Consumers.{YieldsList-turn, YieldsList-end
 use Rattle.std.proofs.lemmas.List.{length-append}
 use Rattle.std.specs.Arc.{arc_value}
 use Rattle.std.specs.List.{range_with_len}
-use Rattle.dump_lanes.specs.declared.pool.dones.Desk.{Desk}
-use Rattle.dump_lanes.specs.declared.pool.jobs.Hand.{Hand}
+use Rattle.dump_lanes.specs.declared.passes.TheConstants.{PARTS}
+use Rattle.dump_lanes.specs.declared.pool.dones.Note.{Note}
+use Rattle.dump_lanes.specs.declared.protocol.Mark.{Mark}
+use Rattle.dump_lanes.specs.declared.passes.View.{View}
 use Rattle.dump_lanes.specs.declared.pool.queues.Queues.{Queues}
-use Rattle.dump_lanes.specs.DoneRule.{reader, after_fork as dones_after_fork}
-use Rattle.dump_lanes.specs.JobRule.{cutter_hand, after_fork}
+use Rattle.dump_lanes.specs.DoneRule.{dones_part, sequencer_crew}
+use Rattle.dump_lanes.specs.JobRule.{jobs_part, cutter_crew}
+use Rattle.dump_lanes.specs.QueueRule.{leading, after_fork}
 use Rattle.dump_lanes.specs.steps.PoolNames.{state_of}
 use Rattle.dump_lanes.specs.PortSides.{new_worker}
 use Rattle.dump_lanes.specs.steps.PortViews.{worker_port}
-use Rattle.dump_lanes.proofs.DoneSteps as dones
-use Rattle.dump_lanes.proofs.JobSteps as jobs
+use Rattle.dump_lanes.proofs.DoneSteps.{sequencer_apart}
+use Rattle.dump_lanes.proofs.JobSteps.{cutter_apart}
+use Rattle.dump_lanes.proofs.QueueSteps.{forks}
 use Rattle.dump_lanes.proofs.Settling.{map-then, range-more}
 use Rattle.dump_lanes.proofs.pool.cutting.cut_workers.Goals as goal
 
@@ -27,23 +31,23 @@ another-takes-requires-clause-rule g c =
     let turn = YieldsList-turn (YieldsList-from_vec {s = c.into_iter-share-iterator.result} c.args.shares.items
     (search rules)
     (search rules)) c.loop-share.yielded c.loop-share.share-iterator c.loop-share.yielded_by c.next.result c.next.new.self c.in-Some.share c.in-Some.is c.next.ensures.steps in
-    let parts = ap (λ (v : Hand g.row.J.Denot). v.parts) c.loop-share.invariant.2 in
+    let parts = ap (λ (v : View (Mark g.row.J.Denot)). v.parts) c.loop-share.invariant.2 in
     let below = turn.0 in
     let many = c.requires.as_many in
     let most = c.args.queues.now.most_workers in
-    jobs.forks _ _ (ap (λ (v : Hand g.row.J.Denot). v.puts) c.loop-share.invariant.2)
-    (ap (λ (v : Hand g.row.J.Denot). v.takes) c.loop-share.invariant.2) (omega arith)
+    forks jobs_part cutter_crew cutter_apart _ _ (ap (λ (v : View (Mark g.row.J.Denot)). v.leads) c.loop-share.invariant.2)
+    (omega arith)
 
 pub another-gives-requires-clause-rule : goal.another-gives-requires-clause-rule
 another-gives-requires-clause-rule g c =
     let turn = YieldsList-turn (YieldsList-from_vec {s = c.into_iter-share-iterator.result} c.args.shares.items
     (search rules)
     (search rules)) c.loop-share.yielded c.loop-share.share-iterator c.loop-share.yielded_by c.next.result c.next.new.self c.in-Some.share c.in-Some.is c.next.ensures.steps in
-    let parts = ap (λ (v : Desk g.row.D.Denot). v.parts) c.loop-share.invariant.3 in
+    let parts = ap (λ (v : View (Note g.row.D.Denot)). v.parts) c.loop-share.invariant.3 in
     let below = turn.0 in
     let many = c.requires.as_many in
     let most = c.args.queues.now.most_workers in
-    dones.forks _ _ (ap (λ (v : Desk g.row.D.Denot). v.gets) c.loop-share.invariant.3) (omega arith)
+    forks dones_part sequencer_crew sequencer_apart _ _ (ap (λ (v : View (Note g.row.D.Denot)). v.leads) c.loop-share.invariant.3) (omega arith)
 
 pub new-requires-clause-of_jobs : goal.new-requires-clause-of_jobs
 new-requires-clause-of_jobs g c =
@@ -93,12 +97,12 @@ loop-share-preserved g c =
     ∙ (map-then (λ p. worker_port p) c.loop-share.workers.items c.new.result
     ∙ ((λ i. inv.4 i ++ new i ∷ []) ∙ (sym (map-then side (range_with_len 0 (length c.loop-share.yielded))
     (length c.loop-share.yielded)) ∙ ap (map side) (sym (range-more (length c.loop-share.yielded)))))) in
-    let fewer : 128 - length c.loop-share.yielded - 1 ≡ 128 - length
+    let fewer : PARTS - length c.loop-share.yielded - 1 ≡ PARTS - length
     (c.loop-share.yielded ++ c.in-Some.share ∷ []) = omega (arith, longer) in
-    let takes = c.another-takes.ensures.rule.0 ∙ (ap (λ (v : Hand g.row.J.Denot). after_fork v) inv.2
-    ∙ (λ i. cutter_hand (fewer i) (sym longer i))) in
-    let gives = c.another-gives.ensures.rule.0 ∙ (ap (λ (v : Desk g.row.D.Denot). dones_after_fork v) inv.3
-    ∙ (λ i. reader (fewer i) [] (sym longer i) [] [] [])) in (
+    let takes = c.another-takes.ensures.rule.0 ∙ (ap (λ (v : View (Mark g.row.J.Denot)). after_fork v) inv.2
+    ∙ (λ i. leading (fewer i) (sym longer i))) in
+    let gives = c.another-gives.ensures.rule.0 ∙ (ap (λ (v : View (Note g.row.D.Denot)). after_fork v) inv.3
+    ∙ (λ i. leading (fewer i) (sym longer i))) in (
       search rules,
       search rules,
       takes,
@@ -113,14 +117,14 @@ returns-clause-jobs g c =
     let end = YieldsList-end (YieldsList-from_vec {s = c.into_iter-share-iterator.result} c.args.shares.items
     (search rules)
     (search rules)) c.loop-share.yielded c.loop-share.share-iterator c.loop-share.yielded_by c.next.result c.next.new.self c.in-None.is c.next.ensures.steps in
-    c.loop-share.invariant.2 ∙ ap (λ n. cutter_hand (128 - n) n) (end.1 ∙ c.requires.as_many)
+    c.loop-share.invariant.2 ∙ ap (λ n. leading (PARTS - n) n) (end.1 ∙ c.requires.as_many)
 
 pub returns-clause-dones : goal.returns-clause-dones
 returns-clause-dones g c =
     let end = YieldsList-end (YieldsList-from_vec {s = c.into_iter-share-iterator.result} c.args.shares.items
     (search rules)
     (search rules)) c.loop-share.yielded c.loop-share.share-iterator c.loop-share.yielded_by c.next.result c.next.new.self c.in-None.is c.next.ensures.steps in
-    c.loop-share.invariant.3 ∙ ap (λ n. reader (128 - n) [] n [] [] []) (end.1 ∙ c.requires.as_many)
+    c.loop-share.invariant.3 ∙ ap (λ n. leading (PARTS - n) n) (end.1 ∙ c.requires.as_many)
 
 pub returns-clause-workers : goal.returns-clause-workers
 returns-clause-workers g c =

@@ -6,8 +6,7 @@ use Rattle.dump_lanes.proofs.pool.sequencer.take_from.Goals as goal
 
 pub pop-mark-requires-clause-rule : goal.pop-mark-requires-clause-rule
 pop-mark-requires-clause-rule g c =
-    let so_far = c.loop-left.invariant.1 in
-    takes _ _ so_far.may_take (let e = so_far.parts in let p = c.requires.takes.1 in omega arith)
+    takes _ _ c.loop-left.invariant.1.leads
 
 pub returns-in-Item-clause-read : goal.returns-in-Item-clause-read
 returns-in-Item-clause-read g c = read_item _

@@ -7,8 +7,8 @@ abbrev pub invariant-loop-left : goal.invariant-loop-left
 invariant-loop-left g l =
     IsSamePass l.initial.pass l.pass
     × HasRead [] (view l.initial.pass) (view l.pass)
-    × (count_ends (marks_in (view l.pass).got) + l.left ≡ count_ends
-    (marks_in (view l.initial.pass).got) + l.initial.left)
+    × (count_ends (marks_in (view l.pass).taken) + l.left ≡ count_ends
+    (marks_in (view l.initial.pass).taken) + l.initial.left)
     × (l.left ≤ l.initial.left)
 
 abbrev pub decreases-loop-left : goal.decreases-loop-left

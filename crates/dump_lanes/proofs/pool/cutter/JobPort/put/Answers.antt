@@ -4,7 +4,7 @@ use Rattle.dump_lanes.proofs.PortSteps.{cut_item, cut_item_put, cut_item_marks, 
 use Rattle.dump_lanes.proofs.pool.cutter.JobPort.put.Goals as goal
 
 pub push-requires-clause-rule : goal.push-requires-clause-rule
-push-requires-clause-rule g c = puts _ _ _ _ c.args.self.now.cuts.may_put
+push-requires-clause-rule g c = puts _ _ _ _ c.args.self.now.cuts.leads
 
 pub invariant_of-self : goal.invariant_of-self
 invariant_of-self g c =

@@ -7,7 +7,7 @@ use Rattle.dump_lanes.proofs.pool.worker.WorkerPort.give.Goals as goal
 pub push-requires-clause-rule : goal.push-requires-clause-rule
 push-requires-clause-rule g c =
     let gives = c.args.self.now.gives in
-    puts _ _ _ _ gives.may_put (let e = gives.parts in omega arith) (sym gives.from)
+    puts _ _ _ _ gives.follows (let e = gives.parts in omega arith) (sym gives.from)
 
 pub invariant_of-self : goal.invariant_of-self
 invariant_of-self g c =
@@ -16,7 +16,7 @@ invariant_of-self g c =
       of_jobs = old.of_jobs;
       of_dones = (c.push.ensures.queue.0 ∙ old.of_dones.0, c.push.ensures.queue.2 ∙ old.of_dones.1);
       works = old.works;
-      gives = give_item _ _ _ _ _ _ refl c.requires old.gives c.push.ensures.rule;
+      gives = give_item _ _ _ _ _ _ refl refl c.requires old.gives c.push.ensures.rule;
     }
 
 pub returns : goal.returns

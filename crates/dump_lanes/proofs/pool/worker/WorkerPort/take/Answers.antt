@@ -4,8 +4,8 @@ use Rattle.dump_lanes.proofs.PortSteps.{work_item, work_item_taken, work_end, wo
 use Rattle.dump_lanes.proofs.pool.worker.WorkerPort.take.Goals as goal
 
 pub pop-requires-clause-rule : goal.pop-requires-clause-rule
-pop-requires-clause-rule g c = let works = c.args.self.now.works in takes _ _
-    (let e = works.parts in omega arith) works.puts_none works.may_take
+pop-requires-clause-rule g c = let works = c.args.self.now.works in takes _ _ works.follows
+    (let e = works.parts in omega arith)
 
 pub invariant_of-self : goal.invariant_of-self
 invariant_of-self g c =
