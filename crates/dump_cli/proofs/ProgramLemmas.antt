@@ -12,7 +12,7 @@ use Rattle.clap.proofs.OnLiterals.{clap_on_literals}
 use Rattle.clap.proofs.ValueTestLemmas.{accepts-Accepts}
 use Rattle.clap.specs.declared.builder.value_parser.ValueParser.TheVariants as parsers
 use Rattle.dump_cli.specs.CommandLine.{number, program, side_app, switch}
-use Rattle.dump_cli.specs.Words.{AreFilled, IsNumber, IsSwitch}
+use Rattle.dump_cli.specs.steps.FilledFlags.{AreFilled, IsNumber, IsSwitch}
 use Rattle.dump_cli.proofs.RowLemmas.{AreAlone, IsRead, IsSetOnce, both_empty, is_filled, row_read}
 use Rattle.dump_cli.proofs.LineLemmas.{level_gives}
 

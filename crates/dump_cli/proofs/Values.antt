@@ -14,8 +14,10 @@ use Rattle.dump_pipeline.specs.declared.answer.Failure.TheVariants as failures
 use Rattle.dump_pipeline.proofs.Values.{empty_answer}
 use Rattle.dump_cli.specs.CommandLine.{switch, number, prefixes, side_app, program}
 use Rattle.dump_cli.specs.declared.words.Usage.TheVariants.{Words, BothDrops, Memory}
-use Rattle.dump_cli.specs.Words.{is_set, number_of, side_of, empty_of, order_of, AnswersTo, IsSwitch, IsNumber, AreFilled}
-use Rattle.dump_cli.specs.Drive.{status_of, IsSilent, BreaksOff, Ran, TellsBehind, FailsOnlyBehind, CarriesOut, refusal_status, Obeys, Drives}
+use Rattle.dump_cli.specs.Words.{is_set, number_of, side_of, empty_of, order_of, AnswersTo}
+use Rattle.dump_cli.specs.steps.FilledFlags.{IsSwitch, IsNumber, AreFilled}
+use Rattle.dump_cli.specs.Drive.{status_of, BreaksOff, Ran, CarriesOut, refusal_status, Obeys, Drives}
+use Rattle.dump_cli.specs.steps.DrainedRun.{IsSilent, TellsBehind, FailsOnlyBehind}
 
 -- CommandLine
 

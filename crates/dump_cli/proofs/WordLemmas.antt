@@ -12,7 +12,8 @@ use Rattle.clap.specs.declared.parser.matches.ArgMatches.{ArgMatches}
 use Rattle.clap.specs.declared.parser.matches.Found.{Found}
 use Rattle.clap.proofs.WalkLemmas.{one_text-rows}
 use Rattle.dump_cli.specs.CommandLine.{program}
-use Rattle.dump_cli.specs.Words.{AnswersTo, AreFilled, IsNumber, IsSwitch, is_lawful, is_set, meaning_of, number_of, order_of}
+use Rattle.dump_cli.specs.Words.{AnswersTo, is_lawful, is_set, meaning_of, number_of, order_of}
+use Rattle.dump_cli.specs.steps.FilledFlags.{AreFilled, IsNumber, IsSwitch}
 use Rattle.dump_cli.specs.declared.words.Usage.{Usage}
 use Rattle.dump_cli.specs.declared.words.Usage.TheVariants.{Words, Memory}
 use Rattle.dump_cli.proofs.RowLemmas.{is_filled, same_id}

@@ -1,13 +1,12 @@
 -- What the program does with its words and its input.
-use Rattle.std.specs.Prelude.{◌≡◌, ℕ, Bool, true, ◌⊎◌, List, [], Option, Result, Ok, Err, IfSome}
+use Rattle.std.specs.Prelude.{◌≡◌, ℕ, ◌⊎◌, List, Option, Result, Ok, Err, IfSome}
 use Rattle.std.specs.Io.KnownBytes.{Keeps, Appends, GrowsBy}
 use Rattle.dump_rules.specs.Settings.{Settings}
-use Rattle.dump_writer.specs.SinkStates.{LentState}
 use Rattle.dump_writer.specs.SinkWords.{IsPrefixOf}
 use Rattle.dump_pipeline.specs.declared.answer.Answer.{Answer}
 use Rattle.dump_pipeline.specs.declared.answer.Answer.TheVariants.{Clean, Fault, Failed}
 use Rattle.dump_pipeline.specs.declared.answer.Failure.TheVariants as failures
-use Rattle.dump_pipeline.specs.RunAnswer.{IsRunAnswer, SinkFailsOnly}
+use Rattle.dump_pipeline.specs.RunAnswer.{IsRunAnswer}
 use Rattle.dump_cli.specs.Words.{AnswersTo, Meaning}
 use Rattle.dump_cli.specs.declared.words.Order.{Order}
 use Rattle.dump_cli.specs.declared.words.Usage.{Usage}
@@ -17,11 +16,6 @@ abbrev pub status_of : Answer → ℕ
 status_of (Clean _) = 0
 status_of (Fault _ _ _) = 1
 status_of (Failed _ _) = 1
-
--- nothing is said of a clean run that is to be quiet
-abbrev pub IsSilent : Answer → Bool → Type 0
-IsSilent (Clean report) quiet = quiet ≡ true
-IsSilent answer quiet = ⊥
 
 -- the output broke off: the writer took the first of the bytes, perhaps all, and the answer is the failure with their
 -- count
@@ -40,16 +34,6 @@ pub record Ran (settings : Settings) (input : List ℕ) (old new : Option (List 
   pub sent : List ℕ
   pub answered : IsRunAnswer settings input sent answer
   pub arrived : (Appends old new sent × (told ≡ answer)) ⊎ BreaksOff old new sent told
-
--- what is told behind a run: its answer, where nothing waits any more; or the failure of the sink, with the bytes that
--- the writer took
-abbrev pub TellsBehind : LentState → Answer → Answer → Type 0
-TellsBehind sink ran told = ((told ≡ ran) × (sink.waiting ≡ []))
-    ⊎ ((told ≡ Failed failures.Sink sink.out.written) × GrowsBy sink.out.start sink.out.taken sink.out.written)
-
--- and what is told is the failure of the sink only where it failed, in the run or behind it
-abbrev pub FailsOnlyBehind : ℕ → ℕ → Answer → Answer → Type 0
-FailsOnlyBehind old new ran told = (first : ℕ) → SinkFailsOnly first old ran → SinkFailsOnly first new told
 
 -- an order is run on the whole input, or writes nothing for want of memory or input
 abbrev pub CarriesOut : Settings → Option (List ℕ) → Option (List ℕ) → Option (List ℕ) → ℕ → Type 0

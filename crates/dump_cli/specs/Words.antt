@@ -1,10 +1,10 @@
 -- What the program's words mean, by what clap finds in them.
-use Rattle.std.specs.Prelude.{◌≡◌, ◌⊎◌, ℕ, Bool, true, false, List, [], Option, Some, None, Result, Ok, Err, ⊤, codes, unwrap_or, if◌then◌else◌}
+use Rattle.std.specs.Prelude.{◌≡◌, ℕ, Bool, true, false, List, [], Option, Some, None, Result, Ok, Err, ⊤, codes, unwrap_or, if◌then◌else◌}
 use Rattle.std.specs.Option.{option_map_or}
 use Rattle.std.specs.Str.{bytes_eq}
 use Rattle.std.specs.Str.Parse.{digits_value, without_leading_plus}
 use Rattle.clap.specs.Walk.{is_empty}
-use Rattle.clap.specs.Words.{Row, Text, IsUnsignedIn, all_of, fault_of, one_of, subcommand_of}
+use Rattle.clap.specs.Words.{Row, Text, all_of, fault_of, one_of, subcommand_of}
 use Rattle.dump_rules.specs.Settings.{Settings}
 use Rattle.dump_rules.specs.declared.options.Side.{Side}
 use Rattle.dump_rules.specs.declared.options.Side.TheVariants.{Include, Exclude}
@@ -89,22 +89,3 @@ AnswersTo meaning (Ok order) = meaning ≡ Ok (shown order)
 AnswersTo meaning (Err Words) = meaning ≡ Err Words
 AnswersTo meaning (Err BothDrops) = meaning ≡ Err BothDrops
 AnswersTo meaning (Err Memory) = ⊤
-
--- a switch is set or it isn't, and a number stands in its range
-abbrev pub IsSwitch : Text → List Row → Type 0
-IsSwitch name rows = (text : Text) × (one_of name rows ≡ Some text)
-    × ((bytes_eq text (codes "true") ≡ true) ⊎ (bytes_eq text (codes "false") ≡ true))
-
-abbrev pub IsNumber : Text → ℕ → List Row → Type 0
-IsNumber name most rows = (text : Text) × (one_of name rows ≡ Some text) × IsUnsignedIn 1 most text
-
--- what a lawful line gives of each flag
-pub record AreFilled (rows : List Row) : Type 0 where
-  pub drop_empty : IsSwitch (codes "drop-empty-revs") rows
-  pub drop_all : IsSwitch (codes "drop-all-empty-revs") rows
-  pub renumber : IsSwitch (codes "renumber-revs") rows
-  pub preserve : IsSwitch (codes "preserve-revprops") rows
-  pub skip_missing : IsSwitch (codes "skip-missing-merge-sources") rows
-  pub quiet : IsSwitch (codes "quiet") rows
-  pub workers : IsNumber (codes "workers") 64 rows
-  pub window : IsNumber (codes "window") 4096 rows

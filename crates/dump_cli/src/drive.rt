@@ -1,10 +1,11 @@
 //! The whole program, over any reader and writers.
 ghost use Rattle.std.specs.Prelude.{◌≡◌, [], map};
 ghost use Rattle.std.specs.Io.KnownBytes.{GrowsBy, Keeps};
-ghost use Rattle.dump_writer.specs.SinkStates.{lent_taken, loan_of};
+ghost use Rattle.dump_writer.specs.steps.SinkStates.{lent_taken, loan_of};
 ghost use Rattle.dump_pipeline.specs.RunAnswer.{SinkFailsOnly};
 ghost use Rattle.dump_cli.specs.Words.{meaning_of};
-ghost use Rattle.dump_cli.specs.Drive.{CarriesOut, Drives, FailsOnlyBehind, IsSilent, Ran, TellsBehind, refusal_status, status_of};
+ghost use Rattle.dump_cli.specs.Drive.{CarriesOut, Drives, Ran, refusal_status, status_of};
+ghost use Rattle.dump_cli.specs.steps.DrainedRun.{FailsOnlyBehind, IsSilent, TellsBehind};
 
 use crate::input::{Unread, read_all};
 use crate::lines::{write_failure, write_fault, write_report, write_unread, write_usage};

@@ -3,7 +3,8 @@ ghost use Rattle.std.specs.Prelude.{◌≡◌, ◌≢◌, ◌≤◌, ◌⊎◌, 
 ghost use Rattle.clap.specs.Words.{all_of, found_of, kind_of, rows_of, takes};
 ghost use Rattle.dump_pipeline.specs.PlanViews.{worker_count, window_size};
 ghost use Rattle.dump_cli.specs.CommandLine.{program};
-ghost use Rattle.dump_cli.specs.Words.{AnswersTo, AreFilled, IsNumber, IsSwitch, empty_in, is_lawful, is_set, meaning_of, number_of, order_of, side_of};
+ghost use Rattle.dump_cli.specs.Words.{AnswersTo, empty_in, is_lawful, is_set, meaning_of, number_of, order_of, side_of};
+ghost use Rattle.dump_cli.specs.steps.FilledFlags.{AreFilled, IsNumber, IsSwitch};
 
 use crate::command::program;
 use clap::error::ErrorKind;
@@ -59,6 +60,7 @@ pub fn options_of<'a>(alloc: Global, words: &'a [&'a str]) -> Result<Order, Usag
 // Why clap refuses the words.
 fn refusal(error: &Error) -> Usage
     ensures memory { kind_of error.now ≡ ErrorKind.OutOfMemory → result ≡ Usage.Memory }
+    ensures words { kind_of error.now ≢ ErrorKind.OutOfMemory → result ≡ Usage.Words }
     ensures either { (result ≡ Usage.Words) ⊎ (result ≡ Usage.Memory) }
 {
     match error.kind() {

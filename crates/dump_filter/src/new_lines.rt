@@ -1,6 +1,7 @@
 //! The header lines of a record that is written: the old ones with new numbers, and lengths that were missing.
 ghost use Rattle.std.specs.Prelude.{◌≡◌, ◌++◌, ◌∷◌, [], ℕ, Some, OnOk, IfOk, IsTrue};
-ghost use Rattle.dump_text.specs.Names.{name_text, revision_name};
+ghost use Rattle.dump_text.specs.Names.{revision_name};
+ghost use Rattle.dump_text.specs.steps.KnownValues.{name_text};
 ghost use Rattle.dump_text.specs.HeaderLine.{header_text};
 ghost use Rattle.dump_text.specs.HeaderBlock.{lines_bytes, block_text};
 ghost use Rattle.dump_text.specs.steps.Views.{block_headers, line_header};

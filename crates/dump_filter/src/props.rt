@@ -1,6 +1,7 @@
 //! The property block of a record that is written: lent where it stands as it is written, else made anew.
 ghost use Rattle.std.specs.Prelude.{◌≡◌, ◌++◌, List, false, IsTrue, OnOk, IfOk, codes, option_copied};
-ghost use Rattle.dump_text.specs.PropertyList.{Property, IsPropertyBlock, entry_text, property_value, property_block_text};
+ghost use Rattle.dump_text.specs.PropertyList.{Property, IsPropertyBlock, entry_text, property_block_text};
+ghost use Rattle.dump_text.specs.steps.PropertyReading.{property_value};
 ghost use Rattle.dump_text.specs.steps.PropertyViews.{props_bytes, entry_property};
 ghost use Rattle.dump_writer.specs.steps.ChunkBytes.{chunk_bytes};
 ghost use Rattle.dump_records.specs.RecordText.{DumpRecord};

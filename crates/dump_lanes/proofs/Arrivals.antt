@@ -6,11 +6,11 @@ use Rattle.std.proofs.lemmas.List.{length-set, get_or-set_same, get_or-set_other
 use Rattle.std.proofs.lemmas.Option.{none-some}
 use Rattle.std.proofs.Math.Nat.{mod-lt}
 use Rattle.std.proofs.lemmas.List.Sums.{sum_by-cons, sum_by-append, sum_by_push, sum_by-set}
-use Rattle.dump_lanes.specs.PortSides.{WeighsSame}
+use Rattle.dump_lanes.specs.Arrivals.{WeighsSame, first_numbers, Lacks, IsWaiting, Clash}
 use Rattle.dump_lanes.specs.steps.SlotRow.{slot_item, with_slot_item}
 use Rattle.dump_lanes.proofs.core.Weights.{weigh, weigh-append, only, only_itself, only_other, within_range, above_range}
 use Rattle.dump_lanes.proofs.core.Slots.{near}
-use Rattle.dump_lanes.specs.Arrivals.{first_numbers, Lacks, IsWaiting, Clash, held, Row}
+use Rattle.dump_lanes.specs.steps.ArrivalRows.{held, Row}
 use Rattle.dump_lanes.specs.Arrivals.Clash.{Taken, Wrong}
 
 sum_is : (f : ℕ → ℕ) (xs : List ℕ) → sum_by f xs ≡ weigh f xs

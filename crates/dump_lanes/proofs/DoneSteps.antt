@@ -8,9 +8,11 @@ use Rattle.dump_lanes.specs.declared.steps.Move.{Move}
 use Rattle.dump_lanes.specs.declared.steps.Move.TheVariants as move
 use Rattle.dump_lanes.specs.declared.passes.View.{View}
 use Rattle.dump_lanes.specs.PoolParts.{Thread, thread_of}
-use Rattle.dump_lanes.specs.PartSteps.{event_of, is_thread, IsStep, all_taken}
-use Rattle.dump_lanes.specs.QueueRule.{after_put, after_take, KnowsSteps}
-use Rattle.dump_lanes.specs.DoneRule.{taken_by, dones_part, sequencer_crew, give_step, arrive_step, IsDoneQueue}
+use Rattle.dump_lanes.specs.PartSteps.{event_of, IsStep, all_taken}
+use Rattle.dump_lanes.specs.steps.OwnSteps.{is_thread}
+use Rattle.dump_lanes.specs.steps.QueueRule.{after_put, after_take, KnowsSteps}
+use Rattle.dump_lanes.specs.DoneRule.{taken_by, dones_part}
+use Rattle.dump_lanes.specs.steps.DoneQueue.{sequencer_crew, give_step, arrive_step, IsDoneQueue}
 use Rattle.dump_lanes.proofs.PartMoves.{worker_number}
 use Rattle.dump_lanes.proofs.QueueSteps as queue
 use Rattle.dump_lanes.proofs.QueueSteps.{AreApart}

@@ -3,7 +3,7 @@ use Rattle.std.proofs.Common.{◌≡◌, ◌∙◌, ℕ, zero, suc, ◌+◌, Lis
 use Rattle.std.proofs.lemmas.List.FromFn.{length-map-range_with_len}
 use Rattle.std.specs.List.{range_with_len}
 use Rattle.dump_lanes.specs.declared.pool.worker.WorkerPort.{WorkerPort}
-use Rattle.dump_lanes.specs.PortSides.{WorkerSide, PoolState, new_worker}
+use Rattle.dump_lanes.specs.steps.PortSides.{WorkerSide, PoolState, new_worker}
 use Rattle.dump_lanes.specs.steps.PortViews.{worker_port}
 use Rattle.dump_lanes.proofs.PortsTogether.{length_of_map, all_of_map}
 

@@ -9,9 +9,11 @@ use Rattle.dump_lanes.specs.declared.steps.Move.{Move}
 use Rattle.dump_lanes.specs.declared.steps.Move.TheVariants as move
 use Rattle.dump_lanes.specs.declared.passes.View.{View}
 use Rattle.dump_lanes.specs.PoolParts.{Thread, thread_of}
-use Rattle.dump_lanes.specs.PartSteps.{event_of, IsStep, is_thread, all_put}
-use Rattle.dump_lanes.specs.QueueRule.{after_put, KnowsSteps}
-use Rattle.dump_lanes.specs.JobRule.{cut_event, put_by, jobs_part, cutter_crew, put_step, take_step, after_job, IsJobQueue}
+use Rattle.dump_lanes.specs.PartSteps.{event_of, IsStep, all_put}
+use Rattle.dump_lanes.specs.steps.OwnSteps.{is_thread}
+use Rattle.dump_lanes.specs.steps.QueueRule.{after_put, KnowsSteps}
+use Rattle.dump_lanes.specs.JobRule.{put_by, jobs_part}
+use Rattle.dump_lanes.specs.steps.JobQueue.{cut_event, cutter_crew, put_step, take_step, after_job, IsJobQueue}
 use Rattle.dump_lanes.proofs.PartMoves.{worker_number}
 use Rattle.dump_lanes.proofs.QueueSteps as queue
 use Rattle.dump_lanes.proofs.QueueSteps.{AreApart}

@@ -11,9 +11,9 @@ use Rattle.dump_lanes.specs.declared.passes.View.{View}
 use Rattle.dump_lanes.specs.declared.protocol.Mark.{Mark}
 use Rattle.dump_lanes.specs.declared.protocol.Mark.TheVariants.{Item, End}
 use Rattle.dump_lanes.specs.steps.LaneEnds.{LaneEnd, IsWholeAtEnd}
-use Rattle.dump_lanes.specs.LaneMarks.{items_of, AreItemsThen, IsPutting, IsTaking, mark_if, mark_of}
-use Rattle.dump_lanes.specs.LaneRule.{put_step, take_step}
-use Rattle.dump_lanes.specs.QueueRule.{after_put, after_take}
+use Rattle.dump_lanes.specs.steps.LaneMarks.{items_of, AreItemsThen, IsPutting, IsTaking, mark_if, mark_of}
+use Rattle.dump_lanes.specs.steps.LaneQueue.{put_step, take_step}
+use Rattle.dump_lanes.specs.steps.QueueRule.{after_put, after_take}
 use Rattle.dump_lanes.specs.steps.LaneViews.{lane_of, sending_of, receiving_of, told, ComesAgain}
 use Rattle.dump_lanes.proofs.MarkLists.{items_of-then_item, items_of-then_end, then_item, then_end, is_whole, is_marked}
 

@@ -3,8 +3,8 @@ pub mod CreditSteps
 pub mod DoneSteps
 pub mod EventParts
 pub mod EventShares
-pub mod JobSteps
 pub mod FreshPorts
+pub mod JobSteps
 pub mod LaneSteps
 pub mod MarkLists
 pub mod Moves
@@ -15,6 +15,7 @@ pub mod PortsTogether
 pub mod QueueSteps
 pub mod Settling
 pub mod StepMoves
+pub mod StepValues
 pub mod StopSteps
 pub mod Values
 pub mod Views

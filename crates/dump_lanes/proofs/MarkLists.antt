@@ -3,7 +3,7 @@ use Rattle.std.proofs.Common.{◌≡◌, ◌≢◌, Bool, true, false, List, [],
 use Rattle.std.proofs.lemmas.List.{append-nil, map-append}
 use Rattle.dump_lanes.specs.declared.protocol.Mark.{Mark}
 use Rattle.dump_lanes.specs.declared.protocol.Mark.TheVariants.{Item, End}
-use Rattle.dump_lanes.specs.LaneMarks.{items_of, AreItemsThen, mark_if}
+use Rattle.dump_lanes.specs.steps.LaneMarks.{items_of, AreItemsThen, mark_if}
 
 module _ {T : Type 0} where
   -- marks joined to others have the items of both

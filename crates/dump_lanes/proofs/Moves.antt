@@ -9,11 +9,13 @@ use Rattle.dump_lanes.specs.declared.protocol.Mark.TheVariants.{Item, End}
 use Rattle.dump_lanes.specs.declared.steps.Move.{Move}
 use Rattle.dump_lanes.specs.declared.steps.Move.TheVariants as move
 use Rattle.dump_lanes.specs.declared.steps.Step.{Step}
-use Rattle.dump_lanes.specs.LaneMarks.{items_of}
+use Rattle.dump_lanes.specs.steps.LaneMarks.{items_of}
 use Rattle.dump_lanes.specs.PoolParts.{Thread, thread_of}
-use Rattle.dump_lanes.specs.PartSteps.{event_of, IsStep, AreSteps, is_thread, all_put, all_taken, steps_of}
-use Rattle.dump_lanes.specs.QueueRule.{after_put, after_take, KnowsSteps}
-use Rattle.dump_lanes.specs.LaneRule.{put_by, taken_by, lane_part, receiver_first, sender_crew, put_step, take_step, item_step, item_steps, IsInOrder}
+use Rattle.dump_lanes.specs.PartSteps.{event_of, IsStep, AreSteps, all_put, all_taken}
+use Rattle.dump_lanes.specs.steps.OwnSteps.{is_thread, steps_of}
+use Rattle.dump_lanes.specs.steps.QueueRule.{after_put, after_take, KnowsSteps}
+use Rattle.dump_lanes.specs.LaneRule.{put_by, taken_by, lane_part}
+use Rattle.dump_lanes.specs.steps.LaneQueue.{receiver_first, sender_crew, put_step, take_step, item_step, item_steps, IsInOrder}
 use Rattle.dump_lanes.proofs.MarkLists.{items_of-then_item, items_of-then_end}
 use Rattle.dump_lanes.proofs.PartMoves.{worker_number, other_thread, in_order}
 use Rattle.dump_lanes.proofs.QueueSteps as queue

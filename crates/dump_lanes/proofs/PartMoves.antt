@@ -8,7 +8,8 @@ use mathlib.Core.Logic.{dite}
 use native.Mathlib.Decide.{ℕ_discrete}
 use Rattle.dump_lanes.specs.declared.steps.Step.{Step}
 use Rattle.dump_lanes.specs.PoolParts.{Thread, thread_of}
-use Rattle.dump_lanes.specs.PartSteps.{event_of, Part, AreSteps, is_thread, all_put, all_taken, steps_of, Knows}
+use Rattle.dump_lanes.specs.PartSteps.{event_of, Part, AreSteps, all_put, all_taken}
+use Rattle.dump_lanes.specs.steps.OwnSteps.{is_thread, steps_of, Knows}
 
 abbrev number_of : Thread → ℕ
 number_of (Thread.Worker k) = k

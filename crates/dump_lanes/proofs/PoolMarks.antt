@@ -4,7 +4,7 @@ use Rattle.std.proofs.lemmas.List.{append-nil, map-append}
 use Rattle.dump_lanes.specs.declared.pool.dones.Note.{Note}
 use Rattle.dump_lanes.specs.declared.protocol.Mark.{Mark}
 use Rattle.dump_lanes.specs.declared.protocol.Mark.TheVariants.{Item, End}
-use Rattle.dump_lanes.specs.LaneMarks.{items_of}
+use Rattle.dump_lanes.specs.steps.LaneMarks.{items_of}
 use Rattle.dump_lanes.specs.steps.PoolPasses.{count_ends, marks_in}
 use Rattle.dump_lanes.proofs.MarkLists.{items_of-append}
 

@@ -6,14 +6,14 @@ use Rattle.dump_lanes.specs.declared.protocol.Mark.{Mark}
 use Rattle.dump_lanes.specs.declared.protocol.Mark.TheVariants.{Item, End}
 use Rattle.dump_lanes.specs.declared.steps.Step.{Step}
 use Rattle.dump_lanes.specs.declared.passes.View.{View}
-use Rattle.dump_lanes.specs.DoneRule.{give_step, arrive_step}
-use Rattle.dump_lanes.specs.JobRule.{put_step, after_ends, after_job}
-use Rattle.dump_lanes.specs.QueueRule.{after_put, after_take}
-use Rattle.dump_lanes.specs.LaneMarks.{items_of, AreItemsThen, mark_if}
+use Rattle.dump_lanes.specs.steps.DoneQueue.{give_step, arrive_step}
+use Rattle.dump_lanes.specs.steps.JobQueue.{put_step, after_ends, after_job}
+use Rattle.dump_lanes.specs.steps.QueueRule.{after_put, after_take}
+use Rattle.dump_lanes.specs.steps.LaneMarks.{items_of, AreItemsThen, mark_if}
 use Rattle.dump_lanes.specs.steps.PoolPasses.{count_ends, marks_in, EndsLast, IsCutting, IsWorking, IsGiving, IsSequencing, HasRead}
 use Rattle.dump_lanes.specs.PoolParts.{Thread}
-use Rattle.dump_lanes.specs.PartSteps.{steps_of}
-use Rattle.dump_lanes.specs.PortSides.{PoolName, CutterSide, WorkerSide, SequencerSide}
+use Rattle.dump_lanes.specs.steps.OwnSteps.{steps_of}
+use Rattle.dump_lanes.specs.steps.PortSides.{PoolName, CutterSide, WorkerSide, SequencerSide}
 use Rattle.dump_lanes.specs.steps.PortViews.{DoneStep}
 use Rattle.dump_lanes.proofs.MarkLists.{items_of-then_item, items_of-then_end, then_item, then_end}
 use Rattle.dump_lanes.proofs.PartMoves.{step_other, worker_number}

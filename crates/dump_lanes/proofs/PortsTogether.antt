@@ -12,15 +12,17 @@ use Rattle.dump_lanes.specs.declared.pool.worker.WorkerPort.{WorkerPort}
 use Rattle.dump_lanes.specs.declared.protocol.Mark.{Mark}
 use Rattle.dump_lanes.specs.declared.protocol.Mark.TheVariants.{End}
 use Rattle.dump_lanes.specs.declared.passes.View.{View}
-use Rattle.dump_lanes.specs.DoneRule.{dones_part, sequencer_crew}
-use Rattle.dump_lanes.specs.JobRule.{jobs_part, cutter_crew}
-use Rattle.dump_lanes.specs.QueueRule.{after_join, KnowsSteps}
-use Rattle.dump_lanes.specs.LaneMarks.{items_of, AreItemsThen, mark_if}
+use Rattle.dump_lanes.specs.DoneRule.{dones_part}
+use Rattle.dump_lanes.specs.steps.DoneQueue.{sequencer_crew}
+use Rattle.dump_lanes.specs.JobRule.{jobs_part}
+use Rattle.dump_lanes.specs.steps.JobQueue.{cutter_crew}
+use Rattle.dump_lanes.specs.steps.QueueRule.{after_join, KnowsSteps}
+use Rattle.dump_lanes.specs.steps.LaneMarks.{items_of, AreItemsThen, mark_if}
 use Rattle.dump_lanes.specs.steps.PoolNames.{name_of}
 use Rattle.dump_lanes.specs.steps.PoolPasses.{count_ends, marks_in, EndsLast, IsCutting, IsSequencing}
-use Rattle.dump_lanes.specs.PartSteps.{steps_of}
+use Rattle.dump_lanes.specs.steps.OwnSteps.{steps_of}
 use Rattle.dump_lanes.specs.PoolParts.{Thread}
-use Rattle.dump_lanes.specs.PortSides.{PoolName, PoolState, CutterSide, WorkerSide, new_cutter, new_worker, AreWorkersOf, IsDone, all_taken, all_given}
+use Rattle.dump_lanes.specs.steps.PortSides.{PoolName, PoolState, CutterSide, WorkerSide, new_cutter, new_worker, AreWorkersOf, IsDone, all_taken, all_given}
 use Rattle.dump_lanes.specs.steps.PortViews.{worker_port, steps_by, HasTakenIn, HasJobsOf, HasDonesOf, done_steps}
 use Rattle.dump_lanes.proofs.MarkLists.{items_of-append}
 use Rattle.dump_lanes.proofs.PoolMarks.{count_ends-append}

@@ -13,8 +13,9 @@ use Rattle.dump_lanes.specs.declared.passes.TheConstants.{PARTS}
 use Rattle.dump_lanes.specs.declared.steps.Step.{Step}
 use Rattle.dump_lanes.specs.declared.passes.View.{View}
 use Rattle.dump_lanes.specs.PoolParts.{Thread, thread_of}
-use Rattle.dump_lanes.specs.PartSteps.{event_of, Part, is_thread, IsStep, all_put, all_taken, steps_of}
-use Rattle.dump_lanes.specs.QueueRule.{Crew, leading, following, spent, after_put, after_take, after_fork, after_join, May, Fits, IsQueueOf, KnowsSteps}
+use Rattle.dump_lanes.specs.PartSteps.{event_of, Part, IsStep, all_put, all_taken}
+use Rattle.dump_lanes.specs.steps.OwnSteps.{is_thread, steps_of}
+use Rattle.dump_lanes.specs.steps.QueueRule.{Crew, leading, following, spent, after_put, after_take, after_fork, after_join, May, Fits, IsQueueOf, KnowsSteps}
 use Rattle.dump_lanes.proofs.PartMoves.{step_other, put_alone, taken_alone, put_weight, taken_weight, all_put-append, all_taken-append, forked, forked_stays, forked_to, forked_had, forked_kept, joined as joined_owner, joined_is, joined_kept, joined_had, joined_left, joined_stays, joined_comes, one_or_other, knows_step, knows_else, knows_fork_left, knows_fork_else, knows_fork_new, knows_join_both, knows_join_else, knows_join_spent}
 use Rattle.dump_lanes.proofs.Views.{AllViews, AllViews-set, AllViews-one, AllViews-more, within, set_long, at_some, sum_by-set, sum_by-least, sum_by-alone}
 

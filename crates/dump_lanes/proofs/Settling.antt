@@ -11,11 +11,14 @@ use Rattle.dump_lanes.specs.declared.steps.Move.{Move}
 use Rattle.dump_lanes.specs.declared.steps.Move.TheVariants as move
 use Rattle.dump_lanes.specs.declared.steps.Step.{Step}
 use Rattle.dump_lanes.specs.DoneRule as done_rule
-use Rattle.dump_lanes.specs.DoneRule.{dones_part, sequencer_crew}
-use Rattle.dump_lanes.specs.JobRule.{jobs_part, cutter_crew}
-use Rattle.dump_lanes.specs.LaneMarks.{items_of, AreItemsThen}
-use Rattle.dump_lanes.specs.PartSteps.{event_of, AreSteps, is_thread, all_put, all_taken, steps_of}
-use Rattle.dump_lanes.specs.QueueRule.{KnowsSteps}
+use Rattle.dump_lanes.specs.DoneRule.{dones_part}
+use Rattle.dump_lanes.specs.steps.DoneQueue.{sequencer_crew}
+use Rattle.dump_lanes.specs.JobRule.{jobs_part}
+use Rattle.dump_lanes.specs.steps.JobQueue.{cutter_crew}
+use Rattle.dump_lanes.specs.steps.LaneMarks.{items_of, AreItemsThen}
+use Rattle.dump_lanes.specs.PartSteps.{event_of, AreSteps, all_put, all_taken}
+use Rattle.dump_lanes.specs.steps.OwnSteps.{is_thread, steps_of}
+use Rattle.dump_lanes.specs.steps.QueueRule.{KnowsSteps}
 use Rattle.dump_lanes.specs.declared.passes.View.{View}
 use Rattle.dump_lanes.specs.PoolParts.{Thread, thread_of}
 use Rattle.dump_lanes.specs.steps.PoolPasses.{count_ends, marks_in, EndsLast}

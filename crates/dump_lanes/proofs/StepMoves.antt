@@ -3,7 +3,6 @@ use Rattle.std.proofs.Common.{◌≡◌, ◌⊎◌, inl, inr, ◌+◌, ◌==◌,
 use Rattle.std.proofs.lemmas.List.{append-nil, length-append}
 use mathlib.Core.Logic.{dite}
 use native.Mathlib.Decide.{ℕ_discrete}
-use Rattle.dump_lanes.specs.declared.passes.TheConstants.{PARTS}
 use Rattle.dump_lanes.specs.declared.pool.dones.Note.{Note}
 use Rattle.dump_lanes.specs.declared.protocol.Mark.{Mark}
 use Rattle.dump_lanes.specs.declared.protocol.Mark.TheVariants.{Item, End}
@@ -17,14 +16,9 @@ use Rattle.dump_lanes.specs.PartSteps.{event_of, Part, AreSteps, all_put, all_ta
 use Rattle.dump_lanes.specs.CreditRule as credits
 use Rattle.dump_lanes.specs.DoneRule as dones
 use Rattle.dump_lanes.specs.JobRule as jobs
-use Rattle.dump_lanes.specs.JobRule.{jobs_part, cutter_crew}
-use Rattle.dump_lanes.specs.QueueRule.{leading, Fits}
-use Rattle.dump_lanes.specs.declared.passes.View.{View}
 use Rattle.dump_lanes.specs.LaneRule as lane
-use Rattle.dump_lanes.specs.StepMoves.{Joins, Leaves, JobsMoveOne, DonesMoveOne, PiecesMoveOne, CreditsMoveOne, WordOnlyRises, NoCutIsUnnoted}
+use Rattle.dump_lanes.specs.StepMoves.{Joins, Leaves, JobsMoveOne, DonesMoveOne, PiecesMoveOne, CreditsMoveOne, WordOnlyRises}
 use Rattle.dump_lanes.proofs.CreditSteps.{one_balance}
-use Rattle.dump_lanes.proofs.JobSteps.{cutter_apart}
-use Rattle.dump_lanes.proofs.QueueSteps.{begins}
 
 module _ {E : Type 0} where
   -- a step moves one entry, no more
@@ -109,17 +103,6 @@ module _ {T : Type 0} where
   -- in each step on the dones a worker puts one note of its own, or the sequencer takes one
   pub dones_move : DonesMoveOne T
   dones_move old new s h = done s.event s.entry old new h.one_entry h.in_turn
-
-  -- a rule that lets the cutter put a mark and note no step would be kept at the first push, and isn't
-  pub not_unnoted : NoCutIsUnnoted T
-  not_unnoted x rule =
-      let first : View (Mark T) = leading PARTS 0 in
-      let after = rule 1 0 first refl [] (first ∷ []) (omega arith) (begins jobs_part cutter_crew cutter_apart) refl in
-      let w : View (Mark T) = after.0 in
-      let f : Fits jobs_part cutter_crew after.1.owner after.1.happened 0 w = after.1.fits 0 w refl in
-      let steps : w.steps ≡ [] = ap (λ (k : View (Mark T)). k.steps) after.2 in
-      let put : w.put ≡ x ∷ [] = ap (λ (k : View (Mark T)). k.put) after.2 in
-      none x (ap (all_put jobs_part) (sym steps) ∙ (sym f.put_is ∙ put))
 
 credit : (m : Move) (old new : ℕ) → credits.put_by (event_of m) + credits.taken_by (event_of m) ≡ 1
     → old + credits.put_by (event_of m) ≡ credits.taken_by (event_of m) + new

@@ -13,7 +13,8 @@ use Rattle.dump_lanes.specs.declared.stop.protocol.WordStep.TheVariants as kind
 use Rattle.dump_lanes.specs.declared.stop.protocol.Marks.{Marks}
 use Rattle.dump_lanes.specs.PoolEvents.{Event}
 use Rattle.dump_lanes.specs.PoolParts.{stop_share}
-use Rattle.dump_lanes.specs.StopRule.{is_event, IsStep, marks, spent, after_raise, after_look, left_half, right_half, joined, word_of, Fits, SomeRaised, IsStop, SeesOwn, KnowsSteps, HasLooked, HasChecked}
+use Rattle.dump_lanes.specs.StopRule.{is_event, IsStep}
+use Rattle.dump_lanes.specs.steps.StopMarks.{marks, spent, after_raise, after_look, left_half, right_half, joined, word_of, Fits, SomeRaised, IsStop, SeesOwn, KnowsSteps, HasLooked, HasChecked}
 use Rattle.dump_lanes.proofs.Views.{AllViews, AllViews-set, AllViews-one, AllViews-more, within, sum_by-set, sum_by-alone, sum_by-least}
 
 abbrev share_of : Marks → ℕ

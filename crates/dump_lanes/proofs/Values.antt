@@ -1,7 +1,7 @@
--- Worked runs of the pool's core and of three wrong forms of it, computed by the kernel: each wrong form breaks a law.
+-- Worked runs of the pool's core and of five wrong forms of it, computed by the kernel: each wrong form breaks a law.
 use Rattle.std.proofs.Common.{◌≡◌, ℕ, ◌+◌, ◌-◌, ◌==◌, Bool, true, false, not, ◌&&◌, cond, nat_lt, List, [], ◌∷◌, ◌++◌, length, count_by, Option, Some, None, option_map, option_to_list, refl}
 use Rattle.std.specs.List.{list_any}
-use Rattle.dump_lanes.specs.PoolWorld.{PoolSize, World, opening}
+use Rattle.dump_lanes.specs.PoolWorld.{PoolSize, Entry, World, opening}
 use Rattle.dump_lanes.specs.PoolEvents.{Event, is_enabled, after_event}
 use Rattle.dump_lanes.specs.PoolMoves.{is_move, all_moves, next_move}
 use Rattle.dump_lanes.specs.PoolProgress.{progress, most_moves}
@@ -171,3 +171,56 @@ own_slots = refl
 
 shared_slot : slots_after (size_of 1 1) (with_a_credit_more (size_of 1 1)) ≡ Some ((0 ∷ 1 ∷ []) ∷ [])
 shared_slot = refl
+
+-- the credit comes back as a done arrives, before its item is released: two items share a slot
+
+abbrev one_arrives : List Event
+one_arrives = draw_cut ++ take_put ++ (Event.Arrive ∷ [])
+
+abbrev two_arrive : List Event
+two_arrive = one_arrives ++ one_arrives
+
+abbrev giving_at_arrival : PoolSize → World → Event → World
+giving_at_arrival size w Event.Arrive = let v = after_event size w Event.Arrive in record v { credits = v.credits + 1 }
+giving_at_arrival size w event = after_event size w event
+
+abbrev a_credit_at_arrival : Core
+a_credit_at_arrival = record { allows = is_enabled; leads = giving_at_arrival }
+
+abbrev slots_by : Core → PoolSize → List Event → Option (List (List ℕ))
+slots_by core size events = option_map (λ (v : World). v.slots) (play core size (opening size) events)
+
+no_second_way : slots_by right (size_of 1 1) two_arrive ≡ None
+no_second_way = refl
+
+slot_of_two : slots_by a_credit_at_arrival (size_of 1 1) two_arrive ≡ Some ((0 ∷ 1 ∷ []) ∷ [])
+slot_of_two = refl
+
+-- items are released in the order in which they arrive: the second is written first
+
+abbrev second_arrives_first : List Event
+second_arrives_first =
+    draw_cut ++ draw_cut
+    ++ (Event.Take 0 ∷ Event.Take 1 ∷ Event.Put 1 ∷ Event.Put 0 ∷ Event.Arrive ∷ Event.Arrive ∷ [])
+
+abbrev releasing_at_arrival : PoolSize → World → List Entry → World
+releasing_at_arrival size w (Entry.Item number ∷ rest) =
+    record w { dones = rest; lane = w.lane ++ number ∷ []; released = w.released + 1 }
+releasing_at_arrival size w entries = after_event size w Event.Arrive
+
+abbrev leading_by_arrival : PoolSize → World → Event → World
+leading_by_arrival size w Event.Arrive = releasing_at_arrival size w w.dones
+leading_by_arrival size w event = after_event size w event
+
+abbrev order_of_arrival : Core
+order_of_arrival = record { allows = is_enabled; leads = leading_by_arrival }
+
+abbrev lane_by : Core → PoolSize → List Event → Option (List ℕ)
+lane_by core size events = option_map (λ (v : World). v.lane) (play core size (opening size) events)
+
+released_in_order :
+    lane_by right (size_of 2 2) (second_arrives_first ++ (Event.Release ∷ Event.Release ∷ [])) ≡ Some (0 ∷ 1 ∷ [])
+released_in_order = refl
+
+released_as_they_arrive : lane_by order_of_arrival (size_of 2 2) second_arrives_first ≡ Some (1 ∷ 0 ∷ [])
+released_as_they_arrive = refl

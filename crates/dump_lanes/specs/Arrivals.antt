@@ -1,7 +1,10 @@
 -- Numbered items that arrive in any order and are released in theirs.
-use Rattle.std.specs.Prelude.{◌≡◌, ◌≢◌, ℕ, ◌+◌, ◌≤◌, ◌%◌, List, [], ◌∷◌, ◌++◌, length, Option, Some, None, slice_index_or}
+use Rattle.std.specs.Prelude.{◌≡◌, ◌≢◌, ℕ, ◌+◌, ◌≤◌, ◌%◌, List, [], ◌∷◌, ◌++◌, sum_by}
 use Rattle.std.specs.List.{range_with_len}
-use Rattle.dump_lanes.specs.PortSides.{WeighsSame}
+
+-- the same items stand in both lists, each as often: whatever the items weigh, both lists weigh the same
+abbrev pub WeighsSame : {T : Type 0} → List T → List T → Type 0
+WeighsSame {T} taken put = (weight : T → ℕ) → sum_by weight taken ≡ sum_by weight put
 
 -- the first so many numbers
 abbrev pub first_numbers : ℕ → List ℕ
@@ -24,19 +27,6 @@ pub data Clash (window released : ℕ) (arrived : List ℕ) : Type 0 where
       → m % window ≡ n % window → Clash window released arrived
   Wrong : (m : ℕ) (rest : List ℕ) → WeighsSame arrived (first_numbers released ++ m ∷ rest)
       → m % window ≡ released % window → m ≢ released → Clash window released arrived
-
-module _ {T : Type 0} (number : T → ℕ) where
-  -- the numbers of the items that stand in a row
-  abbrev pub held : List (Option T) → List ℕ
-  held [] = []
-  held (None ∷ places) = held places
-  held (Some item ∷ places) = number item ∷ held places
-
-  -- what arrived are those that were released and those in the row, each in its number's place
-  pub record Row (window released : ℕ) (arrived : List ℕ) (places : List (Option T)) : Type 0 where
-    pub wide : length places ≡ window
-    pub placed : (k : ℕ) (item : T) → slice_index_or places k None ≡ Some item → number item % window ≡ k
-    pub same : WeighsSame arrived (first_numbers released ++ held places)
 
 -- where the first so many arrived, each once, and no more than a window wasn't released, no two of them clash
 abbrev pub NoneClash : Type 0

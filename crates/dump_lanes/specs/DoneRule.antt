@@ -1,17 +1,9 @@
 -- The rule that each call on a pool's queue of dones keeps.
 use Rattle.std.specs.Prelude.{◌==◌, List, [], ◌∷◌, cond}
 use Rattle.dump_lanes.specs.declared.pool.dones.Note.{Note}
-use Rattle.dump_lanes.specs.declared.steps.Move.TheVariants as move
-use Rattle.dump_lanes.specs.declared.steps.Step.{Step}
-use Rattle.dump_lanes.specs.declared.passes.View.{View}
 use Rattle.dump_lanes.specs.PoolEvents.{Event}
-use Rattle.dump_lanes.specs.PoolParts.{Thread, dones_share, dones_allow}
+use Rattle.dump_lanes.specs.PoolParts.{dones_share, dones_allow}
 use Rattle.dump_lanes.specs.PartSteps.{event_of, Part}
-use Rattle.dump_lanes.specs.QueueRule.{Crew, IsQueueOf}
-
--- the threads at the dones
-abbrev pub sequencer_crew : Crew
-sequencer_crew = record { leader = Thread.Sequencer; other = Thread.Worker }
 
 module _ {T : Type 0} where
   -- what an event puts into the dones: one note of the worker that steps; and what it takes
@@ -30,13 +22,3 @@ module _ {T : Type 0} where
     share = dones_share;
     allow = dones_allow;
   }
-
-  abbrev pub give_step : Note T → Step (Note T)
-  give_step n = record { event = move.Put n.from; entry = n }
-
-  abbrev pub arrive_step : Note T → Step (Note T)
-  arrive_step n = record { event = move.Arrive; entry = n }
-
-  -- the sequencer's pass leads, and the others are the workers'
-  abbrev pub IsDoneQueue : List (Note T) → List (View (Note T)) → Type 0
-  IsDoneQueue = IsQueueOf dones_part sequencer_crew

@@ -2,7 +2,6 @@ pub mod Arrivals
 pub mod CreditRule
 pub mod DoneRule
 pub mod JobRule
-pub mod LaneMarks
 pub mod LaneRule
 pub mod PartSteps
 pub mod PoolEvents
@@ -12,8 +11,6 @@ pub mod PoolParts
 pub mod PoolProgress
 pub mod PoolSettling
 pub mod PoolWorld
-pub mod PortSides
-pub mod QueueRule
 pub mod RunSteps
 pub mod StepMoves
 pub mod StopRule

@@ -1,10 +1,9 @@
 -- How a queue of a pool comes to hold what it holds: each step on it is its part's share of one event.
-use Rattle.std.specs.Prelude.{◌≡◌, ◌≢◌, ℕ, ◌==◌, Bool, true, false, List, [], ◌∷◌, ◌++◌, filter, IsTrue}
+use Rattle.std.specs.Prelude.{◌≡◌, Bool, false, List, [], ◌∷◌, ◌++◌, IsTrue}
 use Rattle.dump_lanes.specs.declared.steps.Move.{Move}
 use Rattle.dump_lanes.specs.declared.steps.Move.TheVariants as move
 use Rattle.dump_lanes.specs.declared.steps.Step.{Step}
 use Rattle.dump_lanes.specs.PoolEvents.{Event}
-use Rattle.dump_lanes.specs.PoolParts.{Thread, thread_of}
 
 -- the event that a pass notes; whether an item is the last changes no queue
 abbrev pub event_of : Move → Event
@@ -24,14 +23,6 @@ pub record Part (E : Type 0) : Type 0 where
   pub takes : Step E → List E
   pub share : List E → List E → Event → List E
   pub allow : List E → Event → Bool
-
--- whether two threads are the same
-abbrev pub is_thread : Thread → Thread → Bool
-is_thread Thread.Cutter Thread.Cutter = true
-is_thread (Thread.Worker j) (Thread.Worker k) = j == k
-is_thread Thread.Sequencer Thread.Sequencer = true
-is_thread Thread.Writer Thread.Writer = true
-is_thread other thread = false
 
 module _ {E : Type 0} where
   -- a step turns what the queue held into what it holds: by the part's share of its event, which it allows, and with
@@ -55,12 +46,3 @@ module _ {E : Type 0} where
   abbrev pub all_taken : Part E → List (Step E) → List E
   all_taken part [] = []
   all_taken part (s ∷ before) = all_taken part before ++ part.takes s
-
-  -- the steps of one thread
-  abbrev pub steps_of : Thread → List (Step E) → List (Step E)
-  steps_of thread steps = filter (λ (s : Step E). is_thread thread (thread_of (event_of s.event))) steps
-
-  -- the steps that a pass knows of a thread whose pass it is are all of that thread's, and it knows none of another's
-  pub record Knows (owner : Thread → ℕ) (happened : List (Step E)) (pass : ℕ) (steps : List (Step E)) : Type 0 where
-    pub own : (thread : Thread) → owner thread ≡ pass → steps_of thread steps ≡ steps_of thread happened
-    pub others : (thread : Thread) → owner thread ≢ pass → steps_of thread steps ≡ []

@@ -1,17 +1,15 @@
 -- What a step on each shared part of a pool can be: whose it is, and what it moves.
 use Rattle.std.specs.Prelude.{◌≡◌, ◌⊎◌, ℕ, ◌+◌, Bool, true, List, [], ◌∷◌, ◌++◌}
-use Rattle.crossbeam_queue.specs.Fifo.{Pushes}
 use Rattle.dump_lanes.specs.declared.pool.dones.Note.{Note}
 use Rattle.dump_lanes.specs.declared.protocol.Mark.{Mark}
 use Rattle.dump_lanes.specs.declared.steps.Step.{Step}
 use Rattle.dump_lanes.specs.declared.stop.protocol.WordStep.{WordStep}
 use Rattle.dump_lanes.specs.declared.stop.protocol.WordStep.TheVariants as kind
-use Rattle.dump_lanes.specs.declared.passes.View.{View}
 use Rattle.dump_lanes.specs.PoolParts.{Thread, thread_of}
 use Rattle.dump_lanes.specs.PartSteps.{event_of, IsStep}
 use Rattle.dump_lanes.specs.CreditRule.{CreditStep, IsStep as IsCreditStep}
 use Rattle.dump_lanes.specs.DoneRule.{dones_part}
-use Rattle.dump_lanes.specs.JobRule.{jobs_part, IsJobQueue}
+use Rattle.dump_lanes.specs.JobRule.{jobs_part}
 use Rattle.dump_lanes.specs.LaneRule.{lane_part}
 use Rattle.dump_lanes.specs.StopRule.{IsStep as IsWordStep}
 
@@ -52,9 +50,3 @@ CreditsMoveOne = (old new : ℕ) (s : CreditStep) → IsCreditStep old s new →
 abbrev pub WordOnlyRises : Type 0
 WordOnlyRises = (was up : Bool) (step : WordStep) → IsWordStep was step up →
     ((step ≡ kind.Raise) × (up ≡ true)) ⊎ ((step ≡ kind.Look up) × (up ≡ was))
-
--- no rule lets the cutter put a mark and note no step
-abbrev pub NoCutIsUnnoted : Type 0 → Type 0
-NoCutIsUnnoted T = (x : Mark T)
-    → ¬ ((n pass : ℕ) (v : View (Mark T)) → v.leads ≡ true → Pushes IsJobQueue n pass v x
-    (λ w. w ≡ record v { put = v.put ++ x ∷ [] }))

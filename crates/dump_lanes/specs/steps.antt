@@ -8,3 +8,13 @@ pub mod PortViews
 pub mod SlotRow
 pub mod SlotViews
 pub mod StopSeats
+pub mod LaneMarks
+pub mod QueueRule
+pub mod DoneQueue
+pub mod JobQueue
+pub mod LaneQueue
+pub mod CreditQueue
+pub mod StopMarks
+pub mod PortSides
+pub mod ArrivalRows
+pub mod OwnSteps

@@ -3,7 +3,7 @@ ghost use Rattle.std.specs.Prelude.{◌≡◌, [], ◌∷◌, ◌++◌, IfErr, O
 ghost use Rattle.std.specs.Result.{is_ok};
 ghost use Rattle.crossbeam_channel.specs.Claims.{IsSeatAt, view};
 ghost use Rattle.crossbeam_channel.specs.Ends.{sends_on, receives_on};
-ghost use Rattle.dump_lanes.specs.LaneMarks.{IsPutting, IsTaking, mark_if, mark_of};
+ghost use Rattle.dump_lanes.specs.steps.LaneMarks.{IsPutting, IsTaking, mark_if, mark_of};
 
 use crate::passes::{Roles, View};
 use crate::protocol::{InOrder, Mark, Puts, Total};

@@ -15,7 +15,7 @@ ghost use Rattle.dump_lanes.specs.PoolProgress.{EveryMoveCounts, NoEndlessWay, E
 ghost use Rattle.dump_lanes.specs.PoolSettling.{AfterAStop, EndedCutsNothing, IdleEventsSettle};
 ghost use Rattle.dump_lanes.specs.PartSteps.{Part, AreSteps, all_put, all_taken};
 ghost use Rattle.dump_lanes.specs.RunSteps.{EveryRunMakesSteps};
-ghost use Rattle.dump_lanes.specs.StepMoves.{CreditsMoveOne, JobsMoveOne, DonesMoveOne, PiecesMoveOne, WordOnlyRises, NoCutIsUnnoted};
+ghost use Rattle.dump_lanes.specs.StepMoves.{CreditsMoveOne, JobsMoveOne, DonesMoveOne, PiecesMoveOne, WordOnlyRises};
 ghost use Rattle.dump_lanes.specs.declared.steps.Step.{Step};
 
 /// An event is the share that each shared part has in it, and a change of what the thread that steps
@@ -38,14 +38,13 @@ pub fn every_queue_keeps_order<E>()
 {}
 
 /// A step on a shared part is one of two threads' own, and moves one entry: in at the back, or out at the front.
-/// A raise puts the stop word up, and nothing takes it down. And no rule lets the cutter put a mark unnoted.
+/// A raise puts the stop word up, and nothing takes it down.
 pub fn every_step_moves_one_entry<T>()
     ensures credits { CreditsMoveOne }
     ensures jobs { JobsMoveOne T }
     ensures dones { DonesMoveOne T }
     ensures pieces { PiecesMoveOne T }
     ensures word { WordOnlyRises }
-    ensures noted { NoCutIsUnnoted T }
 {}
 
 /// Every run makes on each shared part, one by one, steps that the part's rule allows: a history with a step for

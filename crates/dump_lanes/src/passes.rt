@@ -27,7 +27,7 @@ pub struct View<E> {
 pub struct Roles;
 
 impl<E> Split<View<E>> for Roles {
-    ghost use Rattle.dump_lanes.specs.QueueRule.{after_fork, following};
+    ghost use Rattle.dump_lanes.specs.steps.QueueRule.{after_fork, following};
 
     ghost left = { λ v. after_fork v };
 
@@ -35,7 +35,7 @@ impl<E> Split<View<E>> for Roles {
 }
 
 impl<E> Join<View<E>> for Roles {
-    ghost use Rattle.dump_lanes.specs.QueueRule.{after_join, spent};
+    ghost use Rattle.dump_lanes.specs.steps.QueueRule.{after_join, spent};
 
     ghost both = { λ v w. after_join v w };
 

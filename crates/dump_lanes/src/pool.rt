@@ -59,7 +59,7 @@ pub struct Ports<J: Drop, D: Drop> {
 impl<J: Drop, D: Drop> Pool<J, D> {
     ghost use Rattle.std.specs.Prelude.{◌≡◌, ◌≤◌, true, false, map, IfOk, OnOk, OnErr};
     ghost use Rattle.std.specs.List.{range_with_len};
-    ghost use Rattle.dump_lanes.specs.PortSides.{new_cutter, new_worker, new_sequencer, new_writer};
+    ghost use Rattle.dump_lanes.specs.steps.PortSides.{new_cutter, new_worker, new_sequencer, new_writer};
     ghost use Rattle.dump_lanes.specs.steps.PortViews.{pool_state, job_port, worker_ports, done_port, credit_port};
 
     /// Makes the queues, and puts as many credits as the window is wide.

@@ -21,8 +21,8 @@ pub enum Mark<T> {
 pub struct InOrder;
 
 impl<T> Protocol<Mark<T>, View<Mark<T>>> for InOrder {
-    ghost use Rattle.dump_lanes.specs.LaneRule.{IsInOrder};
-    ghost use Rattle.dump_lanes.specs.QueueRule.{leading};
+    ghost use Rattle.dump_lanes.specs.steps.LaneQueue.{IsInOrder};
+    ghost use Rattle.dump_lanes.specs.steps.QueueRule.{leading};
     ghost use Rattle.dump_lanes.specs.declared.passes.TheConstants.{PARTS};
 
     ghost holds = { IsInOrder };
@@ -35,8 +35,8 @@ pub struct Puts;
 
 impl<T> Outcome<Mark<T>, View<Mark<T>>> for Puts {
     ghost use Rattle.std.specs.Prelude.{◌≡◌};
-    ghost use Rattle.dump_lanes.specs.LaneRule.{put_step};
-    ghost use Rattle.dump_lanes.specs.QueueRule.{after_put};
+    ghost use Rattle.dump_lanes.specs.steps.LaneQueue.{put_step};
+    ghost use Rattle.dump_lanes.specs.steps.QueueRule.{after_put};
 
     ghost then = { λ v x w. w ≡ after_put v (put_step x) };
 }
@@ -50,8 +50,8 @@ pub struct Takes;
 
 impl<T> Outcome<Mark<T>, View<Mark<T>>> for Takes {
     ghost use Rattle.std.specs.Prelude.{◌≡◌};
-    ghost use Rattle.dump_lanes.specs.LaneRule.{take_step};
-    ghost use Rattle.dump_lanes.specs.QueueRule.{after_take};
+    ghost use Rattle.dump_lanes.specs.steps.LaneQueue.{take_step};
+    ghost use Rattle.dump_lanes.specs.steps.QueueRule.{after_take};
 
     ghost then = { λ v x w. w ≡ after_take v (take_step x) };
 }
@@ -64,8 +64,9 @@ impl<T> Lesson<Mark<T>, View<Mark<T>>> for Takes {
 pub struct Total;
 
 impl<T> Lesson<Mark<T>, View<Mark<T>>> for Total {
-    ghost use Rattle.dump_lanes.specs.LaneRule.{lane_part, sender_crew};
-    ghost use Rattle.dump_lanes.specs.QueueRule.{KnowsSteps};
+    ghost use Rattle.dump_lanes.specs.LaneRule.{lane_part};
+    ghost use Rattle.dump_lanes.specs.steps.LaneQueue.{sender_crew};
+    ghost use Rattle.dump_lanes.specs.steps.QueueRule.{KnowsSteps};
 
     ghost fact = { λ v items. KnowsSteps lane_part sender_crew v items };
 }

@@ -7,7 +7,8 @@ use Rattle.std.proofs.Props.{props}
 use Rattle.std.specs.Coded.{Coded-set, coded_ℕ}
 use Rattle.dump_records.specs.RecordText.{DumpRecord}
 use Rattle.std.proofs.lemmas.List.{length-take-le, length-append}
-use Rattle.dump_records.specs.DumpText.{Ending, HasRecords, BeginsWithRecords, EndsAfter, IsRecordOf}
+use Rattle.dump_records.specs.DumpText.{Ending, HasRecords, BeginsWithRecords}
+use Rattle.dump_records.specs.steps.CutRecords.{EndsAfter, IsRecordOf}
 use Rattle.dump_records.proofs.Prefixes.{whole_front, one_more, within}
 use Rattle.dump_records.proofs.ListLaw.{each_dump_has_one_list}
 

@@ -4,8 +4,8 @@ use Rattle.std.proofs.lemmas.Bool.{false≢true}
 use Rattle.std.proofs.lemmas.List.{map-append}
 use Rattle.std.proofs.lemmas.List.Sums.{sum_by-cons}
 use Rattle.std.proofs.KnownBytes.{Appends-nil}
-use Rattle.dump_lanes.specs.Arrivals.{first_numbers, Clash, IsWaiting}
-use Rattle.dump_lanes.specs.PortSides.{CutterSide, WorkerSide, WeighsSame, all_taken, all_given}
+use Rattle.dump_lanes.specs.Arrivals.{first_numbers, Clash, IsWaiting, WeighsSame}
+use Rattle.dump_lanes.specs.steps.PortSides.{CutterSide, WorkerSide, all_taken, all_given}
 use Rattle.dump_lanes.specs.steps.StopSeats.{Seat, joined_seat, SeesOnlyRaised}
 use Rattle.dump_lanes.proofs.Arrivals.{no_clash, none_waits}
 use Rattle.dump_records.proofs.Prefixes.{within}

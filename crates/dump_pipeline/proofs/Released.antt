@@ -6,7 +6,8 @@ use Rattle.dump_records.specs.declared.record.Record.{Record}
 use Rattle.dump_records.specs.RecordText.{DumpRecord}
 use Rattle.dump_records.specs.steps.RecordViews.{record_dump, record_number, record_item}
 use Rattle.dump_records.specs.steps.CutterState.{CutterState}
-use Rattle.dump_records.specs.DumpText.{Ending, EndsAfter, IsRecordOf}
+use Rattle.dump_records.specs.DumpText.{Ending}
+use Rattle.dump_records.specs.steps.CutRecords.{EndsAfter, IsRecordOf}
 use Rattle.dump_rules.specs.Settings.{Settings}
 use Rattle.dump_writer.specs.SinkWords.{capped}
 use Rattle.dump_filter.specs.Counts.{report_of}

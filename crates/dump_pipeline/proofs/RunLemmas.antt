@@ -10,7 +10,8 @@ use Rattle.dump_records.specs.declared.cutter.Cut.TheVariants as cuts
 use Rattle.dump_records.specs.RecordText.{DumpRecord}
 use Rattle.dump_records.specs.steps.RecordViews.{record_dump, record_number, record_item, CutStep}
 use Rattle.dump_records.specs.steps.CutterState.{CutterState}
-use Rattle.dump_records.specs.DumpText.{Ending, BeginsWithRecords, HasRecords, EndsAfter, IsRecordOf}
+use Rattle.dump_records.specs.DumpText.{Ending, BeginsWithRecords, HasRecords}
+use Rattle.dump_records.specs.steps.CutRecords.{EndsAfter, IsRecordOf}
 use Rattle.dump_records.proofs.CutLemmas.{count_fits}
 use Rattle.dump_records.proofs.ListLaw.{each_dump_has_one_list}
 use Rattle.dump_records.proofs.Prefixes.{is_front, one_more, whole_list, begins_prefix, begins_once}

@@ -3,14 +3,16 @@ use Rattle.std.proofs.Common.{◌≡◌, ◌≢◌, ℕ, ◌+◌, ◌<◌, ◌�
 use Rattle.std.proofs.lemmas.Bool.{false≢true}
 use Rattle.std.proofs.lemmas.List.{append-nil, map-append}
 use Rattle.std.proofs.lemmas.Grind.{flat_map-append}
-use Rattle.dump_lanes.specs.Arrivals.{first_numbers, Clash, IsWaiting, Row}
+use Rattle.dump_lanes.specs.Arrivals.{first_numbers, Clash, IsWaiting}
+use Rattle.dump_lanes.specs.steps.ArrivalRows.{Row}
 use Rattle.dump_lanes.specs.steps.LaneEnds.{Sending}
-use Rattle.dump_lanes.specs.PortSides.{CutterSide}
+use Rattle.dump_lanes.specs.steps.PortSides.{CutterSide}
 use Rattle.dump_lanes.specs.steps.SlotRow.{slot_item, with_slot_item}
 use Rattle.dump_lanes.proofs.Arrivals.{first_more, empty_row, arrived_more, released_more, same_row, next_is_missing, wrong_item, taken_place, still_clash}
 use Rattle.dump_lanes.proofs.PortsTogether.{all_then}
 use Rattle.dump_records.specs.steps.CutterState.{CutterState}
-use Rattle.dump_records.specs.DumpText.{Ending, EndsAfter}
+use Rattle.dump_records.specs.DumpText.{Ending}
+use Rattle.dump_records.specs.steps.CutRecords.{EndsAfter}
 use Rattle.dump_records.specs.steps.RecordViews.{record_number, CutStep}
 use Rattle.dump_records.specs.declared.cutter.Cut.TheVariants as cuts
 use Rattle.dump_records.specs.declared.record.Record.{Record}

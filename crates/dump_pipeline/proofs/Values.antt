@@ -10,7 +10,7 @@ use Rattle.dump_pipeline.specs.declared.answer.Answer.TheVariants.{Clean, Fault,
 use Rattle.dump_pipeline.specs.declared.answer.Failure.TheVariants as failures
 use Rattle.dump_pipeline.specs.FilterAnswer.{HasFirstFault, IsFilterAnswer}
 use Rattle.dump_pipeline.specs.RunAnswer.{IsFilterPrefix, IsRunAnswer, SinkFailsOnly, ThreadsFailFirst, RunLeaves}
-use Rattle.dump_pipeline.specs.PlanViews.{IsInRange}
+use Rattle.dump_pipeline.specs.steps.PlanRange.{IsInRange}
 
 -- FilterAnswer
 

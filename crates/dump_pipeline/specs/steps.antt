@@ -4,3 +4,4 @@ pub mod Messages
 pub mod Parts
 pub mod Progress
 pub mod Sending
+pub mod PlanRange

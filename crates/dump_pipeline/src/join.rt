@@ -2,7 +2,7 @@
 ghost use Rattle.std.specs.Prelude.{◌≡◌, ◌≢◌, ◌+◌, ◌≤◌, ℕ, List, Option, length, map, true, false, All, vec_capacity};
 ghost use Rattle.dump_lanes.specs.steps.LaneEnds.{LaneEnd};
 ghost use Rattle.dump_lanes.specs.steps.LaneViews.{sending, sent, receiving};
-ghost use Rattle.dump_lanes.specs.PortSides.{AreWorkersOf};
+ghost use Rattle.dump_lanes.specs.steps.PortSides.{AreWorkersOf};
 ghost use Rattle.dump_lanes.specs.steps.PortViews.{job_port, worker_port, done_port, credit_port};
 ghost use Rattle.dump_lanes.specs.steps.SlotViews.{slot_places};
 ghost use Rattle.dump_writer.specs.SinkWords.{IsPrefixOf};

@@ -2,7 +2,7 @@
 ghost use Rattle.std.specs.Prelude.{◌≡◌, ◌≤◌, [], length, map, replicate, false, None, vec_capacity};
 ghost use Rattle.std.specs.List.{range_with_len};
 ghost use Rattle.dump_lanes.specs.steps.LaneViews.{sending, receiving};
-ghost use Rattle.dump_lanes.specs.PortSides.{new_cutter, new_worker, new_sequencer, new_writer};
+ghost use Rattle.dump_lanes.specs.steps.PortSides.{new_cutter, new_worker, new_sequencer, new_writer};
 ghost use Rattle.dump_lanes.specs.steps.PortViews.{pool_state, job_port, worker_ports, done_port, credit_port};
 ghost use Rattle.dump_lanes.specs.steps.SlotViews.{slot_places};
 

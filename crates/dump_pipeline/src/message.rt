@@ -4,7 +4,7 @@
 //! a job is item `number` of this dump, a checked one has its verdict under these options.
 ghost use Rattle.std.specs.Prelude.{◌≡◌, ◌+◌, ◌<◌, ◌≤◌, ◌^◌, ℕ, List, length, Ok, Err};
 ghost use Rattle.std.specs.Result.{ForOk, ForErr};
-ghost use Rattle.dump_records.specs.DumpText.{EndsAfter};
+ghost use Rattle.dump_records.specs.steps.CutRecords.{EndsAfter};
 ghost use Rattle.dump_records.specs.steps.RecordViews.{record_dump, record_number};
 ghost use Rattle.dump_digest.specs.steps.DoneViews.{done_record, done_settings};
 ghost use Rattle.dump_rules.specs.Settings.{Settings};

@@ -13,7 +13,8 @@ pub struct Plan {
 }
 
 impl Plan {
-    ghost use Rattle.dump_pipeline.specs.PlanViews.{worker_count, window_size, IsInRange};
+    ghost use Rattle.dump_pipeline.specs.PlanViews.{worker_count, window_size};
+    ghost use Rattle.dump_pipeline.specs.steps.PlanRange.{IsInRange};
 
     /// A plan of 1 to 64 workers and a window of 1 to 4096 records.
     pub fn new(workers: usize, window: usize) -> Option<Plan>

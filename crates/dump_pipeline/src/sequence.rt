@@ -1,7 +1,7 @@
 //! The sequencer.
 ghost use Rattle.std.specs.Prelude.{◌≡◌, ◌+◌, ◌++◌, ◌∷◌, [], ℕ, List, Option, length, replicate, true, false, None, Some, Ok, Err};
 ghost use Rattle.std.specs.Result.{ForOk, ForErr};
-ghost use Rattle.dump_records.specs.DumpText.{EndsAfter};
+ghost use Rattle.dump_records.specs.steps.CutRecords.{EndsAfter};
 ghost use Rattle.dump_records.specs.steps.RecordViews.{record_dump, record_number};
 ghost use Rattle.dump_digest.specs.steps.DoneViews.{done_record, done_settings};
 ghost use Rattle.dump_lanes.specs.steps.LaneViews.{sending, sent};

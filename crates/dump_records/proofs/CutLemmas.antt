@@ -6,7 +6,8 @@ use Rattle.dump_text.specs.declared.fault.FaultKind.{FaultKind}
 use Rattle.dump_text.specs.HeaderBlock.{block_text, lines_bytes, starts_with_lf}
 use Rattle.dump_records.specs.HeaderRules.{version_from}
 use Rattle.dump_records.specs.RecordText.{DumpRecord, record_text, BeginsWithRecord, IsCutFault}
-use Rattle.dump_records.specs.DumpText.{Ending, line_feeds, IsCutInto, HaveVersions, EndsAfter, IsRecordOf}
+use Rattle.dump_records.specs.DumpText.{Ending, line_feeds, IsCutInto, HaveVersions}
+use Rattle.dump_records.specs.steps.CutRecords.{EndsAfter, IsRecordOf}
 use Rattle.dump_records.specs.steps.CutterState.{last_version, IsCutUpTo}
 use Rattle.dump_records.specs.steps.Standing.{IsGap, AreInside, StandsAt}
 use Rattle.dump_records.specs.declared.parts.Parts.{Parts}

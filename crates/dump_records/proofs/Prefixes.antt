@@ -8,7 +8,8 @@ use Rattle.dump_text.specs.HeaderLine as line
 use Rattle.dump_text.specs.HeaderBlock.{block_text, starts_with_lf}
 use Rattle.dump_text.proofs.Unique.{block_front, blank_once, header-eq}
 use Rattle.dump_records.specs.RecordText.{DumpRecord, record_text, BeginsWithRecord}
-use Rattle.dump_records.specs.DumpText.{Ending, IsCutInto, HaveVersions, HasRecords, BeginsWithRecords, EndsAfter, IsRecordOf}
+use Rattle.dump_records.specs.DumpText.{Ending, IsCutInto, HaveVersions, HasRecords, BeginsWithRecords}
+use Rattle.dump_records.specs.steps.CutRecords.{EndsAfter, IsRecordOf}
 use Rattle.dump_records.proofs.Unique.{content, begins, parts_once, record_once, version_once, record-eq, goes_on, EndsWith, ending_of}
 use Rattle.dump_records.proofs.Versions.{versions_prefix}
 use Rattle.dump_records.proofs.ListLaw.{each_dump_has_one_list}

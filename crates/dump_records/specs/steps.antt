@@ -5,3 +5,5 @@ pub mod RecordPlaces
 pub mod Standing
 pub mod CutterState
 pub mod RecordViews
+pub mod RecordKinds
+pub mod CutRecords

@@ -3,7 +3,7 @@ ghost use Rattle.std.specs.Prelude.{drop, ◌+◌, ◌<◌, ◌^◌};
 ghost use Rattle.dump_text.specs.steps.Views.{block_dump, block_place, block_after, block_headers};
 ghost use Rattle.dump_records.specs.RecordText.{BeginsWithRecord};
 ghost use Rattle.dump_records.specs.steps.RecordPlaces.{record_between};
-ghost use Rattle.dump_records.specs.DumpText.{IsRecordOf};
+ghost use Rattle.dump_records.specs.steps.CutRecords.{IsRecordOf};
 ghost use Rattle.dump_records.specs.steps.Standing.{AreInside};
 ghost use Rattle.dump_records.specs.steps.HeaderReading.{are_written, IsHeaderOf};
 
@@ -35,7 +35,8 @@ impl<'a> Record<'a> {
     ghost use Rattle.std.specs.Prelude.{◌≡◌, ◌==◌, ◌&&◌, List, [], IfSome, option_copied, slice_range, bytes_eq, unwrap_or, codes};
     ghost use Rattle.dump_text.specs.Names.{path_name, revision_name, copy_path_name, copy_revision_name, property_length_name, text_length_name, node_kind_name, md5_name, sha1_name};
     ghost use Rattle.dump_text.specs.HeaderLine.{has_header, header_value};
-    ghost use Rattle.dump_records.specs.HeaderRules.{kind_of, header_number};
+    ghost use Rattle.dump_records.specs.HeaderRules.{header_number};
+    ghost use Rattle.dump_records.specs.steps.RecordKinds.{kind_of};
     ghost use Rattle.dump_records.specs.RecordText.{has_text_delta, has_prop_delta};
     ghost use Rattle.dump_records.specs.steps.KindReading.{copy_in};
     ghost use Rattle.dump_records.specs.steps.RecordPlaces.{props_place, text_place, place_after};

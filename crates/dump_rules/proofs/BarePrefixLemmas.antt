@@ -12,7 +12,8 @@ use Rattle.std.proofs.lemmas.Bool.Decides.{nat_tests}
 use Rattle.std.proofs.lemmas.List.{length-take-le, take_more, map-append}
 use Rattle.std.proofs.lemmas.Map.Text.{is_eq-slice_cmp}
 use Rattle.std.proofs.lemmas.Slice.Eq.{bytes_eq-Decides}
-use Rattle.dump_rules.specs.Prefix.{AreWithin, BeginSame, bare_prefix, has_slash_first, begins_path}
+use Rattle.dump_rules.specs.Prefix.{bare_prefix, begins_path}
+use Rattle.dump_rules.specs.steps.PrefixSearch.{AreWithin, BeginSame, has_slash_first}
 use Rattle.dump_rules.proofs.PrefixLemmas.{slash_behind, any_mapped}
 
 -- a slash at a place of a path

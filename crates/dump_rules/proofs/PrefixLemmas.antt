@@ -2,7 +2,7 @@
 use Rattle.std.proofs.Common.{◌≡◌, ℕ, Bool, true, false, ◌&&◌, ◌||◌, List, [], ◌∷◌, ◌++◌, take, drop, length, map, nat_eq, bytes_eq, refl, ap, ◌∙◌, arith}
 use Rattle.std.specs.List.{starts_with, list_any}
 use Rattle.std.proofs.Math.Bool.{and-true}
-use Rattle.dump_rules.specs.Prefix.{has_slash_first}
+use Rattle.dump_rules.specs.steps.PrefixSearch.{has_slash_first}
 
 eq_sym : (a b : ℕ) → nat_eq a b ≡ nat_eq b a
 eq_sym a b = grind arith

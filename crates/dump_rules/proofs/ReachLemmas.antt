@@ -6,7 +6,8 @@ use Rattle.std.proofs.lemmas.Bool.Decides.{leb_tells, nat_tests}
 use Rattle.std.proofs.lemmas.List.Elements.{All-head, All-tail, filter-append}
 use Rattle.std.proofs.lemmas.List.Sorted.{IsPartitionedBy-leb, IsPartitionedBy-ltb}
 use Rattle.std.proofs.lemmas.List.Sums.{sum_by-cons, sum_by_push}
-use Rattle.dump_rules.specs.Renumbering.{KeptRevisions, RiseFrom, new_number, last_kept, image}
+use Rattle.dump_rules.specs.Renumbering.{KeptRevisions, new_number, last_kept, image}
+use Rattle.dump_rules.specs.steps.RisingNumbers.{RiseFrom}
 
 -- counts of numbers
 

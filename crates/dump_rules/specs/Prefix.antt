@@ -1,6 +1,6 @@
 -- Path prefixes (svndumpfilter in "Version Control with Subversion"; slashes: this project's own rule).
-use Rattle.std.specs.Prelude.{◌≡◌, ℕ, Bool, true, false, ◌||◌, ◌==◌, List, [], ◌∷◌, ◌++◌, reverse, length, nat_eq, nat_lt, bytes_eq, if◌then◌else◌}
-use Rattle.std.specs.List.{starts_with, list_any}
+use Rattle.std.specs.Prelude.{ℕ, Bool, true, ◌||◌, ◌==◌, List, [], ◌∷◌, ◌++◌, reverse, nat_eq, bytes_eq, if◌then◌else◌}
+use Rattle.std.specs.List.{starts_with}
 
 -- the text without the slashes at its front
 abbrev pub without_leading_slashes : List ℕ → List ℕ
@@ -20,11 +20,6 @@ abbrev pub bare_path : List ℕ → List ℕ
 bare_path [] = []
 bare_path (b ∷ path) = if b == 47 then path else b ∷ path
 
--- whether a slash stands first
-abbrev pub has_slash_first : List ℕ → Bool
-has_slash_first [] = false
-has_slash_first (b ∷ text) = b == 47
-
 -- whether the path is the bare prefix, or begins with it and a slash; the empty prefix matches every path
 abbrev pub begins_path : List ℕ → List ℕ → Bool
 begins_path [] path = true
@@ -33,13 +28,3 @@ begins_path (b ∷ prefix) path = bytes_eq path (b ∷ prefix) || starts_with na
 -- whether the prefix matches the path
 abbrev pub matches_path : List ℕ → List ℕ → Bool
 matches_path prefix path = begins_path (bare_prefix prefix) (bare_path path)
-
--- the two lists of bare prefixes begin the same paths
-abbrev pub BeginSame : List (List ℕ) → List (List ℕ) → Type 0
-BeginSame some others =
-    (path : List ℕ)
-    → list_any (λ prefix. begins_path prefix path) some ≡ list_any (λ prefix. begins_path prefix path) others
-
--- none of the texts is longer than this
-abbrev pub AreWithin : ℕ → List (List ℕ) → Type 0
-AreWithin longest texts = list_any (λ text. nat_lt longest (length text)) texts ≡ false

@@ -5,3 +5,5 @@ pub mod Runs
 pub mod NewRanges
 pub mod NewLines
 pub mod Merged
+pub mod PrefixSearch
+pub mod RisingNumbers

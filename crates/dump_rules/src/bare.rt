@@ -1,7 +1,8 @@
 //! The prefixes without their slashes, to be looked up.
 ghost use Rattle.std.specs.Prelude.{◌≡◌, IfOk, bytes_eq, map};
 ghost use Rattle.std.specs.List.{list_any};
-ghost use Rattle.dump_rules.specs.Prefix.{BeginSame, bare_prefix, begins_path};
+ghost use Rattle.dump_rules.specs.Prefix.{bare_prefix, begins_path};
+ghost use Rattle.dump_rules.specs.steps.PrefixSearch.{BeginSame};
 
 use crate::memory::Memory;
 use crate::prefix::trim_slashes;
@@ -18,7 +19,7 @@ pub(crate) struct BarePrefixes {
 
 impl Model for BarePrefixes {
     ghost use Rattle.std.specs.Prelude.{ℕ, List, map};
-    ghost use Rattle.dump_rules.specs.Prefix.{AreWithin};
+    ghost use Rattle.dump_rules.specs.steps.PrefixSearch.{AreWithin};
 
     ghost Value = { List (List ℕ) };
 

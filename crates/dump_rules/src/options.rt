@@ -41,7 +41,8 @@ pub struct Options {
 
 impl Model for Options {
     ghost use Rattle.std.specs.Prelude.{map};
-    ghost use Rattle.dump_rules.specs.Prefix.{BeginSame, bare_prefix};
+    ghost use Rattle.dump_rules.specs.Prefix.{bare_prefix};
+    ghost use Rattle.dump_rules.specs.steps.PrefixSearch.{BeginSame};
     ghost use Rattle.dump_rules.specs.Settings.{Settings};
 
     ghost Value = { Settings };

@@ -2,7 +2,8 @@
 ghost use Rattle.std.specs.Prelude.{◌≡◌, ◌++◌, ◌<◌, ◌≤◌, [], ◌∷◌, All, OnErr, OnOk, count_by, length, nat_le, nat_lt, option_map};
 ghost use Rattle.dump_rules.specs.steps.NewRanges.{new_range};
 ghost use Rattle.dump_rules.specs.steps.ReadRanges.{span_range};
-ghost use Rattle.dump_rules.specs.Renumbering.{RiseFrom, image};
+ghost use Rattle.dump_rules.specs.Renumbering.{image};
+ghost use Rattle.dump_rules.specs.steps.RisingNumbers.{RiseFrom};
 
 use crate::memory::Memory;
 use crate::ranges::Span;
@@ -20,7 +21,8 @@ pub struct Reach {
 }
 
 impl Model for Reach {
-    ghost use Rattle.dump_rules.specs.Renumbering.{KeptRevisions, RiseFrom};
+    ghost use Rattle.dump_rules.specs.Renumbering.{KeptRevisions};
+    ghost use Rattle.dump_rules.specs.steps.RisingNumbers.{RiseFrom};
 
     ghost Value = { KeptRevisions };
 

@@ -5,7 +5,7 @@ ghost use Rattle.dump_rules.specs.declared.rewriting.RewriteFault.TheVariants as
 ghost use Rattle.dump_rules.specs.Mergeinfo.{HasMergeLines};
 ghost use Rattle.dump_rules.specs.steps.NewLines.{text_lines, with_break, with_new_line, with_new_lines, with_runs};
 ghost use Rattle.dump_rules.specs.RangeList.{IsConsistent};
-ghost use Rattle.dump_rules.specs.Renumbering.{RiseFrom};
+ghost use Rattle.dump_rules.specs.steps.RisingNumbers.{RiseFrom};
 ghost use Rattle.dump_rules.specs.steps.ReadMergeinfo.{line_reads, lines_read};
 ghost use Rattle.dump_rules.specs.steps.ReadRanges.{span_range};
 ghost use Rattle.dump_rules.specs.Rewriting.{IsNewMergeinfo, HasForeignNumber, HasMissingSource};

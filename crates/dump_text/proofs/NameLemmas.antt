@@ -7,8 +7,7 @@ use denote.Enum.Declared.{tag_of}
 use Rattle.dump_text.specs.contracts.names.HeaderName as enum
 use Rattle.dump_text.specs.declared.names.HeaderName.{HeaderName}
 use Rattle.dump_text.specs.declared.names.HeaderName.TheVariants.{FormatVersion, Uuid, RevisionNumber, NodePath, PropContentLength, TextContentLength, ContentLength, NodeCopyfromRev, NodeCopyfromPath, TextCopySourceMd5, TextCopySourceSha1, NodeKind, NodeAction, TextContentMd5, TextContentSha1, TextDelta, PropDelta}
-use Rattle.dump_text.specs.Names.{name_text}
-use Rattle.dump_text.specs.steps.KnownValues.{all_names, name_place, known_name, names_of_length}
+use Rattle.dump_text.specs.steps.KnownValues.{name_text, all_names, name_place, known_name, names_of_length}
 use Rattle.dump_text.specs.steps.Scanning.{is_known}
 
 -- what is found among some elements, by the first of them

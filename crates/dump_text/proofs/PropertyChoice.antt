@@ -6,7 +6,8 @@ use Rattle.std.proofs.lemmas.Bool.{eqb-true, eqb-false}
 use Rattle.std.proofs.lemmas.Slice.Eq.{bytes_eq-Decides}
 use borrow.Author.Tests.{ltb-true, ltb-false}
 use Rattle.dump_text.specs.Number.{number_of}
-use Rattle.dump_text.specs.PropertyList.{Property, HasPropertyChanges, block_end}
+use Rattle.dump_text.specs.PropertyList.{Property, block_end}
+use Rattle.dump_text.specs.steps.PropertyReading.{HasPropertyChanges}
 use Rattle.dump_text.specs.steps.Scanning.{IsFirstLine}
 use Rattle.dump_text.specs.steps.PropertyScan.{IsSized, HasSized, HasEntry, HasEntries}
 use Rattle.dump_text.proofs.Unique.{tail-eq}

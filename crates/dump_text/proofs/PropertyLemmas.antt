@@ -3,7 +3,8 @@ use Rattle.std.proofs.Common.{◌≡◌, ◌↔◌, ◌⊎◌, ℕ, ◌<◌, ◌
 use Rattle.std.proofs.Math.Logic.{∥∥₁_elim}
 use Rattle.std.specs.Coded.{Coded-set, coded_list, coded_ℕ}
 use Rattle.std.proofs.lemmas.List.{append-nil}
-use Rattle.dump_text.specs.PropertyList.{Property, sized_text, IsEntry, AreEntries, IsPropertyBlock, HasPropertyChanges, block_end, has_deletes, property_value}
+use Rattle.dump_text.specs.PropertyList.{Property, sized_text, IsEntry, AreEntries, IsPropertyBlock, block_end, has_deletes}
+use Rattle.dump_text.specs.steps.PropertyReading.{HasPropertyChanges, property_value}
 use Rattle.dump_text.specs.steps.ReadHeaders.{IsPartBetween}
 use Rattle.dump_text.specs.declared.parts.Parts.{Parts}
 use Rattle.dump_text.specs.declared.props.Entry.{Entry}

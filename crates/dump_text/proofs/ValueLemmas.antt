@@ -5,13 +5,12 @@ use Rattle.std.proofs.lemmas.Bool.{eqb-true, eqb-false}
 use Rattle.std.proofs.lemmas.List.{get_or-set_other, get_or-set_same}
 use Rattle.std.proofs.lemmas.Slice.Eq.{bytes_eq-Decides}
 use Rattle.dump_text.specs.declared.names.HeaderName.{HeaderName}
-use Rattle.dump_text.specs.Names.{name_text}
+use Rattle.dump_text.specs.steps.KnownValues.{name_text, name_place, known_name, noted_value, AreValues, may_follow}
 use Rattle.dump_text.specs.HeaderLine as line
 use Rattle.dump_text.specs.HeaderLine.{is_named, has_header, header_value}
 use Rattle.dump_text.specs.HeaderBlock.{lines_bytes}
 use Rattle.dump_text.specs.steps.ReadHeaders.{headers_between, IsBlockBetween, IsPartBetween}
 use Rattle.dump_text.specs.steps.Scanning.{is_known}
-use Rattle.dump_text.specs.steps.KnownValues.{name_place, known_name, noted_value, AreValues, may_follow}
 use Rattle.dump_text.proofs.BoolLemmas.{first_false, second_false, not_so}
 use Rattle.dump_text.proofs.Unique.{regroup}
 use Rattle.dump_text.proofs.BlockLemmas.{has_value, block_bytes, block_size, value_between, rest_between}

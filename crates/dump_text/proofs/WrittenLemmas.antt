@@ -4,7 +4,8 @@ use Rattle.std.specs.List.{All}
 use Rattle.std.proofs.lemmas.List.Elements.{All-nil, All-cons, All-head, All-tail}
 use Rattle.std.proofs.lemmas.Slice.Eq.{bytes_eq-Decides}
 use Rattle.dump_text.specs.Number.{spelled_number}
-use Rattle.dump_text.specs.PropertyList.{Property, sized_text, IsEntry, AreEntries, IsPropertyBlock, HasPropertyChanges, block_end, change_text, entry_text, property_block_text}
+use Rattle.dump_text.specs.PropertyList.{Property, sized_text, IsEntry, AreEntries, IsPropertyBlock, block_end, change_text, entry_text, property_block_text}
+use Rattle.dump_text.specs.steps.PropertyReading.{HasPropertyChanges}
 use Rattle.dump_text.specs.declared.parts.Parts.{Parts}
 use Rattle.dump_text.specs.declared.parts.Parts.TheVariants.{Set, Deleted}
 use Rattle.dump_text.specs.steps.PropertyScan.{IsSized, IsEntryOf, IsWritten, parts_property, parts_rest, is_shortest, are_shortest}

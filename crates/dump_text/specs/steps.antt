@@ -6,3 +6,5 @@ pub mod Views
 pub mod KnownValues
 pub mod HeadersViews
 pub mod PropertyViews
+pub mod FaultNames
+pub mod PropertyReading

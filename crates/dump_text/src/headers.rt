@@ -25,7 +25,7 @@ pub struct Headers<'a> {
 
 impl<'a> Headers<'a> {
     ghost use Rattle.std.specs.Prelude.{◌↔◌, IfOk, IfErr, IsOk, IfSome, option_copied, drop};
-    ghost use Rattle.dump_text.specs.Names.{name_text};
+    ghost use Rattle.dump_text.specs.steps.KnownValues.{name_text};
     ghost use Rattle.dump_text.specs.HeaderLine.{header_value, has_header};
     ghost use Rattle.dump_text.specs.steps.ReadHeaders.{IsPartBetween};
     ghost use Rattle.dump_text.specs.steps.Views.{block_dump, block_place, block_after};

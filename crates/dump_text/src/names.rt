@@ -1,7 +1,6 @@
 //! The names that have a meaning, each at most once in a block.
 ghost use Rattle.std.specs.Prelude.{◌≡◌, bytes_eq, find};
-ghost use Rattle.dump_text.specs.Names.{name_text};
-ghost use Rattle.dump_text.specs.steps.KnownValues.{known_name, names_of_length};
+ghost use Rattle.dump_text.specs.steps.KnownValues.{name_text, known_name, names_of_length};
 
 /// A header name that has a meaning, which stands at most once in a block (this project's own rule).
 #[derive(Clone, Copy, Debug, PartialEq, Eq)]

@@ -1,6 +1,7 @@
 //! A property block, read where it stands.
 ghost use Rattle.std.specs.Prelude.{◌≡◌, ◌↔◌, List, [], length, bytes_eq, IsTrue, IsSome, IfSome, MatchOption, option_copied};
-ghost use Rattle.dump_text.specs.PropertyList.{Property, IsPropertyBlock, HasProperties, HasPropertyChanges, has_deletes, property_value, property_block_text};
+ghost use Rattle.dump_text.specs.PropertyList.{Property, IsPropertyBlock, has_deletes, property_block_text};
+ghost use Rattle.dump_text.specs.steps.PropertyReading.{HasProperties, HasPropertyChanges, property_value};
 ghost use Rattle.dump_text.specs.steps.PropertyScan.{HasEntries};
 ghost use Rattle.dump_text.specs.steps.ScannedEntries.{IsScanOf};
 ghost use Rattle.dump_text.specs.steps.ReadHeaders.{IsPartBetween};

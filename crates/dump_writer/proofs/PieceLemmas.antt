@@ -6,7 +6,8 @@ use Rattle.std.specs.Io.KnownBytes.{Appends}
 use Rattle.std.proofs.KnownBytes.{Appends-trans}
 use Rattle.dump_writer.specs.declared.piece.Chunk.{Chunk}
 use Rattle.dump_writer.specs.steps.ChunkBytes.{chunk_bytes, bytes_of_chunks}
-use Rattle.dump_writer.specs.SinkWords.{TakesOnlyFirst, capped}
+use Rattle.dump_writer.specs.SinkWords.{capped}
+use Rattle.dump_writer.specs.steps.SinkCalls.{TakesOnlyFirst}
 use Rattle.dump_writer.proofs.SinkLemmas.{take-add}
 
 -- the first bytes end inside the second of three parts

@@ -4,8 +4,9 @@ use base.Fml.{GName}
 use Rattle.dump_writer.specs.declared.memory.Trouble.{Trouble}
 use Rattle.dump_writer.specs.declared.memory.Trouble.TheVariants.{Never, Once, From}
 use Rattle.dump_writer.specs.declared.sink.SinkDown.{SinkDown}
-use Rattle.dump_writer.specs.SinkWords.{greatest, capped, CountsFailure, HasFailedSince, IsPrefixOf, TakesOnlyFirst}
-use Rattle.dump_writer.specs.SinkStates.{OutState, new_out_state, OutStep, LentState, loan_of, lent_taken, MemoryState, before_trouble, share_of, trouble_after, MemoryStep}
+use Rattle.dump_writer.specs.SinkWords.{greatest, capped, HasFailedSince, IsPrefixOf}
+use Rattle.dump_writer.specs.steps.SinkCalls.{CountsFailure, TakesOnlyFirst}
+use Rattle.dump_writer.specs.steps.SinkStates.{OutState, new_out_state, OutStep, LentState, loan_of, lent_taken, MemoryState, before_trouble, share_of, trouble_after, MemoryStep}
 
 -- SinkWords
 

@@ -1,1 +1,3 @@
 pub mod ChunkBytes
+pub mod SinkStates
+pub mod SinkCalls

@@ -1,7 +1,8 @@
 //! Counted calls of a writer: how many bytes it took, and how often it failed.
 ghost use Rattle.std.specs.Prelude.{◌≡◌, ◌+◌, ◌≤◌, ◌<◌, [], ℕ, List, Option, take, length, IfOk, OnErr, OnOk};
 ghost use Rattle.std.specs.Io.KnownBytes.{Appends, Keeps, GrowsBy};
-ghost use Rattle.dump_writer.specs.SinkWords.{CountsFailure, capped};
+ghost use Rattle.dump_writer.specs.SinkWords.{capped};
+ghost use Rattle.dump_writer.specs.steps.SinkCalls.{CountsFailure};
 
 use crate::sink::SinkDown;
 use std::io::Write;

@@ -1,8 +1,8 @@
 //! A sink in memory, which fails where a test wants it to.
 ghost use Rattle.std.specs.Prelude.{◌≡◌, ◌≤◌, ◌<◌, [], take, length, IfOk, OnErr, Some, true, if◌then◌else◌};
 ghost use Rattle.std.specs.Io.KnownBytes.{Appends, Keeps};
-ghost use Rattle.dump_writer.specs.SinkWords.{CountsFailure};
-ghost use Rattle.dump_writer.specs.SinkStates.{MemoryStep, before_trouble, trouble_after};
+ghost use Rattle.dump_writer.specs.steps.SinkCalls.{CountsFailure};
+ghost use Rattle.dump_writer.specs.steps.SinkStates.{MemoryStep, before_trouble, trouble_after};
 
 use crate::sink::{Sink, SinkDown};
 use std::alloc::Global;
@@ -54,7 +54,7 @@ pub struct MemorySink {
 }
 
 impl Model for MemorySink {
-    ghost use Rattle.dump_writer.specs.SinkStates.{MemoryState};
+    ghost use Rattle.dump_writer.specs.steps.SinkStates.{MemoryState};
 
     ghost Value = { MemoryState };
 

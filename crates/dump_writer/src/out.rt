@@ -1,8 +1,8 @@
 //! A sink over a writer that it owns.
 ghost use Rattle.std.specs.Prelude.{◌≡◌, ◌≤◌, ◌<◌, [], take, length, IfOk, OnErr, OnOk};
 ghost use Rattle.std.specs.Io.KnownBytes.{Appends, Keeps, GrowsBy};
-ghost use Rattle.dump_writer.specs.SinkWords.{CountsFailure};
-ghost use Rattle.dump_writer.specs.SinkStates.{OutStep, new_out_state};
+ghost use Rattle.dump_writer.specs.steps.SinkCalls.{CountsFailure};
+ghost use Rattle.dump_writer.specs.steps.SinkStates.{OutStep, new_out_state};
 
 use crate::counted::{Counts, flush_counted, write_counted};
 use crate::sink::{Sink, SinkDown};
@@ -20,7 +20,7 @@ pub struct Out<W: Write> {
 
 impl<W: Write> Model for Out<W> {
     ghost use Rattle.std.specs.Io.KnownBytes.{GrowsBy};
-    ghost use Rattle.dump_writer.specs.SinkStates.{OutState};
+    ghost use Rattle.dump_writer.specs.steps.SinkStates.{OutState};
 
     ghost Value = { OutState };
 

@@ -1,8 +1,8 @@
 //! A sink over a writer that is lent, with a buffer before it.
 ghost use Rattle.std.specs.Prelude.{◌≡◌, ◌≤◌, ◌<◌, ◌-◌, ◌++◌, [], Some, take, drop, length, vec_len, vec_capacity, IfOk, OnErr, OnOk};
 ghost use Rattle.std.specs.Io.KnownBytes.{Appends, Keeps, GrowsBy, append_known};
-ghost use Rattle.dump_writer.specs.SinkWords.{CountsFailure};
-ghost use Rattle.dump_writer.specs.SinkStates.{new_out_state, lent_taken, loan_of};
+ghost use Rattle.dump_writer.specs.steps.SinkCalls.{CountsFailure};
+ghost use Rattle.dump_writer.specs.steps.SinkStates.{new_out_state, lent_taken, loan_of};
 
 use crate::counted::{Counts, flush_counted, write_all_counted, write_counted};
 use crate::sink::{Sink, SinkDown};
@@ -26,7 +26,7 @@ pub struct OutMut<'a, W: Write> {
 
 impl<'a, W: Write> Model for OutMut<'a, W> {
     ghost use Rattle.std.specs.Io.KnownBytes.{GrowsBy};
-    ghost use Rattle.dump_writer.specs.SinkStates.{LentState};
+    ghost use Rattle.dump_writer.specs.steps.SinkStates.{LentState};
 
     ghost Value = { LentState };
 

@@ -2,7 +2,8 @@
 ghost use Rattle.std.specs.Prelude.{◌≡◌, ◌<◌, ◌≤◌, ◌++◌, [], length, take, OnOk, OnErr, IfErr};
 ghost use Rattle.std.specs.Io.KnownBytes.{Appends};
 ghost use Rattle.dump_writer.specs.steps.ChunkBytes.{chunk_bytes, bytes_of_chunks};
-ghost use Rattle.dump_writer.specs.SinkWords.{TakesOnlyFirst, HasFailedSince};
+ghost use Rattle.dump_writer.specs.SinkWords.{HasFailedSince};
+ghost use Rattle.dump_writer.specs.steps.SinkCalls.{TakesOnlyFirst};
 
 use crate::sink::{Sink, SinkDown, SinkFault};
 use std::alloc::{AllocError, AllocFailed, Global};

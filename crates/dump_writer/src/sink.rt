@@ -1,7 +1,7 @@
 //! What takes bytes, and how it may fail.
 ghost use Rattle.std.specs.Prelude.{◌≡◌, ◌≤◌, ◌<◌, [], ℕ, List, take, length, Option, None, IfOk, OnErr};
 ghost use Rattle.std.specs.Io.KnownBytes.{Appends, Keeps};
-ghost use Rattle.dump_writer.specs.SinkWords.{CountsFailure, Loan};
+ghost use Rattle.dump_writer.specs.steps.SinkCalls.{CountsFailure, Loan};
 
 /// A sink took none of the bytes.
 #[derive(Clone, Copy, Debug, PartialEq, Eq)]

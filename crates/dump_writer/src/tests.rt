@@ -2,7 +2,8 @@
 //! memory suffices.
 ghost use Rattle.std.specs.Prelude.{◌≡◌, OnOk, OnErr, IfOk, IfErr, Some, []};
 ghost use Rattle.std.specs.Io.KnownBytes.{Appends};
-ghost use Rattle.dump_writer.specs.SinkWords.{TakesOnlyFirst, greatest};
+ghost use Rattle.dump_writer.specs.SinkWords.{greatest};
+ghost use Rattle.dump_writer.specs.steps.SinkCalls.{TakesOnlyFirst};
 
 use crate::{
     Chunk, Memory, MemorySink, Out, OutMut, Piece, Sink, SinkDown, SinkFault, Trouble, write_piece,

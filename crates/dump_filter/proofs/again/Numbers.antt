@@ -3,7 +3,8 @@ use Rattle.std.proofs.Common.{◌≡◌, ℕ, zero, suc, ◌+◌, ◌<◌, ◌�
 use Rattle.std.proofs.lemmas.Bool.Decides.{nat_tests}
 use Rattle.dump_records.specs.RecordText.{DumpRecord}
 use Rattle.dump_rules.specs.Settings.{Settings}
-use Rattle.dump_rules.specs.Renumbering.{KeptRevisions, RiseFrom, new_number}
+use Rattle.dump_rules.specs.Renumbering.{KeptRevisions, new_number}
+use Rattle.dump_rules.specs.steps.RisingNumbers.{RiseFrom}
 use Rattle.dump_rules.proofs.ReachLemmas.{below, below-cons, is_below}
 use Rattle.dump_digest.specs.RecordParts.{is_revision, is_node}
 use Rattle.dump_filter.specs.Groups.{group_of, keeps_group, revision_number, revision_numbers, first_number, kept_revisions}

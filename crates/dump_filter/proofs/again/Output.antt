@@ -14,18 +14,18 @@ use Rattle.dump_records.specs.RecordText.{DumpRecord, is_lawful}
 use Rattle.dump_records.proofs.Unique.{Keeps, keeps}
 use Rattle.dump_rules.specs.Settings.{Settings}
 use Rattle.dump_rules.specs.Mergeinfo.{HasMergeLines}
-use Rattle.dump_rules.specs.Renumbering.{KeptRevisions, RiseFrom, image}
+use Rattle.dump_rules.specs.Renumbering.{KeptRevisions, image}
+use Rattle.dump_rules.specs.steps.RisingNumbers.{RiseFrom}
 use Rattle.dump_rules.specs.Rewriting.{IsNewMergeinfo}
 use Rattle.dump_rules.proofs.ReachLemmas.{image_fits}
 use Rattle.dump_rules.proofs.new_values.RunsLaw.{number_small}
-use Rattle.dump_digest.specs.RecordParts.{is_revision, is_node, is_kept_node, is_mergeinfo, mergeinfo_name, value_of, has_whole_text, HasPropertyList}
+use Rattle.dump_digest.specs.RecordParts.{is_revision, is_node, is_kept_node, is_mergeinfo, mergeinfo_name, value_of, has_whole_text, HasPropertyList, is_copy}
 use Rattle.dump_digest.specs.ContentFaults.{HasBadMd5, HasBadSha1, HasBadMergeinfo, DiffersFromDigest}
 use Rattle.dump_digest.proofs.PropertyBlocks.{property_list_once}
 use Rattle.dump_filter.specs.FilterLaws.{keep_all}
 use Rattle.dump_filter.specs.Groups.{group_of, is_padded, revision_number}
 use Rattle.dump_filter.specs.NewContent.{IsNewProperty, AreNewProperties, is_date, padding_properties, revision_properties, new_block}
 use Rattle.dump_filter.specs.NewHeaders.{with_lengths, written_number, becomes_plain, without_copy_headers, IsWrittenCopyNumber, IsNewCopy}
-use Rattle.dump_digest.specs.RecordParts.{is_copy}
 use Rattle.dump_filter.specs.steps.NewLines.{is_copy_line}
 use Rattle.dump_filter.specs.RecordOutput.{whole_text, revision_text, IsRevisionOutput, IsNodeOutput, IsWrittenBlock}
 use Rattle.dump_text.proofs.BoolLemmas.{first_true, second_true, first_false, second_false, not_so, absurd_bool, false_true}

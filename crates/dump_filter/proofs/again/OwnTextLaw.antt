@@ -6,7 +6,8 @@ use Rattle.dump_records.specs.DumpText.{IsCutInto}
 use Rattle.dump_records.specs.HeaderRules.{header_number}
 use Rattle.dump_records.specs.RecordText.{DumpRecord, record_text, BeginsWithRecord}
 use Rattle.dump_rules.specs.Settings.{Settings}
-use Rattle.dump_rules.specs.Renumbering.{KeptRevisions, RiseFrom, new_number}
+use Rattle.dump_rules.specs.Renumbering.{KeptRevisions, new_number}
+use Rattle.dump_rules.specs.steps.RisingNumbers.{RiseFrom}
 use Rattle.dump_rules.proofs.new_values.OwnValue.{own_value}
 use Rattle.dump_rules.proofs.ReachLemmas.{new_number_fits}
 use Rattle.dump_digest.specs.RecordParts.{is_revision, is_node, is_kept_node}

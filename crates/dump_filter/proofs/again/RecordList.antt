@@ -5,7 +5,8 @@ use Rattle.dump_text.specs.Names.{version_name}
 use Rattle.dump_text.specs.HeaderLine.{has_header}
 use Rattle.dump_records.specs.DumpText.{line_feeds, IsCutInto, HaveVersions}
 use Rattle.dump_records.specs.RecordText.{DumpRecord, record_text, is_lawful, BeginsWithRecord}
-use Rattle.dump_records.specs.HeaderRules.{kind_of, version_from}
+use Rattle.dump_records.specs.HeaderRules.{version_from}
+use Rattle.dump_records.specs.steps.RecordKinds.{kind_of}
 use Rattle.dump_records.specs.declared.kind.RecordKind.{RecordKind}
 use Rattle.dump_records.specs.declared.kind.RecordKind.TheVariants as kinds
 use Rattle.dump_records.proofs.Unique.{keeps}

@@ -2,7 +2,8 @@
 use Rattle.std.proofs.Common.{◌≡◌, ℕ, Bool, true, false, refl, sym, ◌∙◌, subst, IsTrue}
 use Rattle.dump_text.specs.Names.{version_name, uuid_name, revision_name, path_name}
 use Rattle.dump_text.specs.HeaderLine.{has_header}
-use Rattle.dump_records.specs.HeaderRules.{kind_of, has_bad_kind}
+use Rattle.dump_records.specs.HeaderRules.{has_bad_kind}
+use Rattle.dump_records.specs.steps.RecordKinds.{kind_of}
 use Rattle.dump_records.specs.declared.kind.RecordKind.{RecordKind}
 use Rattle.dump_records.specs.declared.kind.RecordKind.TheVariants as kinds
 use Rattle.dump_records.specs.RecordText.{DumpRecord, is_lawful}

@@ -5,10 +5,11 @@ use Rattle.std.proofs.lemmas.List.{append-nil}
 use Rattle.dump_text.specs.declared.fault.FaultKind.TheVariants as faults
 use Rattle.dump_text.specs.HeaderBlock.{block_text}
 use Rattle.dump_text.specs.PropertyList.{Property}
-use Rattle.dump_digest.proofs.PropertyBlocks.{block_stable}
+use Rattle.dump_digest.proofs.PropertyBlocks.{block_stable, property_list_once}
 use Rattle.dump_records.specs.RecordText.{DumpRecord}
 use Rattle.dump_rules.specs.Settings.{Settings}
-use Rattle.dump_rules.specs.Renumbering.{KeptRevisions, RiseFrom}
+use Rattle.dump_rules.specs.Renumbering.{KeptRevisions}
+use Rattle.dump_rules.specs.steps.RisingNumbers.{RiseFrom}
 use Rattle.dump_rules.specs.Mergeinfo.{HasMergeLines}
 use Rattle.dump_rules.specs.Rewriting.{IsNewMergeinfo}
 use Rattle.dump_rules.proofs.faults.FaultLemmas.{has_lines}
@@ -37,7 +38,6 @@ use Rattle.dump_filter.proofs.answer.FaultLemmas.{above_present}
 use Rattle.dump_filter.proofs.answer.MergeLemmas.{lines_told}
 use Rattle.dump_filter.proofs.answer.DecisionLemmas.{IsTaken}
 use Rattle.dump_filter.proofs.knowing.OnceLemmas.{outputs_once}
-use Rattle.dump_digest.proofs.PropertyBlocks.{property_list_once}
 
 -- a pending revision's properties can be read
 pub pending_readable : (settings : Settings) (before : List DumpRecord) (s : State) → Shape settings before s

@@ -11,7 +11,8 @@ use Rattle.dump_digest.proofs.PropertyBlocks.{block_or_not}
 use Rattle.dump_records.specs.declared.record.Record.{Record}
 use Rattle.dump_records.specs.RecordText.{DumpRecord}
 use Rattle.dump_records.specs.steps.RecordViews.{record_dump, record_number, record_item}
-use Rattle.dump_records.specs.DumpText.{BeginsWithRecords, IsRecordOf}
+use Rattle.dump_records.specs.DumpText.{BeginsWithRecords}
+use Rattle.dump_records.specs.steps.CutRecords.{IsRecordOf}
 use Rattle.dump_records.proofs.CutLemmas.{strip}
 use Rattle.dump_records.proofs.Prefixes.{begins_once, one_more}
 use Rattle.dump_records.proofs.Unique.{least_once}

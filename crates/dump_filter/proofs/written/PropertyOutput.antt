@@ -7,7 +7,8 @@ use Rattle.std.proofs.lemmas.Slice.Eq.{bytes_eq-Decides}
 use Rattle.dump_text.specs.Names.{property_length_name}
 use Rattle.dump_text.specs.HeaderLine.{has_header}
 use Rattle.dump_text.specs.steps.PropertyScan.{IsWritten}
-use Rattle.dump_text.specs.PropertyList.{Property, IsEntry, IsPropertyBlock, HasPropertyChanges, block_end, entry_text, property_block_text, property_value}
+use Rattle.dump_text.specs.PropertyList.{Property, IsEntry, IsPropertyBlock, block_end, entry_text, property_block_text}
+use Rattle.dump_text.specs.steps.PropertyReading.{HasPropertyChanges, property_value}
 use Rattle.dump_text.proofs.PropertyLemmas.{entry_parts, left_of, property_block_once}
 use Rattle.dump_text.proofs.WrittenLemmas.{written_list}
 use Rattle.dump_records.specs.HeaderRules.{header_number, property_length}

@@ -6,7 +6,8 @@ use Rattle.dump_records.specs.RecordText.{DumpRecord}
 use Rattle.dump_records.specs.steps.RecordViews.{record_dump, record_number}
 use Rattle.dump_records.specs.DumpText.{BeginsWithRecords}
 use Rattle.dump_rules.specs.Settings.{Settings}
-use Rattle.dump_rules.specs.Renumbering.{KeptRevisions, RiseFrom}
+use Rattle.dump_rules.specs.Renumbering.{KeptRevisions}
+use Rattle.dump_rules.specs.steps.RisingNumbers.{RiseFrom}
 use Rattle.dump_digest.specs.RecordParts.{is_revision, is_node, is_kept_node, is_checked_text}
 use Rattle.dump_filter.specs.Groups.{groups, keeps_group, revision_number, present_revision, kept_revisions}
 use Rattle.dump_filter.specs.RecordFaults.{AreFaultFree}

@@ -10,9 +10,11 @@ use Rattle.dump_lanes.specs.PoolEvents.{Event, is_enabled, after_event, IsRun}
 use Rattle.dump_lanes.specs.PoolParts.{credits_share, credits_allow, jobs_share, jobs_allow, dones_share, lane_share, lane_allow, stop_share, cutter_puts, worker_puts, sequencer_puts}
 use Rattle.dump_lanes.specs.PoolWorld.{PoolSize, Entry, World, opening, hand_of}
 use Rattle.dump_lanes.specs.PartSteps.{AreSteps}
-use Rattle.dump_lanes.specs.CreditRule.{draw_step, back_step}
-use Rattle.dump_lanes.specs.DoneRule.{dones_part, give_step, arrive_step}
-use Rattle.dump_lanes.specs.JobRule.{jobs_part, put_step, take_step}
+use Rattle.dump_lanes.specs.steps.CreditQueue.{draw_step, back_step}
+use Rattle.dump_lanes.specs.DoneRule.{dones_part}
+use Rattle.dump_lanes.specs.steps.DoneQueue.{give_step, arrive_step}
+use Rattle.dump_lanes.specs.JobRule.{jobs_part}
+use Rattle.dump_lanes.specs.steps.JobQueue.{put_step, take_step}
 use Rattle.dump_lanes.specs.RunSteps.{mark_of, last_first, on_dones, events_on, events_of, CreditsAt, JobsAt, DonesAt, LaneAt, WordAt, MakesSteps, EveryRunMakesSteps}
 use Rattle.dump_lanes.proofs.DoneSteps.{give_is_step, arrive_is_step}
 use Rattle.dump_lanes.proofs.EventParts.{allows}

@@ -7,7 +7,7 @@ use Rattle.dump_lanes.specs.declared.pool.credits.Token.{Token}
 use Rattle.dump_lanes.specs.declared.pool.drawing.Credit.{Credit}
 use Rattle.dump_lanes.specs.declared.pool.drawing.Drawn.{Drawn}
 use Rattle.dump_lanes.specs.declared.pool.drawing.Drawn.TheVariants as draws
-use Rattle.dump_lanes.specs.CreditRule.{after_draw}
+use Rattle.dump_lanes.specs.steps.CreditQueue.{after_draw}
 
 -- the queue of credits of the pool that a credit is of
 abbrev pub credit_pool : Credit → TableId

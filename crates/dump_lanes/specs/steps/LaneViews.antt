@@ -14,10 +14,12 @@ use Rattle.dump_lanes.specs.declared.passes.View.{View}
 use Rattle.dump_lanes.specs.declared.protocol.Mark.{Mark}
 use Rattle.dump_lanes.specs.declared.steps.Step.{Step}
 use Rattle.dump_lanes.specs.steps.LaneEnds.{LaneName, LaneEnd, Sending, Receiving, IsWholeAtEnd}
-use Rattle.dump_lanes.specs.LaneMarks.{items_of}
-use Rattle.dump_lanes.specs.LaneRule.{lane_part, item_steps}
+use Rattle.dump_lanes.specs.steps.LaneMarks.{items_of}
+use Rattle.dump_lanes.specs.LaneRule.{lane_part}
+use Rattle.dump_lanes.specs.steps.LaneQueue.{item_steps}
 use Rattle.dump_lanes.specs.PoolParts.{Thread}
-use Rattle.dump_lanes.specs.PartSteps.{AreSteps, all_put, all_taken, steps_of}
+use Rattle.dump_lanes.specs.PartSteps.{AreSteps, all_put, all_taken}
+use Rattle.dump_lanes.specs.steps.OwnSteps.{steps_of}
 
 -- what the receiver was last told
 abbrev pub told : Told → LaneEnd

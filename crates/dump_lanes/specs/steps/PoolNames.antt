@@ -6,9 +6,9 @@ use Rattle.dump_lanes.specs.declared.passes.TheConstants.{PARTS}
 use Rattle.dump_lanes.specs.declared.pool.queues.Queues.{Queues}
 use Rattle.dump_lanes.specs.declared.pool.queues.Passes.{Passes}
 use Rattle.dump_lanes.specs.declared.pool.shares.Shares.{Shares}
-use Rattle.dump_lanes.specs.CreditRule.{purse}
-use Rattle.dump_lanes.specs.QueueRule.{leading}
-use Rattle.dump_lanes.specs.PortSides.{PoolName, PoolState}
+use Rattle.dump_lanes.specs.steps.CreditQueue.{purse}
+use Rattle.dump_lanes.specs.steps.QueueRule.{leading}
+use Rattle.dump_lanes.specs.steps.PortSides.{PoolName, PoolState}
 
 module _ {J D : Type 0} where
   -- the pool that these queues are of

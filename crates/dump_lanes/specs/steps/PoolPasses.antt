@@ -7,9 +7,9 @@ use Rattle.dump_lanes.specs.declared.protocol.Mark.{Mark}
 use Rattle.dump_lanes.specs.declared.protocol.Mark.TheVariants.{Item, End}
 use Rattle.dump_lanes.specs.declared.steps.Step.{Step}
 use Rattle.dump_lanes.specs.declared.passes.View.{View}
-use Rattle.dump_lanes.specs.LaneMarks.{items_of, AreItemsThen, mark_if}
+use Rattle.dump_lanes.specs.steps.LaneMarks.{items_of, AreItemsThen, mark_if}
 use Rattle.dump_lanes.specs.PoolParts.{Thread}
-use Rattle.dump_lanes.specs.PartSteps.{steps_of}
+use Rattle.dump_lanes.specs.steps.OwnSteps.{steps_of}
 
 module _ {T : Type 0} where
   -- how many end marks there are

@@ -6,8 +6,10 @@ use Rattle.dump_lanes.specs.declared.pool.dones.Note.{Note}
 use Rattle.dump_lanes.specs.declared.protocol.Mark.{Mark}
 use Rattle.dump_lanes.specs.declared.steps.Step.{Step}
 use Rattle.dump_lanes.specs.PoolParts.{Thread}
-use Rattle.dump_lanes.specs.PartSteps.{AreSteps, all_put, all_taken, steps_of}
-use Rattle.dump_lanes.specs.CreditRule.{CreditStep, AreSteps as AreCreditSteps, drawn_in, back_in}
+use Rattle.dump_lanes.specs.PartSteps.{AreSteps, all_put, all_taken}
+use Rattle.dump_lanes.specs.steps.OwnSteps.{steps_of}
+use Rattle.dump_lanes.specs.CreditRule.{CreditStep, AreSteps as AreCreditSteps}
+use Rattle.dump_lanes.specs.steps.CreditQueue.{drawn_in, back_in}
 use Rattle.dump_lanes.specs.DoneRule.{dones_part}
 use Rattle.dump_lanes.specs.JobRule.{jobs_part}
 use Rattle.dump_lanes.specs.steps.PortViews.{job_port, credit_port, job_steps, done_steps}

@@ -15,10 +15,10 @@ use Rattle.dump_lanes.specs.declared.protocol.Mark.{Mark}
 use Rattle.dump_lanes.specs.declared.steps.Step.{Step}
 use Rattle.dump_lanes.specs.declared.passes.View.{View}
 use Rattle.dump_lanes.specs.steps.CreditViews.{credit_pool}
-use Rattle.dump_lanes.specs.LaneMarks.{items_of}
+use Rattle.dump_lanes.specs.steps.LaneMarks.{items_of}
 use Rattle.dump_lanes.specs.steps.PoolNames.{name_of, state_of}
 use Rattle.dump_lanes.specs.steps.PoolPasses.{count_ends, marks_in}
-use Rattle.dump_lanes.specs.PortSides.{PoolState, CutterSide, WorkerSide, SequencerSide, WriterSide}
+use Rattle.dump_lanes.specs.steps.PortSides.{PoolState, CutterSide, WorkerSide, SequencerSide, WriterSide}
 
 module _ {J D : Type 0} where
   -- the pool

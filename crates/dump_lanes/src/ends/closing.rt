@@ -3,7 +3,7 @@ ghost use Rattle.std.specs.Prelude.{◌≡◌, []};
 ghost use Rattle.std.specs.Result.{is_ok};
 ghost use Rattle.crossbeam_channel.specs.Claims.{IsSeatAt, view};
 ghost use Rattle.crossbeam_channel.specs.Ends.{sends_on};
-ghost use Rattle.dump_lanes.specs.LaneMarks.{IsPutting, mark_if};
+ghost use Rattle.dump_lanes.specs.steps.LaneMarks.{IsPutting, mark_if};
 ghost use Rattle.dump_lanes.specs.steps.LaneViews.{sending_of};
 
 use crate::passes::View;

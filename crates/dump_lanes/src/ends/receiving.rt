@@ -2,8 +2,8 @@
 ghost use Rattle.std.specs.Prelude.{◌≡◌, ◌<◌, false, IfOk, OnErr};
 ghost use Rattle.crossbeam_channel.specs.Claims.{IsSeatAt, view};
 ghost use Rattle.crossbeam_channel.specs.Ends.{receives_on};
-ghost use Rattle.dump_lanes.specs.LaneRule.{take_step};
-ghost use Rattle.dump_lanes.specs.QueueRule.{after_take};
+ghost use Rattle.dump_lanes.specs.steps.LaneQueue.{take_step};
+ghost use Rattle.dump_lanes.specs.steps.QueueRule.{after_take};
 
 use crate::passes::View;
 use crate::protocol::{InOrder, Mark, Takes};

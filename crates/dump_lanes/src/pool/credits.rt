@@ -33,7 +33,7 @@ pub struct CreditShares;
 
 impl Protocol<Token, Purse> for CreditShares {
     ghost use Rattle.std.specs.Prelude.{true, []};
-    ghost use Rattle.dump_lanes.specs.CreditRule.{purse, IsCreditQueue};
+    ghost use Rattle.dump_lanes.specs.steps.CreditQueue.{purse, IsCreditQueue};
 
     ghost holds = { IsCreditQueue };
 
@@ -44,7 +44,7 @@ impl Protocol<Token, Purse> for CreditShares {
 pub struct CreditRoles;
 
 impl Split<Purse> for CreditRoles {
-    ghost use Rattle.dump_lanes.specs.CreditRule.{cutter_purse, writer_purse};
+    ghost use Rattle.dump_lanes.specs.steps.CreditQueue.{cutter_purse, writer_purse};
 
     ghost left = { cutter_purse };
 
@@ -52,7 +52,7 @@ impl Split<Purse> for CreditRoles {
 }
 
 impl Join<Purse> for CreditRoles {
-    ghost use Rattle.dump_lanes.specs.CreditRule.{joined_purse, spent_purse};
+    ghost use Rattle.dump_lanes.specs.steps.CreditQueue.{joined_purse, spent_purse};
 
     ghost both = { joined_purse };
 
@@ -64,7 +64,7 @@ pub struct AddsFirst;
 
 impl Outcome<Token, Purse> for AddsFirst {
     ghost use Rattle.std.specs.Prelude.{◌≡◌};
-    ghost use Rattle.dump_lanes.specs.CreditRule.{after_first};
+    ghost use Rattle.dump_lanes.specs.steps.CreditQueue.{after_first};
 
     ghost then = { λ v x w. w ≡ after_first v };
 }
@@ -78,7 +78,7 @@ pub struct Draws;
 
 impl Outcome<Token, Purse> for Draws {
     ghost use Rattle.std.specs.Prelude.{◌≡◌};
-    ghost use Rattle.dump_lanes.specs.CreditRule.{after_draw};
+    ghost use Rattle.dump_lanes.specs.steps.CreditQueue.{after_draw};
 
     ghost then = { λ v x w. w ≡ after_draw v };
 }
@@ -92,7 +92,7 @@ pub struct Gives;
 
 impl Outcome<Token, Purse> for Gives {
     ghost use Rattle.std.specs.Prelude.{◌≡◌};
-    ghost use Rattle.dump_lanes.specs.CreditRule.{after_back};
+    ghost use Rattle.dump_lanes.specs.steps.CreditQueue.{after_back};
 
     ghost then = { λ v x w. w ≡ after_back v };
 }
@@ -106,7 +106,7 @@ pub struct AllCredits;
 
 impl Lesson<Token, Purse> for AllCredits {
     ghost use Rattle.std.specs.Prelude.{◌≤◌, ◌+◌, length};
-    ghost use Rattle.dump_lanes.specs.CreditRule.{KnowsSteps};
+    ghost use Rattle.dump_lanes.specs.steps.CreditQueue.{KnowsSteps};
 
     ghost fact = { λ v items. (v.drawn ≤ v.first + v.back) × KnowsSteps v (length items) };
 }

@@ -2,7 +2,7 @@
 ghost use Rattle.std.specs.Prelude.{◌≡◌, ◌+◌, [], ◌∷◌, ◌++◌, true, replicate};
 ghost use Rattle.std.specs.Arc.{arc_value};
 ghost use Rattle.crossbeam_queue.specs.Passes.{view, IsSamePass, IsPassOf};
-ghost use Rattle.dump_lanes.specs.JobRule.{after_ends};
+ghost use Rattle.dump_lanes.specs.steps.JobQueue.{after_ends};
 ghost use Rattle.dump_lanes.specs.steps.PoolPasses.{IsCutting};
 ghost use Rattle.dump_lanes.specs.steps.StopSeats.{SeesOnlyRaised};
 ghost use Rattle.dump_lanes.specs.declared.protocol.Mark.TheVariants.{End};

@@ -3,10 +3,10 @@ ghost use Rattle.std.specs.Prelude.{◌≡◌, ◌-◌, ◌≤◌, [], true, len
 ghost use Rattle.std.specs.List.{range_with_len};
 ghost use Rattle.std.specs.Arc.{arc_value};
 ghost use Rattle.crossbeam_queue.specs.Passes.{view, IsPassOf};
-ghost use Rattle.dump_lanes.specs.QueueRule.{leading};
+ghost use Rattle.dump_lanes.specs.steps.QueueRule.{leading};
 ghost use Rattle.dump_lanes.specs.declared.passes.TheConstants.{PARTS};
 ghost use Rattle.dump_lanes.specs.steps.PoolNames.{AreFirst, AreShares, state_of};
-ghost use Rattle.dump_lanes.specs.PortSides.{new_cutter, new_worker, new_sequencer, new_writer};
+ghost use Rattle.dump_lanes.specs.steps.PortSides.{new_cutter, new_worker, new_sequencer, new_writer};
 ghost use Rattle.dump_lanes.specs.steps.PortViews.{job_port, worker_port, worker_ports, done_port, credit_port};
 
 use super::Ports;

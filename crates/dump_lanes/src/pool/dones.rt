@@ -23,8 +23,8 @@ pub struct Note<T> {
 pub struct DoneShares;
 
 impl<T> Protocol<Note<T>, View<Note<T>>> for DoneShares {
-    ghost use Rattle.dump_lanes.specs.DoneRule.{IsDoneQueue};
-    ghost use Rattle.dump_lanes.specs.QueueRule.{leading};
+    ghost use Rattle.dump_lanes.specs.steps.DoneQueue.{IsDoneQueue};
+    ghost use Rattle.dump_lanes.specs.steps.QueueRule.{leading};
     ghost use Rattle.dump_lanes.specs.declared.passes.TheConstants.{PARTS};
 
     ghost holds = { IsDoneQueue };
@@ -37,8 +37,8 @@ pub struct PutsNote;
 
 impl<T> Outcome<Note<T>, View<Note<T>>> for PutsNote {
     ghost use Rattle.std.specs.Prelude.{◌≡◌};
-    ghost use Rattle.dump_lanes.specs.DoneRule.{give_step};
-    ghost use Rattle.dump_lanes.specs.QueueRule.{after_put};
+    ghost use Rattle.dump_lanes.specs.steps.DoneQueue.{give_step};
+    ghost use Rattle.dump_lanes.specs.steps.QueueRule.{after_put};
 
     ghost then = { λ v x w. w ≡ after_put v (give_step x) };
 }
@@ -52,8 +52,8 @@ pub struct TakesNote;
 
 impl<T> Outcome<Note<T>, View<Note<T>>> for TakesNote {
     ghost use Rattle.std.specs.Prelude.{◌≡◌};
-    ghost use Rattle.dump_lanes.specs.DoneRule.{arrive_step};
-    ghost use Rattle.dump_lanes.specs.QueueRule.{after_take};
+    ghost use Rattle.dump_lanes.specs.steps.DoneQueue.{arrive_step};
+    ghost use Rattle.dump_lanes.specs.steps.QueueRule.{after_take};
 
     ghost then = { λ v x w. w ≡ after_take v (arrive_step x) };
 }
@@ -66,8 +66,9 @@ impl<T> Lesson<Note<T>, View<Note<T>>> for TakesNote {
 pub struct AllNotes;
 
 impl<T> Lesson<Note<T>, View<Note<T>>> for AllNotes {
-    ghost use Rattle.dump_lanes.specs.DoneRule.{dones_part, sequencer_crew};
-    ghost use Rattle.dump_lanes.specs.QueueRule.{KnowsSteps};
+    ghost use Rattle.dump_lanes.specs.DoneRule.{dones_part};
+    ghost use Rattle.dump_lanes.specs.steps.DoneQueue.{sequencer_crew};
+    ghost use Rattle.dump_lanes.specs.steps.QueueRule.{KnowsSteps};
 
     ghost fact = { λ v items. KnowsSteps dones_part sequencer_crew v items };
 }

@@ -1,7 +1,7 @@
 //! Credits, and how they are drawn.
 ghost use Rattle.std.specs.Prelude.{◌≡◌, true, []};
 ghost use Rattle.crossbeam_queue.specs.Passes.{view, IsSamePass, IsPassOf};
-ghost use Rattle.dump_lanes.specs.CreditRule.{purse};
+ghost use Rattle.dump_lanes.specs.steps.CreditQueue.{purse};
 ghost use Rattle.dump_lanes.specs.steps.CreditViews.{HasDrawn, is_stop};
 ghost use Rattle.dump_lanes.specs.steps.StopSeats.{SeesOnlyRaised};
 

@@ -16,8 +16,8 @@ pub type JobQueue<J> = RuledArrayQueue<Mark<J>, View<Mark<J>>, JobShares>;
 pub struct JobShares;
 
 impl<T> Protocol<Mark<T>, View<Mark<T>>> for JobShares {
-    ghost use Rattle.dump_lanes.specs.JobRule.{IsJobQueue};
-    ghost use Rattle.dump_lanes.specs.QueueRule.{leading};
+    ghost use Rattle.dump_lanes.specs.steps.JobQueue.{IsJobQueue};
+    ghost use Rattle.dump_lanes.specs.steps.QueueRule.{leading};
     ghost use Rattle.dump_lanes.specs.declared.passes.TheConstants.{PARTS};
 
     ghost holds = { IsJobQueue };
@@ -30,8 +30,8 @@ pub struct PutsJob;
 
 impl<T> Outcome<Mark<T>, View<Mark<T>>> for PutsJob {
     ghost use Rattle.std.specs.Prelude.{◌≡◌};
-    ghost use Rattle.dump_lanes.specs.JobRule.{put_step};
-    ghost use Rattle.dump_lanes.specs.QueueRule.{after_put};
+    ghost use Rattle.dump_lanes.specs.steps.JobQueue.{put_step};
+    ghost use Rattle.dump_lanes.specs.steps.QueueRule.{after_put};
 
     ghost then = { λ v x w. w ≡ after_put v (put_step x) };
 }
@@ -45,7 +45,7 @@ pub struct TakesJob;
 
 impl<T> Outcome<Mark<T>, View<Mark<T>>> for TakesJob {
     ghost use Rattle.std.specs.Prelude.{◌≡◌};
-    ghost use Rattle.dump_lanes.specs.JobRule.{after_job};
+    ghost use Rattle.dump_lanes.specs.steps.JobQueue.{after_job};
 
     ghost then = { λ v x w. w ≡ after_job v x };
 }
@@ -58,8 +58,9 @@ impl<T> Lesson<Mark<T>, View<Mark<T>>> for TakesJob {
 pub struct AllJobs;
 
 impl<T> Lesson<Mark<T>, View<Mark<T>>> for AllJobs {
-    ghost use Rattle.dump_lanes.specs.JobRule.{jobs_part, cutter_crew};
-    ghost use Rattle.dump_lanes.specs.QueueRule.{KnowsSteps};
+    ghost use Rattle.dump_lanes.specs.JobRule.{jobs_part};
+    ghost use Rattle.dump_lanes.specs.steps.JobQueue.{cutter_crew};
+    ghost use Rattle.dump_lanes.specs.steps.QueueRule.{KnowsSteps};
 
     ghost fact = { λ v items. KnowsSteps jobs_part cutter_crew v items };
 }

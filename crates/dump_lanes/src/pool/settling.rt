@@ -2,7 +2,8 @@
 ghost use Rattle.std.specs.Prelude.{◌≡◌, ◌+◌, ◌<◌, ◌≤◌, true, false, All};
 ghost use Rattle.crossbeam_queue.specs.Passes.{view, IsPassOf};
 ghost use Rattle.dump_lanes.specs.steps.PoolNames.{name_of};
-ghost use Rattle.dump_lanes.specs.PortSides.{AreWorkersOf, IsDone, WeighsSame, all_taken, all_given};
+ghost use Rattle.dump_lanes.specs.Arrivals.{WeighsSame};
+ghost use Rattle.dump_lanes.specs.steps.PortSides.{AreWorkersOf, IsDone, all_taken, all_given};
 ghost use Rattle.dump_lanes.specs.steps.PortSteps.{HaveSteps};
 ghost use Rattle.dump_lanes.specs.steps.PortViews.{job_port, worker_port, worker_ports, done_port, credit_port, HasJobsOf, HasDonesOf};
 

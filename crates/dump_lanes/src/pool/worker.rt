@@ -2,7 +2,7 @@
 ghost use Rattle.std.specs.Prelude.{◌≡◌, [], ◌∷◌, ◌++◌, true, false};
 ghost use Rattle.std.specs.Arc.{arc_value};
 ghost use Rattle.crossbeam_queue.specs.Passes.{view, IsPassOf};
-ghost use Rattle.dump_lanes.specs.QueueRule.{following};
+ghost use Rattle.dump_lanes.specs.steps.QueueRule.{following};
 ghost use Rattle.dump_lanes.specs.steps.PoolPasses.{IsWorking, IsGiving};
 
 use super::dones::{Note, PutsNote};
@@ -31,7 +31,7 @@ pub struct WorkerPort<J: Drop, D: Drop> {
 
 impl<J: Drop, D: Drop> WorkerPort<J, D> {
     ghost use Rattle.dump_lanes.specs.steps.PoolNames.{state_of};
-    ghost use Rattle.dump_lanes.specs.PortSides.{new_worker};
+    ghost use Rattle.dump_lanes.specs.steps.PortSides.{new_worker};
     ghost use Rattle.dump_lanes.specs.steps.PortViews.{worker_port, JobStep};
 
     pub(super) fn new(

@@ -29,7 +29,7 @@ pub struct UpWhereRaised;
 
 impl TableRule<(), Marks, ()> for UpWhereRaised {
     ghost use Rattle.std.specs.Prelude.{false, []};
-    ghost use Rattle.dump_lanes.specs.StopRule.{marks, IsStop};
+    ghost use Rattle.dump_lanes.specs.steps.StopMarks.{marks, IsStop};
 
     ghost holds = { λ _. IsStop };
 
@@ -41,7 +41,7 @@ pub struct Raises;
 
 impl Play<(), Marks> for Raises {
     ghost use Rattle.std.specs.Prelude.{◌≡◌};
-    ghost use Rattle.dump_lanes.specs.StopRule.{after_raise};
+    ghost use Rattle.dump_lanes.specs.steps.StopMarks.{after_raise};
 
     ghost then = { λ step old n new. new ≡ (after_raise old.0, old.1) };
 }
@@ -50,7 +50,7 @@ impl Play<(), Marks> for Raises {
 pub struct Looks;
 
 impl Play<(), Marks> for Looks {
-    ghost use Rattle.dump_lanes.specs.StopRule.{HasLooked};
+    ghost use Rattle.dump_lanes.specs.steps.StopMarks.{HasLooked};
 
     ghost then = { λ step old n new. HasLooked old n new };
 }
@@ -59,7 +59,7 @@ impl Play<(), Marks> for Looks {
 pub struct Checks;
 
 impl Play<(), Marks> for Checks {
-    ghost use Rattle.dump_lanes.specs.StopRule.{HasChecked};
+    ghost use Rattle.dump_lanes.specs.steps.StopMarks.{HasChecked};
 
     ghost then = { λ step old n new. HasChecked old new };
 }
@@ -68,7 +68,7 @@ impl Play<(), Marks> for Checks {
 pub struct Halves;
 
 impl Split<Marks> for Halves {
-    ghost use Rattle.dump_lanes.specs.StopRule.{left_half, right_half};
+    ghost use Rattle.dump_lanes.specs.steps.StopMarks.{left_half, right_half};
 
     ghost left = { left_half };
 
@@ -76,7 +76,7 @@ impl Split<Marks> for Halves {
 }
 
 impl Join<Marks> for Halves {
-    ghost use Rattle.dump_lanes.specs.StopRule.{joined, spent};
+    ghost use Rattle.dump_lanes.specs.steps.StopMarks.{joined, spent};
 
     ghost both = { joined };
 

@@ -1,6 +1,6 @@
 //! One item through a pool of one worker, and memory that is refused.
 ghost use Rattle.std.specs.Prelude.{◌≡◌, All, map, true, false, IfSome};
-ghost use Rattle.dump_lanes.specs.PortSides.{AreWorkersOf, IsDone};
+ghost use Rattle.dump_lanes.specs.steps.PortSides.{AreWorkersOf, IsDone};
 ghost use Rattle.dump_lanes.specs.steps.PortViews.{job_port, worker_port, worker_ports, done_port, credit_port};
 
 use crate::{Drawn, Memory, Pool, Ports, StopSeat, StopWord, WorkerPort};

@@ -2,7 +2,7 @@
 //! its credit is given back by the thread that takes it from there. Then all ports are settled.
 ghost use Rattle.std.specs.Prelude.{◌≡◌, ◌≤◌, ◌%◌, IfSome, All, map, length, vec_capacity, true, false};
 ghost use Rattle.dump_lanes.specs.steps.LaneViews.{sending, sent, receiving};
-ghost use Rattle.dump_lanes.specs.PortSides.{AreWorkersOf, IsDone};
+ghost use Rattle.dump_lanes.specs.steps.PortSides.{AreWorkersOf, IsDone};
 ghost use Rattle.dump_lanes.specs.steps.PortViews.{job_port, worker_port, worker_ports, done_port, credit_port};
 
 use super::threads::{Cutter, Sequencer, Worker};

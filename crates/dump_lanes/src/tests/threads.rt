@@ -2,7 +2,7 @@
 ghost use Rattle.std.specs.Prelude.{◌≡◌, true, false};
 ghost use Rattle.std.specs.Result.{ForOk, ForErr};
 ghost use Rattle.dump_lanes.specs.steps.LaneViews.{sending, sent};
-ghost use Rattle.dump_lanes.specs.PortSides.{IsDone};
+ghost use Rattle.dump_lanes.specs.steps.PortSides.{IsDone};
 ghost use Rattle.dump_lanes.specs.steps.PortViews.{job_port, worker_port, done_port};
 
 use super::running::{Piece, cut, sequence, work};

@@ -1,12 +1,13 @@
 -- What each thread of a run gives back.
 use Rattle.std.specs.Prelude.{◌≡◌, ℕ, ◌+◌, ◌≤◌, Bool, true, false, List, [], length, Option, Some, None, MatchBool}
 use Rattle.std.specs.Io.KnownBytes.{Appends}
-use Rattle.dump_records.specs.DumpText.{Ending, EndsAfter}
+use Rattle.dump_records.specs.DumpText.{Ending}
+use Rattle.dump_records.specs.steps.CutRecords.{EndsAfter}
 use Rattle.dump_rules.specs.Settings.{Settings}
 use Rattle.dump_writer.specs.SinkWords.{capped, IsPrefixOf, HasFailedSince}
 use Rattle.dump_filter.specs.steps.FilterState.{FilterState}
 use Rattle.dump_lanes.specs.Arrivals.{first_numbers, Clash, IsWaiting}
-use Rattle.dump_lanes.specs.PortSides.{CutterSide, WorkerSide, IsDone}
+use Rattle.dump_lanes.specs.steps.PortSides.{CutterSide, WorkerSide, IsDone}
 use Rattle.dump_pipeline.specs.declared.answer.Answer.{Answer}
 use Rattle.dump_pipeline.specs.declared.answer.Answer.TheVariants as answers
 use Rattle.dump_pipeline.specs.declared.answer.Failure.TheVariants as failures

@@ -9,8 +9,9 @@ use Rattle.dump_records.specs.declared.cutter.Cut.{Cut}
 use Rattle.dump_records.specs.declared.cutter.Cut.TheVariants.{Item, Finished, Fault}
 use Rattle.dump_records.specs.RecordText.{DumpRecord}
 use Rattle.dump_records.specs.steps.RecordPlaces.{props_place, record_between}
-use Rattle.dump_records.specs.DumpText.{Ending, EndsAfter, IsRecordOf}
+use Rattle.dump_records.specs.DumpText.{Ending}
 use Rattle.dump_records.specs.steps.CutterState.{CutterState}
+use Rattle.dump_records.specs.steps.CutRecords.{EndsAfter, IsRecordOf}
 
 -- the dump that a record stands in
 abbrev pub record_dump : Record → List ℕ

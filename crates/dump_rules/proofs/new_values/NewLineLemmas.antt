@@ -5,7 +5,8 @@ use Rattle.std.proofs.lemmas.Bool.{and_parts}
 use Rattle.dump_rules.specs.RangeList.{Range, IsConsistent, runs_text}
 use Rattle.dump_rules.specs.steps.ReadRanges.{list_reads}
 use Rattle.dump_rules.specs.steps.ReadMergeinfo.{colon_end, line_reads}
-use Rattle.dump_rules.specs.Renumbering.{KeptRevisions, RiseFrom}
+use Rattle.dump_rules.specs.Renumbering.{KeptRevisions}
+use Rattle.dump_rules.specs.steps.RisingNumbers.{RiseFrom}
 use Rattle.dump_rules.specs.Settings.{Settings}
 use Rattle.dump_rules.specs.steps.Runs.{HaveNumbers, ordered_into, ordered, joined, runs_of, list_ranges}
 use Rattle.dump_rules.specs.steps.NewRanges.{new_ranges, list_new}

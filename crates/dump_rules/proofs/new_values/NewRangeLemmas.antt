@@ -4,7 +4,8 @@ use Rattle.std.proofs.lemmas.Bool.Decides.{leb_tells, nat_tests}
 use Rattle.std.proofs.lemmas.List.Elements.{Contains-get_or}
 use Rattle.dump_rules.specs.RangeList.{Range, HasNumber, IsConsistent}
 use Rattle.dump_rules.specs.steps.ReadRanges.{range_of, range_parts}
-use Rattle.dump_rules.specs.Renumbering.{KeptRevisions, RiseFrom, new_number}
+use Rattle.dump_rules.specs.Renumbering.{KeptRevisions, new_number}
+use Rattle.dump_rules.specs.steps.RisingNumbers.{RiseFrom}
 use Rattle.dump_rules.specs.Rewriting.{IsRenumberedMap}
 use Rattle.dump_rules.specs.steps.Runs.{HaveNumbers, with_range, ranges_of, list_ranges}
 use Rattle.dump_rules.specs.steps.NewRanges.{new_range, kept_range, new_ranges, parts_ranges, list_new}

@@ -3,7 +3,8 @@ use Rattle.std.proofs.Common.{◌≡◌, ℕ, ◌<◌, ◌≤◌, Bool, true, fa
 use Rattle.std.specs.List.{AllZip}
 use Rattle.dump_text.specs.HeaderLine.{has_byte}
 use Rattle.dump_rules.specs.Settings.{Settings, keeps_path}
-use Rattle.dump_rules.specs.Renumbering.{KeptRevisions, RiseFrom, new_number}
+use Rattle.dump_rules.specs.Renumbering.{KeptRevisions, new_number}
+use Rattle.dump_rules.specs.steps.RisingNumbers.{RiseFrom}
 use Rattle.dump_rules.specs.RangeList.{Range, IsConsistent, AreRuns, run_text, runs_text}
 use Rattle.dump_rules.specs.Mergeinfo.{MergeLine, IsMergeLine, IsMergeinfo, HasMergeLines, merge_line_text, mergeinfo_text}
 use Rattle.dump_rules.specs.Rewriting.{IsSameMap, IsRenumberedMap, IsNewLine, IsNewMergeinfo, staying_lines, nonempty_lines}

@@ -4,7 +4,8 @@ use Rattle.std.specs.List.{slice_split, join_with_byte, AllZip}
 use Rattle.std.proofs.lemmas.Bool.Decides.{nat_tests}
 use Rattle.std.proofs.lemmas.List.{take_at, drop_at}
 use Rattle.dump_rules.specs.Settings.{Settings, keeps_path}
-use Rattle.dump_rules.specs.Renumbering.{KeptRevisions, RiseFrom}
+use Rattle.dump_rules.specs.Renumbering.{KeptRevisions}
+use Rattle.dump_rules.specs.steps.RisingNumbers.{RiseFrom}
 use Rattle.dump_rules.specs.RangeList.{Range, runs_text}
 use Rattle.dump_rules.specs.Mergeinfo.{MergeLine, IsMergeLine, IsMergeinfo, merge_line_text}
 use Rattle.dump_rules.specs.steps.ReadMergeinfo.{colon_end, without_lf}

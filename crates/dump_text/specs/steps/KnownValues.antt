@@ -4,9 +4,29 @@ use Rattle.std.specs.Borrow.{Bor}
 use Rattle.std.specs.List.{position_or_len}
 use Rattle.dump_text.specs.declared.names.HeaderName.{HeaderName}
 use Rattle.dump_text.specs.declared.names.HeaderName.TheVariants.{FormatVersion, Uuid, RevisionNumber, NodePath, PropContentLength, TextContentLength, ContentLength, NodeCopyfromRev, NodeCopyfromPath, TextCopySourceMd5, TextCopySourceSha1, NodeKind, NodeAction, TextContentMd5, TextContentSha1, TextDelta, PropDelta}
-use Rattle.dump_text.specs.Names.{name_text}
+use Rattle.dump_text.specs.Names.{version_name, uuid_name, revision_name, path_name, node_kind_name, action_name, copy_revision_name, copy_path_name, property_length_name, text_length_name, content_length_name, md5_name, sha1_name, copy_md5_name, copy_sha1_name, text_delta_name, prop_delta_name}
 use Rattle.dump_text.specs.HeaderLine.{Header, has_header, header_value}
 use Rattle.dump_text.specs.steps.Scanning.{is_known}
+
+-- the bytes of a name
+abbrev pub name_text : HeaderName → List ℕ
+name_text FormatVersion = version_name
+name_text Uuid = uuid_name
+name_text RevisionNumber = revision_name
+name_text NodePath = path_name
+name_text PropContentLength = property_length_name
+name_text TextContentLength = text_length_name
+name_text ContentLength = content_length_name
+name_text NodeCopyfromRev = copy_revision_name
+name_text NodeCopyfromPath = copy_path_name
+name_text TextCopySourceMd5 = copy_md5_name
+name_text TextCopySourceSha1 = copy_sha1_name
+name_text NodeKind = node_kind_name
+name_text NodeAction = action_name
+name_text TextContentMd5 = md5_name
+name_text TextContentSha1 = sha1_name
+name_text TextDelta = text_delta_name
+name_text PropDelta = prop_delta_name
 
 -- the known names in their order
 abbrev pub all_names : List HeaderName

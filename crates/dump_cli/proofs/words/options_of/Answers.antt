@@ -2,7 +2,8 @@ use Rattle.std.proofs.Common.{◌≡◌, ◌∙◌, ap, map, subst, sym, List}
 use Rattle.clap.specs.Kinds.{HasKind}
 use Rattle.clap.specs.Words.{takes, Text, fault_of, found_of, is_simple, is_simple_and_free, rows_of, subcommand_of}
 use Rattle.dump_cli.specs.CommandLine.{program}
-use Rattle.dump_cli.specs.Words.{AnswersTo, AreFilled, meaning_of, order_of}
+use Rattle.dump_cli.specs.Words.{AnswersTo, meaning_of, order_of}
+use Rattle.dump_cli.specs.steps.FilledFlags.{AreFilled}
 use Rattle.dump_cli.proofs.ProgramLemmas.{free, simple}
 use Rattle.dump_cli.proofs.WordLemmas.{entered_line, joined, refusal_answers, refusal_unlawful}
 use Rattle.dump_cli.proofs.words.options_of.Goals as goal

@@ -1,4 +1,4 @@
-use Rattle.dump_lanes.proofs.StepMoves.{credits_move, jobs_move, dones_move, pieces, word_rises, not_unnoted}
+use Rattle.dump_lanes.proofs.StepMoves.{credits_move, jobs_move, dones_move, pieces, word_rises}
 use Rattle.dump_lanes.proofs.laws.every_step_moves_one_entry.Goals as goal
 
 pub returns-clause-credits : goal.returns-clause-credits
@@ -15,6 +15,3 @@ returns-clause-pieces g c = pieces
 
 pub returns-clause-word : goal.returns-clause-word
 returns-clause-word g c = word_rises
-
-pub returns-clause-noted : goal.returns-clause-noted
-returns-clause-noted g c = not_unnoted

@@ -1,7 +1,7 @@
 use Rattle.std.proofs.Common.{◌≡◌, ◌∙◌, List, length, map, All, ap, sym, subst}
 use Rattle.dump_lanes.specs.declared.pool.worker.WorkerPort.{WorkerPort}
 use Rattle.dump_lanes.specs.steps.LaneViews.{sent, receiving}
-use Rattle.dump_lanes.specs.PortSides.{WorkerSide, IsDone}
+use Rattle.dump_lanes.specs.steps.PortSides.{WorkerSide, IsDone}
 use Rattle.dump_lanes.specs.steps.PortViews.{job_port, worker_port, done_port, credit_port}
 use Rattle.dump_lanes.specs.steps.StopSeats.{Seat, joined_seat}
 use Rattle.dump_lanes.proofs.PortsTogether.{map_of_all}

@@ -1,6 +1,6 @@
 use Rattle.std.proofs.Common.{rules, ◌∙◌, ℕ, sym, ap, map, replicate, None, Option}
 use Rattle.std.specs.List.{range_with_len}
-use Rattle.dump_lanes.specs.PortSides.{PoolState, new_cutter, new_worker, new_sequencer, new_writer}
+use Rattle.dump_lanes.specs.steps.PortSides.{PoolState, new_cutter, new_worker, new_sequencer, new_writer}
 use Rattle.dump_pipeline.specs.declared.message.Job.{Job}
 use Rattle.dump_pipeline.specs.declared.message.Checked.{Checked}
 use Rattle.dump_pipeline.proofs.make.make.Goals as goal

@@ -7,7 +7,7 @@ use Rattle.dump_pipeline.specs.steps.Parts.{HasSequenced}
 use Rattle.dump_lanes.specs.declared.pool.cutter.JobPort.{JobPort}
 use Rattle.dump_lanes.specs.declared.pool.worker.WorkerPort.{WorkerPort}
 use Rattle.dump_lanes.specs.declared.pool.writer.CreditPort.{CreditPort}
-use Rattle.dump_lanes.specs.PortSides.{PoolName, WriterSide, AreWorkersOf}
+use Rattle.dump_lanes.specs.steps.PortSides.{PoolName, WriterSide, AreWorkersOf}
 use Rattle.dump_lanes.specs.steps.PortViews.{pool_state, worker_port, job_port, done_port, credit_port}
 use Rattle.dump_lanes.proofs.PortsTogether.{length_of_map, same_ports, fresh_workers, none_closed}
 use Rattle.dump_pipeline.specs.declared.answer.Failure.TheVariants as failures

@@ -1,5 +1,5 @@
 use Rattle.std.proofs.Common.{ap, ◌∙◌}
-use Rattle.dump_lanes.specs.PortSides.{SequencerSide}
+use Rattle.dump_lanes.specs.steps.PortSides.{SequencerSide}
 use Rattle.dump_lanes.specs.steps.PortViews.{done_port}
 use Rattle.dump_pipeline.specs.declared.message.Checked.{Checked}
 use Rattle.dump_pipeline.specs.steps.Messages.{checked_numbers}

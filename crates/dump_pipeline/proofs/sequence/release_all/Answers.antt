@@ -3,7 +3,7 @@ use Rattle.std.proofs.lemmas.Bool.{false≢true}
 use Rattle.dump_lanes.specs.Arrivals.{IsWaiting}
 use Rattle.dump_lanes.specs.steps.LaneEnds.{Sending}
 use Rattle.dump_lanes.specs.steps.LaneViews.{sending}
-use Rattle.dump_lanes.specs.PortSides.{SequencerSide}
+use Rattle.dump_lanes.specs.steps.PortSides.{SequencerSide}
 use Rattle.dump_lanes.specs.steps.PortViews.{done_port}
 use Rattle.dump_lanes.specs.steps.SlotViews.{slot_places}
 use Rattle.dump_pipeline.specs.declared.message.Checked.{Checked}

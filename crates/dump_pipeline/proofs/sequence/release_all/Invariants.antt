@@ -1,5 +1,6 @@
 use Rattle.std.proofs.Common.{◌≡◌, length}
-use Rattle.dump_lanes.specs.Arrivals.{first_numbers, Row}
+use Rattle.dump_lanes.specs.Arrivals.{first_numbers}
+use Rattle.dump_lanes.specs.steps.ArrivalRows.{Row}
 use Rattle.dump_lanes.specs.steps.LaneViews.{sending}
 use Rattle.dump_lanes.specs.steps.PortViews.{done_port}
 use Rattle.dump_lanes.specs.steps.SlotViews.{slot_places}

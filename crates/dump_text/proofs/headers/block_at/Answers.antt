@@ -1,8 +1,8 @@
 use Rattle.std.proofs.Common.{◌≡◌, [], ◌∷◌, ◌++◌, ◌&&◌, length, true, refl, sym, ap, ◌∙◌}
 use Rattle.std.proofs.lemmas.Bool.{eqb-true}
-use Rattle.dump_text.specs.Names.{name_text, known_names}
+use Rattle.dump_text.specs.Names.{known_names}
+use Rattle.dump_text.specs.steps.KnownValues.{name_text, all_names, may_follow}
 use Rattle.dump_text.specs.HeaderLine.{header_value}
-use Rattle.dump_text.specs.steps.KnownValues.{all_names, may_follow}
 use Rattle.dump_text.proofs.BoolLemmas.{both_true}
 use Rattle.dump_text.proofs.ScanLemmas.{lines_behind, lines_more, all_more, is_line, lines_end, clash, no_line_here}
 use Rattle.dump_text.proofs.BlockLemmas.{counts_once, once_more, block_end, no_block-lines, no_block-once, no_block-empty}

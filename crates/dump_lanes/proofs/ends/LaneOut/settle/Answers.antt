@@ -4,11 +4,12 @@ use Rattle.std.specs.Result.{is_ok}
 use Rattle.crossbeam_channel.specs.Claims.{view}
 use Rattle.dump_lanes.specs.declared.passes.View.{View}
 use Rattle.dump_lanes.specs.declared.protocol.Mark.{Mark}
-use Rattle.dump_lanes.specs.LaneMarks.{items_of}
-use Rattle.dump_lanes.specs.PartSteps.{steps_of}
+use Rattle.dump_lanes.specs.steps.LaneMarks.{items_of}
+use Rattle.dump_lanes.specs.steps.OwnSteps.{steps_of}
 use Rattle.dump_lanes.proofs.LaneSteps.{whole_at_end, marked_at_end}
 use Rattle.dump_lanes.proofs.MarkLists.{is_prefix}
-use Rattle.dump_lanes.specs.LaneRule.{lane_part, sender_crew, item_steps}
+use Rattle.dump_lanes.specs.LaneRule.{lane_part}
+use Rattle.dump_lanes.specs.steps.LaneQueue.{sender_crew, item_steps}
 use Rattle.dump_lanes.proofs.Moves.{sender_apart, have_item_steps, own_items, knows_put, knows_taken, totals}
 use Rattle.dump_lanes.proofs.QueueSteps.{merges, learns}
 use Rattle.dump_lanes.proofs.ends.LaneOut.settle.Goals as goal

@@ -5,14 +5,16 @@ use Rattle.dump_lanes.specs.declared.pool.credits.Purse.{Purse}
 use Rattle.dump_lanes.specs.declared.pool.queues.Queues.{Queues}
 use Rattle.dump_lanes.specs.declared.pool.worker.WorkerPort.{WorkerPort}
 use Rattle.dump_lanes.specs.CreditRule.{AreSteps}
-use Rattle.dump_lanes.specs.PartSteps.{steps_of}
+use Rattle.dump_lanes.specs.steps.OwnSteps.{steps_of}
 use Rattle.dump_lanes.specs.steps.PoolNames.{name_of}
 use Rattle.dump_lanes.specs.steps.PoolPasses.{IsSequencing}
-use Rattle.dump_lanes.specs.PortSides.{WorkerSide, IsDone}
+use Rattle.dump_lanes.specs.steps.PortSides.{WorkerSide, IsDone}
 use Rattle.dump_lanes.specs.steps.PortViews.{worker_port, job_port}
 use Rattle.dump_lanes.proofs.CreditSteps as credits
-use Rattle.dump_lanes.specs.DoneRule.{dones_part, sequencer_crew}
-use Rattle.dump_lanes.specs.JobRule.{jobs_part, cutter_crew}
+use Rattle.dump_lanes.specs.DoneRule.{dones_part}
+use Rattle.dump_lanes.specs.steps.DoneQueue.{sequencer_crew}
+use Rattle.dump_lanes.specs.JobRule.{jobs_part}
+use Rattle.dump_lanes.specs.steps.JobQueue.{cutter_crew}
 use Rattle.dump_lanes.proofs.DoneSteps.{sequencer_apart, knows_taken}
 use Rattle.dump_lanes.proofs.JobSteps.{cutter_apart, knows_put}
 use Rattle.dump_lanes.proofs.QueueSteps.{learns}

@@ -9,11 +9,13 @@ use Rattle.dump_lanes.specs.declared.pool.dones.Note.{Note}
 use Rattle.dump_lanes.specs.declared.protocol.Mark.{Mark}
 use Rattle.dump_lanes.specs.declared.passes.View.{View}
 use Rattle.dump_lanes.specs.declared.pool.queues.Queues.{Queues}
-use Rattle.dump_lanes.specs.DoneRule.{dones_part, sequencer_crew}
-use Rattle.dump_lanes.specs.JobRule.{jobs_part, cutter_crew}
-use Rattle.dump_lanes.specs.QueueRule.{leading, after_fork}
+use Rattle.dump_lanes.specs.DoneRule.{dones_part}
+use Rattle.dump_lanes.specs.steps.DoneQueue.{sequencer_crew}
+use Rattle.dump_lanes.specs.JobRule.{jobs_part}
+use Rattle.dump_lanes.specs.steps.JobQueue.{cutter_crew}
+use Rattle.dump_lanes.specs.steps.QueueRule.{leading, after_fork}
 use Rattle.dump_lanes.specs.steps.PoolNames.{state_of}
-use Rattle.dump_lanes.specs.PortSides.{new_worker}
+use Rattle.dump_lanes.specs.steps.PortSides.{new_worker}
 use Rattle.dump_lanes.specs.steps.PortViews.{worker_port}
 use Rattle.dump_lanes.proofs.DoneSteps.{sequencer_apart}
 use Rattle.dump_lanes.proofs.JobSteps.{cutter_apart}

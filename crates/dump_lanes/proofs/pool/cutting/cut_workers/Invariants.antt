@@ -2,9 +2,9 @@ use Rattle.std.proofs.Common.{◌≡◌, ◌-◌, ◌≤◌, map, length, vec_le
 use Rattle.std.specs.List.{range_with_len}
 use Rattle.crossbeam_queue.specs.Passes.{view, IsPassOf}
 use Rattle.dump_lanes.specs.declared.passes.TheConstants.{PARTS}
-use Rattle.dump_lanes.specs.QueueRule.{leading}
+use Rattle.dump_lanes.specs.steps.QueueRule.{leading}
 use Rattle.dump_lanes.specs.steps.PoolNames.{state_of}
-use Rattle.dump_lanes.specs.PortSides.{new_worker}
+use Rattle.dump_lanes.specs.steps.PortSides.{new_worker}
 use Rattle.dump_lanes.specs.steps.PortViews.{worker_port}
 use Rattle.dump_lanes.proofs.pool.cutting.cut_workers.Given as goal
 

@@ -1,5 +1,5 @@
 use Rattle.std.proofs.Common.{◌≡◌, ◌≤◌, All, map, length, vec_len, vec_capacity}
-use Rattle.dump_lanes.specs.PortSides.{IsDone}
+use Rattle.dump_lanes.specs.steps.PortSides.{IsDone}
 use Rattle.dump_lanes.specs.steps.PortViews.{worker_port}
 use Rattle.dump_lanes.proofs.tests.running.join_workers.Given as goal
 

@@ -3,7 +3,7 @@ use Rattle.dump_lanes.specs.declared.pool.cutter.JobPort.{JobPort}
 use Rattle.dump_lanes.specs.declared.pool.worker.WorkerPort.{WorkerPort}
 use Rattle.dump_lanes.specs.declared.tests.running.Piece.{Piece}
 use Rattle.dump_lanes.specs.declared.tests.threads.Worker.{Worker}
-use Rattle.dump_lanes.specs.PortSides.{PoolName, WorkerSide, AreWorkersOf, IsDone}
+use Rattle.dump_lanes.specs.steps.PortSides.{PoolName, WorkerSide, AreWorkersOf, IsDone}
 use Rattle.dump_lanes.specs.steps.PortViews.{worker_port, job_port}
 use Rattle.dump_lanes.proofs.PortsTogether.{length_of_map, same_ports, map_of_all}
 use Rattle.dump_lanes.proofs.tests.running.run_in.Goals as goal

@@ -1,7 +1,7 @@
 use Rattle.std.proofs.Common.{rules, ℕ, Option}
 use Rattle.dump_text.specs.declared.fault.FaultKind.{FaultKind}
 use Rattle.dump_records.specs.declared.record.Record.{Record}
-use Rattle.dump_records.specs.DumpText.{EndsAfter}
+use Rattle.dump_records.specs.steps.CutRecords.{EndsAfter}
 use Rattle.dump_pipeline.specs.steps.Endings.{ending_of}
 use Rattle.dump_pipeline.proofs.Ends.{for_err}
 use Rattle.dump_pipeline.proofs.message.Job.last.Goals as goal

@@ -1,6 +1,7 @@
 use Rattle.std.proofs.Common.{◌≡◌, ◌+◌, ◌≤◌, length, subst, refl, arith}
 use Rattle.dump_records.specs.steps.CutterState.{CutterState}
-use Rattle.dump_records.specs.DumpText.{Ending, EndsAfter}
+use Rattle.dump_records.specs.DumpText.{Ending}
+use Rattle.dump_records.specs.steps.CutRecords.{EndsAfter}
 use Rattle.dump_records.proofs.CutLemmas.{gap_in, own_inside, own_stands, own_number, item_record, item_cut, item_room, room_behind, ends_whole, ends_broken}
 use Rattle.dump_records.proofs.cutter.Cutter.next.Goals as goal
 use Rattle.dump_records.proofs.cutter.Cutter.next.Goals.{else-place-self-via-then-place-self+else-self-gt0, else-place-self-via-else-place-self}

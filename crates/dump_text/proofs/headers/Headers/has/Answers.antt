@@ -1,5 +1,5 @@
 use Rattle.std.proofs.Common.{ap, ◌∙◌, is_some}
-use Rattle.dump_text.specs.Names.{name_text}
+use Rattle.dump_text.specs.steps.KnownValues.{name_text}
 use Rattle.dump_text.specs.steps.Views.{block_headers}
 use Rattle.dump_text.proofs.BlockLemmas.{has_value}
 use Rattle.dump_text.proofs.ValueLemmas.{some_copied}

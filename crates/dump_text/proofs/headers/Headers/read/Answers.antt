@@ -1,5 +1,5 @@
 use Rattle.std.proofs.Common.{◌∙◌, arith, ap}
-use Rattle.dump_text.specs.Names.{name_text}
+use Rattle.dump_text.specs.steps.KnownValues.{name_text}
 use Rattle.dump_text.specs.HeaderLine.{header_value}
 use Rattle.dump_text.specs.steps.ReadHeaders.{headers_of}
 use Rattle.dump_text.proofs.BlockLemmas.{block_there, all_left, lines_there}

@@ -1,5 +1,5 @@
 use Rattle.std.proofs.Common.{None, ap, sym, ◌∙◌, slice_index_or, option_copied}
-use Rattle.dump_text.specs.Names.{name_text}
+use Rattle.dump_text.specs.steps.KnownValues.{name_text}
 use Rattle.dump_text.specs.steps.ReadHeaders.{IsPartBetween}
 use Rattle.dump_text.proofs.NameLemmas.{tag_place}
 use Rattle.dump_text.proofs.ValueLemmas.{if_copied, value_lent}

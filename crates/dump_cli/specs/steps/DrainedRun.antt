@@ -1,0 +1,23 @@
+-- What a run tells once its last bytes are written out.
+use Rattle.std.specs.Prelude.{◌≡◌, ℕ, Bool, true, ◌⊎◌, []}
+use Rattle.std.specs.Io.KnownBytes.{GrowsBy}
+use Rattle.dump_writer.specs.steps.SinkStates.{LentState}
+use Rattle.dump_pipeline.specs.declared.answer.Answer.{Answer}
+use Rattle.dump_pipeline.specs.declared.answer.Answer.TheVariants.{Clean, Failed}
+use Rattle.dump_pipeline.specs.declared.answer.Failure.TheVariants as failures
+use Rattle.dump_pipeline.specs.RunAnswer.{SinkFailsOnly}
+
+-- nothing is said of a clean run that is to be quiet
+abbrev pub IsSilent : Answer → Bool → Type 0
+IsSilent (Clean report) quiet = quiet ≡ true
+IsSilent answer quiet = ⊥
+
+-- what is told behind a run: its answer, where nothing waits any more; or the failure of the sink, with the bytes that
+-- the writer took
+abbrev pub TellsBehind : LentState → Answer → Answer → Type 0
+TellsBehind sink ran told = ((told ≡ ran) × (sink.waiting ≡ []))
+    ⊎ ((told ≡ Failed failures.Sink sink.out.written) × GrowsBy sink.out.start sink.out.taken sink.out.written)
+
+-- and what is told is the failure of the sink only where it failed, in the run or behind it
+abbrev pub FailsOnlyBehind : ℕ → ℕ → Answer → Answer → Type 0
+FailsOnlyBehind old new ran told = (first : ℕ) → SinkFailsOnly first old ran → SinkFailsOnly first new told

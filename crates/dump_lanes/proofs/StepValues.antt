@@ -1,0 +1,90 @@
+-- Worked steps on a queue of the pool, and wrong ones that its rule refuses.
+use Rattle.std.proofs.Common.{◌≡◌, ℕ, ◌+◌, List, [], ◌∷◌, ◌++◌, length, true, refl, ap, sym, ◌∙◌, arith}
+use Rattle.crossbeam_queue.specs.Fifo.{Pushes}
+use Rattle.dump_lanes.specs.declared.passes.TheConstants.{PARTS}
+use Rattle.dump_lanes.specs.declared.passes.View.{View}
+use Rattle.dump_lanes.specs.declared.protocol.Mark.{Mark}
+use Rattle.dump_lanes.specs.declared.protocol.Mark.TheVariants.{Item, End}
+use Rattle.dump_lanes.specs.declared.steps.Move.TheVariants as move
+use Rattle.dump_lanes.specs.declared.steps.Step.{Step}
+use Rattle.dump_lanes.specs.PoolParts.{Thread}
+use Rattle.dump_lanes.specs.PartSteps.{Part, IsStep, all_put}
+use Rattle.dump_lanes.specs.JobRule.{jobs_part}
+use Rattle.dump_lanes.specs.LaneRule.{lane_part}
+use Rattle.dump_lanes.specs.steps.JobQueue as jobs
+use Rattle.dump_lanes.specs.steps.LaneQueue as lane
+use Rattle.dump_lanes.specs.steps.OwnSteps.{Knows}
+use Rattle.dump_lanes.specs.steps.QueueRule.{leading, Fits}
+use Rattle.dump_lanes.proofs.JobSteps.{cutter_apart}
+use Rattle.dump_lanes.proofs.QueueSteps.{begins}
+
+abbrev job : ℕ → Mark ℕ
+job number = Item number
+
+-- the number of the first entry
+abbrev first_of : List (Mark ℕ) → ℕ
+first_of (Item number ∷ rest) = number
+first_of other = 0
+
+-- of two jobs a worker takes the first, and not the last
+
+abbrev two_jobs : List (Mark ℕ)
+two_jobs = job 5 ∷ job 7 ∷ []
+
+first_is_taken : IsStep jobs_part two_jobs (jobs.take_step 0 (job 5)) (job 7 ∷ [])
+first_is_taken = record { one_entry = refl; allowed = refl; share = refl; in_turn = refl }
+
+last_is_not_taken : IsStep jobs_part two_jobs (jobs.take_step 0 (job 7)) (job 5 ∷ []) → ⊥
+last_is_not_taken h = absurd (let e = ap first_of h.in_turn in omega arith)
+
+-- what is put goes behind them, as one entry
+
+last_is_put : IsStep jobs_part (job 5 ∷ []) (jobs.put_step (job 7)) two_jobs
+last_is_put = record { one_entry = refl; allowed = refl; share = refl; in_turn = refl }
+
+first_is_not_put : IsStep jobs_part (job 5 ∷ []) (jobs.put_step (job 7)) (job 7 ∷ job 5 ∷ []) → ⊥
+first_is_not_put h = absurd (let e = ap first_of h.in_turn in omega arith)
+
+-- a part of which each step would put two entries makes none
+
+abbrev doubled : Part (Mark ℕ)
+doubled = record jobs_part { puts = λ s. s.entry ∷ s.entry ∷ [] }
+
+two_are_not_put : (old new : List (Mark ℕ)) → IsStep doubled old (jobs.put_step (job 5)) new → ⊥
+two_are_not_put old new h = absurd (let e = ap length h.one_entry in omega arith)
+
+-- a pass whose thread has stepped knows the step, and another doesn't
+
+abbrev cut_five : List (Step (Mark ℕ))
+cut_five = jobs.put_step (job 5) ∷ []
+
+abbrev all_by_first : Thread → ℕ
+all_by_first thread = 0
+
+ignorant_pass_is_refused : Knows all_by_first cut_five 0 [] → ⊥
+ignorant_pass_is_refused k = absurd (let e = ap length (k.own Thread.Cutter refl) in omega arith)
+
+other_pass_is_refused : Knows all_by_first cut_five 1 cut_five → ⊥
+other_pass_is_refused k = absurd (let e = ap length (k.others Thread.Cutter (omega arith)) in omega arith)
+
+-- each step is noted as the thread's own that makes it
+
+piece_is_released : lane.put_step (job 5) ≡ record { event = move.Release; entry = job 5 }
+piece_is_released = refl
+
+job_is_taken : jobs.take_step 3 (job 5) ≡ record { event = move.Take 3; entry = job 5 }
+job_is_taken = refl
+
+-- no rule lets the cutter put a mark and note no step: it would be kept at the first push, and isn't
+
+not_unnoted : {T : Type 0} (x : Mark T)
+    → ((n pass : ℕ) (v : View (Mark T)) → v.leads ≡ true → Pushes jobs.IsJobQueue n pass v x
+    (λ w. w ≡ record v { put = v.put ++ x ∷ [] })) → ⊥
+not_unnoted {T} x rule =
+    let first : View (Mark T) = leading PARTS 0 in
+    let after = rule 1 0 first refl [] (first ∷ []) (omega arith) (begins jobs_part jobs.cutter_crew cutter_apart) refl in
+    let w : View (Mark T) = after.0 in
+    let f : Fits jobs_part jobs.cutter_crew after.1.owner after.1.happened 0 w = after.1.fits 0 w refl in
+    let steps : w.steps ≡ [] = ap (λ (k : View (Mark T)). k.steps) after.2 in
+    let put : w.put ≡ x ∷ [] = ap (λ (k : View (Mark T)). k.put) after.2 in
+    absurd (let e = ap length (ap (all_put jobs_part) (sym steps) ∙ (sym f.put_is ∙ put)) in omega arith)
