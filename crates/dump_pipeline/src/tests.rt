@@ -1,11 +1,8 @@
 //! What no clause says: a worked dump, sinks that fail at each of its bytes, and memory that is refused.
 
 mod copies;
-mod deltas;
-mod digests;
 mod gates;
 mod hostile;
-mod merges;
 mod plans;
 mod running;
 mod soaking;
