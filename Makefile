@@ -1,5 +1,7 @@
 # make            proves and builds the program, build/svndumpfilter
-# make test       proves every crate from nothing, runs their tests, and then tests/ on the program that was so proved
+# make test       proves what isn't proved yet, runs the tests of every crate, and then tests/ on the program
+# make gate       what a merge needs beside that: proves every crate and its tests once more from nothing, sees that
+#                 the named wrong bodies are refused, and tries all others in batches
 # make check      checks the crate that CRATE names, with what was proved of it before
 # make case       runs the case that NAME names
 # make bench      measures the program on made dumps, beside the filter on one thread, md5sum, sha1sum, cat and, where it
@@ -15,26 +17,25 @@ NAME ?= svndumpfilter
 
 PROGRAM := build/svndumpfilter
 PLAIN := build/run_plain
-# where the toolchain leaves the program, after rt run and after rt ci
-BUILT := crates/dump_cli/out/dump_cli
 PAGE := docs/svndumpfilter.1
 SOURCES := $(shell tools/sources)
 
-.PHONY: all test check case bench install uninstall deb clean
+.PHONY: all toolchain test gate check case bench install uninstall deb clean
 .DELETE_ON_ERROR:
 
 all: $(PROGRAM)
 
-$(PROGRAM): $(SOURCES)
+toolchain:
+	$(if $(shell command -v rt),@:,$(error the Rattle toolchain (rt) isn't on the PATH))
+
+$(PROGRAM): $(SOURCES) | toolchain
 	@echo "make: proving and building $@; from nothing this takes some nine minutes on four cores"
 	@tools/build
 	@echo "make: $@ is built"
 
-test:
-	@echo "make: proving every crate from nothing, with its tests and its must-fail edits"
-	rt ci
-	@mkdir -p build
-	cp $(BUILT) $(PROGRAM)
+test: $(PROGRAM) | toolchain
+	@echo "make: proving and running the tests of every crate"
+	tools/tests
 	@echo "make: running tests/cases on $(PROGRAM)"
 	tests/run $(PROGRAM)
 	@echo "make: refusing each growth of memory and each start of a thread in turn"
@@ -48,7 +49,15 @@ test:
 	@echo "make: looking whether the README lists the definitions of the statement"
 	tests/trusted
 
-check:
+gate: | toolchain
+	@echo "make: proving every crate from nothing, with its tests and the named wrong bodies"
+	rt ci
+	@echo "make: trying all other wrong bodies, in rounds"
+	tests/wrong
+	@echo "make: seeing that tests/wrong and tests/trusted fail where they have to"
+	tests/guards
+
+check: | toolchain
 	cd crates/$(CRATE) && rt check
 
 case: $(PROGRAM)
