@@ -6,18 +6,20 @@
 # make case       runs the case that NAME names
 # make bench      measures the program on made dumps, beside the filter on one thread, md5sum, sha1sum, cat and, where it
 #                 is installed, the stock svndumpfilter
-# make install    puts the program and its manual page under $(DESTDIR)$(PREFIX), by the name $(NAME)
-# make uninstall  takes both away again
+# make install    puts the program, its manual page and documents under $(DESTDIR)$(PREFIX), by the name $(NAME); what
+#                 somebody else put there is overwritten with FORCE=1 alone
+# make uninstall  takes away what was so put, and nothing else
 # make deb        makes a Debian package of the same, build/svndumpfilter-proved_VERSION_ARCHITECTURE.deb
 # make clean      removes build/; what the checks keep in crates/*/out stays
 
 PREFIX ?= /usr/local
 DESTDIR ?=
-NAME ?= svndumpfilter
+NAME ?= svndumpfilter-proved
+FORCE ?=
 
 PROGRAM := build/svndumpfilter
 PLAIN := build/run_plain
-PAGE := docs/svndumpfilter.1
+INSTALLED := PREFIX="$(PREFIX)" DESTDIR="$(DESTDIR)" NAME="$(NAME)" FORCE="$(FORCE)" tools/installed
 SOURCES := $(shell tools/sources)
 
 .PHONY: all toolchain test gate check case bench install uninstall deb clean
@@ -44,6 +46,8 @@ test: $(PROGRAM) | toolchain
 	tests/hostile $(PROGRAM)
 	@echo "make: installing $(PROGRAM) into an empty root"
 	tests/install
+	@echo "make: running the examples of the manual page and of the README"
+	tests/pages $(PROGRAM)
 	@echo "make: comparing $(PROGRAM) with the stock svndumpfilter"
 	tests/stock $(PROGRAM)
 	@echo "make: looking whether the README lists the definitions of the statement"
@@ -72,12 +76,10 @@ bench: $(PROGRAM) $(PLAIN)
 	bench/measure $(PROGRAM) $(PLAIN)
 
 install: $(PROGRAM)
-	install -d "$(DESTDIR)$(PREFIX)/bin" "$(DESTDIR)$(PREFIX)/share/man/man1"
-	install -m 755 $(PROGRAM) "$(DESTDIR)$(PREFIX)/bin/$(NAME)"
-	install -m 644 $(PAGE) "$(DESTDIR)$(PREFIX)/share/man/man1/$(NAME).1"
+	@$(INSTALLED) put
 
 uninstall:
-	rm -f "$(DESTDIR)$(PREFIX)/bin/$(NAME)" "$(DESTDIR)$(PREFIX)/share/man/man1/$(NAME).1"
+	@$(INSTALLED) take
 
 deb: $(PROGRAM)
 	tools/deb
