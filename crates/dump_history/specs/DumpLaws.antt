@@ -1,6 +1,6 @@
 -- The law of filtered dumps: what is written, loaded over the given folders, has the trees that the whole dump has,
 -- restricted to the kept paths.
-use Rattle.std.specs.Prelude.{◌≡◌, ℕ, Bool, not, ◌||◌, List, [], ◌∷◌, ◌++◌, length, drop, take, filter, Option, Some, None, IsTrue}
+use Rattle.std.specs.Prelude.{◌≡◌, ℕ, Bool, not, ◌&&◌, ◌||◌, List, [], ◌∷◌, ◌++◌, length, drop, take, filter, Option, Some, None, IsTrue}
 use Rattle.std.specs.List.{AllZip, list_all, list_any}
 use Rattle.dump_text.specs.PropertyList.{Property}
 use Rattle.dump_records.specs.DumpText.{Ending, HasRecords}
@@ -12,6 +12,7 @@ use Rattle.dump_filter.specs.FilterLaws.{LengthsFit}
 use Rattle.dump_filter.specs.Groups.{Group, groups, keeps_group, is_padded, kept_revisions}
 use Rattle.dump_filter.specs.NewContent.{IsNewProperty, revision_properties}
 use Rattle.dump_filter.specs.WholeText.{IsCleanText}
+use Rattle.dump_trees.specs.Paths.{keeps}
 use Rattle.dump_trees.specs.Trees.{Tree, root_alone}
 use Rattle.dump_trees.specs.Changes.{PropertyChange, Change}
 use Rattle.dump_trees.specs.Restriction.{given}
@@ -128,10 +129,18 @@ entries_of None = []
 entries_of (Some (PropertyChange.Replaced entries)) = entries
 entries_of (Some (PropertyChange.Edited entries)) = entries
 
+-- whether the change sets mergeinfo
+abbrev pub sets_mergeinfo : Change → Bool
+sets_mergeinfo c = list_any is_mergeinfo (entries_of c.props)
+
 -- whether no change sets mergeinfo
 abbrev pub sets_no_mergeinfo : List (List Change) → Bool
-sets_no_mergeinfo revisions =
-    list_all (λ changes. list_all (λ (c : Change). not (list_any is_mergeinfo (entries_of c.props))) changes) revisions
+sets_no_mergeinfo revisions = list_all (λ changes. not (list_any sets_mergeinfo changes)) revisions
+
+-- whether no kept change does
+abbrev pub keeps_no_mergeinfo : Settings → List (List Change) → Bool
+keeps_no_mergeinfo settings revisions = list_all
+    (λ changes. not (list_any (λ (c : Change). keeps settings c.path && sets_mergeinfo c) changes)) revisions
 
 -- behind older revisions, the last of which has the first tree, a dump that sets no mergeinfo makes the same trees; the
 -- load raises the numbers of its copies by as many. Numbers in mergeinfo it raises too, which isn't told here
@@ -156,8 +165,8 @@ LoadsBehindFolders patched settings records trees text =
     × AllZip (KeepsProperties settings) (drop 1 (filter (keeps_group settings) (groups records)))
     (drop 1 (groups again))
 
--- so does a dump that sets no mergeinfo, of which no change gives an alarm, and which makes no copy that loses its
--- source over something
+-- so does a dump of which no kept change sets mergeinfo, no change gives an alarm, and no copy that loses its source is
+-- made over something
 abbrev pub QuietDumpRestrictsBehindFolders : Type 0
 QuietDumpRestrictsBehindFolders = (patched : Patching) (settings : Settings) (dump text : List ℕ)
     (records : List DumpRecord) (revisions : List (List Change)) (trees : List Tree) →
@@ -166,5 +175,5 @@ QuietDumpRestrictsBehindFolders = (patched : Patching) (settings : Settings) (du
     → LoadsAs patched root_alone records revisions trees
     → IsTrue (are_quiet settings revisions)
     → IsTrue (nowhere_is_over settings (root_alone ∷ []) root_alone revisions)
-    → IsTrue (sets_no_mergeinfo revisions)
+    → IsTrue (keeps_no_mergeinfo settings revisions)
     → LoadsBehindFolders patched settings records trees text

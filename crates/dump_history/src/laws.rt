@@ -20,7 +20,7 @@ pub fn each_filtered_front_restricts()
 {}
 
 /// Loaded behind the given folders, as an administrator makes them in a revision of their own, what the filter writes
-/// of a dump that sets no mergeinfo has the restricted trees, each one revision later.
+/// of a dump whose kept nodes set no mergeinfo has the restricted trees, each one revision later.
 pub fn each_dump_restricts_behind_folders()
     ensures { QuietDumpRestrictsBehindFolders }
 {}

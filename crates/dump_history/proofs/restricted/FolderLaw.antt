@@ -16,7 +16,7 @@ drop_first R [] (y ∷ ys) all = absurd all
 drop_first R (x ∷ xs) [] all = absurd all
 drop_first R (x ∷ xs) (y ∷ ys) (first, all) = all
 
--- a dump of quiet changes that sets no mergeinfo, loaded behind the given folders, has the restricted trees
+-- a dump of quiet changes of which no kept one sets mergeinfo, loaded behind the given folders, has the restricted trees
 pub quiet_dump_restricts_behind : QuietDumpRestrictsBehindFolders
 quiet_dump_restricts_behind patched settings dump text records revisions trees clean fit keeps loads quiet over plain =
     let (again, written, others, has, loads_again, size, images, properties) =
