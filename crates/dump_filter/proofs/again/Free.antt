@@ -120,7 +120,7 @@ module _ (settings : Settings) (kept : KeptRevisions) where
 
   below_written : (r s : DumpRecord) (rest : List DumpRecord) (p q : Option ℕ) (front : List ℕ)
       → is_written settings true r rest ≡ true
-      → AreAmong kept settings (r ∷ rest) → IsReadAgain settings kept r front s → IsBelow p q
+      → AreAmong kept settings (r ∷ rest) → IsReadAgain settings kept r rest front s → IsBelow p q
       → IsBelow (present_behind p r) (present_behind q s)
   below_written r s rest p q front written among read below = cases (is_revision r) refl
     where
@@ -189,7 +189,7 @@ module _ (settings : Settings) (kept : KeptRevisions) where
           → AreInOrder g' p' rest
           → IsBelow p' q' → MayFollow g' h' rest → AreInOrder h' q' more
 
-      rise_again : (s : DumpRecord) → IsReadAgain settings kept r front s → is_revision s ≡ true → (q' : Option ℕ)
+      rise_again : (s : DumpRecord) → IsReadAgain settings kept r rest front s → is_revision s ≡ true → (q' : Option ℕ)
           → IsBelow p q' → RisesFrom q' (revision_number s)
       rise_again s read rev None under = tt
       rise_again s read rev (Some m) under =
@@ -197,7 +197,7 @@ module _ (settings : Settings) (kept : KeptRevisions) where
           subst (λ (n : ℕ). m < n) (sym (read.number old_rev)) (under (revision_number r) (are.1 old_rev))
 
       by_written : (s : DumpRecord) (more : List DumpRecord) → is_written settings true r rest ≡ true → again ≡ s ∷ more
-          → IsReadAgain settings kept r front s
+          → IsReadAgain settings kept r rest front s
           → AreReadAgain settings kept rest behind more → Later → AreInOrder h q again
       by_written s more written same read reads later =
           let lone = alone lawful.0.0 r lawful.0.1 in
@@ -216,7 +216,7 @@ module _ (settings : Settings) (kept : KeptRevisions) where
 
       cases : (w : Bool) → is_written settings true r rest ≡ w
           → MatchBool w
-          ((s : DumpRecord) × (more : List DumpRecord) × (again ≡ s ∷ more) × IsReadAgain settings kept r front s
+          ((s : DumpRecord) × (more : List DumpRecord) × (again ≡ s ∷ more) × IsReadAgain settings kept r rest front s
           × AreReadAgain settings kept rest behind more)
           ((front ≡ []) × AreReadAgain settings kept rest behind again)
           → Later → AreInOrder h q again
@@ -251,7 +251,7 @@ clean_each settings kept (r ∷ rest) text again (front, behind, cut, this) befo
 
     cases : (w : Bool)
         → MatchBool w
-        ((x : DumpRecord) × (more : List DumpRecord) × (again ≡ x ∷ more) × IsReadAgain settings kept r front x
+        ((x : DumpRecord) × (more : List DumpRecord) × (again ≡ x ∷ more) × IsReadAgain settings kept r rest front x
         × AreReadAgain settings kept rest behind more)
         ((front ≡ []) × AreReadAgain settings kept rest behind again)
         → (b : List DumpRecord) → again ≡ b ++ s ∷ after → Later → IsClean s

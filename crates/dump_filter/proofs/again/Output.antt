@@ -19,13 +19,13 @@ use Rattle.dump_rules.specs.steps.RisingNumbers.{RiseFrom}
 use Rattle.dump_rules.specs.Rewriting.{IsNewMergeinfo}
 use Rattle.dump_rules.proofs.ReachLemmas.{image_fits}
 use Rattle.dump_rules.proofs.new_values.RunsLaw.{number_small}
-use Rattle.dump_digest.specs.RecordParts.{is_revision, is_node, is_kept_node, is_mergeinfo, mergeinfo_name, value_of, has_whole_text, HasPropertyList, is_copy}
+use Rattle.dump_digest.specs.RecordParts.{is_revision, is_node, is_kept_node, is_mergeinfo, mergeinfo_name, value_of, has_whole_text, has_lost_source, HasPropertyList, is_copy}
 use Rattle.dump_digest.specs.ContentFaults.{HasBadMd5, HasBadSha1, HasBadMergeinfo, DiffersFromDigest}
 use Rattle.dump_digest.proofs.PropertyBlocks.{property_list_once}
 use Rattle.dump_filter.specs.FilterLaws.{keep_all}
 use Rattle.dump_filter.specs.Groups.{group_of, is_padded, revision_number}
 use Rattle.dump_filter.specs.NewContent.{IsNewProperty, AreNewProperties, is_date, padding_properties, revision_properties, new_block}
-use Rattle.dump_filter.specs.NewHeaders.{with_lengths, written_number, becomes_plain, without_copy_headers, IsWrittenCopyNumber, IsNewCopy}
+use Rattle.dump_filter.specs.NewHeaders.{with_lengths, written_number, is_whole_file, becomes_plain, without_copy_headers, IsWrittenCopyNumber, IsNewCopy}
 use Rattle.dump_filter.specs.steps.NewLines.{is_copy_line}
 use Rattle.dump_filter.specs.RecordOutput.{whole_text, revision_text, IsRevisionOutput, IsNodeOutput, IsWrittenBlock}
 use Rattle.dump_text.proofs.BoolLemmas.{first_true, second_true, first_false, second_false, not_so, absurd_bool, false_true}
@@ -84,11 +84,12 @@ same_there : (name : List ℕ) (old new : List Header) → header_value name new
 same_there name old new same = sym (has_value name new) ∙ ap is_some same ∙ has_value name old
 
 -- a version or UUID record
-pub other_again : (settings : Settings) (kept : KeptRevisions) (number : ℕ) (r : DumpRecord) (front : List ℕ)
+pub other_again : (settings : Settings) (kept : KeptRevisions) (number : ℕ) (r : DumpRecord)
+    (after : List DumpRecord) (front : List ℕ)
     → is_block r.headers ≡ true → is_lawful number r.headers ≡ true
     → is_revision r ≡ false → is_node r ≡ false → front ≡ block_text r.headers → (place : ℕ) → (s : DumpRecord)
-    × (s.place ≡ place) × IsReadAgain settings kept r front s
-other_again settings kept number r front block lawful no_revision no_node is place = (
+    × (s.place ≡ place) × IsReadAgain settings kept r after front s
+other_again settings kept number r after front block lawful no_revision no_node is place = (
   record { place = place; version = r.version; headers = r.headers; props = []; text = [] },
   refl,
   record {
@@ -104,6 +105,8 @@ other_again settings kept number r front block lawful no_revision no_node is pla
     revision = refl;
     node = refl;
     number = λ rev. absurd (absurd_bool (is_revision r) rev no_revision);
+    node_again = λ node. absurd (absurd_bool (is_node r) node no_node);
+    revision_again = λ rev. absurd (absurd_bool (is_revision r) rev no_revision);
     clean = record {
       props = λ bad. absurd (absurd_bool (is_revision r || is_kept_node keep_all r) bad.0
           (rw (no_revision, no_node) refl));
@@ -159,7 +162,7 @@ pub revision_again : (settings : Settings) (kept : KeptRevisions) (number : ℕ)
     → is_revision r ≡ true → is_node r ≡ false → written_number settings kept (revision_number r) < 10 ^ 18
     → ((block : List ℕ) → IsWrittenBlock settings kept r after block → length block + length r.text < 10 ^ 18)
     → IsRevisionOutput settings kept (group_of r after) front → (place : ℕ) → (s : DumpRecord) × (s.place ≡ place)
-    × IsReadAgain settings kept r front s
+    × IsReadAgain settings kept r after front s
 revision_again settings kept number r after front block lawful props_fit text_fits rev no_node n_small fit
     (ps, is_ps, is) place = (
       it place,
@@ -179,6 +182,8 @@ revision_again settings kept number r after front block lawful props_fit text_fi
         revision = lifted.revision;
         node = lifted.node;
         number = λ rev. number_is;
+        node_again = λ node. absurd (absurd_bool (is_node r) node no_node);
+        revision_again = λ rev. (ps, is_ps, here);
         clean = record {
           props = λ bad. bad.1 (new, here);
           md5 = λ bad. no_kept bad.0;
@@ -287,13 +292,27 @@ record IsNodeLines (old new : List Header) : Type 0 where
   copied : has_header copy_path_name new ≡ true
       → (n : ℕ) × (n < 10 ^ 18) × (has_header copy_revision_name new ≡ true) × IsTold copy_revision_name n new
 
-number_there : (name : List ℕ) (headers : List Header) (n : ℕ) → header_number name headers ≡ Some n
+-- a number that a header gives is in a header
+pub number_there : (name : List ℕ) (headers : List Header) (n : ℕ) → header_number name headers ≡ Some n
     → has_header name headers ≡ true
 number_there name headers n is = by_case (has_header name headers) refl
   where
     by_case : (b : Bool) → has_header name headers ≡ b → has_header name headers ≡ true
     by_case true there = there
     by_case false none = let bad : None ≡ Some n = no_number name headers none ∙ is in cc
+
+-- a copy's written number isn't above its own
+number_fits : (settings : Settings) (kept : KeptRevisions) (r : DumpRecord) → RiseFrom kept.first kept.numbers
+    → (old n : ℕ) → header_number copy_revision_name r.headers ≡ Some old → IsWrittenCopyNumber settings kept old n
+    → n < 10 ^ 18
+number_fits settings kept r rise old n is new_is =
+    let before = header_small copy_revision_name r.headers old is in
+    let below = new_fits settings.renumber new_is in
+    omega (arith, before, below)
+  where
+    new_fits : (b : Bool) → MatchBool b (image kept old ≡ Some n) (n ≡ old) → n ≤ old
+    new_fits true is = (image_fits kept old n rise is).1
+    new_fits false is = omega (arith, is)
 
 node_lines : (settings : Settings) (kept : KeptRevisions) (number : ℕ) (r : DumpRecord) (mid : List Header)
     → RiseFrom kept.first kept.numbers
@@ -331,17 +350,11 @@ node_lines settings kept number r mid rise lawful copy = by_plain (becomes_plain
       copied = λ there. absurd (absurd_bool (has_header copy_path_name r.headers) there none);
     }
 
-    new_fits : (old n : ℕ) → (b : Bool) → MatchBool b (image kept old ≡ Some n) (n ≡ old) → n ≤ old
-    new_fits old n true is = (image_fits kept old n rise is).1
-    new_fits old n false is = omega (arith, is)
-
     numbered : (old n : ℕ) → header_number copy_revision_name r.headers ≡ Some old
         → IsWrittenCopyNumber settings kept old n
         → IsNodeLines r.headers (with_header_value copy_revision_name (spelled_number n) r.headers)
     numbered old n is new_is =
-        let before = header_small copy_revision_name r.headers old is in
-        let below = new_fits old n settings.renumber new_is in
-        let small : n < 10 ^ 18 = omega (arith, before, below) in
+        let small = number_fits settings kept r rise old n is new_is in
         let there = number_there copy_revision_name r.headers old is in
         let change = put_change copy_revision_name (spelled_number n) r.headers (spelled_line n small) in
         record {
@@ -426,7 +439,8 @@ same_deleted settings kept p q (name, value) = by_case (is_mergeinfo p) refl val
     by_case true is (bytes, set, new) = ap is_none set ∙ sym (set_value (bytes_eq p.name mergeinfo_name) p.value is)
     by_case false is same = ap is_none same
 
-same_deletes : (settings : Settings) (kept : KeptRevisions) (ps qs : List Property)
+-- what is written of properties deletes one where one was deleted
+pub same_deletes : (settings : Settings) (kept : KeptRevisions) (ps qs : List Property)
     → AreNewProperties settings kept ps qs → has_deletes qs ≡ has_deletes ps
 same_deletes settings kept [] [] all = refl
 same_deletes settings kept [] (q ∷ qs) all = absurd all
@@ -496,10 +510,11 @@ pub node_again : (settings : Settings) (kept : KeptRevisions) (number : ℕ) (r 
     → is_revision r ≡ false → is_kept_node settings r ≡ true → RiseFrom kept.first kept.numbers
     → OwnValues settings kept
     → ¬ HasBadMd5 settings r → ¬ HasBadSha1 settings r
+    → (has_lost_source settings r ≡ true → is_whole_file r ≡ true)
     → ((block : List ℕ) → IsWrittenBlock settings kept r after block → length block + length r.text < 10 ^ 18)
     → IsNodeOutput settings kept r front → (place : ℕ) → (s : DumpRecord) × (s.place ≡ place)
-    × IsReadAgain settings kept r front s
-node_again settings kept number r after front block lawful props_fit text_fits no_revision is_kept rise values no_md5 no_sha1 fit (mid, old, new, copy, is_old, all, is) place = (
+    × IsReadAgain settings kept r after front s
+node_again settings kept number r after front block lawful props_fit text_fits no_revision is_kept rise values no_md5 no_sha1 whole fit (mid, old, new, copy, is_old, all, is) place = (
   it place,
   refl,
   record {
@@ -515,6 +530,21 @@ node_again settings kept number r after front block lawful props_fit text_fits n
     revision = lifted.revision;
     node = lifted.node;
     number = λ rev. absurd (absurd_bool (is_revision r) rev no_revision);
+    revision_again = λ rev. absurd (absurd_bool (is_revision r) rev no_revision);
+    node_again = λ node. record {
+      mid = mid;
+      old = old;
+      new = new;
+      new_copy = copy;
+      whole = whole;
+      old_list = is_old;
+      new_list = here;
+      new_props = all;
+      lines = refl;
+      text = refl;
+      small = small;
+      number_fits = number_fits settings kept r rise;
+    };
     clean = record {
       props = λ bad. bad.1 (new, here);
       md5 = λ bad. no_md5 (is_kept, sym same_whole ∙ bad.1, same_differs md5_name r (it place) _ _ same_md5 bad.2);

@@ -2,7 +2,7 @@
 use Rattle.std.proofs.Common.{◌≡◌, ℕ, ◌+◌, ◌<◌, ◌≤◌, ◌^◌, Bool, true, false, ◌&&◌, ◌||◌, not, MatchBool, List, [], ◌∷◌, ◌++◌, length, refl, subst, arith, Option, Some, None, unwrap_or, if◌then◌else◌}
 use Rattle.dump_text.specs.Names.{revision_name}
 use Rattle.dump_text.specs.HeaderBlock.{block_text}
-use Rattle.dump_records.specs.DumpText.{IsCutInto}
+use Rattle.dump_records.specs.DumpText.{Ending, IsCutInto, HasRecords}
 use Rattle.dump_records.specs.HeaderRules.{header_number}
 use Rattle.dump_records.specs.RecordText.{DumpRecord, record_text, BeginsWithRecord}
 use Rattle.dump_rules.specs.Settings.{Settings}
@@ -10,16 +10,17 @@ use Rattle.dump_rules.specs.Renumbering.{KeptRevisions, new_number}
 use Rattle.dump_rules.specs.steps.RisingNumbers.{RiseFrom}
 use Rattle.dump_rules.proofs.new_values.OwnValue.{own_value}
 use Rattle.dump_rules.proofs.ReachLemmas.{new_number_fits}
-use Rattle.dump_digest.specs.RecordParts.{is_revision, is_node, is_kept_node}
+use Rattle.dump_digest.specs.RecordParts.{is_revision, is_node, is_kept_node, has_lost_source}
 use Rattle.dump_filter.specs.FilterLaws.{LengthsFit, keep_all, KeepsItsOwnText}
 use Rattle.dump_filter.specs.Groups.{group_of, has_kept_node, keeps_group, revision_number, kept_revisions}
+use Rattle.dump_filter.specs.NewHeaders.{is_whole_file}
 use Rattle.dump_filter.specs.RecordOutput.{IsRevisionOutput, IsNodeOutput, IsWrittenBlock}
 use Rattle.dump_filter.specs.WholeText.{IsCleanText}
 use Rattle.dump_filter.specs.Written.{is_open}
 use Rattle.dump_text.proofs.BoolLemmas.{absurd_bool, not_so}
-use Rattle.dump_filter.proofs.knowing.Answered.{all_lawful}
+use Rattle.dump_filter.proofs.knowing.Answered.{AllLawful, all_lawful}
 use Rattle.dump_filter.proofs.groups.KindLemmas.{alone}
-use Rattle.dump_filter.proofs.again.ReadAgain.{IsReadAgain, AtEach}
+use Rattle.dump_filter.proofs.again.ReadAgain.{IsReadAgain, AreReadAgain, AtEach}
 use Rattle.dump_filter.proofs.again.Output.{header_small, other_again, revision_again, OwnValues, node_again}
 use Rattle.dump_filter.proofs.again.Numbers.{kept_rise, positive, revisions_above}
 use Rattle.dump_filter.proofs.again.RecordList.{at_each, versions_again, HasAgain, records_again, some_again, all_paths, outputs_again}
@@ -48,6 +49,16 @@ revision_small r = by_number (header_number revision_name r.headers) refl
     by_number : (o : Option ℕ) → header_number revision_name r.headers ≡ o → unwrap_or o 0 < 10 ^ 18
     by_number None is = omega arith
     by_number (Some n) is = header_small revision_name r.headers n is
+
+-- a kept node that loses its copy source without a fault is a whole file
+whole_where_lost : (settings : Settings) (r : DumpRecord) → is_kept_node settings r ≡ true
+    → ((is_kept_node settings r && has_lost_source settings r && not (is_whole_file r)) ≡ true → ⊥)
+    → has_lost_source settings r ≡ true → is_whole_file r ≡ true
+whole_where_lost settings r keep fine lost = cases (is_whole_file r) refl
+  where
+    cases : (b : Bool) → is_whole_file r ≡ b → is_whole_file r ≡ true
+    cases true is = is
+    cases false is = absurd (fine (rw (keep, lost, is) refl))
 
 module _ (settings : Settings) (dump text : List ℕ) (records : List DumpRecord)
     (clean : IsCleanText settings dump records text) (fit : LengthsFit settings records) where
@@ -100,7 +111,7 @@ module _ (settings : Settings) (dump text : List ℕ) (records : List DumpRecord
           (group_of r after)) else if n then is_kept_node settings r else true) ≡ true
           → MatchBool v (IsRevisionOutput settings kept (group_of r after) front)
           (MatchBool n (IsNodeOutput settings kept r front) (front ≡ block_text r.headers))
-          → (s : DumpRecord) × (s.place ≡ place) × IsReadAgain settings kept r front s
+          → (s : DumpRecord) × (s.place ≡ place) × IsReadAgain settings kept r after front s
       by_kind true n rev node kept_group out =
           let no_node : is_node r ≡ false = not_so (is_node r)
           (λ is. absurd_bool (is_revision r) rev (alone stands.0 r b.lawful is)) in
@@ -109,19 +120,29 @@ module _ (settings : Settings) (dump text : List ℕ) (records : List DumpRecord
       by_kind false true no_rev node keep out =
           node_again settings kept stands.0 r after front b.block b.lawful b.props_fit b.text_fits no_rev keep rise values
           (clean.fault_free before after r at faults.Md5)
-          (clean.fault_free before after r at faults.Sha1) sizes out place
-      by_kind false false no_rev no_node always out = other_again settings kept stands.0 r front b.block b.lawful no_rev no_node out place
+          (clean.fault_free before after r at faults.Sha1)
+          (whole_where_lost settings r keep (clean.fault_free before after r at faults.CopySource)) sizes out place
+      by_kind false false no_rev no_node always out = other_again settings kept stands.0 r after front b.block b.lawful no_rev no_node out place
 
-  pub whole_again : (again : List DumpRecord) × IsCleanText keep_all text again text
-  whole_again =
+  lawful : AllLawful records
+  lawful = all_lawful 0 0 dump [] records cut
+
+  -- the text is a dump of the records that are read again
+  pub reads_again : (again : List DumpRecord) × HasRecords text again Ending.Whole
+      × AreReadAgain settings (kept_revisions settings records) records text again
+  reads_again =
       let each = at_each (λ before r after. HasAgain settings kept r after) records record_again in
       let found = records_again settings kept dump text records cut each clean.written in
-      let lawful = all_lawful 0 0 dump [] records cut in
       let have = versions_again settings kept 0 records text found.0 lawful clean.whole.2 found.2 in
-      let some = some_again settings kept dump text records found.0 cut clean.whole.3.1 found.2 in (
+      let some = some_again settings kept dump text records found.0 cut clean.whole.3.1 found.2 in
+      (found.0, ([], found.1, have, (refl, some)), found.2)
+
+  whole_again : (again : List DumpRecord) × IsCleanText keep_all text again text
+  whole_again =
+      let found = reads_again in (
         found.0,
         record {
-          whole = ([], found.1, have, (refl, some));
+          whole = found.1;
           fault_free = free_again settings records text found.0 lawful clean.fault_free found.2;
           written = outputs_again settings kept records text found.0 found.2 (kept_revisions keep_all found.0);
         },

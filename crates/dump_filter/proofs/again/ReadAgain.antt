@@ -1,18 +1,20 @@
 -- What is written of a record, as the record that it is when it is read again.
-use Rattle.std.proofs.Common.{◌≡◌, ℕ, true, List, [], ◌∷◌, ◌++◌, length, MatchBool}
-use Rattle.dump_text.specs.Names.{version_name}
-use Rattle.dump_text.specs.HeaderLine.{has_header}
+use Rattle.std.proofs.Common.{◌≡◌, ℕ, ◌+◌, ◌<◌, ◌^◌, true, false, List, [], ◌∷◌, ◌++◌, length, Some, MatchBool}
+use Rattle.dump_text.specs.Names.{version_name, copy_revision_name}
+use Rattle.dump_text.specs.HeaderLine.{Header, has_header}
 use Rattle.dump_text.specs.HeaderBlock.{is_block}
+use Rattle.dump_text.specs.PropertyList.{Property}
 use Rattle.dump_records.specs.DumpText.{line_feeds}
-use Rattle.dump_records.specs.HeaderRules.{version_from, property_length, text_length}
+use Rattle.dump_records.specs.HeaderRules.{header_number, version_from, property_length, text_length}
 use Rattle.dump_records.specs.RecordText.{DumpRecord, record_text, is_lawful}
 use Rattle.dump_rules.specs.Settings.{Settings}
 use Rattle.dump_rules.specs.Renumbering.{KeptRevisions}
-use Rattle.dump_digest.specs.RecordParts.{is_revision, is_node}
+use Rattle.dump_digest.specs.RecordParts.{is_revision, is_node, has_lost_source, HasPropertyList}
 use Rattle.dump_digest.specs.ContentFaults.{HasBadProperties, HasBadMd5, HasBadSha1, HasBadMergeinfo}
 use Rattle.dump_filter.specs.FilterLaws.{keep_all}
-use Rattle.dump_filter.specs.Groups.{revision_number}
-use Rattle.dump_filter.specs.NewHeaders.{written_number}
+use Rattle.dump_filter.specs.Groups.{group_of, is_padded, revision_number}
+use Rattle.dump_filter.specs.NewHeaders.{with_lengths, written_number, is_whole_file, IsWrittenCopyNumber, IsNewCopy}
+use Rattle.dump_filter.specs.NewContent.{revision_properties, AreNewProperties, new_block}
 use Rattle.dump_filter.specs.RecordOutput.{IsOutput}
 use Rattle.dump_filter.specs.Written.{is_written}
 
@@ -23,10 +25,28 @@ pub record IsClean (r : DumpRecord) : Type 0 where
   pub sha1 : ¬ HasBadSha1 keep_all r
   pub merge : ¬ HasBadMergeinfo keep_all r
 
--- what is written of a record r is this record s, and some LFs; where everything is kept it stays as it stands. As the
--- first record of a dump it is lawful where r is a version record. The version in force for it is that for r
-pub record IsReadAgain (settings : Settings) (kept : KeptRevisions) (r : DumpRecord) (front : List ℕ)
-    (s : DumpRecord) : Type 0 where
+-- what is written of a kept node r is this node s: its lines with its new copy source and its new lengths, its new
+-- properties, and its own text; a node that loses its copy source is a whole file
+pub record IsNodeAgain (settings : Settings) (kept : KeptRevisions) (r s : DumpRecord) : Type 0 where
+  pub mid : List Header
+  pub old : List Property
+  pub new : List Property
+  pub new_copy : IsNewCopy settings kept r mid
+  pub whole : has_lost_source settings r ≡ true → is_whole_file r ≡ true
+  pub old_list : HasPropertyList r old
+  pub new_list : HasPropertyList s new
+  pub new_props : AreNewProperties settings kept old new
+  pub lines : s.headers ≡ with_lengths (new_block false r new) r.text mid
+  pub text : s.text ≡ r.text
+  pub small : length (new_block false r new) + length r.text < 10 ^ 18
+  pub number_fits : (number n : ℕ) → header_number copy_revision_name r.headers ≡ Some number
+      → IsWrittenCopyNumber settings kept number n → n < 10 ^ 18
+
+-- what is written of a record r, which these records follow, is this record s, and some LFs; where everything is kept it
+-- stays as it stands. As the first record of a dump it is lawful where r is a version record. The version in force for
+-- it is that for r
+pub record IsReadAgain (settings : Settings) (kept : KeptRevisions) (r : DumpRecord) (after : List DumpRecord)
+    (front : List ℕ) (s : DumpRecord) : Type 0 where
   pub feeds : ℕ
   pub spelled : front ≡ record_text s ++ line_feeds feeds
   pub block : is_block s.headers ≡ true
@@ -39,6 +59,9 @@ pub record IsReadAgain (settings : Settings) (kept : KeptRevisions) (r : DumpRec
   pub revision : is_revision s ≡ is_revision r
   pub node : is_node s ≡ is_node r
   pub number : is_revision r ≡ true → revision_number s ≡ written_number settings kept (revision_number r)
+  pub revision_again : is_revision r ≡ true → (ps : List Property) × HasPropertyList r ps
+      × HasPropertyList s (revision_properties (is_padded settings (group_of r after)) ps)
+  pub node_again : is_node r ≡ true → IsNodeAgain settings kept r s
   pub clean : IsClean s
   pub output : (again : KeptRevisions) (after : List DumpRecord) → IsOutput keep_all again s after front
 
@@ -47,7 +70,7 @@ abbrev pub AreReadAgain : Settings → KeptRevisions → List DumpRecord → Lis
 AreReadAgain settings kept [] text again = (text ≡ []) × (again ≡ [])
 AreReadAgain settings kept (r ∷ after) text again = (front rest : List ℕ) × (text ≡ front ++ rest)
     × MatchBool (is_written settings true r after)
-    ((s : DumpRecord) × (more : List DumpRecord) × (again ≡ s ∷ more) × IsReadAgain settings kept r front s
+    ((s : DumpRecord) × (more : List DumpRecord) × (again ≡ s ∷ more) × IsReadAgain settings kept r after front s
     × AreReadAgain settings kept after rest more)
     ((front ≡ []) × AreReadAgain settings kept after rest again)
 

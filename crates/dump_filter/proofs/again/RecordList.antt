@@ -88,7 +88,7 @@ versions_again settings kept before (r ∷ rest) text again lawful (version, hav
   where
     cases : (w : Bool) → is_written settings true r rest ≡ w
         → MatchBool w
-        ((s : DumpRecord) × (more : List DumpRecord) × (again ≡ s ∷ more) × IsReadAgain settings kept r front s
+        ((s : DumpRecord) × (more : List DumpRecord) × (again ≡ s ∷ more) × IsReadAgain settings kept r rest front s
         × AreReadAgain settings kept rest behind more)
         ((front ≡ []) × AreReadAgain settings kept rest behind again)
         → ((more : List DumpRecord) → AreReadAgain settings kept rest behind more → HaveVersions r.version more)
@@ -108,7 +108,7 @@ versions_again settings kept before (r ∷ rest) text again lawful (version, hav
 abbrev pub HasAgain : Settings → KeptRevisions → DumpRecord → List DumpRecord → Type 0
 HasAgain settings kept r after = (front : List ℕ) → is_written settings true r after ≡ true
     → IsOutput settings kept r after front
-    → (place : ℕ) → (s : DumpRecord) × (s.place ≡ place) × IsReadAgain settings kept r front s
+    → (place : ℕ) → (s : DumpRecord) × (s.place ≡ place) × IsReadAgain settings kept r after front s
 
 module _ (settings : Settings) (kept : KeptRevisions) where
   -- the text, with LFs before it, is cut into what is written of the records
@@ -125,7 +125,7 @@ module _ (settings : Settings) (kept : KeptRevisions) where
       (old number place pending : ℕ) → is_lawful old r.headers ≡ true
       → (number ≡ 0 → old ≡ 0) → is_written settings true r rest ≡ true → text ≡ front ++ behind
       → s.place ≡ place + pending
-      → IsReadAgain settings kept r front s → AreLater (old + 1) rest behind → IsAgain number place pending
+      → IsReadAgain settings kept r rest front s → AreLater (old + 1) rest behind → IsAgain number place pending
       (r ∷ rest) text
   again_written r s rest front behind text old number place pending lawful low written is at read later =
       let next = later (number + 1) (s.place + length (record_text s)) read.feeds (λ none. absurd (omega arith)) in
@@ -232,7 +232,7 @@ outputs_again settings kept (r ∷ rest) text again (front, behind, is, this) al
   where
     cases : (w : Bool)
         → MatchBool w
-        ((s : DumpRecord) × (more : List DumpRecord) × (again ≡ s ∷ more) × IsReadAgain settings kept r front s
+        ((s : DumpRecord) × (more : List DumpRecord) × (again ≡ s ∷ more) × IsReadAgain settings kept r rest front s
         × AreReadAgain settings kept rest behind more)
         ((front ≡ []) × AreReadAgain settings kept rest behind again)
         → ((more : List DumpRecord) → AreReadAgain settings kept rest behind more

@@ -1,0 +1,4 @@
+pub mod again
+pub mod restricted
+pub mod survey
+pub mod values

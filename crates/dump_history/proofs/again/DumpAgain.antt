@@ -1,0 +1,135 @@
+-- A dump's revisions, and those of what is written of it.
+use Rattle.std.proofs.Common.{◌≡◌, ℕ, suc, ◌==◌, Bool, true, false, ◌&&◌, ◌||◌, List, [], ◌∷◌, map, refl, sym, ap, ◌∙◌, subst, take_while, if◌then◌else◌}
+use Rattle.std.specs.List.{list_all}
+use Rattle.std.proofs.lemmas.Bool.{eqb-true}
+use Rattle.std.proofs.lemmas.List.Sums.{take_while-cons}
+use Rattle.dump_text.proofs.BoolLemmas.{equals_itself, first_true, second_true, both_true}
+use Rattle.dump_records.specs.RecordText.{DumpRecord}
+use Rattle.dump_rules.specs.Settings.{Settings}
+use Rattle.dump_rules.specs.Renumbering.{KeptRevisions}
+use Rattle.dump_digest.specs.RecordParts.{is_revision, is_node}
+use Rattle.dump_filter.specs.Groups.{Group, groups, group_number, has_kept_node, is_bare, keeps_empty, first_number, keeps_group, kept_revisions}
+use Rattle.dump_filter.specs.NewContent.{IsNewProperty}
+use Rattle.dump_filter.specs.NewHeaders.{IsWrittenCopyNumber}
+use Rattle.dump_trees.specs.Changes.{Change}
+use Rattle.dump_trees.specs.Revisions.{keeps_revision, AreNewRevisions, kept_from, kept_of}
+use Rattle.dump_history.specs.DumpChanges.{counts_from}
+use Rattle.dump_history.proofs.again.GroupsAgain.{AreGroupsAgain}
+use Rattle.dump_history.specs.RecordChanges.{Patching}
+use Rattle.dump_history.proofs.again.GroupChanges.{AllMake, GroupsMake, empty_rule, AllHaveNodes, AreNumberedFrom, kept_group, later_number, nodes_change, groups_change}
+use Rattle.dump_history.proofs.again.GroupNumbers.{AllRevisions, kept_numbers, kept_numbers_are}
+
+-- groups
+
+all_nodes : (records : List DumpRecord) → list_all is_node (take_while is_node records) ≡ true
+all_nodes [] = refl
+all_nodes (r ∷ records) = cases (is_node r) refl (all_nodes records)
+  where
+    cases : (b : Bool) → is_node r ≡ b → list_all is_node (take_while is_node records) ≡ true
+        → list_all is_node (take_while is_node (r ∷ records)) ≡ true
+    cases true is more = ap (list_all is_node) (take_while-cons is_node r records
+        ∙ ap (λ c. if c then r ∷ take_while is_node records else []) is)
+        ∙ both_true (is_node r) (list_all is_node (take_while is_node records)) is more
+    cases false is more = ap (list_all is_node) (take_while-cons is_node r records
+        ∙ ap (λ c. if c then r ∷ take_while is_node records else []) is)
+
+-- a dump's groups are revisions with nodes
+pub groups_are : (records : List DumpRecord) → AllRevisions (groups records) × AllHaveNodes (groups records)
+groups_are [] = (tt, tt)
+groups_are (r ∷ records) = cases (is_revision r) refl (groups_are records)
+  where
+    cases : (b : Bool) → is_revision r ≡ b → AllRevisions (groups records) × AllHaveNodes (groups records)
+        → AllRevisions (groups (r ∷ records)) × AllHaveNodes (groups (r ∷ records))
+    cases true is (revs, nodes) = rw is ((is, revs), (all_nodes records, nodes))
+    cases false is more = rw is more
+
+-- numbers that count from a number on
+pub numbered_from : (n : ℕ) (gs : List Group) → counts_from n (map group_number gs) ≡ true → AreNumberedFrom n gs
+numbered_from n [] counts = tt
+numbered_from n (g ∷ gs) counts =
+    let more = counts_from (suc n) (map group_number gs) in (
+      eqb-true (group_number g) n (first_true (group_number g == n) more counts),
+      numbered_from (suc n) gs (second_true (group_number g == n) more counts),
+    )
+
+-- and back
+pub counted_from : (n : ℕ) (gs : List Group) → AreNumberedFrom n gs → counts_from n (map group_number gs) ≡ true
+counted_from n [] numbered = refl
+counted_from n (g ∷ gs) numbered =
+    both_true (group_number g == n) (counts_from (suc n) (map group_number gs))
+    (ap (λ m. m == n) numbered.0 ∙ equals_itself n) (counted_from (suc n) gs numbered.1)
+
+module _ (patched : Patching) (settings : Settings) where
+  -- revision 0 is kept
+  pub first_kept : (g : Group) → group_number g ≡ 0 → keeps_group settings g ≡ true
+  first_kept g is = ap (λ b. b || has_kept_node settings g || keeps_empty settings.empty (is_bare g))
+      (ap (λ m. m == 0) is)
+
+  first_is : (gs : List Group) (revisions : List (List Change)) → AreNumberedFrom 0 gs
+      → GroupsMake patched gs ([] ∷ revisions)
+      → first_number (map group_number gs) ≡ 0
+  first_is [] revisions numbered make = absurd make
+  first_is (g ∷ gs) revisions numbered make = numbered.0
+
+  numbers_are : (gs : List Group) (revisions : List (List Change)) → AllHaveNodes gs → AreNumberedFrom 0 gs
+      → GroupsMake patched gs ([] ∷ revisions)
+      → kept_numbers settings gs ≡ 0 ∷ kept_from settings (empty_rule settings) 1 revisions
+  numbers_are [] revisions are numbered make = absurd make
+  numbers_are (g ∷ gs) revisions are numbered make =
+      let more = kept_numbers_are settings patched 0 gs revisions are.1 numbered.1 make.1 in
+      rw (first_kept g numbered.0) (λ i. numbered.0 i ∷ more i)
+
+  -- the kept revisions of a dump that is numbered 0, 1, 2 and so on are those of its changes
+  pub kept_revisions_are : (records : List DumpRecord) (revisions : List (List Change))
+      → AreNumberedFrom 0 (groups records)
+      → GroupsMake patched (groups records) ([] ∷ revisions)
+      → kept_revisions settings records ≡ kept_of settings (empty_rule settings) revisions
+  kept_revisions_are records revisions numbered make =
+      let first = first_is (groups records) revisions numbered make in
+      let numbers = numbers_are (groups records) revisions (groups_are records).1 numbered make in
+      λ i. record { first = first i; numbers = numbers i }
+
+  all_later : (n : ℕ) (gs : List Group) (revisions : List (List Change)) → AllHaveNodes gs
+      → AreNumberedFrom (suc n) gs → GroupsMake patched gs revisions
+      → list_all (keeps_group settings) gs ≡ list_all (keeps_revision settings (empty_rule settings)) revisions
+  all_later n [] [] are numbered make = refl
+  all_later n [] (changes ∷ revisions) are numbered make = absurd make
+  all_later n (g ∷ gs) [] are numbered make = absurd make
+  all_later n (g ∷ gs) (changes ∷ revisions) are numbered (first, make) =
+      let same = kept_group patched settings g changes (later_number (group_number g) n numbered.0) are.0 first in
+      let more = all_later (suc n) gs revisions are.1 numbered.1 make in
+      λ i. same i && more i
+
+  -- all groups are kept where all revisions are
+  pub all_kept : (gs : List Group) (revisions : List (List Change)) → AllHaveNodes gs → AreNumberedFrom 0 gs
+      → GroupsMake patched gs ([] ∷ revisions)
+      → list_all (keeps_group settings) gs ≡ list_all (keeps_revision settings (empty_rule settings)) revisions
+  all_kept [] revisions are numbered make = absurd make
+  all_kept (g ∷ gs) revisions are numbered make =
+      let keep = first_kept g numbered.0 in
+      let more = all_later 0 gs revisions are.1 numbered.1 make.1 in
+      λ i. keep i && more i
+
+  module _ (kept : KeptRevisions) where
+    -- what the filter leaves of these revisions, as groups that are read again
+    abbrev pub LeavesRevisions : List (List Change) → List Group → Type 0
+    LeavesRevisions revisions again = (written : List (List Change)) × GroupsMake patched again ([] ∷ written)
+        × AreNewRevisions settings (IsNewProperty settings kept) (IsWrittenCopyNumber settings kept)
+        (empty_rule settings) revisions written
+
+    -- the groups that are read again, where the first one has the number 0 and no nodes
+    pub revisions_change : (gs again : List Group) (revisions : List (List Change)) → AllHaveNodes gs
+        → AreNumberedFrom 0 gs → GroupsMake patched gs ([] ∷ revisions) → AreGroupsAgain settings kept gs again
+        → LeavesRevisions revisions again
+    revisions_change [] again revisions are numbered make this = absurd make
+    revisions_change (g ∷ gs) again revisions are numbered make this =
+        let (h, rest, same, read, reads) = rw (first_kept g numbered.0) at this in
+        let (none, makes, empty) = nodes_change patched settings kept g.nodes h.nodes [] are.0 read.nodes make.0 in
+        let (written, others, are_new) = groups_change patched settings kept 0 gs rest revisions are.1 numbered.1
+        reads make.1
+        in (
+          written,
+          subst (λ (l : List Group). GroupsMake patched l ([] ∷ written)) (sym same)
+              (subst (AllMake patched h.nodes) empty makes, others),
+          are_new,
+        )

@@ -1,0 +1,5 @@
+-- The laws of filtered dumps.
+pub mod LoadsOnce
+pub mod FrontSize
+pub mod FilteredLaw
+pub mod FolderLaw

@@ -1,0 +1,101 @@
+-- A dump's records, changes, properties and trees are one list each.
+use Rattle.std.proofs.Common.{◌≡◌, ℕ, List, [], ◌∷◌, ◌++◌, Some, option_map, refl, sym, ap, ◌∙◌, subst}
+use Rattle.std.specs.List.{AllZip}
+use Rattle.dump_text.specs.PropertyList.{Property}
+use Rattle.dump_records.specs.DumpText.{Ending, HasRecords}
+use Rattle.dump_records.specs.RecordText.{DumpRecord}
+use Rattle.dump_records.proofs.Unique.{records_once}
+use Rattle.dump_digest.specs.RecordParts.{HasPropertyList}
+use Rattle.dump_digest.proofs.PropertyBlocks.{property_list_once}
+use Rattle.dump_filter.specs.Groups.{Group, groups}
+use Rattle.dump_trees.specs.Trees.{Tree}
+use Rattle.dump_trees.specs.Changes.{Change}
+use Rattle.dump_trees.specs.Revisions.{loaded_over}
+use Rattle.dump_trees.proofs.histories.MovedLemmas.{loads_behind}
+use Rattle.dump_history.specs.RecordChanges.{Patching, MakesChange}
+use Rattle.dump_history.specs.DumpChanges.{HaveRevisionProperties, LoadsAs}
+use Rattle.dump_history.specs.DumpLaws.{DumpLoadsOnce, DumpLoadsTheSameBehindOthers}
+use Rattle.dump_history.proofs.again.NodeChanges.{change_once}
+
+-- where each item has one partner, a list has one list of partners
+pub partners_once : {A B : Type 0} (R : A → B → Type 0) → ((x : A) (y z : B) → R x y → R x z → y ≡ z)
+    → (xs : List A) (ys zs : List B) → AllZip R xs ys → AllZip R xs zs → ys ≡ zs
+partners_once R once [] [] [] all more = refl
+partners_once R once [] [] (z ∷ zs) all more = absurd more
+partners_once R once [] (y ∷ ys) zs all more = absurd all
+partners_once R once (x ∷ xs) [] zs all more = absurd all
+partners_once R once (x ∷ xs) (y ∷ ys) [] all more = absurd more
+partners_once R once (x ∷ xs) (y ∷ ys) (z ∷ zs) all more =
+    λ i. once x y z all.0 more.0 i ∷ partners_once R once xs ys zs all.1 more.1 i
+
+-- the nodes of a group make one list of changes
+pub changes_once : (patched : Patching) (g : Group) (changes others : List Change)
+    → AllZip (MakesChange patched) g.nodes changes
+    → AllZip (MakesChange patched) g.nodes others → changes ≡ others
+changes_once patched g changes others all more =
+    partners_once (MakesChange patched) (change_once patched) g.nodes changes others all more
+
+-- the groups make one list of revisions
+pub revisions_once : (patched : Patching) (gs : List Group) (revisions others : List (List Change))
+    → AllZip (λ (g : Group) changes. AllZip (MakesChange patched) g.nodes changes) gs revisions
+    → AllZip (λ (g : Group) changes. AllZip (MakesChange patched) g.nodes changes) gs others → revisions ≡ others
+revisions_once patched gs revisions others all more =
+    partners_once (λ (g : Group) changes. AllZip (MakesChange patched) g.nodes changes) (changes_once patched)
+    gs revisions others all more
+
+-- and so of their changes behind one first list
+pub later_once : (patched : Patching) (gs : List Group) (first : List Change) (revisions others : List (List Change))
+    → AllZip (λ (g : Group) changes. AllZip (MakesChange patched) g.nodes changes) gs (first ∷ revisions)
+    → AllZip (λ (g : Group) changes. AllZip (MakesChange patched) g.nodes changes) gs (first ∷ others)
+    → revisions ≡ others
+later_once patched gs first revisions others all more =
+    tail_once (revisions_once patched gs (first ∷ revisions) (first ∷ others) all more)
+  where
+    tail_of : List (List Change) → List (List Change)
+    tail_of [] = []
+    tail_of (changes ∷ rest) = rest
+
+    tail_once : first ∷ revisions ≡ first ∷ others → revisions ≡ others
+    tail_once same = ap tail_of same
+
+-- the revisions of the groups have one list of properties each
+pub revision_properties_once : (gs : List Group) (props others : List (List Property))
+    → AllZip (λ (g : Group) ps. HasPropertyList g.revision ps) gs props
+    → AllZip (λ (g : Group) ps. HasPropertyList g.revision ps) gs others → props ≡ others
+revision_properties_once gs props others all more =
+    partners_once (λ (g : Group) ps. HasPropertyList g.revision ps)
+    (λ g ps qs. property_list_once g.revision ps qs) gs props others all more
+
+-- a text is one list of records to its end
+pub whole_records_once : (dump : List ℕ) (records others : List DumpRecord) → HasRecords dump records Ending.Whole
+    → HasRecords dump others Ending.Whole → records ≡ others
+whole_records_once dump records others has more =
+    (records_once dump records others Ending.Whole Ending.Whole has more).0
+
+-- revisions that load leave one list of trees
+pub trees_once : (first : Tree) (revisions others : List (List Change)) (trees more : List Tree) → revisions ≡ others
+    → loaded_over first revisions ≡ Some trees → loaded_over first others ≡ Some more → trees ≡ more
+trees_once first revisions others trees more same loads loads_too =
+    some_once (sym loads ∙ ap (loaded_over first) same ∙ loads_too)
+  where
+    some_once : {x y : List Tree} → Some x ≡ Some y → x ≡ y
+    some_once e = cc
+
+-- a dump has one list of records, revisions, properties and trees
+pub dump_loads_once : DumpLoadsOnce
+dump_loads_once patched first dump records others revisions more trees others_trees props others_props has has_too loads
+    loads_too have have_too =
+    let same = sym (whole_records_once dump records others has has_too) in
+    let makes = subst (λ (l : List DumpRecord). LoadsAs patched first l more others_trees) same loads_too in
+    let one = later_once patched (groups records) [] more revisions makes.makes.changes loads.makes.changes in (
+      same,
+      one,
+      trees_once first more revisions others_trees trees one makes.loads loads.loads,
+      revision_properties_once (groups records) others_props props
+          (subst (λ (l : List DumpRecord). HaveRevisionProperties l others_props) same have_too) have,
+    )
+
+-- a dump makes the same trees behind older revisions
+pub dump_loads_behind_others : DumpLoadsTheSameBehindOthers
+dump_loads_behind_others patched older first records revisions trees loads plain =
+    loads_behind older first revisions ∙ ap (option_map (λ ts. older ++ ts)) loads.loads

@@ -1,0 +1,3 @@
+-- What a survey finds is exact, and where it finds nothing the law has its premise.
+pub mod FindingLemmas
+pub mod SurveyLemmas

@@ -1,0 +1,256 @@
+-- Where a survey finds nothing, the law of filtered dumps has its premise.
+use Rattle.std.proofs.Common.{◌≡◌, suc, Bool, true, false, not, ◌&&◌, ◌||◌, ◌==◌, List, [], ◌∷◌, ◌++◌, length, filter, cond, Option, Some, None, refl, sym, ap, ◌∙◌, subst, inl, append_assoc}
+use Rattle.std.specs.List.{AllZip, list_all, list_any, last_or}
+use Rattle.std.proofs.lemmas.Bool.{eqb-true}
+use Rattle.std.proofs.lemmas.List.{nil_from_length}
+use Rattle.dump_text.specs.declared.fault.FaultKind.TheVariants.{Order}
+use Rattle.dump_text.proofs.BoolLemmas.{first_true, second_true, first_false, second_false, both_true, not_true, not_so}
+use Rattle.dump_records.specs.RecordText.{DumpRecord}
+use Rattle.dump_rules.specs.Settings.{Settings}
+use Rattle.dump_digest.specs.RecordParts.{is_revision, is_node}
+use Rattle.dump_filter.specs.Groups.{Group, groups, revision_numbers, is_bare}
+use Rattle.dump_filter.specs.RecordFaults.{ends_in_group, AreFaultFree}
+use Rattle.dump_trees.specs.Changes.{Change}
+use Rattle.dump_trees.specs.Quiet.{is_quiet, are_quiet}
+use Rattle.dump_history.specs.RecordChanges.{Patching, MakesChange}
+use Rattle.dump_history.specs.DumpChanges.{counts_from, has_ordered_nodes, MakeChanges, MakeRevisions}
+use Rattle.dump_history.specs.DumpLaws.{keeps_numbering}
+use Rattle.dump_history.specs.Findings.{Finding, AreFindingsOf, is_obstacle, is_alarm, every_dump_finding, first_has_node, is_found_in_dump, dump_findings}
+use Rattle.dump_history.specs.SurveyLaws.{none_is, SurveyedDumpRestricts, SurveyedDumpFrontRestricts}
+use Rattle.dump_history.proofs.survey.FindingLemmas.{obstacles_exact, alarms_exact}
+use Rattle.dump_history.proofs.restricted.FilteredLaw.{quiet_dump_restricts, quiet_front_restricts}
+
+-- what is found in the nodes
+
+module _ (patched : Patching) (settings : Settings) where
+  -- a node in which no obstacle is found makes a change, a quiet one if no alarm is found
+  node_change_is : (r : DumpRecord) (found : List Finding) → AreFindingsOf settings r found
+      → not (list_any is_obstacle found) ≡ true
+      → (c : Change) × MakesChange patched r c × (not (list_any is_alarm found) ≡ true → is_quiet settings c ≡ true)
+  node_change_is r found (ps, read, same) none =
+      let no_obstacle = ap (λ fs. list_any is_obstacle fs) (sym same) ∙ not_true (list_any is_obstacle found) none in
+      let made = (obstacles_exact patched settings r ps read).0 no_obstacle in (
+        made.0,
+        made.1,
+        λ quiet. alarms_exact patched settings r ps made.0 read made.1
+            ∙ (ap (λ fs. not (list_any is_alarm fs)) (sym same) ∙ quiet),
+      )
+
+  -- so do the nodes of a group
+  nodes_change : (rs : List DumpRecord) (found : List (List Finding)) → AllZip (AreFindingsOf settings) rs found
+      → list_all (λ node. not (list_any is_obstacle node)) found ≡ true
+      → (changes : List Change) × AllZip (MakesChange patched) rs changes
+      × (list_all (λ node. not (list_any is_alarm node)) found ≡ true → list_all (is_quiet settings) changes ≡ true)
+  nodes_change [] [] all none = ([], tt, λ quiet. refl)
+  nodes_change [] (f ∷ found) all none = absurd all
+  nodes_change (r ∷ rs) [] all none = absurd all
+  nodes_change (r ∷ rs) (f ∷ found) all none =
+      let one = node_change_is r f all.0 (first_true (not (list_any is_obstacle f)) _ none) in
+      let more = nodes_change rs found all.1 (second_true (not (list_any is_obstacle f)) _ none) in (
+        one.0 ∷ more.0,
+        (one.1, more.1),
+        λ quiet. both_true (is_quiet settings one.0) (list_all (is_quiet settings) more.0)
+            (one.2 (first_true (not (list_any is_alarm f)) _ quiet))
+            (more.2 (second_true (not (list_any is_alarm f)) _ quiet)),
+      )
+
+  -- and the groups of a dump
+  groups_change : (gs : List Group) (found : List (List (List Finding)))
+      → AllZip (λ (g : Group) fs. AllZip (AreFindingsOf settings) g.nodes fs) gs found
+      → none_is is_obstacle found ≡ true
+      → (revisions : List (List Change)) × AllZip (MakeChanges patched) gs revisions
+      × (none_is is_alarm found ≡ true → are_quiet settings revisions ≡ true)
+  groups_change [] [] all none = ([], tt, λ quiet. refl)
+  groups_change [] (f ∷ found) all none = absurd all
+  groups_change (g ∷ gs) [] all none = absurd all
+  groups_change (g ∷ gs) (f ∷ found) all none =
+      let one = nodes_change g.nodes f all.0
+      (first_true (list_all (λ node. not (list_any is_obstacle node)) f) (none_is is_obstacle found) none) in
+      let more = groups_change gs found all.1
+      (second_true (list_all (λ node. not (list_any is_obstacle node)) f) (none_is is_obstacle found) none) in (
+        one.0 ∷ more.0,
+        (one.1, more.1),
+        λ quiet. both_true (list_all (is_quiet settings) one.0)
+            (are_quiet settings more.0)
+            (one.2 (first_true (list_all (λ node. not (list_any is_alarm node)) f) (none_is is_alarm found) quiet))
+            (more.2 (second_true (list_all (λ node. not (list_any is_alarm node)) f) (none_is is_alarm found) quiet)),
+      )
+
+  -- and the first groups, where only behind them alarms are found
+  front_change : (gs : List Group) (found behind : List (List (List Finding)))
+      → AllZip (λ (g : Group) fs. AllZip (AreFindingsOf settings) g.nodes fs) gs (found ++ behind)
+      → none_is is_obstacle (found ++ behind) ≡ true
+      → (front rest : List (List Change)) × AllZip (MakeChanges patched) gs (front ++ rest)
+      × (length front ≡ length found)
+      × (none_is is_alarm found ≡ true → are_quiet settings front ≡ true)
+  front_change gs [] behind all none =
+      let whole = groups_change gs behind all none in ([], whole.0, whole.1, refl, λ quiet. refl)
+  front_change [] (f ∷ found) behind all none = absurd all
+  front_change (g ∷ gs) (f ∷ found) behind all none =
+      let one = nodes_change g.nodes f all.0
+      (first_true (list_all (λ node. not (list_any is_obstacle node)) f)
+      (none_is is_obstacle (found ++ behind)) none) in
+      let more = front_change gs found behind all.1
+      (second_true (list_all (λ node. not (list_any is_obstacle node)) f)
+      (none_is is_obstacle (found ++ behind)) none) in (
+        one.0 ∷ more.0,
+        more.1,
+        (one.1, more.2),
+        ap suc more.3,
+        λ quiet. both_true (list_all (is_quiet settings) one.0)
+            (are_quiet settings more.0)
+            (one.2 (first_true (list_all (λ node. not (list_any is_alarm node)) f) (none_is is_alarm found) quiet))
+            (more.4 (second_true (list_all (λ node. not (list_any is_alarm node)) f) (none_is is_alarm found) quiet)),
+      )
+
+-- what is found in the dump
+
+-- where no element passes, none does
+none_passes : {X : Type 0} (p : X → Bool) (xs : List X) → filter p xs ≡ [] → list_any p xs ≡ false
+none_passes p [] none = refl
+none_passes p (x ∷ xs) none = cases (none_passes p xs) (p x) none
+  where
+    cases : (filter p xs ≡ [] → list_any p xs ≡ false) → (b : Bool) → cond b (x ∷ filter p xs) (filter p xs) ≡ []
+        → (b || list_any p xs) ≡ false
+    cases rest true bad = absurd (let worse : x ∷ filter p xs ≡ [] = bad in cc)
+    cases rest false fine = rest fine
+
+-- the last element of a list with one more
+last_pushed : {A : Type 0} (o : Option A) (xs : List A) (x : A) → last_or o (xs ++ x ∷ []) ≡ Some x
+last_pushed o [] x = refl
+last_pushed o (y ∷ xs) x = last_pushed (Some y) xs x
+
+may_stand : (node follows : Bool) → (node && not follows) ≡ false → (not node || follows) ≡ true
+may_stand true true none = refl
+may_stand true false none = cc
+may_stand false follows none = refl
+
+-- the nodes of a dump without a fault stand in revisions
+module _ (settings : Settings) (all : List DumpRecord) (free : AreFaultFree settings all) where
+  order_behind : (before rest : List DumpRecord) → all ≡ before ++ rest
+      → has_ordered_nodes (ends_in_group (last_or None before)) rest ≡ true
+  order_behind before [] at = refl
+  order_behind before (r ∷ rest) at =
+      both_true (not (is_node r) || ends_in_group (last_or None before))
+      (has_ordered_nodes (is_revision r || is_node r) rest)
+      (may_stand (is_node r) (ends_in_group (last_or None before))
+      (not_so (is_node r && not (ends_in_group (last_or None before))) (λ out. free before rest r at Order (inl out))))
+      (subst (λ o. has_ordered_nodes (ends_in_group o) rest ≡ true) (last_pushed None before r)
+      (order_behind (before ++ r ∷ []) rest (at ∙ sym (append_assoc before (r ∷ []) rest))))
+
+  pub order_of : has_ordered_nodes false all ≡ true
+  order_of = order_behind [] all refl
+
+-- nothing is found in the dump as a whole
+module _ (settings : Settings) (records : List DumpRecord) (none : dump_findings settings records ≡ []) where
+  each_none : (length (groups records) == 0 || (not (counts_from 0 (revision_numbers records))
+      || (first_has_node (groups records) || (not (keeps_numbering settings records) || false)))) ≡ false
+  each_none = none_passes (λ f. is_found_in_dump settings records f) every_dump_finding none
+
+  denied : (b : Bool) → not b ≡ false → b ≡ true
+  denied true is = refl
+  denied false is = cc
+
+  some_group : (length (groups records) == 0) ≡ false
+  some_group = first_false (length (groups records) == 0) _ each_none
+
+  is_numbered : counts_from 0 (revision_numbers records) ≡ true
+  is_numbered = denied (counts_from 0 (revision_numbers records))
+      (first_false (not (counts_from 0 (revision_numbers records))) _
+      (second_false (length (groups records) == 0) _ each_none))
+
+  behind_numbers : (first_has_node (groups records) || (not (keeps_numbering settings records) || false)) ≡ false
+  behind_numbers = second_false (not (counts_from 0 (revision_numbers records))) _
+      (second_false (length (groups records) == 0) _ each_none)
+
+  is_first_bare : first_has_node (groups records) ≡ false
+  is_first_bare = first_false (first_has_node (groups records)) _ behind_numbers
+
+  keeps_numbers : keeps_numbering settings records ≡ true
+  keeps_numbers = denied (keeps_numbering settings records)
+      (first_false (not (keeps_numbering settings records)) false
+      (second_false (first_has_node (groups records)) _ behind_numbers))
+
+-- the changes of a group without nodes are none
+no_changes : (patched : Patching) (g : Group) (changes : List Change) → not (is_bare g) ≡ false
+    → MakeChanges patched g changes → changes ≡ []
+no_changes patched g changes bare make =
+    none changes (subst (λ nodes. AllZip (MakesChange patched) nodes changes) (nil_from_length g.nodes
+    (eqb-true (length g.nodes) 0 (is_so (is_bare g) bare))) make)
+  where
+    is_so : (b : Bool) → not b ≡ false → b ≡ true
+    is_so true is = refl
+    is_so false is = cc
+
+    none : (changes : List Change) → AllZip (MakesChange patched) [] changes → changes ≡ []
+    none [] make = refl
+    none (c ∷ changes) make = absurd make
+
+-- the first group makes no change, and the others make these revisions
+first_is_bare : (patched : Patching) (gs : List Group) (revisions : List (List Change)) → (length gs == 0) ≡ false
+    → first_has_node gs ≡ false
+    → AllZip (MakeChanges patched) gs revisions
+    → (rest : List (List Change)) × (revisions ≡ [] ∷ rest)
+first_is_bare patched [] revisions some bare make = cc
+first_is_bare patched (g ∷ gs) [] some bare make = absurd make
+first_is_bare patched (g ∷ gs) (changes ∷ revisions) some bare make =
+    (revisions, ap (λ cs. cs ∷ revisions) (no_changes patched g changes bare make.0))
+
+-- the first group makes no change, and the groups behind it these revisions, of which the first ones are quiet
+front_behind : (patched : Patching) (settings : Settings) (gs : List Group) (first : List (List Finding))
+    (found behind : List (List (List Finding)))
+    → (length gs == 0) ≡ false → first_has_node gs ≡ false
+    → AllZip (λ (g : Group) fs. AllZip (AreFindingsOf settings) g.nodes fs) gs (first ∷ found ++ behind)
+    → none_is is_obstacle (found ++ behind) ≡ true
+    → (front rest : List (List Change)) × AllZip (MakeChanges patched) gs ([] ∷ front ++ rest)
+    × (length front ≡ length found)
+    × (none_is is_alarm found ≡ true → are_quiet settings front ≡ true)
+front_behind patched settings [] first found behind some bare all none = absurd all
+front_behind patched settings (g ∷ gs) first found behind some bare all none =
+    let more = front_change patched settings gs found behind all.1 none in
+    (more.0, more.1, (bare_group g bare, more.2), more.3, more.4)
+  where
+    bare_group : (g : Group) → not (is_bare g) ≡ false → MakeChanges patched g []
+    bare_group g bare = subst (λ nodes. AllZip (MakesChange patched) nodes []) (sym (nil_from_length g.nodes
+        (eqb-true (length g.nodes) 0 (is_so (is_bare g) bare)))) tt
+      where
+        is_so : (b : Bool) → not b ≡ false → b ≡ true
+        is_so true is = refl
+        is_so false is = cc
+
+-- where nothing is found the law of filtered dumps holds
+pub surveyed_dump : SurveyedDumpRestricts
+surveyed_dump patched settings dump text records found clean fit nothing have no_obstacle no_alarm =
+    let whole = groups_change patched settings (groups records) found have no_obstacle in
+    let bare = first_is_bare patched (groups records) whole.0 (some_group settings records nothing)
+    (is_first_bare settings records nothing) whole.1 in
+    let makes : MakeRevisions patched records bare.0 = record {
+      numbered = is_numbered settings records nothing;
+      ordered = order_of settings records clean.fault_free;
+      changes = subst (λ rs. AllZip (MakeChanges patched) (groups records) rs) bare.1 whole.1;
+    } in
+    let quiet : are_quiet settings bare.0 ≡ true =
+    ap (are_quiet settings) (sym bare.1) ∙ whole.2 no_alarm in (
+      bare.0,
+      makes,
+      λ trees loads over. quiet_dump_restricts patched settings dump text records bare.0 trees clean fit
+          (keeps_numbers settings records nothing) (record { makes = makes; loads = loads }) quiet over,
+    )
+
+-- so it does of the first revisions where alarms are found behind them alone
+pub surveyed_front : SurveyedDumpFrontRestricts
+surveyed_front patched settings dump text records first found behind clean fit nothing have no_obstacle no_alarm =
+    let parts = front_behind patched settings (groups records) first found behind (some_group settings records nothing)
+    (is_first_bare settings records nothing) have no_obstacle in
+    let makes : MakeRevisions patched records (parts.0 ++ parts.1) = record {
+      numbered = is_numbered settings records nothing;
+      ordered = order_of settings records clean.fault_free;
+      changes = parts.2;
+    } in (
+      parts.0,
+      parts.1,
+      makes,
+      parts.3,
+      λ trees loads over. quiet_front_restricts patched settings dump text records parts.0 parts.1 trees clean fit
+          (keeps_numbers settings records nothing) makes loads (parts.4 no_alarm) over,
+    )

@@ -1,0 +1,40 @@
+-- Parts of the worked values of findings: options, nodes and their lines.
+use Rattle.std.specs.Prelude.{ℕ, false, List, [], ◌∷◌, Some, codes}
+use Rattle.dump_text.specs.HeaderLine.{Header}
+use Rattle.dump_records.specs.RecordText.{DumpRecord}
+use Rattle.dump_rules.specs.declared.options.Side.{Side}
+use Rattle.dump_rules.specs.declared.options.Side.TheVariants.{Include, Exclude}
+use Rattle.dump_rules.specs.declared.options.Empty.TheVariants.{Pad}
+use Rattle.dump_rules.specs.Settings.{Settings}
+use Rattle.dump_history.specs.Findings.{Finding, findings_of}
+use Rattle.dump_history.proofs.values.WorkedDump.{line, record_at}
+
+-- the options of these prefixes
+abbrev pub cut_by : Side → List (List ℕ) → Settings
+cut_by side prefixes =
+    record { side = side; prefixes = prefixes; empty = Pad; renumber = false; preserve = false; skip_missing = false }
+
+-- the folder p/a is included
+abbrev pub include_a : Settings
+include_a = cut_by Include (codes "p/a" ∷ [])
+
+-- the folder p/a is excluded
+abbrev pub exclude_a : Settings
+exclude_a = cut_by Exclude (codes "p/a" ∷ [])
+
+-- a node at this path, of this action, with more lines
+abbrev pub node : List ℕ → List ℕ → List Header → DumpRecord
+node path action more = record_at 0 (line (codes "Node-path") path ∷ line (codes "Node-action") action ∷ more)
+
+-- the lines of a copy source
+abbrev pub from : List ℕ → List Header
+from source = line (codes "Node-copyfrom-rev") (codes "7") ∷ line (codes "Node-copyfrom-path") source ∷ []
+
+-- the lines of a whole file, copied from this path
+abbrev pub whole_from : List ℕ → List Header
+whole_from source =
+    line (codes "Node-kind") (codes "file") ∷ line (codes "Text-content-length") (codes "0") ∷ from source
+
+-- the findings of a node without properties
+abbrev pub in_node : Settings → DumpRecord → List Finding
+in_node settings r = findings_of settings r (Some [])

@@ -1,0 +1,211 @@
+-- Worked values of what a survey finds in a node and in a dump, computed and proved by the kernel.
+use Rattle.std.proofs.Common.{true, ◌≡◌, false, [], ◌∷◌, ◌++◌, Some, None, refl, codes}
+use Rattle.dump_text.specs.HeaderLine.{Header}
+use Rattle.dump_records.specs.RecordText.{DumpRecord}
+use Rattle.dump_rules.specs.declared.options.Side.TheVariants.{Include, Exclude}
+use Rattle.dump_rules.specs.declared.options.Empty.TheVariants.{Pad}
+use Rattle.dump_rules.specs.Settings.{Settings}
+use Rattle.dump_history.specs.DumpChanges.{has_ordered_nodes}
+use Rattle.dump_history.specs.Findings.{Finding, findings_of, DumpFinding, dump_findings}
+use Rattle.dump_history.proofs.values.WorkedDump.{line, record_at, records, version, zero, one, two, trunk}
+use Rattle.dump_history.proofs.values.WorkedDump.{settings as worked_settings}
+use Rattle.dump_history.proofs.values.FindingParts.{cut_by, include_a, exclude_a, node, from, whole_from, in_node}
+
+-- a property length
+abbrev block : Header
+block = line (codes "Prop-content-length") (codes "10")
+
+-- nothing is found in a node that only adds, changes or deletes, kept or left out
+
+added_kept : in_node include_a (node (codes "p/a/f") (codes "add") []) ≡ []
+added_kept = refl
+
+added_left_out : in_node include_a (node (codes "q") (codes "add") []) ≡ []
+added_left_out = refl
+
+deleted_kept : in_node include_a (node (codes "p/a") (codes "delete") []) ≡ []
+deleted_kept = refl
+
+-- what makes no change that is told
+
+unread : findings_of include_a (node (codes "p/a") (codes "change") []) None ≡ Finding.UnreadBlock ∷ []
+unread = refl
+
+-- under version 3 nothing is found in deltas, nor in a deleted property
+
+abbrev delta_node : DumpRecord
+delta_node = record (node (codes "p/a") (codes "change") (line (codes "Text-delta") (codes "true")
+    ∷ line (codes "Prop-delta") (codes "true") ∷ block ∷ [])) { version = 3 }
+
+deltas_of_version_3 : in_node include_a delta_node ≡ []
+deltas_of_version_3 = refl
+
+deleted_property : findings_of include_a delta_node (Some (record { name = codes "k"; value = None } ∷ [])) ≡ []
+deleted_property = refl
+
+-- under version 2 a delta is found
+
+text_delta : in_node include_a (node (codes "p/a") (codes "change") (line (codes "Text-delta") (codes "true") ∷ []))
+    ≡ Finding.Delta ∷ []
+text_delta = refl
+
+property_delta : in_node include_a (node (codes "p/a") (codes "change") (line (codes "Prop-delta") (codes "true") ∷ []))
+    ≡ Finding.Delta ∷ []
+property_delta = refl
+
+no_delta : in_node include_a (node (codes "p/a") (codes "change") (line (codes "Prop-delta") (codes "false") ∷ [])) ≡ []
+no_delta = refl
+
+odd_action : in_node include_a (node (codes "p/a") (codes "rename") []) ≡ Finding.UnknownAction ∷ []
+odd_action = refl
+
+no_action : in_node include_a (record_at 0 (line (codes "Node-path") (codes "p/a") ∷ [])) ≡ Finding.UnknownAction ∷ []
+no_action = refl
+
+-- texts that the load reads otherwise
+
+dot_in_path : in_node include_a (node (codes "p/a/./f") (codes "add") []) ≡ Finding.OddText ∷ []
+dot_in_path = refl
+
+empty_name_in_source : in_node include_a (node (codes "p/a/g") (codes "add") (from (codes "p/a//f")))
+    ≡ Finding.OddText ∷ []
+empty_name_in_source = refl
+
+zero_in_line : in_node include_a (node (codes "p/a/g" ++ 0 ∷ []) (codes "add") []) ≡ Finding.OddText ∷ []
+zero_in_line = refl
+
+zero_in_name : findings_of include_a (node (codes "p/a") (codes "change") (block ∷ []))
+    (Some (record { name = codes "k" ++ 0 ∷ []; value = Some [] } ∷ [])) ≡ Finding.OddText ∷ []
+zero_in_name = refl
+
+leading_slash : in_node include_a (node (codes "/p/a/g") (codes "add") (from (codes "/p/a/f"))) ≡ []
+leading_slash = refl
+
+-- a copy of a path that isn't kept
+
+folder_from_left_out : in_node include_a (node (codes "p/a/g") (codes "add") (block ∷ from (codes "q/g")))
+    ≡ Finding.NoWholeFile ∷ []
+folder_from_left_out = refl
+
+left_out_from_left_out : in_node include_a (node (codes "q/h") (codes "add") (from (codes "q/g"))) ≡ []
+left_out_from_left_out = refl
+
+copy_inside : in_node include_a (node (codes "p/a/g") (codes "add") (from (codes "p/a/f"))) ≡ []
+copy_inside = refl
+
+-- a whole file keeps its properties where it sets them, be it to none
+file_with_block : in_node include_a (node (codes "p/a/g") (codes "add") (block ∷ whole_from (codes "q/g"))) ≡ []
+file_with_block = refl
+
+file_without_block : in_node include_a (node (codes "p/a/g") (codes "add") (whole_from (codes "q/g")))
+    ≡ Finding.PropertiesLost ∷ []
+file_without_block = refl
+
+-- under exclude its text is one that is to be left out
+text_comes_in : in_node exclude_a (node (codes "q/g") (codes "add") (block ∷ whole_from (codes "p/a/g")))
+    ≡ Finding.TextComesIn ∷ []
+text_comes_in = refl
+
+both_come : in_node exclude_a (node (codes "q/g") (codes "add") (whole_from (codes "p/a/g")))
+    ≡ Finding.PropertiesLost ∷ Finding.TextComesIn ∷ []
+both_come = refl
+
+-- under a change the text is the file's own
+own_text : in_node exclude_a (node (codes "q/g") (codes "change") (whole_from (codes "p/a/g"))) ≡ []
+own_text = refl
+
+-- of a node that is left out nothing comes in
+text_stays_out : in_node exclude_a (node (codes "p/a/h") (codes "add") (whole_from (codes "p/a/g"))) ≡ []
+text_stays_out = refl
+
+-- a copy above an excluded prefix, out of it or onto it
+
+copy_loses : in_node exclude_a (node (codes "q") (codes "add") (from (codes "p"))) ≡ Finding.CopyLoses ∷ []
+copy_loses = refl
+
+copy_lets_in : in_node exclude_a (node (codes "p") (codes "replace") (from (codes "q"))) ≡ Finding.CopyLetsIn ∷ []
+copy_lets_in = refl
+
+-- both sides are cut alike where the same rest is excluded below each
+copy_cut_alike : in_node (cut_by Exclude (codes "p/a" ∷ codes "q/a" ∷ []))
+    (node (codes "q") (codes "add") (from (codes "p"))) ≡ []
+copy_cut_alike = refl
+
+copy_loses_and_lets_in : in_node (cut_by Exclude (codes "p/a" ∷ codes "q/b" ∷ []))
+    (node (codes "q") (codes "add") (from (codes "p"))) ≡ Finding.CopyLoses ∷ Finding.CopyLetsIn ∷ []
+copy_loses_and_lets_in = refl
+
+-- included prefixes cut nothing below a kept path
+copy_included : in_node (cut_by Include (codes "p" ∷ codes "q/a" ∷ codes "q" ∷ []))
+    (node (codes "q") (codes "add") (from (codes "p"))) ≡ []
+copy_included = refl
+
+-- under a change a copy source makes nothing
+change_with_source : in_node exclude_a (node (codes "q") (codes "change") (from (codes "p"))) ≡ []
+change_with_source = refl
+
+-- a folder above an included prefix
+
+folder_takes : in_node include_a (node (codes "p") (codes "delete") []) ≡ Finding.FolderTakes ∷ []
+folder_takes = refl
+
+folder_brings : in_node include_a (node (codes "p") (codes "add") (from (codes "q"))) ≡ Finding.FolderBrings ∷ []
+folder_brings = refl
+
+folder_takes_and_brings : in_node include_a (node (codes "p") (codes "replace") (from (codes "q")))
+    ≡ Finding.FolderTakes ∷ Finding.FolderBrings ∷ []
+folder_takes_and_brings = refl
+
+folder_stays : in_node include_a (node (codes "p") (codes "change") []) ≡ []
+folder_stays = refl
+
+folder_beside : in_node include_a (node (codes "pp") (codes "delete") []) ≡ []
+folder_beside = refl
+
+-- an excluded folder that is deleted takes nothing that is kept
+folder_excluded : in_node exclude_a (node (codes "p/a") (codes "delete") []) ≡ []
+folder_excluded = refl
+
+-- of a dump
+
+abbrev padded : Settings
+padded = record worked_settings { empty = Pad; renumber = false }
+
+-- nothing is found in the worked dump, be it renumbered or padded
+
+nothing_renumbered : dump_findings worked_settings records ≡ []
+nothing_renumbered = refl
+
+nothing_padded : dump_findings padded records ≡ []
+nothing_padded = refl
+
+dropped_not_renumbered : dump_findings (record worked_settings { renumber = false }) records
+    ≡ DumpFinding.NumbersLeft ∷ []
+dropped_not_renumbered = refl
+
+-- where none is dropped, none needs a new number
+none_dropped : dump_findings (record worked_settings { renumber = false }) (version ∷ zero ∷ one ∷ trunk ∷ []) ≡ []
+none_dropped = refl
+
+no_revision : dump_findings padded (version ∷ []) ≡ DumpFinding.NoRevision ∷ []
+no_revision = refl
+
+numbers_from_two : dump_findings padded (version ∷ two ∷ []) ≡ DumpFinding.OtherNumbers ∷ []
+numbers_from_two = refl
+
+number_left_out : dump_findings padded (version ∷ zero ∷ two ∷ []) ≡ DumpFinding.OtherNumbers ∷ []
+number_left_out = refl
+
+node_in_first : dump_findings padded (version ∷ zero ∷ trunk ∷ []) ≡ DumpFinding.NodeInFirst ∷ []
+node_in_first = refl
+
+-- where nodes may stand
+
+node_first : has_ordered_nodes false (trunk ∷ []) ≡ false
+node_first = refl
+
+node_behind_other : has_ordered_nodes false (zero ∷ version ∷ trunk ∷ []) ≡ false
+node_behind_other = refl
+
+nodes_in_order : has_ordered_nodes false records ≡ true
+nodes_in_order = refl

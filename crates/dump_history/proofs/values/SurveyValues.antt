@@ -1,0 +1,127 @@
+-- More worked values of what a survey finds: each tells a definition from one that lacks a part of it.
+use Rattle.std.proofs.Common.{◌≡◌, true, false, [], ◌∷◌, filter, None, refl, codes}
+use Rattle.dump_rules.specs.declared.options.Side.TheVariants.{Include, Exclude}
+use Rattle.dump_rules.specs.declared.options.Empty.TheVariants.{DropAll}
+use Rattle.dump_rules.specs.Settings.{Settings}
+use Rattle.dump_history.specs.Findings.{Finding, every_finding, findings_of, is_obstacle, is_alarm, DumpFinding, every_dump_finding, dump_findings}
+use Rattle.dump_history.specs.SurveyLaws.{none_is}
+use Rattle.dump_history.proofs.values.WorkedDump.{line, version, zero, one, two, trunk}
+use Rattle.dump_history.proofs.values.FindingParts.{cut_by, include_a, exclude_a, node, from, whole_from, in_node}
+
+-- a folder and what lies below it, both included
+abbrev include_both : Settings
+include_both = cut_by Include (codes "p" ∷ codes "p/a" ∷ [])
+
+-- what can be found
+
+all_findings : every_finding ≡ Finding.UnreadBlock ∷ Finding.Delta ∷ Finding.UnknownAction ∷ Finding.OddText
+    ∷ Finding.NoWholeFile ∷ Finding.PropertiesLost ∷ Finding.CopyLoses ∷ Finding.CopyLetsIn ∷ Finding.FolderTakes
+    ∷ Finding.FolderBrings ∷ Finding.TextComesIn ∷ []
+all_findings = refl
+
+obstacles : filter is_obstacle every_finding
+    ≡ Finding.UnreadBlock ∷ Finding.Delta ∷ Finding.UnknownAction ∷ Finding.OddText ∷ []
+obstacles = refl
+
+alarms : filter is_alarm every_finding ≡ Finding.PropertiesLost ∷ Finding.CopyLoses ∷ Finding.CopyLetsIn
+    ∷ Finding.FolderTakes ∷ Finding.FolderBrings ∷ []
+alarms = refl
+
+-- more than one finding stands in this order
+
+three_found : in_node include_a (node (codes "p/a//g") (codes "add") (from (codes "q/g")))
+    ≡ Finding.OddText ∷ Finding.NoWholeFile ∷ Finding.PropertiesLost ∷ []
+three_found = refl
+
+unread_and_odd : findings_of include_a (node (codes "p/a/./g") (codes "rename") []) None
+    ≡ Finding.UnreadBlock ∷ Finding.UnknownAction ∷ Finding.OddText ∷ []
+unread_and_odd = refl
+
+-- the filter stops under exclude too, and under each action: a copy source counts for it wherever it stands
+
+excluded_folder : in_node exclude_a (node (codes "q/g") (codes "add") (from (codes "p/a/g")))
+    ≡ Finding.NoWholeFile ∷ Finding.PropertiesLost ∷ []
+excluded_folder = refl
+
+changed_from_left_out : in_node include_a (node (codes "p/a/g") (codes "change") (from (codes "q/g")))
+    ≡ Finding.NoWholeFile ∷ []
+changed_from_left_out = refl
+
+-- a kept file that stays a copy brings no text in
+text_of_kept : in_node exclude_a (node (codes "q/g") (codes "add") (whole_from (codes "q/f"))) ≡ []
+text_of_kept = refl
+
+-- a replaced file that becomes a plain one has the text of what is to be left out
+replaced_text : in_node exclude_a (node (codes "q/g") (codes "replace") (whole_from (codes "p/a/g")))
+    ≡ Finding.PropertiesLost ∷ Finding.TextComesIn ∷ []
+replaced_text = refl
+
+-- a copy lets in nothing below a path that isn't kept
+nothing_let_in : in_node (cut_by Exclude (codes "q" ∷ codes "q/b" ∷ []))
+    (node (codes "q") (codes "add") (from (codes "p"))) ≡ []
+nothing_let_in = refl
+
+-- a copy of what isn't kept loses its properties, and isn't compared with its source
+nothing_to_lose : in_node (cut_by Exclude (codes "p" ∷ codes "p/a" ∷ []))
+    (node (codes "q") (codes "add") (from (codes "p"))) ≡ Finding.NoWholeFile ∷ Finding.PropertiesLost ∷ []
+nothing_to_lose = refl
+
+-- under a change a copy source lets nothing in
+changed_with_source : in_node exclude_a (node (codes "p") (codes "change") (from (codes "q"))) ≡ []
+changed_with_source = refl
+
+-- a kept folder takes and brings what lies below it with it
+
+kept_folder_goes : in_node include_both (node (codes "p") (codes "delete") []) ≡ []
+kept_folder_goes = refl
+
+kept_folder_comes : in_node include_both (node (codes "p") (codes "add") (from (codes "p/x"))) ≡ []
+kept_folder_comes = refl
+
+-- a new folder above an included prefix brings nothing, and neither does a change with a copy source
+
+folder_added : in_node include_a (node (codes "p") (codes "add") (line (codes "Node-kind") (codes "dir") ∷ [])) ≡ []
+folder_added = refl
+
+folder_changed : in_node include_a (node (codes "p") (codes "change") (from (codes "q"))) ≡ []
+folder_changed = refl
+
+-- a folder that is replaced by a new one takes what is below it
+folder_replaced : in_node include_a (node (codes "p") (codes "replace") []) ≡ Finding.FolderTakes ∷ []
+folder_replaced = refl
+
+-- a folder far above the prefix counts too
+root_of_prefix : in_node (cut_by Include (codes "p/a/b" ∷ [])) (node (codes "p") (codes "delete") [])
+    ≡ Finding.FolderTakes ∷ []
+root_of_prefix = refl
+
+-- of a dump
+
+all_dump_findings : every_dump_finding ≡ DumpFinding.NoRevision ∷ DumpFinding.OtherNumbers ∷ DumpFinding.NodeInFirst
+    ∷ DumpFinding.NumbersLeft ∷ []
+all_dump_findings = refl
+
+-- a number that comes twice
+number_again : dump_findings include_a (version ∷ zero ∷ one ∷ one ∷ []) ≡ DumpFinding.OtherNumbers ∷ []
+number_again = refl
+
+-- nodes of later revisions don't count
+node_in_second : dump_findings include_a (version ∷ zero ∷ one ∷ trunk ∷ two ∷ []) ≡ []
+node_in_second = refl
+
+-- three of them in one dump: a node in its first revision, 1, and a dropped one behind it
+three_in_dump : dump_findings (record (cut_by Include (codes "trunk" ∷ [])) { empty = DropAll })
+    (version ∷ one ∷ trunk ∷ two ∷ [])
+    ≡ DumpFinding.OtherNumbers ∷ DumpFinding.NodeInFirst ∷ DumpFinding.NumbersLeft ∷ []
+three_in_dump = refl
+
+-- none of the findings of a dump's nodes
+
+none_of_none : none_is is_alarm ([] ∷ ([] ∷ []) ∷ []) ≡ true
+none_of_none = refl
+
+other_than_alarms : none_is is_alarm (((Finding.OddText ∷ []) ∷ []) ∷ []) ≡ true
+other_than_alarms = refl
+
+one_alarm : none_is is_alarm ([] ∷ ([] ∷ (Finding.OddText ∷ Finding.CopyLoses ∷ []) ∷ []) ∷ []) ≡ false
+one_alarm = refl

@@ -1,0 +1,51 @@
+-- The law of surveyed fronts, applied to the first two of the three revisions of the worked dump.
+use Rattle.std.proofs.Common.{◌≡◌, List, [], ◌∷◌, ◌++◌, length, refl, ap, arith}
+use Rattle.dump_filter.specs.Groups.{groups}
+use Rattle.dump_trees.specs.Trees.{Tree, root_alone}
+use Rattle.dump_trees.specs.Changes.{Change}
+use Rattle.dump_trees.specs.Quiet.{nowhere_is_over}
+use Rattle.dump_trees.specs.Revisions.{loaded_over}
+use Rattle.dump_history.specs.RecordChanges.{Patching}
+use Rattle.dump_history.specs.DumpLaws.{FrontLoadsRestricted}
+use Rattle.dump_history.specs.Findings.{Finding}
+use Rattle.dump_history.specs.SurveyLaws.{HaveFindings}
+use Rattle.dump_history.proofs.restricted.LoadsOnce.{later_once}
+use Rattle.dump_history.proofs.survey.SurveyLemmas.{surveyed_front}
+use Rattle.dump_history.proofs.values.WorkedDump.{records, dump, settings, revisions, first_tree, second_tree, loads}
+use Rattle.dump_history.proofs.values.WorkedFilter.{text, clean, lengths}
+use Rattle.dump_history.proofs.values.WorkedSurvey.{in_trunk, in_other, in_copy}
+
+-- two of three revisions are the first two
+two_of_three : (front rest : List (List Change)) (a b c : List Change)
+    → front ++ rest ≡ a ∷ b ∷ c ∷ [] → length front ≡ 2 → front ≡ a ∷ b ∷ []
+two_of_three [] rest a b c same two = absurd (let bad : 0 ≡ 2 = two in cc)
+two_of_three (x ∷ []) rest a b c same two = absurd (let bad : length (x ∷ []) ≡ 2 = two in cc)
+two_of_three (x ∷ y ∷ []) rest a b c same two =
+    let both : x ∷ y ∷ rest ≡ a ∷ b ∷ c ∷ [] = same in
+    let x_is : x ≡ a = cc in let y_is : y ≡ b = cc in cc
+two_of_three (x ∷ y ∷ z ∷ more) rest a b c same two =
+    absurd (let bad : length (x ∷ y ∷ z ∷ more) ≡ 2 = two in omega (arith, bad))
+
+-- what is found in the first two revisions behind revision 0, and in the third one
+abbrev before : List (List (List Finding))
+before = ([] ∷ []) ∷ ([] ∷ []) ∷ []
+
+abbrev behind : List (List (List Finding))
+behind = ([] ∷ []) ∷ []
+
+found : HaveFindings settings records ([] ∷ before ++ behind)
+found = (tt, ((in_trunk, tt), ((in_other, tt), ((in_copy, tt), tt))))
+
+-- the trees of the first two
+abbrev first_trees : List Tree
+first_trees = root_alone ∷ first_tree ∷ second_tree ∷ []
+
+-- so the law applies to them
+restricts : (patched : Patching) → FrontLoadsRestricted patched settings records first_trees text
+restricts patched =
+    let (front, rest, makes, two, law) =
+    surveyed_front patched settings dump text records [] before behind clean lengths refl found refl refl in
+    let same : front ++ rest ≡ revisions =
+    later_once patched (groups records) [] (front ++ rest) revisions makes.changes (loads patched).makes.changes in
+    let is : front ≡ _ = two_of_three front rest _ _ _ same two in
+    law first_trees (ap (loaded_over root_alone) is) (ap (nowhere_is_over settings (root_alone ∷ []) root_alone) is)

@@ -1,0 +1,57 @@
+-- The law of quiet dumps, applied to the worked dump.
+use Rattle.std.proofs.Common.{◌≡◌, List, [], Some, None, refl, ap, ◌∙◌, codes}
+use Rattle.dump_rules.specs.Renumbering.{image}
+use Rattle.dump_filter.specs.Groups.{kept_revisions}
+use Rattle.dump_trees.specs.Paths.{path_of}
+use Rattle.dump_trees.specs.Trees.{Node, Tree}
+use Rattle.dump_history.specs.RecordChanges.{Patching}
+use Rattle.dump_history.specs.DumpLaws.{LoadsRestricted}
+use Rattle.dump_history.proofs.restricted.FilteredLaw.{quiet_dump_restricts}
+use Rattle.std.specs.Prelude.{slice_get}
+use Rattle.dump_trees.specs.Restriction.{given, IsNewNode}
+use Rattle.dump_filter.specs.NewContent.{IsNewProperty}
+use Rattle.dump_history.proofs.values.WorkedDump.{records, dump, settings, revisions, trees, loads, third_tree}
+use Rattle.dump_history.proofs.values.WorkedFilter.{text, clean, lengths}
+
+-- the law applies: what is written loads over the root, and has the restricted trees
+restricts : (patched : Patching) → LoadsRestricted patched settings records trees text
+restricts patched =
+    quiet_dump_restricts patched settings dump text records revisions trees clean lengths refl (loads patched) refl refl
+
+-- revision 3 of the dump stands at 2, and dropped revision 2 at 1
+image_of_copy : image (kept_revisions settings records) 3 ≡ Some 2
+image_of_copy = refl
+
+image_of_dropped : image (kept_revisions settings records) 2 ≡ Some 1
+image_of_dropped = refl
+
+-- the copy stands in the whole dump's last tree, and so in the one that is loaded again
+copy_stands : third_tree (path_of (codes "trunk/b")) ≡ Some (Node.Folder [])
+copy_stands = refl
+
+other_stands : third_tree (path_of (codes "other")) ≡ Some (Node.Folder [])
+other_stands = refl
+
+-- what is given of the folder that is left out
+other_left : given settings (path_of (codes "other")) ≡ None
+other_left = refl
+
+-- every delta is refused
+abbrev refused : Patching
+refused delta old = None
+
+-- so in revision 2 of the repository that it is loaded into the copy stands, and what is left out doesn't
+in_revision_2 : (others : List Tree) × (tree : Tree) × (slice_get others 2 ≡ Some tree)
+    × IsNewNode (IsNewProperty settings (kept_revisions settings records)) (Some (Node.Folder []))
+    (tree (path_of (codes "trunk/b")))
+    × (tree (path_of (codes "other")) ≡ None)
+in_revision_2 =
+    let (again, written, others, has, loads_again, size, images, keep) = restricts refused in
+    let (new, tree, image_is, stands, restricted) = images 3 third_tree refl in
+    let at : 2 ≡ new = (let both : Some 2 ≡ Some new = image_is in cc) in (
+      others,
+      tree,
+      ap (slice_get others) at ∙ stands,
+      restricted.kept (path_of (codes "trunk/b")) refl,
+      restricted.left (path_of (codes "other")) refl,
+    )

@@ -1,0 +1,43 @@
+-- The law of surveyed dumps, applied to the worked dump: nothing is found in it.
+use Rattle.std.proofs.Common.{◌≡◌, List, [], ◌∷◌, Some, refl, ap, ◌∙◌}
+use Rattle.dump_filter.specs.Groups.{groups}
+use Rattle.dump_trees.specs.Trees.{root_alone}
+use Rattle.dump_trees.specs.Quiet.{nowhere_is_over}
+use Rattle.dump_trees.specs.Revisions.{loaded_over}
+use Rattle.dump_history.specs.RecordChanges.{Patching}
+use Rattle.dump_history.specs.DumpLaws.{LoadsRestricted}
+use Rattle.dump_history.specs.Findings.{Finding, AreFindingsOf}
+use Rattle.dump_history.specs.SurveyLaws.{HaveFindings}
+use Rattle.dump_history.proofs.restricted.LoadsOnce.{later_once}
+use Rattle.dump_history.proofs.survey.SurveyLemmas.{surveyed_dump}
+use Rattle.dump_history.proofs.values.WorkedDump.{records, dump, settings, trunk, other, copy, none_of, revisions, trees, loads}
+use Rattle.dump_history.proofs.values.WorkedFilter.{text, clean, lengths}
+
+-- nothing is found in any of its nodes, group by group
+abbrev nothing : List (List (List Finding))
+nothing = [] ∷ ([] ∷ []) ∷ ([] ∷ []) ∷ ([] ∷ []) ∷ []
+
+-- nothing is found in the kept folder
+pub in_trunk : AreFindingsOf settings trunk []
+in_trunk = (Some [], none_of trunk refl, refl)
+
+-- nothing is found in the dropped folder
+pub in_other : AreFindingsOf settings other []
+in_other = (Some [], none_of other refl, refl)
+
+-- nothing is found in the copy
+pub in_copy : AreFindingsOf settings copy []
+in_copy = (Some [], none_of copy refl, refl)
+
+none_found : HaveFindings settings records nothing
+none_found = (tt, ((in_trunk, tt), ((in_other, tt), ((in_copy, tt), tt))))
+
+-- so the law applies: the revisions that the survey's law speaks of are those of the dump
+restricts : (patched : Patching) → LoadsRestricted patched settings records trees text
+restricts patched =
+    let (found, made, law) =
+    surveyed_dump patched settings dump text records nothing clean lengths refl none_found refl refl in
+    let same : found ≡ revisions =
+    later_once patched (groups records) [] found revisions made.changes (loads patched).makes.changes in
+    law trees (ap (loaded_over root_alone) same ∙ (loads patched).loads)
+    (ap (nowhere_is_over settings (root_alone ∷ []) root_alone) same)

@@ -1,0 +1,179 @@
+-- The law of filtered dumps: what is written, loaded over the given folders, has the trees that the whole dump has,
+-- restricted to the kept paths.
+use Rattle.std.specs.Prelude.{◌≡◌, ℕ, Bool, not, ◌&&◌, ◌||◌, List, [], ◌∷◌, ◌++◌, length, drop, take, filter, Option, Some, None, IsTrue}
+use Rattle.std.specs.List.{AllZip, list_all, list_any}
+use Rattle.dump_text.specs.PropertyList.{Property}
+use Rattle.dump_records.specs.DumpText.{Ending, HasRecords}
+use Rattle.dump_records.specs.RecordText.{DumpRecord}
+use Rattle.dump_rules.specs.Settings.{Settings}
+use Rattle.dump_rules.specs.Renumbering.{image}
+use Rattle.dump_digest.specs.RecordParts.{is_mergeinfo, HasPropertyList}
+use Rattle.dump_filter.specs.FilterLaws.{LengthsFit}
+use Rattle.dump_filter.specs.Groups.{Group, groups, keeps_group, is_padded, kept_revisions}
+use Rattle.dump_filter.specs.NewContent.{IsNewProperty, revision_properties}
+use Rattle.dump_filter.specs.WholeText.{IsCleanText}
+use Rattle.dump_trees.specs.Paths.{keeps}
+use Rattle.dump_trees.specs.Trees.{Tree, root_alone}
+use Rattle.dump_trees.specs.Changes.{PropertyChange, Change}
+use Rattle.dump_trees.specs.Restriction.{given}
+use Rattle.dump_trees.specs.Quiet.{are_quiet, nowhere_is_over}
+use Rattle.dump_trees.specs.Revisions.{loaded, loaded_over, AllRevisionsSeparate}
+use Rattle.dump_trees.specs.MovedLaws.{revisions_behind}
+use Rattle.dump_trees.specs.HistoryLaws.{ImagesRestrict}
+use Rattle.dump_history.specs.RecordChanges.{Patching}
+use Rattle.dump_history.specs.DumpChanges.{MakeRevisions, HaveRevisionProperties, LoadsAs}
+
+-- whether the numbers of a dump numbered 0, 1, 2 and so on are so again where it is filtered: revisions are renumbered,
+-- or none is dropped
+abbrev pub keeps_numbering : Settings → List DumpRecord → Bool
+keeps_numbering settings records = settings.renumber || list_all (keeps_group settings) (groups records)
+
+-- the trees at the images of the dump's numbers are its trees, restricted
+abbrev pub TreesRestrict : Settings → List DumpRecord → List Tree → List Tree → Type 0
+TreesRestrict settings records trees others =
+    ImagesRestrict settings (IsNewProperty settings (kept_revisions settings records))
+    (image (kept_revisions settings records)) trees others
+
+-- the properties of a revision and of what is written of it: its own, or those of an empty revision where it is padded
+abbrev pub KeepsProperties : Settings → Group → Group → Type 0
+KeepsProperties settings g h = (ps : List Property) × HasPropertyList g.revision ps
+    × HasPropertyList h.revision (revision_properties (is_padded settings g) ps)
+
+-- so for each kept revision, in order, revision 0 too. They are told as the property lists that stand in the two dumps;
+-- a load takes the last of two entries of one name, and reads a name up to a zero byte
+abbrev pub RevisionsKeepProperties : Settings → List DumpRecord → List DumpRecord → Type 0
+RevisionsKeepProperties settings records again =
+    AllZip (KeepsProperties settings) (filter (keeps_group settings) (groups records)) (groups again)
+
+-- the text is a dump that loads into a repository whose revision 0 has the given folders: it makes a revision for each
+-- kept one of these records, with its properties, and the trees are these trees, restricted
+abbrev pub LoadsRestricted : Patching → Settings → List DumpRecord → List Tree → List ℕ → Type 0
+LoadsRestricted patched settings records trees text =
+    (again : List DumpRecord) × (written : List (List Change)) × (others : List Tree)
+    × HasRecords text again Ending.Whole
+    × LoadsAs patched (given settings) again written others
+    × (length others ≡ length (kept_revisions settings records).numbers)
+    × TreesRestrict settings records trees others
+    × RevisionsKeepProperties settings records again
+
+-- a dump that loads, and whose changes the filter's cut separates: what the filter writes of it loads, and has the
+-- restricted trees
+abbrev pub FilteredDumpRestricts : Type 0
+FilteredDumpRestricts = (patched : Patching) (settings : Settings) (dump text : List ℕ) (records : List DumpRecord)
+    (revisions : List (List Change)) (trees : List Tree) →
+    IsCleanText settings dump records text → LengthsFit settings records
+    → IsTrue (keeps_numbering settings records)
+    → LoadsAs patched root_alone records revisions trees
+    → AllRevisionsSeparate settings (root_alone ∷ []) root_alone revisions
+    → LoadsRestricted patched settings records trees text
+
+-- the same of a dump of which no change gives an alarm, and which makes no copy that loses its source over something
+abbrev pub QuietDumpRestricts : Type 0
+QuietDumpRestricts = (patched : Patching) (settings : Settings) (dump text : List ℕ) (records : List DumpRecord)
+    (revisions : List (List Change)) (trees : List Tree) →
+    IsCleanText settings dump records text → LengthsFit settings records
+    → IsTrue (keeps_numbering settings records)
+    → LoadsAs patched root_alone records revisions trees
+    → IsTrue (are_quiet settings revisions)
+    → IsTrue (nowhere_is_over settings (root_alone ∷ []) root_alone revisions)
+    → LoadsRestricted patched settings records trees text
+
+-- what is written begins with what is written of the first revisions, those of these trees; this part loads over the
+-- given folders, with a revision for each kept one of them, and the tree at the image of each of their numbers is the
+-- restricted tree
+abbrev pub FrontLoadsRestricted : Patching → Settings → List DumpRecord → List Tree → List ℕ → Type 0
+FrontLoadsRestricted patched settings records trees text =
+    (again : List DumpRecord) × (first more : List (List Change)) × (others : List Tree)
+    × HasRecords text again Ending.Whole
+    × MakeRevisions patched again (first ++ more)
+    × (loaded_over (given settings) first ≡ Some others)
+    × (length others ≡ length (filter (keeps_group settings) (take (length trees) (groups records))))
+    × TreesRestrict settings records trees others
+    × RevisionsKeepProperties settings records again
+
+-- a dump whose first revisions load and are separated. Those behind them make changes too, of which no more is asked:
+-- they needn't load, nor be separated
+abbrev pub FilteredDumpFrontRestricts : Type 0
+FilteredDumpFrontRestricts = (patched : Patching) (settings : Settings) (dump text : List ℕ) (records : List DumpRecord)
+    (front rest : List (List Change)) (trees : List Tree) →
+    IsCleanText settings dump records text → LengthsFit settings records
+    → IsTrue (keeps_numbering settings records)
+    → MakeRevisions patched records (front ++ rest) → loaded_over root_alone front ≡ Some trees
+    → AllRevisionsSeparate settings (root_alone ∷ []) root_alone front
+    → FrontLoadsRestricted patched settings records trees text
+
+-- the same where no change of the first revisions gives an alarm, and none of their copies that lose their source is
+-- made over something
+abbrev pub QuietDumpFrontRestricts : Type 0
+QuietDumpFrontRestricts = (patched : Patching) (settings : Settings) (dump text : List ℕ) (records : List DumpRecord)
+    (front rest : List (List Change)) (trees : List Tree) →
+    IsCleanText settings dump records text → LengthsFit settings records
+    → IsTrue (keeps_numbering settings records)
+    → MakeRevisions patched records (front ++ rest) → loaded_over root_alone front ≡ Some trees
+    → IsTrue (are_quiet settings front)
+    → IsTrue (nowhere_is_over settings (root_alone ∷ []) root_alone front)
+    → FrontLoadsRestricted patched settings records trees text
+
+-- a dump has one list of records, revisions, properties of revisions, and trees
+abbrev pub DumpLoadsOnce : Type 0
+DumpLoadsOnce = (patched : Patching) (first : Tree) (dump : List ℕ) (records others : List DumpRecord)
+    (revisions more : List (List Change)) (trees others_trees : List Tree) (props others_props : List (List Property)) →
+    HasRecords dump records Ending.Whole → HasRecords dump others Ending.Whole
+    → LoadsAs patched first records revisions trees → LoadsAs patched first others more others_trees
+    → HaveRevisionProperties records props → HaveRevisionProperties others others_props
+    → (others ≡ records) × (more ≡ revisions) × (others_trees ≡ trees) × (others_props ≡ props)
+
+-- the entries that a change of properties sets or takes away
+abbrev pub entries_of : Option PropertyChange → List Property
+entries_of None = []
+entries_of (Some (PropertyChange.Replaced entries)) = entries
+entries_of (Some (PropertyChange.Edited entries)) = entries
+
+-- whether the change sets mergeinfo
+abbrev pub sets_mergeinfo : Change → Bool
+sets_mergeinfo c = list_any is_mergeinfo (entries_of c.props)
+
+-- whether no change sets mergeinfo
+abbrev pub sets_no_mergeinfo : List (List Change) → Bool
+sets_no_mergeinfo revisions = list_all (λ changes. not (list_any sets_mergeinfo changes)) revisions
+
+-- whether no kept change does
+abbrev pub keeps_no_mergeinfo : Settings → List (List Change) → Bool
+keeps_no_mergeinfo settings revisions = list_all
+    (λ changes. not (list_any (λ (c : Change). keeps settings c.path && sets_mergeinfo c) changes)) revisions
+
+-- behind older revisions, the last of which has the first tree, a dump that sets no mergeinfo makes the same trees; the
+-- load raises the numbers of its copies by as many. Numbers in mergeinfo it raises too, which isn't told here
+abbrev pub DumpLoadsTheSameBehindOthers : Type 0
+DumpLoadsTheSameBehindOthers = (patched : Patching) (older : List Tree) (first : Tree) (records : List DumpRecord)
+    (revisions : List (List Change)) (trees : List Tree) →
+    LoadsAs patched first records revisions trees → IsTrue (sets_no_mergeinfo revisions)
+    → loaded (older ++ first ∷ []) first (revisions_behind (length older) revisions) ≡ Some (older ++ trees)
+
+-- an administrator has made the given folders in revision 1 of a new repository, and loads the text behind it: it
+-- makes a revision for each kept one of these records but the first, whose properties are lost, and the trees behind
+-- revision 0 are these trees, restricted. So each image stands at a number that is higher by one
+abbrev pub LoadsBehindFolders : Patching → Settings → List DumpRecord → List Tree → List ℕ → Type 0
+LoadsBehindFolders patched settings records trees text =
+    (again : List DumpRecord) × (written : List (List Change)) × (others : List Tree)
+    × HasRecords text again Ending.Whole
+    × MakeRevisions patched again written
+    × (loaded (root_alone ∷ given settings ∷ []) (given settings) (revisions_behind 1 written)
+    ≡ Some (root_alone ∷ others))
+    × (length others ≡ length (kept_revisions settings records).numbers)
+    × TreesRestrict settings records trees others
+    × AllZip (KeepsProperties settings) (drop 1 (filter (keeps_group settings) (groups records)))
+    (drop 1 (groups again))
+
+-- so does a dump of which no kept change sets mergeinfo, no change gives an alarm, and no copy that loses its source is
+-- made over something
+abbrev pub QuietDumpRestrictsBehindFolders : Type 0
+QuietDumpRestrictsBehindFolders = (patched : Patching) (settings : Settings) (dump text : List ℕ)
+    (records : List DumpRecord) (revisions : List (List Change)) (trees : List Tree) →
+    IsCleanText settings dump records text → LengthsFit settings records
+    → IsTrue (keeps_numbering settings records)
+    → LoadsAs patched root_alone records revisions trees
+    → IsTrue (are_quiet settings revisions)
+    → IsTrue (nowhere_is_over settings (root_alone ∷ []) root_alone revisions)
+    → IsTrue (keeps_no_mergeinfo settings revisions)
+    → LoadsBehindFolders patched settings records trees text

@@ -1,0 +1,160 @@
+-- What a survey finds in a dump before it is filtered: where the loaded repository may not be the one that is meant. A
+-- program can tell all of it in one pass, node by node, by header lines, properties and prefixes alone; no text of a
+-- file and no tree is asked for, so what is found may do no harm: nothing may stand where a prefix points.
+use Rattle.std.specs.Prelude.{◌≡◌, ℕ, Bool, true, false, not, ◌&&◌, ◌==◌, List, [], ◌∷◌, length, filter, Option, Some, None, unwrap_or, is_none}
+use Rattle.dump_text.specs.Names.{property_length_name}
+use Rattle.dump_text.specs.HeaderLine.{has_header}
+use Rattle.dump_text.specs.PropertyList.{Property}
+use Rattle.dump_records.specs.RecordText.{DumpRecord}
+use Rattle.dump_rules.specs.declared.options.Side.{Side}
+use Rattle.dump_rules.specs.declared.options.Side.TheVariants.{Include, Exclude}
+use Rattle.dump_rules.specs.Settings.{Settings, keeps_path}
+use Rattle.dump_digest.specs.RecordParts.{is_copy, node_path, has_lost_source, HasPropertyList, HasPropertyBlock}
+use Rattle.dump_filter.specs.Groups.{Group, groups, revision_numbers, is_bare}
+use Rattle.dump_filter.specs.NewHeaders.{is_whole_file, becomes_plain}
+use Rattle.dump_trees.specs.Paths.{path_of}
+use Rattle.dump_trees.specs.Restriction.{is_above_some}
+use Rattle.dump_trees.specs.Quiet.{cuts_alike}
+use Rattle.dump_history.specs.RecordChanges.{copy_path, deletes, makes, has_known_action, has_odd_delta, has_plain_texts}
+use Rattle.dump_history.specs.DumpChanges.{counts_from}
+use Rattle.dump_history.specs.DumpLaws.{keeps_numbering}
+
+-- what can be found in a node
+pub data Finding : Type 0 where
+  -- its property block can't be read
+  UnreadBlock : Finding
+  -- it says that its properties or its text are a delta, where version 3 isn't in force, be there any or not
+  Delta : Finding
+  -- it has no action, or an unknown one
+  UnknownAction : Finding
+  -- the load reads a text of it otherwise than it stands
+  OddText : Finding
+  -- the filter stops: it is a kept copy without its source, and no whole file
+  NoWholeFile : Finding
+  -- a kept copy without its source sets no properties, so those of the source may be lost
+  PropertiesLost : Finding
+  -- a kept copy of a kept path, below which something is left out that is kept below the copy: it may lack that
+  CopyLoses : Finding
+  -- a kept copy of a kept path, below which something is kept that is to be left out below the copy: it may let that in
+  CopyLetsIn : Finding
+  -- a left-out folder above a prefix is deleted, and may take with it what is kept below it
+  FolderTakes : Finding
+  -- a left-out folder above a prefix is a copy, and may bring what is kept below it
+  FolderBrings : Finding
+  -- a kept file is a copy of one that is to be left out, and its text comes from it, perhaps edited
+  TextComesIn : Finding
+
+-- each of them, in order
+abbrev pub every_finding : List Finding
+every_finding = Finding.UnreadBlock ∷ Finding.Delta ∷ Finding.UnknownAction ∷ Finding.OddText
+    ∷ Finding.NoWholeFile ∷ Finding.PropertiesLost ∷ Finding.CopyLoses ∷ Finding.CopyLetsIn ∷ Finding.FolderTakes
+    ∷ Finding.FolderBrings ∷ Finding.TextComesIn ∷ []
+
+-- whether the node's path is kept
+abbrev pub has_kept_path : Settings → DumpRecord → Bool
+has_kept_path settings r = keeps_path settings (node_path r)
+
+-- whether the path that the node is copied from is kept
+abbrev pub has_kept_source : Settings → DumpRecord → Bool
+has_kept_source settings r = keeps_path settings (copy_path r)
+
+-- whether the node makes a copy; under the actions that make nothing a copy source doesn't count
+abbrev pub makes_copy : DumpRecord → Bool
+makes_copy r = makes r && is_copy r
+
+-- whether a prefix cuts below the one path what is kept below the other
+abbrev pub cuts : Settings → List ℕ → List ℕ → Bool
+cuts settings path other = not (cuts_alike settings.side settings (path_of path) (path_of other))
+
+-- whether a prefix lies below the node's path, where prefixes are included
+abbrev pub is_above_prefix : Settings → DumpRecord → Bool
+is_above_prefix settings r = is_above_some settings.side settings.prefixes (path_of (node_path r))
+
+-- whether prefixes are excluded
+abbrev pub is_exclude : Side → Bool
+is_exclude Include = false
+is_exclude Exclude = true
+
+-- whether this is found in the node; the properties are those of its block, none where that can't be read
+abbrev pub is_found : Settings → DumpRecord → Option (List Property) → Finding → Bool
+is_found settings r ps Finding.UnreadBlock = is_none ps
+is_found settings r ps Finding.Delta = has_odd_delta r
+is_found settings r ps Finding.UnknownAction = not (has_known_action r)
+is_found settings r ps Finding.OddText = not (has_plain_texts r (unwrap_or ps []))
+is_found settings r ps Finding.NoWholeFile =
+    has_kept_path settings r && has_lost_source settings r && not (is_whole_file r)
+is_found settings r ps Finding.PropertiesLost =
+    has_kept_path settings r && makes_copy r && not (has_kept_source settings r)
+    && not (has_header property_length_name r.headers)
+is_found settings r ps Finding.CopyLoses =
+    has_kept_path settings r && makes_copy r && has_kept_source settings r && cuts settings (copy_path r) (node_path r)
+is_found settings r ps Finding.CopyLetsIn =
+    has_kept_path settings r && makes_copy r && has_kept_source settings r && cuts settings (node_path r) (copy_path r)
+is_found settings r ps Finding.FolderTakes =
+    not (has_kept_path settings r) && deletes r && is_above_prefix settings r
+is_found settings r ps Finding.FolderBrings =
+    not (has_kept_path settings r) && makes_copy r && is_above_prefix settings r
+is_found settings r ps Finding.TextComesIn =
+    is_exclude settings.side && has_kept_path settings r && makes r && becomes_plain settings r
+
+-- what is found in the node, in order
+abbrev pub findings_of : Settings → DumpRecord → Option (List Property) → List Finding
+findings_of settings r ps = filter (λ f. is_found settings r ps f) every_finding
+
+-- these are the node's properties; none is said where its block can't be read
+abbrev pub IsReadBlock : DumpRecord → Option (List Property) → Type 0
+IsReadBlock r None = ¬ HasPropertyBlock r
+IsReadBlock r (Some ps) = HasPropertyList r ps
+
+-- this is what is found in the node
+abbrev pub AreFindingsOf : Settings → DumpRecord → List Finding → Type 0
+AreFindingsOf settings r found = (ps : Option (List Property)) × IsReadBlock r ps × (found ≡ findings_of settings r ps)
+
+-- whether a node with the finding makes no change that the definitions tell
+abbrev pub is_obstacle : Finding → Bool
+is_obstacle Finding.UnreadBlock = true
+is_obstacle Finding.Delta = true
+is_obstacle Finding.UnknownAction = true
+is_obstacle Finding.OddText = true
+is_obstacle _ = false
+
+-- whether the finding is an alarm: the filter's cut may not separate the node's change
+abbrev pub is_alarm : Finding → Bool
+is_alarm Finding.PropertiesLost = true
+is_alarm Finding.CopyLoses = true
+is_alarm Finding.CopyLetsIn = true
+is_alarm Finding.FolderTakes = true
+is_alarm Finding.FolderBrings = true
+is_alarm _ = false
+
+-- what can be found in a dump as a whole
+pub data DumpFinding : Type 0 where
+  -- it has no revision
+  NoRevision : DumpFinding
+  -- its revisions aren't numbered 0, 1, 2 and so on
+  OtherNumbers : DumpFinding
+  -- its first revision has a node
+  NodeInFirst : DumpFinding
+  -- a revision is dropped, and the others aren't renumbered, be there copies behind it or not
+  NumbersLeft : DumpFinding
+
+-- each of them, in order
+abbrev pub every_dump_finding : List DumpFinding
+every_dump_finding =
+    DumpFinding.NoRevision ∷ DumpFinding.OtherNumbers ∷ DumpFinding.NodeInFirst ∷ DumpFinding.NumbersLeft ∷ []
+
+-- whether the first group, if there is one, has a node
+abbrev pub first_has_node : List Group → Bool
+first_has_node [] = false
+first_has_node (g ∷ gs) = not (is_bare g)
+
+-- whether this is found in the dump
+abbrev pub is_found_in_dump : Settings → List DumpRecord → DumpFinding → Bool
+is_found_in_dump settings records DumpFinding.NoRevision = length (groups records) == 0
+is_found_in_dump settings records DumpFinding.OtherNumbers = not (counts_from 0 (revision_numbers records))
+is_found_in_dump settings records DumpFinding.NodeInFirst = first_has_node (groups records)
+is_found_in_dump settings records DumpFinding.NumbersLeft = not (keeps_numbering settings records)
+
+-- what is found in the dump, in order
+abbrev pub dump_findings : Settings → List DumpRecord → List DumpFinding
+dump_findings settings records = filter (λ f. is_found_in_dump settings records f) every_dump_finding

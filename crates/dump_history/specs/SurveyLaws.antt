@@ -1,0 +1,72 @@
+-- The laws of the survey: where nothing is found, the law of filtered dumps has its premise.
+use Rattle.std.specs.Prelude.{◌≡◌, ℕ, Bool, not, List, [], ◌∷◌, ◌++◌, length, Option, Some, IsTrue, IsFalse}
+use Rattle.std.specs.List.{AllZip, list_all, list_any}
+use Rattle.dump_text.specs.PropertyList.{Property}
+use Rattle.dump_records.specs.RecordText.{DumpRecord}
+use Rattle.dump_rules.specs.Settings.{Settings}
+use Rattle.dump_filter.specs.FilterLaws.{LengthsFit}
+use Rattle.dump_filter.specs.Groups.{Group, groups}
+use Rattle.dump_filter.specs.WholeText.{IsCleanText}
+use Rattle.dump_trees.specs.Trees.{Tree, root_alone}
+use Rattle.dump_trees.specs.Changes.{Change}
+use Rattle.dump_trees.specs.Quiet.{is_quiet, nowhere_is_over}
+use Rattle.dump_trees.specs.Revisions.{loaded_over}
+use Rattle.dump_history.specs.RecordChanges.{Patching, MakesChange}
+use Rattle.dump_history.specs.DumpChanges.{MakeRevisions}
+use Rattle.dump_history.specs.DumpLaws.{LoadsRestricted, FrontLoadsRestricted}
+use Rattle.dump_history.specs.Findings.{Finding, findings_of, IsReadBlock, AreFindingsOf, is_obstacle, is_alarm, dump_findings}
+
+-- each node has one list of findings
+abbrev pub FindingsAreOnce : Type 0
+FindingsAreOnce = (settings : Settings) (r : DumpRecord) →
+    (found : List Finding) × AreFindingsOf settings r found
+    × ((others : List Finding) → AreFindingsOf settings r others → others ≡ found)
+
+-- a node in which no obstacle is found makes a change, and no other node does
+abbrev pub ObstaclesAreExact : Type 0
+ObstaclesAreExact = (patched : Patching) (settings : Settings) (r : DumpRecord) (ps : Option (List Property))
+    → IsReadBlock r ps
+    → (IsFalse (list_any is_obstacle (findings_of settings r ps)) → (c : Change) × MakesChange patched r c)
+    × ((c : Change) → MakesChange patched r c → IsFalse (list_any is_obstacle (findings_of settings r ps)))
+
+-- a node's change is quiet exactly where no alarm is found in the node
+abbrev pub AlarmsAreExact : Type 0
+AlarmsAreExact = (patched : Patching) (settings : Settings) (r : DumpRecord) (ps : Option (List Property))
+    (c : Change) → IsReadBlock r ps
+    → MakesChange patched r c → is_quiet settings c ≡ not (list_any is_alarm (findings_of settings r ps))
+
+-- this is what is found in the dump's nodes, group by group
+abbrev pub HaveFindings : Settings → List DumpRecord → List (List (List Finding)) → Type 0
+HaveFindings settings records found =
+    AllZip (λ (g : Group) fs. AllZip (AreFindingsOf settings) g.nodes fs) (groups records) found
+
+-- whether none of the findings is of this kind
+abbrev pub none_is : (Finding → Bool) → List (List (List Finding)) → Bool
+none_is test found = list_all (λ fs. list_all (λ node. not (list_any test node)) fs) found
+
+-- where the filter's answer is clean, and the survey finds nothing in the dump, and no obstacle and no alarm in its
+-- nodes: the dump makes revisions, and if it loads and makes no copy that loses its source over something, what is
+-- written of it has the restricted trees
+abbrev pub SurveyedDumpRestricts : Type 0
+SurveyedDumpRestricts = (patched : Patching) (settings : Settings) (dump text : List ℕ) (records : List DumpRecord)
+    (found : List (List (List Finding))) →
+    IsCleanText settings dump records text → LengthsFit settings records
+    → dump_findings settings records ≡ [] → HaveFindings settings records found
+    → IsTrue (none_is is_obstacle found) → IsTrue (none_is is_alarm found)
+    → (revisions : List (List Change)) × MakeRevisions patched records revisions
+    × ((trees : List Tree) → loaded_over root_alone revisions ≡ Some trees
+    → IsTrue (nowhere_is_over settings (root_alone ∷ []) root_alone revisions)
+    → LoadsRestricted patched settings records trees text)
+
+-- the same of the first revisions where only behind them alarms are found; the first list is what is found in
+-- revision 0
+abbrev pub SurveyedDumpFrontRestricts : Type 0
+SurveyedDumpFrontRestricts = (patched : Patching) (settings : Settings) (dump text : List ℕ) (records : List DumpRecord)
+    (first : List (List Finding)) (found behind : List (List (List Finding))) →
+    IsCleanText settings dump records text → LengthsFit settings records
+    → dump_findings settings records ≡ [] → HaveFindings settings records (first ∷ found ++ behind)
+    → IsTrue (none_is is_obstacle (found ++ behind)) → IsTrue (none_is is_alarm found)
+    → (front rest : List (List Change)) × MakeRevisions patched records (front ++ rest) × (length front ≡ length found)
+    × ((trees : List Tree) → loaded_over root_alone front ≡ Some trees
+    → IsTrue (nowhere_is_over settings (root_alone ∷ []) root_alone front)
+    → FrontLoadsRestricted patched settings records trees text)

@@ -1,0 +1,5 @@
+pub mod paths
+pub mod changes
+pub mod histories
+pub mod quiet
+pub mod values

@@ -1,0 +1,98 @@
+-- The changes of a revision.
+use Rattle.std.proofs.Common.{◌≡◌, Bool, true, false, List, [], ◌∷◌, Option, Some, None, option_and_then, refl, sym, subst, MatchBool}
+use Rattle.std.specs.List.{list_any}
+use Rattle.std.proofs.lemmas.Bool.{MatchBool-at_true, MatchBool-at_false, or_parts}
+use Rattle.dump_rules.specs.Settings.{Settings}
+use Rattle.dump_trees.specs.Paths.{keeps}
+use Rattle.dump_trees.specs.Trees.{Tree, HasFolders}
+use Rattle.dump_trees.specs.Changes.{Change, History, step, steps}
+use Rattle.dump_trees.specs.Restriction.{NewProperty, KeepsEntries, NewNumber, IsRestricted, IsNewChange}
+use Rattle.dump_trees.specs.StepLaws.{AllHaveFolders, AreRestricted, IsMade, IsRenumbered}
+use Rattle.dump_trees.specs.Revisions.{AreNewChanges, AllSeparate}
+use Rattle.dump_trees.specs.HistoryLaws.{EachRevisionRestricts}
+use Rattle.dump_trees.proofs.changes.StageLemmas.{Follows}
+use Rattle.dump_trees.proofs.changes.StepLemmas.{followed, change_follows, dropped_step}
+use Rattle.dump_trees.proofs.changes.FolderLemmas.{KeepsFolders, step_keeps}
+
+-- the changes of a revision keep folders
+pub steps_keep : (history : History) → AllHaveFolders history → (changes : List Change) (tree : Tree) → HasFolders tree
+    → KeepsFolders (steps history tree changes)
+steps_keep history all [] tree folders = folders
+steps_keep history all (c ∷ changes) tree folders =
+    cases (steps_keep history all changes) (step history tree c) (step_keeps history all tree c folders)
+  where
+    cases : ((t : Tree) → HasFolders t → KeepsFolders (steps history t changes)) → (o : Option Tree) → KeepsFolders o
+        → KeepsFolders (option_and_then (λ t. steps history t changes) o)
+    cases further None has = tt
+    cases further (Some t) has = further t has
+
+module _ (settings : Settings) (IsNew : NewProperty) (IsNumber : NewNumber) (entries : KeepsEntries IsNew)
+    (history others : History)
+    (all : AllHaveFolders history) (same : AreRestricted settings IsNew IsNumber history others) where
+  -- what follows a tree that there is, is there
+  follows_there : (old : Tree) (o : Option Tree) (f : Tree → Option Tree) (whole : Option Tree)
+      → Follows settings IsNew (Some old) o
+      → ((new : Tree) → IsRestricted settings IsNew old new → Follows settings IsNew whole (f new))
+      → Follows settings IsNew whole (option_and_then f o)
+  follows_there old None f whole first then = absurd first
+  follows_there old (Some new) f whole first then = then new first
+
+  -- what is shown of the changes behind a change
+  abbrev Further : List Change → Type 0
+  Further changes = (rest : List Change) (t u : Tree) → HasFolders t → IsRestricted settings IsNew t u
+      → AllSeparate settings history t changes → AreNewChanges settings IsNew IsNumber changes rest
+      → Follows settings IsNew (steps history t changes) (steps others u rest)
+
+  -- the changes of a revision, one after the other
+  pub steps_follow : (changes written : List Change) (before restricted : Tree) → HasFolders before
+      → IsRestricted settings IsNew before restricted → AllSeparate settings history before changes
+      → AreNewChanges settings IsNew IsNumber changes written
+      → Follows settings IsNew (steps history before changes) (steps others restricted written)
+  steps_follow [] written before restricted folders r apart new =
+      subst (λ w. Follows settings IsNew (Some before) (steps others restricted w)) (sym new) r
+  steps_follow (c ∷ changes) written before restricted folders r apart new =
+      cases (steps_follow changes) (step history before c) refl (step_keeps history all before c folders)
+    where
+      sides : Further changes → (after : Tree) → step history before c ≡ Some after → HasFolders after → (b : Bool)
+          → keeps settings c.path ≡ b
+          → Follows settings IsNew (steps history after changes) (steps others restricted written)
+      sides further after at has true kept =
+          let parts = MatchBool-at_true _ _ kept new in
+          let first =
+          change_follows settings IsNew IsNumber entries history others before after restricted c parts.0 all same
+          folders r (apart after at).0 kept parts.3 in
+          subst (λ w. Follows settings IsNew (steps history after changes) (steps others restricted w)) (sym parts.2)
+          (follows_there after (step others restricted parts.0) (λ u. steps others u parts.1)
+          (steps history after changes)
+          (subst (λ o. Follows settings IsNew o (step others restricted parts.0)) at first)
+          (λ u s. further parts.1 after u has s (apart after at).1 parts.4))
+      sides further after at has false left =
+          further written after restricted has
+          (dropped_step settings IsNew history before after restricted c r at (apart after at).0 left)
+          (apart after at).1
+          (MatchBool-at_false _ _ left new)
+
+      cases : Further changes → (o : Option Tree) → step history before c ≡ o → KeepsFolders o
+          → Follows settings IsNew (option_and_then (λ t. steps history t changes) o) (steps others restricted written)
+      cases further None at has = tt
+      cases further (Some after) at has = sides further after at has (keeps settings c.path) refl
+
+  -- of changes none of which is kept nothing is written
+  pub none_written : (changes : List Change) → list_any (λ (c : Change). keeps settings c.path) changes ≡ false
+      → AreNewChanges settings IsNew IsNumber changes []
+  none_written [] none = refl
+  none_written (c ∷ changes) none =
+      let parts = or_parts (keeps settings c.path) (list_any (λ (d : Change). keeps settings d.path) changes) none in
+      subst (λ b. MatchBool b ((new : Change) × (rest : List Change) × ([] ≡ new ∷ rest)
+      × IsNewChange settings IsNew IsNumber c new × AreNewChanges settings IsNew IsNumber changes rest)
+      (AreNewChanges settings IsNew IsNumber changes [])) (sym parts.0) (none_written changes parts.1)
+
+-- the law of a revision, as the contract states it
+pub each_revision : EachRevisionRestricts
+each_revision settings make renumber entries history others before after restricted changes written all same folders
+    r at
+    apart new =
+    followed settings (IsMade make) (steps history before changes) (steps others restricted written)
+    (steps_follow settings (IsMade make) (IsRenumbered renumber)
+    entries history others all same changes written before restricted
+    folders r apart new) after at

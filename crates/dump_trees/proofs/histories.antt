@@ -1,0 +1,5 @@
+-- Whole histories, their first revisions, and a load behind others.
+pub mod KeptNumbers
+pub mod HistoryLemmas
+pub mod FrontLemmas
+pub mod MovedLemmas

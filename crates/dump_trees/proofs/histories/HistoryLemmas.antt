@@ -1,0 +1,387 @@
+-- A whole history: what holds after each revision, and so at the end.
+use Rattle.std.proofs.Common.{◌≡◌, ℕ, zero, suc, Bool, true, false, ◌&&◌, List, [], ◌∷◌, ◌++◌, length, Option, Some, None, option_and_then, cond, IsTrue, MatchBool, refl, sym, ap, ◌∙◌, subst, inl, inr, not, arith, append-nil, append_assoc}
+use Rattle.std.specs.Prelude.{slice_get}
+use Rattle.std.specs.List.{list_any, list_all}
+use Rattle.std.proofs.lemmas.Bool.{MatchBool-at_true, MatchBool-at_false, both_ways, and_parts, or_parts, or_cases}
+use Rattle.dump_rules.specs.Settings.{Settings}
+use Rattle.dump_rules.specs.Renumbering.{KeptRevisions, image}
+use Rattle.dump_trees.specs.Paths.{NodePath, keeps}
+use Rattle.dump_trees.specs.Trees.{Node, Tree, HasFolders, root_alone}
+use Rattle.dump_trees.specs.Changes.{Change, steps}
+use Rattle.dump_trees.specs.Restriction.{is_above_some, given, NewProperty, KeepsEntries, IsNewNode, IsRestricted}
+use Rattle.dump_trees.specs.StepLaws.{AllHaveFolders, AreRestricted, IsMade}
+use Rattle.dump_trees.specs.Revisions.{loaded, loaded_over, AreNewChanges, EmptyRule, keeps_revision, stays_numbered, AreNewRevisions, kept_from, kept_of, IsWrittenNumber, AllRevisionsSeparate}
+use Rattle.dump_trees.specs.HistoryLaws.{ImagesRestrict, HistoryRestricts, EachHistoryRestricts}
+use Rattle.dump_trees.proofs.changes.StageLemmas.{Follows}
+use Rattle.dump_trees.proofs.changes.FolderLemmas.{KeepsFolders}
+use Rattle.dump_trees.proofs.changes.RevisionLemmas.{steps_keep, steps_follow, none_written}
+use Rattle.dump_trees.proofs.histories.KeptNumbers.{length_push, get_last, get_before, get_pushed, AreBelow, below_next, below_pushed, kept_above, image_kept, image_dropped}
+
+-- the start
+
+root_folders : HasFolders root_alone
+root_folders [] name rest node at = absurd (let bad : None ≡ Some node = at in cc)
+root_folders (first ∷ path) name rest node at = absurd (let bad : None ≡ Some node = at in cc)
+
+-- the given folders are the restricted tree of a new repository
+pub start_restricts : (settings : Settings) (IsNew : NewProperty) → KeepsEntries IsNew
+    → IsRestricted settings IsNew root_alone (given settings)
+start_restricts settings IsNew entries = record { kept = kept; left = λ path left. refl }
+  where
+    kept : (path : NodePath) → IsTrue (keeps settings path) → IsNewNode IsNew (root_alone path) (given settings path)
+    kept [] is = tt
+    kept (name ∷ path) is =
+        subst (λ b. IsNewNode IsNew None
+        (cond (not b && is_above_some settings.side settings.prefixes (name ∷ path)) (Some (Node.Folder [])) None))
+        (sym is) tt
+
+module _ (settings : Settings) (IsNew : NewProperty) (entries : KeepsEntries IsNew) (rule : EmptyRule)
+    (kept : KeptRevisions)
+    (zero_first : kept.first ≡ 0) (begun : List ℕ) (others_behind : List (List Change)) where
+  -- what holds between the two loads after the revision of this number, while these revisions are left, and behind them
+  -- those that aren't loaded; the kept numbers of the loaded ones, once all are, are those that begun lists
+  record Ongoing (number : ℕ) (trees others : List Tree) (youngest restricted : Tree) (revisions : List (List Change))
+      : Type 0 where
+    folders : AllHaveFolders (slice_get trees)
+    has : HasFolders youngest
+    restricts : IsRestricted settings IsNew youngest restricted
+    size : length trees ≡ suc number
+    last : slice_get trees number ≡ Some youngest
+    earlier : List ℕ
+    numbers : kept.numbers ≡ earlier ++ kept_from settings rule (suc number) (revisions ++ others_behind)
+    begins : begun ≡ earlier ++ kept_from settings rule (suc number) revisions
+    low : AreBelow (suc number) earlier
+    count : length others ≡ length earlier
+    images : (n : ℕ) (tree : Tree) → slice_get trees n ≡ Some tree →
+        (new : ℕ) × (other : Tree) × (image kept n ≡ Some new) × (slice_get others new ≡ Some other)
+        × IsRestricted settings IsNew tree other × (settings.renumber ≡ false → new ≡ n)
+    even : settings.renumber ≡ false → length others ≡ suc number
+    all_kept : settings.renumber ≡ false → list_all (λ changes. keeps_revision settings rule changes) revisions ≡ true
+
+  -- the trees that copies may name
+  copies_restrict : (number : ℕ) (trees others : List Tree) (youngest restricted : Tree)
+      (revisions : List (List Change))
+      → Ongoing number trees others youngest restricted revisions
+      → AreRestricted settings IsNew (IsWrittenNumber settings kept) (slice_get trees) (slice_get others)
+  copies_restrict number trees others youngest restricted revisions o n written tree numbered at =
+      subst (λ m. (other : Tree) × (slice_get others m ≡ Some other) × IsRestricted settings IsNew tree other)
+      (cases settings.renumber refl numbered) (there.1, there.3, there.4)
+    where
+      there : (new : ℕ) × (other : Tree) × (image kept n ≡ Some new) × (slice_get others new ≡ Some other)
+          × IsRestricted settings IsNew tree other × (settings.renumber ≡ false → new ≡ n)
+      there = o.images n tree at
+
+      cases : (b : Bool) → settings.renumber ≡ b → MatchBool b (image kept n ≡ Some written) (written ≡ n)
+          → there.0 ≡ written
+      cases true is same = let both : Some there.0 ≡ Some written = sym there.2 ∙ same in cc
+      cases false is same = there.5 is ∙ sym same
+
+  folders_more : (trees : List Tree) (tree : Tree) → AllHaveFolders (slice_get trees) → HasFolders tree
+      → AllHaveFolders (slice_get (trees ++ tree ∷ []))
+  folders_more trees tree all has n t at =
+      elim (get_pushed trees tree n t at) [
+        | inl before ↦ all n t before
+        | inr last ↦ subst HasFolders last.1 has
+      ]
+
+  last_tree : (number : ℕ) (trees : List Tree) (tree : Tree) → length trees ≡ suc number
+      → slice_get (trees ++ tree ∷ []) (suc number) ≡ Some tree
+  last_tree number trees tree size = ap (slice_get (trees ++ tree ∷ [])) (sym size) ∙ get_last trees tree
+
+  -- a kept revision
+  next_kept : (number : ℕ) (trees others : List Tree) (youngest restricted : Tree) (changes : List Change)
+      (revisions : List (List Change)) → Ongoing number trees others youngest restricted (changes ∷ revisions)
+      → keeps_revision settings rule changes ≡ true → (tree other : Tree) → HasFolders tree
+      → IsRestricted settings IsNew tree other
+      → Ongoing (suc number) (trees ++ tree ∷ []) (others ++ other ∷ []) tree other revisions
+  next_kept number trees others youngest restricted changes revisions o is tree other has r = record {
+    folders = folders_more trees tree o.folders has;
+    has = has;
+    restricts = r;
+    size = length_push trees tree ∙ ap suc o.size;
+    last = last_tree number trees tree o.size;
+    earlier = o.earlier ++ suc number ∷ [];
+    numbers = split ∙ sym (append_assoc o.earlier (suc number ∷ []) later);
+    begins =
+        begins ∙ sym (append_assoc o.earlier (suc number ∷ []) (kept_from settings rule (suc (suc number)) revisions));
+    low = below_pushed (suc number) o.earlier o.low;
+    count = length_push others other ∙ (ap suc o.count ∙ sym (length_push o.earlier (suc number)));
+    images = images;
+    even = λ plain. length_push others other ∙ ap suc (o.even plain);
+    all_kept = λ plain. (and_parts (keeps_revision settings rule changes) _ (o.all_kept plain)).1;
+  }
+    where
+      later : List ℕ
+      later = kept_from settings rule (suc (suc number)) (revisions ++ others_behind)
+
+      split : kept.numbers ≡ o.earlier ++ suc number ∷ kept_from settings rule (suc (suc number))
+          (revisions ++ others_behind)
+      split = o.numbers
+          ∙ ap
+          (λ b. o.earlier ++ cond b
+          (suc number ∷ kept_from settings rule (suc (suc number)) (revisions ++ others_behind))
+          (kept_from settings rule (suc (suc number)) (revisions ++ others_behind))) is
+
+      begins : begun ≡ o.earlier ++ suc number ∷ kept_from settings rule (suc (suc number)) revisions
+      begins =
+          o.begins ∙ ap (λ b. o.earlier ++ cond b (suc number ∷ kept_from settings rule (suc (suc number)) revisions)
+          (kept_from settings rule (suc (suc number)) revisions)) is
+
+      its_image : image kept (suc number) ≡ Some (length others)
+      its_image = image_kept kept zero_first (suc number) o.earlier
+          (kept_from settings rule (suc (suc number)) (revisions ++ others_behind)) split o.low
+          (kept_above settings rule (suc number) (suc (suc number)) (revisions ++ others_behind) (omega arith))
+          ∙ ap Some (sym o.count)
+
+      images : (n : ℕ) (t : Tree) → slice_get (trees ++ tree ∷ []) n ≡ Some t →
+          (new : ℕ) × (u : Tree) × (image kept n ≡ Some new) × (slice_get (others ++ other ∷ []) new ≡ Some u)
+          × IsRestricted settings IsNew t u × (settings.renumber ≡ false → new ≡ n)
+      images n t at =
+          elim (get_pushed trees tree n t at) [
+            | inl before ↦ (let there = o.images n t before in
+                (there.0, there.1, there.2, get_before others (other ∷ []) there.0 there.1 there.3, there.4, there.5))
+            | inr end ↦ (
+              length others,
+              other,
+              ap (image kept) (end.0 ∙ o.size) ∙ its_image,
+              get_last others other,
+              subst (λ v. IsRestricted settings IsNew v other) end.1 r,
+              λ plain. o.even plain ∙ sym (end.0 ∙ o.size),
+            )
+          ]
+
+  -- a dropped revision
+  next_dropped : (number : ℕ) (trees others : List Tree) (youngest restricted : Tree) (changes : List Change)
+      (revisions : List (List Change)) → Ongoing number trees others youngest restricted (changes ∷ revisions)
+      → keeps_revision settings rule changes ≡ false → (tree : Tree) → HasFolders tree
+      → ((other : Tree) → IsRestricted settings IsNew youngest other → IsRestricted settings IsNew tree other)
+      → Ongoing (suc number) (trees ++ tree ∷ []) others tree restricted revisions
+  next_dropped number trees others youngest restricted changes revisions o is tree has same = record {
+    folders = folders_more trees tree o.folders has;
+    has = has;
+    restricts = same restricted o.restricts;
+    size = length_push trees tree ∙ ap suc o.size;
+    last = last_tree number trees tree o.size;
+    earlier = o.earlier;
+    numbers = split;
+    begins = o.begins ∙ ap (λ b. o.earlier ++ cond b (suc number ∷ kept_from settings rule (suc (suc number)) revisions)
+        (kept_from settings rule (suc (suc number)) revisions)) is;
+    low = below_next (suc number) o.earlier o.low;
+    count = o.count;
+    images = images;
+    even = λ plain. absurd (never plain);
+    all_kept = λ plain. absurd (never plain);
+  }
+    where
+      never : settings.renumber ≡ false → ⊥
+      never plain = both_ways _ is (and_parts (keeps_revision settings rule changes)
+          (list_all (λ others. keeps_revision settings rule others) revisions) (o.all_kept plain)).0
+
+      split : kept.numbers ≡ o.earlier ++ kept_from settings rule (suc (suc number)) (revisions ++ others_behind)
+      split = o.numbers
+          ∙ ap
+          (λ b. o.earlier ++ cond b
+          (suc number ∷ kept_from settings rule (suc (suc number)) (revisions ++ others_behind))
+          (kept_from settings rule (suc (suc number)) (revisions ++ others_behind))) is
+
+      its_image : image kept (suc number) ≡ image kept number
+      its_image =
+          image_dropped kept number o.earlier
+          (kept_from settings rule (suc (suc number)) (revisions ++ others_behind)) split
+          o.low (kept_above settings rule (suc number) (suc (suc number)) (revisions ++ others_behind) (omega arith))
+
+      images : (n : ℕ) (t : Tree) → slice_get (trees ++ tree ∷ []) n ≡ Some t →
+          (new : ℕ) × (u : Tree) × (image kept n ≡ Some new) × (slice_get others new ≡ Some u)
+          × IsRestricted settings IsNew t u × (settings.renumber ≡ false → new ≡ n)
+      images n t at =
+          elim (get_pushed trees tree n t at) [
+            | inl before ↦ o.images n t before
+            | inr end ↦ (let there = o.images number youngest o.last in (
+              there.0,
+              there.1,
+              ap (image kept) (end.0 ∙ o.size) ∙ (its_image ∙ there.2),
+              there.3,
+              subst (λ v. IsRestricted settings IsNew v there.1) end.1 (same there.1 there.4),
+              λ plain. absurd (never plain),
+            ))
+          ]
+
+  -- the end of both loads
+  Ends : List Tree → Option (List Tree) → Type 0
+  Ends trees o = (others : List Tree) × (o ≡ Some others) × (length others ≡ length begun)
+      × ImagesRestrict settings IsNew (image kept) trees others
+
+  ended : (number : ℕ) (trees others : List Tree) (youngest restricted : Tree)
+      → Ongoing number trees others youngest restricted [] → (final : List Tree) → Some trees ≡ Some final
+      → Ends final (Some others)
+  unfolding Ends
+  ended number trees others youngest restricted o final at =
+      let same : trees ≡ final = (let both : Some trees ≡ Some final = at in cc) in (
+        others,
+        refl,
+        o.count ∙ ap length (sym (o.begins ∙ append-nil o.earlier)),
+        subst (λ ts. ImagesRestrict settings IsNew (image kept) ts others) same
+            (λ n tree there. let found = o.images n tree there in (found.0, found.1, found.2, found.3, found.4)),
+      )
+
+  -- what is shown of the revisions behind one
+  abbrev Further : List (List Change) → Type 0
+  Further revisions =
+      (written : List (List Change)) (number : ℕ) (trees others : List Tree) (youngest restricted : Tree)
+      → Ongoing number trees others youngest restricted revisions
+      → AllRevisionsSeparate settings trees youngest revisions
+      → AreNewRevisions settings IsNew (IsWrittenNumber settings kept) rule revisions written
+      → (final : List Tree) → loaded trees youngest revisions ≡ Some final
+      → Ends final (loaded others restricted written)
+
+  module _ (changes : List Change) (revisions : List (List Change)) (further : Further revisions) (number : ℕ)
+      (trees others : List Tree) (youngest restricted : Tree)
+      (o : Ongoing number trees others youngest restricted (changes ∷ revisions))
+      (apart : AllRevisionsSeparate settings trees youngest (changes ∷ revisions)) (final : List Tree) (tree : Tree)
+      (at : steps (slice_get trees) youngest changes ≡ Some tree) (has : HasFolders tree)
+      (rest_loaded : loaded (trees ++ tree ∷ []) tree revisions ≡ Some final) where
+    -- the changes of the revision, whatever is written of them
+    changes_follow : (written : List Change)
+        → AreNewChanges settings IsNew (IsWrittenNumber settings kept) changes written
+        → (other : Tree) → IsRestricted settings IsNew youngest other
+        → Follows settings IsNew (Some tree) (steps (slice_get others) other written)
+    changes_follow written new other r =
+        subst (λ a. Follows settings IsNew a (steps (slice_get others) other written)) at
+        (steps_follow settings IsNew (IsWrittenNumber settings kept) entries (slice_get trees)
+        (slice_get others) o.folders
+        (copies_restrict number trees others youngest restricted
+        (changes ∷ revisions) o) changes written youngest other o.has r
+        apart.0 new)
+
+    kept_goes_on : keeps_revision settings rule changes ≡ true → (new : List Change) (rest : List (List Change))
+        → AreNewChanges settings IsNew (IsWrittenNumber settings kept) changes new
+        → AreNewRevisions settings IsNew (IsWrittenNumber settings kept) rule revisions rest
+        → Ends final (loaded others restricted (new ∷ rest))
+    kept_goes_on is new rest new_changes new_revisions =
+        cases (steps (slice_get others) restricted new) (changes_follow new new_changes restricted o.restricts)
+      where
+        cases : (a : Option Tree) → Follows settings IsNew (Some tree) a
+            → Ends final (option_and_then (λ other. loaded (others ++ other ∷ []) other rest) a)
+        cases None f = absurd f
+        cases (Some other) f =
+            further rest (suc number) (trees ++ tree ∷ []) (others ++ other ∷ []) tree other
+            (next_kept number trees others youngest restricted changes revisions o is tree other has f)
+            (apart.1 tree at)
+            new_revisions final rest_loaded
+
+    dropped_goes_on : keeps_revision settings rule changes ≡ false → (written : List (List Change))
+        → AreNewRevisions settings IsNew (IsWrittenNumber settings kept) rule revisions written
+        → Ends final (loaded others restricted written)
+    dropped_goes_on is written new_revisions =
+        further written (suc number) (trees ++ tree ∷ []) others tree restricted
+        (next_dropped number trees others youngest restricted changes revisions o is tree has
+        (λ other r. changes_follow []
+        (none_written settings IsNew (IsWrittenNumber settings kept) entries (slice_get trees)
+        (slice_get others) o.folders
+        (copies_restrict number trees others youngest restricted (changes ∷ revisions) o) changes
+        (or_parts (list_any (λ (c : Change). keeps settings c.path) changes) (rule changes) is).0) other r))
+        (apart.1 tree at) new_revisions final rest_loaded
+
+    goes_on : (written : List (List Change))
+        → AreNewRevisions settings IsNew (IsWrittenNumber settings kept) rule (changes ∷ revisions) written
+        → Ends final (loaded others restricted written)
+    goes_on written new = sides (keeps_revision settings rule changes) refl
+      where
+        sides : (b : Bool) → keeps_revision settings rule changes ≡ b → Ends final (loaded others restricted written)
+        sides true is =
+            let parts = MatchBool-at_true _ _ is new in
+            subst (λ w. Ends final (loaded others restricted w)) (sym parts.2)
+            (kept_goes_on is parts.0 parts.1 parts.3 parts.4)
+        sides false is = dropped_goes_on is written (MatchBool-at_false _ _ is new)
+
+  history_follows : (revisions : List (List Change)) → Further revisions
+  history_follows [] written number trees others youngest restricted o apart new final at =
+      subst (λ w. Ends final (loaded others restricted w)) (sym new)
+      (ended number trees others youngest restricted o final at)
+  history_follows (changes ∷ revisions) written number trees others youngest restricted o apart new final at =
+      cases (history_follows revisions) (steps (slice_get trees) youngest changes) refl
+      (steps_keep (slice_get trees) o.folders changes youngest o.has) at
+    where
+      cases : Further revisions → (a : Option Tree) → steps (slice_get trees) youngest changes ≡ a → KeepsFolders a
+          → option_and_then (λ tree. loaded (trees ++ tree ∷ []) tree revisions) a ≡ Some final
+          → Ends final (loaded others restricted written)
+      cases further None is has bad = absurd (let worse : None ≡ Some final = bad in cc)
+      cases further (Some tree) is has rest =
+          goes_on changes revisions further number trees others youngest restricted o apart final tree is has rest
+          written new
+
+-- revisions that are loaded, in front of others that aren't, by the kept numbers of all
+pub front_follows : (settings : Settings) (IsNew : NewProperty) (entries : KeepsEntries IsNew) (rule : EmptyRule)
+    (kept : KeptRevisions)
+    (zero_first : kept.first ≡ 0) (revisions rest written : List (List Change)) (trees : List Tree)
+    → kept.numbers ≡ 0 ∷ kept_from settings rule 1 (revisions ++ rest)
+    → IsTrue (stays_numbered settings rule revisions)
+    → loaded_over root_alone revisions ≡ Some trees
+    → AllRevisionsSeparate settings (root_alone ∷ []) root_alone revisions
+    → AreNewRevisions settings IsNew (IsWrittenNumber settings kept) rule revisions written
+    → (others : List Tree) × (loaded_over (given settings) written ≡ Some others)
+    × (length others ≡ length (kept_of settings rule revisions).numbers)
+    × ImagesRestrict settings IsNew (image kept) trees others
+unfolding Ends
+front_follows settings IsNew entries rule kept zero_first revisions rest written trees all_numbers numbered at apart
+    new =
+    history_follows settings IsNew entries rule kept zero_first
+    (0 ∷ kept_from settings rule 1 revisions) rest revisions written 0
+    (root_alone ∷ []) (given settings ∷ []) root_alone (given settings) start apart new trees at
+  where
+    start_folders : AllHaveFolders (slice_get (root_alone ∷ []))
+    start_folders zero tree is = subst HasFolders (let both : Some root_alone ≡ Some tree = is in cc) root_folders
+    start_folders (suc n) tree is = absurd (let bad : None ≡ Some tree = is in cc)
+
+    start_images : (n : ℕ) (tree : Tree) → slice_get (root_alone ∷ []) n ≡ Some tree →
+        (number : ℕ) × (other : Tree) × (image kept n ≡ Some number)
+        × (slice_get (given settings ∷ []) number ≡ Some other)
+        × IsRestricted settings IsNew tree other × (settings.renumber ≡ false → number ≡ n)
+    start_images zero tree is = (
+      0,
+      given settings,
+      image_kept kept zero_first 0 [] (kept_from settings rule 1 (revisions ++ rest)) all_numbers refl
+          (kept_above settings rule 0 1 (revisions ++ rest) (omega arith)),
+      refl,
+      subst (λ t. IsRestricted settings IsNew t (given settings)) (let both : Some root_alone ≡ Some tree = is in cc)
+          (start_restricts settings IsNew entries),
+      λ plain. refl,
+    )
+    start_images (suc n) tree is = absurd (let bad : None ≡ Some tree = is in cc)
+
+    all_kept : settings.renumber ≡ false → list_all (λ changes. keeps_revision settings rule changes) revisions ≡ true
+    all_kept plain =
+        elim
+        (or_cases settings.renumber
+        (list_all (λ changes. keeps_revision settings rule changes) revisions) numbered) [
+          | inl renumbered ↦ absurd (both_ways _ plain renumbered)
+          | inr all ↦ all
+        ]
+
+    start : Ongoing settings IsNew entries rule kept zero_first (0 ∷ kept_from settings rule 1 revisions) rest 0
+        (root_alone ∷ []) (given settings ∷ []) root_alone (given settings) revisions
+    start = record {
+      folders = start_folders;
+      has = root_folders;
+      restricts = start_restricts settings IsNew entries;
+      size = refl;
+      last = refl;
+      earlier = 0 ∷ [];
+      numbers = all_numbers;
+      begins = refl;
+      low = refl;
+      count = refl;
+      images = start_images;
+      even = λ plain. refl;
+      all_kept = all_kept;
+    }
+
+-- the law of a history, for each relation of new properties that keeps entries
+pub history : (settings : Settings) (IsNew : NewProperty) → KeepsEntries IsNew → HistoryRestricts settings IsNew
+history settings IsNew entries rule revisions written trees numbered at apart new =
+    front_follows settings IsNew entries rule (kept_of settings rule revisions) refl revisions [] written trees
+    (ap (λ rs. 0 ∷ kept_from settings rule 1 rs) (sym (append-nil revisions))) numbered at apart new
+
+-- the same for each way to make new properties, as the contract states it
+pub each_history : EachHistoryRestricts
+each_history settings make entries = history settings (IsMade make) entries

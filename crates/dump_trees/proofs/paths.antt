@@ -1,0 +1,4 @@
+-- Paths and their texts: which paths are kept, and which folders are given.
+pub mod PathNames
+pub mod KeptPaths
+pub mod PrefixRests

@@ -1,0 +1,3 @@
+-- Changes that give no alarm are separated.
+pub mod LeavingLemmas
+pub mod QuietLemmas

@@ -1,0 +1,127 @@
+-- Worked values of property deltas and text deltas, as svnadmin load takes them.
+use Rattle.std.proofs.Common.{◌≡◌, ℕ, true, List, [], ◌∷◌, ◌++◌, Option, Some, None, codes, refl}
+use Rattle.dump_text.specs.PropertyList.{Property}
+use Rattle.dump_trees.specs.Trees.{Node}
+use Rattle.dump_trees.specs.Changes.{Change}
+use Rattle.dump_trees.proofs.values.ValueParts.{change, folder, file, copy, deletion, replacing, setting, editing, writing, patching, property, removal, stands, is_refused}
+
+abbrev p : Property
+p = property (codes "p") (codes "1")
+
+abbrev q : Property
+q = property (codes "q") (codes "2")
+
+-- a folder, and a file with two properties
+abbrev begun : List (List Change)
+begun = (folder (codes "a") ∷ setting (p ∷ q ∷ []) (file (codes "f") (codes "old")) ∷ []) ∷ []
+
+-- what stands at the path once one more change is loaded
+abbrev then : Change → List ℕ → Option Node
+then c path = stands (begun ++ (c ∷ []) ∷ []) path
+
+-- the file f with its text and these properties
+abbrev with : List Property → Option Node
+with props = Some (Node.File props (codes "old"))
+
+-- what an edit of f leaves
+abbrev edited : List Property → Option Node
+edited entries = then (editing entries (change (codes "f"))) (codes "f")
+
+-- edits
+
+sets_new : edited (property (codes "z") (codes "3") ∷ []) ≡ with (p ∷ q ∷ property (codes "z") (codes "3") ∷ [])
+sets_new = refl
+
+sets_again : edited (property (codes "p") (codes "9") ∷ []) ≡ with (q ∷ property (codes "p") (codes "9") ∷ [])
+sets_again = refl
+
+takes_away : edited (removal (codes "q") ∷ []) ≡ with (p ∷ [])
+takes_away = refl
+
+-- what isn't there can be taken away
+takes_nothing : edited (removal (codes "n") ∷ []) ≡ with (p ∷ q ∷ [])
+takes_nothing = refl
+
+later_counts : edited (property (codes "p") (codes "7") ∷ property (codes "p") (codes "8") ∷ [])
+    ≡ with (q ∷ property (codes "p") (codes "8") ∷ [])
+later_counts = refl
+
+set_and_taken : edited (property (codes "p") (codes "7") ∷ removal (codes "p") ∷ []) ≡ with (q ∷ [])
+set_and_taken = refl
+
+taken_and_set : edited (removal (codes "p") ∷ property (codes "p") (codes "7") ∷ [])
+    ≡ with (q ∷ property (codes "p") (codes "7") ∷ [])
+taken_and_set = refl
+
+edits_none : edited [] ≡ with (p ∷ q ∷ [])
+edits_none = refl
+
+edits_folder : then (editing (p ∷ []) (change (codes "a"))) (codes "a") ≡ Some (Node.Folder (p ∷ []))
+edits_folder = refl
+
+-- the copy has the properties of its source, edited
+edits_copy : then (editing (removal (codes "p") ∷ []) (copy 1 (codes "f") (codes "g"))) (codes "g") ≡ with (q ∷ [])
+edits_copy = refl
+
+-- a node that is replaced begins without properties
+edits_replaced : then (editing (q ∷ []) (replacing (file (codes "f") (codes "old")))) (codes "f") ≡ with (q ∷ [])
+edits_replaced = refl
+
+-- edits are refused where nothing stands, but an empty list of them is taken
+
+edits_nothing : is_refused begun (editing (p ∷ []) (change (codes "n"))) ≡ true
+edits_nothing = refl
+
+takes_from_nothing : is_refused begun (editing (removal (codes "p") ∷ []) (change (codes "n"))) ≡ true
+takes_from_nothing = refl
+
+none_of_nothing : then (editing [] (change (codes "n"))) (codes "f") ≡ with (p ∷ q ∷ [])
+none_of_nothing = refl
+
+none_of_deleted : then (editing [] (deletion (codes "f"))) (codes "f") ≡ None
+none_of_deleted = refl
+
+-- entries in place of the old ones
+
+abbrev replaced : List Property → Option Node
+replaced entries = then (setting entries (change (codes "f"))) (codes "f")
+
+-- an entry without a value leaves nothing
+whole_without : replaced (p ∷ removal (codes "q") ∷ []) ≡ with (p ∷ [])
+whole_without = refl
+
+whole_taken : replaced (p ∷ removal (codes "p") ∷ []) ≡ with []
+whole_taken = refl
+
+whole_later : replaced (p ∷ property (codes "p") (codes "2") ∷ []) ≡ with (property (codes "p") (codes "2") ∷ [])
+whole_later = refl
+
+-- text deltas
+
+-- a delta that puts a text behind the old one, and one that the load refuses
+abbrev behind : List ℕ → Option (List ℕ)
+behind old = Some (old ++ codes "new")
+
+abbrev refused : List ℕ → Option (List ℕ)
+refused old = None
+
+patched : then (patching behind (change (codes "f"))) (codes "f")
+    ≡ Some (Node.File (p ∷ q ∷ []) (codes "oldnew"))
+patched = refl
+
+-- a new file's old text is empty, and a copy's is that of its source
+patched_new : then (patching behind (writing [] (file (codes "n") []))) (codes "n") ≡ Some (Node.File [] (codes "new"))
+patched_new = refl
+
+patched_copy : then (patching behind (copy 1 (codes "f") (codes "g"))) (codes "g")
+    ≡ Some (Node.File (p ∷ q ∷ []) (codes "oldnew"))
+patched_copy = refl
+
+patch_refused : is_refused begun (patching refused (change (codes "f"))) ≡ true
+patch_refused = refl
+
+patched_folder : is_refused begun (patching behind (change (codes "a"))) ≡ true
+patched_folder = refl
+
+patched_nothing : is_refused begun (patching behind (change (codes "n"))) ≡ true
+patched_nothing = refl

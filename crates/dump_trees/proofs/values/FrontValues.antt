@@ -1,0 +1,238 @@
+-- Worked values of numbers, of first revisions and of a load behind others: a dump with an alarm in its third revision,
+-- and one that is refused there; the law holds of the revisions before it.
+use Rattle.std.proofs.Common.{◌≡◌, ℕ, true, false, List, [], ◌∷◌, ◌++◌, Some, None, is_none, codes, refl}
+use Rattle.std.specs.Prelude.{◌&&◌, is_some, take}
+use Rattle.dump_rules.specs.Settings.{Settings}
+use Rattle.dump_rules.specs.Renumbering.{KeptRevisions, image}
+use Rattle.dump_trees.specs.Paths.{path_of, keeps}
+use Rattle.dump_trees.specs.Trees.{Node, Tree, root_alone}
+use Rattle.dump_trees.specs.Changes.{Change}
+use Rattle.dump_trees.specs.Restriction.{given, IsNewChange}
+use Rattle.dump_trees.specs.Revisions.{loaded, loaded_over, EmptyRule, stays_numbered, AreNewRevisions, kept_of, IsWrittenNumber}
+use Rattle.dump_trees.specs.Quiet.{are_quiet}
+use Rattle.dump_trees.specs.HistoryLaws.{ImagesRestrict}
+use Rattle.dump_trees.specs.FrontLaws.{FrontLoads}
+use Rattle.dump_trees.specs.MovedLaws.{change_behind, revisions_behind}
+use Rattle.dump_trees.proofs.histories.FrontLemmas.{quiet_front, quiet_loads}
+use Rattle.dump_trees.proofs.values.ValueParts.{including, excluding, none_more, as_it_was, entries_stay, change, folder, file, copy, writing, same_folder, same_file, same_copy, node_at}
+
+-- numbers: of six revisions the first, the third and the fourth have no kept change
+
+abbrev six : List (List Change)
+six = (folder (codes "c") ∷ []) ∷ (folder (codes "a") ∷ []) ∷ [] ∷ (change (codes "c") ∷ []) ∷ (change (codes "a") ∷ [])
+    ∷ (change (codes "c") ∷ change (codes "a/b") ∷ []) ∷ []
+
+abbrev kept : KeptRevisions
+kept = kept_of (including (codes "a")) none_more six
+
+-- revisions without changes are kept
+abbrev bare_ones : EmptyRule
+bare_ones [] = true
+bare_ones (c ∷ changes) = false
+
+kept_numbers : kept.numbers ≡ 0 ∷ 2 ∷ 5 ∷ 6 ∷ []
+kept_numbers = refl
+
+kept_bare : (kept_of (including (codes "a")) bare_ones six).numbers ≡ 0 ∷ 2 ∷ 3 ∷ 5 ∷ 6 ∷ []
+kept_bare = refl
+
+kept_all : (kept_of (including (codes "a")) (λ changes. true) six).numbers ≡ 0 ∷ 1 ∷ 2 ∷ 3 ∷ 4 ∷ 5 ∷ 6 ∷ []
+kept_all = refl
+
+-- the numbers stay 0, 1, 2 and so on where revisions are renumbered, or none is dropped
+
+numbers_renumbered : stays_numbered (including (codes "a")) none_more six ≡ true
+numbers_renumbered = refl
+
+numbers_left : stays_numbered (record (including (codes "a")) { renumber = false }) none_more six ≡ false
+numbers_left = refl
+
+numbers_kept : stays_numbered (record (including (codes "a")) { renumber = false }) (λ changes. true) six ≡ true
+numbers_kept = refl
+
+image_of_zero : image kept 0 ≡ Some 0
+image_of_zero = refl
+
+image_before_the_first : image kept 1 ≡ Some 0
+image_before_the_first = refl
+
+image_of_kept : image kept 2 ≡ Some 1
+image_of_kept = refl
+
+image_of_dropped : image kept 4 ≡ Some 1
+image_of_dropped = refl
+
+image_behind_dropped : image kept 5 ≡ Some 2
+image_behind_dropped = refl
+
+image_of_last : image kept 6 ≡ Some 3
+image_of_last = refl
+
+number_renumbered : IsWrittenNumber (including (codes "a")) kept 4 1
+number_renumbered = refl
+
+number_left : IsWrittenNumber (record (including (codes "a")) { renumber = false }) kept 4 4
+number_left = refl
+
+number_wrong : IsWrittenNumber (including (codes "a")) kept 4 4 → ⊥
+number_wrong same = absurd (let bad : Some 1 ≡ Some 4 = same in cc)
+
+number_moved : IsWrittenNumber (record (including (codes "a")) { renumber = false }) kept 4 1 → ⊥
+number_moved same = absurd (let bad : 1 ≡ 4 = same in cc)
+
+-- an alarm in the third revision
+
+abbrev settings : Settings
+settings = excluding (codes "trunk/big")
+
+abbrev front : List (List Change)
+front = (folder (codes "trunk") ∷ file (codes "trunk/f") (codes "1") ∷ file (codes "trunk/big") (codes "b") ∷ [])
+    ∷ (writing (codes "2") (change (codes "trunk/f")) ∷ [])
+    ∷ []
+
+abbrev rest : List (List Change)
+rest = (copy 1 (codes "trunk") (codes "branch") ∷ []) ∷ (file (codes "branch/g") (codes "3") ∷ []) ∷ []
+
+abbrev first : List (List Change)
+first = (folder (codes "trunk") ∷ file (codes "trunk/f") (codes "1") ∷ [])
+    ∷ (writing (codes "2") (change (codes "trunk/f")) ∷ [])
+    ∷ []
+
+front_is_quiet : are_quiet settings front ≡ true
+front_is_quiet = refl
+
+whole_is_not : are_quiet settings (front ++ rest) ≡ false
+whole_is_not = refl
+
+-- in the third revision the law of the whole dump is false: a kept path has its file in the one load alone
+whole_has_it : node_at (loaded_over root_alone (front ++ rest)) 3 (codes "branch/big") ≡ Some (Node.File [] (codes "b"))
+whole_has_it = refl
+
+it_is_kept : keeps settings (path_of (codes "branch/big")) ≡ true
+it_is_kept = refl
+
+filtered_lacks_it : node_at (loaded_over (given settings) (first ++ rest)) 3 (codes "branch/big") ≡ None
+filtered_lacks_it = refl
+
+-- the second has the law
+front_text : node_at (loaded_over root_alone (front ++ rest)) 2 (codes "trunk/f") ≡ Some (Node.File [] (codes "2"))
+front_text = refl
+
+first_text : node_at (loaded_over (given settings) (first ++ rest)) 2 (codes "trunk/f") ≡ Some
+    (Node.File [] (codes "2"))
+first_text = refl
+
+-- a new text is written as it stands
+same_text : (number : ℕ → ℕ → Type 0) (path text : List ℕ)
+    → IsNewChange settings as_it_was number (writing text (change path)) (writing text (change path))
+same_text number path text = record { path = refl; deletes = refl; made = tt; props = tt; text = refl }
+
+-- the first part is what is written of the front
+first_is_written : (number : ℕ → ℕ → Type 0) (behind more : List (List Change))
+    → AreNewRevisions settings as_it_was number none_more behind more
+    → AreNewRevisions settings as_it_was number none_more (front ++ behind) (first ++ more)
+first_is_written number behind more new = (
+  folder (codes "trunk") ∷ file (codes "trunk/f") (codes "1") ∷ [],
+  _,
+  refl,
+  (
+    folder (codes "trunk"),
+    _,
+    refl,
+    same_folder _ number (codes "trunk"),
+    (file (codes "trunk/f") (codes "1"), [], refl, same_file _ number (codes "trunk/f") (codes "1"), refl),
+  ),
+  (
+    writing (codes "2") (change (codes "trunk/f")) ∷ [],
+    more,
+    refl,
+    (writing (codes "2") (change (codes "trunk/f")), [], refl, same_text number (codes "trunk/f") (codes "2"), refl),
+    new,
+  ),
+)
+
+-- of the rest each change is written as it stands
+rest_is_written : AreNewRevisions settings as_it_was
+    (IsWrittenNumber settings (kept_of settings none_more (front ++ rest))) none_more
+    rest rest
+rest_is_written = (
+  copy 1 (codes "trunk") (codes "branch") ∷ [],
+  _,
+  refl,
+  (
+    copy 1 (codes "trunk") (codes "branch"),
+    [],
+    refl,
+    same_copy settings _ 1 1 (codes "trunk") (codes "branch") refl refl,
+    refl,
+  ),
+  (
+    file (codes "branch/g") (codes "3") ∷ [],
+    [],
+    refl,
+    (file (codes "branch/g") (codes "3"), [], refl, same_file _ _ (codes "branch/g") (codes "3"), refl),
+    refl,
+  ),
+)
+
+-- so the law tells of the first two revisions
+the_law : (trees : List Tree) → loaded_over root_alone front ≡ Some trees
+    → FrontLoads settings as_it_was none_more (kept_of settings none_more (front ++ rest)) front (first ++ rest) trees
+the_law trees at =
+    quiet_front settings as_it_was entries_stay none_more front rest (first ++ rest) trees refl at refl refl
+    (first_is_written _ rest rest rest_is_written)
+
+-- and of the two whole loads: the trees up to the second revision
+their_law : (trees others : List Tree) → loaded_over root_alone (front ++ rest) ≡ Some trees
+    → loaded_over (given settings) (first ++ rest) ≡ Some others
+    → ImagesRestrict settings as_it_was (image (kept_of settings none_more (front ++ rest))) (take 3 trees) others
+their_law trees others at filtered =
+    quiet_loads settings as_it_was entries_stay none_more front rest (first ++ rest) trees others refl at
+    filtered refl refl
+    (first_is_written _ rest rest rest_is_written)
+
+both_load :
+    (is_some (loaded_over root_alone (front ++ rest)) && is_some (loaded_over (given settings) (first ++ rest))) ≡ true
+both_load = refl
+
+-- a third revision that is refused, for the file stands there already
+
+abbrev refused : List (List Change)
+refused = (file (codes "trunk/f") (codes "3") ∷ []) ∷ []
+
+whole_is_refused : is_none (loaded_over root_alone (front ++ refused)) ≡ true
+whole_is_refused = refl
+
+its_law : (trees : List Tree) → loaded_over root_alone front ≡ Some trees
+    → FrontLoads settings as_it_was none_more (kept_of settings none_more (front ++ refused)) front
+    (first ++ refused) trees
+its_law trees at =
+    quiet_front settings as_it_was entries_stay none_more front refused (first ++ refused) trees refl at refl refl
+    (first_is_written _ refused refused (
+      file (codes "trunk/f") (codes "3") ∷ [],
+      [],
+      refl,
+      (file (codes "trunk/f") (codes "3"), [], refl, same_file _ _ (codes "trunk/f") (codes "3"), refl),
+      refl,
+    ))
+
+-- a dump behind other revisions: an administrator makes the folder a in a revision of its own, so the copy is of a
+-- number that is higher by one
+
+number_behind : change_behind 1 (copy 2 (codes "a/f") (codes "a/g")) ≡ copy 3 (codes "a/f") (codes "a/g")
+number_behind = refl
+
+abbrev copying : List (List Change)
+copying =
+    (folder (codes "a/b") ∷ []) ∷ (file (codes "a/b/f") (codes "1") ∷ []) ∷
+    (copy 2 (codes "a/b/f") (codes "a/b/g") ∷ []) ∷ []
+
+abbrev made : Tree
+made = given (including (codes "a/b"))
+
+copied_behind : node_at (loaded (root_alone ∷ made ∷ []) made (revisions_behind 1 copying)) 4 (codes "a/b/g")
+    ≡ Some (Node.File [] (codes "1"))
+copied_behind = refl
+
+not_raised : is_none (loaded (root_alone ∷ made ∷ []) made copying) ≡ true
+not_raised = refl

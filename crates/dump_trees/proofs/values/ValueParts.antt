@@ -1,0 +1,144 @@
+-- Parts of the worked values: options, changes, and what stands in a loaded dump.
+use Rattle.std.proofs.Common.{◌≡◌, refl, ap}
+use Rattle.std.specs.Prelude.{ℕ, Bool, true, false, ◌&&◌, List, [], ◌∷◌, ◌++◌, length, Option, Some, None, option_and_then, is_some, is_none, slice_get}
+use Rattle.dump_text.specs.PropertyList.{Property}
+use Rattle.dump_rules.specs.declared.options.Side.TheVariants.{Include, Exclude}
+use Rattle.dump_rules.specs.declared.options.Empty.TheVariants.{DropEmptied}
+use Rattle.dump_rules.specs.Settings.{Settings}
+use Rattle.dump_trees.specs.Paths.{path_of, keeps}
+use Rattle.dump_trees.specs.Trees.{Node, Tree, root_alone}
+use Rattle.dump_trees.specs.Changes.{Made, PropertyChange, TextChange, Change}
+use Rattle.dump_trees.specs.Restriction.{NewProperty, KeepsEntries, IsNewChange}
+use Rattle.dump_trees.specs.StepLaws.{IsMade}
+use Rattle.dump_trees.specs.Revisions.{loaded_over, EmptyRule}
+
+-- options
+
+-- these prefixes are included, emptied revisions dropped, and the others renumbered
+abbrev pub including_all : List (List ℕ) → Settings
+including_all prefixes = record {
+  side = Include;
+  prefixes = prefixes;
+  empty = DropEmptied;
+  renumber = true;
+  preserve = false;
+  skip_missing = false;
+}
+
+-- so is this prefix
+abbrev pub including : List ℕ → Settings
+including prefix = including_all (prefix ∷ [])
+
+-- this prefix is excluded
+abbrev pub excluding : List ℕ → Settings
+excluding prefix = record (including prefix) { side = Exclude }
+
+-- no revision without a kept change is kept
+abbrev pub none_more : EmptyRule
+none_more changes = false
+
+-- the filter leaves properties as they are
+abbrev pub as_it_was : NewProperty
+as_it_was = IsMade (λ p. p)
+
+-- changes
+
+-- a change that does nothing
+abbrev pub change : List ℕ → Change
+change path = record { path = path_of path; deletes = false; made = None; props = None; text = None }
+
+-- a new folder
+abbrev pub folder : List ℕ → Change
+folder path = record { path = path_of path; deletes = false; made = Some Made.NewFolder; props = None; text = None }
+
+-- a new file with a text
+abbrev pub file : List ℕ → List ℕ → Change
+file path text =
+    record {
+      path = path_of path;
+      deletes = false;
+      made = Some Made.NewFile;
+      props = None;
+      text = Some (TextChange.Replaced text);
+    }
+
+-- a copy
+abbrev pub copy : ℕ → List ℕ → List ℕ → Change
+copy number source path = record {
+  path = path_of path;
+  deletes = false;
+  made = Some (Made.Copied number (path_of source));
+  props = None;
+  text = None;
+}
+
+-- a deletion
+abbrev pub deletion : List ℕ → Change
+deletion path = record { path = path_of path; deletes = true; made = None; props = None; text = None }
+
+-- the change, which also deletes what stands at its path
+abbrev pub replacing : Change → Change
+replacing c = record c { deletes = true }
+
+-- the change, which also sets these properties
+abbrev pub setting : List Property → Change → Change
+setting props c = record c { props = Some (PropertyChange.Replaced props) }
+
+-- the change, which also edits properties with these entries
+abbrev pub editing : List Property → Change → Change
+editing entries c = record c { props = Some (PropertyChange.Edited entries) }
+
+-- the change, which also sets this text
+abbrev pub writing : List ℕ → Change → Change
+writing text c = record c { text = Some (TextChange.Replaced text) }
+
+-- the change, which also patches the text
+abbrev pub patching : (List ℕ → Option (List ℕ)) → Change → Change
+patching patch c = record c { text = Some (TextChange.Patched patch) }
+
+-- a property
+abbrev pub property : List ℕ → List ℕ → Property
+property name value = record { name = name; value = Some value }
+
+-- an entry that takes the property of this name away
+abbrev pub removal : List ℕ → Property
+removal name = record { name = name; value = None }
+
+-- the filter keeps entries where it leaves properties as they are
+pub entries_stay : KeepsEntries as_it_was
+entries_stay old new same = (ap (λ (p : Property). p.name) same, ap (λ (p : Property). is_some p.value) same)
+
+-- what is written of changes
+
+-- a new folder is written as it stands
+pub same_folder : (settings : Settings) (number : ℕ → ℕ → Type 0) (path : List ℕ)
+    → IsNewChange settings as_it_was number (folder path) (folder path)
+same_folder settings number path = record { path = refl; deletes = refl; made = tt; props = tt; text = refl }
+
+-- so is a new file
+pub same_file : (settings : Settings) (number : ℕ → ℕ → Type 0) (path text : List ℕ)
+    → IsNewChange settings as_it_was number (file path text) (file path text)
+same_file settings number path text = record { path = refl; deletes = refl; made = tt; props = tt; text = refl }
+
+-- a copy of a kept path is written with its new number
+pub same_copy : (settings : Settings) (number : ℕ → ℕ → Type 0) (old new : ℕ) (source path : List ℕ)
+    → keeps settings (path_of source) ≡ true → number old new
+    → IsNewChange settings as_it_was number (copy old source path) (copy new source path)
+same_copy settings number old new source path kept is =
+    record { path = refl; deletes = refl; made = (kept, is, refl); props = tt; text = refl }
+
+-- loaded dumps
+
+-- what stands at a path in a revision
+abbrev pub node_at : Option (List Tree) → ℕ → List ℕ → Option Node
+node_at trees number path =
+    option_and_then (λ tree. tree (path_of path)) (option_and_then (λ ts. slice_get ts number) trees)
+
+-- what stands at a path once these revisions are loaded into a new repository
+abbrev pub stands : List (List Change) → List ℕ → Option Node
+stands revisions path = node_at (loaded_over root_alone revisions) (length revisions) path
+
+-- whether these revisions load, and one more with this change alone is refused
+abbrev pub is_refused : List (List Change) → Change → Bool
+is_refused revisions c =
+    is_some (loaded_over root_alone revisions) && is_none (loaded_over root_alone (revisions ++ (c ∷ []) ∷ []))

@@ -1,0 +1,139 @@
+-- Worked values of the definitions, computed and proved by the kernel.
+use Rattle.std.proofs.Common.{◌≡◌, true, false, List, [], ◌∷◌, Some, None, length, codes, refl}
+use Rattle.dump_rules.specs.Renumbering.{image}
+use Rattle.dump_trees.specs.Paths.{path_text, path_of, keeps, below, parent_of}
+use Rattle.dump_trees.specs.Trees.{Node, Tree, root_alone}
+use Rattle.dump_trees.specs.Changes.{Change}
+use Rattle.dump_trees.specs.Restriction.{given}
+use Rattle.dump_trees.specs.Revisions.{loaded_over, kept_of, AreFiltered}
+use Rattle.dump_trees.specs.HistoryLaws.{ImagesRestrict}
+use Rattle.dump_trees.specs.Quiet.{is_quiet, are_quiet}
+use Rattle.dump_trees.proofs.quiet.QuietLemmas.{quiet_history}
+use Rattle.dump_trees.proofs.values.ValueParts.{including, excluding, none_more, as_it_was, entries_stay, folder, file, copy, deletion, same_folder, same_file, same_copy, node_at}
+
+-- paths
+
+names : path_of (codes "/trunk/a") ≡ codes "trunk" ∷ codes "a" ∷ []
+names = refl
+
+no_slash : path_of (codes "trunk/a") ≡ codes "trunk" ∷ codes "a" ∷ []
+no_slash = refl
+
+root : path_of [] ≡ []
+root = refl
+
+its_text : path_text (codes "trunk" ∷ codes "a" ∷ []) ≡ codes "/trunk/a"
+its_text = refl
+
+rest : below (path_of (codes "trunk")) (path_of (codes "trunk/a/b")) ≡ Some (path_of (codes "a/b"))
+rest = refl
+
+no_rest : below (path_of (codes "trunk")) (path_of (codes "trunk2")) ≡ None
+no_rest = refl
+
+parent : parent_of (path_of (codes "trunk/a/b")) ≡ Some (path_of (codes "trunk/a"))
+parent = refl
+
+-- a history that is kept in part, with a dropped revision and a copy from behind it
+
+abbrev pub whole : List (List Change)
+whole = (folder (codes "a") ∷ folder (codes "a/b") ∷ folder (codes "c") ∷ [])
+    ∷ (file (codes "c/x") (codes "1") ∷ [])
+    ∷ (file (codes "a/b/f") (codes "2") ∷ [])
+    ∷ (copy 3 (codes "a/b/f") (codes "a/b/g") ∷ [])
+    ∷ []
+
+abbrev pub part : List (List Change)
+part = (folder (codes "a/b") ∷ [])
+    ∷ (file (codes "a/b/f") (codes "2") ∷ [])
+    ∷ (copy 2 (codes "a/b/f") (codes "a/b/g") ∷ [])
+    ∷ []
+
+whole_loads : node_at (loaded_over root_alone whole) 4 (codes "a/b/g") ≡ Some (Node.File [] (codes "2"))
+whole_loads = refl
+
+part_loads : node_at (loaded_over (given (including (codes "a/b"))) part) 3 (codes "a/b/g") ≡ Some
+    (Node.File [] (codes "2"))
+part_loads = refl
+
+given_folder : given (including (codes "a/b")) (path_of (codes "a")) ≡ Some (Node.Folder [])
+given_folder = refl
+
+its_image : image (kept_of (including (codes "a/b")) none_more whole) 4 ≡ Some 3
+its_image = refl
+
+dropped_image : image (kept_of (including (codes "a/b")) none_more whole) 2 ≡ Some 1
+dropped_image = refl
+
+all_quiet : are_quiet (including (codes "a/b")) whole ≡ true
+all_quiet = refl
+
+-- the part is what the filter writes of the whole
+is_part : AreFiltered (including (codes "a/b")) as_it_was none_more whole part
+is_part = (
+  folder (codes "a/b") ∷ [],
+  _,
+  refl,
+  (folder (codes "a/b"), [], refl, same_folder _ _ (codes "a/b"), refl),
+  (
+    file (codes "a/b/f") (codes "2") ∷ [],
+    _,
+    refl,
+    (file (codes "a/b/f") (codes "2"), [], refl, same_file _ _ (codes "a/b/f") (codes "2"), refl),
+    (
+      copy 2 (codes "a/b/f") (codes "a/b/g") ∷ [],
+      [],
+      refl,
+      (
+        copy 2 (codes "a/b/f") (codes "a/b/g"),
+        [],
+        refl,
+        same_copy (including (codes "a/b")) _ 3 2 (codes "a/b/f") (codes "a/b/g") refl refl,
+        refl,
+      ),
+      refl,
+    ),
+  ),
+)
+
+-- so the law tells of the two loads, whatever their trees
+the_law : (trees : List Tree) → loaded_over root_alone whole ≡ Some trees
+    → (others : List Tree) × (loaded_over (given (including (codes "a/b"))) part ≡ Some others) × (length others ≡ 4)
+    × ImagesRestrict (including (codes "a/b")) as_it_was
+    (image (kept_of (including (codes "a/b")) none_more whole)) trees others
+the_law trees at =
+    quiet_history (including (codes "a/b")) as_it_was entries_stay none_more whole part trees refl at refl refl is_part
+
+-- what gives an alarm, and what it warns of
+
+-- a copy that loses what is excluded below its source: it is there in the whole load, at a kept path
+loses : is_quiet (excluding (codes "trunk/big")) (copy 1 (codes "trunk") (codes "branch")) ≡ false
+loses = refl
+
+lost : node_at (loaded_over root_alone
+    ((folder (codes "trunk") ∷ file (codes "trunk/big") (codes "1") ∷ []) ∷
+    (copy 1 (codes "trunk") (codes "branch") ∷ []) ∷ []))
+    2 (codes "branch/big") ≡ Some (Node.File [] (codes "1"))
+lost = refl
+
+lost_is_kept : keeps (excluding (codes "trunk/big")) (path_of (codes "branch/big")) ≡ true
+lost_is_kept = refl
+
+not_there : node_at (loaded_over (given (excluding (codes "trunk/big")))
+    ((folder (codes "trunk") ∷ []) ∷ (copy 1 (codes "trunk") (codes "branch") ∷ []) ∷ [])) 2 (codes "branch/big") ≡ None
+not_there = refl
+
+-- a copy that lets in what is to be left out
+lets_in : is_quiet (excluding (codes "branch/secret")) (copy 1 (codes "trunk") (codes "branch")) ≡ false
+lets_in = refl
+
+-- a folder that is deleted or copied as a whole, above an included prefix
+deletes_above : is_quiet (including (codes "a/b")) (deletion (codes "a")) ≡ false
+deletes_above = refl
+
+copies_above : is_quiet (including (codes "a/b")) (copy 1 (codes "c") (codes "a")) ≡ false
+copies_above = refl
+
+-- a copy of what isn't kept, with no properties of its own
+without_props : is_quiet (including (codes "a")) (copy 1 (codes "c/f") (codes "a/f")) ≡ false
+without_props = refl

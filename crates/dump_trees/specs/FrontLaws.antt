@@ -1,0 +1,87 @@
+-- The laws of the first revisions of a dump: they hold whatever changes the revisions behind them make, also where one
+-- of these is refused or isn't separated.
+use Rattle.std.specs.Prelude.{◌≡◌, ℕ, suc, ◌≤◌, List, [], ◌∷◌, ◌++◌, length, take, Some, IsTrue}
+use Rattle.dump_text.specs.PropertyList.{Property}
+use Rattle.dump_rules.specs.Settings.{Settings}
+use Rattle.dump_rules.specs.Renumbering.{KeptRevisions, image}
+use Rattle.dump_trees.specs.Trees.{Tree, root_alone}
+use Rattle.dump_trees.specs.Changes.{Change}
+use Rattle.dump_trees.specs.Restriction.{given, NewProperty, KeepsEntries}
+use Rattle.dump_trees.specs.StepLaws.{IsMade}
+use Rattle.dump_trees.specs.Revisions.{loaded_over, EmptyRule, stays_numbered, AreNewRevisions, kept_of, IsWrittenNumber, AreFiltered, AllRevisionsSeparate}
+use Rattle.dump_trees.specs.HistoryLaws.{ImagesRestrict}
+use Rattle.dump_trees.specs.Quiet.{are_quiet, nowhere_is_over}
+
+-- what is written begins with what is written of the first revisions; this part, loaded over the given folders, has a
+-- revision for each kept one of them, and the tree at the image of each of their numbers is the restricted tree. The
+-- numbers and images are those of the whole dump
+pub record FrontLoads (settings : Settings) (IsNew : NewProperty) (rule : EmptyRule) (kept : KeptRevisions)
+    (front written : List (List Change)) (trees : List Tree) : Type 0 where
+  pub first : List (List Change)
+  pub more : List (List Change)
+  pub others : List Tree
+  pub begins : written ≡ first ++ more
+  pub new : AreNewRevisions settings IsNew (IsWrittenNumber settings kept) rule front first
+  pub loads : loaded_over (given settings) first ≡ Some others
+  pub size : length others ≡ length (kept_of settings rule front).numbers
+  pub images : ImagesRestrict settings IsNew (image kept) trees others
+
+-- where the first revisions load and are separated, their filtered part loads, and has the restricted trees
+abbrev pub FrontRestricts : Settings → NewProperty → Type 0
+FrontRestricts settings IsNew = (rule : EmptyRule) (front rest written : List (List Change)) (trees : List Tree) →
+    IsTrue (stays_numbered settings rule front)
+    → loaded_over root_alone front ≡ Some trees
+    → AllRevisionsSeparate settings (root_alone ∷ []) root_alone front
+    → AreFiltered settings IsNew rule (front ++ rest) written
+    → FrontLoads settings IsNew rule (kept_of settings rule (front ++ rest)) front written trees
+
+-- so for each way to make new properties that keeps entries
+abbrev pub EachFrontRestricts : Type 0
+EachFrontRestricts = (settings : Settings) (make : Property → Property) →
+    KeepsEntries (IsMade make) → FrontRestricts settings (IsMade make)
+
+-- the same where the changes of the first revisions are quiet, and no lost copy in them is made over something
+abbrev pub QuietFrontRestricts : Settings → NewProperty → Type 0
+QuietFrontRestricts settings IsNew = (rule : EmptyRule) (front rest written : List (List Change)) (trees : List Tree) →
+    IsTrue (stays_numbered settings rule front)
+    → loaded_over root_alone front ≡ Some trees
+    → IsTrue (are_quiet settings front)
+    → IsTrue (nowhere_is_over settings (root_alone ∷ []) root_alone front)
+    → AreFiltered settings IsNew rule (front ++ rest) written
+    → FrontLoads settings IsNew rule (kept_of settings rule (front ++ rest)) front written trees
+
+-- so for each way to make new properties that keeps entries
+abbrev pub EachQuietFrontRestricts : Type 0
+EachQuietFrontRestricts = (settings : Settings) (make : Property → Property) →
+    KeepsEntries (IsMade make) → QuietFrontRestricts settings (IsMade make)
+
+-- where both dumps load whole, and the first revisions are quiet: up to the last one of these, the tree at the image of
+-- each number is the restricted tree that the whole dump has there
+abbrev pub QuietLoadsRestrict : Settings → NewProperty → Type 0
+QuietLoadsRestrict settings IsNew = (rule : EmptyRule) (front rest written : List (List Change))
+    (trees others : List Tree) →
+    IsTrue (stays_numbered settings rule front)
+    → loaded_over root_alone (front ++ rest) ≡ Some trees
+    → loaded_over (given settings) written ≡ Some others
+    → IsTrue (are_quiet settings front)
+    → IsTrue (nowhere_is_over settings (root_alone ∷ []) root_alone front)
+    → AreFiltered settings IsNew rule (front ++ rest) written
+    → ImagesRestrict settings IsNew (image (kept_of settings rule (front ++ rest)))
+    (take (suc (length front)) trees) others
+
+-- so for each way to make new properties that keeps entries
+abbrev pub EachQuietLoadsRestrict : Type 0
+EachQuietLoadsRestrict = (settings : Settings) (make : Property → Property) →
+    KeepsEntries (IsMade make) → QuietLoadsRestrict settings (IsMade make)
+
+-- where more revisions load, the first ones do, and their trees stand first
+abbrev pub BegunTreesStay : Type 0
+BegunTreesStay = (first : Tree) (front rest : List (List Change)) (all : List Tree) →
+    loaded_over first (front ++ rest) ≡ Some all
+    → (trees more : List Tree) × (loaded_over first front ≡ Some trees) × (all ≡ trees ++ more)
+
+-- the image of a number of the first revisions is the same without those behind them
+abbrev pub BegunImagesStay : Type 0
+BegunImagesStay = (settings : Settings) (rule : EmptyRule) (front rest : List (List Change)) (number : ℕ) →
+    number ≤ length front
+    → image (kept_of settings rule (front ++ rest)) number ≡ image (kept_of settings rule front) number

@@ -1,0 +1,89 @@
+-- Revisions: how a dump whose revisions are numbered 0, 1, 2 and so on is loaded, and what the filter leaves of it.
+-- Revision 0 has no changes, so the lists begin with the changes of revision 1.
+use Rattle.std.specs.Prelude.{◌≡◌, ℕ, suc, Bool, ◌||◌, List, [], ◌∷◌, ◌++◌, Option, Some, option_and_then, slice_get, if◌then◌else◌, MatchBool, ⊤}
+use Rattle.std.specs.List.{list_all, list_any}
+use Rattle.dump_rules.specs.Settings.{Settings}
+use Rattle.dump_rules.specs.Renumbering.{KeptRevisions, image}
+use Rattle.dump_trees.specs.Paths.{keeps}
+use Rattle.dump_trees.specs.Trees.{Tree}
+use Rattle.dump_trees.specs.Changes.{Change, History, step, steps}
+use Rattle.dump_trees.specs.Restriction.{NewProperty, NewNumber, IsNewChange}
+use Rattle.dump_trees.specs.Separation.{Separates}
+
+-- the trees of a repository with these trees, of which the youngest is this, once more revisions are loaded; none where
+-- one is refused
+abbrev pub loaded : List Tree → Tree → List (List Change) → Option (List Tree)
+loaded trees youngest [] = Some trees
+loaded trees youngest (changes ∷ revisions) =
+    option_and_then (λ tree. loaded (trees ++ tree ∷ []) tree revisions) (steps (slice_get trees) youngest changes)
+
+-- the trees of a repository whose revision 0 has this tree, once these revisions are loaded
+abbrev pub loaded_over : Tree → List (List Change) → Option (List Tree)
+loaded_over first revisions = loaded (first ∷ []) first revisions
+
+-- what the filter writes of the changes of a revision: of each kept one its new form, and of the others nothing
+abbrev pub AreNewChanges : Settings → NewProperty → NewNumber → List Change → List Change → Type 0
+AreNewChanges settings IsNew IsNumber [] written = written ≡ []
+AreNewChanges settings IsNew IsNumber (c ∷ changes) written =
+    MatchBool (keeps settings c.path)
+    ((new : Change) × (rest : List Change) × (written ≡ new ∷ rest) × IsNewChange settings IsNew IsNumber c new
+    × AreNewChanges settings IsNew IsNumber changes rest)
+    (AreNewChanges settings IsNew IsNumber changes written)
+
+-- which revisions without a kept change are kept
+abbrev pub EmptyRule : Type 0
+EmptyRule = List Change → Bool
+
+-- whether the filter keeps a revision: one with a kept change, or one that the rule keeps
+abbrev pub keeps_revision : Settings → EmptyRule → List Change → Bool
+keeps_revision settings rule changes = list_any (λ (c : Change). keeps settings c.path) changes || rule changes
+
+-- whether revisions numbered 0, 1, 2 and so on are so again where they are filtered: they are renumbered, or none is
+-- dropped
+abbrev pub stays_numbered : Settings → EmptyRule → List (List Change) → Bool
+stays_numbered settings rule revisions =
+    settings.renumber || list_all (λ changes. keeps_revision settings rule changes) revisions
+
+-- what the filter writes of the revisions: of each kept one the changes that it writes
+abbrev pub AreNewRevisions : Settings → NewProperty → NewNumber → EmptyRule → List (List Change) → List (List Change)
+    → Type 0
+AreNewRevisions settings IsNew IsNumber rule [] written = written ≡ []
+AreNewRevisions settings IsNew IsNumber rule (changes ∷ revisions) written =
+    MatchBool (keeps_revision settings rule changes)
+    ((new : List Change) × (rest : List (List Change)) × (written ≡ new ∷ rest)
+    × AreNewChanges settings IsNew IsNumber changes new × AreNewRevisions settings IsNew IsNumber rule revisions rest)
+    (AreNewRevisions settings IsNew IsNumber rule revisions written)
+
+-- the numbers of the kept ones of these revisions, the first of which has this number
+abbrev pub kept_from : Settings → EmptyRule → ℕ → List (List Change) → List ℕ
+kept_from settings rule number [] = []
+kept_from settings rule number (changes ∷ revisions) =
+    if keeps_revision settings rule changes then number ∷ kept_from settings rule (suc number) revisions
+    else kept_from settings rule (suc number) revisions
+
+-- the kept revisions of a dump; revision 0 is always kept
+abbrev pub kept_of : Settings → EmptyRule → List (List Change) → KeptRevisions
+kept_of settings rule revisions = record { first = 0; numbers = 0 ∷ kept_from settings rule 1 revisions }
+
+-- the number that is written for a copy's revision: its image, or itself where revisions aren't renumbered
+abbrev pub IsWrittenNumber : Settings → KeptRevisions → NewNumber
+IsWrittenNumber settings kept = λ old new. MatchBool settings.renumber (image kept old ≡ Some new) (new ≡ old)
+
+-- what the filter writes of a whole dump, whose numbers it renumbers by the dump's own kept revisions
+abbrev pub AreFiltered : Settings → NewProperty → EmptyRule → List (List Change) → List (List Change) → Type 0
+AreFiltered settings IsNew rule revisions written =
+    AreNewRevisions settings IsNew (IsWrittenNumber settings (kept_of settings rule revisions)) rule revisions written
+
+-- each of the changes of a revision is separated
+abbrev pub AllSeparate : Settings → History → Tree → List Change → Type 0
+AllSeparate settings history before [] = ⊤
+AllSeparate settings history before (c ∷ changes) = (after : Tree) → step history before c ≡ Some after →
+    Separates settings history before c after × AllSeparate settings history after changes
+
+-- each change of each revision is
+abbrev pub AllRevisionsSeparate : Settings → List Tree → Tree → List (List Change) → Type 0
+AllRevisionsSeparate settings trees youngest [] = ⊤
+AllRevisionsSeparate settings trees youngest (changes ∷ revisions) =
+    AllSeparate settings (slice_get trees) youngest changes
+    × ((tree : Tree) → steps (slice_get trees) youngest changes ≡ Some tree
+    → AllRevisionsSeparate settings (trees ++ tree ∷ []) tree revisions)
