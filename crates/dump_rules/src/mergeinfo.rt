@@ -63,7 +63,7 @@ pub(crate) fn cut_lf(value: &[u8]) -> &[u8]
 
 /// Whether the value of the property is mergeinfo. It takes no memory: lists whose ranges rise, or
 /// are all of one kind, are read in one pass, and in any other list each range is held against all,
-/// in one pass for each 64 of them.
+/// in one pass for each 4,096 of the rarer kind.
 pub fn merge_reads(value: &[u8]) -> bool
     ensures { IsTrue result ↔ HasMergeLines value.now }
 {
