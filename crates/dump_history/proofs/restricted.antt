@@ -2,4 +2,5 @@
 pub mod LoadsOnce
 pub mod FrontSize
 pub mod FilteredLaw
+pub mod RaisedLemmas
 pub mod FolderLaw

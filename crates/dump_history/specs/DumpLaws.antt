@@ -1,26 +1,26 @@
 -- The law of filtered dumps: what is written, loaded over the given folders, has the trees that the whole dump has,
 -- restricted to the kept paths.
-use Rattle.std.specs.Prelude.{◌≡◌, ℕ, Bool, not, ◌&&◌, ◌||◌, List, [], ◌∷◌, ◌++◌, length, drop, take, filter, Option, Some, None, IsTrue}
+use Rattle.std.specs.Prelude.{◌≡◌, ℕ, Bool, not, ◌||◌, List, [], ◌∷◌, ◌++◌, length, drop, take, filter, Option, Some, None, IsTrue}
 use Rattle.std.specs.List.{AllZip, list_all, list_any}
 use Rattle.dump_text.specs.PropertyList.{Property}
 use Rattle.dump_records.specs.DumpText.{Ending, HasRecords}
 use Rattle.dump_records.specs.RecordText.{DumpRecord}
 use Rattle.dump_rules.specs.Settings.{Settings}
-use Rattle.dump_rules.specs.Renumbering.{image}
+use Rattle.dump_rules.specs.Renumbering.{KeptRevisions, image}
 use Rattle.dump_digest.specs.RecordParts.{is_mergeinfo, HasPropertyList}
 use Rattle.dump_filter.specs.FilterLaws.{LengthsFit}
 use Rattle.dump_filter.specs.Groups.{Group, groups, keeps_group, is_padded, kept_revisions}
 use Rattle.dump_filter.specs.NewContent.{IsNewProperty, revision_properties}
 use Rattle.dump_filter.specs.WholeText.{IsCleanText}
-use Rattle.dump_trees.specs.Paths.{keeps}
 use Rattle.dump_trees.specs.Trees.{Tree, root_alone}
 use Rattle.dump_trees.specs.Changes.{PropertyChange, Change}
 use Rattle.dump_trees.specs.Restriction.{given}
 use Rattle.dump_trees.specs.Quiet.{are_quiet, nowhere_is_over}
 use Rattle.dump_trees.specs.Revisions.{loaded, loaded_over, AllRevisionsSeparate}
-use Rattle.dump_trees.specs.MovedLaws.{revisions_behind}
+use Rattle.dump_trees.specs.MovedLaws.{revisions_behind, AreRevisionsBehind}
 use Rattle.dump_trees.specs.HistoryLaws.{ImagesRestrict}
 use Rattle.dump_history.specs.RecordChanges.{Patching}
+use Rattle.dump_history.specs.RaisedMergeinfo.{IsRaised}
 use Rattle.dump_history.specs.DumpChanges.{MakeRevisions, HaveRevisionProperties, LoadsAs}
 
 -- whether the numbers of a dump numbered 0, 1, 2 and so on are so again where it is filtered: revisions are renumbered,
@@ -137,36 +137,48 @@ sets_mergeinfo c = list_any is_mergeinfo (entries_of c.props)
 abbrev pub sets_no_mergeinfo : List (List Change) → Bool
 sets_no_mergeinfo revisions = list_all (λ changes. not (list_any sets_mergeinfo changes)) revisions
 
--- whether no kept change does
-abbrev pub keeps_no_mergeinfo : Settings → List (List Change) → Bool
-keeps_no_mergeinfo settings revisions = list_all
-    (λ changes. not (list_any (λ (c : Change). keeps settings c.path && sets_mergeinfo c) changes)) revisions
-
 -- behind older revisions, the last of which has the first tree, a dump that sets no mergeinfo makes the same trees; the
--- load raises the numbers of its copies by as many. Numbers in mergeinfo it raises too, which isn't told here
+-- load raises the numbers of its copies by as many
 abbrev pub DumpLoadsTheSameBehindOthers : Type 0
 DumpLoadsTheSameBehindOthers = (patched : Patching) (older : List Tree) (first : Tree) (records : List DumpRecord)
     (revisions : List (List Change)) (trees : List Tree) →
     LoadsAs patched first records revisions trees → IsTrue (sets_no_mergeinfo revisions)
     → loaded (older ++ first ∷ []) first (revisions_behind (length older) revisions) ≡ Some (older ++ trees)
 
--- an administrator has made the given folders in revision 1 of a new repository, and loads the text behind it: it
--- makes a revision for each kept one of these records but the first, whose properties are lost, and the trees behind
--- revision 0 are these trees, restricted. So each image stands at a number that is higher by one
+-- revisions that set no mergeinfo stay as they are behind others, but for the numbers of their copies
+abbrev pub PlainRevisionsStay : Type 0
+PlainRevisionsStay = (count : ℕ) (revisions : List (List Change)) → IsTrue (sets_no_mergeinfo revisions)
+    → AreRevisionsBehind (IsRaised count) count revisions (revisions_behind count revisions)
+
+-- a property of the dump, and what becomes of it where the filtered dump is loaded behind this many revisions
+abbrev pub IsPropertyBehind : ℕ → Settings → KeptRevisions → Property → Property → Type 0
+IsPropertyBehind count settings kept old new =
+    (written : Property) × IsNewProperty settings kept old written × IsRaised count written new
+
+-- the trees at the images of the dump's numbers are its trees, restricted, with their mergeinfo raised by this many
+abbrev pub TreesRestrictBehind : ℕ → Settings → List DumpRecord → List Tree → List Tree → Type 0
+TreesRestrictBehind count settings records trees others =
+    ImagesRestrict settings (IsPropertyBehind count settings (kept_revisions settings records))
+    (image (kept_revisions settings records)) trees others
+
+-- an administrator has made the given folders in revision 1 of a new repository, and loads the text behind it. Where
+-- the load raises each copy's number, and mergeinfo, by one, it makes a revision for each kept one of these records but
+-- the first, whose properties are lost, and the trees behind revision 0 are these trees, restricted. So each image
+-- stands at a number that is higher by one
 abbrev pub LoadsBehindFolders : Patching → Settings → List DumpRecord → List Tree → List ℕ → Type 0
 LoadsBehindFolders patched settings records trees text =
-    (again : List DumpRecord) × (written : List (List Change)) × (others : List Tree)
+    (again : List DumpRecord) × (written : List (List Change))
     × HasRecords text again Ending.Whole
     × MakeRevisions patched again written
-    × (loaded (root_alone ∷ given settings ∷ []) (given settings) (revisions_behind 1 written)
-    ≡ Some (root_alone ∷ others))
+    × ((moved : List (List Change)) → AreRevisionsBehind (IsRaised 1) 1 written moved
+    → (others : List Tree)
+    × (loaded (root_alone ∷ given settings ∷ []) (given settings) moved ≡ Some (root_alone ∷ others))
     × (length others ≡ length (kept_revisions settings records).numbers)
-    × TreesRestrict settings records trees others
+    × TreesRestrictBehind 1 settings records trees others)
     × AllZip (KeepsProperties settings) (drop 1 (filter (keeps_group settings) (groups records)))
     (drop 1 (groups again))
 
--- so does a dump of which no kept change sets mergeinfo, no change gives an alarm, and no copy that loses its source is
--- made over something
+-- so does a dump of which no change gives an alarm, and no copy that loses its source is made over something
 abbrev pub QuietDumpRestrictsBehindFolders : Type 0
 QuietDumpRestrictsBehindFolders = (patched : Patching) (settings : Settings) (dump text : List ℕ)
     (records : List DumpRecord) (revisions : List (List Change)) (trees : List Tree) →
@@ -175,5 +187,4 @@ QuietDumpRestrictsBehindFolders = (patched : Patching) (settings : Settings) (du
     → LoadsAs patched root_alone records revisions trees
     → IsTrue (are_quiet settings revisions)
     → IsTrue (nowhere_is_over settings (root_alone ∷ []) root_alone revisions)
-    → IsTrue (keeps_no_mergeinfo settings revisions)
     → LoadsBehindFolders patched settings records trees text

@@ -1,5 +1,5 @@
 //! Laws of dumps and the repositories that they make, each the contract of a function that does nothing.
-ghost use Rattle.dump_history.specs.DumpLaws.{DumpLoadsOnce, DumpLoadsTheSameBehindOthers, FilteredDumpRestricts, FilteredDumpFrontRestricts, QuietDumpRestricts, QuietDumpRestrictsBehindFolders, QuietDumpFrontRestricts};
+ghost use Rattle.dump_history.specs.DumpLaws.{DumpLoadsOnce, DumpLoadsTheSameBehindOthers, FilteredDumpRestricts, PlainRevisionsStay, FilteredDumpFrontRestricts, QuietDumpRestricts, QuietDumpRestrictsBehindFolders, QuietDumpFrontRestricts};
 ghost use Rattle.dump_history.specs.SurveyLaws.{AlarmsAreExact, FindingsAreOnce, ObstaclesAreExact, SurveyedDumpRestricts, SurveyedDumpFrontRestricts};
 
 /// What the filter writes of a dump without a fault, loaded over the given folders, has the trees that the whole dump
@@ -20,7 +20,7 @@ pub fn each_filtered_front_restricts()
 {}
 
 /// Loaded behind the given folders, as an administrator makes them in a revision of their own, what the filter writes
-/// of a dump whose kept nodes set no mergeinfo has the restricted trees, each one revision later.
+/// has the restricted trees, each one revision later, and the numbers in mergeinfo are higher by one.
 pub fn each_dump_restricts_behind_folders()
     ensures { QuietDumpRestrictsBehindFolders }
 {}
@@ -30,9 +30,11 @@ pub fn each_dump_loads_once()
     ensures { DumpLoadsOnce }
 {}
 
-/// Behind older revisions a dump that sets no mergeinfo makes the trees that it makes in a new repository.
+/// Behind older revisions a dump that sets no mergeinfo makes the trees that it makes in a new repository; its changes
+/// are those that a load makes of them there.
 pub fn each_dump_loads_the_same_behind_others()
-    ensures { DumpLoadsTheSameBehindOthers }
+    ensures same { DumpLoadsTheSameBehindOthers }
+    ensures plain { PlainRevisionsStay }
 {}
 
 /// What a survey finds in a node is one list, and it is exact: a node without an obstacle makes a change, and no other

@@ -3,3 +3,4 @@ pub mod KeptNumbers
 pub mod HistoryLemmas
 pub mod FrontLemmas
 pub mod MovedLemmas
+pub mod AlikeLemmas

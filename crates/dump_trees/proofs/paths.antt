@@ -2,3 +2,4 @@
 pub mod PathNames
 pub mod KeptPaths
 pub mod PrefixRests
+pub mod GivenFolders

@@ -6,4 +6,5 @@ pub mod EditValues
 pub mod RestrictionValues
 pub mod SeparationValues
 pub mod FrontValues
+pub mod MovedValues
 pub mod PremiseValues

@@ -1,9 +1,14 @@
 -- A dump that is loaded behind other revisions: svnadmin load gives its revisions higher numbers, and raises the
--- numbers of its copies by as much (load-fs-vtable.c). It raises the numbers in mergeinfo too, which isn't told here.
--- An administrator makes the given folders in such revisions.
-use Rattle.std.specs.Prelude.{◌≡◌, ℕ, ◌+◌, List, [], ◌∷◌, ◌++◌, length, map, Option, Some, None, option_map}
-use Rattle.dump_trees.specs.Trees.{Tree}
+-- numbers of its copies by as much (load-fs-vtable.c). It raises the numbers in mergeinfo too, so it sets new
+-- properties. An administrator makes the given folders in such revisions.
+use Rattle.std.specs.Prelude.{◌≡◌, ℕ, ◌+◌, List, [], ◌∷◌, ◌++◌, length, map, Option, Some, None, option_map, slice_get}
+use Rattle.std.specs.List.{AllZip}
+use Rattle.dump_text.specs.PropertyList.{Property}
+use Rattle.dump_trees.specs.Paths.{NodePath}
+use Rattle.dump_trees.specs.Trees.{Tree, HasFolders}
 use Rattle.dump_trees.specs.Changes.{Made, Change}
+use Rattle.dump_trees.specs.Restriction.{NewProperty, KeepsEntries, IsNewNode, AreNewProps}
+use Rattle.dump_trees.specs.StepLaws.{IsMade}
 use Rattle.dump_trees.specs.Revisions.{loaded, loaded_over}
 
 -- what is made, with the number of a copy higher by this many
@@ -27,3 +32,39 @@ abbrev pub LoadsBehindOthers : Type 0
 LoadsBehindOthers = (older : List Tree) (first : Tree) (revisions : List (List Change)) →
     loaded (older ++ first ∷ []) first (revisions_behind (length older) revisions)
     ≡ option_map (λ trees. older ++ trees) (loaded_over first revisions)
+
+-- the change that a load makes of another one behind this many revisions, where it sets new properties
+pub record IsChangeBehind (IsNew : NewProperty) (count : ℕ) (old new : Change) : Type 0 where
+  pub path : new.path ≡ old.path
+  pub deletes : new.deletes ≡ old.deletes
+  pub made : new.made ≡ made_behind count old.made
+  pub props : AreNewProps IsNew old.props new.props
+  pub text : new.text ≡ old.text
+
+-- so for the changes of each revision, in order
+abbrev pub AreRevisionsBehind : NewProperty → ℕ → List (List Change) → List (List Change) → Type 0
+AreRevisionsBehind IsNew count revisions moved =
+    AllZip (λ changes others. AllZip (IsChangeBehind IsNew count) changes others) revisions moved
+
+-- the same nodes stand in both trees, but for their new properties
+abbrev pub AreAlike : NewProperty → Tree → Tree → Type 0
+AreAlike IsNew old new = (path : NodePath) → IsNewNode IsNew (old path) (new path)
+
+-- so for the trees at each number
+abbrev pub AllAreAlike : NewProperty → List Tree → List Tree → Type 0
+AllAreAlike IsNew trees others = (number : ℕ) (tree : Tree) → slice_get trees number ≡ Some tree →
+    (other : Tree) × (slice_get others number ≡ Some other) × AreAlike IsNew tree other
+
+-- behind older revisions, the last of which has the first tree, a dump makes the trees that it makes in a new
+-- repository whose revision 0 has this tree, but for the new properties
+abbrev pub LoadsAlike : NewProperty → Type 0
+LoadsAlike IsNew = (older : List Tree) (first : Tree) (revisions moved : List (List Change)) (trees : List Tree) →
+    HasFolders first → AreAlike IsNew first first
+    → AreRevisionsBehind IsNew (length older) revisions moved
+    → loaded_over first revisions ≡ Some trees
+    → (others : List Tree) × (loaded (older ++ first ∷ []) first moved ≡ Some (older ++ others))
+    × (length others ≡ length trees) × AllAreAlike IsNew trees others
+
+-- so for each way to make new properties that keeps entries
+abbrev pub EachLoadsAlike : Type 0
+EachLoadsAlike = (make : Property → Property) → KeepsEntries (IsMade make) → LoadsAlike (IsMade make)

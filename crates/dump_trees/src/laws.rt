@@ -1,7 +1,7 @@
 //! Laws of filtered dumps, each the contract of a function that does nothing.
 ghost use Rattle.dump_trees.specs.FrontLaws.{BegunImagesStay, BegunTreesStay, EachFrontRestricts, EachQuietFrontRestricts, EachQuietLoadsRestrict};
 ghost use Rattle.dump_trees.specs.HistoryLaws.{EachHistoryRestricts, EachRevisionRestricts};
-ghost use Rattle.dump_trees.specs.MovedLaws.{LoadsBehindOthers};
+ghost use Rattle.dump_trees.specs.MovedLaws.{EachLoadsAlike, LoadsBehindOthers};
 ghost use Rattle.dump_trees.specs.PathLaws.{KeepsAsTextDoes, TextsAreRead};
 ghost use Rattle.dump_trees.specs.Quiet.{AllQuietSeparate, EachQuietHistoryRestricts, QuietSeparates};
 ghost use Rattle.dump_trees.specs.StepLaws.{EachStepRestricts, FilteredIsNew};
@@ -65,7 +65,9 @@ pub fn each_quiet_front_restricts()
     ensures loads { EachQuietLoadsRestrict }
 {}
 
-/// Behind older revisions a dump makes the trees that it makes in a new repository.
+/// Behind older revisions a dump makes the trees that it makes in a new repository, also where the load sets new
+/// properties there, as it does of mergeinfo.
 pub fn each_dump_loads_behind_others()
-    ensures { LoadsBehindOthers }
+    ensures same { LoadsBehindOthers }
+    ensures alike { EachLoadsAlike }
 {}

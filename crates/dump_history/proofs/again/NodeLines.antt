@@ -139,6 +139,7 @@ module _ (settings : Settings) (kept : KeptRevisions) (r s : DumpRecord) (a : Is
       × (header_number copy_revision_name s.headers ≡ Some n) × (is_copy s ≡ true) × (copy_path s ≡ copy_path r))
       (is_copy s ≡ false))
 
+  -- the copy source of the node that is read again, by what becomes of the old one
   pub new_source : HasNewSource (becomes_plain settings r) (is_copy r)
   new_source = by_plain (becomes_plain settings r) (is_copy r) refl a.new_copy
     where

@@ -1,12 +1,17 @@
 -- The law of filtered dumps that are loaded behind the given folders.
-use Rattle.std.proofs.Common.{List, [], ◌∷◌, ap, ◌∙◌}
-use Rattle.std.specs.Prelude.{drop, option_map}
+use Rattle.std.proofs.Common.{List, [], ◌∷◌, ◌∙◌}
+use Rattle.std.specs.Prelude.{drop}
 use Rattle.std.specs.List.{AllZip}
+use Rattle.dump_filter.specs.Groups.{kept_revisions}
+use Rattle.dump_filter.specs.NewContent.{IsNewProperty}
 use Rattle.dump_trees.specs.Trees.{root_alone}
 use Rattle.dump_trees.specs.Restriction.{given}
-use Rattle.dump_trees.proofs.histories.MovedLemmas.{loads_behind}
+use Rattle.dump_trees.proofs.paths.GivenFolders.{given_folders}
+use Rattle.dump_trees.proofs.histories.AlikeLemmas.{loads_alike, given_alike, both_restrict}
+use Rattle.dump_history.specs.RaisedMergeinfo.{IsRaised}
 use Rattle.dump_history.specs.DumpLaws.{QuietDumpRestrictsBehindFolders}
 use Rattle.dump_history.proofs.restricted.FilteredLaw.{quiet_dump_restricts}
+use Rattle.dump_history.proofs.restricted.RaisedLemmas.{raised_entries}
 
 -- what holds of two lists entry by entry holds behind their first entries
 drop_first : {A B : Type 0} (R : A → B → Type 0) (xs : List A) (ys : List B) → AllZip R xs ys
@@ -16,19 +21,32 @@ drop_first R [] (y ∷ ys) all = absurd all
 drop_first R (x ∷ xs) [] all = absurd all
 drop_first R (x ∷ xs) (y ∷ ys) (first, all) = all
 
--- a dump of quiet changes of which no kept one sets mergeinfo, loaded behind the given folders, has the restricted trees
+-- a dump of quiet changes, loaded behind the given folders, has the restricted trees, with raised mergeinfo
 pub quiet_dump_restricts_behind : QuietDumpRestrictsBehindFolders
-quiet_dump_restricts_behind patched settings dump text records revisions trees clean fit keeps loads quiet over plain =
+quiet_dump_restricts_behind patched settings dump text records revisions trees clean fit keeps loads quiet over =
     let (again, written, others, has, loads_again, size, images, properties) =
     quiet_dump_restricts patched settings dump text records revisions trees clean fit keeps loads quiet over in (
       again,
       written,
-      others,
       has,
       loads_again.makes,
-      loads_behind (root_alone ∷ []) (given settings) written
-          ∙ ap (option_map (λ ts. root_alone ∷ ts)) loads_again.loads,
-      size,
-      images,
+      λ moved behind.
+          let (raised, loaded_are, same_size, alike) = loads_alike (IsRaised 1) (raised_entries 1) (root_alone ∷ [])
+          (given settings) written moved others (given_folders settings) (given_alike settings (IsRaised 1)) behind
+          loads_again.loads in (
+            raised,
+            loaded_are,
+            same_size ∙ size,
+            λ number tree at.
+                let (new, middle, image_is, stands, restricted) = images number tree at in
+                let (other, there, same) = alike new middle stands in (
+                  new,
+                  other,
+                  image_is,
+                  there,
+                  both_restrict (IsNewProperty settings (kept_revisions settings records)) (IsRaised 1) settings tree
+                      middle other restricted same,
+                ),
+          ),
       drop_first _ _ _ properties,
     )

@@ -18,7 +18,7 @@ use Rattle.dump_trees.specs.Restriction.{given}
 use Rattle.dump_trees.specs.Revisions.{loaded_over}
 use Rattle.dump_history.specs.RecordChanges.{Patching, copy_path, change_of, MakesChange}
 use Rattle.dump_history.specs.DumpChanges.{counts_from, has_ordered_nodes, MakeRevisions, HaveRevisionProperties, LoadsAs}
-use Rattle.dump_history.specs.DumpLaws.{keeps_numbering, TreesRestrict, KeepsProperties, RevisionsKeepProperties, LoadsRestricted, FrontLoadsRestricted, sets_no_mergeinfo, keeps_no_mergeinfo}
+use Rattle.dump_history.specs.DumpLaws.{keeps_numbering, TreesRestrict, KeepsProperties, RevisionsKeepProperties, LoadsRestricted, FrontLoadsRestricted, sets_no_mergeinfo}
 use Rattle.dump_history.specs.Findings.{Finding, AreFindingsOf}
 use Rattle.dump_history.proofs.values.WorkedDump.{line, record_at, version, zero, one, two, three, trunk, other, copy, records, settings, folder, revisions, none_of, third_tree}
 
@@ -311,21 +311,3 @@ merge_edited = refl
 
 merge_taken : sets_no_mergeinfo ((sets (Some (PropertyChange.Edited (merge None ∷ []))) ∷ []) ∷ []) ≡ true
 merge_taken = refl
-
--- of the dump that is filtered, kept changes count alone
-
-kept_merge : keeps_no_mergeinfo settings
-    ([] ∷ (sets None ∷ sets (Some (PropertyChange.Replaced (merge (Some []) ∷ []))) ∷ []) ∷ []) ≡ false
-kept_merge = refl
-
-kept_merge_edited : keeps_no_mergeinfo settings
-    ((sets (Some (PropertyChange.Edited (merge (Some []) ∷ []))) ∷ []) ∷ []) ≡ false
-kept_merge_edited = refl
-
-left_out_merge : keeps_no_mergeinfo settings
-    ((record (sets (Some (PropertyChange.Replaced (merge (Some []) ∷ [])))) { path = path_of (codes "other") } ∷ [])
-    ∷ []) ≡ true
-left_out_merge = refl
-
-kept_other : keeps_no_mergeinfo settings ((sets (Some (PropertyChange.Replaced (date ∷ []))) ∷ []) ∷ []) ≡ true
-kept_other = refl

@@ -127,11 +127,13 @@ free before after r at = at_place (λ b x a. NoFault (HoldsOfRecord settings b x
                 refl refl refl (no_copy (version ∷ zero ∷ one ∷ trunk ∷ two ∷ []) other refl),
             (
               free_of (version ∷ zero ∷ one ∷ trunk ∷ two ∷ other ∷ []) three
-                  (rises (version ∷ zero ∷ one ∷ trunk ∷ two ∷ other ∷ []) three 2 refl refl (lit< tt)) (none_of three refl)
+                  (rises (version ∷ zero ∷ one ∷ trunk ∷ two ∷ other ∷ []) three 2 refl refl (lit< tt))
+                  (none_of three refl)
                   refl refl refl (no_copy (version ∷ zero ∷ one ∷ trunk ∷ two ∷ other ∷ []) three refl),
               (
                 free_of (version ∷ zero ∷ one ∷ trunk ∷ two ∷ other ∷ three ∷ []) copy
-                    (follows (version ∷ zero ∷ one ∷ trunk ∷ two ∷ other ∷ three ∷ []) copy refl refl) (none_of copy refl)
+                    (follows (version ∷ zero ∷ one ∷ trunk ∷ two ∷ other ∷ three ∷ []) copy refl refl)
+                    (none_of copy refl)
                     refl refl refl copy_fine,
                 tt,
               ),

@@ -244,7 +244,8 @@ all_quiet settings trees youngest (changes ∷ revisions) quiet over =
           at),
     )
 
--- so the filtered dump of quiet changes has the restricted trees, for each relation of new properties that keeps entries
+-- so the filtered dump of quiet changes has the restricted trees, for each relation of new properties that keeps
+-- entries
 pub quiet_history : (settings : Settings) (IsNew : NewProperty) → KeepsEntries IsNew
     → QuietHistoryRestricts settings IsNew
 quiet_history settings IsNew entries rule revisions written trees numbered at quiet over new =

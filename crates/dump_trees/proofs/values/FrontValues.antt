@@ -1,5 +1,5 @@
--- Worked values of numbers, of first revisions and of a load behind others: a dump with an alarm in its third revision,
--- and one that is refused there; the law holds of the revisions before it.
+-- Worked values of numbers and of first revisions: a dump with an alarm in its third revision, and one that is refused
+-- there; the law holds of the revisions before it.
 use Rattle.std.proofs.Common.{◌≡◌, ℕ, true, false, List, [], ◌∷◌, ◌++◌, Some, None, is_none, codes, refl}
 use Rattle.std.specs.Prelude.{◌&&◌, is_some, take}
 use Rattle.dump_rules.specs.Settings.{Settings}
@@ -8,11 +8,10 @@ use Rattle.dump_trees.specs.Paths.{path_of, keeps}
 use Rattle.dump_trees.specs.Trees.{Node, Tree, root_alone}
 use Rattle.dump_trees.specs.Changes.{Change}
 use Rattle.dump_trees.specs.Restriction.{given, IsNewChange}
-use Rattle.dump_trees.specs.Revisions.{loaded, loaded_over, EmptyRule, stays_numbered, AreNewRevisions, kept_of, IsWrittenNumber}
+use Rattle.dump_trees.specs.Revisions.{loaded_over, EmptyRule, stays_numbered, AreNewRevisions, kept_of, IsWrittenNumber}
 use Rattle.dump_trees.specs.Quiet.{are_quiet}
 use Rattle.dump_trees.specs.HistoryLaws.{ImagesRestrict}
 use Rattle.dump_trees.specs.FrontLaws.{FrontLoads}
-use Rattle.dump_trees.specs.MovedLaws.{change_behind, revisions_behind}
 use Rattle.dump_trees.proofs.histories.FrontLemmas.{quiet_front, quiet_loads}
 use Rattle.dump_trees.proofs.values.ValueParts.{including, excluding, none_more, as_it_was, entries_stay, change, folder, file, copy, writing, same_folder, same_file, same_copy, node_at}
 
@@ -113,6 +112,11 @@ it_is_kept = refl
 
 filtered_lacks_it : node_at (loaded_over (given settings) (first ++ rest)) 3 (codes "branch/big") ≡ None
 filtered_lacks_it = refl
+
+-- one change that isn't quiet is enough, beside quiet ones
+one_of_two_is_not : are_quiet settings
+    ((file (codes "trunk/g") (codes "1") ∷ copy 1 (codes "trunk") (codes "branch") ∷ []) ∷ []) ≡ false
+one_of_two_is_not = refl
 
 -- the second has the law
 front_text : node_at (loaded_over root_alone (front ++ rest)) 2 (codes "trunk/f") ≡ Some (Node.File [] (codes "2"))
@@ -215,24 +219,3 @@ its_law trees at =
       (file (codes "trunk/f") (codes "3"), [], refl, same_file _ _ (codes "trunk/f") (codes "3"), refl),
       refl,
     ))
-
--- a dump behind other revisions: an administrator makes the folder a in a revision of its own, so the copy is of a
--- number that is higher by one
-
-number_behind : change_behind 1 (copy 2 (codes "a/f") (codes "a/g")) ≡ copy 3 (codes "a/f") (codes "a/g")
-number_behind = refl
-
-abbrev copying : List (List Change)
-copying =
-    (folder (codes "a/b") ∷ []) ∷ (file (codes "a/b/f") (codes "1") ∷ []) ∷
-    (copy 2 (codes "a/b/f") (codes "a/b/g") ∷ []) ∷ []
-
-abbrev made : Tree
-made = given (including (codes "a/b"))
-
-copied_behind : node_at (loaded (root_alone ∷ made ∷ []) made (revisions_behind 1 copying)) 4 (codes "a/b/g")
-    ≡ Some (Node.File [] (codes "1"))
-copied_behind = refl
-
-not_raised : is_none (loaded (root_alone ∷ made ∷ []) made copying) ≡ true
-not_raised = refl
