@@ -9,7 +9,7 @@ use Rattle.dump_trees.specs.Trees.{Node, Tree, put, root_alone}
 use Rattle.dump_trees.specs.Changes.{Made, TextChange, Change}
 use Rattle.dump_trees.specs.Restriction.{given, IsNewNode, IsRestricted, IsNewChange}
 use Rattle.dump_trees.specs.Revisions.{AreNewChanges, AreNewRevisions}
-use Rattle.dump_trees.proofs.values.ValueParts.{including_all, including, excluding, none_more, as_it_was, change, folder, file, copy, deletion, setting, writing, property}
+use Rattle.dump_trees.proofs.values.ValueParts.{including_all, including, excluding, none_more, as_it_was, change, folder, file, copy, deletion, setting, editing, writing, patching, property}
 
 -- two texts differ, and so do two lists of properties
 differs : codes "1" ≡ codes "2" → ⊥
@@ -165,6 +165,18 @@ other_properties : IsNew (including (codes "a")) (setting (one ∷ []) (change (
     (setting [] (change (codes "a"))) → ⊥
 other_properties new = new.props
 
+edits_become_whole : IsNew (including (codes "a")) (editing (one ∷ []) (change (codes "a")))
+    (setting (one ∷ []) (change (codes "a"))) → ⊥
+edits_become_whole new = new.props
+
+whole_becomes_edits : IsNew (including (codes "a")) (setting (one ∷ []) (change (codes "a")))
+    (editing (one ∷ []) (change (codes "a"))) → ⊥
+whole_becomes_edits new = new.props
+
+other_edits : IsNew (including (codes "a")) (editing (one ∷ []) (change (codes "a")))
+    (editing [] (change (codes "a"))) → ⊥
+other_edits new = new.props
+
 folder_of_file : IsNew (including (codes "a")) (record (change (codes "a")) { made = Some Made.NewFile })
     (folder (codes "a")) → ⊥
 folder_of_file new = new.made
@@ -181,6 +193,17 @@ stays_a_copy new = absurd (let bad : false ≡ true = new.made.0 in cc)
 without_text : IsNew (including (codes "a")) (copy 1 (codes "c/f") (codes "a/f"))
     (record (change (codes "a/f")) { made = Some Made.NewFile }) → ⊥
 without_text new = absurd (let bad : false ≡ true = new.made.1 in cc)
+
+-- a copy that loses its source may keep neither edits of its properties nor a text delta
+
+lost_edits : IsNew (including (codes "a")) (editing [] (writing (codes "1") (copy 1 (codes "c/f") (codes "a/f"))))
+    (editing [] (file (codes "a/f") (codes "1"))) → ⊥
+lost_edits new = absurd (let bad : false ≡ true = new.made.1 in cc)
+
+lost_patch : IsNew (including (codes "a"))
+    (setting [] (patching (λ old. Some old) (copy 1 (codes "c/f") (codes "a/f"))))
+    (setting [] (patching (λ old. Some old) (record (change (codes "a/f")) { made = Some Made.NewFile }))) → ⊥
+lost_patch new = absurd (let bad : false ≡ true = new.made.1 in cc)
 
 plain_of_kept : IsNew (including (codes "a")) (writing (codes "1") (copy 1 (codes "a/g") (codes "a/f")))
     (file (codes "a/f") (codes "1"))
