@@ -1,5 +1,5 @@
 -- What the threads brought back, put together.
-use Rattle.std.proofs.Common.{◌≡◌, ◌≢◌, ◌∙◌, ℕ, suc, ◌+◌, ◌≤◌, Bool, true, false, ◌||◌, List, [], ◌∷◌, ◌++◌, length, Option, Some, None, refl, sym, ap, subst, arith, map, sum_by, All, MatchBool}
+use Rattle.std.proofs.Common.{◌≡◌, ◌≢◌, ◌⊎◌, inl, inr, ◌∙◌, ℕ, suc, ◌+◌, ◌≤◌, Bool, true, false, ◌||◌, List, [], ◌∷◌, ◌++◌, length, Option, Some, None, refl, sym, ap, subst, arith, map, sum_by, All, MatchBool}
 use Rattle.std.proofs.lemmas.Bool.{false≢true}
 use Rattle.std.proofs.lemmas.List.{map-append}
 use Rattle.std.proofs.lemmas.List.Sums.{sum_by-cons}
@@ -81,6 +81,19 @@ module _ {D : Type 0} {run : Ghosts D} where
       (subst (λ (b : Bool). MatchBool b (Clash window (length put) (checked_numbers taken))
       (IsWaiting (length put) (checked_numbers taken))) astray h.order)
 
+  -- so the sequencer met none
+  pub none_astray : (settings : Settings) (dump : List ℕ) (cutter : CutterSide (Job D run))
+      (ws : List (WorkerSide (Job D run) (Checked D run))) (window back : ℕ)
+      (taken : List (Checked D run)) (put : List NumberedPiece) (end : Option End) (stray seen : Bool)
+      → HasCut dump cutter seen
+      → All (λ (w : WorkerSide (Job D run) (Checked D run)). HasWorked w) ws
+      → WeighsSame (all_taken ws) cutter.put → WeighsSame taken (all_given ws) → cutter.drawn ≤ window + back
+      → back ≡ length put
+      → HasSequenced settings dump window taken put end stray → stray ≡ false
+  none_astray settings dump cutter ws window back taken put end true seen cut worked jobs dones few is h =
+      absurd (no_stray settings dump cutter ws window back taken put end true seen cut worked jobs dones few is h refl)
+  none_astray settings dump cutter ws window back taken put end false seen cut worked jobs dones few is h = refl
+
   -- where none was astray all that were cut were released
   all_released : (settings : Settings) (dump : List ℕ) (cutter : CutterSide (Job D run))
       (ws : List (WorkerSide (Job D run) (Checked D run))) (window : ℕ)
@@ -104,42 +117,52 @@ module _ {D : Type 0} {run : Ghosts D} where
       → WeighsSame (all_taken ws) cutter.put → WeighsSame taken (all_given ws) → cutter.drawn ≤ window + back
       → back ≡ length put
       → HasSequenced settings dump window taken put end stray → end ≡ None → seen ≡ false → ⊥
-  nothing_missing settings dump cutter ws window back taken put end stray seen cut worked jobs dones few is h going unseen = by stray refl
-    where
-      by : (b : Bool) → stray ≡ b → ⊥
-      by true astray = no_stray settings dump cutter ws window back taken put end stray seen cut worked jobs dones few is h astray
-      by false fine =
-          let all = all_released settings dump cutter ws window taken put end stray seen cut worked jobs dones h fine in
-          let (total, ending, (records, has, many), count) = cut.whole unseen in
-          let text : HasEndedWith settings dump None (length put) (text_of put) = subst
-          (λ (e : Option End). HasEndedWith settings dump e (length put) (text_of put)) going h.text in
-          let p = text.1 in
-          let most = within dump records ending has p.before p.begins in
-          let released = p.count in absurd (omega arith)
+  nothing_missing settings dump cutter ws window back taken put end stray seen cut worked jobs dones few is h going unseen =
+      let fine = none_astray settings dump cutter ws window back taken put end stray seen cut worked jobs dones few is h in
+      let all = all_released settings dump cutter ws window taken put end stray seen cut worked jobs dones h fine in
+      let (total, ending, (records, has, many), count) = cut.whole unseen in
+      let text : HasEndedWith settings dump None (length put) (text_of put) = subst
+      (λ (e : Option End). HasEndedWith settings dump e (length put) (text_of put)) going h.text in
+      let p = text.1 in
+      let most = within dump records ending has p.before p.begins in
+      let released = p.count in absurd (omega arith)
 
 true_or : (a b : Bool) → a ≡ true → (a || b) ≡ true
 true_or true b e = refl
 true_or false b e = absurd (false≢true e)
 
--- a stop that was seen was raised by the sequencer or by the writer
+either_true : (a b : Bool) → (a || b) ≡ true → (a ≡ true) ⊎ (b ≡ true)
+either_true true b e = inl refl
+either_true false b e = inr e
+
+-- a stop that the cutter saw was raised by the sequencer or by the writer
+pub stop_was_raised : (cuts sequences writes all : Seat) → all ≡ joined_seat (joined_seat cuts sequences) writes
+    → SeesOnlyRaised all
+    → cuts.share + sequences.share + writes.share ≡ 4 → cuts.raised ≡ false → cuts.seen ≡ true
+    → (sequences.raised ≡ true) ⊎ (writes.raised ≡ true)
+stop_was_raised cuts sequences writes all is only shares c e =
+    let whole : all.share ≡ 4 = ap (λ (x : Seat). x.share) is ∙ shares in
+    let seen : all.seen ≡ true = ap (λ (x : Seat). x.seen) is
+    ∙ true_or (cuts.seen || sequences.seen) writes.seen (true_or cuts.seen sequences.seen e) in
+    let raised : ((cuts.raised || sequences.raised) || writes.raised) ≡ true =
+    sym (ap (λ (x : Seat). x.raised) is) ∙ only whole seen in
+    either_true sequences.raised writes.raised
+    (sym (ap (λ (b : Bool). (b || sequences.raised) || writes.raised) c) ∙ raised)
+
+-- so where neither raised it, the cutter saw none
 pub unseen : (cuts sequences writes all : Seat) → all ≡ joined_seat (joined_seat cuts sequences) writes
     → SeesOnlyRaised all
     → cuts.share + sequences.share + writes.share ≡ 4 → cuts.raised ≡ false → sequences.raised ≡ false
     → writes.raised ≡ false → cuts.seen ≡ false
 unseen cuts sequences writes all is only shares c s w = by cuts.seen refl
   where
-    not_raised : all.raised ≡ false
-    not_raised = ap (λ (x : Seat). x.raised) is ∙ (ap (λ (b : Bool). (b || sequences.raised) || writes.raised) c
-        ∙ (ap (λ (b : Bool). (false || b) || writes.raised) s ∙ ap (λ (b : Bool). (false || false) || b) w))
-
-    whole : all.share ≡ 4
-    whole = ap (λ (x : Seat). x.share) is ∙ shares
-
     by : (b : Bool) → cuts.seen ≡ b → cuts.seen ≡ false
     by false e = e
-    by true e = absurd (false≢true (sym not_raised
-        ∙ only whole (ap (λ (x : Seat). x.seen) is ∙ true_or (cuts.seen || sequences.seen) writes.seen
-        (true_or cuts.seen sequences.seen e))))
+    by true e = neither (stop_was_raised cuts sequences writes all is only shares c e)
+      where
+        neither : (sequences.raised ≡ true) ⊎ (writes.raised ≡ true) → cuts.seen ≡ false
+        neither (inl up) = absurd (false≢true (sym s ∙ up))
+        neither (inr up) = absurd (false≢true (sym w ∙ up))
 
 -- a cutter that nobody shut isn't shut
 pub unshut : (shut shuts all : Seat) → all ≡ joined_seat shut shuts → SeesOnlyRaised all → shut.share + shuts.share ≡ 4

@@ -1,5 +1,5 @@
 //! The end of a run: its threads are joined, and what they brought back is put together.
-ghost use Rattle.std.specs.Prelude.{◌≡◌, ◌≢◌, ◌+◌, ◌≤◌, ℕ, List, Option, length, map, true, false, All, vec_capacity};
+ghost use Rattle.std.specs.Prelude.{◌≡◌, ◌≢◌, ◌⊎◌, ◌+◌, ◌≤◌, ℕ, List, Option, length, map, true, false, All, vec_capacity};
 ghost use Rattle.dump_lanes.specs.steps.LaneEnds.{LaneEnd};
 ghost use Rattle.dump_lanes.specs.steps.LaneViews.{sending, sent, receiving};
 ghost use Rattle.dump_lanes.specs.steps.PortSides.{AreWorkersOf};
@@ -148,6 +148,8 @@ pub fn conclude<'a, D: Run>(words: &Words, joined: Joined<'a, D>, shuts: StopSea
         → RunLeaves D.settings D.dump first now result }
     ensures failures { (first now : ℕ) → CountsFailed joined.entry.failed first now → SinkFailsOnly first now result }
     ensures no_threads { (written : ℕ) → result ≢ Answer.Failed Failure.Threads written }
+    ensures none_astray { joined.entry.stray ≡ false }
+    ensures stopped { joined.entry.cutter.seat.seen ≡ true → (is_failure joined.entry.end ≡ true) ⊎ (joined.entry.failed ≡ true) }
 {
     let Joined {
         cutter,

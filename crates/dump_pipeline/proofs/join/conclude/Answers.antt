@@ -11,7 +11,7 @@ use Rattle.dump_pipeline.specs.declared.message.Checked.{Checked}
 use Rattle.dump_pipeline.specs.declared.message.NumberedPiece.{NumberedPiece}
 use Rattle.dump_pipeline.specs.steps.Parts.{HasWorked, is_failure}
 use Rattle.dump_pipeline.specs.RunAnswer.{RunLeaves}
-use Rattle.dump_pipeline.proofs.Joined.{nothing_missing, unseen, unshut, sink_failed, ended_so}
+use Rattle.dump_pipeline.proofs.Joined.{none_astray, nothing_missing, unseen, unshut, sink_failed, ended_so}
 use Rattle.dump_pipeline.proofs.join.conclude.Goals as goal
 
 pub settle-requires-clause-done : goal.settle-requires-clause-done
@@ -36,6 +36,42 @@ returns-clause-answer g c =
     (done_port c.args.joined.sequencer).taken (sent c.args.joined.put.value).put
     (receiving c.args.joined.taken.value).taken c.args.joined.end c.in-Some.end c.args.joined.stray c.args.joined.failed
     first now c.args.joined.count c.requires.sequenced c.in-Some.is c.requires.all c.if-failed.false r)
+
+pub returns-then-failed-clause-none_astray : goal.returns-then-failed-clause-none_astray
+returns-then-failed-clause-none_astray g c =
+    let J : Type 0 = Job g.row.D.Denot g.D.Run in
+    let E : Type 0 = Checked g.row.D.Denot g.D.Run in
+    let joined = c.args.joined in
+    let sides : List (WorkerSide J E) = map (λ (p : WorkerPort J E). worker_port p) joined.workers.items in
+    let worked : All (λ (w : WorkerSide J E). HasWorked w) sides =
+    map_of_all (λ (w : WorkerSide J E). HasWorked w)
+    (λ (p : WorkerPort J E). worker_port p) joined.workers.items c.requires.worked in
+    let back : (credit_port joined.writer).back ≡ length (sent joined.put.value).put = c.requires.back
+    ∙ ap (λ (l : List NumberedPiece). length l) c.requires.all in
+    let open_ = unshut joined.cutter.shut c.args.shuts c.join-door.result c.join-door.ensures.joined c.join-door.ensures.whole c.requires.shut_shares c.requires.unshut.0 c.requires.unshut.1 in
+    none_astray g.D.Run.settings g.D.Run.dump (job_port joined.cutter.port) sides (credit_port joined.writer).window
+    (credit_port joined.writer).back (done_port joined.sequencer).taken
+    (sent joined.put.value).put joined.end joined.stray joined.cutter.seat.seen
+    (c.requires.cut open_) worked c.settle.ensures.jobs c.settle.ensures.dones
+    c.settle.ensures.credits back c.requires.sequenced
+
+pub returns-clause-none_astray : goal.returns-clause-none_astray
+returns-clause-none_astray g c =
+    let J : Type 0 = Job g.row.D.Denot g.D.Run in
+    let E : Type 0 = Checked g.row.D.Denot g.D.Run in
+    let joined = c.args.joined in
+    let sides : List (WorkerSide J E) = map (λ (p : WorkerPort J E). worker_port p) joined.workers.items in
+    let worked : All (λ (w : WorkerSide J E). HasWorked w) sides =
+    map_of_all (λ (w : WorkerSide J E). HasWorked w)
+    (λ (p : WorkerPort J E). worker_port p) joined.workers.items c.requires.worked in
+    let back : (credit_port joined.writer).back ≡ length (sent joined.put.value).put = c.requires.back
+    ∙ ap (λ (l : List NumberedPiece). length l) c.requires.all in
+    let open_ = unshut joined.cutter.shut c.args.shuts c.join-door.result c.join-door.ensures.joined c.join-door.ensures.whole c.requires.shut_shares c.requires.unshut.0 c.requires.unshut.1 in
+    none_astray g.D.Run.settings g.D.Run.dump (job_port joined.cutter.port) sides (credit_port joined.writer).window
+    (credit_port joined.writer).back (done_port joined.sequencer).taken
+    (sent joined.put.value).put joined.end joined.stray joined.cutter.seat.seen
+    (c.requires.cut open_) worked c.settle.ensures.jobs c.settle.ensures.dones
+    c.settle.ensures.credits back c.requires.sequenced
 
 pub unreachable-requires : goal.unreachable-requires
 unreachable-requires g c =
