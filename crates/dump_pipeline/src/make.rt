@@ -1,10 +1,11 @@
 //! What a run needs, made before any thread is started.
-ghost use Rattle.std.specs.Prelude.{◌≡◌, ◌≤◌, [], length, map, replicate, false, None, vec_capacity};
+ghost use Rattle.std.specs.Prelude.{◌≡◌, ◌≤◌, ◌+◌, IfOk, [], length, map, replicate, false, None, vec_capacity};
 ghost use Rattle.std.specs.List.{range_with_len};
-ghost use Rattle.dump_lanes.specs.steps.LaneViews.{sending, receiving};
+ghost use Rattle.dump_lanes.specs.steps.LaneViews.{places, sending, receiving};
 ghost use Rattle.dump_lanes.specs.steps.PortSides.{new_cutter, new_worker, new_sequencer, new_writer};
 ghost use Rattle.dump_lanes.specs.steps.PortViews.{pool_state, job_port, worker_ports, done_port, credit_port};
 ghost use Rattle.dump_lanes.specs.steps.SlotViews.{slot_places};
+ghost use Rattle.dump_pipeline.specs.PlanViews.{worker_count, window_size};
 
 use crate::message::{Checked, Job, NumberedPiece, Run};
 use crate::plan::Plan;
@@ -61,7 +62,11 @@ pub fn make<'a, D: Run, R: Wait>(
     rt: &R,
     alloc: Global,
     plan: Plan,
-) -> Result<Given<'a, D>, Memory> {
+) -> Result<Given<'a, D>, Memory>
+    ensures workers { IfOk result (λ given. (pool_state given.ends.pool).workers ≡ worker_count plan) }
+    ensures window { IfOk result (λ given. (pool_state given.ends.pool).window ≡ window_size plan) }
+    ensures room { IfOk result (λ given. places given.ends.to ≡ window_size plan + 1) }
+{
     let (workers, window) = (plan.workers(), plan.window());
     let mut pool = Pool::<Job<'a, D>, Checked<'a, D>>::new(rt, alloc, workers, window)?;
     let ports = pool.ports(alloc)?;
