@@ -31,7 +31,7 @@ toolchain:
 	$(if $(shell command -v rt),@:,$(error the Rattle toolchain (rt) isn't on the PATH))
 
 $(PROGRAM): $(SOURCES) | toolchain
-	@echo "make: proving and building $@; from nothing this takes some nine minutes on four cores"
+	@echo "make: proving and building $@; from nothing this takes some 40 minutes of processor time"
 	@tools/build
 	@echo "make: $@ is built"
 
