@@ -1,5 +1,6 @@
 # make            proves and builds the program, build/svndumpfilter
 # make test       proves what isn't proved yet, runs the tests of every crate, and then tests/ on the program
+# make suites     runs tests/ on the program alone
 # make gate       what a merge needs beside that: proves every crate and its tests once more from nothing, sees that
 #                 the named wrong bodies are refused, and tries all others in batches
 # make check      checks the crate that CRATE names, with what was proved of it before
@@ -22,7 +23,7 @@ PLAIN := build/run_plain
 INSTALLED := PREFIX="$(PREFIX)" DESTDIR="$(DESTDIR)" NAME="$(NAME)" FORCE="$(FORCE)" tools/installed
 SOURCES := $(shell tools/sources)
 
-.PHONY: all toolchain test gate check case bench install uninstall deb clean
+.PHONY: all toolchain test suites gate check case bench install uninstall deb clean
 .DELETE_ON_ERROR:
 
 all: $(PROGRAM)
@@ -38,6 +39,9 @@ $(PROGRAM): $(SOURCES) | toolchain
 test: $(PROGRAM) | toolchain
 	@echo "make: proving and running the tests of every crate"
 	tools/tests
+	@$(MAKE) --no-print-directory suites
+
+suites: $(PROGRAM)
 	@echo "make: running tests/cases on $(PROGRAM)"
 	tests/run $(PROGRAM)
 	@echo "make: refusing each growth of memory and each start of a thread in turn"

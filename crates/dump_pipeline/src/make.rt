@@ -58,11 +58,7 @@ pub struct Given<'a, D: Run> {
 }
 
 /// Makes the queues, the slots and the words, and all the room that the run takes of its own.
-pub fn make<'a, D: Run, R: Wait>(
-    rt: &R,
-    alloc: Global,
-    plan: Plan,
-) -> Result<Given<'a, D>, Memory>
+pub fn make<'a, D: Run, R: Wait>(rt: &R, alloc: Global, plan: Plan) -> Result<Given<'a, D>, Memory>
     ensures workers { IfOk result (λ given. (pool_state given.ends.pool).workers ≡ worker_count plan) }
     ensures window { IfOk result (λ given. (pool_state given.ends.pool).window ≡ window_size plan) }
     ensures room { IfOk result (λ given. places given.ends.to ≡ window_size plan + 1) }
