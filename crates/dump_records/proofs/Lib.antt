@@ -6,4 +6,5 @@ pub mod CutLemmas
 pub mod ListLaw
 pub mod Prefixes
 pub mod RecordLemmas
+pub mod RestLemmas
 pub mod Values

@@ -2,6 +2,7 @@ pub mod Lawful
 pub mod KindReading
 pub mod HeaderReading
 pub mod RecordPlaces
+pub mod RecordRest
 pub mod Standing
 pub mod CutterState
 pub mod RecordViews

@@ -42,7 +42,7 @@ mod record;
 
 pub use cutter::{Cut, Cutter};
 pub use kind::RecordKind;
-pub use record::Record;
+pub use record::{Record, RecordPart};
 
 #[cfg(test)]
 mod tests;

@@ -1,5 +1,5 @@
 //! A record of a dump, as a view into it.
-ghost use Rattle.std.specs.Prelude.{drop, ◌+◌, ◌<◌, ◌^◌};
+ghost use Rattle.std.specs.Prelude.{drop, ◌+◌, ◌<◌, ◌≤◌, ◌^◌};
 ghost use Rattle.dump_text.specs.steps.Views.{block_dump, block_place, block_after, block_headers};
 ghost use Rattle.dump_records.specs.RecordText.{BeginsWithRecord};
 ghost use Rattle.dump_records.specs.steps.RecordPlaces.{record_between};
@@ -10,6 +10,17 @@ ghost use Rattle.dump_records.specs.steps.HeaderReading.{are_written, IsHeaderOf
 use crate::kind::{CopySource, KindParts, RecordKind};
 use crate::readings::RecordHeader;
 use dump_text::Block;
+
+/// A part of a record, behind which the others stand in this order.
+#[derive(Clone, Copy)]
+pub enum RecordPart {
+    /// Its header lines.
+    Block,
+    /// Its property block.
+    Properties,
+    /// Its text.
+    Text,
+}
 
 /// A record of a dump, with its number there, what its header lines say and the format version in force for it. Every
 /// slice that it lends is a part of the dump.
@@ -32,7 +43,7 @@ pub struct Record<'a> {
 }
 
 impl<'a> Record<'a> {
-    ghost use Rattle.std.specs.Prelude.{◌≡◌, ◌==◌, ◌&&◌, List, [], IfSome, option_copied, slice_range, bytes_eq, unwrap_or, codes};
+    ghost use Rattle.std.specs.Prelude.{◌≡◌, ◌==◌, ◌&&◌, ◌++◌, List, [], IfSome, option_copied, slice_range, bytes_eq, unwrap_or, codes};
     ghost use Rattle.dump_text.specs.Names.{path_name, revision_name, copy_path_name, copy_revision_name, property_length_name, text_length_name, node_kind_name, md5_name, sha1_name};
     ghost use Rattle.dump_text.specs.HeaderLine.{has_header, header_value};
     ghost use Rattle.dump_records.specs.HeaderRules.{header_number};
@@ -40,6 +51,7 @@ impl<'a> Record<'a> {
     ghost use Rattle.dump_records.specs.RecordText.{has_text_delta, has_prop_delta};
     ghost use Rattle.dump_records.specs.steps.KindReading.{copy_in};
     ghost use Rattle.dump_records.specs.steps.RecordPlaces.{props_place, text_place, place_after};
+    ghost use Rattle.dump_records.specs.steps.RecordRest.{bytes_from};
     ghost use Rattle.dump_records.specs.steps.RecordViews.{record_dump, record_number, record_item, part_with, part_of_node, IsInBlock};
 
     /// Its number in the dump, from 0.
@@ -256,5 +268,36 @@ impl<'a> Record<'a> {
         ensures { result.now ≡ (record_item self.now).text }
     {
         &self.block.dump()[self.text_from..self.after]
+    }
+
+    /// The byte of the dump at which a part begins.
+    fn start_of(&self, part: RecordPart) -> usize
+        ensures inside { result ≤ self.now.after }
+        ensures rest { slice_range (record_dump self.now) result self.now.after ≡ bytes_from part (record_item self.now) }
+    {
+        match part {
+            RecordPart::Block => self.block.place(),
+            RecordPart::Properties => self.block.after(),
+            RecordPart::Text => self.text_from,
+        }
+    }
+
+    /// Its bytes from this part on.
+    pub fn bytes_from(&self, part: RecordPart) -> &'a [u8]
+        ensures { result.now ≡ bytes_from part (record_item self.now) }
+    {
+        &self.block.dump()[self.start_of(part)..self.after]
+    }
+
+    /// Its bytes from this part on with these behind them, where the dump has them there.
+    pub fn bytes_from_with(&self, part: RecordPart, end: &[u8]) -> Option<&'a [u8]>
+        ensures { IfSome result (λ bytes. bytes.now ≡ bytes_from part (record_item self.now) ++ end.now) }
+    {
+        let dump = self.block.dump();
+        if dump[self.after..].starts_with(end) {
+            Some(&dump[self.start_of(part)..self.after + end.len()])
+        } else {
+            None
+        }
     }
 }

@@ -6,6 +6,7 @@ ghost use Rattle.dump_writer.specs.SinkWords.{HasFailedSince};
 ghost use Rattle.dump_writer.specs.steps.SinkCalls.{TakesOnlyFirst};
 
 use crate::sink::{Sink, SinkDown, SinkFault};
+use smallvec::SmallVec;
 use std::alloc::{AllocError, AllocFailed, Global};
 use std::marker::Model;
 
@@ -30,6 +31,17 @@ impl<'a> Chunk<'a> {
     }
 }
 
+impl<'a> Default for Chunk<'a> {
+    /// No bytes: what stands in the places of a piece that hold no chunk.
+    fn default() -> Chunk<'a> {
+        Chunk::Lent(b"")
+    }
+}
+
+/// How many chunks a piece holds without memory of its own: a record that is written as it stands has one, or two
+/// where its last line feeds aren't those of the dump.
+const NEAR: usize = 2;
+
 /// Memory ran out.
 #[derive(Clone, Copy, Debug, PartialEq, Eq)]
 pub struct Memory;
@@ -49,7 +61,7 @@ impl<T: Drop> From<AllocFailed<T>> for Memory {
 /// What is written at once: chunks, in order.
 #[derive(Drop)]
 pub struct Piece<'a> {
-    chunks: Vec<Chunk<'a>>,
+    chunks: SmallVec<Chunk<'a>, NEAR>,
 }
 
 impl<'a> Model for Piece<'a> {
@@ -67,7 +79,7 @@ impl<'a> Piece<'a> {
         ensures { result ≡ [] }
     {
         Piece {
-            chunks: Vec::new(alloc),
+            chunks: SmallVec::new(alloc),
         }
     }
 

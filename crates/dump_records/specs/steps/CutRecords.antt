@@ -1,5 +1,5 @@
 -- The records of a dump that were cut off it so far.
-use Rattle.std.specs.Prelude.{◌≡◌, ℕ, ◌+◌, List, [], ◌∷◌, ◌++◌, length}
+use Rattle.std.specs.Prelude.{◌≡◌, ℕ, List, [], ◌∷◌, ◌++◌, length}
 use Rattle.dump_records.specs.RecordText.{DumpRecord}
 use Rattle.dump_records.specs.DumpText.{Ending, BeginsWithRecords, HasRecords}
 
