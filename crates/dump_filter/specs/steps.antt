@@ -1,3 +1,4 @@
+pub mod MadeBytes
 pub mod NewLines
 pub mod NewProperties
 pub mod OwnText

@@ -5,15 +5,15 @@ ghost use Rattle.dump_text.specs.steps.KnownValues.{name_text};
 ghost use Rattle.dump_text.specs.HeaderLine.{header_text};
 ghost use Rattle.dump_text.specs.HeaderBlock.{lines_bytes, block_text};
 ghost use Rattle.dump_text.specs.steps.Views.{block_headers, line_header};
-ghost use Rattle.dump_writer.specs.steps.ChunkBytes.{chunk_bytes};
 ghost use Rattle.dump_records.specs.HeaderRules.{header_number};
 ghost use Rattle.dump_records.specs.steps.RecordViews.{record_item};
+ghost use Rattle.dump_filter.specs.steps.MadeBytes.{made_or};
 ghost use Rattle.dump_filter.specs.steps.NewLines.{AreLengths, StaysCopied, copy_number, is_copy_line, is_dropped, number_for, numbered, with_number, renewed_lines, added, new_headers};
 
 use crate::fate::CopyChange;
 use dump_records::Record;
 use dump_text::{Block, HeaderName, Line, push_header};
-use dump_writer::{Chunk, Memory};
+use dump_writer::Memory;
 use std::alloc::Global;
 
 /// What changes in the lines of a record: its revision number, its copy source, and its lengths.
@@ -140,21 +140,20 @@ fn block_stays(item: &Record<'_>, changes: &Changes) -> bool
         && copy_stays(item, changes.copy)
 }
 
-/// The block of a record as it is written: lent where it stays as it stands.
-pub(crate) fn new_lines<'a>(
+/// The block of a record as it is written; none where it stays as it stands.
+pub(crate) fn new_lines(
     alloc: Global,
-    item: &Record<'a>,
+    item: &Record<'_>,
     changes: &Changes,
-) -> Result<Chunk<'a>, Memory>
-    ensures { let r = record_item item.now in
-        IfOk result (λ chunk. chunk_bytes chunk ≡ block_text (new_headers changes.now r.headers)) }
+) -> Result<Option<Vec<u8>>, Memory>
+    ensures { let headers = (record_item item.now).headers in
+        IfOk result (λ made. made_or made (block_text headers) ≡ block_text (new_headers changes.now headers)) }
 {
-    let block = item.block();
     if block_stays(item, changes) {
-        return Ok(Chunk::Lent(block.bytes()));
+        return Ok(None);
     }
-    let bytes = write_block(alloc, &block, changes)?;
-    Ok(Chunk::Own(bytes))
+    let bytes = write_block(alloc, &item.block(), changes)?;
+    Ok(Some(bytes))
 }
 
 /// The lines of a record, written anew.

@@ -3,7 +3,9 @@ ghost use Rattle.std.specs.Prelude.{◌≡◌, ℕ, ◌++◌, List, IsTrue, OnOk
 ghost use Rattle.dump_text.specs.HeaderBlock.{block_text};
 ghost use Rattle.dump_text.specs.PropertyList.{Property};
 ghost use Rattle.dump_writer.specs.steps.ChunkBytes.{chunk_bytes};
+ghost use Rattle.dump_records.specs.steps.RecordRest.{bytes_from};
 ghost use Rattle.dump_records.specs.steps.RecordViews.{record_item};
+ghost use Rattle.dump_filter.specs.steps.MadeBytes.{made_or};
 ghost use Rattle.dump_filter.specs.steps.OwnText.{revision_own};
 ghost use Rattle.dump_filter.specs.steps.NewLines.{AreLengths, new_record};
 ghost use Rattle.dump_digest.specs.steps.DoneViews.{done_record};
@@ -15,18 +17,28 @@ use crate::fate::CopyChange;
 use crate::new_lines::{Changes, new_lines};
 use crate::props::{node_properties, revision_properties};
 use dump_digest::Done;
-use dump_records::Record;
+use dump_records::{Record, RecordPart};
 use dump_rules::{Options, Reach};
 use dump_writer::{Chunk, Memory, Piece};
 use std::alloc::Global;
 
+/// The bytes that were made, or else these.
+fn made_or<'b>(made: &'b Option<Vec<u8>>, own: &'b [u8]) -> &'b [u8]
+    ensures { result.now ≡ made_or made.now own.now }
+{
+    match made {
+        Some(made) => made.as_slice(),
+        None => own,
+    }
+}
+
 /// What changes in the lines of a record of these properties and this text.
-fn changes_of(props: &Chunk<'_>, text: &[u8], revision: Option<u64>, copy: CopyChange) -> Changes
-    ensures lengths { AreLengths (chunk_bytes props.now) text.now result }
+fn changes_of(props: &[u8], text: &[u8], revision: Option<u64>, copy: CopyChange) -> Changes
+    ensures lengths { AreLengths props.now text.now result }
     ensures revision { result.revision ≡ revision }
     ensures copy { result.copy ≡ copy }
 {
-    let props = props.bytes().len() as u64;
+    let props = props.len() as u64;
     let text = text.len() as u64;
     Changes {
         revision,
@@ -37,34 +49,59 @@ fn changes_of(props: &Chunk<'_>, text: &[u8], revision: Option<u64>, copy: CopyC
     }
 }
 
-/// Adds a chunk, if it has a byte.
-fn push_some<'a>(piece: &mut Piece<'a>, chunk: Chunk<'a>) -> Result<(), Memory>
-    ensures { OnOk result (piece.new ≡ piece.old ++ chunk_bytes chunk.entry) }
+/// Adds a record's bytes from a part on, and these behind them: as one chunk where they stand so in the dump.
+fn push_rest<'a>(
+    piece: &mut Piece<'a>,
+    item: &Record<'a>,
+    part: RecordPart,
+    end: &'static [u8],
+) -> Result<(), Memory>
+    ensures { OnOk result (piece.new ≡ piece.old ++ (bytes_from part (record_item item.now) ++ end.entry.now)) }
 {
-    if chunk.bytes().is_empty() {
-        Ok(())
-    } else {
-        piece.push(chunk)
+    if let Some(bytes) = item.bytes_from_with(part, end) {
+        return piece.push(Chunk::Lent(bytes));
+    }
+    piece.push(Chunk::Lent(item.bytes_from(part)))?;
+    piece.push(Chunk::Lent(end))
+}
+
+/// Adds a record's properties, its own or those that were made, its text and what stands behind it.
+fn push_content<'a>(
+    piece: &mut Piece<'a>,
+    item: &Record<'a>,
+    props: Option<Vec<u8>>,
+    end: &'static [u8],
+) -> Result<(), Memory>
+    ensures { let r = record_item item.now in
+        OnOk result (piece.new ≡ piece.old ++ (made_or props r.props ++ r.text ++ end.entry.now)) }
+{
+    match props {
+        Some(props) => {
+            piece.push(Chunk::Own(props))?;
+            push_rest(piece, item, RecordPart::Text, end)
+        }
+        None => push_rest(piece, item, RecordPart::Properties, end),
     }
 }
 
-/// Adds a record with these changes and these properties, and what stands behind it.
+/// Adds a record with these changes, with its own properties or those that were made, and what stands behind it.
 fn push_record<'a>(
     piece: &mut Piece<'a>,
     alloc: Global,
     item: &Record<'a>,
     changes: &Changes,
-    props: Chunk<'a>,
+    props: Option<Vec<u8>>,
     end: &'static [u8],
 ) -> Result<(), Memory>
     ensures { let r = record_item item.now in
-        OnOk result (piece.new ≡ piece.old ++ (new_record changes.now r.headers (chunk_bytes props.entry) r.text ++ end.entry.now)) }
+        OnOk result (piece.new ≡ piece.old ++ (new_record changes.now r.headers (made_or props r.props) r.text ++ end.entry.now)) }
 {
-    let block = new_lines(alloc, item, changes)?;
-    piece.push(block)?;
-    push_some(piece, props)?;
-    push_some(piece, Chunk::Lent(item.text_bytes()))?;
-    piece.push(Chunk::Lent(end))
+    match new_lines(alloc, item, changes)? {
+        Some(block) => piece.push(Chunk::Own(block))?,
+        None if props.is_none() => return push_rest(piece, item, RecordPart::Block, end),
+        None => piece.push(Chunk::Lent(item.block().bytes()))?,
+    }
+    push_content(piece, item, props, end)
 }
 
 /// Adds a revision under a new number, with its properties or with those of an empty revision.
@@ -81,7 +118,8 @@ pub(crate) fn push_revision<'a>(
 {
     let item = done.item();
     let props = revision_properties(alloc, &item, &done.props(), padded)?;
-    let changes = changes_of(&props, item.text_bytes(), Some(number), CopyChange::Same);
+    let bytes = made_or(&props, item.property_bytes());
+    let changes = changes_of(bytes, item.text_bytes(), Some(number), CopyChange::Same);
     push_record(piece, alloc, &item, &changes, props, b"\n")
 }
 
@@ -100,7 +138,8 @@ pub(crate) fn push_node<'a>(
 {
     let item = done.item();
     let props = node_properties(alloc, options, kept, done)?;
-    let changes = changes_of(&props, item.text_bytes(), None, copy);
+    let bytes = made_or(&props, item.property_bytes());
+    let changes = changes_of(bytes, item.text_bytes(), None, copy);
     push_record(piece, alloc, &item, &changes, props, b"\n\n")
 }
 

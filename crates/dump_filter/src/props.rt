@@ -1,9 +1,8 @@
-//! The property block of a record that is written: lent where it stands as it is written, else made anew.
+//! The property block of a record that is written: made anew, or none where it is written as it stands.
 ghost use Rattle.std.specs.Prelude.{◌≡◌, ◌++◌, List, false, IsTrue, OnOk, IfOk, codes, option_copied};
 ghost use Rattle.dump_text.specs.PropertyList.{Property, IsPropertyBlock, entry_text, property_block_text};
 ghost use Rattle.dump_text.specs.steps.PropertyReading.{property_value};
 ghost use Rattle.dump_text.specs.steps.PropertyViews.{props_bytes, entry_property};
-ghost use Rattle.dump_writer.specs.steps.ChunkBytes.{chunk_bytes};
 ghost use Rattle.dump_records.specs.RecordText.{DumpRecord};
 ghost use Rattle.dump_records.specs.steps.RecordViews.{record_item};
 ghost use Rattle.dump_rules.specs.Mergeinfo.{HasMergeLines};
@@ -12,13 +11,14 @@ ghost use Rattle.dump_digest.specs.steps.DoneViews.{done_record};
 ghost use Rattle.dump_digest.specs.steps.MergeFaults.{HasLines};
 ghost use Rattle.dump_digest.specs.RecordParts.{is_mergeinfo, value_of, HasPropertyList, HasPropertyBlock};
 ghost use Rattle.dump_filter.specs.NewContent.{revision_properties, IsNewProperty, AreNewProperties, new_block};
+ghost use Rattle.dump_filter.specs.steps.MadeBytes.{made_or};
 ghost use Rattle.dump_filter.specs.steps.NewProperties.{IsReadNode, dated_padding};
 
 use dump_digest::{Done, is_mergeinfo};
 use dump_records::Record;
 use dump_rules::{Options, Reach, new_value};
 use dump_text::{Entry, Props, push_block_end, push_deletion, push_property};
-use dump_writer::{Chunk, Memory};
+use dump_writer::Memory;
 use std::alloc::{AllocError, Global};
 
 /// The property that has the date of a revision.
@@ -52,16 +52,16 @@ fn write_entries(alloc: Global, props: &Props<'_>) -> Result<Vec<u8>, Memory>
     Ok(out)
 }
 
-/// The block as it is written.
-fn respelled<'a>(alloc: Global, props: &Props<'a>) -> Result<Chunk<'a>, Memory>
-    ensures { IfOk result (λ chunk. (ps : List Property) → IsPropertyBlock (props_bytes props.now) ps
-        → chunk_bytes chunk ≡ property_block_text ps) }
+/// The block as it is written; none where it stays.
+fn respelled(alloc: Global, props: &Props<'_>) -> Result<Option<Vec<u8>>, Memory>
+    ensures { IfOk result (λ made. (ps : List Property) → IsPropertyBlock (props_bytes props.now) ps
+        → made_or made (props_bytes props.now) ≡ property_block_text ps) }
 {
     if props.spelled() {
-        return Ok(Chunk::Lent(props.bytes()));
+        return Ok(None);
     }
     let bytes = write_entries(alloc, props)?;
-    Ok(Chunk::Own(bytes))
+    Ok(Some(bytes))
 }
 
 /// The first date among some properties.
@@ -89,41 +89,41 @@ fn write_padding(alloc: Global, date: Option<&[u8]>) -> Result<Vec<u8>, Memory>
 }
 
 /// The property block of a record with these properties as it is written, if it has a length for one.
-fn respelled_block<'a>(
+fn respelled_block(
     alloc: Global,
-    item: &Record<'a>,
-    props: &Option<Props<'a>>,
-) -> Result<Chunk<'a>, Memory>
+    item: &Record<'_>,
+    props: &Option<Props<'_>>,
+) -> Result<Option<Vec<u8>>, Memory>
     requires { ArePropertiesOf (record_item item.now) props.now }
-    ensures { let r = record_item item.now in IfOk result (λ chunk. (ps : List Property) → HasPropertyList r ps
-        → chunk_bytes chunk ≡ new_block false r ps) }
+    ensures { let r = record_item item.now in IfOk result (λ made. (ps : List Property) → HasPropertyList r ps
+        → made_or made r.props ≡ new_block false r ps) }
 {
     match props {
         Some(props) => {
             if item.has_props() {
                 respelled(alloc, props)
             } else {
-                Ok(Chunk::Lent(b""))
+                Ok(None)
             }
         }
-        None => Ok(Chunk::Lent(b"")),
+        None => Ok(None),
     }
 }
 
 /// The property block of a revision with these properties as it is written, padded or not.
-pub(crate) fn revision_properties<'a>(
+pub(crate) fn revision_properties(
     alloc: Global,
-    item: &Record<'a>,
-    props: &Option<Props<'a>>,
+    item: &Record<'_>,
+    props: &Option<Props<'_>>,
     padded: bool,
-) -> Result<Chunk<'a>, Memory>
+) -> Result<Option<Vec<u8>>, Memory>
     requires { ArePropertiesOf (record_item item.now) props.now }
-    ensures { let r = record_item item.now in IfOk result (λ chunk. (ps : List Property) → HasPropertyList r ps
-        → chunk_bytes chunk ≡ new_block padded r (revision_properties padded ps)) }
+    ensures { let r = record_item item.now in IfOk result (λ made. (ps : List Property) → HasPropertyList r ps
+        → made_or made r.props ≡ new_block padded r (revision_properties padded ps)) }
 {
     if padded {
         let bytes = write_padding(alloc, date_of(props))?;
-        return Ok(Chunk::Own(bytes));
+        return Ok(Some(bytes));
     }
     respelled_block(alloc, item, props)
 }
@@ -170,41 +170,41 @@ fn write_rewritten(
 }
 
 /// The property block of a kept node with mergeinfo as it is written, with new values, if it has a length for one.
-fn rewritten_block<'a>(
+fn rewritten_block(
     alloc: Global,
     options: &Options,
     kept: &Reach,
-    item: &Record<'a>,
-    props: &Option<Props<'a>>,
-) -> Result<Chunk<'a>, Memory>
+    item: &Record<'_>,
+    props: &Option<Props<'_>>,
+) -> Result<Option<Vec<u8>>, Memory>
     requires read { ArePropertiesOf (record_item item.now) props.now }
     requires lines { HasPropertyBlock (record_item item.now) → HasLines (record_item item.now).props }
-    ensures { let r = record_item item.now in IfOk result (λ chunk. (ps : List Property) → HasPropertyList r ps
-        → (new : List Property) × AreNewProperties options.now kept.now ps new × (chunk_bytes chunk ≡ new_block false r new)) }
+    ensures { let r = record_item item.now in IfOk result (λ made. (ps : List Property) → HasPropertyList r ps
+        → (new : List Property) × AreNewProperties options.now kept.now ps new × (made_or made r.props ≡ new_block false r new)) }
 {
     match props {
         Some(props) => {
             if item.has_props() {
                 let bytes = write_rewritten(alloc, options, kept, props)?;
-                Ok(Chunk::Own(bytes))
+                Ok(Some(bytes))
             } else {
-                Ok(Chunk::Lent(b""))
+                Ok(None)
             }
         }
-        None => Ok(Chunk::Lent(b"")),
+        None => Ok(None),
     }
 }
 
 /// The property block of a kept node as it is written, with new values of mergeinfo.
-pub(crate) fn node_properties<'a>(
+pub(crate) fn node_properties(
     alloc: Global,
     options: &Options,
     kept: &Reach,
-    done: &Done<'a>,
-) -> Result<Chunk<'a>, Memory>
+    done: &Done<'_>,
+) -> Result<Option<Vec<u8>>, Memory>
     requires node { IsReadNode done.now }
-    ensures { let r = record_item (done_record done.now) in IfOk result (λ chunk. (ps : List Property) → HasPropertyList r ps
-        → (new : List Property) × AreNewProperties options.now kept.now ps new × (chunk_bytes chunk ≡ new_block false r new)) }
+    ensures { let r = record_item (done_record done.now) in IfOk result (λ made. (ps : List Property) → HasPropertyList r ps
+        → (new : List Property) × AreNewProperties options.now kept.now ps new × (made_or made r.props ≡ new_block false r new)) }
 {
     let item = done.item();
     let props = done.props();

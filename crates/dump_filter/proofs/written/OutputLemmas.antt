@@ -1,5 +1,5 @@
 -- What is written of a record, from its parts.
-use Rattle.std.proofs.Common.{◌≡◌, ℕ, Bool, false, List, ◌++◌, ap, ◌∙◌, subst, append_assoc, codes, Some, None, Result, Ok, Err}
+use Rattle.std.proofs.Common.{◌≡◌, ℕ, Bool, false, List, ◌++◌, ap, sym, ◌∙◌, subst, append_assoc, codes, Some, None, Result, Ok, Err}
 use Rattle.std.specs.Result.{OnOk, IfOk}
 use Rattle.dump_text.specs.Number.{spelled_number}
 use Rattle.dump_text.specs.Names.{revision_name}
@@ -27,16 +27,13 @@ pub if_ok : {T E : Type 0} (r : Result T E) (P Q : T → Type 0) → ((x : T) �
 if_ok (Ok x) P Q f p = f x p
 if_ok (Err e) P Q f p = tt
 
--- four chunks, one behind the other
-pub chunks_out : (old lines props text end one two three new : List ℕ) → one ≡ old ++ lines → two ≡ one ++ props
-    → three ≡ two ++ text
-    → new ≡ three ++ end → new ≡ old ++ (lines ++ props ++ text ++ end)
-chunks_out old lines props text end one two three new one_is two_is three_is new_is =
-    new_is
-    ∙ ap (λ t. t ++ end) (three_is ∙ ap (λ t. t ++ text)
-    (two_is ∙ ap (λ t. t ++ props) one_is ∙ append_assoc old lines props)
-    ∙ append_assoc old (lines ++ props) text)
-    ∙ append_assoc old (lines ++ props ++ text) end
+-- the lines, and what stands behind them
+pub lines_out : (old lines props text end one new : List ℕ) → one ≡ old ++ lines → new ≡ one ++ (props ++ text ++ end)
+    → new ≡ old ++ (lines ++ props ++ text ++ end)
+lines_out old lines props text end one new one_is new_is =
+    new_is ∙ ap (λ t. t ++ (props ++ text ++ end)) one_is ∙ append_assoc old lines (props ++ text ++ end)
+    ∙ ap (λ t. old ++ t)
+    (sym (append_assoc lines (props ++ text) end) ∙ ap (λ t. t ++ end) (sym (append_assoc lines props text)))
 
 -- a record whose lines have the lengths of what follows them
 record_is : (c : Changes) (headers lines : List Header) (bytes props text : List ℕ)

@@ -182,22 +182,27 @@ pub block_with : (r : DumpRecord) (ps : List Property) → has_header property_l
     → property_block_text ps ≡ new_block false r ps
 block_with r ps has = rw has refl
 
--- a record without a property length that isn't padded gets no property block
+-- a record without a length for its properties has no bytes of them
+no_bytes : (r : DumpRecord) → has_header property_length_name r.headers ≡ false
+    → length r.props ≡ property_length r.headers → r.props ≡ []
+no_bytes r none size =
+    let number : header_number property_length_name r.headers ≡ None = sym (no_number property_length_name r.headers none) in
+    empty r.props (size ∙ ap (λ (n : Option ℕ). unwrap_or n 0) number)
+  where
+    empty : (bytes : List ℕ) → length bytes ≡ 0 → bytes ≡ []
+    empty [] e = refl
+    empty (b ∷ bytes) e = absurd (omega arith)
+
+-- a record without a property length that isn't padded gets no property block, and has none
 pub block_without : (r : DumpRecord) (ps : List Property) → has_header property_length_name r.headers ≡ false
-    → [] ≡ new_block false r ps
-block_without r ps none = rw none refl
+    → length r.props ≡ property_length r.headers → r.props ≡ new_block false r ps
+block_without r ps none size = rw none (no_bytes r none size)
 
 -- a node without a length for its properties has none
 pub no_block : (settings : Settings) (kept : KeptRevisions) (r : DumpRecord)
     → has_header property_length_name r.headers ≡ false → length r.props ≡ property_length r.headers
     → (ps : List Property) → HasPropertyList r ps → AreNewProperties settings kept ps []
 no_block settings kept r none size ps is =
-    let number : header_number property_length_name r.headers ≡ None = sym (no_number property_length_name r.headers none) in
-    let empty : r.props ≡ [] = no_bytes r.props (size ∙ ap (λ (n : Option ℕ). unwrap_or n 0) number) in
-    let same : ps ≡ [] = property_block_once [] ps [] (subst (λ (t : List ℕ). IsPropertyBlock t ps) empty is.0)
-    (inl (refl, refl)) in
+    let same : ps ≡ [] = property_block_once [] ps []
+    (subst (λ (t : List ℕ). IsPropertyBlock t ps) (no_bytes r none size) is.0) (inl (refl, refl)) in
     subst (λ (l : List Property). AreNewProperties settings kept l []) (sym same) tt
-  where
-    no_bytes : (bytes : List ℕ) → length bytes ≡ 0 → bytes ≡ []
-    no_bytes [] e = refl
-    no_bytes (b ∷ bytes) e = absurd (omega arith)

@@ -1,11 +1,11 @@
-use Rattle.std.proofs.Common.{◌≡◌, List, ℕ, false, sym, subst, ◌++◌, codes, OnOk}
+use Rattle.std.proofs.Common.{◌≡◌, List, ℕ, false, ap, sym, subst, ◌∙◌, ◌++◌, codes, OnOk}
 use Rattle.dump_text.specs.PropertyList.{Property}
-use Rattle.dump_writer.specs.steps.ChunkBytes.{chunk_bytes}
+use Rattle.dump_filter.specs.steps.MadeBytes.{made_or}
 use Rattle.dump_records.specs.steps.RecordViews.{record_item}
 use Rattle.dump_records.specs.declared.record.Record.{Record}
 use Rattle.dump_filter.specs.steps.Advance.{IsOwnNode}
 use Rattle.dump_filter.specs.NewContent.{AreNewProperties, new_block}
-use Rattle.dump_filter.specs.steps.NewLines.{new_record}
+use Rattle.dump_filter.specs.steps.NewLines.{AreLengths, new_record}
 use Rattle.dump_filter.proofs.written.OutputLemmas.{on_ok, node_is}
 use Rattle.dump_digest.specs.RecordParts.{HasPropertyList}
 use Rattle.dump_filter.proofs.output.push_node.Goals as goal
@@ -15,10 +15,12 @@ returns c =
     let item = c.item-item.result in
     let r = record_item item in
     let changes = c.changes_of-changes in
-    let own = new_record changes.result r.headers (chunk_bytes c.in_ok-props.props) r.text ++ codes "\n\n" in
+    let lengths = subst (λ bytes. AreLengths bytes c.text_bytes.result.now changes.result)
+    (c.made_or-bytes.ensures ∙ ap (λ own. made_or c.in_ok-props.props own) c.property_bytes.ensures) changes.ensures.lengths in
+    let own = new_record changes.result r.headers (made_or c.in_ok-props.props r.props) r.text ++ codes "\n\n" in
     let written = subst (λ (x : Record). (ps : List Property) → HasPropertyList (record_item x) ps
     → (new : List Property) × AreNewProperties c.args.options.now c.args.kept.now ps new
-    × (chunk_bytes c.in_ok-props.props ≡ new_block false (record_item x) new))
+    × (made_or c.in_ok-props.props (record_item x).props ≡ new_block false (record_item x) new))
     (sym c.item-item.ensures) c.in_ok-props.ensures in
     subst (λ (x : Record). OnOk c.push_record.result
     ((text : List ℕ) × (c.push_record.new.piece ≡ c.args.piece.now ++ text)
@@ -30,7 +32,8 @@ returns c =
           let (new, properties, bytes) = written ps is in (
             new,
             properties,
-            node_is changes.result r c.args.copy _ _ new changes.ensures.revision changes.ensures.copy changes.ensures.lengths c.text_bytes.ensures bytes,
+            node_is changes.result r c.args.copy _ _ new changes.ensures.revision changes.ensures.copy lengths c.text_bytes.ensures
+                bytes,
           ),
     ))
     c.push_record.ensures)

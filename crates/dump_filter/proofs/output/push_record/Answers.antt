@@ -1,17 +1,26 @@
-use Rattle.std.proofs.Common.{ap, ◌∙◌, ◌++◌}
+use Rattle.std.proofs.Common.{◌≡◌, ℕ, Option, ap, subst, ◌∙◌, ◌++◌}
+use Rattle.std.specs.Global.{Vec}
 use Rattle.dump_text.specs.HeaderBlock.{block_text}
-use Rattle.dump_writer.specs.steps.ChunkBytes.{chunk_bytes}
 use Rattle.dump_records.specs.steps.RecordViews.{record_item}
+use Rattle.dump_filter.specs.steps.MadeBytes.{made_or}
 use Rattle.dump_filter.specs.steps.NewLines.{new_headers}
-use Rattle.dump_filter.proofs.written.OutputLemmas.{on_ok, chunks_out}
+use Rattle.dump_filter.proofs.written.OutputLemmas.{on_ok, lines_out}
 use Rattle.dump_filter.proofs.output.push_record.Goals as goal
+use Rattle.dump_filter.proofs.output.push_record.Goals.{in-Some+in_ok-push-in-Some, in-None-2+in_ok-push-in-None-2}
 
 pub returns : goal.returns
 returns c =
     let r = record_item c.args.item.now in
-    let changes = c.args.changes.now in
-    let lines = block_text (new_headers changes r.headers) in
-    let first = c.in_ok-push.ensures.ok ∙ ap (λ t. c.args.piece.now ++ t) c.in_ok-block.ensures in
-    let third = c.in_ok-push_some-2.ensures ∙ ap (λ t. c.push_some.new.piece ++ t) c.text_bytes.ensures in
-    on_ok c.push-2.result _ _ (λ pushed. chunks_out c.args.piece.now lines
-    (chunk_bytes c.args.props) r.text c.args.end.now _ _ _ _ first c.in_ok-push_some.ensures third pushed) c.push-2.ensures.ok
+    let lines = block_text (new_headers c.args.changes.now r.headers) in
+    let old = c.args.piece.now in
+    let IsWritten = λ (made : Option (Vec ℕ)). made_or made (block_text r.headers) ≡ lines in
+    let before : c.match-branch-2.piece ≡ old ++ lines = elim c.match-branch-2.branch [
+      | in-Some+in_ok-push-in-Some w ↦ w.piece-is ∙ w.in_ok-push-in-Some.ensures.ok
+          ∙ ap (λ t. old ++ t) (subst IsWritten w.in-Some.is c.in_ok-block.ensures)
+      | in-None-2+in_ok-push-in-None-2 w ↦ w.piece-is ∙ w.in_ok-push-in-None-2.ensures.ok
+          ∙ ap (λ t. old ++ t) (w.bytes.ensures ∙ ap block_text w.block.ensures.lines
+          ∙ subst IsWritten w.in-None.is c.in_ok-block.ensures)
+    ] in
+    on_ok c.push_content.result _ _ (λ pushed.
+    lines_out old lines (made_or c.args.props r.props) r.text c.args.end.now _ _ before pushed)
+    c.push_content.ensures

@@ -3,6 +3,8 @@ use Rattle.dump_text.specs.PropertyList.{Property}
 use Rattle.dump_records.specs.steps.RecordViews.{record_item}
 use Rattle.dump_records.specs.declared.record.Record.{Record}
 use Rattle.dump_digest.specs.steps.ContentViews.{ArePropertiesOf}
+use Rattle.dump_filter.specs.steps.MadeBytes.{made_or}
+use Rattle.dump_filter.specs.steps.NewLines.{AreLengths}
 use Rattle.dump_filter.specs.steps.OwnText.{revision_own}
 use Rattle.dump_filter.proofs.answer.MergeLemmas.{asked_revision}
 use Rattle.dump_filter.proofs.written.OutputLemmas.{on_ok, revision_is}
@@ -18,6 +20,8 @@ pub returns : goal.returns
 returns c =
     let changes = c.changes_of-changes in
     let item = c.item-item.result in
+    let lengths = subst (λ bytes. AreLengths bytes c.text_bytes.result.now changes.result)
+    (c.made_or-bytes.ensures ∙ ap (λ own. made_or c.in_ok-props.props own) c.property_bytes.ensures) changes.ensures.lengths in
     subst (λ (r : Record). OnOk c.push_record.result ((ps : List Property) → HasPropertyList (record_item r) ps
     → c.push_record.new.piece ≡ c.args.piece.now ++ revision_own
     (record_item r) c.args.number c.args.padded ps)) c.item-item.ensures
@@ -25,5 +29,6 @@ returns c =
     pushed ∙ ap (λ t. c.args.piece.now ++ t)
     (revision_is changes.result
     (record_item item) c.args.number c.args.padded _ _ ps changes.ensures.revision changes.ensures.copy
-    changes.ensures.lengths c.text_bytes.ensures (c.in_ok-props.ensures ps is)))
+    lengths c.text_bytes.ensures
+    (c.in_ok-props.ensures ps is)))
     c.push_record.ensures)

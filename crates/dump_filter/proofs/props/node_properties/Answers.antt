@@ -1,10 +1,10 @@
 use Rattle.std.proofs.Common.{◌≡◌, List, false, IfOk, sym, subst, ◌∙◌}
 use Rattle.dump_text.specs.PropertyList.{Property}
-use Rattle.dump_writer.specs.steps.ChunkBytes.{chunk_bytes}
 use Rattle.dump_records.specs.steps.RecordViews.{record_item}
 use Rattle.dump_records.specs.declared.record.Record.{Record}
 use Rattle.dump_digest.specs.steps.ContentViews.{ArePropertiesOf}
 use Rattle.dump_digest.specs.steps.MergeFaults.{HasLines}
+use Rattle.dump_filter.specs.steps.MadeBytes.{made_or}
 use Rattle.dump_filter.specs.NewContent.{AreNewProperties, new_block}
 use Rattle.dump_filter.proofs.written.OutputLemmas.{if_ok}
 use Rattle.dump_filter.proofs.answer.MergeLemmas.{read_lines, asked_node}
@@ -30,21 +30,21 @@ respelled_block-requires c =
 pub returns-then-has_mergeinfo : goal.returns-then-has_mergeinfo
 returns-then-has_mergeinfo c =
     subst (λ (r : Record). IfOk c.rewritten_block.result
-    (λ chunk. (ps : List Property) → HasPropertyList (record_item r) ps
+    (λ made. (ps : List Property) → HasPropertyList (record_item r) ps
     → (new : List Property) × AreNewProperties c.args.options.now c.args.kept.now ps new
-    × (chunk_bytes chunk ≡ new_block false (record_item r) new)))
+    × (made_or made (record_item r).props ≡ new_block false (record_item r) new)))
     c.item-item.ensures c.rewritten_block.ensures
 
 pub returns-else-has_mergeinfo : goal.returns-else-has_mergeinfo
 returns-else-has_mergeinfo c =
     let (kept, ok) = c.requires.node in
-    if_ok c.respelled_block.result _ _ (λ chunk written ps is. (
+    if_ok c.respelled_block.result _ _ (λ made written ps is. (
       ps,
       no_mergeinfo c.args.options.now c.args.kept.now ps
           (sym (c.has_mergeinfo.ensures kept ok ps is) ∙ c.if-has_mergeinfo.false),
       written ps is,
     ))
     (subst (λ (r : Record). IfOk c.respelled_block.result
-    (λ chunk. (ps : List Property) → HasPropertyList (record_item r) ps
-    → chunk_bytes chunk ≡ new_block false (record_item r) ps))
+    (λ made. (ps : List Property) → HasPropertyList (record_item r) ps
+    → made_or made (record_item r).props ≡ new_block false (record_item r) ps))
     c.item-item.ensures c.respelled_block.ensures)

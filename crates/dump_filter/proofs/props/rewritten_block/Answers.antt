@@ -22,7 +22,7 @@ returns-else-has_props c = λ ps is.
     let none = sym c.has_props.ensures ∙ c.if-has_props.false in (
       [],
       no_block c.args.options.now c.args.kept.now r none c.args.item.now.stands.props_fit ps is,
-      block_without r [] none,
+      block_without r [] none c.args.item.now.stands.props_fit,
     )
 
 pub returns-in-None : goal.returns-in-None

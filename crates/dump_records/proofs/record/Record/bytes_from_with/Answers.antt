@@ -12,10 +12,10 @@ returns-then-starts_with c =
     let dump = c.dump-dump.result.now in
     let end = c.args.end.now in
     let same : end ≡ take (length end) (drop after dump) =
-        (slice_eq-Decides Decides-eqb end _ c.starts_with.result c.starts_with.ensures.value).0 c.if-starts_with.true
-        ∙ ap (λ t. take (length end) t) (take_rest dump after) in
+    (slice_eq-Decides Decides-eqb end _ c.starts_with.result c.starts_with.ensures.value).0 c.if-starts_with.true
+    ∙ ap (λ t. take (length end) t) (take_rest dump after) in
     let behind : slice_range dump after (after + length end) ≡ end =
-        ap (λ n. take n (drop after dump)) (omega arith) ∙ sym same in
+    ap (λ n. take n (drop after dump)) (omega arith) ∙ sym same in
     slice_join dump from after (after + length end) c.start_of.ensures.inside (omega arith)
     ∙ ap₂ (λ front back. front ++ back)
     (ap (λ d. slice_range d from after) c.dump-dump.ensures ∙ c.start_of.ensures.rest) behind
