@@ -32,8 +32,23 @@ pub fn drive<'a, H: Threads + Wait + Sync, R: Read, W: Write, E: Write>(
 ) -> u8
     ensures { Drives (meaning_of (map (λ word. word.now) words.now)) (R.remaining reader.old) (W.contents writer.old) (W.contents writer.new) result }
 {
+    drive_sized(rt, alloc, words, 0, reader, writer, errors)
+}
+
+/// The same, where the reader is thought to have so many bytes. The number spares growing and has no other meaning.
+pub fn drive_sized<'a, H: Threads + Wait + Sync, R: Read, W: Write, E: Write>(
+    rt: &H,
+    alloc: Global,
+    words: &'a [&'a str],
+    size: u64,
+    reader: &mut R,
+    writer: &mut W,
+    errors: &mut E,
+) -> u8
+    ensures { Drives (meaning_of (map (λ word. word.now) words.now)) (R.remaining reader.old) (W.contents writer.old) (W.contents writer.new) result }
+{
     match options_of(alloc, words) {
-        Ok(order) => carry_out(rt, alloc, &order, reader, writer, errors),
+        Ok(order) => carry_out(rt, alloc, &order, size, reader, writer, errors),
         Err(usage) => refuse(errors, usage),
     }
 }
@@ -56,13 +71,14 @@ fn carry_out<H: Threads + Wait + Sync, R: Read, W: Write, E: Write>(
     rt: &H,
     alloc: Global,
     order: &Order,
+    size: u64,
     reader: &mut R,
     writer: &mut W,
     errors: &mut E,
 ) -> u8
     ensures { CarriesOut order.now.options (R.remaining reader.old) (W.contents writer.old) (W.contents writer.new) result }
 {
-    let input = match read_all(alloc, reader) {
+    let input = match read_all(alloc, reader, size) {
         Ok(input) => input,
         Err(Unread::Memory) => return tell_want_of_memory(errors),
         Err(Unread::Source) => {

@@ -9,12 +9,12 @@ mod lines;
 mod tests;
 mod words;
 
-use drive::{drive, refuse};
-use std::env;
+use drive::{drive_sized, refuse};
 use std::io::ErrorKind;
 use std::process::ExitCode;
 use std::sync::Wait;
 use std::thread::Threads;
+use std::{env, fs};
 use words::Usage;
 
 fn main(rt: HostRuntime) -> ExitCode {
@@ -35,10 +35,11 @@ fn run_words<H: Threads + Wait + Sync>(threads: &H, rt: &HostRuntime) -> Result<
             return Err(Usage::Memory);
         }
     }
-    Ok(drive(
+    Ok(drive_sized(
         threads,
         alloc,
         texts.as_slice(),
+        input_size(rt),
         &mut rt.reader(),
         &mut rt.stdout(),
         &mut rt.stderr(),
@@ -51,5 +52,13 @@ fn read_words(rt: &HostRuntime) -> Result<Vec<String>, Usage> {
         Ok(words) => words.collect(rt.alloc()).map_err(|_| Usage::Memory),
         Err(error) if error.kind() == ErrorKind::InvalidData => Err(Usage::Words),
         Err(_) => Err(Usage::Memory),
+    }
+}
+
+// How many bytes standard input has where it is a file, else 0 or another number.
+fn input_size(rt: &HostRuntime) -> u64 {
+    match fs::metadata(rt, "/dev/stdin") {
+        Ok(input) => input.len(),
+        Err(_) => 0,
     }
 }

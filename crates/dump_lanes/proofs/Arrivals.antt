@@ -263,6 +263,21 @@ module _ {T : Type 0} (number : T → ℕ) where
             let h : f (number item) ≡ f released = ap f is in omega arith;
       }
 
+  -- the next arrives, and is released without a place in the row
+  pub passed_on : (window released : ℕ) (arrived : List ℕ) (places : List (Option T))
+      → Row number window released arrived places
+      → Row number window (released + 1) (arrived ++ released ∷ []) places
+  passed_on window released arrived places r = record {
+    wide = r.wide;
+    placed = r.placed;
+    same = λ f.
+        let a = sum_by_push f arrived released in
+        let b = r.same f in
+        let c = sum_by-append f (first_numbers released) (places_of places) in
+        let d = sum_by-append f (first_numbers (released + 1)) (places_of places) in
+        let e = ap (sum_by f) (first_more released) ∙ sum_by_push f (first_numbers released) released in omega arith;
+  }
+
   -- nothing is released
   pub same_row : (window released : ℕ) (arrived : List ℕ) (places : List (Option T))
       → Row number window released arrived places

@@ -1,16 +1,15 @@
 -- Worked steps on a queue of the pool, and wrong ones that its rule refuses.
-use Rattle.std.proofs.Common.{◌≡◌, ℕ, ◌+◌, List, [], ◌∷◌, ◌++◌, length, true, refl, ap, sym, ◌∙◌, arith}
+use Rattle.std.proofs.Common.{◌≡◌, ℕ, List, [], ◌∷◌, ◌++◌, length, true, refl, ap, sym, ◌∙◌, arith}
 use Rattle.crossbeam_queue.specs.Fifo.{Pushes}
 use Rattle.dump_lanes.specs.declared.passes.TheConstants.{PARTS}
 use Rattle.dump_lanes.specs.declared.passes.View.{View}
 use Rattle.dump_lanes.specs.declared.protocol.Mark.{Mark}
-use Rattle.dump_lanes.specs.declared.protocol.Mark.TheVariants.{Item, End}
+use Rattle.dump_lanes.specs.declared.protocol.Mark.TheVariants.{Item}
 use Rattle.dump_lanes.specs.declared.steps.Move.TheVariants as move
 use Rattle.dump_lanes.specs.declared.steps.Step.{Step}
 use Rattle.dump_lanes.specs.PoolParts.{Thread}
 use Rattle.dump_lanes.specs.PartSteps.{Part, IsStep, all_put}
 use Rattle.dump_lanes.specs.JobRule.{jobs_part}
-use Rattle.dump_lanes.specs.LaneRule.{lane_part}
 use Rattle.dump_lanes.specs.steps.JobQueue as jobs
 use Rattle.dump_lanes.specs.steps.LaneQueue as lane
 use Rattle.dump_lanes.specs.steps.OwnSteps.{Knows}

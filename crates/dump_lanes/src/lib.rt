@@ -126,7 +126,6 @@ mod steps;
 mod stop;
 #[cfg(test)]
 mod tests;
-mod turns;
 
 pub use ends::{LaneIn, LaneOut, Memory, Sent, Taken, lane};
 pub use pool::{Credit, CreditPort, DonePort, Drawn, JobPort, Pool, Ports, WorkerPort};

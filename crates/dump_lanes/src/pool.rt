@@ -36,9 +36,6 @@ pub use sequencer::DonePort;
 pub use worker::WorkerPort;
 pub use writer::CreditPort;
 
-/// How many batches are a window: a port that naps is called once a batch waits.
-const BATCHES: usize = 4;
-
 /// The queues between a cutter, some workers, a sequencer and a writer.
 #[derive(Drop)]
 pub struct Pool<J: Drop, D: Drop> {
@@ -86,15 +83,14 @@ impl<J: Drop, D: Drop> Pool<J, D> {
         let Ok((credits, mut first_credit)) = CreditQueue::ruled(alloc, window) else {
             return Err(Memory);
         };
-        let batch = (window / BATCHES).max(1) as u64;
-        let credit_bells = Bells::new(batch);
+        let credit_bells = Bells::new();
         put_first(rt, &credits, &credit_bells, &mut first_credit, window);
         let queues = Queues {
             jobs,
             dones,
             credits,
-            job_bells: Bells::new(batch),
-            done_bells: Bells::new(batch),
+            job_bells: Bells::new(),
+            done_bells: Bells::new(),
             credit_bells,
             workers,
             window,

@@ -8,7 +8,7 @@ use Rattle.dump_lanes.specs.steps.ArrivalRows.{Row}
 use Rattle.dump_lanes.specs.steps.LaneEnds.{Sending}
 use Rattle.dump_lanes.specs.steps.PortSides.{CutterSide}
 use Rattle.dump_lanes.specs.steps.SlotRow.{slot_item, with_slot_item}
-use Rattle.dump_lanes.proofs.Arrivals.{first_more, empty_row, arrived_more, released_more, same_row, next_is_missing, wrong_item, taken_place, still_clash}
+use Rattle.dump_lanes.proofs.Arrivals.{first_more, empty_row, arrived_more, released_more, passed_on, same_row, next_is_missing, wrong_item, taken_place, still_clash}
 use Rattle.dump_lanes.proofs.PortsTogether.{all_then}
 use Rattle.dump_records.specs.steps.CutterState.{CutterState}
 use Rattle.dump_records.specs.DumpText.{Ending}
@@ -140,6 +140,16 @@ module _ {D : Type 0} {run : Ghosts D} where
       (subst (Row checked_number w r (checked_numbers taken ++ done.number ∷ [])) (sym set)
       (arrived_more checked_number w r (checked_numbers taken) old done some h
       (is_none_so (slot_item old done.number) free)))
+
+  -- the next item was taken, and has no place in the row
+  pub row_passed : (w r : ℕ) (taken taken' : List (Checked D run)) (places : List (Option (Checked D run)))
+      (done : Checked D run) → Row checked_number w r (checked_numbers taken) places → taken' ≡ taken ++ done ∷ []
+      → done.number ≡ r → Row checked_number w (r + 1) (checked_numbers taken') places
+  row_passed w r taken taken' places done h more is =
+      subst (λ (l : List ℕ). Row checked_number w (r + 1) l places)
+      (sym (ap (λ (t : List (Checked D run)). checked_numbers t) more ∙ numbers_more taken done
+      ∙ ap (λ (n : ℕ). checked_numbers taken ++ n ∷ []) is))
+      (passed_on checked_number w r (checked_numbers taken) places h)
 
   -- the place of an item was taken
   pub place_clash : (w r : ℕ) (taken taken' : List (Checked D run)) (old : List (Option (Checked D run)))

@@ -14,15 +14,15 @@ use dump_writer::{Piece, Sink, write_piece};
 use std::alloc::Global;
 
 /// Writes a piece behind so many bytes; gives the new count of bytes, also where the sink fails.
-pub fn send<S: Sink>(sink: &mut S, piece: &Piece<'_>, written: u64) -> Result<u64, u64>
-    ensures sent { IfOk result (λ count. Sends (S.taken sink.old) (S.taken sink.new) piece.now written count) }
-    ensures cut { IfErr result (λ count. StopsShort (S.taken sink.old) (S.taken sink.new) piece.now written count) }
+pub fn send<S: Sink>(sink: &mut S, piece: Piece<'_>, written: u64) -> Result<u64, u64>
+    ensures sent { IfOk result (λ count. Sends (S.taken sink.old) (S.taken sink.new) piece.entry written count) }
+    ensures cut { IfErr result (λ count. StopsShort (S.taken sink.old) (S.taken sink.new) piece.entry written count) }
     ensures no_failure { OnOk result (S.failure_count sink.new ≡ S.failure_count sink.old) }
     ensures failed { OnErr result (HasFailedSince (S.failure_count sink.old) (S.failure_count sink.new)) }
     ensures through { S.through sink.new ≡ S.through sink.old }
 {
-    match write_piece(sink, piece) {
-        Ok(()) => Ok(written.saturating_add(piece_len(piece))),
+    match write_piece(sink, &piece) {
+        Ok(()) => Ok(written.saturating_add(piece_len(&piece))),
         Err(fault) => Err(written.saturating_add(fault.written)),
     }
 }
@@ -40,7 +40,7 @@ fn write_end<S: Sink>(alloc: Global, filter: Filter<'_, '_>, sink: &mut S, writt
             written,
         };
     };
-    match send(sink, &piece, written) {
+    match send(sink, piece, written) {
         Ok(_) => Answer::Clean(report),
         Err(written) => Answer::Failed {
             failure: Failure::Sink,
@@ -94,7 +94,7 @@ pub fn run_plain<'a, S: Sink>(
             }
             Err(StepFault::Closed) => unreachable!(),
         };
-        match send(sink, &piece, written) {
+        match send(sink, piece, written) {
             Ok(count) => written = count,
             Err(written) => {
                 return Answer::Failed {

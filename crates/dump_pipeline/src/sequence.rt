@@ -1,6 +1,5 @@
 //! The sequencer.
-ghost use Rattle.std.specs.Prelude.{◌≡◌, ◌+◌, ◌++◌, ◌∷◌, [], ℕ, List, Option, length, replicate, true, false, None, Some, Ok, Err};
-ghost use Rattle.std.specs.Result.{ForOk, ForErr};
+ghost use Rattle.std.specs.Prelude.{◌≡◌, ◌+◌, ◌++◌, ◌∷◌, [], ℕ, List, Option, length, replicate, true, false, None, Some, Ok, Err, IfOk, IfErr};
 ghost use Rattle.dump_records.specs.steps.CutRecords.{EndsAfter};
 ghost use Rattle.dump_records.specs.steps.RecordViews.{record_dump, record_number};
 ghost use Rattle.dump_digest.specs.steps.DoneViews.{done_record, done_settings};
@@ -10,7 +9,7 @@ ghost use Rattle.dump_lanes.specs.steps.SlotViews.{slot_places};
 ghost use Rattle.dump_pipeline.specs.steps.Endings.{ending_of};
 ghost use Rattle.dump_pipeline.specs.steps.Messages.{checked_numbers, text_of};
 ghost use Rattle.dump_pipeline.specs.declared.stage.Stage.{Stage as Stages};
-ghost use Rattle.dump_pipeline.specs.steps.Parts.{HasFiltered, HasReleased, HasSequenced, is_failure, stage_end};
+ghost use Rattle.dump_pipeline.specs.steps.Parts.{HasFiltered, HasReleased, HasSequenced, IsEndOf, is_failure, stage_end};
 
 use crate::message::{Checked, Job, Last, NumberedPiece, Run};
 use crate::stage::{End, Stage};
@@ -20,6 +19,7 @@ use dump_lanes::{DonePort, LaneIn, Sent, Slots, StopSeat, StopWord};
 use dump_rules::Options;
 use dump_writer::Piece;
 use std::alloc::Global;
+use std::mem;
 use std::sync::Wait;
 
 /// The sequencer's port.
@@ -36,30 +36,30 @@ pub struct Sequenced<J: Drop, D: Drop, T: Drop> {
     pub stray: bool,
 }
 
-// What the filter makes of the next record.
+// What the filter makes of the next record: a piece, or the end that it has come to.
 fn filter_record<'o, 'a, D: Run>(
     alloc: Global,
-    mut filter: Filter<'o, 'a>,
+    filter: &mut Filter<'o, 'a>,
     done: Done<'a>,
-) -> (Stage<'o, 'a>, Piece<'a>)
+) -> Result<Piece<'a>, End>
     requires dump { record_dump (done_record done) ≡ D.dump }
     requires settings { done_settings done ≡ D.settings }
-    requires going { (text : List ℕ) × HasFiltered D.settings D.dump filter (record_number (done_record done)) text }
-    ensures text { (text : List ℕ) → HasFiltered D.settings D.dump filter.entry (record_number (done_record done.entry)) text
-        → HasReleased D.settings D.dump result.0 (record_number (done_record done.entry) + 1) (text ++ result.1) }
+    requires going { (text : List ℕ) × HasFiltered D.settings D.dump filter.old (record_number (done_record done)) text }
+    ensures piece { let number = record_number (done_record done.entry) in IfOk result (λ piece. (text : List ℕ)
+        → HasFiltered D.settings D.dump filter.old number text
+        → HasFiltered D.settings D.dump filter.new (number + 1) (text ++ piece)) }
+    ensures end { let number = record_number (done_record done.entry) in IfErr result (λ end. (text : List ℕ)
+        → HasFiltered D.settings D.dump filter.old number text → IsEndOf D.settings D.dump end text) }
 {
     let record = done.item();
     match filter.step(alloc, done) {
-        Ok(piece) => (Stage::Going(filter), piece),
-        Err(StepFault::Rule(kind)) => {
-            let fault = End::Fault {
-                kind,
-                number: record.number(),
-                place: record.place(),
-            };
-            (Stage::Ended(fault), Piece::new(alloc))
-        }
-        Err(StepFault::Memory) => (Stage::Ended(End::Memory), Piece::new(alloc)),
+        Ok(piece) => Ok(piece),
+        Err(StepFault::Rule(kind)) => Err(End::Fault {
+            kind,
+            number: record.number(),
+            place: record.place(),
+        }),
+        Err(StepFault::Memory) => Err(End::Memory),
         Err(StepFault::Closed) => unreachable!(),
     }
 }
@@ -90,28 +90,48 @@ fn filter_end<'o, 'a, D: Run>(
     }
 }
 
-// What the filter makes of the next item.
-fn filter_item<'o, 'a, D: Run>(
+// What is written of the next record.
+fn step_record<'o, 'a, D: Run>(
     alloc: Global,
-    filter: Filter<'o, 'a>,
-    number: u64,
-    what: Result<Done<'a>, Last>,
-) -> (Stage<'o, 'a>, Piece<'a>)
-    requires item { ForOk what (λ d. (record_dump (done_record d) ≡ D.dump)
-        × (record_number (done_record d) ≡ number)
-        × (done_settings d ≡ D.settings)) }
-    requires last { ForErr what (λ end. ∥ EndsAfter D.dump number (ending_of end) ∥₁) }
-    requires going { (text : List ℕ) × HasFiltered D.settings D.dump filter number text }
-    ensures text { (text : List ℕ) → HasFiltered D.settings D.dump filter.entry number text
-        → HasReleased D.settings D.dump result.0 (number + 1) (text ++ result.1) }
+    stage: &mut Stage<'o, 'a>,
+    done: Done<'a>,
+) -> Piece<'a>
+    requires dump { record_dump (done_record done) ≡ D.dump }
+    requires settings { done_settings done ≡ D.settings }
+    requires released { (text : List ℕ) × HasReleased D.settings D.dump stage.old (record_number (done_record done)) text }
+    ensures text { let number = record_number (done_record done.entry) in (text : List ℕ)
+        → HasReleased D.settings D.dump stage.old number text
+        → HasReleased D.settings D.dump stage.new (number + 1) (text ++ result) }
 {
-    match what {
-        Ok(done) => filter_record::<D>(alloc, filter, done),
-        Err(last) => {
-            let (end, piece) = filter_end::<D>(alloc, filter, number, last);
-            (Stage::Ended(end), piece)
-        }
-    }
+    let end = match stage {
+        Stage::Ended(_) => return Piece::new(alloc),
+        Stage::Going(filter) => match filter_record::<D>(alloc, filter, done) {
+            Ok(piece) => return piece,
+            Err(end) => end,
+        },
+    };
+    *stage = Stage::Ended(end);
+    Piece::new(alloc)
+}
+
+// What is written where the records end.
+fn step_end<'o, 'a, D: Run>(
+    alloc: Global,
+    stage: &mut Stage<'o, 'a>,
+    number: u64,
+    last: Last,
+) -> Piece<'a>
+    requires ends { ∥ EndsAfter D.dump number (ending_of last) ∥₁ }
+    requires released { (text : List ℕ) × HasReleased D.settings D.dump stage.old number text }
+    ensures text { (text : List ℕ) → HasReleased D.settings D.dump stage.old number text
+        → HasReleased D.settings D.dump stage.new (number + 1) (text ++ result) }
+{
+    let (end, piece) = match mem::replace(stage, Stage::Ended(End::Memory)) {
+        Stage::Ended(end) => (end, Piece::new(alloc)),
+        Stage::Going(filter) => filter_end::<D>(alloc, filter, number, last),
+    };
+    *stage = Stage::Ended(end);
+    piece
 }
 
 // Raises the stop where the sequencer ended with a fault or a failure of its own.
@@ -126,33 +146,45 @@ fn raise_at_failure(stage: &Stage<'_, '_>, word: &StopWord, seat: &mut StopSeat)
     }
 }
 
-// How far the sequencer has come behind the next item, and what is written of it: nothing once it has ended.
+// What is written of the next item: nothing once the sequencer has ended.
 fn step<'o, 'a, D: Run>(
     alloc: Global,
-    stage: Stage<'o, 'a>,
-    number: u64,
-    what: Result<Done<'a>, Last>,
+    stage: &mut Stage<'o, 'a>,
+    checked: Checked<'a, D>,
     word: &StopWord,
     seat: &mut StopSeat,
-) -> (Stage<'o, 'a>, Piece<'a>)
-    requires item { ForOk what (λ d. (record_dump (done_record d) ≡ D.dump)
-        × (record_number (done_record d) ≡ number)
-        × (done_settings d ≡ D.settings)) }
-    requires last { ForErr what (λ end. ∥ EndsAfter D.dump number (ending_of end) ∥₁) }
-    requires released { (text : List ℕ) × HasReleased D.settings D.dump stage number text }
+) -> NumberedPiece<'a>
+    requires released { (text : List ℕ) × HasReleased D.settings D.dump stage.old checked.number text }
     requires this_word { seat.old.word ≡ word.now }
-    requires raised { seat.old.raised ≡ is_failure (stage_end stage) }
-    ensures seat { seat.new ≡ record seat.old { raised = is_failure (stage_end result.0) } }
-    ensures text { (text : List ℕ) → HasReleased D.settings D.dump stage.entry number text
-        → HasReleased D.settings D.dump result.0 (number + 1) (text ++ result.1) }
+    requires raised { seat.old.raised ≡ is_failure (stage_end stage.old) }
+    ensures seat { seat.new ≡ record seat.old { raised = is_failure (stage_end stage.new) } }
+    ensures number { result.number ≡ checked.entry.number }
+    ensures text { (text : List ℕ) → HasReleased D.settings D.dump stage.old checked.entry.number text
+        → HasReleased D.settings D.dump stage.new (checked.entry.number + 1) (text ++ result.piece) }
 {
-    match stage {
-        Stage::Going(filter) => {
-            let (stage, piece) = filter_item::<D>(alloc, filter, number, what);
-            raise_at_failure(&stage, word, seat);
-            (stage, piece)
-        }
-        Stage::Ended(end) => (Stage::Ended(end), Piece::new(alloc)),
+    let Checked {
+        number,
+        what,
+        credit,
+        ..
+    } = checked;
+    if let Stage::Ended(_) = stage {
+        let piece = Piece::new(alloc);
+        return NumberedPiece {
+            number,
+            piece,
+            credit,
+        };
+    }
+    let piece = match what {
+        Ok(done) => step_record::<D>(alloc, stage, done),
+        Err(last) => step_end::<D>(alloc, stage, number, last),
+    };
+    raise_at_failure(stage, word, seat);
+    NumberedPiece {
+        number,
+        piece,
+        credit,
     }
 }
 
@@ -185,7 +217,7 @@ fn drain<'a, D: Run, R: Wait>(rt: &R, port: &mut SequencerPort<'a, D>)
     unreachable!()
 }
 
-// Releases the items in order, until no more come or one is astray.
+// Releases the items in order, until no more come or one is astray. One that is the next doesn't wait in the row.
 fn release_all<'a, D: Run, R: Wait>(
     rt: &R,
     alloc: Global,
@@ -211,38 +243,30 @@ fn release_all<'a, D: Run, R: Wait>(
     let mut next = 0u64;
     let mut stage = Stage::Going(Filter::new(alloc, options));
     for _ in rt.forever() {
-        match slots.lift(next) {
+        let checked = match slots.lift(next) {
             Some(checked) => {
-                let Checked {
-                    number,
-                    what,
-                    credit,
-                    ..
-                } = checked;
-                if number != next {
+                if checked.number != next {
                     return (stage.end(), true);
                 }
-                let (behind, piece) = step::<D>(alloc, stage, number, what, word, seat);
-                stage = behind;
-                release(
-                    rt,
-                    to,
-                    NumberedPiece {
-                        number,
-                        piece,
-                        credit,
-                    },
-                );
-                next += 1;
+                checked
             }
             None => match port.take(rt) {
-                Some(checked) => match slots.place(checked.number, checked) {
-                    Ok(()) => {}
-                    Err(_) => return (stage.end(), true),
-                },
+                Some(checked) => {
+                    let number = checked.number;
+                    if number != next {
+                        match slots.place(number, checked) {
+                            Ok(()) => continue,
+                            Err(_) => return (stage.end(), true),
+                        }
+                    }
+                    checked
+                }
                 None => return (stage.end(), false),
             },
-        }
+        };
+        let piece = step::<D>(alloc, &mut stage, checked, word, seat);
+        release(rt, to, piece);
+        next += 1;
     }
     unreachable!()
 }

@@ -30,7 +30,7 @@ pub struct Written<J: Drop, D: Drop, T: Drop> {
 // Writes a piece, unless the sink has failed. It raises the stop where the sink fails.
 fn write_one<S: Sink>(
     failed: bool,
-    piece: &Piece<'_>,
+    piece: Piece<'_>,
     count: u64,
     word: &StopWord,
     seat: &mut StopSeat,
@@ -40,7 +40,7 @@ fn write_one<S: Sink>(
     requires raised { seat.old.raised ≡ failed }
     ensures seat { seat.new ≡ record seat.old { raised = result.0 } }
     ensures text { (text : List ℕ) (first : Option (List ℕ)) → HasReceived failed text first (S.taken sink.old) count
-        → HasReceived result.0 (text ++ piece.now) first (S.taken sink.new) result.1 }
+        → HasReceived result.0 (text ++ piece.entry) first (S.taken sink.new) result.1 }
     ensures failures { (first : ℕ) → CountsFailed failed first (S.failure_count sink.old)
         → CountsFailed result.0 first (S.failure_count sink.new) }
     ensures through { S.through sink.new ≡ S.through sink.old }
@@ -86,7 +86,7 @@ pub fn write<'a, D: Run, S: Sink, R: Wait>(
         match from.take(rt) {
             Taken::Item(next) => {
                 let NumberedPiece { piece, credit, .. } = next;
-                (failed, count) = write_one(failed, &piece, count, word, &mut seat, sink);
+                (failed, count) = write_one(failed, piece, count, word, &mut seat, sink);
                 port.back(rt, credit);
             }
             Taken::Closed => {

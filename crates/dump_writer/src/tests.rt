@@ -250,8 +250,10 @@ fn a_worn_out_sink_takes_nothing(rt: HostRuntime) -> Result<(), Fail> {
 #[test]
 fn a_refused_growth_changes_nothing(rt: HostRuntime) {
     let mut piece = Piece::new(rt.alloc());
-    let pushed = piece.push(Chunk::Lent(b"ab"));
-    assert_eq!(rt; piece.chunks().len(), usize::from(pushed == Ok(())));
+    assert_eq!(rt; piece.push(Chunk::Lent(b"a")), Ok(()), "takes no memory");
+    assert_eq!(rt; piece.push(Chunk::Lent(b"b")), Ok(()), "nor does the second");
+    let pushed = piece.push(Chunk::Lent(b"c"));
+    assert_eq!(rt; piece.chunks().len(), 2 + usize::from(pushed == Ok(())));
     assert!(rt; pushed == Ok(()) || pushed == Err(Memory));
 
     let mut sink = MemorySink::new(rt.alloc(), 8, Trouble::From(2));

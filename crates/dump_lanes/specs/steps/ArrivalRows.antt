@@ -1,5 +1,5 @@
 -- Which items stand in a row of slots.
-use Rattle.std.specs.Prelude.{◌≡◌, ℕ, ◌+◌, ◌%◌, List, [], ◌∷◌, ◌++◌, length, Option, Some, None, slice_index_or}
+use Rattle.std.specs.Prelude.{◌≡◌, ℕ, ◌%◌, List, [], ◌∷◌, ◌++◌, length, Option, Some, None, slice_index_or}
 use Rattle.dump_lanes.specs.Arrivals.{WeighsSame, first_numbers}
 
 module _ {T : Type 0} (number : T → ℕ) where

@@ -7,10 +7,12 @@ ghost use Rattle.dump_lanes.specs.steps.QueueRule.{after_take};
 
 use crate::passes::View;
 use crate::protocol::{InOrder, Mark, Takes};
-use crate::turns::TURNS;
 use crossbeam_channel::{Pass, RecvError, RuledReceiver, TryRecvError};
 use std::sync::Wait;
 use std::thread;
+
+/// How often a thread that finds nothing gives its turn away before it sleeps: as long as waking it would take.
+const TURNS: u32 = 400;
 
 /// Takes the mark at the front, and waits for one. An error: none is there, and the sending end is gone.
 pub fn receive<T: Drop, R: Wait>(

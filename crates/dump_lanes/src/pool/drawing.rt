@@ -69,20 +69,19 @@ pub fn draw_from<R: Wait>(
 {
     let mut patience = Patience::new();
     for _ in rt.forever() {
-        let puts = bells.puts();
         if word.look(seat) {
             return Drawn::Stop;
         }
         match queue.pop_as::<Draws, R>(rt, pass) {
             Some(_) => {
-                bells.took(&patience);
+                bells.takes.ring();
                 return Drawn::Credit(Credit {
                     drawn_by: Snapshot::of(pass),
                 });
             }
             None => {
                 let most = Some(Duration::from_millis(LOOK_AGAIN));
-                bells.wait_for_item(rt, &mut patience, puts, most);
+                bells.puts.wait(rt, &mut patience, most);
             }
         }
     }

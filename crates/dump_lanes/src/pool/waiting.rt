@@ -24,15 +24,14 @@ pub fn push<M: Outcome<T, V> + Lesson<T, V>, T, V, P: Protocol<T, V>, R: Wait>(
     let mut waiting = item;
     let mut patience = Patience::new();
     for _ in rt.forever() {
-        let takes = bells.takes();
         match queue.push_as::<M, R>(rt, pass, waiting) {
             Ok(()) => {
-                bells.put();
+                bells.puts.ring();
                 return;
             }
             Err(back) => {
                 waiting = back;
-                bells.wait_for_place(rt, &mut patience, takes);
+                bells.takes.wait(rt, &mut patience, None);
             }
         }
     }
@@ -54,13 +53,12 @@ pub fn pop<M: Outcome<T, V> + Lesson<T, V>, T, V, P: Protocol<T, V>, R: Wait>(
 {
     let mut patience = Patience::new();
     for _ in rt.forever() {
-        let puts = bells.puts();
         match queue.pop_as::<M, R>(rt, pass) {
             Some(item) => {
-                bells.took(&patience);
+                bells.takes.ring();
                 return item;
             }
-            None => bells.wait_for_item(rt, &mut patience, puts, None),
+            None => bells.puts.wait(rt, &mut patience, None),
         }
     }
     unreachable!()

@@ -1,6 +1,7 @@
-use Rattle.std.proofs.Common.{rules, refl, sym, ap, subst, ◌≡◌, ◌∙◌, ℕ, List, length, true, false}
+use Rattle.std.proofs.Common.{rules, refl, sym, ap, subst, ◌≡◌, ◌∙◌, ◌+◌, ℕ, List, length, true, false}
 use Rattle.std.proofs.lemmas.Bool.{false≢true}
 use Rattle.dump_lanes.specs.Arrivals.{IsWaiting}
+use Rattle.dump_lanes.specs.steps.ArrivalRows.{Row}
 use Rattle.dump_lanes.specs.steps.LaneEnds.{Sending}
 use Rattle.dump_lanes.specs.steps.LaneViews.{sending}
 use Rattle.dump_lanes.specs.steps.PortSides.{SequencerSide}
@@ -8,11 +9,12 @@ use Rattle.dump_lanes.specs.steps.PortViews.{done_port}
 use Rattle.dump_lanes.specs.steps.SlotViews.{slot_places}
 use Rattle.dump_pipeline.specs.declared.message.Checked.{Checked}
 use Rattle.dump_pipeline.specs.declared.message.NumberedPiece.{NumberedPiece}
-use Rattle.dump_pipeline.specs.steps.Messages.{checked_numbers, text_of}
+use Rattle.dump_pipeline.specs.steps.Messages.{checked_number, checked_numbers, text_of}
 use Rattle.dump_pipeline.specs.steps.Parts.{HasReleased}
 use Rattle.dump_pipeline.proofs.Released.{begins_with}
-use Rattle.dump_pipeline.proofs.Steps.{row_first, row_unlifted, row_lifted, lifted_wrong, row_placed, place_clash, none_lifted, sequenced_so, text_released, count_released, numbers_released, ended_so, numbers_at_first}
+use Rattle.dump_pipeline.proofs.Steps.{row_first, row_unlifted, row_lifted, row_passed, lifted_wrong, row_placed, place_clash, none_lifted, sequenced_so, text_released, count_released, numbers_released, ended_so, numbers_at_first}
 use Rattle.dump_pipeline.proofs.sequence.release_all.Goals as goal
+use Rattle.dump_pipeline.proofs.sequence.release_all.Goals.{in-Some-lift+else-checked-next, in-None-lift+in-Some-take+else-number-next}
 
 pub loop-init : goal.loop-init
 loop-init g c = record {
@@ -27,8 +29,8 @@ loop-init g c = record {
       (slot_places c.args.slots.now) c.requires.nothing_taken c.requires.empty;
 }
 
-pub returns-then-number-next-clause-sequenced : goal.returns-then-number-next-clause-sequenced
-returns-then-number-next-clause-sequenced g c =
+pub returns-then-checked-next-clause-sequenced : goal.returns-then-checked-next-clause-sequenced
+returns-then-checked-next-clause-sequenced g c =
     sequenced_so g.D.Run.settings g.D.Run.dump (length (slot_places c.args.slots.now)) c.loop.next
     (done_port c.loop.port).taken (sending c.loop.to).put c.end.result true
     (ended_so g.D.Run.settings g.D.Run.dump c.loop.stage c.end.result c.loop.next
@@ -36,33 +38,68 @@ returns-then-number-next-clause-sequenced g c =
     c.loop.invariant.numbered c.loop.invariant.count
     (lifted_wrong (length (slot_places c.args.slots.now)) c.loop.next (checked_numbers (done_port c.loop.port).taken)
     (slot_places c.loop.slots) c.lift.result c.in-Some-lift.checked
-    c.loop.slots.some_places c.loop.invariant.row c.lift.ensures.value c.in-Some-lift.is c.if-number-next.true)
+    c.loop.slots.some_places c.loop.invariant.row c.lift.ensures.value c.in-Some-lift.is c.if-checked-next.true)
 
-pub loop-preserved-in-Some-lift : goal.loop-preserved-in-Some-lift
-loop-preserved-in-Some-lift g c =
-    let checked = c.in-Some-lift.checked in
-    let piece : NumberedPiece = record { number = checked.number; piece = c.step-behind.result.1; credit = checked.credit } in
-    record {
-      pool = c.loop.invariant.pool;
-      lane = ap (λ (x : Sending NumberedPiece). x.lane) c.release.ensures ∙ c.loop.invariant.lane;
-      seat = search rules;
-      text = text_released g.D.Run.settings g.D.Run.dump c.step-behind.result.0 c.loop.next checked.number
-          (sending c.loop.to) (sending c.release.new.to) piece c.release.ensures
-          c.if-number-next.false
-          (c.step-behind.ensures.text (text_of (sending c.loop.to).put)
-          (subst (λ (n : ℕ). HasReleased g.D.Run.settings g.D.Run.dump c.loop.stage n (text_of (sending c.loop.to).put))
-          (sym c.if-number-next.false) c.loop.invariant.text));
-      numbered = numbers_released c.loop.next (sending c.loop.to)
-          (sending c.release.new.to) piece c.release.ensures c.if-number-next.false c.loop.invariant.numbered;
-      count = count_released c.loop.next (sending c.loop.to)
-          (sending c.release.new.to) piece c.release.ensures c.loop.invariant.count;
-      row = row_lifted (length (slot_places c.args.slots.now)) c.loop.next
-          (checked_numbers (done_port c.loop.port).taken) (slot_places c.loop.slots) (slot_places c.lift.new.self)
-          c.lift.result checked c.loop.slots.some_places c.loop.invariant.row c.lift.ensures.value c.in-Some-lift.is c.if-number-next.false c.lift.ensures.emptied;
-    }
+pub step-piece-requires-clause-released : goal.step-piece-requires-clause-released
+step-piece-requires-clause-released g c =
+    let number : c.match-lift.checked.number ≡ c.loop.next = elim c.match-lift.branch [
+      | in-Some-lift+else-checked-next w ↦ ap checked_number w.checked-is ∙ w.if-checked-next.false
+      | in-None-lift+in-Some-take+else-number-next w ↦ ap checked_number w.checked-is ∙ w.if-number-next.false
+    ] in (
+      text_of (sending c.loop.to).put,
+      subst (λ (n : ℕ). HasReleased g.D.Run.settings g.D.Run.dump c.loop.stage n (text_of (sending c.loop.to).put))
+          (sym number) c.loop.invariant.text,
+    )
 
 pub loop-preserved : goal.loop-preserved
 loop-preserved g c =
+    let w : ℕ = length (slot_places c.args.slots.now) in
+    let next : ℕ = c.loop.next in
+    let arrived : List ℕ = checked_numbers (done_port c.loop.port).taken in
+    let number : c.match-lift.checked.number ≡ next = elim c.match-lift.branch [
+      | in-Some-lift+else-checked-next w ↦ ap checked_number w.checked-is ∙ w.if-checked-next.false
+      | in-None-lift+in-Some-take+else-number-next w ↦ ap checked_number w.checked-is ∙ w.if-number-next.false
+    ] in
+    let given : c.step-piece.result.number ≡ next = c.step-piece.ensures.number ∙ number in
+    record {
+      pool = elim c.match-lift.branch [
+        | in-Some-lift+else-checked-next l ↦ ap (λ port. (done_port port).pool) l.port-is ∙ c.loop.invariant.pool
+        | in-None-lift+in-Some-take+else-number-next t ↦ ap (λ port. (done_port port).pool) t.port-is
+            ∙ ap (λ (x : SequencerSide (Checked g.row.D.Denot g.D.Run)). x.pool) t.in-Some-take.ensures.1
+            ∙ c.loop.invariant.pool
+      ];
+      lane = ap (λ (x : Sending NumberedPiece). x.lane) c.release.ensures ∙ c.loop.invariant.lane;
+      seat = search rules;
+      text = text_released g.D.Run.settings g.D.Run.dump c.step-piece.new.stage next c.match-lift.checked.number
+          (sending c.loop.to) (sending c.release.new.to) c.step-piece.result c.release.ensures number
+          (c.step-piece.ensures.text (text_of (sending c.loop.to).put)
+          (subst (λ (n : ℕ). HasReleased g.D.Run.settings g.D.Run.dump c.loop.stage n (text_of (sending c.loop.to).put))
+          (sym number) c.loop.invariant.text));
+      numbered = numbers_released next (sending c.loop.to) (sending c.release.new.to) c.step-piece.result
+          c.release.ensures given c.loop.invariant.numbered;
+      count = count_released next (sending c.loop.to) (sending c.release.new.to) c.step-piece.result c.release.ensures
+          c.loop.invariant.count;
+      row = elim c.match-lift.branch [
+        | in-Some-lift+else-checked-next l ↦
+            subst (λ port. Row checked_number w (next + 1) (checked_numbers (done_port port).taken) (slot_places c.lift.new.self))
+            (sym l.port-is)
+            (row_lifted w next arrived (slot_places c.loop.slots) (slot_places c.lift.new.self) c.lift.result
+            l.in-Some-lift.checked c.loop.slots.some_places c.loop.invariant.row c.lift.ensures.value l.in-Some-lift.is
+            l.if-checked-next.false c.lift.ensures.emptied)
+        | in-None-lift+in-Some-take+else-number-next t ↦
+            subst (λ port. Row checked_number w (next + 1) (checked_numbers (done_port port).taken) (slot_places c.lift.new.self))
+            (sym t.port-is)
+            (row_passed w next (done_port c.loop.port).taken (done_port t.take.new.self).taken
+            (slot_places c.lift.new.self) t.in-Some-take.checked
+            (row_unlifted w next arrived (slot_places c.loop.slots) (slot_places c.lift.new.self) c.lift.result
+            c.loop.invariant.row c.lift.ensures.value t.in-None-lift.is c.lift.ensures.emptied)
+            (ap (λ (x : SequencerSide (Checked g.row.D.Denot g.D.Run)). x.taken) t.in-Some-take.ensures.1)
+            t.if-number-next.false)
+      ];
+    }
+
+pub loop-preserved-in-Ok : goal.loop-preserved-in-Ok
+loop-preserved-in-Ok g c =
     let w : ℕ = length (slot_places c.args.slots.now) in
     let took = c.in-Some-take.ensures.1 in
     record {
