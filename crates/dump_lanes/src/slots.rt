@@ -67,6 +67,9 @@ impl<T: Drop> Slots<T> {
         ensures emptied { slot_places self.new ≡ with_slot_item (slot_places self.old) number None }
     {
         let index = place_of(number, self.places.len());
+        if self.places[index].is_none() {
+            return None;
+        }
         self.places[index].take()
     }
 }
