@@ -1,6 +1,6 @@
 //! What no clause says: worked examples, and each call once.
 use crate::laws::{each_dump_has_one_list, no_record_begins_another};
-use crate::{Cut, Cutter, Record, RecordKind};
+use crate::{Cut, Cutter, Record, RecordKind, RecordPart};
 use dump_text::FaultKind;
 use std::alloc::Global;
 use std::process::Abort;
@@ -90,6 +90,32 @@ fn the_first_record_is_a_version_record(rt: HostRuntime) {
         let first = seen_in(Cutter::new(dump).next());
         assert_eq!(rt; first, Seen::Fault(FaultKind::Version, 0), "{dump:?}");
     }
+}
+
+#[test]
+fn the_bytes_from_a_part_are_lent_with_what_stands_behind(rt: HostRuntime) -> Result<(), Fail> {
+    let alloc = rt.alloc();
+    let block = b"Revision-number: 0\nProp-content-length: 10\nContent-length: 10\n\n".as_slice();
+    let props = b"PROPS-END\n".as_slice();
+    let dump = joined(alloc, &[VERSION, block, props, b"\n"])?;
+    let mut cutter = Cutter::new(&dump);
+    let version = next_record(&mut cutter)?;
+    assert_eq!(rt; version.bytes_from(RecordPart::Block), VERSION);
+    let revision = next_record(&mut cutter)?;
+    let (alone, followed) = (
+        joined(alloc, &[block, props])?,
+        joined(alloc, &[block, props, b"\n"])?,
+    );
+    for (part, bytes, with) in [
+        (RecordPart::Block, alone.as_slice(), followed.as_slice()),
+        (RecordPart::Properties, props, b"PROPS-END\n\n"),
+        (RecordPart::Text, b"", b"\n"),
+    ] {
+        assert_eq!(rt; revision.bytes_from(part), bytes);
+        assert_eq!(rt; revision.bytes_from_with(part, b"\n"), Some(with));
+        assert_eq!(rt; revision.bytes_from_with(part, b"\n\n"), None);
+    }
+    Ok(())
 }
 
 #[test]
