@@ -1,5 +1,6 @@
 pub mod Ends
 pub mod Joined
+pub mod OneAnswer
 pub mod Receiving
 pub mod Released
 pub mod RunLemmas

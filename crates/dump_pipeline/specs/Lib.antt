@@ -1,4 +1,5 @@
 pub mod FilterAnswer
 pub mod PlanViews
 pub mod RunAnswer
+pub mod RunLaws
 pub mod steps

@@ -26,6 +26,7 @@ mod count;
 mod cut;
 mod gate;
 mod join;
+pub mod laws;
 mod make;
 mod message;
 mod pipeline;
