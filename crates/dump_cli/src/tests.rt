@@ -41,10 +41,12 @@ impl Read for Dripping<'_> {
 fn input_is_read_whole(rt: HostRuntime) -> Result<(), Fail> {
     let alloc = rt.alloc();
     let long = vec![in alloc; 7; 200_000]?;
-    let mut reader = long.as_slice();
-    let input = read_all(alloc, &mut reader)?;
-    assert!(rt; input.as_slice() == long.as_slice());
-    assert!(rt; reader.is_empty());
+    for size in [0, 3, 200_000, 1 << 62, u64::MAX] {
+        let mut reader = long.as_slice();
+        let input = read_all(alloc, &mut reader, size)?;
+        assert!(rt; input.as_slice() == long.as_slice(), "where it was thought to be {size}");
+        assert!(rt; reader.is_empty());
+    }
     Ok(())
 }
 
@@ -55,7 +57,7 @@ fn input_that_comes_in_drops_is_read_whole(rt: HostRuntime) -> Result<(), Fail> 
         interruptions: 3,
         fails: false,
     };
-    let input = read_all(rt.alloc(), &mut dripping)?;
+    let input = read_all(rt.alloc(), &mut dripping, 4)?;
     assert_eq!(rt; input.as_slice(), b"some text".as_slice());
     Ok(())
 }
@@ -67,7 +69,7 @@ fn an_error_is_no_end(rt: HostRuntime) {
         interruptions: 0,
         fails: true,
     };
-    let answer = read_all(rt.alloc(), &mut dripping);
+    let answer = read_all(rt.alloc(), &mut dripping, 4);
     assert!(rt; matches!(answer, Err(Unread::Source)));
 }
 

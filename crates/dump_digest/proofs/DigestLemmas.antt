@@ -1,5 +1,6 @@
 -- A header tells another digest than the text's exactly where it stands there, and isn't it.
 use Rattle.std.proofs.Common.{◌≡◌, ◌↔◌, ℕ, Bool, true, false, ◌||◌, List, refl, sym, ap, ◌∙◌, Option, Some, None, is_some, option_copied, Bor, IsFalse, if◌then◌else◌}
+use Rattle.std.proofs.lemmas.Option.{same_Some}
 use Rattle.dump_text.specs.Names.{md5_name, sha1_name}
 use Rattle.dump_text.specs.HeaderLine.{has_header, header_value}
 use Rattle.dump_records.specs.RecordText.{DumpRecord}
@@ -7,9 +8,6 @@ use Rattle.dump_text.proofs.BlockLemmas.{has_value}
 use Rattle.dump_text.proofs.ValueLemmas.{some_copied}
 use Rattle.dump_digest.specs.RecordParts.{has_whole_text}
 use Rattle.dump_digest.specs.steps.Checks.{TellsOther, HasOtherDigest, is_told_text}
-
-same_digits : (a b : List ℕ) → Some a ≡ Some b → a ≡ b
-same_digits a b e = cc
 
 -- the text of a record, where it has one that isn't a delta
 abbrev pub whole_part : DumpRecord → Option (List ℕ)
@@ -21,7 +19,7 @@ pub text_there : (r : DumpRecord) (text : List ℕ) → Some text ≡ whole_part
 text_there r text is = by_whole (has_whole_text r) refl
   where
     by_whole : (b : Bool) → has_whole_text r ≡ b → (has_whole_text r ≡ true) × (text ≡ r.text)
-    by_whole true e = (e, same_digits text r.text (is ∙ rw e refl))
+    by_whole true e = (e, same_Some text r.text (is ∙ rw e refl))
     by_whole false e = let bad : Some text ≡ None = is ∙ rw e refl in cc
 
 pub no_text : (r : DumpRecord) → None ≡ whole_part r → has_whole_text r ≡ false

@@ -1,5 +1,6 @@
 -- Each record has a verdict.
 use Rattle.std.proofs.Common.{◌≡◌, ◌≢◌, ◌⊎◌, ◌↔◌, ℕ, Bool, true, false, ◌||◌, List, refl, sym, ap, ◌∙◌, inl, inr, Option, Some, None, IsTrue, IsFalse, Result, Ok, Err, bytes_eq}
+use Rattle.std.proofs.lemmas.Option.{same_Some}
 use Rattle.std.specs.Option.{ForSome}
 use Rattle.std.proofs.Math.Logic.{∥∥₁_elim}
 use Rattle.std.proofs.lemmas.Slice.Eq.{bytes_eq-Decides}
@@ -91,14 +92,11 @@ digest_choice name r size digest =
     (λ digits. decode_sized digits size ≢ Ok digest))
     (so (has_header name r.headers)) (by_value (header_value name r.headers))
   where
-    some : (a b : List ℕ) → Some a ≡ Some b → a ≡ b
-    some a b e = cc
-
     by_value : (value : Option (List ℕ)) → ForSome value (λ digits. decode_sized digits size ≢ Ok digest)
         ⊎ (¬ ForSome value (λ digits. decode_sized digits size ≢ Ok digest))
     by_value None = inl (λ digits e. absurd (let no : None ≡ Some digits = e in cc))
     by_value (Some digits) = elim (decoded_choice (decode_sized digits size) digest) [
-      | inl other ↦ inl (λ x e same. other (ap (λ d. decode_sized d size) (some digits x e) ∙ same))
+      | inl other ↦ inl (λ x e same. other (ap (λ d. decode_sized d size) (same_Some digits x e) ∙ same))
       | inr same ↦ inr (λ other. same (other digits refl))
     ]
 

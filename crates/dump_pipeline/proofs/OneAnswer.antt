@@ -1,6 +1,6 @@
 -- A dump has one answer under given options.
 use Rattle.std.proofs.Common.{◌≡◌, ℕ, ◌+◌, ◌<◌, ◌≤◌, Bool, true, false, List, [], ◌∷◌, ◌++◌, take, drop, length, refl, sym, ap, ◌∙◌, subst, arith, append_assoc, length-append, inl, inr}
-use Rattle.std.proofs.lemmas.List.{take-append-drop, length-take-le}
+use Rattle.std.proofs.lemmas.List.{take-append-drop, length-take-le, same_from_push}
 use Rattle.dump_text.specs.declared.fault.FaultKind.{FaultKind}
 use Rattle.dump_records.specs.RecordText.{DumpRecord}
 use Rattle.dump_records.specs.DumpText.{Ending, BeginsWithRecords, HasRecords}
@@ -18,18 +18,6 @@ use Rattle.dump_pipeline.specs.declared.answer.Answer.TheVariants.{Clean, Fault,
 use Rattle.dump_pipeline.specs.FilterAnswer.{HasFirstFault, IsFilterAnswer}
 use Rattle.dump_pipeline.specs.RunLaws.{EachDumpHasOneAnswer}
 use Rattle.dump_pipeline.proofs.RunLemmas.{goes_on}
-
-last_once : (xs ys : List DumpRecord) (x y : DumpRecord) → xs ++ x ∷ [] ≡ ys ++ y ∷ [] → (xs ≡ ys) × (x ≡ y)
-last_once [] [] x y is = (refl, cc)
-last_once [] (b ∷ ys) x y is =
-    let sizes = ap length is in let size = length-append ys (y ∷ []) in absurd (omega arith)
-last_once (a ∷ xs) [] x y is =
-    let sizes = ap length is in let size = length-append xs (x ∷ []) in absurd (omega arith)
-last_once (a ∷ xs) (b ∷ ys) x y is =
-    let first : a ≡ b = cc in
-    let more : xs ++ x ∷ [] ≡ ys ++ y ∷ [] = cc in
-    let rest = last_once xs ys x y more in
-    ((λ i. first i ∷ rest.0 i), rest.1)
 
 -- what is written of the same records is the same text
 written_once : (settings : Settings) (ended : Bool) (rs ss : List DumpRecord) (x y : List ℕ) → rs ≡ ss
@@ -93,7 +81,7 @@ module _ (settings : Settings) (dump : List ℕ) where
       count = as_many before others r s kind other a b fault fault' free free'
 
       same : (before ≡ others) × (r ≡ s)
-      same = last_once before others r s (begins_once dump (before ++ r ∷ []) (others ++ s ∷ [])
+      same = same_from_push before others r s (begins_once dump (before ++ r ∷ []) (others ++ s ∷ [])
           (length-append before (r ∷ []) ∙ ap (λ n. n + 1) count ∙ sym (length-append others (s ∷ []))) a b)
 
       moved : IsRecordFault settings before r other

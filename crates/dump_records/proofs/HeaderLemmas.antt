@@ -1,5 +1,6 @@
 -- What lawful header lines tell of their record's kind and numbers.
 use Rattle.std.proofs.Common.{◌≡◌, ℕ, ◌==◌, ◌&&◌, not, Bool, true, false, List, [], ◌∷◌, refl, sym, ap, ◌∙◌, Option, Some, None, is_some, is_none, count_by, option_and_then, unwrap_or}
+use Rattle.std.proofs.lemmas.Option.{none-some}
 use Rattle.dump_text.specs.Names.{version_name, uuid_name, revision_name, path_name, copy_revision_name, copy_path_name, deciding_names, length_names}
 use Rattle.std.specs.List.{list_any}
 use Rattle.dump_text.specs.Number.{number_of}
@@ -70,19 +71,20 @@ deciding headers good = one_kind (has_header version_name headers) (has_header u
     (first_false _ (has_header path_name headers && is_one_alone (has_header copy_revision_name headers)
     (has_header copy_path_name headers)) good)
 
+-- where not one of two is there alone, both are, or none
+pub both_or_none : (a b : Bool) → is_one_alone a b ≡ false → a ≡ b
+both_or_none true true alone = refl
+both_or_none true false alone = alone
+both_or_none false true alone = sym alone
+both_or_none false false alone = refl
+
 -- a node's two copyfrom headers stand together
 pub copy_both : (headers : List Header) → has_bad_kind headers ≡ false → has_header path_name headers ≡ true
     → has_header copy_revision_name headers ≡ has_header copy_path_name headers
-copy_both headers good node = same (has_header copy_revision_name headers) (has_header copy_path_name headers)
+copy_both headers good node = both_or_none (has_header copy_revision_name headers) (has_header copy_path_name headers)
     (sym (rw node refl) ∙ second_false (not (count_by (λ name. has_header name headers) deciding_names == 1))
     (has_header path_name headers && is_one_alone (has_header copy_revision_name headers)
     (has_header copy_path_name headers)) good)
-  where
-    same : (a b : Bool) → is_one_alone a b ≡ false → a ≡ b
-    same true true alone = refl
-    same true false alone = alone
-    same false true alone = sym alone
-    same false false alone = refl
 
 -- what is missing is none
 pub none_of : {A : Type 0} (r : Option A) → is_some r ≡ false → None ≡ r
@@ -114,10 +116,7 @@ number_there name headers good = cases (has_header name headers) refl (header_nu
     cases true has (Some n) number = refl
     cases true has None number = absurd (false_true (sym good ∙ rw (has, number) refl))
     cases false has None number = refl
-    cases false has (Some n) number = absurd (no_some (no_number name headers has ∙ number))
-      where
-        no_some : None ≡ Some n → ⊥
-        no_some e = cc
+    cases false has (Some n) number = absurd (none-some n (no_number name headers has ∙ number))
 
 -- the numbers of a revision and of a copy source are there where their lines are
 module _ (headers : List Header) (good : has_bad_number headers ≡ false) where
@@ -152,10 +151,7 @@ version_there number headers good =
     cases true has (Some n) found = refl
     cases true has None found = absurd (false_true (sym read ∙ rw (has, found) refl))
     cases false has None found = refl
-    cases false has (Some n) found = absurd (no_some (no_number version_name headers has ∙ found))
-      where
-        no_some : None ≡ Some n → ⊥
-        no_some e = cc
+    cases false has (Some n) found = absurd (none-some n (no_number version_name headers has ∙ found))
 
 -- the version in force is that of the parts that the lines say, where they have one
 pub version_said : (headers : List Header) (parts : KindParts) (before : ℕ) → IsKindOf headers parts

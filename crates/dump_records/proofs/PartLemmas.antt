@@ -1,5 +1,6 @@
 -- Why no record stands at a place, and what stands there else.
 use Rattle.std.proofs.Common.{◌≡◌, ◌≢◌, ℕ, ◌+◌, ◌-◌, ◌<◌, ◌≤◌, get_or, Bool, true, false, List, ◌++◌, take, drop, length, slice_range, refl, sym, ap, ◌∙◌, subst, arith, append_assoc, unwrap_or, Result, Ok, Err}
+use Rattle.dump_text.proofs.BoolLemmas.{not_so}
 use Rattle.std.proofs.lemmas.List.{take-append-drop, length-drop, length-take-le, drop-drop, drop_more, drop_all}
 use Rattle.std.proofs.lemmas.Bool.{ne_eqb}
 use Rattle.std.specs.Result.{IsErrAnd, IfErr}
@@ -125,13 +126,9 @@ module _ (number : ℕ) (text : List ℕ) (headers : List line.Header) (after : 
       let kept = keeps number headers lawful in
       record {
         holds = (headers, after, b, short);
-        least = none_below 7 (omega arith) (λ low. not-true _ kept.kind) (λ low. not-true _ kept.version)
-            (λ low. not-true _ kept.number_ok) (λ low. not-true _ kept.lengths);
+        least = none_below 7 (omega arith) (λ low. not_so _ kept.kind) (λ low. not_so _ kept.version)
+            (λ low. not_so _ kept.number_ok) (λ low. not_so _ kept.lengths);
       }
-    where
-      not-true : (t : Bool) → (t ≡ true → ⊥) → t ≡ false
-      not-true true no_way = absurd (no_way refl)
-      not-true false no_way = refl
 
 -- the record between the places that its lengths give
 pub standing : (dump : List ℕ) (number place props_from text_from after version props text : ℕ)

@@ -109,6 +109,11 @@ none_begins path near longest reach (prefix ∷ prefixes) within some other clea
 
 -- one more prefix
 
+swapped : (a b c : Bool) → (a || (b || c)) ≡ (b || (a || c))
+swapped true true c = refl
+swapped true false c = refl
+swapped false b c = refl
+
 any_inserted : {V : Type 0} (items : V → List ℕ) (p : List ℕ → Bool) (k : V) (ks : List V)
     → list_any (λ v. p (items v)) (insert_key (λ x y. slice_cmp nat_cmp (items x) (items y)) ks k)
     ≡ (p (items k) || list_any (λ v. p (items v)) ks)
@@ -118,11 +123,6 @@ any_inserted {V} items p k (x ∷ xs) = at (any_inserted items p k xs) (slice_cm
     twice : (a b : Bool) → (a || b) ≡ (a || (a || b))
     twice true b = refl
     twice false b = refl
-
-    swapped : (a b c : Bool) → (a || (b || c)) ≡ (b || (a || c))
-    swapped true true c = refl
-    swapped true false c = refl
-    swapped false b c = refl
 
     at : list_any (λ v. p (items v)) (insert_key (λ x y. slice_cmp nat_cmp (items x) (items y)) xs k) ≡
         (p (items k) || list_any (λ v. p (items v)) xs)
@@ -143,11 +143,6 @@ any_pushed : (p : List ℕ → Bool) (texts : List (List ℕ)) (text : List ℕ)
     (p text || list_any p texts)
 any_pushed p [] text = refl
 any_pushed p (t ∷ texts) text = ap (λ b. p t || b) (any_pushed p texts text) ∙ swapped (p t) (p text) (list_any p texts)
-  where
-    swapped : (a b c : Bool) → (a || (b || c)) ≡ (b || (a || c))
-    swapped true true c = refl
-    swapped true false c = refl
-    swapped false b c = refl
 
 -- a text that is looked up by the order of the set is one of its texts
 pub any_found : {V : Type 0} (items : V → List ℕ) (text : List ℕ) (ks : List V)

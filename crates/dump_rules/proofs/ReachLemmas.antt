@@ -1,5 +1,6 @@
 -- Kept revisions that rise: how many stand up to a number, their new numbers and their images.
 use Rattle.std.proofs.Common.{◌≡◌, ◌⊎◌, ℕ, zero, suc, ◌+◌, ◌<◌, ◌≤◌, Bool, true, false, cond, List, [], ◌∷◌, ◌++◌, length, get_or, nat_lt, nat_le, refl, sym, ap, ◌∙◌, inl, inr, arith, Some, None, Option, option_map, All, count_by, filter, append-nil}
+use Rattle.std.proofs.lemmas.Bool.{lt-ltb}
 use Rattle.std.specs.List.{last_or}
 use Rattle.std.specs.List.Sorted.{IsNonDecreasing, IsPartitionedBy, IsPartitionPoint}
 use Rattle.std.proofs.lemmas.Bool.Decides.{leb_tells, nat_tests}
@@ -26,10 +27,6 @@ below-cons n k numbers = sum_by-cons (λ j. cond (nat_lt j n) 1 0) k numbers
 -- a number in front counts as one of those up to n where it is at most n
 pub up_to-cons : (n k : ℕ) (numbers : List ℕ) → up_to n (k ∷ numbers) ≡ cond (nat_le k n) 1 0 + up_to n numbers
 up_to-cons n k numbers = sum_by-cons (λ j. cond (nat_le j n) 1 0) k numbers
-
--- the test for less holds of a smaller number
-pub is_below : (k n : ℕ) → k < n → nat_lt k n ≡ true
-is_below k n h = grind (arith, nat_tests)
 
 -- the test for less fails of a number that isn't smaller
 pub is_not_below : (k n : ℕ) → n ≤ k → nat_lt k n ≡ false
@@ -71,7 +68,7 @@ last_up_to first n (k ∷ numbers) before up =
         let lowest = up.0 in
         let higher = some.2 in
         let counted : below some.0 (k ∷ numbers) ≡ 1 + below some.0 numbers =
-        below-cons some.0 k numbers ∙ rw (is_below k some.0 (omega arith)) refl in
+        below-cons some.0 k numbers ∙ rw (lt-ltb k some.0 (omega arith)) refl in
         let more : up_to n (k ∷ numbers) ≡ 1 + up_to n numbers = up_to-cons n k numbers ∙ rw passes refl in
         inr (some.0, rw passes some.1, omega arith, some.3, more ∙ ap (λ c. 1 + c) (some.4 ∙ sym counted))
 
@@ -99,7 +96,7 @@ new_number_fits kept n up low = fits kept.first kept.numbers up low
               let within = lower.1 in
               let later = fits (k + 1) numbers up.1 (omega arith) in
               let counted = below-cons n k numbers in
-              let passes = is_below k n (omega arith) in
+              let passes = lt-ltb k n (omega arith) in
               let one : below n (k ∷ numbers) ≡ 1 + below n numbers = counted ∙ rw passes refl in
               omega arith
         ]
@@ -108,7 +105,7 @@ all_below : (n : ℕ) (numbers : List ℕ) → All (λ k. k < n) numbers → bel
 all_below n [] all = refl
 all_below n (k ∷ numbers) all =
     let later = all_below n numbers (All-tail (λ j. j < n) k numbers all) in
-    let passes = is_below k n (All-head (λ j. j < n) k numbers all) in
+    let passes = lt-ltb k n (All-head (λ j. j < n) k numbers all) in
     let counted : below n (k ∷ numbers) ≡ 1 + below n numbers = below-cons n k numbers ∙ rw passes refl in
     omega arith
 
@@ -216,7 +213,8 @@ image_pushed kept n r low =
       | inr within ↦ ap Some (new_number_pushed kept n last (omega arith))
     ]
 
-last_or_pushed : (before : Option ℕ) (numbers : List ℕ) (n : ℕ) → last_or before (numbers ++ n ∷ []) ≡ Some n
+-- behind one more number that is the last
+pub last_or_pushed : (before : Option ℕ) (numbers : List ℕ) (n : ℕ) → last_or before (numbers ++ n ∷ []) ≡ Some n
 last_or_pushed before [] n = refl
 last_or_pushed before (k ∷ numbers) n = last_or_pushed (Some k) numbers n
 

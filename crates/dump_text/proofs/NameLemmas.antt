@@ -1,5 +1,6 @@
 -- The names that have a meaning: which bytes are one, and where it stands among them.
 use Rattle.std.proofs.Common.{◌≡◌, ℕ, ◌<◌, ◌||◌, Bool, true, false, ◌==◌, List, [], ◌∷◌, length, map, filter, get_or, refl, sym, ap, ◌∙◌, lit<, bytes_eq, Some, is_some}
+use Rattle.std.proofs.lemmas.Option.{same_Some}
 use Rattle.std.specs.List.{list_any, find}
 use Rattle.std.proofs.lemmas.Bool.{eq-eqb}
 use Rattle.std.proofs.lemmas.Slice.Eq.{bytes_eq-Decides}
@@ -23,11 +24,8 @@ found : {X : Type 0} (p : X → Bool) (xs : List X) (y : X) → find p xs ≡ So
 found p [] y is = cc
 found p (x ∷ xs) y is = cases (p x) refl (found p xs y)
   where
-    some_once : Some x ≡ Some y → x ≡ y
-    some_once e = cc
-
     cases : (b : Bool) → p x ≡ b → (find p xs ≡ Some y → p y ≡ true) → p y ≡ true
-    cases true here more = ap p (sym (some_once (sym (find_here p x xs here) ∙ is))) ∙ here
+    cases true here more = ap p (sym (same_Some x y (sym (find_here p x xs here) ∙ is))) ∙ here
     cases false other more = more (sym (find_behind p x xs other) ∙ is)
 
 -- what is found among those elements that alone can be it is what is found among all
@@ -95,10 +93,7 @@ known_is bytes = among all_names
 
 -- two names of the same bytes are one
 pub text_once : (m n : HeaderName) → name_text m ≡ name_text n → m ≡ n
-text_once m n same = some_once (sym (known_itself m) ∙ ap known_name same ∙ known_itself n)
-  where
-    some_once : Some m ≡ Some n → m ≡ n
-    some_once e = cc
+text_once m n same = same_Some m n (sym (known_itself m) ∙ ap known_name same ∙ known_itself n)
 
 -- a name stands at its place
 at_place : (name : HeaderName) → get_or all_names (name_place name) FormatVersion ≡ name

@@ -1,5 +1,7 @@
 -- Property blocks are cut into entries in one way.
 use Rattle.std.proofs.Common.{◌≡◌, ◌↔◌, ◌⊎◌, ℕ, ◌<◌, ◌&&◌, ◌||◌, Bool, true, false, List, [], ◌∷◌, ◌++◌, get_or, length, lit<, refl, sym, ap, ◌∙◌, subst, arith, append_assoc, Option, Some, None, is_some, is_none, if◌then◌else◌, inl, inr, codes, bytes_eq}
+use Rattle.std.proofs.lemmas.Option.{same_Some}
+use Rattle.std.proofs.Math.Bool.{and-false}
 use Rattle.std.proofs.Math.Logic.{∥∥₁_elim}
 use Rattle.std.specs.Coded.{Coded-set, coded_list, coded_ℕ}
 use Rattle.std.proofs.lemmas.List.{append-nil}
@@ -283,11 +285,7 @@ pub no_value_there : (e : Entry) (name : List ℕ) → e.gone ≡ true
     → (bytes_eq e.name.now name && is_some (entry_property e).value) ≡ false
 no_value_there e name gone =
     ap (λ b. bytes_eq e.name.now name && is_some (if b then None else Some e.value.now)) gone
-    ∙ neither (bytes_eq e.name.now name)
-  where
-    neither : (b : Bool) → (b && false) ≡ false
-    neither true = refl
-    neither false = refl
+    ∙ and-false (bytes_eq e.name.now name)
 
 -- the rest and the value of an entry are parts of the block
 part_behind : (dump : List ℕ) (place after : ℕ) (x y : List ℕ) → IsPartBetween dump place after (x ++ y)
@@ -308,11 +306,8 @@ value_between dump place after text p rest value (inl e) set part =
     e.value.cut ∙ sized_cut 86 e.value_digits e.bytes rest
     ∙ ap (λ t. 86 ∷ 32 ∷ t) (sym (append_assoc e.value_digits (10 ∷ []) (e.bytes ++ 10 ∷ rest))) in
     let same : Path (Option (List ℕ)) (Some e.bytes) (Some value) = sym e.set ∙ set in
-    subst (IsPartBetween dump place after) (some_once same)
+    subst (IsPartBetween dump place after) (same_Some e.bytes value same)
     (part_of_part dump place after line e.bytes (10 ∷ rest) (subst (IsPartBetween dump place after) cut behind))
-  where
-    some_once : {v w : List ℕ} → Path (Option (List ℕ)) (Some v) (Some w) → v ≡ w
-    some_once same = cc
 value_between dump place after text p rest value (inr e) set part =
     let bad : Path (Option (List ℕ)) None (Some value) = sym e.none ∙ set in cc
 

@@ -1,7 +1,7 @@
 -- A text is cut at a byte in one way, and so into header lines.
 use Rattle.std.proofs.Common.{◌≡◌, ℕ, suc, ◌+◌, ◌-◌, ◌<◌, ◌≤◌, nat_lt, Bool, true, false, ◌||◌, ◌==◌, List, [], ◌∷◌, ◌++◌, take, drop, map, filter, length, get_or, slice_index, refl, sym, ap, ◌∙◌, arith, append_assoc, length-append, codes, Option, Some, None, position}
 use Rattle.std.specs.List.{list_all, position_or_len, All}
-use Rattle.std.proofs.lemmas.List.{take-append-drop, drop_more, get_or-take, get_or-drop, length-drop, length-take-le, take_at, drop_at, append-nil, flat_map_more}
+use Rattle.std.proofs.lemmas.List.{take-append-drop, drop_more, get_or-take, get_or-drop, length-drop, length-take-le, take_at, drop_at, append-nil, flat_map_more, nil_from_length}
 use Rattle.std.proofs.lemmas.List.Elements.{All-cons}
 use Rattle.std.proofs.lemmas.List.Quantifiers.{position-Some}
 use Rattle.std.proofs.lemmas.List.Sums.{position_or_len_is, fails_before_first}
@@ -322,18 +322,13 @@ pub all_more : (hs : List line.Header) (h : line.Header) → list_all is_header 
     → list_all is_header (hs ++ h ∷ []) ≡ true
 all_more hs h all good = list_all-append is_header hs (h ∷ []) ∙ rw (all, good) refl
 
--- a text of length 0 is empty
-pub empty_text : (text : List ℕ) → length text ≡ 0 → text ≡ []
-empty_text [] none = refl
-empty_text (c ∷ text) none = absurd (omega arith)
-
 -- where an empty line follows some header lines they end, and are read as they are
 pub lines_end : (text whole rest others : List ℕ) (hs : List line.Header) → text ≡ lines_bytes hs ++ rest
     → list_all is_header hs ≡ true
     → IsFirstLine rest whole others → length whole ≡ 0
     → IsLinesEnd text (length text - length rest) × (headers_of (take (length text - length rest) text) ≡ hs)
 lines_end text whole rest others hs is all first none =
-    let empty : rest ≡ 10 ∷ others = first.cut ∙ ap (λ w. w ++ 10 ∷ others) (empty_text whole none) in
+    let empty : rest ≡ 10 ∷ others = first.cut ∙ ap (λ w. w ++ 10 ∷ others) (nil_from_length whole none) in
     let sizes = ap length is ∙ length-append (lines_bytes hs) rest in
     let some : length rest ≡ 1 + length others = ap length empty ∙ omega arith in
     let at : length (lines_bytes hs) ≡ length text - length rest = omega arith in

@@ -1,5 +1,6 @@
 -- The values of the known names among header lines, line by line.
 use Rattle.std.proofs.Common.{◌≡◌, ◌≢◌, ℕ, zero, suc, replicate, ◌<◌, ◌==◌, not, Bool, true, false, List, [], ◌∷◌, ◌++◌, length, refl, sym, ap, ◌∙◌, arith, subst, bytes_eq, Option, Some, None, is_some, Bor, slice_index_or, slice_set, slice_range}
+use Rattle.std.proofs.lemmas.Option.{none-some, same_Some}
 use Rattle.std.specs.Option.{option_copied, IfSome}
 use Rattle.std.proofs.lemmas.Bool.{eqb-true, eqb-false}
 use Rattle.std.proofs.lemmas.List.{get_or-set_other, get_or-set_same}
@@ -66,11 +67,8 @@ module _ (headers : List line.Header) (values : List (Option (Bor (List ℕ)))) 
   pub unknown_noted : known_name name ≡ None → (value : List ℕ) → AreValues (headers ++ line_of name value ∷ []) values
   unknown_noted none value n = are n ∙ sym (value_other (name_text n) headers (line_of name value) (not_so _ other))
     where
-      no_name : None ≡ Some n → ⊥
-      no_name e = cc
-
       other : bytes_eq name (name_text n) ≡ true → ⊥
-      other same = no_name (sym none ∙ ap known_name ((bytes_eq-Decides name (name_text n)).0 same) ∙ known_itself n)
+      other same = none-some n (sym none ∙ ap known_name ((bytes_eq-Decides name (name_text n)).0 same) ∙ known_itself n)
 
   -- a line of a known name may follow where the name has no value yet
   pub known_follows : (n : HeaderName) → known_name name ≡ Some n
@@ -137,15 +135,12 @@ value_lent dump place after stands name value is =
     in_lines [] tail part is = cc
     in_lines (h ∷ hs) tail part is = cases (is_named name h) refl (λ left here. in_lines hs tail left here)
       where
-        some_once : Some h.value ≡ Some value → h.value ≡ value
-        some_once e = cc
-
         cases : (b : Bool) → is_named name h ≡ b
             → (IsPartBetween dump place after (lines_bytes hs ++ tail) → header_value name hs ≡ Some value
             → IsPartBetween dump place after value)
             → IsPartBetween dump place after value
         cases true here more =
-            subst (IsPartBetween dump place after) (some_once (rw here at is))
+            subst (IsPartBetween dump place after) (same_Some h.value value (rw here at is))
             (value_between dump place after _ (line.header_text h) h.name h.value (lines_bytes hs ++ tail) part
             (regroup h hs tail) refl)
         cases false other more =

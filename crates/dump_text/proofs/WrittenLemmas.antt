@@ -1,5 +1,6 @@
 -- A property block as it is written: which texts are one, and that it is read again as its list.
 use Rattle.std.proofs.Common.{◌≡◌, ◌↔◌, ◌⊎◌, ℕ, ◌<◌, ◌^◌, ◌&&◌, Bool, true, false, List, [], ◌∷◌, ◌++◌, get_or, length, lit<, flat_map, refl, sym, ap, ◌∙◌, subst, arith, append_assoc, Option, Some, None, inl, inr, codes, bytes_eq}
+use Rattle.std.proofs.lemmas.Option.{same_Some, none-some}
 use Rattle.std.specs.List.{All}
 use Rattle.std.proofs.lemmas.List.Elements.{All-nil, All-cons, All-head, All-tail}
 use Rattle.std.proofs.lemmas.Slice.Eq.{bytes_eq-Decides}
@@ -186,12 +187,6 @@ pub short_block : (ps : List Property) → length (property_block_text ps) < 10 
     → IsPropertyBlock (property_block_text ps) ps
 short_block ps small = written_block ps (all ps small)
   where
-    some_once : {v w : List ℕ} → Path (Option (List ℕ)) (Some v) (Some w) → v ≡ w
-    some_once same = cc
-
-    no_some : {w : List ℕ} → Path (Option (List ℕ)) None (Some w) → ⊥
-    no_some same = cc
-
     one : (p : Property) (v : Option (List ℕ)) (more : List ℕ) → p.value ≡ v
         → length (change_text p.name v ++ more) < 10 ^ 18 → IsShort p × (length more < 10 ^ 18)
     one p (Some value) more set small =
@@ -207,7 +202,7 @@ short_block ps small = written_block ps (all ps small)
         let value_small : length value < 10 ^ 18 = omega arith in (
           record {
             name = omega arith;
-            value = λ w is. subst (λ (b : List ℕ). length b < 10 ^ 18) (some_once (sym set ∙ is)) value_small;
+            value = λ w is. subst (λ (b : List ℕ). length b < 10 ^ 18) (same_Some value w (sym set ∙ is)) value_small;
           },
           omega arith,
         )
@@ -216,7 +211,7 @@ short_block ps small = written_block ps (all ps small)
         (spelled_number (length p.name)) p.name more refl in
         let name_size = sizes.0 in
         let more_size = sizes.1 in
-        (record { name = omega arith; value = λ w is. absurd (no_some (sym none ∙ is)) }, omega arith)
+        (record { name = omega arith; value = λ w is. absurd (none-some w (sym none ∙ is)) }, omega arith)
 
     all : (ps : List Property) → length (property_block_text ps) < 10 ^ 18 → All IsShort ps
     all [] small = All-nil IsShort

@@ -1,7 +1,6 @@
 //! The whole program on readers and writers of the tests' own.
 
 use crate::drive::drive;
-use crate::input::read_all;
 use std::alloc::{AllocError, Global};
 use std::io::{self, ErrorKind, Write};
 use std::process::Abort;
@@ -102,18 +101,6 @@ fn a_quiet_run_says_nothing(rt: HostRuntime) -> Result<(), Fail> {
     let words = ["svndumpfilter", "include", "a", "--quiet"];
     assert_run(&rt, alloc, &words, &dump, &mut output, 0, b"");
     assert_eq!(rt; output.as_slice(), KEPT);
-    Ok(())
-}
-
-#[test]
-fn a_wrong_size_of_the_input_changes_nothing(rt: HostRuntime) -> Result<(), Fail> {
-    for size in [0, 3, KEPT.len() as u64, 1 << 62, u64::MAX] {
-        let mut reader = KEPT;
-        match read_all(rt.alloc(), &mut reader, size) {
-            Ok(input) => assert_eq!(rt; input.as_slice(), KEPT, "of {size}"),
-            Err(unread) => panic!(rt; "{unread:?} of {size}"),
-        }
-    }
     Ok(())
 }
 

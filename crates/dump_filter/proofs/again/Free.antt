@@ -1,6 +1,7 @@
 -- What is written of records without a fault has none where everything is kept.
 use Rattle.std.proofs.Common.{◌≡◌, ℕ, zero, suc, ◌<◌, Bool, true, false, not, ◌&&◌, ◌||◌, MatchBool, List, [], ◌∷◌, ◌++◌, take_while, refl, sym, ap, ◌∙◌, subst, arith, Option, Some, None, MatchOption, Contains, if◌then◌else◌}
-use Rattle.std.proofs.lemmas.Bool.{or_right}
+use Rattle.dump_filter.proofs.knowing.FilterLemmas.{head_of, tail_of}
+use Rattle.std.proofs.lemmas.Bool.{or_right, or_left}
 use Rattle.std.specs.Bool.{⊤}
 use Rattle.std.specs.List.{list_any, prefix_len}
 use Rattle.dump_text.specs.declared.fault.FaultKind.{FaultKind}
@@ -51,10 +52,6 @@ any_cons settings r rest node = ap (list_any (is_kept_node settings)) nodes
   where
     nodes : take_while is_node (r ∷ rest) ≡ r ∷ take_while is_node rest
     nodes = rw node (take_cons (prefix_len is_node rest) r rest)
-
-either_first : (a b : Bool) → a ≡ true → (a || b) ≡ true
-either_first true b is = refl
-either_first false b is = cc
 
 -- no group of a dropped revision has a kept node
 dropped_group : (settings : Settings) (r : DumpRecord) (rest : List DumpRecord) → is_revision r ≡ true
@@ -155,7 +152,7 @@ module _ (settings : Settings) (kept : KeptRevisions) where
       → is_node r ≡ true → AnyKept settings (r ∷ rest)
   node_written r rest lone written node =
       let kept_node = written_node settings r rest (lone node) node written in
-      any_cons settings r rest node ∙ either_first (is_kept_node settings r)
+      any_cons settings r rest node ∙ or_left (is_kept_node settings r)
       (list_any (is_kept_node settings) (take_while is_node rest)) kept_node
 
   follow_dropped : (r : DumpRecord) (rest : List DumpRecord) (g h : Bool) → is_written settings true r rest ≡ false
@@ -239,12 +236,6 @@ clean_each settings kept (r ∷ rest) text again (front, behind, cut, this) befo
     cases (is_written settings true r rest) this before is
     (λ more reads b at. clean_each settings kept rest behind more reads b after s at)
   where
-    first_of_two : (x y : DumpRecord) (xs ys : List DumpRecord) → x ∷ xs ≡ y ∷ ys → x ≡ y
-    first_of_two x y xs ys e = cc
-
-    rest_of_two : (x y : DumpRecord) (xs ys : List DumpRecord) → x ∷ xs ≡ y ∷ ys → xs ≡ ys
-    rest_of_two x y xs ys e = cc
-
     Later : Type 0
     Later = (more : List DumpRecord) → AreReadAgain settings kept rest behind more → (b : List DumpRecord)
         → more ≡ b ++ s ∷ after → IsClean s
@@ -256,9 +247,9 @@ clean_each settings kept (r ∷ rest) text again (front, behind, cut, this) befo
         ((front ≡ []) × AreReadAgain settings kept rest behind again)
         → (b : List DumpRecord) → again ≡ b ++ s ∷ after → Later → IsClean s
     cases true (x, more, same, read, reads) [] at later = subst IsClean
-        (first_of_two x s more after (sym same ∙ at)) read.clean
+        (head_of x s more after (sym same ∙ at)) read.clean
     cases true (x, more, same, read, reads) (y ∷ b) at later = later more reads b
-        (rest_of_two x y more (b ++ s ∷ after) (sym same ∙ at))
+        (tail_of x y more (b ++ s ∷ after) (sym same ∙ at))
     cases false (none, reads) b at later = later again reads b at
 
 -- no fault is left

@@ -1,5 +1,6 @@
 -- Header lines that change, join or go, seen name by name.
 use Rattle.std.proofs.Common.{◌≡◌, ℕ, ◌+◌, ◌<◌, ◌≤◌, ◌^◌, ◌==◌, nat_lt, nat_le, Bool, true, false, ◌&&◌, ◌||◌, List, [], ◌∷◌, ◌++◌, length, refl, sym, ap, ◌∙◌, subst, arith, bytes_eq, Some, is_some, is_none, option_and_then, unwrap_or, if◌then◌else◌, MatchBool}
+use Rattle.std.proofs.Math.Bool.{or-false}
 use Rattle.std.specs.List.{list_all}
 use Rattle.std.proofs.lemmas.Bool.{eqb-true}
 use Rattle.std.proofs.lemmas.Bool.Decides.{nat_tests}
@@ -243,11 +244,7 @@ put_same name value (h ∷ headers) few is = by_name (put_same name value header
 join_has : (name : List ℕ) (h : Header) (headers : List Header) → has_header name (headers ++ h ∷ []) ≡
     (has_header name headers || is_named name h)
 join_has name h headers = list_any-append (is_named name) headers (h ∷ []) ∙ ap (λ b. has_header name headers || b)
-    (or_false (is_named name h))
-  where
-    or_false : (b : Bool) → (b || false) ≡ b
-    or_false true = refl
-    or_false false = refl
+    (or-false (is_named name h))
 
 join_value : (name : List ℕ) (h : Header) (headers : List Header) → is_named name h ≡ false
     → header_value name (headers ++ h ∷ []) ≡ header_value name headers

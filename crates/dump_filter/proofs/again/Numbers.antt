@@ -1,11 +1,12 @@
 -- The kept revisions of records in order, and their new numbers.
 use Rattle.std.proofs.Common.{◌≡◌, ℕ, zero, suc, ◌+◌, ◌<◌, ◌≤◌, Bool, true, false, ◌||◌, cond, List, [], ◌∷◌, ◌++◌, nat_lt, refl, sym, ◌∙◌, arith, Some, None, Contains, subst, if◌then◌else◌}
+use Rattle.std.proofs.lemmas.Bool.{lt-ltb}
 use Rattle.std.proofs.lemmas.Bool.Decides.{nat_tests}
 use Rattle.dump_records.specs.RecordText.{DumpRecord}
 use Rattle.dump_rules.specs.Settings.{Settings}
 use Rattle.dump_rules.specs.Renumbering.{KeptRevisions, new_number}
 use Rattle.dump_rules.specs.steps.RisingNumbers.{RiseFrom}
-use Rattle.dump_rules.proofs.ReachLemmas.{below, below-cons, is_below}
+use Rattle.dump_rules.proofs.ReachLemmas.{below, below-cons}
 use Rattle.dump_digest.specs.RecordParts.{is_revision, is_node}
 use Rattle.dump_filter.specs.Groups.{group_of, keeps_group, revision_number, revision_numbers, first_number, kept_revisions}
 use Rattle.dump_filter.specs.RecordFaults.{AreFaultFree}
@@ -155,7 +156,7 @@ zero_kept settings (r ∷ rest) first k has some = cases (is_revision r) refl
     cases true rev later =
         let is : revision_number r ≡ 0 = rw rev at first in
         let keep : keeps_group settings (group_of r rest) ≡ true = rw is refl in
-        let one : nat_lt (revision_number r) k ≡ true = is_below (revision_number r) k (omega arith) in
+        let one : nat_lt (revision_number r) k ≡ true = lt-ltb (revision_number r) k (omega arith) in
         let counted : below k (revision_number r ∷ kept_numbers settings rest) ≡ 1 + below k
         (kept_numbers settings rest) =
         below-cons k (revision_number r) (kept_numbers settings rest) ∙ rw one refl in

@@ -1,5 +1,6 @@
 -- Records in order: nodes in groups, and revision numbers that rise.
 use Rattle.std.proofs.Common.{◌≡◌, ℕ, ◌<◌, Bool, true, false, ◌||◌, List, [], ◌∷◌, ◌++◌, refl, sym, ap, ◌∙◌, subst, arith, append_assoc, inl, inr, Option, Some, None, MatchOption, not, ◌&&◌, if◌then◌else◌}
+use Rattle.dump_rules.proofs.ReachLemmas.{last_or_pushed}
 use Rattle.std.specs.Bool.{⊤}
 use Rattle.std.specs.List.{last_or}
 use Rattle.std.proofs.lemmas.Bool.Decides.{leb_tells}
@@ -30,10 +31,6 @@ AreInOrder open_group present (r ∷ rest) = (is_node r ≡ true → open_group 
 
 -- one more record
 
-last_number : (first : Option ℕ) (ns : List ℕ) (n : ℕ) → last_or first (ns ++ n ∷ []) ≡ Some n
-last_number first [] n = refl
-last_number first (m ∷ ns) n = last_number (Some m) ns n
-
 numbers_more : (before : List DumpRecord) (r : DumpRecord)
     → revision_numbers (before ++ r ∷ []) ≡ revision_numbers before ++
     (if is_revision r then revision_number r ∷ [] else [])
@@ -58,7 +55,7 @@ present_more before r = ap (last_or None) (numbers_more before r) ∙ cases (is_
   where
     cases : (b : Bool) → last_or None (revision_numbers before ++ (if b then revision_number r ∷ [] else []))
         ≡ (if b then Some (revision_number r) else present_revision before)
-    cases true = last_number None (revision_numbers before) (revision_number r)
+    cases true = last_or_pushed None (revision_numbers before) (revision_number r)
     cases false = ap (last_or None) (append-nil (revision_numbers before))
 
 ends_more : (before : List DumpRecord) (r : DumpRecord) → ends_in_group (last_or None (before ++ r ∷ [])) ≡

@@ -1,5 +1,6 @@
 -- What is written of a record is read again as a record, of which the same is written.
 use Rattle.std.proofs.Common.{◌≡◌, ℕ, ◌+◌, ◌<◌, ◌≤◌, ◌^◌, Bool, true, false, ◌&&◌, ◌||◌, List, [], ◌∷◌, ◌++◌, length, refl, sym, ap, ◌∙◌, subst, arith, inl, codes, bytes_eq, Option, Some, None, is_some, is_none, option_and_then, append-nil, All, Contains, MatchBool, take_while, unwrap_or, if◌then◌else◌}
+use Rattle.std.proofs.lemmas.List.{nil_from_length}
 use Rattle.std.proofs.lemmas.List.Sums.{take_while-cons}
 use Rattle.std.proofs.lemmas.List.Elements.{All-nil, All-cons, All-contains}
 use Rattle.dump_text.specs.Number.{number_of, spelled_number}
@@ -33,7 +34,7 @@ use Rattle.dump_records.proofs.HeaderLemmas.{no_number}
 use Rattle.dump_filter.proofs.written.HeaderLemmas.{no_length}
 use Rattle.dump_filter.proofs.again.LineChanges.{IsChange, same_has, spelled_line, no_change, put_has, put_change, go_change, gone, IsTold, told_later, told_put, told_reads, told_put_again}
 use Rattle.dump_filter.proofs.again.Headers.{is_length_name, lengths_change, told_lengths, known_once, StaysLawful}
-use Rattle.dump_filter.proofs.again.Record.{no_bytes, any_number, no_content, stays_same, stays_revision, stays_copy_number, stays_plain, again, told, new_stays, new_is_block, new_lawful, new_version_line, reads_list, same_text}
+use Rattle.dump_filter.proofs.again.Record.{any_number, no_content, stays_same, stays_revision, stays_copy_number, stays_plain, again, told, new_stays, new_is_block, new_lawful, new_version_line, reads_list, same_text}
 use Rattle.dump_filter.proofs.again.ReadAgain.{IsReadAgain}
 
 -- where everything is kept
@@ -227,7 +228,7 @@ revision_again settings kept number r after front block lawful props_fit text_fi
     none : (padded || has_header property_length_name r.headers) ≡ false → new ≡ []
     none missing =
         let plain : padded ≡ false = first_false padded _ missing in
-        let empty : r.props ≡ [] = no_bytes r.props
+        let empty : r.props ≡ [] = nil_from_length r.props
         (props_fit ∙ no_length property_length_name r.headers (second_false padded _ missing)) in
         rw plain (property_list_once r ps [] is_ps (no_list r empty))
 
@@ -576,7 +577,7 @@ node_again settings kept number r after front block lawful props_fit text_fits n
 
     none : (false || has_header property_length_name r.headers) ≡ false → new ≡ []
     none missing =
-        let empty : r.props ≡ [] = no_bytes r.props (props_fit ∙ no_length property_length_name r.headers missing) in
+        let empty : r.props ≡ [] = nil_from_length r.props (props_fit ∙ no_length property_length_name r.headers missing) in
         none_new settings kept old new (property_list_once r old [] is_old (no_list r empty)) all
 
     it : ℕ → DumpRecord

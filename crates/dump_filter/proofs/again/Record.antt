@@ -1,5 +1,6 @@
 -- What is written of a record is a record again.
 use Rattle.std.proofs.Common.{◌≡◌, ℕ, ◌+◌, ◌<◌, ◌^◌, ◌==◌, Bool, true, false, not, ◌&&◌, ◌||◌, List, [], ◌∷◌, ◌++◌, length, refl, sym, ap, ◌∙◌, subst, arith, inl, Some, length-append, flat_map, MatchBool, if◌then◌else◌}
+use Rattle.std.proofs.Math.Bool.{and-false}
 use Rattle.std.proofs.lemmas.Bool.{eqb-true}
 use Rattle.dump_text.specs.Number.{spelled_number}
 use Rattle.dump_text.specs.Names.{version_name, uuid_name, revision_name, path_name, copy_revision_name, copy_path_name, property_length_name, text_length_name, content_length_name}
@@ -19,11 +20,6 @@ use Rattle.dump_text.proofs.BoolLemmas.{first_false, second_false, not_so, absur
 use Rattle.dump_filter.proofs.written.HeaderLemmas.{no_length}
 use Rattle.dump_filter.proofs.again.LineChanges.{IsChange, spelled_line, same_has, block_stays, both_changes, put_has, put_change, go_change, gone, IsTold, told_put, told_reads}
 use Rattle.dump_filter.proofs.again.Headers.{is_length_name, AreTold, lengths_change, text_stays, props_stay, lengths_told, lengths_again, no_others, StaysLawful, lawful_again}
-
--- a part that has no length is empty
-pub no_bytes : (bytes : List ℕ) → length bytes ≡ 0 → bytes ≡ []
-no_bytes [] none = refl
-no_bytes (b ∷ bytes) none = absurd (omega (arith, none))
 
 -- version and UUID records
 
@@ -159,17 +155,13 @@ stays_plain old stays =
       node = same_has is_copy_line old (without_copy_headers old) change path_name refl;
       text = same_has is_copy_line old (without_copy_headers old) change text_length_name refl;
       copies = rw (gone copy_revision_name refl old, gone copy_path_name refl old)
-          (never (has_header path_name (without_copy_headers old)));
+          (and-false (has_header path_name (without_copy_headers old)));
       revision_number = rw (
         same_has is_copy_line old (without_copy_headers old) change revision_name refl,
         change.same revision_name refl,
       ) stays.revision_number;
       copy_number = rw (gone copy_revision_name refl old) refl;
     }
-  where
-    never : (b : Bool) → (b && false) ≡ false
-    never true = refl
-    never false = refl
 
 stays_lengths : (old mid : List Header) (props text : List ℕ) → length props + length text < 10 ^ 18
     → StaysLawful old mid → StaysLawful old (with_lengths props text mid)

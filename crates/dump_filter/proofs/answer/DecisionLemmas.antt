@@ -1,5 +1,6 @@
 -- What a filter answers to the record that comes next: its fate, or its fault.
 use Rattle.std.proofs.Common.{◌≡◌, ◌⊎◌, ◌↔◌, ℕ, ◌+◌, ◌<◌, nat_lt, Bool, true, false, not, ◌&&◌, ◌||◌, List, [], ◌∷◌, ◌++◌, refl, sym, ap, ◌∙◌, subst, arith, inl, inr, Option, Some, None, unwrap_or, IsTrue, IsFalse, Result, Ok, Err, if◌then◌else◌}
+use Rattle.std.proofs.lemmas.Bool.{not-false}
 use borrow.Author.Tests.{ltb-true, ltb-false}
 use Rattle.dump_text.specs.declared.fault.FaultKind.{FaultKind}
 use Rattle.dump_text.specs.declared.fault.FaultKind.TheVariants as faults
@@ -360,11 +361,6 @@ module _ (settings : Settings) (before : List DumpRecord) (s : State) (text : Li
           → IsAnswer settings before s r (if b then by_props_answer v.props_ok else Err faults.Order)
       by_order true good = by_props good (good_order good) v.props_ok refl
       by_order false bad = order_fault bad
-
--- what isn't false is true
-pub so : (b : Bool) → not b ≡ false → b ≡ true
-so true e = refl
-so false e = cc
 
 -- the fault of mergeinfo is the same under equal settings and numbers
 same_merge_fault : (settings : Settings) (first present : ℕ) (options : Settings) (from at : ℕ) (ok : Bool)

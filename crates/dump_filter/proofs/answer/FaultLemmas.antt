@@ -26,7 +26,7 @@ use Rattle.dump_filter.specs.steps.Advance.{front_kept}
 use Rattle.dump_filter.specs.steps.Decision.{is_open, rises, is_in_order, is_orphan, HasNoSource, imaged, source_change, copy_change}
 use Rattle.dump_filter.specs.steps.Knowledge.{is_plain, kept_numbers, Shape, Stands}
 use Rattle.dump_filter.specs.steps.Knowledge.Shape.{Fresh, Idle, Passed, Waits}
-use Rattle.dump_records.proofs.HeaderLemmas.{no_number}
+use Rattle.dump_records.proofs.HeaderLemmas.{no_number, both_or_none}
 use Rattle.dump_text.proofs.BoolLemmas.{false_true, not_so, first_true, second_true, first_false, second_false, not_true, not_false, both_true, absurd_bool}
 use Rattle.dump_filter.proofs.groups.GroupLemmas.{plain_other, plain_more, any_more}
 use Rattle.dump_filter.proofs.groups.NumberLemmas.{first_other, kept_group, passed_keeps}
@@ -59,12 +59,9 @@ module _ (settings : Settings) (before : List DumpRecord) (s : State) (text : Li
   pub disordered : is_in_order s r ≡ false → IsOutOfOrder before r
   disordered bad = by_kind (is_node r) (is_revision r) refl refl bad
     where
-      impossible : true ≡ false → ⊥
-      impossible e = cc
-
       by_present : is_revision r ≡ true → (p : Option ℕ) → s.revisions.present ≡ p → rises p (revision_number r) ≡ false
           → IsOutOfOrder before r
-      by_present rev None is low = absurd (impossible low)
+      by_present rev None is low = absurd (false_true (sym low))
       by_present rev (Some p) is low = inr (rev, p, sym st.present_is ∙ is, ltb-false p (revision_number r) low)
 
       by_kind : (n v : Bool) → is_node r ≡ n → is_revision r ≡ v
@@ -74,7 +71,7 @@ module _ (settings : Settings) (before : List DumpRecord) (s : State) (text : Li
           inl (both_true (is_node r) (not (ends_in_group (last_or None before))) node
           (not_false (ends_in_group (last_or None before)) (ends_is ∙ none)))
       by_kind false true other rev low = by_present rev s.revisions.present refl low
-      by_kind false false other no_rev no_way = absurd (impossible no_way)
+      by_kind false false other no_rev no_way = absurd (false_true (sym no_way))
 
 -- a revision above the present one
 pub above_present : (s : State) (r : DumpRecord) → is_in_order s r ≡ true → is_node r ≡ false → is_revision r ≡ true
@@ -115,12 +112,6 @@ kept_with_node settings before s r (Waits t closed y ns other rev all none c) fi
     λ i. record { first = firsts i; numbers = all_numbers i }
 
 -- the copy source of a lawful node
-not_both : (a b : Bool) → is_one_alone a b ≡ false → a ≡ b
-not_both true true e = refl
-not_both true false e = cc
-not_both false true e = cc
-not_both false false e = refl
-
 some_number : (n : Option ℕ) → is_none n ≡ false → (m : ℕ) × (n ≡ Some m)
 some_number None e = absurd (false_true (sym e))
 some_number (Some m) e = (m, refl)
@@ -133,7 +124,7 @@ module _ (number : ℕ) (r : DumpRecord) (lawful : IsTrue (is_lawful number r.he
   bad_number = not_so (has_bad_number r.headers) (keeps number r.headers lawful).number_ok
 
   pair : has_header copy_revision_name r.headers ≡ has_header copy_path_name r.headers
-  pair = not_both (has_header copy_revision_name r.headers) (has_header copy_path_name r.headers)
+  pair = both_or_none (has_header copy_revision_name r.headers) (has_header copy_path_name r.headers)
       (sym (ap (λ b. b && is_one_alone (has_header copy_revision_name r.headers) (has_header copy_path_name r.headers))
       node)
       ∙ second_false (not (count_by (λ name. has_header name r.headers) deciding_names == 1))

@@ -1,5 +1,6 @@
 -- Groups and what is written, where a list is cut before a record that is no node.
 use Rattle.std.proofs.Common.{◌≡◌, ℕ, suc, ◌+◌, Bool, true, false, not, ◌&&◌, ◌||◌, ◌==◌, List, [], ◌∷◌, ◌++◌, take, take_while, refl, sym, ap, ◌∙◌, subst, arith, append_assoc, MatchBool}
+use Rattle.std.proofs.Math.Bool.{or-false, and-false, and-true}
 use Rattle.std.specs.List.{list_all, list_any, prefix_len}
 use Rattle.std.proofs.lemmas.List.{append-nil}
 use Rattle.std.proofs.lemmas.List.Folds.{list_all-append, list_any-append}
@@ -100,11 +101,7 @@ plain_more ns r all one = list_all-append is_plain ns (r ∷ []) ∙ rw (all, on
 pub any_more : (settings : Settings) (ns : List DumpRecord) (r : DumpRecord)
     → list_any (is_kept_node settings) (ns ++ r ∷ []) ≡ (list_any (is_kept_node settings) ns || is_kept_node settings r)
 any_more settings ns r = list_any-append (is_kept_node settings) ns (r ∷ [])
-    ∙ ap (λ b. list_any (is_kept_node settings) ns || b) (or_false (is_kept_node settings r))
-  where
-    or_false : (b : Bool) → (b || false) ≡ b
-    or_false true = refl
-    or_false false = refl
+    ∙ ap (λ b. list_any (is_kept_node settings) ns || b) (or-false (is_kept_node settings r))
 
 module _ (settings : Settings) (k : KeptRevisions) where
   -- a record before one that is no node is written as if the dump had ended
@@ -113,11 +110,7 @@ module _ (settings : Settings) (k : KeptRevisions) where
   written_before ended x xs zs y other = cases (is_revision x) refl
     where
       closed : is_open (xs ++ y ∷ zs) ≡ false
-      closed = list_all-append is_node xs (y ∷ zs) ∙ rw other (and_false (list_all is_node xs))
-        where
-          and_false : (b : Bool) → (b && false) ≡ false
-          and_false true = refl
-          and_false false = refl
+      closed = list_all-append is_node xs (y ∷ zs) ∙ rw other (and-false (list_all is_node xs))
 
       either : (a b c : Bool) → (a && ((b || true) || c)) ≡ (a && true)
       either true true c = refl
@@ -287,11 +280,7 @@ module _ (settings : Settings) (k : KeptRevisions) where
       (own_group y ns all)
       ∙ ap (λ b. keeps_group settings (record { revision = y; nodes = ns }) && (not (is_open ns) || b)) none
       ∙ ap (λ b. keeps_group settings (record { revision = y; nodes = ns }) && (not b || false)) (all_nodes ns all)
-      ∙ and_false (keeps_group settings (record { revision = y; nodes = ns })))
-    where
-      and_false : (b : Bool) → (b && false) ≡ false
-      and_false true = refl
-      and_false false = refl
+      ∙ and-false (keeps_group settings (record { revision = y; nodes = ns })))
 
   -- and is written at the end where the options keep it
   rev_ends : (y : DumpRecord) (ns : List DumpRecord) → is_revision y ≡ true → list_all is_plain ns ≡ true
@@ -299,11 +288,7 @@ module _ (settings : Settings) (k : KeptRevisions) where
   rev_ends y ns rev all =
       rw rev
       (ap (λ (g : Group). keeps_group settings g && true) (own_group y ns all)
-      ∙ and_true (keeps_group settings (record { revision = y; nodes = ns })))
-    where
-      and_true : (b : Bool) → (b && true) ≡ b
-      and_true true = refl
-      and_true false = refl
+      ∙ and-true (keeps_group settings (record { revision = y; nodes = ns })))
 
   -- what is written of a revision, by its group
   own_output : (y : DumpRecord) (ns : List DumpRecord) (text : List ℕ) → is_revision y ≡ true

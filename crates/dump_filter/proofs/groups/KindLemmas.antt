@@ -9,7 +9,7 @@ use Rattle.dump_records.specs.declared.kind.RecordKind.TheVariants as kinds
 use Rattle.dump_records.specs.RecordText.{DumpRecord, is_lawful}
 use Rattle.dump_records.proofs.Unique.{keeps}
 use Rattle.dump_digest.specs.RecordParts.{is_revision, is_node}
-use Rattle.dump_text.proofs.BoolLemmas.{not_so}
+use Rattle.dump_text.proofs.BoolLemmas.{not_so, false_true}
 
 -- a record is of this kind, and of no other
 abbrev pub IsOfKind : DumpRecord → RecordKind → Type 0
@@ -61,8 +61,5 @@ alone number r lawful node = by_kind (kind_of r.headers) (of_kind number r lawfu
     by_kind : (which : RecordKind) → IsOfKind r which → is_revision r ≡ false
     by_kind kinds.Version (other, no_rev) = no_rev
     by_kind kinds.Uuid (other, no_rev) = no_rev
-    by_kind kinds.Revision (other, rev) = absurd (both (sym node ∙ other))
-      where
-        both : true ≡ false → ⊥
-        both bad = cc
+    by_kind kinds.Revision (other, rev) = absurd (false_true (sym other ∙ node))
     by_kind kinds.Node (same, no_rev) = no_rev

@@ -1,5 +1,6 @@
 -- The revisions of a list of records: their numbers, the first, the present one, and the kept ones.
 use Rattle.std.proofs.Common.{◌≡◌, ℕ, ◌+◌, ◌==◌, Bool, true, false, ◌||◌, List, [], ◌∷◌, ◌++◌, length, map, filter, refl, ap, ◌∙◌, arith, Option, Some, None, count_by, if◌then◌else◌}
+use Rattle.dump_rules.proofs.ReachLemmas.{last_or_pushed}
 use Rattle.std.specs.List.{list_all, list_any, last_or}
 use Rattle.std.proofs.lemmas.List.{append-nil, map-append}
 use Rattle.std.proofs.lemmas.List.Elements.{filter-append}
@@ -30,10 +31,6 @@ numbers_revision before r ns other rev all =
     (groups_revision r ns rev all))
     ∙ map-append group_number (groups before) (record { revision = r; nodes = ns } ∷ [])
 
-last_number : (first : Option ℕ) (ns : List ℕ) (n : ℕ) → last_or first (ns ++ n ∷ []) ≡ Some n
-last_number first [] n = refl
-last_number first (m ∷ ns) n = last_number (Some m) ns n
-
 -- a record that is no revision leaves the present revision as it is
 pub present_other : (before : List DumpRecord) (r : DumpRecord) → is_revision r ≡ false
     → present_revision (before ++ r ∷ []) ≡ present_revision before
@@ -44,7 +41,7 @@ pub present_group : (before : List DumpRecord) (r : DumpRecord) (ns : List DumpR
     → is_revision r ≡ true → list_all is_plain ns ≡ true
     → present_revision (before ++ r ∷ ns) ≡ Some (revision_number r)
 present_group before r ns other rev all = ap (last_or None) (numbers_revision before r ns other rev all)
-    ∙ last_number None (revision_numbers before) (revision_number r)
+    ∙ last_or_pushed None (revision_numbers before) (revision_number r)
 
 -- a record that is no revision leaves the first number as it is
 pub first_other : (before : List DumpRecord) (r : DumpRecord) → is_revision r ≡ false

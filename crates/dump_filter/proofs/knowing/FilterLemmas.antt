@@ -1,6 +1,6 @@
 -- A filter's step and end, by what it knows of the records that it has accepted.
 use Rattle.std.proofs.Common.{◌≡◌, ◌↔◌, ◌⊎◌, ℕ, ◌+◌, ◌≤◌, Bool, true, false, not, ◌&&◌, List, [], ◌∷◌, ◌++◌, length, refl, sym, ap, ◌∙◌, subst, arith, length-append, filter, inl, inr, Option, Some, None, option_map, IsTrue, Result, Ok, Err}
-use Rattle.std.proofs.lemmas.Bool.{or_right}
+use Rattle.std.proofs.lemmas.Bool.{or_right, not-false}
 use Rattle.std.proofs.lemmas.List.{length-map}
 use Rattle.std.proofs.lemmas.List.Sums.{count_by-le-length, length-filter}
 use Rattle.dump_text.specs.declared.fault.FaultKind.{FaultKind}
@@ -41,7 +41,7 @@ use Rattle.dump_text.proofs.BoolLemmas.{absurd_bool, not_so, not_true}
 use Rattle.dump_filter.proofs.knowing.StandsNext.{IsReadable, ended_numbers, ended_dropped, ended_text, becomes_ended}
 use Rattle.std.proofs.Math.Logic.{∥∥₁_elim}
 use Rattle.dump_filter.specs.steps.NewProperties.{IsReadNode}
-use Rattle.dump_filter.proofs.answer.DecisionLemmas.{IsTaken, IsAnswer, answered, so}
+use Rattle.dump_filter.proofs.answer.DecisionLemmas.{IsTaken, IsAnswer, answered}
 use Rattle.dump_filter.proofs.knowing.AdvanceLemmas.{pending_readable, next_stands, stands_written, stands_once, ended_counted, ended_others, next_counted, next_room, kept_nodes, dropped_nodes, next_texts}
 
 -- the accepted records are one list
@@ -71,30 +71,26 @@ no_snoc (c ∷ b) a x e = cc
 pub free_none : (settings : Settings) → AreFaultFree settings []
 free_none settings = λ b a x is. absurd (no_snoc b a x is)
 
+-- equal lists have equal first records
+pub head_of : (x y : DumpRecord) (xs ys : List DumpRecord) → x ∷ xs ≡ y ∷ ys → x ≡ y
+head_of x y xs ys e = cc
+
+-- and what stands behind these is equal
+pub tail_of : (x y : DumpRecord) (xs ys : List DumpRecord) → x ∷ xs ≡ y ∷ ys → xs ≡ ys
+tail_of x y xs ys e = cc
+
 -- one more record without a fault
 snoc_split : (before b a : List DumpRecord) (r x : DumpRecord) → before ++ r ∷ [] ≡ b ++ x ∷ a
     → ((before ≡ b) × (r ≡ x)) ⊎ ((rest : List DumpRecord) × (before ≡ b ++ x ∷ rest))
 snoc_split [] [] a r x is = inl (refl, cc)
 snoc_split [] (c ∷ b) a r x is = absurd (no_snoc b a x (tail_of r c [] (b ++ x ∷ a) is))
-  where
-    tail_of : (x y : DumpRecord) (xs ys : List DumpRecord) → x ∷ xs ≡ y ∷ ys → xs ≡ ys
-    tail_of x y xs ys e = cc
 snoc_split (y ∷ before) [] a r x is =
     inr (before, (let e : y ≡ x = head_of y x (before ++ r ∷ []) a is in ap (λ z. z ∷ before) e))
-  where
-    head_of : (x y : DumpRecord) (xs ys : List DumpRecord) → x ∷ xs ≡ y ∷ ys → x ≡ y
-    head_of x y xs ys e = cc
 snoc_split (y ∷ before) (c ∷ b) a r x is =
     elim (snoc_split before b a r x (tail_of y c (before ++ r ∷ []) (b ++ x ∷ a) is)) [
       | inl same ↦ inl ((λ i. head_of y c (before ++ r ∷ []) (b ++ x ∷ a) is i ∷ same.0 i), same.1)
       | inr more ↦ inr (more.0, (λ i. head_of y c (before ++ r ∷ []) (b ++ x ∷ a) is i ∷ more.1 i))
     ]
-  where
-    head_of : (x y : DumpRecord) (xs ys : List DumpRecord) → x ∷ xs ≡ y ∷ ys → x ≡ y
-    head_of x y xs ys e = cc
-
-    tail_of : (x y : DumpRecord) (xs ys : List DumpRecord) → x ∷ xs ≡ y ∷ ys → xs ≡ ys
-    tail_of x y xs ys e = cc
 
 -- records without a fault, with one more that has none, have no fault
 pub free_more : (settings : Settings) (before : List DumpRecord) (r : DumpRecord) → AreFaultFree settings before
@@ -341,7 +337,7 @@ module _ {f : Inside} {state : FilterState} (h : Holds f state) where
       node_is_read copy keeps = (
         subst (λ (x : Settings). is_kept_node x r ≡ true) (settings_is ∙ sym asked)
             (subst (IsTaken settings before s r) keeps taken).is.1,
-        so v.merge_ok (not_so (not v.merge_ok) (λ bad. ∥∥₁_elim (means.merge.0 (not_true v.merge_ok bad))
+        not-false v.merge_ok (not_so (not v.merge_ok) (λ bad. ∥∥₁_elim (means.merge.0 (not_true v.merge_ok bad))
             (λ x y. absurd x) (taken.free faults.MergeInfo))),
       )
 

@@ -1,5 +1,6 @@
 -- What is written of a list is one text.
 use Rattle.std.proofs.Common.{◌≡◌, ℕ, Bool, true, false, List, [], ◌∷◌, ◌++◌, refl, sym, ap, ap₂, ◌∙◌, subst, Some, MatchBool, codes}
+use Rattle.std.proofs.lemmas.Option.{same_Some}
 use Rattle.dump_text.specs.Number.{spelled_number}
 use Rattle.dump_text.specs.Names.{copy_revision_name}
 use Rattle.dump_text.specs.HeaderLine.{Header, with_header_value}
@@ -34,9 +35,6 @@ copy_once : (settings : Settings) (k : KeptRevisions) (r : DumpRecord) (g h : Li
     → IsNewCopy settings k r h → g ≡ h
 copy_once settings k r g h = by_plain (becomes_plain settings r)
   where
-    some : (a b : ℕ) → Some a ≡ Some b → a ≡ b
-    some a b e = cc
-
     by_copy : (c : Bool) → MatchBool c ((old new : ℕ) × (header_number copy_revision_name r.headers ≡ Some old)
         × IsWrittenCopyNumber settings k old new
         × (g ≡ with_header_value copy_revision_name (spelled_number new) r.headers)) (g ≡ r.headers)
@@ -45,7 +43,7 @@ copy_once settings k r g h = by_plain (becomes_plain settings r)
         × (h ≡ with_header_value copy_revision_name (spelled_number new) r.headers)) (h ≡ r.headers)
         → g ≡ h
     by_copy true (old, new, at, is, lines) (old', new', at', is', lines') =
-        let olds : old' ≡ old = some old' old (sym at' ∙ at) in
+        let olds : old' ≡ old = same_Some old' old (sym at' ∙ at) in
         let numbers : new ≡ new' = same_number settings k old new new' is
         (subst (λ n. IsWrittenCopyNumber settings k n new') olds is') in
         lines ∙ ap (λ n. with_header_value copy_revision_name (spelled_number n) r.headers) numbers ∙ sym lines'

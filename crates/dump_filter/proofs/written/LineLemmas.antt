@@ -1,5 +1,6 @@
 -- The new lines of a block, line by line and by name.
 use Rattle.std.proofs.Common.{◌≡◌, ℕ, ◌+◌, ◌==◌, Bool, true, false, ◌||◌, List, [], ◌∷◌, ◌++◌, map, filter, length, refl, sym, ap, ◌∙◌, Option, Some, None, bytes_eq, if◌then◌else◌}
+use Rattle.std.proofs.Math.Bool.{or-false}
 use Rattle.std.proofs.lemmas.List.{append-nil, map-append}
 use Rattle.std.proofs.lemmas.Slice.Eq.{bytes_eq-Decides}
 use Rattle.std.proofs.lemmas.List.Folds.{list_any-append}
@@ -268,15 +269,11 @@ module _ (c : Changes) (headers : List Header) where
       ∙ ap (λ b. has_header content_length_name (map (put text_length_name c.text)
       (map (put property_length_name c.props) base)) || b)
       (has_added content_length_name property_length_name c.props headers refl)
-      ∙ or_false (has_header content_length_name (map (put text_length_name c.text)
+      ∙ or-false (has_header content_length_name (map (put text_length_name c.text)
       (map (put property_length_name c.props) base)))
       ∙ has_same content_length_name text_length_name c.text (map (put property_length_name c.props) base)
       ∙ has_same content_length_name property_length_name c.props base
       ∙ base_has content_length_name
-    where
-      or_false : (b : Bool) → (b || false) ≡ b
-      or_false true = refl
-      or_false false = refl
 
   put_lengths : with_length content_length_name c.content
       (with_header_value text_length_name (spelled_number c.text) (with_length property_length_name c.props base))

@@ -1,7 +1,7 @@
 -- What is written of the properties of a record.
 use Rattle.std.proofs.Common.{◌≡◌, ℕ, ◌<◌, ◌^◌, suc, Bool, true, false, List, [], ◌∷◌, ◌++◌, length, flat_map, refl, sym, ap, ◌∙◌, subst, arith, append_assoc, inl, inr, codes, bytes_eq, Option, Some, None, unwrap_or, is_some, IsTrue}
 use Rattle.std.specs.List.{list_any}
-use Rattle.std.proofs.lemmas.List.{append-nil}
+use Rattle.std.proofs.lemmas.List.{append-nil, nil_from_length}
 use Rattle.std.proofs.lemmas.Grind.{flat_map-append}
 use Rattle.std.proofs.lemmas.Slice.Eq.{bytes_eq-Decides}
 use Rattle.dump_text.specs.Names.{property_length_name}
@@ -187,11 +187,7 @@ no_bytes : (r : DumpRecord) → has_header property_length_name r.headers ≡ fa
     → length r.props ≡ property_length r.headers → r.props ≡ []
 no_bytes r none size =
     let number : header_number property_length_name r.headers ≡ None = sym (no_number property_length_name r.headers none) in
-    empty r.props (size ∙ ap (λ (n : Option ℕ). unwrap_or n 0) number)
-  where
-    empty : (bytes : List ℕ) → length bytes ≡ 0 → bytes ≡ []
-    empty [] e = refl
-    empty (b ∷ bytes) e = absurd (omega arith)
+    nil_from_length r.props (size ∙ ap (λ (n : Option ℕ). unwrap_or n 0) number)
 
 -- a record without a property length that isn't padded gets no property block, and has none
 pub block_without : (r : DumpRecord) (ps : List Property) → has_header property_length_name r.headers ≡ false

@@ -1,8 +1,7 @@
 -- A value is refused where a line's path isn't kept, or a line that stays has a number that the dump can't have.
 use Rattle.std.proofs.Common.{◌≡◌, ◌⊎◌, ℕ, ◌<◌, zero, suc, Bool, true, false, not, ◌&&◌, ◌||◌, List, [], ◌∷◌, nat_lt, refl, sym, ap, subst, ◌∙◌, inl, inr, arith, Some, None, Option, Contains}
 use Rattle.std.specs.List.{list_any, AllZip}
-use Rattle.std.proofs.lemmas.Bool.Decides.{nat_tests}
-use Rattle.std.proofs.lemmas.Bool.{and_parts, or_right}
+use Rattle.std.proofs.lemmas.Bool.{and_parts, or_right, or_cases, or_left, lt-ltb, ltb-true}
 use Rattle.dump_text.proofs.BoolLemmas.{both_true as both, not_true, not_false}
 use Rattle.dump_rules.specs.Settings.{Settings, keeps_path}
 use Rattle.dump_rules.specs.Renumbering.{KeptRevisions}
@@ -19,13 +18,6 @@ use Rattle.dump_rules.proofs.new_values.ValueLemmas.{line_parts, texts_are}
 
 -- some line that passes
 
-or_parts : (a b : Bool) → (a || b) ≡ true → (a ≡ true) ⊎ (b ≡ true)
-or_parts true b e = inl refl
-or_parts false b e = inr e
-
-or_first : (a b : Bool) → a ≡ true → (a || b) ≡ true
-or_first a b e = rw e refl
-
 any_line : (test : List ℕ → Bool) (passes : MergeLine → Bool) (texts : List (List ℕ)) (lines : List MergeLine)
     → AllZip IsMergeLine texts lines
     → ((text : List ℕ) (line : MergeLine) → IsMergeLine text line → test text ≡ passes line)
@@ -40,7 +32,7 @@ any_line test passes (text ∷ texts) (line ∷ lines) all same =
 pub found : {X : Type 0} (passes : X → Bool) (xs : List X) → list_any passes xs ≡ true → (x : X) × Contains xs x
     × (passes x ≡ true)
 found passes [] some = let bad : false ≡ true = some in cc
-found passes (x ∷ xs) some = elim (or_parts (passes x) (list_any passes xs) some) [
+found passes (x ∷ xs) some = elim (or_cases (passes x) (list_any passes xs) some) [
   | inl here ↦ (x, (0, omega arith, refl), here)
   | inr later ↦ (let more = found passes xs later in let within = more.1.1 in
       (more.0, (suc more.1.0, omega arith, more.1.2), more.2))
@@ -50,7 +42,7 @@ found passes (x ∷ xs) some = elim (or_parts (passes x) (list_any passes xs) so
 pub finds : {X : Type 0} (passes : X → Bool) (xs : List X) (x : X) → Contains xs x → passes x ≡ true
     → list_any passes xs ≡ true
 finds passes [] x (i, within, is) so = absurd (omega arith)
-finds passes (y ∷ xs) x (zero, within, is) so = or_first (passes y) (list_any passes xs) (ap passes is ∙ so)
+finds passes (y ∷ xs) x (zero, within, is) so = or_left (passes y) (list_any passes xs) (ap passes is ∙ so)
 finds passes (y ∷ xs) x (suc i, within, is) so = or_right (passes y) (list_any passes xs)
     (finds passes xs x (i, omega arith, is) so)
 
@@ -136,18 +128,12 @@ foreign_is settings first now value lines is =
 abbrev IsForeign : Settings → ℕ → ℕ → ℕ → Type 0
 IsForeign settings first now number = (now < number) ⊎ ((settings.skip_missing ≡ false) × (number < first))
 
-lt_true : (a b : ℕ) → a < b → nat_lt a b ≡ true
-lt_true a b h = grind (arith, nat_tests)
-
-lt_is : (a b : ℕ) → nat_lt a b ≡ true → a < b
-lt_is a b h = grind (arith, nat_tests)
-
 number_there : (settings : Settings) (first now : ℕ) (ranges : List Range) → HaveNumbers ranges
     → list_any (range_foreign settings first now) ranges ≡ true
     → (kind : Bool) × (number : ℕ) × HasNumber ranges kind number × IsForeign settings first now number
 number_there settings first now [] have some = let bad : false ≡ true = some in cc
 number_there settings first now (r ∷ rest) have some =
-    go (or_parts (range_foreign settings first now r) (list_any (range_foreign settings first now) rest) some)
+    go (or_cases (range_foreign settings first now r) (list_any (range_foreign settings first now) rest) some)
     (number_there settings first now rest have.1)
   where
     go : (range_foreign settings first now r ≡ true) ⊎ (list_any (range_foreign settings first now) rest ≡ true)
@@ -157,15 +143,15 @@ number_there settings first now (r ∷ rest) have some =
     go (inr more) later = let f = later more in (f.0, f.1, inr f.2, f.3)
     go (inl here) later =
         let order = have.0 in
-        elim (or_parts (nat_lt now r.to) (not settings.skip_missing && nat_lt r.from first) here) [
-          | inl over ↦ (r.inheritable, r.to, inl (refl, order, omega arith), inl (lt_is now r.to over))
+        elim (or_cases (nat_lt now r.to) (not settings.skip_missing && nat_lt r.from first) here) [
+          | inl over ↦ (r.inheritable, r.to, inl (refl, order, omega arith), inl (ltb-true now r.to over))
           | inr under ↦
               let parts = and_parts (not settings.skip_missing) (nat_lt r.from first) under in (
                 r.inheritable,
                 r.from,
                 inl (refl, omega arith, order),
                 inr
-                    (not_true settings.skip_missing parts.0, lt_is r.from first parts.1),
+                    (not_true settings.skip_missing parts.0, ltb-true r.from first parts.1),
               )
         ]
 
@@ -178,15 +164,15 @@ number_back settings first now (r ∷ rest) kind number (inr has) foreign =
     (number_back settings first now rest kind number has foreign)
 number_back settings first now (r ∷ rest) kind number (inl has) (inl over) =
     let high = has.2 in
-    or_first (range_foreign settings first now r) (list_any (range_foreign settings first now) rest)
-    (or_first (nat_lt now r.to) (not settings.skip_missing && nat_lt r.from first) (lt_true now r.to (omega arith)))
+    or_left (range_foreign settings first now r) (list_any (range_foreign settings first now) rest)
+    (or_left (nat_lt now r.to) (not settings.skip_missing && nat_lt r.from first) (lt-ltb now r.to (omega arith)))
 number_back settings first now (r ∷ rest) kind number (inl has) (inr under) =
     let low = has.1 in
     let lower = under.1 in
-    or_first (range_foreign settings first now r) (list_any (range_foreign settings first now) rest)
+    or_left (range_foreign settings first now r) (list_any (range_foreign settings first now) rest)
     (or_right (nat_lt now r.to) (not settings.skip_missing && nat_lt r.from first)
     (both (not settings.skip_missing) (nat_lt r.from first) (not_false settings.skip_missing under.0)
-    (lt_true r.from first (omega arith))))
+    (lt-ltb r.from first (omega arith))))
 
 -- lines that stay
 

@@ -1,5 +1,6 @@
 -- The new numbers of the kept revisions of a range are a range.
 use Rattle.std.proofs.Common.{◌≡◌, ◌⊎◌, ◌↔◌, ℕ, zero, suc, ◌+◌, ◌-◌, ◌<◌, ◌≤◌, Bool, true, false, cond, List, [], ◌∷◌, length, get_or, nat_lt, nat_le, refl, sym, ap, subst, ◌∙◌, inl, inr, arith, Some, None, Option, Contains}
+use Rattle.std.proofs.lemmas.Bool.{lt-ltb}
 use Rattle.std.proofs.lemmas.Bool.Decides.{leb_tells, nat_tests}
 use Rattle.std.proofs.lemmas.List.Elements.{Contains-get_or}
 use Rattle.dump_rules.specs.RangeList.{Range, HasNumber, IsConsistent}
@@ -9,7 +10,7 @@ use Rattle.dump_rules.specs.steps.RisingNumbers.{RiseFrom}
 use Rattle.dump_rules.specs.Rewriting.{IsRenumberedMap}
 use Rattle.dump_rules.specs.steps.Runs.{HaveNumbers, with_range, ranges_of, list_ranges}
 use Rattle.dump_rules.specs.steps.NewRanges.{new_range, kept_range, new_ranges, parts_ranges, list_new}
-use Rattle.dump_rules.proofs.ReachLemmas.{below, up_to, below-cons, up_to-cons, is_below, none_below, from_first, image_of_some}
+use Rattle.dump_rules.proofs.ReachLemmas.{below, up_to, below-cons, up_to-cons, none_below, from_first, image_of_some}
 
 -- counts and places
 
@@ -18,7 +19,7 @@ up_to_is n [] = refl
 up_to_is n (k ∷ numbers) =
     let later = up_to_is n numbers in
     let test : nat_le k n ≡ nat_lt k (n + 1) = elim (leb_tells k n) [
-      | inl within ↦ let low = within.1 in within.0 ∙ sym (is_below k (n + 1) (omega arith))
+      | inl within ↦ let low = within.1 in within.0 ∙ sym (lt-ltb k (n + 1) (omega arith))
       | inr over ↦ let high = over.1 in over.0 ∙ (grind (arith, nat_tests))
     ] in
     up_to-cons n k numbers ∙ rw (test, later) (sym (below-cons (n + 1) k numbers))
@@ -51,13 +52,13 @@ high_below : (first m : ℕ) (numbers : List ℕ) → RiseFrom first numbers →
     → get_or numbers i d < m → i < below m numbers
 high_below first m [] up i d within high = absurd (omega arith)
 high_below first m (k ∷ numbers) up zero d within high =
-    let passes = is_below k m high in
+    let passes = lt-ltb k m high in
     let counted : below m (k ∷ numbers) ≡ 1 + below m numbers = below-cons m k numbers ∙ rw passes refl in
     omega arith
 high_below first m (k ∷ numbers) up (suc i) d within high =
     let lowest = from_first (k + 1) numbers up.1 i d (omega arith) in
     let later = high_below (k + 1) m numbers up.1 i d (omega arith) high in
-    let passes = is_below k m (omega arith) in
+    let passes = lt-ltb k m (omega arith) in
     let counted : below m (k ∷ numbers) ≡ 1 + below m numbers = below-cons m k numbers ∙ rw passes refl in
     omega arith
 
@@ -69,7 +70,7 @@ at_place first (k ∷ numbers) up zero d within =
 at_place first (k ∷ numbers) up (suc i) d within =
     let lowest = from_first (k + 1) numbers up.1 i d (omega arith) in
     let later = at_place (k + 1) numbers up.1 i d (omega arith) in
-    let passes = is_below k (get_or numbers i d) (omega arith) in
+    let passes = lt-ltb k (get_or numbers i d) (omega arith) in
     let counted : below (get_or numbers i d) (k ∷ numbers) ≡ 1 + below (get_or numbers i d) numbers =
     below-cons (get_or numbers i d) k numbers ∙ rw passes refl in
     omega arith

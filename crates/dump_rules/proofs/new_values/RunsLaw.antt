@@ -15,7 +15,7 @@ use Rattle.dump_rules.specs.steps.Runs.{HaveNumbers, ranges_of, list_ranges, run
 use Rattle.dump_rules.proofs.reading.RangeLemmas.{number_parts, range_of_text}
 use Rattle.dump_rules.proofs.reading.RangeListLemmas.{split_joined, all_lack}
 use Rattle.dump_rules.proofs.new_values.JoinLemmas.{runs_are, same_trans, same_sym}
-use Rattle.dump_rules.proofs.new_values.Unique.{runs_once}
+use Rattle.dump_rules.proofs.new_values.Unique.{runs_once, first_in_order, later_runs}
 
 -- numbers are small
 
@@ -98,22 +98,14 @@ run_spelled r low order small = go (r.from == r.to) refl
           );
         }
 
-order_of : (r : Range) (rest : List Range) → AreRuns (r ∷ rest) → r.from ≤ r.to
-order_of r [] are = are
-order_of r (s ∷ rest) are = are.0
-
-later_of : (r : Range) (rest : List Range) → AreRuns (r ∷ rest) → AreRuns rest
-later_of r [] are = tt
-later_of r (s ∷ rest) are = are.3
-
 -- each run, as it is written, is a text of that run
 pub runs_spelled : (runs : List Range) → AreRuns runs → AreSmall runs → AllZip IsRangeText (map run_text runs) runs
 runs_spelled [] are small = tt
 runs_spelled (r ∷ rest) are small =
-    let order = order_of r rest are in
+    let order = first_in_order r rest are in
     let low = (small r.inheritable r.from (inl (refl, omega arith, order))).0 in
     let high = (small r.inheritable r.to (inl (refl, order, omega arith))).1 in
-    (run_spelled r low order high, runs_spelled rest (later_of r rest are) (λ kind n has. small kind n (inr has)))
+    (run_spelled r low order high, runs_spelled rest (later_runs r rest are) (λ kind n has. small kind n (inr has)))
 
 -- a text is one range list
 

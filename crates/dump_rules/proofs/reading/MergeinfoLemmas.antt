@@ -2,7 +2,7 @@
 use Rattle.std.proofs.Common.{◌≡◌, ◌⊎◌, ◌↔◌, ℕ, ◌+◌, ◌-◌, ◌<◌, ◌≤◌, Bool, true, false, not, ◌==◌, List, [], ◌∷◌, ◌++◌, take, drop, length, reverse, get_or, nat_lt, refl, sym, ap, ◌∙◌, inl, inr, arith, append_assoc, length-append, codes, bytes_eq, IsTrue}
 use Rattle.std.specs.List.{list_all, slice_split, join_with_byte, AllZip, suffix_len}
 use Rattle.std.proofs.lemmas.Bool.Decides.{nat_tests}
-use Rattle.std.proofs.lemmas.Bool.{and_parts, eqb-true}
+use Rattle.std.proofs.lemmas.Bool.{and_parts, eqb-true, not-false}
 use Rattle.std.proofs.lemmas.List.{take-append-drop, drop_more, get_or-append-add, get_or-reverse, drop_at, length-reverse, length-take-le}
 use Rattle.std.proofs.Math.Seq.{drop-append-add, get_or-append_seam}
 use Rattle.std.proofs.lemmas.List.Splits.{join_with_byte-slice_split}
@@ -13,7 +13,7 @@ use Rattle.dump_text.proofs.ScanLemmas.{front_lacks}
 use Rattle.dump_rules.specs.Mergeinfo.{MergeLine, IsMergeLine, HasMergeLines}
 use Rattle.dump_rules.specs.steps.ReadRanges.{list_reads}
 use Rattle.dump_rules.specs.steps.ReadMergeinfo.{colon_end, line_reads, without_lf, lines_read, value_reads}
-use Rattle.dump_rules.proofs.reading.RangeLemmas.{no_end, ends_so, front_so, ends_parts}
+use Rattle.dump_rules.proofs.reading.RangeLemmas.{no_end, ends_so, front_is, ends_parts}
 use Rattle.dump_rules.proofs.reading.RangeListLemmas.{AllLack, none_all, split_joined, parts_lack, list_lacks, list_is_read, read_is_list}
 
 -- colons
@@ -59,7 +59,7 @@ colon_parts line some =
     let read = get_or-reverse line (suffix_len (λ b. not (b == 58)) line) 0 (omega arith)
     ∙ ap (λ n. get_or line n 0) place in
     let here : not (get_or line (colon_end line - 1) 0 == 58) ≡ false = ap (λ b. not (b == 58)) (sym read) ∙ stops in
-    let is : (get_or line (colon_end line - 1) 0 == 58) ≡ true = colon
+    let is : (get_or line (colon_end line - 1) 0 == 58) ≡ true = not-false
     (get_or line (colon_end line - 1) 0 == 58) here in
     let next : colon_end line - 1 + 1 ≡ colon_end line = omega arith in
     sym (take-append-drop (colon_end line - 1) line)
@@ -68,10 +68,6 @@ colon_parts line some =
     ∙ ap (λ c. c ∷ drop (colon_end line - 1 + 1) line) (eqb-true (get_or line (colon_end line - 1) 0) 58 is)
     ∙ ap (λ n. 58 ∷ drop n line) next)
     ∙ sym (append_assoc (take (colon_end line - 1) line) (58 ∷ []) (drop (colon_end line) line))
-  where
-    colon : (t : Bool) → not t ≡ false → t ≡ true
-    colon true e = refl
-    colon false e = let bad : true ≡ false = e in cc
 
 -- lines
 
@@ -202,7 +198,7 @@ bare (text ∷ texts) (line ∷ lines) all value (inl is) =
     let ends = (joined text texts line lines all).ends in
     ap without_lf is ∙ rw ends refl
 bare texts lines all value (inr is) =
-    ap without_lf is ∙ rw (ends_so 10 (join_with_byte 10 texts)) (front_so 10 (join_with_byte 10 texts))
+    ap without_lf is ∙ rw (ends_so 10 (join_with_byte 10 texts)) (front_is 10 (join_with_byte 10 texts))
 
 value_parts : (value : List ℕ) → (value ≡ without_lf value) ⊎ (value ≡ without_lf value ++ 10 ∷ [])
 value_parts value = go (ends_in_lf value) refl

@@ -50,7 +50,8 @@ ends_is b body =
     let size = length-append body (b ∷ []) in
     drop_at body (b ∷ []) (length (body ++ b ∷ []) - 1) (omega arith)
 
-front_is : (b : ℕ) (body : List ℕ) → take (length (body ++ b ∷ []) - 1) (body ++ b ∷ []) ≡ body
+-- a text without the byte at its end is what stands before that byte
+pub front_is : (b : ℕ) (body : List ℕ) → take (length (body ++ b ∷ []) - 1) (body ++ b ∷ []) ≡ body
 front_is b body =
     let size = length-append body (b ∷ []) in
     take_at body (b ∷ []) (length (body ++ b ∷ []) - 1) (omega arith)
@@ -74,10 +75,6 @@ no_end b text none = go (bytes_eq (drop (length text - 1) text) (b ∷ [])) refl
 -- a text with the byte behind it does
 pub ends_so : (b : ℕ) (body : List ℕ) → bytes_eq (drop (length (body ++ b ∷ []) - 1) (body ++ b ∷ [])) (b ∷ []) ≡ true
 ends_so b body = (bytes_eq-Decides (drop (length (body ++ b ∷ []) - 1) (body ++ b ∷ [])) (b ∷ [])).1 (ends_is b body)
-
--- a text without the byte at its end is what stands before that byte
-pub front_so : (b : ℕ) (body : List ℕ) → take (length (body ++ b ∷ []) - 1) (body ++ b ∷ []) ≡ body
-front_so b body = front_is b body
 
 -- a text that ends in the byte is the rest with it behind
 pub ends_parts : (b : ℕ) (text : List ℕ) → bytes_eq (drop (length text - 1) text) (b ∷ []) ≡ true

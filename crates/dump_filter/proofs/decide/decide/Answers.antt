@@ -1,11 +1,12 @@
 use Rattle.std.proofs.Common.{sym, ap, ◌∙◌}
+use Rattle.std.proofs.lemmas.Bool.{not-false}
 use Rattle.dump_records.specs.steps.RecordViews.{record_item}
 use Rattle.dump_records.specs.declared.record.Record.{Record}
 use Rattle.dump_digest.specs.steps.DoneViews.{done_record, done_verdict}
 use Rattle.dump_digest.specs.declared.verdict.Verdict.{Verdict}
 use Rattle.dump_filter.specs.steps.State.{view_state}
 use Rattle.dump_filter.specs.steps.Decision.{is_in_order}
-use Rattle.dump_filter.proofs.answer.DecisionLemmas.{so, decided_in_order}
+use Rattle.dump_filter.proofs.answer.DecisionLemmas.{decided_in_order}
 use Rattle.dump_filter.proofs.decide.decide.Goals as goal
 
 pub returns : goal.returns
@@ -17,10 +18,10 @@ returns c = λ ps asked.
     let order = ap (λ (x : Record). is_in_order s (record_item x)) (sym c.item-item.ensures) ∙ sym c.is_in_order.ensures
     ∙ c.if-not-is_in_order.false in
     let props = ap (λ (v : Verdict). v.props_ok) (sym value)
-    ∙ so c.verdict-verdict.result.props_ok c.if-not-verdict.false in
+    ∙ not-false c.verdict-verdict.result.props_ok c.if-not-verdict.false in
     let md5 = ap (λ (v : Verdict). v.md5_ok) (sym value)
-    ∙ so c.verdict-verdict.result.md5_ok c.if-not-verdict-2.false in
+    ∙ not-false c.verdict-verdict.result.md5_ok c.if-not-verdict-2.false in
     let sha1 = ap (λ (v : Verdict). v.sha1_ok) (sym value)
-    ∙ so c.verdict-verdict.result.sha1_ok c.if-not-verdict-3.false in
+    ∙ not-false c.verdict-verdict.result.sha1_ok c.if-not-verdict-3.false in
     c.fate_of.ensures ps (λ keep. asked keep props)
     ∙ sym (decided_in_order options s r (done_verdict c.args.done.now) ps order props md5 sha1)

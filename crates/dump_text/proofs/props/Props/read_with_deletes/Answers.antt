@@ -1,6 +1,6 @@
 use Rattle.std.proofs.Common.{[], arith, refl, sym, ap, ◌≡◌, ◌∙◌, inl, inr}
+use Rattle.std.proofs.lemmas.List.{nil_from_length}
 use Rattle.std.proofs.lemmas.Bool.{eqb-true}
-use Rattle.dump_text.proofs.ScanLemmas.{empty_text}
 use Rattle.dump_text.specs.PropertyList.{has_deletes}
 use Rattle.dump_text.proofs.PropertyLemmas.{entries_some}
 use Rattle.dump_text.proofs.WrittenLemmas.{spelled_is, none_spelled}
@@ -10,7 +10,7 @@ use Rattle.dump_text.proofs.props.Props.read_with_deletes.Goals.{then-is_empty, 
 pub invariant_of-result : goal.invariant_of-result
 invariant_of-result c = elim c.if-is_empty.branch [
   | then-is_empty w ↦
-      let none : c.args.block.now ≡ [] = empty_text c.args.block.now (eqb-true _ 0 (sym w.if-is_empty.ensures)) in
+      let none : c.args.block.now ≡ [] = nil_from_length c.args.block.now (eqb-true _ 0 (sym w.if-is_empty.ensures)) in
       record {
         reads = ∣ ([], inl (none, refl)) ∣₁;
         written = λ ps is. ap (λ s. s.spelled) w.scan-is ∙ none_spelled c.args.block.now none ps;
