@@ -3,6 +3,7 @@ pub mod NameLemmas
 pub mod NodeLemmas
 pub mod PlainLemmas
 pub mod PrefixLemmas
+pub mod SilentLemmas
 pub mod SurveyLemmas
 pub mod SurveyorLemmas
 pub mod TallyLemmas
