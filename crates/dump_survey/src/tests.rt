@@ -1,5 +1,6 @@
 //! What no clause says: worked dumps with each finding once.
-use crate::{DumpFindings, End, NodeFinding, Survey, survey_dump};
+use crate::laws::{each_silent_survey_restricts, each_told_is_found};
+use crate::{DumpFindings, End, Memory, NodeFinding, Survey, survey_dump};
 use dump_rules::{Empty, Options, Side};
 use dump_text::FaultKind;
 use std::alloc::Global;
@@ -32,6 +33,8 @@ Node-path: trunk//a\nNode-action: change\n\n\n";
 
 #[test]
 fn a_finding_is_told_with_its_place(rt: HostRuntime) -> Result<(), Fail> {
+    each_told_is_found();
+    each_silent_survey_restricts();
     let options = rules(rt.alloc(), Side::Include, "trunk")?;
     let survey = survey_dump(rt.alloc(), ONE_NODE, &options)?;
     let [told] = survey.told.as_slice() else {
@@ -109,6 +112,37 @@ fn a_dropped_revision_leaves_the_others_their_numbers(rt: HostRuntime) -> Result
         )?;
         let survey = survey_dump(rt.alloc(), ONE_NODE, &options)?;
         assert_eq!(rt; survey.end.dump.numbers_left, left, "{empty:?} {renumber}");
+    }
+    Ok(())
+}
+
+const COPIED: &[u8] = b"SVN-fs-dump-format-version: 2\n\n\
+Revision-number: 0\n\n\
+Revision-number: 1\n\n\
+Node-path: b\nNode-kind: dir\nNode-action: add\nNode-copyfrom-rev: 0\nNode-copyfrom-path: t\n\n\n";
+
+// Run with each allocation refused in turn: all is told, or there is no memory.
+#[test]
+fn a_survey_or_no_memory(rt: HostRuntime) -> Result<(), Fail> {
+    let prefixes = [b"t/f".as_slice()];
+    let made = Options::new(
+        rt.alloc(),
+        Side::Exclude,
+        &prefixes,
+        Empty::Pad,
+        false,
+        false,
+        false,
+    );
+    let Ok(options) = made else {
+        return Ok(());
+    };
+    match survey_dump(rt.alloc(), COPIED, &options) {
+        Ok(survey) => {
+            assert_eq!(rt; survey.told.len(), 1);
+            assert!(rt; ends_with(&survey, NOTHING, End::Whole));
+        }
+        Err(refused) => assert_eq!(rt; refused, Memory),
     }
     Ok(())
 }
