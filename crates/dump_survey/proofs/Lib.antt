@@ -1,0 +1,11 @@
+pub mod LossLemmas
+pub mod NameLemmas
+pub mod NodeLemmas
+pub mod PlainLemmas
+pub mod PrefixLemmas
+pub mod SilentLemmas
+pub mod SurveyLemmas
+pub mod SurveyorLemmas
+pub mod TallyLemmas
+pub mod TieLemmas
+pub mod ToldLemmas

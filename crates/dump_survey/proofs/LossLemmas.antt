@@ -1,0 +1,65 @@
+-- What the filter's cut does to a node, by what the node is.
+use Rattle.std.proofs.Common.{◌≡◌, Bool, true, false, not, ◌&&◌, refl}
+use Rattle.dump_text.specs.Names.{property_length_name}
+use Rattle.dump_text.specs.HeaderLine.{has_header}
+use Rattle.dump_records.specs.RecordText.{DumpRecord}
+use Rattle.dump_rules.specs.Settings.{Settings}
+use Rattle.dump_digest.specs.RecordParts.{is_copy}
+use Rattle.dump_filter.specs.NewHeaders.{is_whole_file}
+use Rattle.dump_history.specs.RecordChanges.{makes}
+use Rattle.dump_history.specs.Findings.{has_kept_path, has_kept_source, is_exclude}
+use Rattle.dump_survey.specs.declared.finding.Losses.{Losses}
+use Rattle.dump_survey.specs.steps.Losses.{AreLossesOf}
+
+-- nothing is found
+abbrev pub no_losses : Losses
+no_losses = record {
+  no_whole_file = false;
+  properties_lost = false;
+  copy_loses = false;
+  copy_lets_in = false;
+  folder_takes = false;
+  folder_brings = false;
+  text_comes_in = false;
+}
+
+dead : (b : Bool) → (b && false) ≡ false
+dead true = refl
+dead false = refl
+
+and_true : (b : Bool) → (b && true) ≡ b
+and_true true = refl
+and_true false = refl
+
+module _ (settings : Settings) (r : DumpRecord) (kept : has_kept_path settings r ≡ true) where
+  -- a kept node that is no copy
+  pub plain_losses : is_copy r ≡ false → AreLossesOf settings r no_losses
+  plain_losses copy = record {
+    no_whole_file = rw (kept, copy) refl;
+    properties_lost = rw (kept, copy, dead (makes r)) refl;
+    copy_loses = rw (kept, copy, dead (makes r)) refl;
+    copy_lets_in = rw (kept, copy, dead (makes r)) refl;
+    folder_takes = rw kept refl;
+    folder_brings = rw kept refl;
+    text_comes_in = rw (kept, copy, dead (is_exclude settings.side && true && makes r)) refl;
+  }
+
+  -- a kept copy of a path that isn't kept
+  pub lost_losses : is_copy r ≡ true → has_kept_source settings r ≡ false → AreLossesOf settings r (record {
+    no_whole_file = not (is_whole_file r);
+    properties_lost = makes r && not (has_header property_length_name r.headers);
+    copy_loses = false;
+    copy_lets_in = false;
+    folder_takes = false;
+    folder_brings = false;
+    text_comes_in = is_exclude settings.side && makes r && is_whole_file r;
+  })
+  lost_losses copy lost = record {
+    no_whole_file = rw (kept, copy, lost) refl;
+    properties_lost = rw (kept, copy, lost, and_true (makes r), and_true (makes r)) refl;
+    copy_loses = rw (kept, copy, lost, and_true (makes r), dead (makes r)) refl;
+    copy_lets_in = rw (kept, copy, lost, and_true (makes r), dead (makes r)) refl;
+    folder_takes = rw kept refl;
+    folder_brings = rw kept refl;
+    text_comes_in = rw (kept, copy, lost, and_true (is_exclude settings.side)) refl;
+  }

@@ -1,0 +1,199 @@
+-- What a surveyor knows goes on to one more record, and tells what is found where the records end.
+use Rattle.std.proofs.Common.{◌≡◌, ℕ, ◌+◌, ◌^◌, ◌<◌, Bool, true, false, not, ◌&&◌, List, [], ◌∷◌, ◌++◌, length, length-append, map, Option, Some, None, refl, sym, ap, ◌∙◌, subst, arith, inl, inr, Result, Ok, Err, MatchBool}
+use Rattle.std.specs.Result.{IfOk}
+use Rattle.std.specs.List.{list_all}
+use Rattle.std.proofs.lemmas.Bool.{and_from}
+use Rattle.dump_records.specs.declared.record.Record.{Record}
+use Rattle.dump_records.specs.declared.cutter.Cut.TheVariants as cuts
+use Rattle.dump_records.specs.RecordText.{DumpRecord, record_text, is_lawful}
+use Rattle.dump_records.specs.DumpText.{IsCutInto, BeginsWithRecords, HasRecords}
+use Rattle.dump_records.specs.steps.CutterState.{CutterState}
+use Rattle.dump_records.specs.steps.CutRecords.{EndsAfter, IsRecordOf}
+use Rattle.dump_records.specs.steps.RecordViews.{record_item, record_number, CutStep}
+use Rattle.dump_records.proofs.ListLaw.{each_dump_has_one_list}
+use Rattle.dump_records.proofs.Prefixes.{begins_prefix, one_more, whole_list}
+use Rattle.dump_rules.specs.Settings.{Settings}
+use Rattle.dump_rules.specs.Prefix.{bare_prefix}
+use Rattle.dump_digest.specs.RecordParts.{is_revision, is_node}
+use Rattle.dump_filter.proofs.groups.KindLemmas.{alone}
+use Rattle.dump_survey.specs.declared.tally.Tally.{Tally}
+use Rattle.dump_survey.specs.steps.Tally.{no_tally, next_tally, tally_findings}
+use Rattle.dump_history.specs.Findings.{Finding, every_finding, is_found, AreFindingsOf}
+use Rattle.dump_history.proofs.survey.FindingLemmas.{findings_once}
+use Rattle.dump_survey.specs.declared.finding.Found.{Found}
+use Rattle.dump_survey.specs.declared.surveyor.End.{End}
+use Rattle.dump_survey.specs.declared.surveyor.Step.{Step}
+use Rattle.dump_survey.specs.declared.surveyor.Step.TheVariants.{Node, Other, Finished}
+use Rattle.dump_survey.specs.declared.memory.Memory.{Memory}
+use Rattle.dump_survey.specs.steps.Found.{has_found, IsFoundIn}
+use Rattle.dump_survey.specs.Told.{NodeTold, IsToldOf, told_in}
+use Rattle.dump_survey.specs.steps.Found.{listed}
+use Rattle.dump_survey.specs.steps.Surveyed.{told_of_node}
+use Rattle.dump_survey.specs.SurveyEnds.{ending_of}
+use Rattle.dump_survey.specs.steps.Surveying.{Surveying, Surveys}
+use Rattle.dump_survey.specs.steps.Steps.{IsStepOf, IsEndOf, ComesNext, open_behind, SurveyStep}
+use Rattle.dump_survey.proofs.TallyLemmas.{is_single, filter_same, tally_more, count_within, present_number, present_is, tally_tells}
+
+-- a lawful record is no node that is a revision too
+single : (number : ℕ) (r : DumpRecord) → is_lawful number r.headers ≡ true
+    → is_single r ≡ true
+single number r lawful = by (is_node r) refl
+  where
+    by : (b : Bool) → is_node r ≡ b → not (b && is_revision r) ≡ true
+    by true node = ap not (alone number r lawful node)
+    by false other = refl
+
+-- the records of a dump are such
+singles : (number place : ℕ) (text rest : List ℕ) (records : List DumpRecord)
+    → IsCutInto number place text records rest → list_all is_single records ≡ true
+singles number place text rest [] cut = refl
+singles number place text rest (r ∷ records) (lfs, front, after, is, at, stands, more) =
+    and_from (is_single r) (list_all is_single records) (single number r stands.lawful)
+    (singles (number + 1) (r.place + length (record_text r)) after rest records more)
+
+pub begun_single : (dump : List ℕ) (records : List DumpRecord) → BeginsWithRecords dump records
+    → list_all is_single records ≡ true
+begun_single dump records (rest, cut, versions) = singles 0 0 dump rest records cut
+
+-- the next record stands behind those that came
+pub comes_next : (dump : List ℕ) (before : List DumpRecord) (number : ℕ) (r : DumpRecord)
+    → BeginsWithRecords dump before → length before ≡ number → IsRecordOf dump number r
+    → BeginsWithRecords dump (before ++ r ∷ [])
+comes_next dump before number r begins count next =
+    one_more dump before r begins ∣ subst (λ n. IsRecordOf dump n r) (sym count) next ∣₁
+
+-- before the first record
+pub at_first : (dump : List ℕ) (settings : Settings) (prefixes : List (List ℕ)) (tally : Tally) (cutter : CutterState)
+    → cutter ≡ record { dump = dump; number = 0 } → prefixes ≡ map bare_prefix settings.prefixes → tally ≡ no_tally
+    → Surveys settings prefixes tally cutter
+at_first dump settings prefixes tally cutter is same none = record {
+  prefixes_are = same;
+  before = [];
+  begins = nothing cutter.dump;
+  count = sym (ap (λ (c : CutterState). c.number) is);
+  tallied = none;
+}
+  where
+    nothing : (dump : List ℕ) → BeginsWithRecords dump []
+    nothing dump =
+        let (records, ending, has, once) = each_dump_has_one_list dump in
+        begins_prefix dump [] records (has.0, has.1, has.2)
+
+-- what is found is what is found in the node
+found_is : (settings : Settings) (r : DumpRecord) (found : Found) → IsFoundIn settings r found
+    → AreFindingsOf settings r (listed found)
+found_is settings r found exact =
+    let (fs, (ps, read, is), once) = findings_once settings r in
+    (ps, read, filter_same (λ f. has_found found f) (λ f. is_found settings r ps f) (exact ps read) every_finding)
+
+-- what is found in a node of a revision is told of it
+told_of : (settings : Settings) (number revision : ℕ) (r : DumpRecord) (found : List Finding) (told : List NodeTold)
+    → is_node r ≡ true → AreFindingsOf settings r found → told ≡ map (told_in number revision r) found
+    → IsToldOf settings number (Some revision) r told
+told_of settings number revision r found told node are is =
+    subst (λ (b : Bool). MatchBool b
+    ((fs : List Finding) × AreFindingsOf settings r fs × (told ≡ map (told_in number revision r) fs)) (told ≡ []))
+    (sym node) (found, are, is)
+
+module _ (settings : Settings) (prefixes : List (List ℕ)) (tally : Tally) (cutter after : CutterState)
+    (knows : Surveys settings prefixes tally cutter) where
+  -- the surveyor as callers see it
+  abbrev seen : CutterState → Surveying
+  seen c = record { dump = c.dump; settings = settings; number = c.number }
+
+  -- what is known where the records end
+  pub ended : (end : End) (step : Step) → EndsAfter cutter.dump cutter.number (ending_of end) → after ≡ cutter
+      → IsEndOf settings tally end step
+      → SurveyStep (seen cutter) step (seen after)
+  ended end (Node node) ends same is = absurd is
+  ended end Other ends same is = absurd is
+  ended end (Finished told) ends same (end_is, found) =
+      let begins = knows.begins in
+      let has = whole_list cutter.dump knows.before (ending_of end) begins
+      (subst (λ n. EndsAfter cutter.dump n (ending_of end)) (sym knows.count) ends) in (
+        knows.before,
+        subst (λ e. HasRecords cutter.dump knows.before (ending_of e)) (sym end_is) has,
+        knows.count,
+        found ∙ (ap (tally_findings settings) knows.tallied
+            ∙ tally_tells settings knows.before (begun_single cutter.dump knows.before begins)),
+        ap seen same,
+      )
+
+  module _ (item : Record) (step : CutStep cutter (cuts.Item item) after) where
+    next_begins : BeginsWithRecords cutter.dump (knows.before ++ record_item item ∷ [])
+    next_begins = comes_next cutter.dump knows.before cutter.number (record_item item) knows.begins knows.count step.2
+
+    -- the tally has room for one more revision
+    pub room : tally.count + 1 < 2 ^ 64
+    room =
+        let within = count_within settings no_tally knows.before in
+        let same = ap (λ (t : Tally). t.count) knows.tallied in
+        let count = knows.count in
+        let number = step.1 in
+        let fits = item.counted in
+        omega arith
+
+    -- and goes on with the record
+    pub goes_on : (next : Tally) → next ≡ next_tally settings tally (record_item item)
+        → Surveys settings prefixes next after
+    goes_on next is = record {
+      prefixes_are = knows.prefixes_are;
+      before = knows.before ++ record_item item ∷ [];
+      begins = subst (λ (c : CutterState). BeginsWithRecords c.dump (knows.before ++ record_item item ∷ []))
+          (sym step.3) next_begins;
+      count = length-append knows.before (record_item item ∷ [])
+          ∙ (ap (λ n. n + 1) knows.count ∙ sym (ap (λ (c : CutterState). c.number) step.3));
+      tallied = is ∙ (ap (λ t. next_tally settings t (record_item item)) knows.tallied
+          ∙ sym (tally_more settings no_tally knows.before (record_item item)));
+    }
+
+    comes : ComesNext (seen cutter) knows.before (record_item item) (seen after)
+    comes = record { begins = next_begins; count = knows.count; next = ap seen step.3 }
+
+    present : present_number tally.present ≡ open_behind None knows.before
+    present = ap (λ (t : Tally). present_number t.present) knows.tallied ∙ present_is settings no_tally knows.before
+
+    -- what is found in the record is told
+    pub stepped : (told : Step) → IsStepOf settings item tally.present told → SurveyStep (seen cutter) told (seen after)
+    stepped (Finished end) is = absurd is
+    stepped Other is = (
+      knows.before,
+      record_item item,
+      comes,
+      elim is [
+        | inl none ↦ subst (λ p. IsToldOf settings cutter.number p (record_item item) [])
+            (ap present_number (sym none) ∙ present) refl
+        | inr other ↦ nothing (open_behind None knows.before) (is_node (record_item item)) refl other
+      ],
+    )
+      where
+        nothing : (p : Option ℕ) (b : Bool) → is_node (record_item item) ≡ b → b ≡ false
+            → IsToldOf settings cutter.number p (record_item item) []
+        nothing None b is other = refl
+        nothing (Some revision) true is other = cc
+        nothing (Some revision) false is other = rw is refl
+    stepped (Node node) (same, is, revision, found) = (
+      knows.before,
+      subst (λ (i : Record). ComesNext (seen cutter) knows.before (record_item i) (seen after)) (sym same) comes,
+      number,
+      subst (λ (p : Option ℕ). IsToldOf settings cutter.number p r (told_of_node node)) (sym revision ∙ present)
+          (told_of settings cutter.number node.revision r (listed node.found) (told_of_node node) node_is
+          (found_is settings r node.found
+          (subst (λ (i : Record). IsFoundIn settings (record_item i) node.found) (sym same) found))
+          (ap (λ n. map (told_in n node.revision r) (listed node.found)) number)),
+    )
+      where
+        r : DumpRecord
+        r = record_item node.item
+
+        number : record_number node.item ≡ cutter.number
+        number = ap record_number same ∙ step.1
+
+        node_is : is_node r ≡ true
+        node_is = ap (λ (i : Record). is_node (record_item i)) same ∙ is
+
+    -- so where there was memory
+    pub stepped_ok : (result : Result Step Memory) → IfOk result (IsStepOf settings item tally.present)
+        → IfOk result (λ told. SurveyStep (seen cutter) told (seen after))
+    stepped_ok (Ok told) is = stepped told is
+    stepped_ok (Err e) is = tt

@@ -1,0 +1,356 @@
+-- The tally of a dump's revisions, record by record, tells what is found in the dump as a whole.
+use Rattle.std.proofs.Common.{◌≡◌, ℕ, zero, suc, ◌+◌, ◌≤◌, ◌==◌, Bool, true, false, not, ◌&&◌, ◌||◌, List, [], ◌∷◌, ◌++◌, length, filter, map, take_while, Option, Some, None, option_map, if◌then◌else◌, cond, refl, sym, ap, ap₂, ◌∙◌, arith}
+use Rattle.std.specs.List.{list_all, list_any}
+use Rattle.std.proofs.lemmas.Bool.{and_parts}
+use Rattle.std.proofs.lemmas.List.Sums.{take_while-cons}
+use Rattle.dump_records.specs.RecordText.{DumpRecord}
+use Rattle.dump_rules.specs.Settings.{Settings}
+use Rattle.dump_digest.specs.RecordParts.{is_revision, is_node, is_kept_node}
+use Rattle.dump_filter.specs.Groups.{group_of, groups, group_number, revision_number, revision_numbers, keeps_group, keeps_empty}
+use Rattle.dump_history.specs.DumpChanges.{counts_from}
+use Rattle.dump_history.specs.Findings.{DumpFinding, every_dump_finding, is_found_in_dump, first_has_node, dump_findings}
+use Rattle.dump_survey.specs.declared.tally.Present.{Present}
+use Rattle.dump_survey.specs.declared.tally.Tally.{Tally}
+use Rattle.dump_survey.specs.steps.Steps.{open_behind}
+use Rattle.dump_survey.specs.steps.Tally.{no_tally, keeps_open, keeps_present, revision_tally, node_tally, other_tally, next_tally, tally_behind, is_tallied, tally_findings}
+
+-- one more record
+pub tally_more : (settings : Settings) (t : Tally) (records : List DumpRecord) (r : DumpRecord)
+    → tally_behind settings t (records ++ r ∷ []) ≡ next_tally settings (tally_behind settings t records) r
+tally_more settings t [] r = refl
+tally_more settings t (x ∷ records) r = tally_more settings (next_tally settings t x) records r
+
+node_count : (t : Tally) (kept : Bool) (p : Option Present) → (node_tally t kept p).count ≡ t.count
+node_count t kept None = refl
+node_count t kept (Some p) = refl
+
+-- how many revisions there are
+count_is : (settings : Settings) (t : Tally) (records : List DumpRecord)
+    → (tally_behind settings t records).count ≡ t.count + length (groups records)
+count_is settings t [] = omega arith
+count_is settings t (r ∷ records) = by (λ u. count_is settings u records) (is_revision r) (is_node r)
+  where
+    by : ((u : Tally) → (tally_behind settings u records).count ≡ u.count + length (groups records)) → (v n : Bool)
+        → (tally_behind settings (if v then revision_tally settings t r
+        else if n then node_tally t (is_kept_node settings r) t.present else other_tally settings t) records).count
+        ≡ t.count + length (if v then group_of r records ∷ groups records else groups records)
+    by more true n = more (revision_tally settings t r) ∙ omega arith
+    by more false true = more (node_tally t (is_kept_node settings r) t.present)
+        ∙ ap (λ c. c + length (groups records)) (node_count t (is_kept_node settings r) t.present)
+    by more false false = more (other_tally settings t)
+
+-- there are at most as many as records
+pub count_within : (settings : Settings) (t : Tally) (records : List DumpRecord)
+    → (tally_behind settings t records).count ≤ t.count + length records
+count_within settings t [] = omega arith
+count_within settings t (r ∷ records) = by (λ u. count_within settings u records) (is_revision r) (is_node r)
+  where
+    by : ((u : Tally) → (tally_behind settings u records).count ≤ u.count + length records) → (v n : Bool)
+        → (tally_behind settings (if v then revision_tally settings t r
+        else if n then node_tally t (is_kept_node settings r) t.present else other_tally settings t) records).count
+        ≤ t.count + length (r ∷ records)
+    by more true n = let h = more (revision_tally settings t r) in omega arith
+    by more false true =
+        let h = more (node_tally t (is_kept_node settings r) t.present) in
+        let same = node_count t (is_kept_node settings r) t.present in omega arith
+    by more false false = let h = more (other_tally settings t) in omega arith
+
+-- the number of the present revision
+abbrev pub present_number : Option Present → Option ℕ
+present_number p = option_map (λ (p : Present). p.number) p
+
+-- the present revision is the one that a node belongs to
+pub present_is : (settings : Settings) (t : Tally) (records : List DumpRecord)
+    → present_number (tally_behind settings t records).present ≡ open_behind (present_number t.present) records
+present_is settings t [] = refl
+present_is settings t (r ∷ records) =
+    present_is settings (next_tally settings t r) records
+    ∙ ap (λ p. open_behind p records) (by (is_revision r) (is_node r))
+  where
+    of_node : (p : Option Present) → t.present ≡ p
+        → present_number (node_tally t (is_kept_node settings r) p).present ≡ present_number p
+    of_node None is = ap present_number is
+    of_node (Some p) is = refl
+
+    by : (v n : Bool) → present_number (if v then revision_tally settings t r
+        else if n then node_tally t (is_kept_node settings r) t.present else other_tally settings t).present
+        ≡ (if v then Some (revision_number r) else if n then present_number t.present else None)
+    by true n = refl
+    by false true = of_node t.present refl
+    by false false = refl
+
+and_assoc : (a b c : Bool) → ((a && b) && c) ≡ (a && (b && c))
+and_assoc true b c = refl
+and_assoc false b c = refl
+
+and_true : (a : Bool) → (a && true) ≡ a
+and_true true = refl
+and_true false = refl
+
+node_numbered : (t : Tally) (kept : Bool) (p : Option Present) → (node_tally t kept p).numbered ≡ t.numbered
+node_numbered t kept None = refl
+node_numbered t kept (Some p) = refl
+
+-- whether they are numbered 0, 1, 2 and so on
+numbered_is : (settings : Settings) (t : Tally) (records : List DumpRecord)
+    → (tally_behind settings t records).numbered ≡ (t.numbered && counts_from t.count (revision_numbers records))
+numbered_is settings t [] = sym (and_true t.numbered)
+numbered_is settings t (r ∷ records) = by (λ u. numbered_is settings u records) (is_revision r) (is_node r)
+  where
+    next : t.count + 1 ≡ suc t.count
+    next = omega arith
+
+    by : ((u : Tally) → (tally_behind settings u records).numbered
+        ≡ (u.numbered && counts_from u.count (revision_numbers records))) → (v n : Bool)
+        → (tally_behind settings (if v then revision_tally settings t r
+        else if n then node_tally t (is_kept_node settings r) t.present else other_tally settings t) records).numbered
+        ≡ (t.numbered && counts_from t.count (map group_number
+        (if v then group_of r records ∷ groups records else groups records)))
+    by more true n = more (revision_tally settings t r)
+        ∙ (and_assoc t.numbered (revision_number r == t.count) (counts_from (t.count + 1) (revision_numbers records))
+        ∙ ap (λ c. t.numbered && ((revision_number r == t.count) && counts_from c (revision_numbers records))) next)
+    by more false true = more (node_tally t (is_kept_node settings r) t.present)
+        ∙ ap₂ (λ b c. b && counts_from c (revision_numbers records))
+        (node_numbered t (is_kept_node settings r) t.present) (node_count t (is_kept_node settings r) t.present)
+    by more false false = more (other_tally settings t)
+
+-- the nodes that follow
+abbrev pub nodes : List DumpRecord → List DumpRecord
+nodes records = take_while is_node records
+
+pub nodes_more : (r : DumpRecord) (records : List DumpRecord) → is_node r ≡ true → nodes (r ∷ records) ≡ r ∷ nodes records
+nodes_more r records is = take_while-cons is_node r records ∙ ap (λ b. cond b (r ∷ nodes records) []) is
+
+pub nodes_none : (r : DumpRecord) (records : List DumpRecord) → is_node r ≡ false → nodes (r ∷ records) ≡ []
+nodes_none r records is = take_while-cons is_node r records ∙ ap (λ b. cond b (r ∷ nodes records) []) is
+
+-- whether the record is no node that is a revision too
+abbrev pub is_single : DumpRecord → Bool
+is_single r = not (is_node r && is_revision r)
+
+-- whether the present revision is kept, where these nodes follow
+abbrev closes : Settings → Option Present → List DumpRecord → Bool
+closes settings None ns = true
+closes settings (Some p) ns =
+    p.number == 0 || (p.kept || list_any (is_kept_node settings) ns)
+    || keeps_empty settings.empty (p.bare && length ns == 0)
+
+or_false : (a : Bool) → (a || false) ≡ a
+or_false true = refl
+or_false false = refl
+
+or_assoc : (a b c : Bool) → ((a || b) || c) ≡ (a || (b || c))
+or_assoc true b c = refl
+or_assoc false b c = refl
+
+closes_none : (settings : Settings) (p : Option Present) → closes settings p [] ≡ keeps_open settings p
+closes_none settings None = refl
+closes_none settings (Some p) =
+    ap₂ (λ k b. p.number == 0 || k || keeps_empty settings.empty b) (or_false p.kept) (and_true p.bare)
+
+some_left : (n : ℕ) (b : Bool) → (b && (suc n == 0)) ≡ false
+some_left n true = grind arith
+some_left n false = refl
+
+-- whether each revision is kept
+abbrev keeps_all : Settings → Tally → List DumpRecord → Bool
+keeps_all settings t records =
+    t.all_kept && (closes settings t.present (nodes records) && list_all (keeps_group settings) (groups records))
+
+module _ (settings : Settings) (t : Tally) (r : DumpRecord) (records : List DumpRecord)
+    (more : (u : Tally) → keeps_present settings (tally_behind settings u records) ≡ keeps_all settings u records) where
+  -- behind a record that is no node the present revision has its nodes
+  ends_here : (rest : Bool) → is_node r ≡ false
+      → (keeps_present settings t && rest)
+      ≡ (t.all_kept && (closes settings t.present (nodes (r ∷ records)) && rest))
+  ends_here rest other =
+      and_assoc t.all_kept (keeps_open settings t.present) rest
+      ∙ ap (λ b. t.all_kept && (b && rest))
+      (sym (closes_none settings t.present) ∙ ap (closes settings t.present) (sym (nodes_none r records other)))
+
+  kept_revision : is_node r ≡ false
+      → keeps_present settings (tally_behind settings (revision_tally settings t r) records)
+      ≡ (t.all_kept && (closes settings t.present (nodes (r ∷ records))
+      && list_all (keeps_group settings) (group_of r records ∷ groups records)))
+  kept_revision other = more (revision_tally settings t r)
+      ∙ ends_here (list_all (keeps_group settings) (group_of r records ∷ groups records)) other
+
+  kept_other : is_node r ≡ false
+      → keeps_present settings (tally_behind settings (other_tally settings t) records)
+      ≡ (t.all_kept && (closes settings t.present (nodes (r ∷ records))
+      && list_all (keeps_group settings) (groups records)))
+  kept_other other = more (other_tally settings t)
+      ∙ ends_here (list_all (keeps_group settings) (groups records)) other
+
+  node_closes : (p : Option Present) → is_node r ≡ true → t.present ≡ p
+      → keeps_all settings (node_tally t (is_kept_node settings r) p) records
+      ≡ (t.all_kept && (closes settings p (nodes (r ∷ records))
+      && list_all (keeps_group settings) (groups records)))
+  node_closes None node is =
+      ap (λ q. t.all_kept && (closes settings q (nodes records) && list_all (keeps_group settings) (groups records))) is
+  node_closes (Some p) node is =
+      ap₂ (λ k b. t.all_kept && ((p.number == 0 || k || keeps_empty settings.empty b)
+      && list_all (keeps_group settings) (groups records)))
+      (or_assoc p.kept (is_kept_node settings r) (list_any (is_kept_node settings) (nodes records)))
+      (sym (some_left (length (nodes records)) p.bare))
+      ∙ ap (λ ns. t.all_kept && (closes settings (Some p) ns && list_all (keeps_group settings) (groups records)))
+      (sym (nodes_more r records node))
+
+  kept_node : is_node r ≡ true
+      → keeps_present settings (tally_behind settings (node_tally t (is_kept_node settings r) t.present) records)
+      ≡ (t.all_kept && (closes settings t.present (nodes (r ∷ records))
+      && list_all (keeps_group settings) (groups records)))
+  kept_node node = more (node_tally t (is_kept_node settings r) t.present) ∙ node_closes t.present node refl
+
+  kept_step : (v n : Bool) → is_revision r ≡ v → is_node r ≡ n → not (n && v) ≡ true
+      → keeps_present settings (tally_behind settings (if v then revision_tally settings t r
+      else if n then node_tally t (is_kept_node settings r) t.present else other_tally settings t) records)
+      ≡ (t.all_kept && (closes settings t.present (nodes (r ∷ records))
+      && list_all (keeps_group settings) (if v then group_of r records ∷ groups records else groups records)))
+  kept_step true true rev node single = cc
+  kept_step true false rev other single = kept_revision other
+  kept_step false true rev node single = kept_node node
+  kept_step false false rev other single = kept_other other
+
+-- each revision is kept, by the tally and by the groups
+kept_is : (settings : Settings) (t : Tally) (records : List DumpRecord) → list_all is_single records ≡ true
+    → keeps_present settings (tally_behind settings t records) ≡ keeps_all settings t records
+kept_is settings t [] single =
+    ap (λ b. t.all_kept && b) (sym (closes_none settings t.present) ∙ sym (and_true (closes settings t.present [])))
+kept_is settings t (r ∷ records) single =
+    let parts = and_parts (is_single r) (list_all is_single records) single in
+    kept_step settings t r records (λ u. kept_is settings u records parts.1) (is_revision r) (is_node r) refl refl parts.0
+
+-- whether the first revision has a node, where so many came already and this one is present
+abbrev first_has : ℕ → Option Present → List DumpRecord → Bool
+first_has zero p records = first_has_node (groups records)
+first_has (suc zero) None records = false
+first_has (suc zero) (Some p) records = not (length (nodes records) == 0)
+first_has (suc (suc n)) p records = false
+
+not_one : (n : ℕ) → (suc (suc n) == 1) ≡ false
+not_one n = grind arith
+
+not_zero : (n : ℕ) → (suc n == 0) ≡ false
+not_zero n = grind arith
+
+module _ (settings : Settings) (t : Tally) (r : DumpRecord) (records : List DumpRecord)
+    (more : (u : Tally) (n : ℕ) → u.count ≡ n
+    → (tally_behind settings u records).node_in_first ≡ (u.node_in_first || first_has n u.present records)) where
+  -- a record that is no node ends the first revision
+  none_first : (n : ℕ) (p : Option Present) → is_node r ≡ false → first_has (suc n) p (r ∷ records) ≡ false
+  none_first zero None other = refl
+  none_first zero (Some p) other = ap (λ (ns : List DumpRecord). not (length ns == 0)) (nodes_none r records other)
+  none_first (suc n) p other = refl
+
+  first_revision : (n : ℕ) → t.count ≡ n → is_node r ≡ false → is_revision r ≡ true
+      → (tally_behind settings (revision_tally settings t r) records).node_in_first
+      ≡ (t.node_in_first || first_has n t.present (r ∷ records))
+  first_revision zero count other rev = more (revision_tally settings t r) 1 (omega arith)
+      ∙ ap (λ b. t.node_in_first || first_has_node (if b then group_of r records ∷ groups records else groups records))
+      (sym rev)
+  first_revision (suc n) count other rev = more (revision_tally settings t r) (suc (suc n)) (omega arith)
+      ∙ ap (λ b. t.node_in_first || b) (sym (none_first n t.present other))
+
+  first_other : (n : ℕ) → t.count ≡ n → is_node r ≡ false → is_revision r ≡ false
+      → (tally_behind settings (other_tally settings t) records).node_in_first
+      ≡ (t.node_in_first || first_has n t.present (r ∷ records))
+  first_other zero count other rev = more (other_tally settings t) zero count
+      ∙ ap (λ b. t.node_in_first || first_has_node (if b then group_of r records ∷ groups records else groups records))
+      (sym rev)
+  first_other (suc n) count other rev = more (other_tally settings t) (suc n) count
+      ∙ ap (λ b. t.node_in_first || b) (closed n ∙ sym (none_first n t.present other))
+    where
+      closed : (n : ℕ) → first_has (suc n) None records ≡ false
+      closed zero = refl
+      closed (suc n) = refl
+
+  node_first : (n : ℕ) (p : Option Present) → t.count ≡ n → t.present ≡ p → is_node r ≡ true → is_revision r ≡ false
+      → ((node_tally t (is_kept_node settings r) p).node_in_first
+      || first_has n (node_tally t (is_kept_node settings r) p).present records)
+      ≡ (t.node_in_first || first_has n p (r ∷ records))
+  node_first zero None count is node rev =
+      ap (λ b. t.node_in_first || first_has_node (if b then group_of r records ∷ groups records else groups records))
+      (sym rev)
+  node_first zero (Some p) count is node rev =
+      ap (λ b. b || first_has_node (groups records))
+      (ap (λ c. t.node_in_first || c == 1) count ∙ or_false t.node_in_first)
+      ∙ ap (λ b. t.node_in_first || first_has_node (if b then group_of r records ∷ groups records else groups records))
+      (sym rev)
+  node_first (suc zero) None count is node rev =
+      ap (λ q. t.node_in_first || first_has 1 q records) is
+  node_first (suc zero) (Some p) count is node rev =
+      ap (λ c. (t.node_in_first || c == 1) || not (length (nodes records) == 0)) count
+      ∙ (or_assoc t.node_in_first true (not (length (nodes records) == 0))
+      ∙ ap (λ b. t.node_in_first || not b) (sym (ap (λ (ns : List DumpRecord). length ns == 0) (nodes_more r records node)
+      ∙ not_zero (length (nodes records)))))
+  node_first (suc (suc n)) None count is node rev = refl
+  node_first (suc (suc n)) (Some p) count is node rev =
+      ap (λ b. b || false)
+      (ap (λ c. t.node_in_first || c == 1) count ∙ ap (λ b. t.node_in_first || b) (not_one n)
+      ∙ or_false t.node_in_first)
+
+  first_node : (n : ℕ) → t.count ≡ n → is_node r ≡ true → is_revision r ≡ false
+      → (tally_behind settings (node_tally t (is_kept_node settings r) t.present) records).node_in_first
+      ≡ (t.node_in_first || first_has n t.present (r ∷ records))
+  first_node n count node rev =
+      more (node_tally t (is_kept_node settings r) t.present) n
+      (node_count t (is_kept_node settings r) t.present ∙ count)
+      ∙ node_first n t.present count refl node rev
+
+  first_step : (n : ℕ) → t.count ≡ n → (v m : Bool) → is_revision r ≡ v → is_node r ≡ m → not (m && v) ≡ true
+      → (tally_behind settings (if v then revision_tally settings t r
+      else if m then node_tally t (is_kept_node settings r) t.present else other_tally settings t) records).node_in_first
+      ≡ (t.node_in_first || first_has n t.present (r ∷ records))
+  first_step n count true true rev node single = cc
+  first_step n count true false rev other single = first_revision n count other rev
+  first_step n count false true rev node single = first_node n count node rev
+  first_step n count false false rev other single = first_other n count other rev
+
+-- whether the first revision has a node, by the tally and by the groups
+first_is : (settings : Settings) (t : Tally) (records : List DumpRecord) → list_all is_single records ≡ true
+    → (n : ℕ) → t.count ≡ n
+    → (tally_behind settings t records).node_in_first ≡ (t.node_in_first || first_has n t.present records)
+first_is settings t [] single n count = sym (ap (λ b. t.node_in_first || b) (nothing n t.present) ∙ or_false t.node_in_first)
+  where
+    nothing : (n : ℕ) (p : Option Present) → first_has n p [] ≡ false
+    nothing zero p = refl
+    nothing (suc zero) None = refl
+    nothing (suc zero) (Some p) = refl
+    nothing (suc (suc n)) p = refl
+first_is settings t (r ∷ records) single n count =
+    let parts = and_parts (is_single r) (list_all is_single records) single in
+    first_step settings t r records (λ u m is. first_is settings u records parts.1 m is) n count (is_revision r)
+    (is_node r) refl refl parts.0
+
+zero_more : (n : ℕ) → 0 + n ≡ n
+zero_more n = omega arith
+
+or_not : (a b : Bool) → (not a && not b) ≡ not (a || b)
+or_not true b = refl
+or_not false b = refl
+
+-- what the tally of all records tells is found in the dump, finding by finding
+each_tallied : (settings : Settings) (records : List DumpRecord) → list_all is_single records ≡ true
+    → (f : DumpFinding)
+    → is_tallied settings (tally_behind settings no_tally records) f ≡ is_found_in_dump settings records f
+each_tallied settings records single DumpFinding.NoRevision =
+    ap (λ c. c == 0) (count_is settings no_tally records ∙ zero_more (length (groups records)))
+each_tallied settings records single DumpFinding.OtherNumbers = ap not (numbered_is settings no_tally records)
+each_tallied settings records single DumpFinding.NodeInFirst = first_is settings no_tally records single 0 refl
+each_tallied settings records single DumpFinding.NumbersLeft =
+    ap (λ b. not settings.renumber && not b) (kept_is settings no_tally records single)
+    ∙ or_not settings.renumber (list_all (keeps_group settings) (groups records))
+
+-- tests that are the same leave the same
+pub filter_same : {X : Type 0} (p q : X → Bool) → ((x : X) → p x ≡ q x) → (xs : List X) → filter p xs ≡ filter q xs
+filter_same p q same [] = refl
+filter_same p q same (x ∷ xs) =
+    ap₂ (λ b ys. cond b (x ∷ ys) ys) (same x) (filter_same p q same xs)
+
+-- so the tally tells what is found in the dump
+pub tally_tells : (settings : Settings) (records : List DumpRecord) → list_all is_single records ≡ true
+    → tally_findings settings (tally_behind settings no_tally records) ≡ dump_findings settings records
+tally_tells settings records single =
+    filter_same (λ f. is_tallied settings (tally_behind settings no_tally records) f)
+    (λ f. is_found_in_dump settings records f) (each_tallied settings records single) every_dump_finding

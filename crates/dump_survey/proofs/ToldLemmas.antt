@@ -1,0 +1,49 @@
+-- What is told of a node, finding by finding.
+use Rattle.std.proofs.Common.{◌≡◌, Bool, true, false, List, [], ◌∷◌, ◌++◌, map, filter, cond, refl, sym, ap, ◌∙◌, append_assoc}
+use Rattle.std.proofs.lemmas.List.{map-append}
+use Rattle.dump_history.specs.Findings.{Finding}
+use Rattle.dump_survey.specs.declared.finding.NodeFinding.{NodeFinding}
+use Rattle.dump_survey.specs.declared.finding.Found.{Found}
+use Rattle.dump_survey.specs.declared.told.Told.{Told}
+use Rattle.dump_survey.specs.Meaning.{meaning}
+use Rattle.dump_survey.specs.steps.Found.{has_found}
+use Rattle.dump_survey.specs.Told.{NodeTold, told_view}
+
+-- what is told of those of the findings that are found
+abbrev pub told_left : (Finding → NodeTold) → Found → List NodeFinding → List NodeTold
+told_left tell found left = map tell (filter (λ f. has_found found f) (map meaning left))
+
+module _ (tell : Finding → NodeTold) (found : Found) (finding : NodeFinding) (left : List NodeFinding) where
+  found_first : has_found found (meaning finding) ≡ true
+      → told_left tell found (finding ∷ left) ≡ tell (meaning finding) ∷ told_left tell found left
+  found_first is = by (has_found found (meaning finding)) is
+    where
+      by : (b : Bool) → b ≡ true → map tell (cond b
+          (meaning finding ∷ filter (λ f. has_found found f) (map meaning left))
+          (filter (λ f. has_found found f) (map meaning left)))
+          ≡ tell (meaning finding) ∷ told_left tell found left
+      by true is = refl
+      by false is = cc
+
+  -- what isn't found isn't told
+  pub not_told : has_found found (meaning finding) ≡ false
+      → told_left tell found (finding ∷ left) ≡ told_left tell found left
+  not_told is = by (has_found found (meaning finding)) is
+    where
+      by : (b : Bool) → b ≡ false → map tell (cond b
+          (meaning finding ∷ filter (λ f. has_found found f) (map meaning left))
+          (filter (λ f. has_found found f) (map meaning left)))
+          ≡ told_left tell found left
+      by true is = cc
+      by false is = refl
+
+  -- what is found is told next
+  pub told_next : (items : List Told) (told : Told) → has_found found (meaning finding) ≡ true
+      → told_view told ≡ tell (meaning finding)
+      → map told_view items ++ told_left tell found (finding ∷ left)
+      ≡ map told_view (items ++ told ∷ []) ++ told_left tell found left
+  told_next items told is view =
+      ap (λ l. map told_view items ++ l) (found_first is)
+      ∙ (sym (append_assoc (map told_view items) (tell (meaning finding) ∷ []) (told_left tell found left))
+      ∙ ap (λ l. l ++ told_left tell found left)
+      (ap (λ v. map told_view items ++ v ∷ []) (sym view) ∙ sym (map-append told_view items (told ∷ []))))

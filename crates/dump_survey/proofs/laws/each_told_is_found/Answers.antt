@@ -1,0 +1,8 @@
+use Rattle.dump_survey.proofs.TieLemmas.{told_are_findings, told_once}
+use Rattle.dump_survey.proofs.laws.each_told_is_found.Goals as goal
+
+pub returns-clause-found : goal.returns-clause-found
+returns-clause-found c = told_are_findings
+
+pub returns-clause-once : goal.returns-clause-once
+returns-clause-once c = told_once

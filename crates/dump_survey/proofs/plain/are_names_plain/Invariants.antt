@@ -1,0 +1,14 @@
+use Rattle.std.proofs.Common.{◌≡◌, List, not}
+use Rattle.std.specs.List.{list_all}
+use Rattle.dump_text.specs.HeaderLine.{has_byte}
+use Rattle.dump_text.specs.PropertyList.{Property, IsPropertyBlock}
+use Rattle.dump_text.specs.steps.PropertyViews.{props_bytes, HasEntriesLeft}
+use Rattle.dump_survey.proofs.plain.are_names_plain.Given as goal
+
+abbrev pub invariant-loop-entry : goal.invariant-loop-entry
+invariant-loop-entry l =
+    (goal.iterator-loop-entry).can_next l.entries × (goal.iterator-loop-entry).is_finite l.entries
+    × ((ps : List Property) → IsPropertyBlock (props_bytes l.props) ps
+    → (qs : List Property) × HasEntriesLeft l.entries qs
+    × (list_all (λ (p : Property). not (has_byte 0 p.name)) ps
+    ≡ list_all (λ (p : Property). not (has_byte 0 p.name)) qs))

@@ -1,0 +1,9 @@
+use Rattle.std.proofs.Common.{◌≡◌, length}
+use Rattle.dump_survey.specs.steps.Prefixes.{behind_slash}
+use Rattle.dump_survey.proofs.prefixes.behind.Given as goal
+
+abbrev pub invariant-loop-front : goal.invariant-loop-front
+invariant-loop-front l = behind_slash l.fn.front l.fn.text ≡ behind_slash l.front l.text
+
+abbrev pub decreases-loop-front : goal.decreases-loop-front
+decreases-loop-front l = length l.front

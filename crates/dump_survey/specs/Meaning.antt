@@ -1,0 +1,18 @@
+-- The words that the program has for findings.
+use Rattle.dump_history.specs.Findings.{Finding}
+use Rattle.dump_survey.specs.declared.finding.NodeFinding.{NodeFinding}
+use Rattle.dump_survey.specs.declared.finding.NodeFinding.TheVariants as findings
+
+-- the finding that a word of the program means
+abbrev pub meaning : NodeFinding → Finding
+meaning findings.UnreadBlock = Finding.UnreadBlock
+meaning findings.Delta = Finding.Delta
+meaning findings.UnknownAction = Finding.UnknownAction
+meaning findings.OddText = Finding.OddText
+meaning findings.NoWholeFile = Finding.NoWholeFile
+meaning findings.PropertiesLost = Finding.PropertiesLost
+meaning findings.CopyLoses = Finding.CopyLoses
+meaning findings.CopyLetsIn = Finding.CopyLetsIn
+meaning findings.FolderTakes = Finding.FolderTakes
+meaning findings.FolderBrings = Finding.FolderBrings
+meaning findings.TextComesIn = Finding.TextComesIn

@@ -1,0 +1,56 @@
+-- What a survey tells is what is found in the dump's nodes, group by group; and what follows where it tells nothing.
+use Rattle.std.specs.Prelude.{◌≡◌, ℕ, Bool, not, List, [], ◌∷◌, map, flat_map, Some, None, IsTrue}
+use Rattle.std.specs.List.{list_any}
+use Rattle.dump_records.specs.RecordText.{DumpRecord}
+use Rattle.dump_records.specs.DumpText.{Ending, HasRecords}
+use Rattle.dump_rules.specs.Settings.{Settings}
+use Rattle.dump_filter.specs.FilterLaws.{LengthsFit}
+use Rattle.dump_filter.specs.WholeText.{IsCleanText}
+use Rattle.dump_trees.specs.Trees.{Tree, root_alone}
+use Rattle.dump_trees.specs.Changes.{Change}
+use Rattle.dump_trees.specs.Quiet.{nowhere_is_over}
+use Rattle.dump_trees.specs.Revisions.{loaded_over}
+use Rattle.dump_history.specs.RecordChanges.{Patching}
+use Rattle.dump_history.specs.DumpChanges.{MakeRevisions}
+use Rattle.dump_history.specs.DumpLaws.{LoadsRestricted}
+use Rattle.dump_history.specs.Findings.{Finding, is_obstacle, is_alarm}
+use Rattle.dump_history.specs.SurveyLaws.{HaveFindings}
+use Rattle.dump_survey.specs.declared.survey.Survey.{Survey}
+use Rattle.dump_survey.specs.DumpFindings.{listed_findings}
+use Rattle.dump_survey.specs.Told.{NodeTold, told_view, AreTold}
+use Rattle.dump_survey.specs.Surveys.{IsSurveyOf}
+
+-- the findings of groups, node by node, as one list
+abbrev pub all_findings : List (List (List Finding)) → List Finding
+all_findings found = flat_map (λ fs. flat_map (λ node. node) fs) found
+
+-- the findings that are told of a dump's nodes are those of its groups' nodes, in order, and no others
+abbrev pub ToldAreFindings : Type 0
+ToldAreFindings = (settings : Settings) (dump : List ℕ) (records : List DumpRecord) (ending : Ending)
+    (told : List NodeTold) → HasRecords dump records ending → AreTold settings 0 None records told
+    → (found : List (List (List Finding))) × HaveFindings settings records found
+    × (map (λ (t : NodeTold). t.finding) told ≡ all_findings found)
+
+-- and a dump has one list of them
+abbrev pub ToldOnce : Type 0
+ToldOnce = (settings : Settings) (records : List DumpRecord) (told others : List NodeTold) →
+    AreTold settings 0 None records told → AreTold settings 0 None records others → others ≡ told
+
+-- whether none of the findings that are told is of this kind
+abbrev pub none_told : (Finding → Bool) → List NodeTold → Bool
+none_told test told = not (list_any test (map (λ (t : NodeTold). t.finding) told))
+
+-- where the filter's answer is clean, and a survey of the dump tells nothing of the whole, and no obstacle and no alarm
+-- of its nodes: the dump makes revisions, and if it loads and makes no copy that loses its source over something, what is
+-- written of it has the restricted trees
+abbrev pub SilentSurveyRestricts : Type 0
+SilentSurveyRestricts = (patched : Patching) (settings : Settings) (dump text : List ℕ) (records : List DumpRecord)
+    (survey : Survey) →
+    IsCleanText settings dump records text → LengthsFit settings records → IsSurveyOf settings dump survey
+    → listed_findings survey.end.dump ≡ []
+    → IsTrue (none_told is_obstacle (map told_view survey.told.items))
+    → IsTrue (none_told is_alarm (map told_view survey.told.items))
+    → (revisions : List (List Change)) × MakeRevisions patched records revisions
+    × ((trees : List Tree) → loaded_over root_alone revisions ≡ Some trees
+    → IsTrue (nowhere_is_over settings (root_alone ∷ []) root_alone revisions)
+    → LoadsRestricted patched settings records trees text)

@@ -1,0 +1,56 @@
+-- What a survey tells of a dump: each finding in a node of a revision, in order, and where it is.
+use Rattle.std.specs.Prelude.{◌≡◌, ℕ, ◌+◌, List, [], ◌∷◌, ◌++◌, map, Option, Some, None, if◌then◌else◌, MatchBool}
+use Rattle.dump_records.specs.RecordText.{DumpRecord}
+use Rattle.dump_rules.specs.Settings.{Settings}
+use Rattle.dump_digest.specs.RecordParts.{is_revision, is_node, node_path}
+use Rattle.dump_filter.specs.Groups.{revision_number}
+use Rattle.dump_history.specs.Findings.{Finding, AreFindingsOf}
+use Rattle.dump_survey.specs.Meaning.{meaning}
+use Rattle.dump_survey.specs.declared.told.Told.{Told}
+
+-- a finding in a node: the record's number and place, the number of the revision that it belongs to, and its path
+pub record NodeTold : Type 0 where
+  pub finding : Finding
+  pub number : ℕ
+  pub place : ℕ
+  pub revision : ℕ
+  pub path : List ℕ
+
+-- a finding as the program has it
+abbrev pub told_view : Told → NodeTold
+told_view t = record {
+  finding = meaning t.finding;
+  number = t.number;
+  place = t.place;
+  revision = t.revision;
+  path = t.path.now;
+}
+
+-- a finding in the node with this number, in this revision
+abbrev pub told_in : ℕ → ℕ → DumpRecord → Finding → NodeTold
+told_in number revision r finding = record {
+  finding = finding;
+  number = number;
+  place = r.place;
+  revision = revision;
+  path = node_path r;
+}
+
+-- the revision that a node belongs to which comes next, if there is one: behind a revision it is that one, and behind a
+-- node that node's
+abbrev pub opened : Option ℕ → DumpRecord → Option ℕ
+opened present r = if is_revision r then Some (revision_number r) else if is_node r then present else None
+
+-- this is told of the record with this number, where a node belongs to this revision
+abbrev pub IsToldOf : Settings → ℕ → Option ℕ → DumpRecord → List NodeTold → Type 0
+IsToldOf settings number None r told = told ≡ []
+IsToldOf settings number (Some revision) r told = MatchBool (is_node r)
+    ((found : List Finding) × AreFindingsOf settings r found × (told ≡ map (told_in number revision r) found))
+    (told ≡ [])
+
+-- this is told of the records, the first of which has this number
+abbrev pub AreTold : Settings → ℕ → Option ℕ → List DumpRecord → List NodeTold → Type 0
+AreTold settings number present [] told = told ≡ []
+AreTold settings number present (r ∷ records) told = (this others : List NodeTold) × (told ≡ this ++ others)
+    × IsToldOf settings number present r this
+    × AreTold settings (number + 1) (opened present r) records others

@@ -1,0 +1,30 @@
+-- What is found in a node, as the program has it.
+use Rattle.std.specs.Prelude.{◌≡◌, Bool, List, Option, filter}
+use Rattle.dump_text.specs.PropertyList.{Property}
+use Rattle.dump_records.specs.RecordText.{DumpRecord}
+use Rattle.dump_rules.specs.Settings.{Settings}
+use Rattle.dump_history.specs.Findings.{Finding, every_finding, is_found, IsReadBlock}
+use Rattle.dump_survey.specs.declared.finding.Found.{Found}
+
+-- whether this is among what is found
+abbrev pub has_found : Found → Finding → Bool
+has_found found Finding.UnreadBlock = found.obstacles.unread_block
+has_found found Finding.Delta = found.obstacles.delta
+has_found found Finding.UnknownAction = found.obstacles.unknown_action
+has_found found Finding.OddText = found.obstacles.odd_text
+has_found found Finding.NoWholeFile = found.losses.no_whole_file
+has_found found Finding.PropertiesLost = found.losses.properties_lost
+has_found found Finding.CopyLoses = found.losses.copy_loses
+has_found found Finding.CopyLetsIn = found.losses.copy_lets_in
+has_found found Finding.FolderTakes = found.losses.folder_takes
+has_found found Finding.FolderBrings = found.losses.folder_brings
+has_found found Finding.TextComesIn = found.losses.text_comes_in
+
+-- what is found is exactly what is found in the node
+abbrev pub IsFoundIn : Settings → DumpRecord → Found → Type 0
+IsFoundIn settings r found = (ps : Option (List Property)) → IsReadBlock r ps
+    → (finding : Finding) → has_found found finding ≡ is_found settings r ps finding
+
+-- what is found, in order
+abbrev pub listed : Found → List Finding
+listed found = filter (λ f. has_found found f) every_finding

@@ -1,0 +1,26 @@
+-- What keeps a node from making a change that can be told, and what the filter's cut does to it.
+use Rattle.std.specs.Prelude.{◌≡◌, not, List, [], Option, None, unwrap_or, is_none}
+use Rattle.dump_text.specs.PropertyList.{Property}
+use Rattle.dump_records.specs.RecordText.{DumpRecord}
+use Rattle.dump_rules.specs.Settings.{Settings}
+use Rattle.dump_history.specs.RecordChanges.{has_known_action, has_odd_delta, has_plain_texts}
+use Rattle.dump_history.specs.Findings.{Finding, is_found}
+use Rattle.dump_survey.specs.declared.finding.Obstacles.{Obstacles}
+use Rattle.dump_survey.specs.declared.finding.Losses.{Losses}
+
+-- the obstacles are those of the node, whose properties are these
+pub record AreObstaclesOf (r : DumpRecord) (ps : Option (List Property)) (o : Obstacles) : Type 0 where
+  pub unread_block : o.unread_block ≡ is_none ps
+  pub delta : o.delta ≡ has_odd_delta r
+  pub unknown_action : o.unknown_action ≡ not (has_known_action r)
+  pub odd_text : o.odd_text ≡ not (has_plain_texts r (unwrap_or ps []))
+
+-- the losses are those of the node; its properties don't count
+pub record AreLossesOf (settings : Settings) (r : DumpRecord) (l : Losses) : Type 0 where
+  pub no_whole_file : l.no_whole_file ≡ is_found settings r None Finding.NoWholeFile
+  pub properties_lost : l.properties_lost ≡ is_found settings r None Finding.PropertiesLost
+  pub copy_loses : l.copy_loses ≡ is_found settings r None Finding.CopyLoses
+  pub copy_lets_in : l.copy_lets_in ≡ is_found settings r None Finding.CopyLetsIn
+  pub folder_takes : l.folder_takes ≡ is_found settings r None Finding.FolderTakes
+  pub folder_brings : l.folder_brings ≡ is_found settings r None Finding.FolderBrings
+  pub text_comes_in : l.text_comes_in ≡ is_found settings r None Finding.TextComesIn

@@ -1,0 +1,59 @@
+-- What a surveyor gives, call by call.
+use Rattle.std.specs.Prelude.{◌≡◌, ◌⊎◌, ℕ, ◌+◌, true, false, List, [], ◌∷◌, ◌++◌, length, Option, Some, None, option_map}
+use Rattle.dump_records.specs.declared.record.Record.{Record}
+use Rattle.dump_records.specs.RecordText.{DumpRecord}
+use Rattle.dump_records.specs.DumpText.{BeginsWithRecords, HasRecords}
+use Rattle.dump_records.specs.steps.RecordViews.{record_item, record_number}
+use Rattle.dump_rules.specs.Settings.{Settings}
+use Rattle.dump_digest.specs.RecordParts.{is_node}
+use Rattle.dump_history.specs.Findings.{dump_findings}
+use Rattle.dump_survey.specs.declared.tally.Present.{Present}
+use Rattle.dump_survey.specs.declared.tally.Tally.{Tally}
+use Rattle.dump_survey.specs.declared.surveyor.End.{End}
+use Rattle.dump_survey.specs.declared.surveyor.Step.{Step}
+use Rattle.dump_survey.specs.declared.surveyor.Step.TheVariants.{Node, Other, Finished}
+use Rattle.dump_survey.specs.DumpFindings.{listed_findings}
+use Rattle.dump_survey.specs.steps.Found.{IsFoundIn}
+use Rattle.dump_survey.specs.Told.{opened, IsToldOf}
+use Rattle.dump_survey.specs.steps.Surveyed.{told_of_node}
+use Rattle.dump_survey.specs.SurveyEnds.{ending_of}
+use Rattle.dump_survey.specs.steps.Surveying.{Surveying}
+use Rattle.dump_survey.specs.steps.Tally.{tally_findings}
+
+-- the step is that of this record, where the present revision is this one
+abbrev pub IsStepOf : Settings → Record → Option Present → Step → Type 0
+IsStepOf settings item present (Node node) = (node.item ≡ item)
+    × (is_node (record_item item) ≡ true)
+    × (option_map (λ (p : Present). p.number) present ≡ Some node.revision)
+    × IsFoundIn settings (record_item item) node.found
+IsStepOf settings item present Other = (present ≡ None) ⊎ (is_node (record_item item) ≡ false)
+IsStepOf settings item present (Finished end) = ⊥
+
+-- the step tells this end, and what is found behind the records of the tally
+abbrev pub IsEndOf : Settings → Tally → End → Step → Type 0
+IsEndOf settings tally end (Finished told) =
+    (told.end ≡ end) × (listed_findings told.dump ≡ tally_findings settings tally)
+IsEndOf settings tally end _ = ⊥
+
+-- the revision that a node belongs to which comes behind these records, where it would have belonged to this one
+abbrev pub open_behind : Option ℕ → List DumpRecord → Option ℕ
+open_behind present [] = present
+open_behind present (r ∷ records) = open_behind (opened present r) records
+
+-- the record comes next in the dump
+pub record ComesNext (old : Surveying) (before : List DumpRecord) (r : DumpRecord) (new : Surveying) : Type 0 where
+  pub begins : BeginsWithRecords old.dump (before ++ r ∷ [])
+  pub count : length before ≡ old.number
+  pub next : new ≡ record old { number = old.number + 1 }
+
+-- a surveyor tells what is found in the next record, or again what is known at the end
+abbrev pub SurveyStep : Surveying → Step → Surveying → Type 0
+SurveyStep old (Node node) new = (before : List DumpRecord) × ComesNext old before (record_item node.item) new
+    × (record_number node.item ≡ old.number)
+    × IsToldOf old.settings old.number (open_behind None before) (record_item node.item) (told_of_node node)
+SurveyStep old Other new = (before : List DumpRecord) × (r : DumpRecord) × ComesNext old before r new
+    × IsToldOf old.settings old.number (open_behind None before) r []
+SurveyStep old (Finished end) new = (records : List DumpRecord) × HasRecords old.dump records (ending_of end.end)
+    × (length records ≡ old.number)
+    × (listed_findings end.dump ≡ dump_findings old.settings records)
+    × (new ≡ old)

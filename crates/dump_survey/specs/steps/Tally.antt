@@ -1,0 +1,67 @@
+-- What is known of the revisions of a dump, record by record.
+use Rattle.std.specs.Prelude.{◌+◌, ◌==◌, Bool, true, false, not, ◌&&◌, ◌||◌, List, [], ◌∷◌, filter, Option, Some, None, if◌then◌else◌}
+use Rattle.dump_records.specs.RecordText.{DumpRecord}
+use Rattle.dump_rules.specs.Settings.{Settings}
+use Rattle.dump_digest.specs.RecordParts.{is_revision, is_node, is_kept_node}
+use Rattle.dump_filter.specs.Groups.{revision_number, keeps_empty}
+use Rattle.dump_history.specs.Findings.{DumpFinding, every_dump_finding}
+use Rattle.dump_survey.specs.declared.tally.Present.{Present}
+use Rattle.dump_survey.specs.declared.tally.Tally.{Tally}
+
+-- before the first record
+abbrev pub no_tally : Tally
+no_tally = record { count = 0; numbered = true; node_in_first = false; all_kept = true; present = None }
+
+-- whether the present revision is kept, where it has no more nodes
+abbrev pub keeps_open : Settings → Option Present → Bool
+keeps_open settings None = true
+keeps_open settings (Some p) = p.number == 0 || p.kept || keeps_empty settings.empty p.bare
+
+-- whether each revision is kept, where the present one has no more nodes
+abbrev pub keeps_present : Settings → Tally → Bool
+keeps_present settings t = t.all_kept && keeps_open settings t.present
+
+-- behind a revision
+abbrev pub revision_tally : Settings → Tally → DumpRecord → Tally
+revision_tally settings t r = record {
+  count = t.count + 1;
+  numbered = t.numbered && revision_number r == t.count;
+  node_in_first = t.node_in_first;
+  all_kept = keeps_present settings t;
+  present = Some (record { number = revision_number r; bare = true; kept = false });
+}
+
+-- behind a node, which is kept or not
+abbrev pub node_tally : Tally → Bool → Option Present → Tally
+node_tally t kept None = t
+node_tally t kept (Some p) = record t {
+  node_in_first = t.node_in_first || t.count == 1;
+  present = Some (record { number = p.number; bare = false; kept = p.kept || kept });
+}
+
+-- behind another record
+abbrev pub other_tally : Settings → Tally → Tally
+other_tally settings t = record t { all_kept = keeps_present settings t; present = None }
+
+-- behind one more record
+abbrev pub next_tally : Settings → Tally → DumpRecord → Tally
+next_tally settings t r =
+    if is_revision r then revision_tally settings t r
+    else if is_node r then node_tally t (is_kept_node settings r) t.present
+    else other_tally settings t
+
+-- behind these records
+abbrev pub tally_behind : Settings → Tally → List DumpRecord → Tally
+tally_behind settings t [] = t
+tally_behind settings t (r ∷ records) = tally_behind settings (next_tally settings t r) records
+
+-- whether this is found in the dump, where it ends here
+abbrev pub is_tallied : Settings → Tally → DumpFinding → Bool
+is_tallied settings t DumpFinding.NoRevision = t.count == 0
+is_tallied settings t DumpFinding.OtherNumbers = not t.numbered
+is_tallied settings t DumpFinding.NodeInFirst = t.node_in_first
+is_tallied settings t DumpFinding.NumbersLeft = not settings.renumber && not (keeps_present settings t)
+
+-- what is found in the dump, where it ends here
+abbrev pub tally_findings : Settings → Tally → List DumpFinding
+tally_findings settings t = filter (λ f. is_tallied settings t f) every_dump_finding

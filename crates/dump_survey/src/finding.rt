@@ -1,0 +1,108 @@
+//! What can be found in a node.
+ghost use Rattle.std.specs.Prelude.{◌≡◌};
+ghost use Rattle.dump_survey.specs.Meaning.{meaning};
+ghost use Rattle.dump_survey.specs.steps.Found.{has_found};
+
+/// What can be found in a node.
+#[derive(Clone, Copy, Debug, PartialEq, Eq)]
+pub enum NodeFinding {
+    /// Its property block can't be read.
+    UnreadBlock,
+    /// It says that a part of it is a delta, where format version 3 isn't in force.
+    Delta,
+    /// It has no action, or an unknown one.
+    UnknownAction,
+    /// The load reads a text of it otherwise than it stands.
+    OddText,
+    /// The filter stops at it with fault 12.
+    NoWholeFile,
+    /// The properties of its left-out source may be lost.
+    PropertiesLost,
+    /// A copy of a kept path may lack what is left out below that path.
+    CopyLoses,
+    /// A copy of a kept path may let in what is to be left out below the copy.
+    CopyLetsIn,
+    /// A left-out folder is deleted, and may take with it what is kept below it.
+    FolderTakes,
+    /// A left-out folder is a copy, and may bring what is kept below it.
+    FolderBrings,
+    /// A kept file is a copy of a left-out one, whose text comes in with it.
+    TextComesIn,
+}
+
+/// Each of them, in the order in which they are told.
+pub const EVERY_FINDING: [NodeFinding; 11] = [
+    NodeFinding::UnreadBlock,
+    NodeFinding::Delta,
+    NodeFinding::UnknownAction,
+    NodeFinding::OddText,
+    NodeFinding::NoWholeFile,
+    NodeFinding::PropertiesLost,
+    NodeFinding::CopyLoses,
+    NodeFinding::CopyLetsIn,
+    NodeFinding::FolderTakes,
+    NodeFinding::FolderBrings,
+    NodeFinding::TextComesIn,
+];
+
+/// What keeps a node from making a change that can be told.
+#[derive(Clone, Copy, Debug, PartialEq, Eq)]
+pub(crate) struct Obstacles {
+    pub(crate) unread_block: bool,
+    pub(crate) delta: bool,
+    pub(crate) unknown_action: bool,
+    pub(crate) odd_text: bool,
+}
+
+/// What the filter's cut does to a node.
+#[derive(Clone, Copy, Debug, PartialEq, Eq)]
+pub(crate) struct Losses {
+    pub(crate) no_whole_file: bool,
+    pub(crate) properties_lost: bool,
+    pub(crate) copy_loses: bool,
+    pub(crate) copy_lets_in: bool,
+    pub(crate) folder_takes: bool,
+    pub(crate) folder_brings: bool,
+    pub(crate) text_comes_in: bool,
+}
+
+impl Losses {
+    /// Nothing is found.
+    pub(crate) const NONE: Losses = Losses {
+        no_whole_file: false,
+        properties_lost: false,
+        copy_loses: false,
+        copy_lets_in: false,
+        folder_takes: false,
+        folder_brings: false,
+        text_comes_in: false,
+    };
+}
+
+/// What is found in a node.
+#[derive(Clone, Copy, Debug, PartialEq, Eq)]
+pub struct Found {
+    pub(crate) obstacles: Obstacles,
+    pub(crate) losses: Losses,
+}
+
+impl Found {
+    /// Whether this is among it.
+    pub fn has(&self, finding: NodeFinding) -> bool
+        ensures { result ≡ has_found self.now (meaning finding) }
+    {
+        match finding {
+            NodeFinding::UnreadBlock => self.obstacles.unread_block,
+            NodeFinding::Delta => self.obstacles.delta,
+            NodeFinding::UnknownAction => self.obstacles.unknown_action,
+            NodeFinding::OddText => self.obstacles.odd_text,
+            NodeFinding::NoWholeFile => self.losses.no_whole_file,
+            NodeFinding::PropertiesLost => self.losses.properties_lost,
+            NodeFinding::CopyLoses => self.losses.copy_loses,
+            NodeFinding::CopyLetsIn => self.losses.copy_lets_in,
+            NodeFinding::FolderTakes => self.losses.folder_takes,
+            NodeFinding::FolderBrings => self.losses.folder_brings,
+            NodeFinding::TextComesIn => self.losses.text_comes_in,
+        }
+    }
+}

@@ -1,0 +1,52 @@
+//! A survey of a dump before it is filtered: each place where the repository that is loaded from the filtered dump may
+//! not be the one that is meant.
+//!
+//! A [`Surveyor`] reads a dump record by record, cut as the filter cuts it, and [`Surveyor::next`] gives what is found
+//! in each: of a node of a revision the [`Found`], which [`SurveyedNode::tell`] turns into one [`Told`] for each
+//! [`NodeFinding`], with the record's number and place, the revision and the path. Where the records end it gives
+//! what is found in the dump as a whole, [`DumpFindings`], and whether they end with the dump. [`survey_dump`] keeps all
+//! this in a [`Survey`].
+//!
+//! ```
+//! let survey = survey_dump(rt.alloc(), dump.as_slice(), &options)?;
+//! assert_eq!(rt; survey.told.len(), wanted.len(), "{node}");
+//! for (told, finding) in survey.told.iter().zip(wanted) {
+//!     assert_eq!(rt; told.finding, *finding, "{node}");
+//! }
+//! ```
+//!
+//! `tests::nodes::assert_found` runs this.
+//!
+//! What is found are the findings that `dump_history` defines, and [`laws`] says so: no others, none is missing, in the
+//! dump's order. They are told from header lines, properties and prefixes alone. No text of a file is read and no tree is
+//! built, so what is found may do no harm, where nothing stands below a path that is told. A node outside of any
+//! revision, which the filter refuses, is passed over.
+//!
+//! `Surveyor::new` takes memory for the list of the prefixes, and `next` where a prefix is excluded that lies below a
+//! copy or its source. No more is kept of a record when the next one comes. A copy asks each prefix once, so a survey
+//! takes time by the number of copies times that of prefixes.
+#![tactic(auto)]
+
+mod finding;
+pub mod laws;
+mod memory;
+mod names;
+mod node;
+mod plain;
+mod prefixes;
+mod slashes;
+mod survey;
+mod surveyor;
+mod tally;
+mod told;
+mod words;
+
+pub use finding::{EVERY_FINDING, Found, NodeFinding};
+pub use memory::Memory;
+pub use survey::{Survey, survey_dump};
+pub use surveyor::{End, Step, SurveyEnd, Surveyor};
+pub use tally::DumpFindings;
+pub use told::{SurveyedNode, Told};
+
+#[cfg(test)]
+mod tests;

@@ -1,0 +1,239 @@
+//! What is found in a node.
+ghost use Rattle.std.specs.Prelude.{◌≡◌, ◌&&◌, List, Option, [], IfOk, IsTrue, IsFalse, map, not, unwrap_or};
+ghost use Rattle.std.specs.List.{list_all};
+ghost use Rattle.dump_text.specs.HeaderLine.{has_byte};
+ghost use Rattle.dump_text.specs.PropertyList.{Property};
+ghost use Rattle.dump_records.specs.steps.RecordViews.{record_item};
+ghost use Rattle.dump_rules.specs.Prefix.{bare_prefix};
+ghost use Rattle.dump_digest.specs.RecordParts.{is_copy, is_node, node_path};
+ghost use Rattle.dump_digest.specs.steps.ContentViews.{ArePropertiesOf};
+ghost use Rattle.dump_filter.specs.NewHeaders.{is_whole_file};
+ghost use Rattle.dump_history.specs.RecordChanges.{copy_path, deletes, makes, has_plain_texts};
+ghost use Rattle.dump_history.specs.Findings.{has_kept_path, has_kept_source, is_exclude, makes_copy, IsReadBlock};
+ghost use Rattle.dump_survey.specs.steps.Found.{IsFoundIn};
+ghost use Rattle.dump_survey.specs.steps.Losses.{AreObstaclesOf, AreLossesOf};
+
+use crate::finding::{Found, Losses, Obstacles};
+use crate::memory::Memory;
+use crate::names::is_short;
+use crate::plain::{are_lines_plain, are_names_plain, properties_of};
+use crate::prefixes::Prefixes;
+use crate::words::{ADD, DELETE, REPLACE, action_of, has_odd_delta, is_known_action};
+use dump_records::Record;
+use dump_rules::{Options, Side, keeps};
+use dump_text::Props;
+use std::alloc::Global;
+
+/// The path of a node.
+pub(crate) fn path_of<'a>(item: &Record<'a>) -> &'a [u8]
+    ensures { result.now ≡ node_path (record_item item.now) }
+{
+    match item.path() {
+        Some(path) => path,
+        None => &[],
+    }
+}
+
+/// The path that a node is copied from; no bytes where it is no copy.
+fn copy_path_of<'a>(item: &Record<'a>) -> &'a [u8]
+    requires { IsTrue (is_node (record_item item.now)) }
+    ensures { result.now ≡ copy_path (record_item item.now) }
+{
+    match item.copy_path() {
+        Some(path) => path,
+        None => &[],
+    }
+}
+
+/// Whether no zero byte stands in the names of the record's properties, which may be no block.
+fn are_properties_plain(item: &Record<'_>, props: &Option<Props<'_>>) -> bool
+    requires { ArePropertiesOf (record_item item.now) props.now }
+    ensures { (ps : Option (List Property)) → IsReadBlock (record_item item.now) ps
+        → result ≡ list_all (λ (p : Property). not (has_byte 0 p.name)) (unwrap_or ps []) }
+{
+    match props {
+        Some(props) => are_names_plain(props),
+        None => true,
+    }
+}
+
+/// Whether the load reads the texts of a node, with these properties, as they stand.
+fn has_plain_texts(item: &Record<'_>, props: &Option<Props<'_>>) -> bool
+    requires node { IsTrue (is_node (record_item item.now)) }
+    requires props { ArePropertiesOf (record_item item.now) props.now }
+    ensures { (ps : Option (List Property)) → IsReadBlock (record_item item.now) ps
+        → result ≡ has_plain_texts (record_item item.now) (unwrap_or ps []) }
+{
+    let are_names = are_properties_plain(item, props);
+    are_lines_plain(item) & are_names & is_short(path_of(item)) & is_short(copy_path_of(item))
+}
+
+/// What keeps a node from making a change that can be told.
+fn obstacles_of(item: &Record<'_>) -> Obstacles
+    requires { IsTrue (is_node (record_item item.now)) }
+    ensures { (ps : Option (List Property)) → IsReadBlock (record_item item.now) ps
+        → AreObstaclesOf (record_item item.now) ps result }
+{
+    let props = properties_of(item);
+    Obstacles {
+        unread_block: props.is_none(),
+        delta: has_odd_delta(item),
+        unknown_action: !is_known_action(action_of(item)),
+        odd_text: !has_plain_texts(item, &props),
+    }
+}
+
+/// Whether the action deletes what stands at the path.
+fn deletes(item: &Record<'_>) -> bool
+    ensures { result ≡ deletes (record_item item.now) }
+{
+    let action = action_of(item);
+    action == DELETE || action == REPLACE
+}
+
+/// Whether the action makes something at the path.
+fn makes(item: &Record<'_>) -> bool
+    ensures { result ≡ makes (record_item item.now) }
+{
+    let action = action_of(item);
+    action == ADD || action == REPLACE
+}
+
+/// Whether the node is a file with its text and its properties, neither of them a delta.
+fn is_whole_file(item: &Record<'_>) -> bool
+    ensures { result ≡ is_whole_file (record_item item.now) }
+{
+    item.is_file() && item.has_text() && !item.text_delta() && !item.prop_delta()
+}
+
+/// Whether the node makes a copy.
+fn makes_copy(item: &Record<'_>) -> bool
+    requires { IsTrue (is_node (record_item item.now)) }
+    ensures { result ≡ makes_copy (record_item item.now) }
+{
+    makes(item) && is_copy(item)
+}
+
+/// Whether the node has a copy source.
+fn is_copy(item: &Record<'_>) -> bool
+    requires { IsTrue (is_node (record_item item.now)) }
+    ensures { result ≡ is_copy (record_item item.now) }
+{
+    item.copy_path().is_some()
+}
+
+/// Whether prefixes are excluded.
+fn is_exclude(options: &Options) -> bool
+    ensures { result ≡ is_exclude options.now.side }
+{
+    match options.side() {
+        Side::Include => false,
+        Side::Exclude => true,
+    }
+}
+
+/// What the cut does to a kept copy of a path that isn't kept.
+fn losses_of_lost(item: &Record<'_>, options: &Options) -> Losses
+    requires kept { IsTrue (has_kept_path options.now (record_item item.now)) }
+    requires copy { IsTrue (is_copy (record_item item.now)) }
+    requires lost { IsFalse (has_kept_source options.now (record_item item.now)) }
+    ensures { AreLossesOf options.now (record_item item.now) result }
+{
+    let makes = makes(item);
+    let whole = is_whole_file(item);
+    Losses {
+        no_whole_file: !whole,
+        properties_lost: makes & !item.has_props(),
+        text_comes_in: is_exclude(options) & makes & whole,
+        ..Losses::NONE
+    }
+}
+
+/// What the cut does to a kept copy of a path that is kept too.
+fn losses_of_copy(
+    alloc: Global,
+    item: &Record<'_>,
+    options: &Options,
+    prefixes: &Prefixes<'_>,
+) -> Result<Losses, Memory>
+    requires node { IsTrue (is_node (record_item item.now)) }
+    requires kept { IsTrue (has_kept_path options.now (record_item item.now)) }
+    requires copy { IsTrue (is_copy (record_item item.now)) }
+    requires source { IsTrue (has_kept_source options.now (record_item item.now)) }
+    requires prefixes { prefixes.now ≡ map bare_prefix options.now.prefixes }
+    ensures { IfOk result (λ losses. AreLossesOf options.now (record_item item.now) losses) }
+{
+    if !makes(item) {
+        return Ok(Losses::NONE);
+    }
+    let path = path_of(item);
+    let source = copy_path_of(item);
+    let copy_loses = prefixes.cut(alloc, options, source, path)?;
+    let copy_lets_in = prefixes.cut(alloc, options, path, source)?;
+    Ok(Losses {
+        copy_loses,
+        copy_lets_in,
+        ..Losses::NONE
+    })
+}
+
+/// What the cut does to a node whose path is kept.
+fn losses_of_kept(
+    alloc: Global,
+    item: &Record<'_>,
+    options: &Options,
+    prefixes: &Prefixes<'_>,
+) -> Result<Losses, Memory>
+    requires node { IsTrue (is_node (record_item item.now)) }
+    requires kept { IsTrue (has_kept_path options.now (record_item item.now)) }
+    requires prefixes { prefixes.now ≡ map bare_prefix options.now.prefixes }
+    ensures { IfOk result (λ losses. AreLossesOf options.now (record_item item.now) losses) }
+{
+    if !is_copy(item) {
+        return Ok(Losses::NONE);
+    }
+    if !keeps(options, copy_path_of(item)) {
+        return Ok(losses_of_lost(item, options));
+    }
+    losses_of_copy(alloc, item, options, prefixes)
+}
+
+/// What the cut does to a node whose path isn't kept.
+fn losses_of_left(item: &Record<'_>, options: &Options, prefixes: &Prefixes<'_>) -> Losses
+    requires node { IsTrue (is_node (record_item item.now)) }
+    requires left { IsFalse (has_kept_path options.now (record_item item.now)) }
+    requires prefixes { prefixes.now ≡ map bare_prefix options.now.prefixes }
+    ensures { AreLossesOf options.now (record_item item.now) result }
+{
+    let deletes = deletes(item);
+    let copies = makes_copy(item);
+    if !(deletes | copies) {
+        return Losses::NONE;
+    }
+    let above = prefixes.has_below(options, path_of(item));
+    Losses {
+        folder_takes: deletes & above,
+        folder_brings: copies & above,
+        ..Losses::NONE
+    }
+}
+
+/// What is found in a node.
+pub(crate) fn find(
+    alloc: Global,
+    item: &Record<'_>,
+    options: &Options,
+    prefixes: &Prefixes<'_>,
+) -> Result<Found, Memory>
+    requires node { IsTrue (is_node (record_item item.now)) }
+    requires prefixes { prefixes.now ≡ map bare_prefix options.now.prefixes }
+    ensures { IfOk result (λ found. IsFoundIn options.now (record_item item.now) found) }
+{
+    let obstacles = obstacles_of(item);
+    if !keeps(options, path_of(item)) {
+        let losses = losses_of_left(item, options, prefixes);
+        return Ok(Found { obstacles, losses });
+    }
+    let losses = losses_of_kept(alloc, item, options, prefixes)?;
+    Ok(Found { obstacles, losses })
+}

@@ -1,0 +1,68 @@
+//! Whether the load reads the texts of a node as they stand.
+ghost use Rattle.std.specs.Prelude.{◌≡◌, ◌↔◌, List, Option, not, unwrap_or, IsSome, IfSome};
+ghost use Rattle.std.specs.List.{list_all};
+ghost use Rattle.dump_text.specs.HeaderLine.{has_byte};
+ghost use Rattle.dump_text.specs.PropertyList.{IsPropertyBlock, Property};
+ghost use Rattle.dump_text.specs.steps.PropertyViews.{props_bytes};
+ghost use Rattle.dump_records.specs.steps.RecordViews.{record_item};
+ghost use Rattle.dump_digest.specs.RecordParts.{HasPropertyBlock, is_node, takes_deletes};
+ghost use Rattle.dump_digest.specs.steps.ContentViews.{ArePropertiesOf};
+ghost use Rattle.dump_history.specs.RecordChanges.{is_plain_line, has_plain_texts};
+ghost use Rattle.dump_history.specs.Findings.{IsReadBlock};
+
+use dump_records::Record;
+use dump_text::Props;
+
+/// Whether a zero byte stands in the text.
+fn has_zero(text: &[u8]) -> bool
+    ensures { result ≡ has_byte 0 text.now }
+{
+    text.contains(&0)
+}
+
+/// Whether properties may be deleted in the record's block: in a node under version 3.
+fn takes_deletes(item: &Record<'_>) -> bool
+    ensures { result ≡ takes_deletes (record_item item.now) }
+{
+    item.path().is_some() && item.version() == 3
+}
+
+/// The properties of the record, where they are a property block.
+pub(crate) fn properties_of<'a>(item: &Record<'a>) -> Option<Props<'a>>
+    ensures found { IsSome result ↔ HasPropertyBlock (record_item item.now) }
+    ensures bytes { IfSome result (λ props. props_bytes props ≡ (record_item item.now).props) }
+{
+    let bytes = item.property_bytes();
+    if takes_deletes(item) {
+        Props::read_with_deletes(bytes)
+    } else {
+        Props::read(bytes)
+    }
+}
+
+/// Whether no zero byte stands in the header lines.
+pub(crate) fn are_lines_plain(item: &Record<'_>) -> bool
+    ensures { result ≡ list_all is_plain_line (record_item item.now).headers }
+{
+    let mut lines = item.block().lines();
+    while let Some(line) = lines.next() {
+        if has_zero(line.name) || has_zero(line.value) {
+            return false;
+        }
+    }
+    true
+}
+
+/// Whether no zero byte stands in the names of the properties.
+pub(crate) fn are_names_plain(props: &Props<'_>) -> bool
+    ensures { (ps : List Property) → IsPropertyBlock (props_bytes props.now) ps
+        → result ≡ list_all (λ (p : Property). not (has_byte 0 p.name)) ps }
+{
+    let mut entries = props.entries();
+    while let Some(entry) = entries.next() {
+        if has_zero(entry.name) {
+            return false;
+        }
+    }
+    true
+}

@@ -1,0 +1,170 @@
+//! The prefixes below a path, and what they cut there.
+ghost use Rattle.std.specs.Prelude.{◌≡◌, ◌++◌, IfOk, OnOk, MatchOption, false, map, option_copied};
+ghost use Rattle.std.specs.List.{list_any};
+ghost use Rattle.dump_rules.specs.Prefix.{bare_prefix};
+ghost use Rattle.dump_trees.specs.Paths.{path_of, path_text};
+ghost use Rattle.dump_trees.specs.Restriction.{is_above_some};
+ghost use Rattle.dump_history.specs.Findings.{cuts};
+ghost use Rattle.dump_survey.specs.steps.Prefixes.{behind_slash, is_below, IsRestBelow, cuts_below};
+
+use crate::memory::Memory;
+use crate::slashes::{bare_path, bare_prefix};
+use dump_rules::{Options, Side, keeps};
+use std::alloc::Global;
+use std::marker::Model;
+
+/// The options' prefixes, in their order, without the slashes at their ends.
+#[derive(Drop)]
+pub(crate) struct Prefixes<'o> {
+    bare: Vec<&'o [u8]>,
+}
+
+impl<'o> Model for Prefixes<'o> {
+    ghost use Rattle.std.specs.Prelude.{ℕ, List, map};
+
+    ghost Value = { List (List ℕ) };
+
+    ghost view = { λ p. map (λ prefix. prefix.now) p.bare.items };
+}
+
+/// What stands in the text behind this front and a slash, if it begins so.
+fn behind<'t>(front: &[u8], text: &'t [u8]) -> Option<&'t [u8]>
+    ensures { option_copied result ≡ behind_slash front.now text.now }
+{
+    let mut front = front;
+    let mut text = text;
+    while let [wanted, more @ ..] = front {
+        let [byte, rest @ ..] = text else {
+            return None;
+        };
+        if *wanted != *byte {
+            return None;
+        }
+        front = more;
+        text = rest;
+    }
+    match text {
+        [b'/', rest @ ..] => Some(rest),
+        _ => None,
+    }
+}
+
+/// The rest of a bare prefix below the path, if it lies there. An empty prefix counts as below the root.
+fn rest_below<'p>(bare: &'p [u8], path: &[u8]) -> Option<&'p [u8]>
+    ensures { MatchOption result (is_below path.now bare.now ≡ false) (λ rest. IsRestBelow path.now bare.now rest.now) }
+{
+    let top = bare_path(path);
+    if top.is_empty() {
+        return Some(bare);
+    }
+    behind(top, bare)
+}
+
+/// Adds the text of the path, with a slash before each name.
+fn push_path(text: &mut Vec<u8>, path: &[u8]) -> Result<(), Memory>
+    ensures { OnOk result (text.new.items ≡ text.old.items ++ path_text (path_of path.now)) }
+{
+    let top = bare_path(path);
+    if top.is_empty() {
+        return Ok(());
+    }
+    text.push(b'/')?;
+    text.extend_from_slice(top)?;
+    Ok(())
+}
+
+/// Whether the bare prefix lies below the one path, and the same rest below the other one is kept.
+fn cuts_below(
+    alloc: Global,
+    options: &Options,
+    bare: &[u8],
+    path: &[u8],
+    other: &[u8],
+) -> Result<bool, Memory>
+    ensures { IfOk result (λ found. found ≡ cuts_below options.now path.now other.now bare.now) }
+{
+    let Some(rest) = rest_below(bare, path) else {
+        return Ok(false);
+    };
+    let mut text = Vec::new(alloc);
+    push_path(&mut text, other)?;
+    text.push(b'/')?;
+    text.extend_from_slice(rest)?;
+    Ok(keeps(options, &text))
+}
+
+/// Whether one of the bare prefixes lies below the path.
+fn has_some_below(bare: &[&[u8]], path: &[u8]) -> bool
+    ensures { result ≡ list_any (λ prefix. is_below path.now prefix.now) bare.now }
+{
+    let mut left = bare;
+    while let [prefix, others @ ..] = left {
+        if rest_below(prefix, path).is_some() {
+            return true;
+        }
+        left = others;
+    }
+    false
+}
+
+/// Whether one of the bare prefixes cuts below the one path what is kept below the other.
+fn has_some_cut(
+    alloc: Global,
+    options: &Options,
+    bare: &[&[u8]],
+    path: &[u8],
+    other: &[u8],
+) -> Result<bool, Memory>
+    ensures { IfOk result (λ found. found
+        ≡ list_any (λ prefix. cuts_below options.now path.now other.now prefix.now) bare.now) }
+{
+    let mut left = bare;
+    while let [prefix, others @ ..] = left {
+        if cuts_below(alloc, options, prefix, path, other)? {
+            return Ok(true);
+        }
+        left = others;
+    }
+    Ok(false)
+}
+
+impl<'o> Prefixes<'o> {
+    /// Those of the options.
+    pub(crate) fn of(alloc: Global, options: &'o Options) -> Result<Prefixes<'o>, Memory>
+        ensures { IfOk result (λ p. p ≡ map bare_prefix options.now.prefixes) }
+    {
+        let mut bare = Vec::new(alloc);
+        while let Some(prefix) = options.prefix(bare.len()) {
+            bare.push(bare_prefix(prefix))?;
+        }
+        Ok(Prefixes { bare })
+    }
+
+    /// Whether one lies below the path, where prefixes are included.
+    pub(crate) fn has_below(&self, options: &Options, path: &[u8]) -> bool
+        requires { self.now ≡ map bare_prefix options.now.prefixes }
+        ensures { result ≡ is_above_some options.now.side options.now.prefixes (path_of path.now) }
+    {
+        match options.side() {
+            Side::Include => has_some_below(&self.bare, path),
+            Side::Exclude => false,
+        }
+    }
+
+    /// Whether one cuts below the one path what is kept below the other.
+    pub(crate) fn cut(
+        &self,
+        alloc: Global,
+        options: &Options,
+        path: &[u8],
+        other: &[u8],
+    ) -> Result<bool, Memory>
+        requires { self.now ≡ map bare_prefix options.now.prefixes }
+        ensures { IfOk result (λ found. found ≡ cuts options.now path.now other.now) }
+    {
+        match options.side() {
+            Side::Include => Ok(false),
+            Side::Exclude => has_some_cut(alloc, options, &self.bare, path, other),
+        }
+    }
+}

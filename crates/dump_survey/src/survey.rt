@@ -1,0 +1,37 @@
+//! The survey of a whole dump.
+ghost use Rattle.std.specs.Prelude.{IfOk};
+ghost use Rattle.dump_survey.specs.Surveys.{IsSurveyOf};
+
+use crate::memory::Memory;
+use crate::surveyor::{Step, SurveyEnd, Surveyor};
+use crate::told::Told;
+use dump_rules::Options;
+use std::alloc::Global;
+
+/// All that is found in a dump.
+#[derive(Drop)]
+pub struct Survey<'a> {
+    /// What is found in its nodes, in their order.
+    pub told: Vec<Told<'a>>,
+    pub end: SurveyEnd,
+}
+
+/// Surveys a dump for the filter under these options. Its findings are kept in memory; who writes each as it is found
+/// asks a `Surveyor`.
+pub fn survey_dump<'a>(
+    alloc: Global,
+    dump: &'a [u8],
+    options: &Options,
+) -> Result<Survey<'a>, Memory>
+    ensures { IfOk result (λ survey. IsSurveyOf options.now dump.now survey) }
+{
+    let mut surveyor = Surveyor::new(alloc, dump, options)?;
+    let mut told = Vec::new(alloc);
+    loop {
+        match surveyor.next(alloc)? {
+            Step::Node(node) => node.tell(&mut told)?,
+            Step::Other => {}
+            Step::Finished(end) => return Ok(Survey { told, end }),
+        }
+    }
+}

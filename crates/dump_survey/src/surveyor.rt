@@ -1,0 +1,136 @@
+//! Surveys a dump, record by record.
+ghost use Rattle.std.specs.Prelude.{◌≡◌, ◌+◌, ◌<◌, ◌^◌, IfOk, map};
+ghost use Rattle.dump_records.specs.steps.RecordViews.{record_item};
+ghost use Rattle.dump_rules.specs.Prefix.{bare_prefix};
+ghost use Rattle.dump_survey.specs.steps.Steps.{IsStepOf, IsEndOf};
+
+use crate::memory::Memory;
+use crate::node::find;
+use crate::prefixes::Prefixes;
+use crate::tally::{DumpFindings, Tally};
+use crate::told::SurveyedNode;
+use dump_records::{Cut, Cutter, Record};
+use dump_rules::Options;
+use dump_text::FaultKind;
+use std::alloc::Global;
+use std::marker::Model;
+
+/// How the list of a dump's records ends.
+#[derive(Clone, Copy, Debug, PartialEq, Eq)]
+pub enum End {
+    /// With the dump.
+    Whole,
+    /// No record stands at this byte of the dump, for this fault.
+    Broken { kind: FaultKind, place: usize },
+}
+
+/// What is known where the records end.
+#[derive(Clone, Copy, Debug, PartialEq, Eq)]
+pub struct SurveyEnd {
+    /// What is found in the dump as a whole, up to its end.
+    pub dump: DumpFindings,
+    pub end: End,
+}
+
+/// What a surveyor gives.
+#[derive(Clone, Copy)]
+pub enum Step<'a> {
+    /// The next record is a node of a revision.
+    Node(SurveyedNode<'a>),
+    /// The next record is another one, of which nothing is told.
+    Other,
+    /// There is no further record.
+    Finished(SurveyEnd),
+}
+
+/// Gives what is found in each record of a dump, in their order.
+#[derive(Drop)]
+pub struct Surveyor<'o, 'a> {
+    cutter: Cutter<'a>,
+    options: &'o Options,
+    prefixes: Prefixes<'o>,
+    tally: Tally,
+}
+
+impl<'o, 'a> Model for Surveyor<'o, 'a> {
+    ghost use Rattle.dump_survey.specs.steps.Surveying.{Surveying, Surveys};
+
+    ghost Value = { Surveying };
+
+    ghost view = { λ s. record { dump = s.cutter.dump; settings = s.options.now; number = s.cutter.number } };
+
+    ghost invariant = { λ s. Surveys s.options.now s.prefixes s.tally s.cutter };
+}
+
+/// What is found in the next record, behind those of this tally.
+fn step_of<'a>(
+    alloc: Global,
+    item: Record<'a>,
+    options: &Options,
+    prefixes: &Prefixes<'_>,
+    tally: &Tally,
+) -> Result<Step<'a>, Memory>
+    requires { prefixes.now ≡ map bare_prefix options.now.prefixes }
+    ensures { IfOk result (λ step. IsStepOf options.now item.entry tally.now.present step) }
+{
+    let Some(present) = tally.present else {
+        return Ok(Step::Other);
+    };
+    if item.path().is_none() {
+        return Ok(Step::Other);
+    }
+    let found = find(alloc, &item, options, prefixes)?;
+    Ok(Step::Node(SurveyedNode {
+        item,
+        revision: present.number,
+        found,
+    }))
+}
+
+/// What is known behind the records of this tally, which end so.
+fn finished<'a>(options: &Options, tally: &Tally, end: End) -> Step<'a>
+    ensures { IsEndOf options.now tally.now end result }
+{
+    Step::Finished(SurveyEnd {
+        dump: tally.findings(options),
+        end,
+    })
+}
+
+impl<'o, 'a> Surveyor<'o, 'a> {
+    ghost use Rattle.dump_survey.specs.steps.Steps.{SurveyStep};
+
+    /// A surveyor at the front of the dump, for the filter under these options.
+    pub fn new(
+        alloc: Global,
+        dump: &'a [u8],
+        options: &'o Options,
+    ) -> Result<Surveyor<'o, 'a>, Memory>
+        ensures { IfOk result (λ s. s ≡ record { dump = dump.now; settings = options.now; number = 0 }) }
+    {
+        let prefixes = Prefixes::of(alloc, options)?;
+        Ok(Surveyor {
+            cutter: Cutter::new(dump),
+            options,
+            prefixes,
+            tally: Tally::new(),
+        })
+    }
+
+    /// What is found in the next record, or what is known where there is none; then it is told again. Where memory runs
+    /// out, the next call goes on behind the record.
+    pub fn next(&mut self, alloc: Global) -> Result<Step<'a>, Memory>
+        ensures { IfOk result (λ step. SurveyStep self.old step self.new) }
+    {
+        let item = match self.cutter.next() {
+            Cut::Item(item) => item,
+            Cut::Finished => return Ok(finished(self.options, &self.tally, End::Whole)),
+            Cut::Fault { kind, place } => {
+                return Ok(finished(self.options, &self.tally, End::Broken { kind, place }));
+            }
+        };
+        let before = self.tally;
+        self.tally = before.with(&item, self.options);
+        step_of(alloc, item, self.options, &self.prefixes, &before)
+    }
+}

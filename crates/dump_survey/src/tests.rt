@@ -1,0 +1,148 @@
+//! What no clause says: worked dumps with each finding once.
+use crate::laws::{each_silent_survey_restricts, each_told_is_found};
+use crate::{DumpFindings, End, Memory, NodeFinding, Survey, survey_dump};
+use dump_rules::{Empty, Options, Side};
+use dump_text::FaultKind;
+use std::alloc::Global;
+use std::test::Fail;
+
+mod nodes;
+
+fn rules(alloc: Global, side: Side, prefix: &str) -> Result<Options, Fail> {
+    let prefixes = [prefix.as_bytes()];
+    let options = Options::new(alloc, side, &prefixes, Empty::Pad, false, false, false)?;
+    Ok(options)
+}
+
+const NOTHING: DumpFindings = DumpFindings {
+    no_revision: false,
+    other_numbers: false,
+    node_in_first: false,
+    numbers_left: false,
+};
+
+// Whether the survey finds this in the dump as a whole, and the records end so.
+fn ends_with(survey: &Survey<'_>, dump: DumpFindings, end: End) -> bool {
+    survey.end.dump == dump && survey.end.end == end
+}
+
+const ONE_NODE: &[u8] = b"SVN-fs-dump-format-version: 2\n\n\
+Revision-number: 0\n\n\
+Revision-number: 7\n\n\
+Node-path: trunk//a\nNode-action: change\n\n\n";
+
+#[test]
+fn a_finding_is_told_with_its_place(rt: HostRuntime) -> Result<(), Fail> {
+    each_told_is_found();
+    each_silent_survey_restricts();
+    let options = rules(rt.alloc(), Side::Include, "trunk")?;
+    let survey = survey_dump(rt.alloc(), ONE_NODE, &options)?;
+    let [told] = survey.told.as_slice() else {
+        return Err("one finding is wanted".into());
+    };
+    assert_eq!(rt; told.finding, NodeFinding::OddText);
+    assert_eq!(rt; (told.number, told.place, told.revision), (3, 71, 7));
+    assert_eq!(rt; told.path, b"trunk//a".as_slice());
+    let found = DumpFindings {
+        other_numbers: true,
+        ..NOTHING
+    };
+    assert!(rt; ends_with(&survey, found, End::Whole));
+    Ok(())
+}
+
+#[test]
+fn what_is_found_in_a_dump_is_told_at_its_end(rt: HostRuntime) -> Result<(), Fail> {
+    let broken = End::Broken {
+        kind: FaultKind::HeaderCut,
+        place: 31,
+    };
+    let rows = [
+        ("", true, false, false, End::Whole),
+        ("Revision-number: 0", true, false, false, broken),
+        ("Revision-number: 0\n\n", false, false, false, End::Whole),
+        ("Revision-number: 1\n\n", false, true, false, End::Whole),
+        (
+            "Revision-number: 0\n\nNode-path: a\n\n",
+            false,
+            false,
+            true,
+            End::Whole,
+        ),
+        (
+            "Revision-number: 0\n\nUUID: a\n\nNode-path: a\n\n",
+            false,
+            false,
+            false,
+            End::Whole,
+        ),
+    ];
+    let options = rules(rt.alloc(), Side::Include, "trunk")?;
+    for (records, no_revision, other_numbers, node_in_first, end) in rows {
+        let dump = format!(in rt.alloc(); "SVN-fs-dump-format-version: 2\n\n{records}")?;
+        let survey = survey_dump(rt.alloc(), dump.as_bytes(), &options)?;
+        let found = DumpFindings {
+            no_revision,
+            other_numbers,
+            node_in_first,
+            numbers_left: false,
+        };
+        assert!(rt; ends_with(&survey, found, end), "{records}");
+    }
+    Ok(())
+}
+
+#[test]
+fn a_dropped_revision_leaves_the_others_their_numbers(rt: HostRuntime) -> Result<(), Fail> {
+    let rows = [
+        (Empty::Pad, false, false),
+        (Empty::DropEmptied, true, false),
+        (Empty::DropEmptied, false, true),
+    ];
+    for (empty, renumber, left) in rows {
+        let prefixes = [b"branches".as_slice()];
+        let options = Options::new(
+            rt.alloc(),
+            Side::Include,
+            &prefixes,
+            empty,
+            renumber,
+            false,
+            false,
+        )?;
+        let survey = survey_dump(rt.alloc(), ONE_NODE, &options)?;
+        assert_eq!(rt; survey.end.dump.numbers_left, left, "{empty:?} {renumber}");
+    }
+    Ok(())
+}
+
+const COPIED: &[u8] = b"SVN-fs-dump-format-version: 2\n\n\
+Revision-number: 0\n\n\
+Revision-number: 1\n\n\
+Node-path: b\nNode-kind: dir\nNode-action: add\nNode-copyfrom-rev: 0\nNode-copyfrom-path: t\n\n\n";
+
+// Run with each allocation refused in turn: all is told, or there is no memory.
+#[test]
+fn a_survey_or_no_memory(rt: HostRuntime) -> Result<(), Fail> {
+    let prefixes = [b"t/f".as_slice()];
+    let made = Options::new(
+        rt.alloc(),
+        Side::Exclude,
+        &prefixes,
+        Empty::Pad,
+        false,
+        false,
+        false,
+    );
+    let Ok(options) = made else {
+        return Ok(());
+    };
+    match survey_dump(rt.alloc(), COPIED, &options) {
+        Ok(survey) => {
+            assert_eq!(rt; survey.told.len(), 1);
+            assert!(rt; ends_with(&survey, NOTHING, End::Whole));
+        }
+        Err(refused) => assert_eq!(rt; refused, Memory),
+    }
+    Ok(())
+}

@@ -1,0 +1,64 @@
+//! What a survey tells of the nodes of a dump.
+ghost use Rattle.std.specs.Prelude.{◌≡◌, ◌++◌, OnOk, map};
+ghost use Rattle.dump_records.specs.steps.RecordViews.{record_item, record_number};
+ghost use Rattle.dump_survey.specs.Meaning.{meaning};
+ghost use Rattle.dump_survey.specs.Told.{told_view, told_in};
+ghost use Rattle.dump_survey.specs.steps.Surveyed.{told_of_node};
+
+use crate::finding::{EVERY_FINDING, Found, NodeFinding};
+use crate::memory::Memory;
+use crate::node::path_of;
+use dump_records::Record;
+
+/// A finding in a node, and where that is.
+#[derive(Clone, Copy, Debug, PartialEq, Eq)]
+pub struct Told<'a> {
+    pub finding: NodeFinding,
+    /// The number of the node's record in the dump, from 0.
+    pub number: u64,
+    /// The byte of the dump at which the record begins.
+    pub place: usize,
+    /// The number of the revision that the node belongs to.
+    pub revision: u64,
+    /// The node's path, as it stands.
+    pub path: &'a [u8],
+}
+
+/// A node of a revision, and what is found in it.
+#[derive(Clone, Copy)]
+pub struct SurveyedNode<'a> {
+    pub item: Record<'a>,
+    /// The number of the revision that it belongs to.
+    pub revision: u64,
+    pub found: Found,
+}
+
+impl<'a> SurveyedNode<'a> {
+    /// A finding as it is told of the node.
+    fn told(&self, finding: NodeFinding) -> Told<'a>
+        ensures { told_view result ≡ told_in (record_number self.now.item) self.now.revision (record_item self.now.item)
+            (meaning finding) }
+    {
+        Told {
+            finding,
+            number: self.item.number(),
+            place: self.item.place(),
+            revision: self.revision,
+            path: path_of(&self.item),
+        }
+    }
+
+    /// Adds what is found in the node to what is told already.
+    pub fn tell(&self, told: &mut Vec<Told<'a>>) -> Result<(), Memory>
+        ensures { OnOk result (map told_view told.new.items ≡ map told_view told.old.items ++ told_of_node self.now) }
+    {
+        let mut left = EVERY_FINDING.as_slice();
+        while let [finding, others @ ..] = left {
+            if self.found.has(*finding) {
+                told.push(self.told(*finding))?;
+            }
+            left = others;
+        }
+        Ok(())
+    }
+}
