@@ -7,6 +7,7 @@
 # make case       runs the case that NAME names
 # make bench      measures the program on made dumps, beside the filter on one thread, md5sum, sha1sum, cat and, where it
 #                 is installed, the stock svndumpfilter
+# make soak       runs the program ten thousand times on random dumps by random plans, beside the filter on one thread
 # make install    puts the program, its manual page and documents under $(DESTDIR)$(PREFIX), by the name $(NAME); what
 #                 somebody else put there is overwritten with FORCE=1 alone
 # make uninstall  takes away what was so put, and nothing else
@@ -23,7 +24,7 @@ PLAIN := build/run_plain
 INSTALLED := PREFIX="$(PREFIX)" DESTDIR="$(DESTDIR)" NAME="$(NAME)" FORCE="$(FORCE)" tools/installed
 SOURCES := $(shell tools/sources)
 
-.PHONY: all toolchain test suites gate check case bench install uninstall deb clean
+.PHONY: all toolchain test suites gate check case bench soak install uninstall deb clean
 .DELETE_ON_ERROR:
 
 all: $(PROGRAM)
@@ -78,6 +79,9 @@ $(PLAIN): $(PROGRAM) bench/plain bench/run_plain.rt.in
 
 bench: $(PROGRAM) $(PLAIN)
 	bench/measure $(PROGRAM) $(PLAIN)
+
+soak: $(PROGRAM) $(PLAIN)
+	bench/soak
 
 install: $(PROGRAM)
 	@$(INSTALLED) put
