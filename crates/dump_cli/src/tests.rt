@@ -44,7 +44,10 @@ fn input_is_read_whole(rt: HostRuntime) -> Result<(), Fail> {
     for size in [0, 3, 200_000, 1 << 62, u64::MAX] {
         let mut reader = long.as_slice();
         let input = read_all(alloc, &mut reader, size)?;
-        assert!(rt; input.as_slice() == long.as_slice(), "where it was thought to be {size}");
+        assert!(rt;
+            input.as_slice() == long.as_slice(),
+            "where it was thought to be {size}"
+        );
         assert!(rt; reader.is_empty());
     }
     Ok(())

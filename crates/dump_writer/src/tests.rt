@@ -251,7 +251,11 @@ fn a_worn_out_sink_takes_nothing(rt: HostRuntime) -> Result<(), Fail> {
 fn a_refused_growth_changes_nothing(rt: HostRuntime) {
     let mut piece = Piece::new(rt.alloc());
     assert_eq!(rt; piece.push(Chunk::Lent(b"a")), Ok(()), "takes no memory");
-    assert_eq!(rt; piece.push(Chunk::Lent(b"b")), Ok(()), "nor does the second");
+    assert_eq!(rt;
+        piece.push(Chunk::Lent(b"b")),
+        Ok(()),
+        "nor does the second"
+    );
     let pushed = piece.push(Chunk::Lent(b"c"));
     assert_eq!(rt; piece.chunks().len(), 2 + usize::from(pushed == Ok(())));
     assert!(rt; pushed == Ok(()) || pushed == Err(Memory));
