@@ -1,3 +1,4 @@
+pub mod LineLemmas
 pub mod LossLemmas
 pub mod NameLemmas
 pub mod NodeLemmas
@@ -5,7 +6,9 @@ pub mod PlainLemmas
 pub mod PrefixLemmas
 pub mod SilentLemmas
 pub mod SurveyLemmas
+pub mod SurveyTextLemmas
 pub mod SurveyorLemmas
 pub mod TallyLemmas
 pub mod TieLemmas
 pub mod ToldLemmas
+pub mod WritingLemmas

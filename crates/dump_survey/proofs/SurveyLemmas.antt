@@ -1,30 +1,29 @@
 -- What a survey has told so far goes on to one more record.
-use Rattle.std.proofs.Common.{◌≡◌, ℕ, ◌+◌, ◌-◌, ◌<◌, List, [], ◌∷◌, ◌++◌, length, length-append, map, Option, None, refl, sym, ap, ◌∙◌, subst, arith, append-nil, append_assoc}
+use Rattle.std.proofs.Common.{◌≡◌, ℕ, ◌+◌, ◌≤◌, List, [], ◌∷◌, ◌++◌, length, length-append, Option, None, refl, sym, ap, ap₂, ◌∙◌, subst, arith, append-nil, append_assoc}
 use Rattle.dump_records.specs.RecordText.{DumpRecord}
 use Rattle.dump_records.specs.DumpText.{BeginsWithRecords, HasRecords}
 use Rattle.dump_records.proofs.Prefixes.{begins_prefix, begins_once}
 use Rattle.dump_records.proofs.CutLemmas.{count_fits}
 use Rattle.dump_rules.specs.Settings.{Settings}
 use Rattle.dump_history.specs.Findings.{dump_findings}
-use Rattle.dump_survey.specs.declared.told.Told.{Told}
 use Rattle.dump_survey.specs.declared.surveyor.Step.TheVariants.{Node, Other, Finished}
 use Rattle.dump_survey.specs.declared.told.SurveyedNode.{SurveyedNode}
-use Rattle.dump_survey.specs.declared.survey.Survey.{Survey}
-use Rattle.dump_survey.specs.Told.{NodeTold, told_view, opened, IsToldOf, AreTold}
+use Rattle.dump_survey.specs.declared.surveyor.SurveyEnd.{SurveyEnd}
+use Rattle.dump_survey.specs.DumpFindings.{listed_findings}
+use Rattle.dump_survey.specs.Told.{NodeTold, opened, IsToldOf, AreTold}
 use Rattle.dump_survey.specs.steps.Surveyed.{told_of_node}
-use Rattle.dump_survey.specs.Surveys.{IsSurveyOf}
 use Rattle.dump_survey.specs.SurveyEnds.{ending_of}
 use Rattle.dump_survey.specs.steps.Surveying.{Surveying}
 use Rattle.dump_survey.specs.steps.Steps.{ComesNext, open_behind, SurveyStep}
 
 -- the surveyor is at a place of this dump, and this was told of the records before it
-pub record HaveTold (settings : Settings) (dump : List ℕ) (state : Surveying) (items : List Told) : Type 0 where
+pub record HaveTold (settings : Settings) (dump : List ℕ) (state : Surveying) (so_far : List NodeTold) : Type 0 where
   pub dump_is : state.dump ≡ dump
   pub settings_is : state.settings ≡ settings
   pub before : List DumpRecord
   pub begins : BeginsWithRecords dump before
   pub count : length before ≡ state.number
-  pub told : AreTold settings 0 None before (map told_view items)
+  pub told : AreTold settings 0 None before so_far
 
 -- what is told of records and of one more
 told_more : (settings : Settings) (number : ℕ) (present : Option ℕ) (records : List DumpRecord) (r : DumpRecord)
@@ -48,20 +47,19 @@ told_more settings number present (x ∷ records) r told this (first, others, al
       (let e : number + length (x ∷ records) ≡ number + 1 + length records = omega arith in e) is),
 )
 
-module _ (settings : Settings) (dump : List ℕ) (state after : Surveying) (items : List Told)
-    (so_far : HaveTold settings dump state items) where
+module _ (settings : Settings) (dump : List ℕ) (state after : Surveying) (told : List NodeTold)
+    (so_far : HaveTold settings dump state told) where
   -- the records before the next one are those that were told
-  same_before : (before : List DumpRecord) (r : DumpRecord) → ComesNext state before r after → before ≡ so_far.before
+  pub same_before : (before : List DumpRecord) (r : DumpRecord) → ComesNext state before r after → before ≡ so_far.before
   same_before before r next = begins_once dump before so_far.before (next.count ∙ sym so_far.count)
       (begins_prefix dump before (r ∷ []) (subst (λ d. BeginsWithRecords d (before ++ r ∷ [])) so_far.dump_is next.begins))
       so_far.begins
 
-  more : (before : List DumpRecord) (r : DumpRecord) (this : List NodeTold) (all : List Told)
+  more : (before : List DumpRecord) (r : DumpRecord) (this : List NodeTold)
       → ComesNext state before r after
       → IsToldOf state.settings state.number (open_behind None before) r this
-      → map told_view all ≡ map told_view items ++ this
-      → HaveTold settings dump after all
-  more before r this all next is told_is =
+      → HaveTold settings dump after (told ++ this)
+  more before r this next is =
       let same = same_before before r next in record {
         dump_is = ap (λ (s : Surveying). s.dump) next.next ∙ so_far.dump_is;
         settings_is = ap (λ (s : Surveying). s.settings) next.next ∙ so_far.settings_is;
@@ -69,51 +67,48 @@ module _ (settings : Settings) (dump : List ℕ) (state after : Surveying) (item
         begins = subst (λ d. BeginsWithRecords d (before ++ r ∷ [])) so_far.dump_is next.begins;
         count = length-append before (r ∷ [])
             ∙ (ap (λ n. n + 1) next.count ∙ sym (ap (λ (s : Surveying). s.number) next.next));
-        told = subst (AreTold settings 0 None (before ++ r ∷ [])) (sym told_is)
-            (told_more settings 0 None before r (map told_view items) this
-            (subst (λ l. AreTold settings 0 None l (map told_view items)) (sym same) so_far.told)
+        told = told_more settings 0 None before r told this
+            (subst (λ l. AreTold settings 0 None l told) (sym same) so_far.told)
             (subst (λ n. IsToldOf settings n (open_behind None before) r this)
             (let count = next.count in let e : state.number ≡ 0 + length before = omega arith in e)
-            (subst (λ s. IsToldOf s state.number (open_behind None before) r this) so_far.settings_is is)));
+            (subst (λ s. IsToldOf s state.number (open_behind None before) r this) so_far.settings_is is));
       }
 
   -- a node's findings are told
-  pub node_told : (node : SurveyedNode) (all : List Told) → SurveyStep state (Node node) after
-      → map told_view all ≡ map told_view items ++ told_of_node node → HaveTold settings dump after all
-  node_told node all (before, next, number, is) told_is = more before _ (told_of_node node) all next is told_is
+  pub node_told : (node : SurveyedNode) → SurveyStep state (Node node) after
+      → HaveTold settings dump after (told ++ told_of_node node)
+  node_told node (before, next, number, node_is, is) = more before _ (told_of_node node) next is
 
   -- nothing is told of another record
-  pub nothing_told : SurveyStep state Other after → HaveTold settings dump after items
-  nothing_told (before, r, next, is) = more before r [] items next is (sym (append-nil (map told_view items)))
+  pub nothing_told : SurveyStep state Other after → HaveTold settings dump after told
+  nothing_told (before, r, next, is) = subst (HaveTold settings dump after) (append-nil told) (more before r [] next is)
 
   -- one more record is nearer to the end
   nearer : (before : List DumpRecord) (r : DumpRecord) → ComesNext state before r after
-      → length dump - after.number < length dump - state.number
+      → (after.number ≡ state.number + 1) × (after.number ≤ length dump)
   nearer before r next =
       let begins = subst (λ d. BeginsWithRecords d (before ++ r ∷ [])) so_far.dump_is next.begins in
       let fits = count_fits 0 0 dump begins.0 (before ++ r ∷ []) begins.1 in
       let size = length-append before (r ∷ []) in
       let count = next.count in
       let number = ap (λ (s : Surveying). s.number) next.next in
-      omega arith
+      (number, omega arith)
 
   pub node_nearer : (node : SurveyedNode) → SurveyStep state (Node node) after
-      → length dump - after.number < length dump - state.number
-  node_nearer node (before, next, number, is) = nearer before _ next
+      → (after.number ≡ state.number + 1) × (after.number ≤ length dump)
+  node_nearer node (before, next, number, node_is, is) = nearer before _ next
 
-  pub other_nearer : SurveyStep state Other after → length dump - after.number < length dump - state.number
+  pub other_nearer : SurveyStep state Other after → (after.number ≡ state.number + 1) × (after.number ≤ length dump)
   other_nearer (before, r, next, is) = nearer before r next
 
-  -- where the records end the survey is whole
-  pub all_told : (survey : Survey) → survey.told.items ≡ items → SurveyStep state (Finished survey.end) after
-      → IsSurveyOf settings dump survey
-  all_told survey same (records, has, count, found, next) =
-      let here = subst (λ d. HasRecords d records (ending_of survey.end.end)) so_far.dump_is has in
+  -- where the records end all are told
+  pub all_told : (end : SurveyEnd) → SurveyStep state (Finished end) after
+      → HasRecords dump so_far.before (ending_of end.end)
+      × (listed_findings end.dump ≡ dump_findings settings so_far.before)
+  all_told end (records, has, count, found, next) =
+      let here = subst (λ d. HasRecords d records (ending_of end.end)) so_far.dump_is has in
       let all : records ≡ so_far.before = begins_once dump records so_far.before (count ∙ sym so_far.count)
-      (here.0, here.1, here.2) so_far.begins in record {
-        records = records;
-        has = here;
-        told = subst (λ l. AreTold settings 0 None l (map told_view survey.told.items)) (sym all)
-            (subst (λ l. AreTold settings 0 None so_far.before (map told_view l)) (sym same) so_far.told);
-        found = found ∙ ap (λ s. dump_findings s records) so_far.settings_is;
-      }
+      (here.0, here.1, here.2) so_far.begins in (
+        subst (λ l. HasRecords dump l (ending_of end.end)) all here,
+        found ∙ ap₂ dump_findings so_far.settings_is all,
+      )

@@ -176,6 +176,7 @@ module _ (settings : Settings) (prefixes : List (List ℕ)) (tally : Tally) (cut
       knows.before,
       subst (λ (i : Record). ComesNext (seen cutter) knows.before (record_item i) (seen after)) (sym same) comes,
       number,
+      node_is,
       subst (λ (p : Option ℕ). IsToldOf settings cutter.number p r (told_of_node node)) (sym revision ∙ present)
           (told_of settings cutter.number node.revision r (listed node.found) (told_of_node node) node_is
           (found_is settings r node.found

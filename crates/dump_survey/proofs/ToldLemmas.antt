@@ -1,5 +1,5 @@
 -- What is told of a node, finding by finding.
-use Rattle.std.proofs.Common.{◌≡◌, Bool, true, false, List, [], ◌∷◌, ◌++◌, map, filter, cond, refl, sym, ap, ◌∙◌, append_assoc}
+use Rattle.std.proofs.Common.{◌≡◌, ℕ, Bool, true, false, List, [], ◌∷◌, ◌++◌, map, flat_map, filter, cond, refl, sym, ap, ◌∙◌, append_assoc}
 use Rattle.std.proofs.lemmas.List.{map-append}
 use Rattle.dump_history.specs.Findings.{Finding}
 use Rattle.dump_survey.specs.declared.finding.NodeFinding.{NodeFinding}
@@ -7,6 +7,7 @@ use Rattle.dump_survey.specs.declared.finding.Found.{Found}
 use Rattle.dump_survey.specs.declared.told.Told.{Told}
 use Rattle.dump_survey.specs.Meaning.{meaning}
 use Rattle.dump_survey.specs.steps.Found.{has_found}
+use Rattle.dump_survey.specs.Lines.{node_line}
 use Rattle.dump_survey.specs.Told.{NodeTold, told_view}
 
 -- what is told of those of the findings that are found
@@ -47,3 +48,19 @@ module _ (tell : Finding → NodeTold) (found : Found) (finding : NodeFinding) (
       ∙ (sym (append_assoc (map told_view items) (tell (meaning finding) ∷ []) (told_left tell found left))
       ∙ ap (λ l. l ++ told_left tell found left)
       (ap (λ v. map told_view items ++ v ∷ []) (sym view) ∙ sym (map-append told_view items (told ∷ []))))
+
+  -- and its line is next
+  pub next_line : (all old new : List ℕ) → has_found found (meaning finding) ≡ true
+      → all ≡ old ++ flat_map node_line (told_left tell found (finding ∷ left))
+      → new ≡ old ++ node_line (tell (meaning finding))
+      → all ≡ new ++ flat_map node_line (told_left tell found left)
+  next_line all old new is so_far more =
+      so_far ∙ (ap (λ l. old ++ flat_map node_line l) (found_first is)
+      ∙ (sym (append_assoc old (node_line (tell (meaning finding))) (flat_map node_line (told_left tell found left)))
+      ∙ ap (λ l. l ++ flat_map node_line (told_left tell found left)) (sym more)))
+
+  -- what isn't found has no line
+  pub no_line : (all old : List ℕ) → has_found found (meaning finding) ≡ false
+      → all ≡ old ++ flat_map node_line (told_left tell found (finding ∷ left))
+      → all ≡ old ++ flat_map node_line (told_left tell found left)
+  no_line all old is so_far = so_far ∙ ap (λ l. old ++ flat_map node_line l) (not_told is)

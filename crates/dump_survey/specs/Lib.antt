@@ -1,6 +1,8 @@
 pub mod DumpFindings
+pub mod Lines
 pub mod Meaning
 pub mod SurveyEnds
+pub mod SurveyText
 pub mod SurveyTies
 pub mod Surveys
 pub mod Told

@@ -1,29 +1,28 @@
 -- What a survey tells of a dump: each finding in a node of a revision, in order, and where it is.
 use Rattle.std.specs.Prelude.{◌≡◌, ℕ, ◌+◌, List, [], ◌∷◌, ◌++◌, map, Option, Some, None, if◌then◌else◌, MatchBool}
 use Rattle.dump_records.specs.RecordText.{DumpRecord}
+use Rattle.dump_records.specs.steps.RecordViews.{record_item, record_number}
 use Rattle.dump_rules.specs.Settings.{Settings}
-use Rattle.dump_digest.specs.RecordParts.{is_revision, is_node, node_path}
+use Rattle.dump_digest.specs.RecordParts.{is_revision, is_node}
 use Rattle.dump_filter.specs.Groups.{revision_number}
 use Rattle.dump_history.specs.Findings.{Finding, AreFindingsOf}
 use Rattle.dump_survey.specs.Meaning.{meaning}
 use Rattle.dump_survey.specs.declared.told.Told.{Told}
 
--- a finding in a node: the record's number and place, the number of the revision that it belongs to, and its path
+-- a finding in a node: the record and its number, and the number of the revision that it belongs to
 pub record NodeTold : Type 0 where
   pub finding : Finding
   pub number : ℕ
-  pub place : ℕ
   pub revision : ℕ
-  pub path : List ℕ
+  pub item : DumpRecord
 
 -- a finding as the program has it
 abbrev pub told_view : Told → NodeTold
 told_view t = record {
   finding = meaning t.finding;
-  number = t.number;
-  place = t.place;
+  number = record_number t.item;
   revision = t.revision;
-  path = t.path.now;
+  item = record_item t.item;
 }
 
 -- a finding in the node with this number, in this revision
@@ -31,9 +30,8 @@ abbrev pub told_in : ℕ → ℕ → DumpRecord → Finding → NodeTold
 told_in number revision r finding = record {
   finding = finding;
   number = number;
-  place = r.place;
   revision = revision;
-  path = node_path r;
+  item = r;
 }
 
 -- the revision that a node belongs to which comes next, if there is one: behind a revision it is that one, and behind a

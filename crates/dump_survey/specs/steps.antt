@@ -6,3 +6,4 @@ pub mod Steps
 pub mod Surveyed
 pub mod Surveying
 pub mod Tally
+pub mod Writing

@@ -29,6 +29,7 @@
 
 mod finding;
 pub mod laws;
+mod lines;
 mod memory;
 mod names;
 mod node;
@@ -40,6 +41,7 @@ mod surveyor;
 mod tally;
 mod told;
 mod words;
+mod writing;
 
 pub use finding::{EVERY_FINDING, Found, NodeFinding};
 pub use memory::Memory;
@@ -47,6 +49,7 @@ pub use survey::{Survey, survey_dump};
 pub use surveyor::{End, Step, SurveyEnd, Surveyor};
 pub use tally::DumpFindings;
 pub use told::{SurveyedNode, Told};
+pub use writing::{SurveyFailure, write_survey};
 
 #[cfg(test)]
 mod tests;

@@ -1,8 +1,10 @@
 //! What is found in a node.
 ghost use Rattle.std.specs.Prelude.{◌≡◌, ◌&&◌, List, Option, [], IfOk, IsTrue, IsFalse, map, not, unwrap_or};
 ghost use Rattle.std.specs.List.{list_all};
+ghost use Rattle.dump_text.specs.Names.{copy_revision_name};
 ghost use Rattle.dump_text.specs.HeaderLine.{has_byte};
 ghost use Rattle.dump_text.specs.PropertyList.{Property};
+ghost use Rattle.dump_records.specs.HeaderRules.{header_number};
 ghost use Rattle.dump_records.specs.steps.RecordViews.{record_item};
 ghost use Rattle.dump_rules.specs.Prefix.{bare_prefix};
 ghost use Rattle.dump_digest.specs.RecordParts.{is_copy, is_node, node_path};
@@ -35,13 +37,24 @@ pub(crate) fn path_of<'a>(item: &Record<'a>) -> &'a [u8]
 }
 
 /// The path that a node is copied from; no bytes where it is no copy.
-fn copy_path_of<'a>(item: &Record<'a>) -> &'a [u8]
+pub(crate) fn copy_path_of<'a>(item: &Record<'a>) -> &'a [u8]
     requires { IsTrue (is_node (record_item item.now)) }
     ensures { result.now ≡ copy_path (record_item item.now) }
 {
     match item.copy_path() {
         Some(path) => path,
         None => &[],
+    }
+}
+
+/// The number of the revision that a node is copied from; 0 where it is no copy.
+pub(crate) fn copy_revision_of(item: &Record<'_>) -> u64
+    requires { IsTrue (is_node (record_item item.now)) }
+    ensures { result ≡ unwrap_or (header_number copy_revision_name (record_item item.now).headers) 0 }
+{
+    match item.copy_revision() {
+        Some(number) => number,
+        None => 0,
     }
 }
 

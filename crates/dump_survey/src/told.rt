@@ -7,21 +7,16 @@ ghost use Rattle.dump_survey.specs.steps.Surveyed.{told_of_node};
 
 use crate::finding::{EVERY_FINDING, Found, NodeFinding};
 use crate::memory::Memory;
-use crate::node::path_of;
 use dump_records::Record;
 
 /// A finding in a node, and where that is.
-#[derive(Clone, Copy, Debug, PartialEq, Eq)]
+#[derive(Clone, Copy)]
 pub struct Told<'a> {
     pub finding: NodeFinding,
-    /// The number of the node's record in the dump, from 0.
-    pub number: u64,
-    /// The byte of the dump at which the record begins.
-    pub place: usize,
+    /// The node's record.
+    pub item: Record<'a>,
     /// The number of the revision that the node belongs to.
     pub revision: u64,
-    /// The node's path, as it stands.
-    pub path: &'a [u8],
 }
 
 /// A node of a revision, and what is found in it.
@@ -35,16 +30,14 @@ pub struct SurveyedNode<'a> {
 
 impl<'a> SurveyedNode<'a> {
     /// A finding as it is told of the node.
-    fn told(&self, finding: NodeFinding) -> Told<'a>
+    pub(crate) fn told(&self, finding: NodeFinding) -> Told<'a>
         ensures { told_view result ≡ told_in (record_number self.now.item) self.now.revision (record_item self.now.item)
             (meaning finding) }
     {
         Told {
             finding,
-            number: self.item.number(),
-            place: self.item.place(),
+            item: self.item,
             revision: self.revision,
-            path: path_of(&self.item),
         }
     }
 

@@ -49,7 +49,7 @@ pub record ComesNext (old : Surveying) (before : List DumpRecord) (r : DumpRecor
 -- a surveyor tells what is found in the next record, or again what is known at the end
 abbrev pub SurveyStep : Surveying → Step → Surveying → Type 0
 SurveyStep old (Node node) new = (before : List DumpRecord) × ComesNext old before (record_item node.item) new
-    × (record_number node.item ≡ old.number)
+    × (record_number node.item ≡ old.number) × (is_node (record_item node.item) ≡ true)
     × IsToldOf old.settings old.number (open_behind None before) (record_item node.item) (told_of_node node)
 SurveyStep old Other new = (before : List DumpRecord) × (r : DumpRecord) × ComesNext old before r new
     × IsToldOf old.settings old.number (open_behind None before) r []

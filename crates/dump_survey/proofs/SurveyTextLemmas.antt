@@ -1,0 +1,88 @@
+-- Each dump has the text of a survey, and what was told of its first records is a first part of it.
+use Rattle.std.proofs.Common.{◌≡◌, ℕ, ◌+◌, Bool, true, false, not, ◌==◌, List, [], ◌∷◌, ◌++◌, take, drop, length, map, flat_map, Option, Some, None, MatchBool, refl, sym, ap, ◌∙◌, subst, append_assoc, take-append-drop}
+use Rattle.std.proofs.lemmas.Grind.{flat_map-append}
+use Rattle.dump_records.specs.RecordText.{DumpRecord}
+use Rattle.dump_records.specs.DumpText.{BeginsWithRecords}
+use Rattle.dump_records.proofs.ListLaw.{each_dump_has_one_list}
+use Rattle.dump_records.proofs.Prefixes.{is_front}
+use Rattle.dump_rules.specs.Settings.{Settings}
+use Rattle.dump_digest.specs.RecordParts.{is_node}
+use Rattle.dump_writer.specs.SinkWords.{IsPrefixOf}
+use Rattle.dump_history.specs.Findings.{Finding, AreFindingsOf, dump_findings}
+use Rattle.dump_history.proofs.survey.FindingLemmas.{findings_once}
+use Rattle.dump_survey.specs.Told.{NodeTold, told_in, opened, IsToldOf, AreTold}
+use Rattle.dump_survey.specs.Lines.{node_line, dump_line, ending_line}
+use Rattle.dump_survey.specs.SurveyText.{IsSurveyText, survey_lines}
+use Rattle.dump_survey.proofs.TieLemmas.{told_once}
+
+-- something is told of each record, if only nothing
+told_of_record : (settings : Settings) (number : ℕ) (present : Option ℕ) (r : DumpRecord)
+    → (told : List NodeTold) × IsToldOf settings number present r told
+told_of_record settings number None r = ([], refl)
+told_of_record settings number (Some revision) r = by (is_node r)
+  where
+    by : (b : Bool) → (told : List NodeTold) × MatchBool b
+        ((found : List Finding) × AreFindingsOf settings r found × (told ≡ map (told_in number revision r) found))
+        (told ≡ [])
+    by true =
+        let (found, are, once) = findings_once settings r in
+        (map (told_in number revision r) found, (found, are, refl))
+    by false = ([], refl)
+
+-- and of any records
+told_of_records : (settings : Settings) (number : ℕ) (present : Option ℕ) (records : List DumpRecord)
+    → (told : List NodeTold) × AreTold settings number present records told
+told_of_records settings number present [] = ([], refl)
+told_of_records settings number present (r ∷ records) =
+    let (this, one) = told_of_record settings number present r in
+    let (others, more) = told_of_records settings (number + 1) (opened present r) records in
+    (this ++ others, (this, others, refl, one, more))
+
+-- what is told of records begins with what is told of the first of them
+told_front : (settings : Settings) (number : ℕ) (present : Option ℕ) (records rest : List DumpRecord)
+    (told : List NodeTold) → AreTold settings number present (records ++ rest) told
+    → (front behind : List NodeTold) × (told ≡ front ++ behind) × AreTold settings number present records front
+told_front settings number present [] rest told are = ([], told, refl, refl)
+told_front settings number present (r ∷ records) rest told (this, others, is, one, more) =
+    let (front, behind, same, are) = told_front settings (number + 1) (opened present r) records rest others more in (
+      this ++ front,
+      behind,
+      is ∙ (ap (λ l. this ++ l) same ∙ sym (append_assoc this front behind)),
+      (this, front, refl, one, are),
+    )
+
+-- the text of a survey begins with the lines of what is told of the first records
+pub begins_text : (settings : Settings) (dump : List ℕ) (before : List DumpRecord) (told : List NodeTold)
+    → BeginsWithRecords dump before → AreTold settings 0 None before told
+    → (text : List ℕ) × (found : Bool) × IsSurveyText settings dump text found
+    × IsPrefixOf (flat_map node_line told) text
+begins_text settings dump before told begins are =
+    let (records, ending, has, once) = each_dump_has_one_list dump in
+    let front : before ≡ take (length before) records = is_front dump records ending has before begins in
+    let rest : List DumpRecord = drop (length before) records in
+    let whole : before ++ rest ≡ records =
+    ap (λ l. l ++ rest) front ∙ take-append-drop (length before) records in
+    let (all, all_are) = told_of_records settings 0 None records in
+    let (first, behind, is, first_are) = told_front settings 0 None before rest all
+    (subst (λ l. AreTold settings 0 None l all) (sym whole) all_are) in
+    let same : told ≡ first = told_once settings before first told first_are are in
+    let end : List ℕ = flat_map dump_line (dump_findings settings records) ++ ending_line (length records) ending in (
+      survey_lines settings all records ending,
+      not (length (survey_lines settings all records ending) == 0),
+      record {
+        records = records;
+        ending = ending;
+        has = has;
+        told = all;
+        are_told = all_are;
+        text_is = refl;
+        found_is = refl;
+      },
+      (
+        flat_map node_line behind ++ end,
+        ap (λ l. flat_map node_line l ++ end) is
+            ∙ (ap (λ l. l ++ end) (flat_map-append node_line first behind)
+            ∙ (append_assoc (flat_map node_line first) (flat_map node_line behind) end
+            ∙ ap (λ l. flat_map node_line l ++ (flat_map node_line behind ++ end)) (sym same))),
+      ),
+    )

@@ -1,0 +1,180 @@
+-- What a sink took of a survey so far, and what it takes next.
+use Rattle.std.proofs.Common.{◌≡◌, ℕ, ◌+◌, Bool, true, false, not, ◌||◌, ◌==◌, List, [], ◌∷◌, ◌++◌, length, flat_map, Option, refl, sym, ap, ap₂, ◌∙◌, subst, append_assoc, append-nil, arith, Result, Ok, Err}
+use Rattle.std.specs.Result.{OnErr}
+use Rattle.std.proofs.lemmas.Bool.{ne_eqb}
+use Rattle.std.specs.Io.KnownBytes.{Appends}
+use Rattle.std.proofs.KnownBytes.{Appends-nil, Appends-trans}
+use Rattle.std.proofs.lemmas.Grind.{flat_map-append}
+use Rattle.dump_rules.specs.Settings.{Settings}
+use Rattle.dump_records.proofs.ListLaw.{each_dump_has_one_list}
+use Rattle.dump_records.proofs.Prefixes.{begins_prefix}
+use Rattle.dump_writer.specs.SinkWords.{IsPrefixOf}
+use Rattle.dump_survey.specs.declared.surveyor.Step.TheVariants.{Node, Other, Finished}
+use Rattle.dump_survey.specs.declared.surveyor.SurveyEnd.{SurveyEnd}
+use Rattle.dump_survey.specs.declared.told.SurveyedNode.{SurveyedNode}
+use Rattle.dump_survey.specs.DumpFindings.{listed_findings}
+use Rattle.dump_survey.specs.Lines.{node_line, dump_line, ending_line}
+use Rattle.dump_survey.specs.SurveyEnds.{ending_of}
+use Rattle.dump_survey.specs.SurveyText.{IsSurveyText, BreaksOffSurvey}
+use Rattle.dump_survey.specs.Told.{NodeTold}
+use Rattle.dump_survey.specs.steps.Steps.{SurveyStep}
+use Rattle.dump_survey.specs.steps.Surveyed.{told_of_node}
+use Rattle.dump_survey.specs.steps.Surveying.{Surveying}
+use Rattle.dump_survey.specs.steps.Writing.{TakesSome}
+use Rattle.dump_survey.proofs.SurveyLemmas.{HaveTold, node_told, nothing_told, node_nearer, other_nearer, all_told}
+use Rattle.dump_survey.proofs.SurveyTextLemmas.{begins_text}
+
+-- whether there are bytes
+abbrev pub has_some : List ℕ → Bool
+has_some bytes = not (length bytes == 0)
+
+-- the surveyor is at a place of this dump, and the sink took the lines of what was told of the records before it
+pub record HasWritten (settings : Settings) (dump : List ℕ) (state : Surveying) (old new : Option (List ℕ))
+    (found : Bool) (count : ℕ) : Type 0 where
+  pub told : List NodeTold
+  pub have : HaveTold settings dump state told
+  pub appended : Appends old new (flat_map node_line told)
+  pub found_is : found ≡ has_some (flat_map node_line told)
+  pub counted : count ≡ state.number
+
+some_of_both : (xs ys : List ℕ) → has_some (xs ++ ys) ≡ (has_some xs || has_some ys)
+some_of_both [] ys = refl
+some_of_both (x ∷ xs) ys = filled x (xs ++ ys) ∙ sym (ap (λ b. b || has_some ys) (filled x xs))
+  where
+    filled : (y : ℕ) (rest : List ℕ) → has_some (y ∷ rest) ≡ true
+    filled y rest = ap not (ne_eqb (length (y ∷ rest)) 0 (λ e. omega (arith, e)))
+
+-- what holds of a failure holds where there is one
+pub at_err : {X E A : Type 0} (r : Result X E) → A → OnErr r A
+at_err (Ok x) is = tt
+at_err (Err e) is = is
+
+-- a success is no failure
+pub no_error : {X E : Type 0} {x : X} {e : E} → Ok x ≡ Err e → ⊥
+no_error is = cc
+
+-- before the first record nothing was written
+pub nothing_written : (settings : Settings) (dump : List ℕ) (state : Surveying) (taken : Option (List ℕ))
+    → state ≡ record { dump = dump; settings = settings; number = 0 }
+    → HasWritten settings dump state taken taken false 0
+nothing_written settings dump state taken is = record {
+  told = [];
+  have = record {
+    dump_is = ap (λ (s : Surveying). s.dump) is;
+    settings_is = ap (λ (s : Surveying). s.settings) is;
+    before = [];
+    begins = (let (records, ending, has, once) = each_dump_has_one_list dump in
+        begins_prefix dump [] records (has.0, has.1, has.2));
+    count = sym (ap (λ (s : Surveying). s.number) is);
+    told = refl;
+  };
+  appended = Appends-nil taken;
+  found_is = refl;
+  counted = sym (ap (λ (s : Surveying). s.number) is);
+}
+
+module _ (settings : Settings) (dump : List ℕ) (state after : Surveying) (old new newer : Option (List ℕ)) (found : Bool)
+    (count : ℕ) (so_far : HasWritten settings dump state old new found count) where
+  -- the lines of a node's findings were written
+  pub node_written : (node : SurveyedNode) (some : Bool) → SurveyStep state (Node node) after
+      → Appends new newer (flat_map node_line (told_of_node node))
+      → some ≡ has_some (flat_map node_line (told_of_node node))
+      → HasWritten settings dump after old newer (found || some) (count + 1)
+  node_written node some step appends some_is =
+      let all = flat_map-append node_line so_far.told (told_of_node node) in record {
+        told = so_far.told ++ told_of_node node;
+        have = node_told settings dump state after so_far.told so_far.have node step;
+        appended = subst (Appends old newer) (sym all) (Appends-trans old new newer _ _ so_far.appended appends);
+        found_is = ap₂ (λ a b. a || b) so_far.found_is some_is
+            ∙ (sym (some_of_both (flat_map node_line so_far.told) (flat_map node_line (told_of_node node)))
+            ∙ ap has_some (sym all));
+        counted = ap (λ n. n + 1) so_far.counted
+            ∙ sym (node_nearer settings dump state after so_far.told so_far.have node step).0;
+      }
+
+  -- nothing is written of another record
+  pub other_written : SurveyStep state Other after → HasWritten settings dump after old new found (count + 1)
+  other_written step = record {
+    told = so_far.told;
+    have = nothing_told settings dump state after so_far.told so_far.have step;
+    appended = so_far.appended;
+    found_is = so_far.found_is;
+    counted = ap (λ n. n + 1) so_far.counted
+        ∙ sym (other_nearer settings dump state after so_far.told so_far.have step).0;
+  }
+
+  -- what the sink took is a first part of the text
+  pub broken_off : BreaksOffSurvey settings dump old new
+  broken_off =
+      let (text, found, is, begins) =
+      begins_text settings dump so_far.have.before so_far.told so_far.have.begins so_far.have.told in record {
+        text = text;
+        found = found;
+        is = is;
+        part = flat_map node_line so_far.told;
+        begins = begins;
+        appended = so_far.appended;
+      }
+
+  -- so it is where the sink took some of what followed
+  broken_in : (lines text : List ℕ) (all : Bool) → IsSurveyText settings dump text all
+      → IsPrefixOf (flat_map node_line so_far.told ++ lines) text → TakesSome new newer lines
+      → BreaksOffSurvey settings dump old newer
+  broken_in lines text all is (behind, begins) (part, (rest, front), appends) = record {
+    text = text;
+    found = all;
+    is = is;
+    part = flat_map node_line so_far.told ++ part;
+    begins = (
+      rest ++ behind,
+      begins ∙ (ap (λ l. (flat_map node_line so_far.told ++ l) ++ behind) front
+          ∙ (append_assoc (flat_map node_line so_far.told) (part ++ rest) behind
+          ∙ (ap (λ l. flat_map node_line so_far.told ++ l) (append_assoc part rest behind)
+          ∙ sym (append_assoc (flat_map node_line so_far.told) part (rest ++ behind))))),
+    );
+    appended = Appends-trans old new newer _ _ so_far.appended appends;
+  }
+
+  -- some of the lines of a node
+  pub broken_in_node : (node : SurveyedNode) → SurveyStep state (Node node) after
+      → TakesSome new newer (flat_map node_line (told_of_node node)) → BreaksOffSurvey settings dump old newer
+  broken_in_node node step takes =
+      let have = node_told settings dump state after so_far.told so_far.have node step in
+      let (text, all, is, begins) = begins_text settings dump have.before (so_far.told ++ told_of_node node) have.begins
+      have.told in
+      broken_in (flat_map node_line (told_of_node node)) text all is
+      (subst (λ l. IsPrefixOf l text) (flat_map-append node_line so_far.told (told_of_node node)) begins) takes
+
+  module _ (end : SurveyEnd) (step : SurveyStep state (Finished end) after) (lines : List ℕ)
+      (lines_are : lines ≡ flat_map dump_line (listed_findings end.dump) ++ ending_line count (ending_of end.end)) where
+    -- with the lines of its end the text is whole
+    text_whole : IsSurveyText settings dump (flat_map node_line so_far.told ++ lines)
+        (has_some (flat_map node_line so_far.told ++ lines))
+    text_whole =
+        let all = all_told settings dump state after so_far.told so_far.have end step in record {
+          records = so_far.have.before;
+          ending = ending_of end.end;
+          has = all.0;
+          told = so_far.told;
+          are_told = so_far.have.told;
+          text_is = ap (λ l. flat_map node_line so_far.told ++ l)
+              (lines_are ∙ ap₂ (λ fs n. flat_map dump_line fs ++ ending_line n (ending_of end.end)) all.1
+              (so_far.counted ∙ sym so_far.have.count));
+          found_is = refl;
+        }
+
+    pub whole_written : (some : Bool) → Appends new newer lines → some ≡ has_some lines
+        → (text : List ℕ) × IsSurveyText settings dump text (found || some) × Appends old newer text
+    whole_written some appends some_is = (
+      flat_map node_line so_far.told ++ lines,
+      subst (IsSurveyText settings dump (flat_map node_line so_far.told ++ lines))
+          (some_of_both (flat_map node_line so_far.told) lines
+          ∙ ap₂ (λ a b. a || b) (sym so_far.found_is) (sym some_is)) text_whole,
+      Appends-trans old new newer _ _ so_far.appended appends,
+    )
+
+    -- some of the lines of the end
+    pub broken_in_end : TakesSome new newer lines → BreaksOffSurvey settings dump old newer
+    broken_in_end takes = broken_in lines (flat_map node_line so_far.told ++ lines)
+        (has_some (flat_map node_line so_far.told ++ lines)) text_whole
+        ([], sym (append-nil (flat_map node_line so_far.told ++ lines))) takes

@@ -1,0 +1,34 @@
+-- What a survey writes: one line for each finding, in the dump's order.
+use Rattle.std.specs.Prelude.{◌≡◌, ℕ, Bool, not, ◌==◌, List, ◌++◌, flat_map, length, Option, None}
+use Rattle.std.specs.Io.KnownBytes.{Appends}
+use Rattle.dump_records.specs.RecordText.{DumpRecord}
+use Rattle.dump_records.specs.DumpText.{Ending, HasRecords}
+use Rattle.dump_rules.specs.Settings.{Settings}
+use Rattle.dump_writer.specs.SinkWords.{IsPrefixOf}
+use Rattle.dump_history.specs.Findings.{dump_findings}
+use Rattle.dump_survey.specs.Told.{NodeTold, AreTold}
+use Rattle.dump_survey.specs.Lines.{node_line, dump_line, ending_line}
+
+-- the lines of what is told of nodes, of the findings of the whole dump, and of what ends its list of records
+abbrev pub survey_lines : Settings → List NodeTold → List DumpRecord → Ending → List ℕ
+survey_lines settings told records ending = flat_map node_line told
+    ++ (flat_map dump_line (dump_findings settings records) ++ ending_line (length records) ending)
+
+-- this is the text of the survey of a dump, and whether something is found
+pub record IsSurveyText (settings : Settings) (dump text : List ℕ) (found : Bool) : Type 0 where
+  pub records : List DumpRecord
+  pub ending : Ending
+  pub has : HasRecords dump records ending
+  pub told : List NodeTold
+  pub are_told : AreTold settings 0 None records told
+  pub text_is : text ≡ survey_lines settings told records ending
+  pub found_is : found ≡ not (length text == 0)
+
+-- the sink took a first part of the text of the survey, perhaps all
+pub record BreaksOffSurvey (settings : Settings) (dump : List ℕ) (old new : Option (List ℕ)) : Type 0 where
+  pub text : List ℕ
+  pub found : Bool
+  pub is : IsSurveyText settings dump text found
+  pub part : List ℕ
+  pub begins : IsPrefixOf part text
+  pub appended : Appends old new part

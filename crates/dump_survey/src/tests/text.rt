@@ -1,0 +1,63 @@
+//! The text of a survey, and sinks and memory that fail.
+use super::{COPIED, ONE_NODE, rules};
+use crate::{SurveyFailure, write_survey};
+use dump_rules::{Empty, Options, Side};
+use dump_writer::{MemorySink, Trouble};
+use std::test::Fail;
+
+const ODD: &[u8] =
+    b"record 3, byte 71, r7: /trunk//a has a path, a copy source or another text that the load reads otherwise\n\
+the revisions of the dump are not numbered 0, 1, 2 and so on\n";
+
+#[test]
+fn a_survey_is_written_line_by_line(rt: HostRuntime) -> Result<(), Fail> {
+    let options = rules(rt.alloc(), Side::Include, "trunk")?;
+    let mut sink = MemorySink::new(rt.alloc(), 8, Trouble::Never);
+    let found = write_survey(rt.alloc(), ONE_NODE, &options, &mut sink);
+    assert_eq!(rt; found, Ok(true));
+    assert_eq!(rt; sink.taken(), ODD);
+    Ok(())
+}
+
+#[test]
+fn a_sink_that_fails_has_the_first_bytes(rt: HostRuntime) -> Result<(), Fail> {
+    let options = rules(rt.alloc(), Side::Include, "trunk")?;
+    for taken in [0usize, 100, 120] {
+        let mut sink = MemorySink::new(rt.alloc(), 8, Trouble::Once(taken as u64));
+        let found = write_survey(rt.alloc(), ONE_NODE, &options, &mut sink);
+        assert_eq!(rt; found, Err(SurveyFailure::Sink), "{taken}");
+        assert_eq!(rt; sink.taken(), &ODD[..taken], "{taken}");
+    }
+    Ok(())
+}
+
+// Run with each allocation refused in turn: all is written, or there is no memory.
+#[test]
+fn a_text_or_no_memory(rt: HostRuntime) -> Result<(), Fail> {
+    let prefixes = [b"t/f".as_slice()];
+    let made = Options::new(
+        rt.alloc(),
+        Side::Exclude,
+        &prefixes,
+        Empty::Pad,
+        false,
+        false,
+        false,
+    );
+    let Ok(options) = made else {
+        return Ok(());
+    };
+    let mut sink = MemorySink::new(rt.alloc(), 8, Trouble::Never);
+    match write_survey(rt.alloc(), COPIED, &options, &mut sink) {
+        Ok(found) => {
+            assert!(rt; found);
+            let line =
+                b"record 3, byte 71, r1: /b is copied from /t at r0, and may lose what is left out there and not here\n";
+            assert_eq!(rt; sink.taken(), line.as_slice());
+        }
+        Err(failure) => assert!(rt;
+            failure == SurveyFailure::Memory || failure == SurveyFailure::Sink
+        ),
+    }
+    Ok(())
+}
