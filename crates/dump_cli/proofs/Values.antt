@@ -12,10 +12,10 @@ use Rattle.dump_filter.proofs.Values.{padding}
 use Rattle.dump_pipeline.specs.declared.answer.Answer.TheVariants.{Clean, Fault, Failed}
 use Rattle.dump_pipeline.specs.declared.answer.Failure.TheVariants as failures
 use Rattle.dump_pipeline.proofs.Values.{empty_answer}
-use Rattle.dump_cli.specs.CommandLine.{switch, number, prefixes, side_app, program}
+use Rattle.dump_cli.specs.CommandLine.{switch, number, prefixes, program}
 use Rattle.dump_cli.specs.declared.words.Usage.TheVariants.{Words, BothDrops, Memory}
 use Rattle.dump_cli.specs.Words.{is_set, number_of, side_of, empty_of, order_of, AnswersTo}
-use Rattle.dump_cli.specs.steps.FilledFlags.{IsSwitch, IsNumber, AreFilled}
+use Rattle.dump_cli.specs.steps.FilledFlags.{IsNumber, AreFilled}
 use Rattle.dump_cli.specs.Drive.{status_of, BreaksOff, Ran, CarriesOut, refusal_status, Obeys, Drives}
 use Rattle.dump_cli.specs.steps.DrainedRun.{IsSilent, TellsBehind, FailsOnlyBehind}
 
@@ -31,11 +31,8 @@ wanted_prefixes : prefixes.required ≡ true
 wanted_prefixes = refl
 
 -- eight flags, and the prefixes
-nine_rules : length (side_app (codes "include")).top.rules ≡ 9
+nine_rules : length program.top.rules ≡ 9
 nine_rules = refl
-
-two_sides : length program.subs ≡ 2
-two_sides = refl
 
 -- Words
 
@@ -90,9 +87,6 @@ refused_for_its_words = refl
 refused_for_others : ¬ AnswersTo (Err BothDrops) (Err Words)
 refused_for_others e = cc
 
-a_switch : IsSwitch (codes "quiet") (flags (codes "false") (codes "false"))
-a_switch = (codes "true", refl, inl refl)
-
 twelve_workers : IsNumber (codes "workers") 64 (flags (codes "false") (codes "false"))
 twelve_workers = (codes "12", refl, ((lit< tt, (lit< tt, (lit< tt, tt))), lit< tt, lit≤ tt, lit≤ tt))
 
@@ -101,12 +95,6 @@ sixty_four = (codes "64", refl, ((lit< tt, (lit< tt, (lit< tt, tt))), lit< tt, l
 
 filled : AreFilled (flags (codes "false") (codes "false"))
 filled = record {
-  drop_empty = (codes "false", refl, inr refl);
-  drop_all = (codes "false", refl, inr refl);
-  renumber = (codes "false", refl, inr refl);
-  preserve = (codes "false", refl, inr refl);
-  skip_missing = (codes "false", refl, inr refl);
-  quiet = a_switch;
   workers = twelve_workers;
   window = sixty_four;
 }

@@ -1,41 +1,52 @@
--- What is read of the rows of a lawful line.
-use Rattle.std.proofs.Common.{◌≡◌, ◌∙◌, ◌⊎◌, ◌≤◌, ℕ, Bool, cond, true, false, refl, sym, ap, subst, List, [], ◌∷◌, Option, Some, None, Result, Ok, Err, codes, inl, inr}
-use Rattle.std.specs.Option.{option_map, option_map_or, unwrap_or}
+-- What is read of the rows of a line, and what a line means that clap takes or refuses.
+use Rattle.std.proofs.Common.{◌≡◌, ◌∙◌, ◌⊎◌, ◌&&◌, ◌≤◌, ℕ, Bool, true, false, refl, sym, ap, subst, List, [], ◌∷◌, Option, Some, None, Result, Ok, Err, codes, inl, inr, arith}
+use Rattle.std.specs.Option.{option_map_or, unwrap_or}
 use Rattle.std.specs.Str.{bytes_eq}
-use Rattle.std.specs.Str.Parse.{ParsesUnsigned, digits_value, without_leading_plus}
+use Rattle.std.specs.Str.Parse.{ParsesBool, ParsesUnsigned, digits_value, without_leading_plus}
+use Rattle.std.proofs.lemmas.Bool.{ne_eqb}
+use Rattle.std.proofs.lemmas.Slice.Eq.{bytes_eq-Decides}
 use Rattle.clap.specs.Kinds.{HasKind, Kinds}
-use Rattle.clap.specs.Words.{ReadsOne, Row, Text, fault_of, kind_of, one_text, rows_of, subcommand_of, subcommand_rows_of}
 use Rattle.clap.specs.Walk.{is_empty}
+use Rattle.clap.specs.Words.{ReadsOne, Row, Text, fault_of, kind_of, matches_of, one_text, rows_of}
 use Rattle.clap.specs.declared.error.Error.{Error}
 use Rattle.clap.specs.declared.error.kind.ErrorKind.TheVariants.{OutOfMemory}
-use Rattle.clap.specs.declared.parser.matches.ArgMatches.{ArgMatches}
 use Rattle.clap.specs.declared.parser.matches.Found.{Found}
 use Rattle.clap.proofs.WalkLemmas.{one_text-rows}
+use Rattle.dump_rules.specs.declared.options.Empty.{Empty}
+use Rattle.dump_rules.specs.declared.options.Side.{Side}
 use Rattle.dump_cli.specs.CommandLine.{program}
-use Rattle.dump_cli.specs.Words.{AnswersTo, is_lawful, is_set, meaning_of, number_of, order_of}
-use Rattle.dump_cli.specs.steps.FilledFlags.{AreFilled, IsNumber, IsSwitch}
+use Rattle.dump_cli.specs.Words.{AnswersTo, empty_in, is_set, meaning_of_line, meaning_with, number_of, order_by, order_of, side_name, side_of}
+use Rattle.dump_cli.specs.declared.words.Order.{Order}
 use Rattle.dump_cli.specs.declared.words.Usage.{Usage}
 use Rattle.dump_cli.specs.declared.words.Usage.TheVariants.{Words, Memory}
-use Rattle.dump_cli.proofs.RowLemmas.{is_filled, same_id}
-use Rattle.dump_cli.proofs.ProgramLemmas.{lawful_line}
+use Rattle.dump_cli.specs.steps.FilledFlags.{IsNumber}
 
--- a flag that follows the word of its switch says whether that switch is set
-pub flag_is : (m : Found) (name : Text) (b : Bool) → IsSwitch name (rows_of m)
-    → (one_text m name ≡ Some (codes "true") → b ≡ true)
-    → (one_text m name ≡ Some (codes "false") → b ≡ false) → b ≡ is_set name (rows_of m)
-flag_is m name b switch on off = go switch.2
+-- a text that isn't this one differs from it
+differs : (text other : Text) → (text ≡ other → ⊥) → bytes_eq text other ≡ false
+differs text other not_same = go (bytes_eq text other) refl
   where
-    text : Text
-    text = switch.0
+    go : (b : Bool) → bytes_eq text other ≡ b → bytes_eq text other ≡ false
+    go true e = absurd (not_same ((bytes_eq-Decides text other).0 e))
+    go false e = e
 
-    go : ((bytes_eq text (codes "true") ≡ true) ⊎ (bytes_eq text (codes "false") ≡ true)) → b ≡ is_set name (rows_of m)
-    go (inl t) = on (one_text-rows m name ∙ switch.1 ∙ ap Some (same_id text (codes "true") t))
-        ∙ sym (ap (λ o. option_map_or (λ x. bytes_eq x (codes "true")) o false) switch.1 ∙ t)
-    go (inr f) =
-        let is : text ≡ codes "false" = same_id text (codes "false") f in
-        off (one_text-rows m name ∙ switch.1 ∙ ap Some is)
-        ∙ sym (ap (λ o. option_map_or (λ x. bytes_eq x (codes "true")) o false) switch.1
-        ∙ ap (λ x. bytes_eq x (codes "true")) is)
+-- what is read of a flag, or false where nothing is, says whether it is set
+pub flag_is : (E : Type 0) (m : Found) (name : Text) (o : Option Bool) → (one_text m name ≡ None → o ≡ None)
+    → ((t : Text) → one_text m name ≡ Some t → ReadsOne {E = E} ParsesBool t o)
+    → unwrap_or o false ≡ is_set name (rows_of m)
+flag_is E m name o none reads = go (one_text m name) refl
+  where
+    is : (t : Option Text) → one_text m name ≡ t → is_set name (rows_of m) ≡ option_map_or
+        (λ text. bytes_eq text (codes "true")) t false
+    is t e = ap (λ u. option_map_or (λ text. bytes_eq text (codes "true")) u false) (sym (one_text-rows m name) ∙ e)
+
+    read : (t : Text) (v : Option Bool) → ReadsOne {E = E} ParsesBool t v → unwrap_or v false ≡ bytes_eq t (codes "true")
+    read t (Some true) e = rw e refl
+    read t (Some false) e = rw e refl
+    read t None e = sym (differs t (codes "true") e.1.0)
+
+    go : (t : Option Text) → one_text m name ≡ t → unwrap_or o false ≡ is_set name (rows_of m)
+    go None e = ap (λ v. unwrap_or v false) (none e) ∙ sym (is None e)
+    go (Some t) e = read t o (reads t e) ∙ sym (is (Some t) e)
 
 -- a number that stands in its range is read as it stands
 pub number_is : (E : Type 0) (G : List ℕ → Result ℕ E → Type 0) (m : Found) (name : Text) (most : ℕ) (r : Option ℕ)
@@ -68,48 +79,56 @@ number_is E G m name most r only number reads = go r (reads text (one_text-rows 
 
 -- ---- the parse
 
--- what a parse without a fault entered
-pub entered_line : (m : ArgMatches) (words : List Text) → fault_of program words ≡ []
-    → subcommand_rows_of m ≡ subcommand_of program words
-    → (line : Text × List Row) × (subcommand_rows_of m ≡ Some line) × (meaning_of words ≡ order_of line)
-    × AreFilled line.1
-entered_line m words ok is =
-    let line = lawful_line words ok in (
-      line.0,
-      is ∙ line.1,
-      ap (λ (k : Kinds). cond (is_empty k) (option_map_or order_of (subcommand_of program words) (Err Words))
-          (Err Words)) ok
-          ∙ ap (λ o. option_map_or order_of o (Err Words)) line.1,
-      line.2,
-    )
+-- the second of two facts that both hold
+pub second_holds : (a b : Bool) → (a && b) ≡ true → b ≡ true
+second_holds true b e = e
+second_holds false b e = cc
 
--- other words than a lawful line mean none
-refused : (words : List Text) (kinds : Kinds) → fault_of program words ≡ kinds → is_empty kinds ≡ false
-    → meaning_of words ≡ Err Words
-refused words kinds is some = ap (λ (k : Kinds). cond (is_empty k)
-    (option_map_or order_of (subcommand_of program words) (Err Words)) (Err Words)) is
-    ∙ ap (λ (b : Bool). cond b (option_map_or order_of (subcommand_of program words) (Err Words)) (Err Words)) some
+-- a list with an element isn't empty
+is_filled : {X : Type 0} (x : X) (xs : List X) → is_empty (x ∷ xs) ≡ false
+is_filled x xs = ne_eqb _ _ (λ e. omega (arith, e))
 
--- a refusal for the words or for want of memory is an answer to words with such a fault
-pub refusal_answers : (words : List Text) (e : Error) (u : Usage) → HasKind (fault_of program words) e
-    → (kind_of e ≡ OutOfMemory → u ≡ Memory) → ((u ≡ Words) ⊎ (u ≡ Memory))
-    → AnswersTo (meaning_of words) (Err u)
-refusal_answers words e u has memory (inr is) = subst (λ (x : Usage). AnswersTo (meaning_of words) (Err x)) (sym is) tt
-refusal_answers words e u has memory (inl is) = subst (λ (x : Usage). AnswersTo (meaning_of words) (Err x)) (sym is)
-    (go (fault_of program words) refl has)
+-- what the rows of a line that is taken give is what the line means
+pub taken_answers : (line : List Text) (name : Text) (rows : List Row) (r : Result Order Usage)
+    → side_name line ≡ Some name → fault_of program line ≡ [] → rows ≡ matches_of program line
+    → AnswersTo (order_of (name, rows)) r → AnswersTo (meaning_of_line line) r
+taken_answers line name rows r named none same answers = subst (λ m. AnswersTo m r) (sym means) answers
   where
-    go : (kinds : Kinds) → fault_of program words ≡ kinds → HasKind kinds e → meaning_of words ≡ Err Words
+    means : meaning_of_line line ≡ order_of (name, rows)
+    means = ap (λ o. order_by o (is_empty (fault_of program line)) (matches_of program line)) named
+        ∙ ap (λ (k : Kinds). order_by (Some name) (is_empty k) (matches_of program line)) none
+        ∙ ap (λ rs. order_of (name, rs)) (sym same)
+
+-- other words behind a side than clap takes mean nothing
+refused : (line : List Text) (name : Text) (kinds : Kinds) → side_name line ≡ Some name → fault_of program line ≡ kinds
+    → is_empty kinds ≡ false
+    → meaning_of_line line ≡ Err Words
+refused line name kinds named is some =
+    ap (λ o. order_by o (is_empty (fault_of program line)) (matches_of program line)) named
+    ∙ ap (λ (k : Kinds). order_by (Some name) (is_empty k) (matches_of program line)) is
+    ∙ ap (λ b. order_by (Some name) b (matches_of program line)) some
+
+-- a refusal for the words or for want of memory is an answer to a line with such a fault
+pub refusal_answers : (line : List Text) (name : Text) (e : Error) (u : Usage) → side_name line ≡ Some name
+    → HasKind (fault_of program line) e → (kind_of e ≡ OutOfMemory → u ≡ Memory) → ((u ≡ Words) ⊎ (u ≡ Memory))
+    → AnswersTo (meaning_of_line line) (Err u)
+refusal_answers line name e u named has memory (inr is) =
+    subst (λ (x : Usage). AnswersTo (meaning_of_line line) (Err x)) (sym is) tt
+refusal_answers line name e u named has memory (inl is) =
+    subst (λ (x : Usage). AnswersTo (meaning_of_line line) (Err x)) (sym is) (go (fault_of program line) refl has)
+  where
+    go : (kinds : Kinds) → fault_of program line ≡ kinds → HasKind kinds e → meaning_of_line line ≡ Err Words
     go kinds same (inl m) =
         let bad : Words ≡ Memory = sym is ∙ memory m in
         cc
     go [] same (inr among) = absurd among
-    go (k ∷ ks) same (inr among) = refused words (k ∷ ks) same (is_filled k ks)
+    go (k ∷ ks) same (inr among) = refused line name (k ∷ ks) named same (is_filled k ks)
 
--- a lawful line isn't refused for its words
-pub refusal_unlawful : (words : List Text) (e : Error) (u : Usage) → HasKind (fault_of program words) e
+-- a line that clap takes isn't refused for its words
+pub refusal_unlawful : (line : List Text) (e : Error) (u : Usage) → HasKind (fault_of program line) e
     → (kind_of e ≡ OutOfMemory → u ≡ Memory)
-    → is_lawful words ≡ true → u ≡ Words → ⊥
-refusal_unlawful words e u has memory lawful is = go (fault_of program words) lawful has
+    → is_empty (fault_of program line) ≡ true → u ≡ Words → ⊥
+refusal_unlawful line e u has memory lawful is = go (fault_of program line) lawful has
   where
     go : (kinds : Kinds) → is_empty kinds ≡ true → HasKind kinds e → ⊥
     go kinds none (inl m) =
@@ -120,18 +139,11 @@ refusal_unlawful words e u has memory lawful is = go (fault_of program words) la
         let bad : true ≡ false = sym none ∙ is_filled k ks in
         cc
 
-abbrev pub both_of : {X : Type 0} → (X → Text) → (X → List Row) → X → Text × List Row
-both_of n r b = (n b, r b)
+never_with : (o : Option Empty) (side : Side) (rows : List Row) → meaning_with o side rows ≡ Err Words → ⊥
+never_with None side rows e = cc
+never_with (Some empty) side rows e = cc
 
--- the name and the rows that were given are those of the line
-pub joined : {X : Type 0} (s : Option X) (n : X → Text) (r : X → List Row) (name : Text) (rows : List Row)
-    → Some name ≡ option_map n s
-    → Some rows ≡ option_map (λ (p : Text × List Row). p.1) (option_map (both_of n r) s)
-    → (line : Text × List Row) → option_map (both_of n r) s ≡ Some line → (name ≡ line.0) × (rows ≡ line.1)
-    × (◌≡◌ {A = Text × List Row} (name, rows) line)
-joined None n r name rows first second line is = cc
-joined (Some b) n r name rows first second line is =
-    let e : name ≡ n b = cc in
-    let f : rows ≡ r b = cc in
-    let same : ◌≡◌ {A = Text × List Row} (n b, r b) line = cc in
-    (e ∙ ap (λ p. p.0) same, f ∙ ap (λ p. p.1) same, cc)
+-- rows behind a side aren't refused as other words
+pub never_words : (name : Text) (rows : List Row) (r : Result Order Usage) → AnswersTo (order_of (name, rows)) r
+    → r ≡ Err Words → ⊥
+never_words name rows r answers is = never_with (empty_in rows) (side_of name) rows (subst (AnswersTo (order_of (name, rows))) is answers)

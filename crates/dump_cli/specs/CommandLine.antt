@@ -1,9 +1,9 @@
--- The command that clap reads the words by.
+-- The command that clap reads the words behind the side by.
 use Rattle.std.specs.Prelude.{ℕ, true, [], ◌∷◌, Some, codes}
 use Rattle.clap.specs.Lexer.{usize_max}
 use Rattle.clap.specs.Simple.{on_top}
-use Rattle.clap.specs.Words.{App, Rule, Text, new_app, new_rule, with_rule, with_subcommand}
-use Rattle.clap.specs.declared.builder.action.ArgAction.TheVariants.{SetTrue}
+use Rattle.clap.specs.Words.{App, Rule, Text, new_app, new_rule, with_rule}
+use Rattle.clap.specs.declared.builder.action.ArgAction.TheVariants.{Set, SetTrue}
 use Rattle.clap.specs.declared.builder.value_parser.ValueParser.TheVariants as parsers
 
 -- a flag without a value
@@ -14,6 +14,7 @@ switch name = record (new_rule name) { long = Some name; action = Some SetTrue }
 abbrev pub number : Text → ℕ → Text → Rule
 number name most default = record (new_rule name) {
   long = Some name;
+  action = Some Set;
   parser = Some (parsers.Unsigned 1 most);
   defaults = default ∷ [];
 }
@@ -25,24 +26,16 @@ prefixes = record (new_rule (codes "PREFIX")) {
   range = Some (record { start_inclusive = 1; end_inclusive = usize_max });
 }
 
--- one side of the filter: flags in any order, before and behind the prefixes
-abbrev pub side_app : Text → App
-side_app name =
-    let drops = with_rule (with_rule (new_app name) (switch (codes "drop-empty-revs")))
-    (switch (codes "drop-all-empty-revs")) in
+-- no help
+abbrev pub bare : App
+bare = on_top (λ s. record s { disable_help_flag = true }) (new_app (codes "svndumpfilter"))
+
+-- flags in any order, before, between and behind the prefixes; the side stands before all of them
+abbrev pub program : App
+program =
+    let drops = with_rule (with_rule bare (switch (codes "drop-empty-revs"))) (switch (codes "drop-all-empty-revs")) in
     let numbers = with_rule (with_rule drops (switch (codes "renumber-revs"))) (switch (codes "preserve-revprops")) in
     let quiet = with_rule (with_rule numbers (switch (codes "skip-missing-merge-sources"))) (switch (codes "quiet")) in
     let plan = with_rule (with_rule quiet (number (codes "workers") 64 (codes "4")))
     (number (codes "window") 4096 (codes "64")) in
     with_rule plan prefixes
-
--- the program: one of two sides, and no help
-abbrev pub bare : App
-bare = on_top (λ s. record s {
-  disable_help_flag = true;
-  disable_help_subcommand = true;
-  subcommand_required = true;
-}) (new_app (codes "svndumpfilter"))
-
-abbrev pub program : App
-program = with_subcommand (with_subcommand bare (side_app (codes "include")).top) (side_app (codes "exclude")).top

@@ -1,10 +1,10 @@
--- What the program's words mean, by what clap finds in them.
-use Rattle.std.specs.Prelude.{◌≡◌, ℕ, Bool, true, false, List, [], Option, Some, None, Result, Ok, Err, ⊤, codes, unwrap_or, if◌then◌else◌}
+-- What the program's words mean, by the side and by what clap finds behind it.
+use Rattle.std.specs.Prelude.{◌≡◌, ◌&&◌, ◌||◌, ℕ, Bool, true, false, List, [], Option, Some, None, Result, Ok, Err, ⊤, codes, drop, is_some, option_and_then, slice_get, unwrap_or, if◌then◌else◌}
 use Rattle.std.specs.Option.{option_map_or}
 use Rattle.std.specs.Str.{bytes_eq}
 use Rattle.std.specs.Str.Parse.{digits_value, without_leading_plus}
 use Rattle.clap.specs.Walk.{is_empty}
-use Rattle.clap.specs.Words.{Row, Text, all_of, fault_of, one_of, subcommand_of}
+use Rattle.clap.specs.Words.{Row, Text, all_of, fault_of, matches_of, one_of, takes}
 use Rattle.dump_rules.specs.Settings.{Settings}
 use Rattle.dump_rules.specs.declared.options.Side.{Side}
 use Rattle.dump_rules.specs.declared.options.Side.TheVariants.{Include, Exclude}
@@ -16,9 +16,18 @@ use Rattle.dump_cli.specs.declared.words.Order.{Order}
 use Rattle.dump_cli.specs.declared.words.Usage.{Usage}
 use Rattle.dump_cli.specs.declared.words.Usage.TheVariants.{Words, BothDrops, Memory}
 
--- the words are a line that the command takes
+-- the name of the side that a line begins with
+abbrev pub side_name : List Text → Option Text
+side_name line = option_and_then (λ word. if bytes_eq word (codes "include") || bytes_eq word (codes "exclude")
+    then Some word else None) (slice_get line 0)
+
+-- behind the program's name stands a side, and behind that what the command takes
 abbrev pub is_lawful : List Text → Bool
-is_lawful words = is_empty (fault_of program words)
+is_lawful words = is_some (side_name (drop 1 words)) && is_empty (fault_of program (drop 1 words))
+
+-- the same by clap's test of what it takes
+abbrev pub is_taken : List Text → Bool
+is_taken words = is_some (side_name (drop 1 words)) && takes program (drop 1 words)
 
 -- whether a switch is set
 abbrev pub is_set : Text → List Row → Bool
@@ -78,10 +87,18 @@ empty_in rows = empty_of (is_set (codes "drop-empty-revs") rows) (is_set (codes 
 abbrev pub order_of : Text × List Row → Result Meaning Usage
 order_of (name, rows) = meaning_with (empty_in rows) (side_of name) rows
 
+-- the order by the side's name, by whether clap takes what stands behind it, and by the rows that it finds
+abbrev pub order_by : Option Text → Bool → List Row → Result Meaning Usage
+order_by None is_taken rows = Err Words
+order_by (Some name) is_taken rows = if is_taken then order_of (name, rows) else Err Words
+
+-- the order that a line gives; clap passes over its first word, which is the side
+abbrev pub meaning_of_line : List Text → Result Meaning Usage
+meaning_of_line line = order_by (side_name line) (is_empty (fault_of program line)) (matches_of program line)
+
 -- the order that the words give: only a lawful line is one, unless it asks for both ways to drop revisions
 abbrev pub meaning_of : List Text → Result Meaning Usage
-meaning_of words = if is_lawful words then option_map_or order_of (subcommand_of program words)
-    (Err Words) else Err Words
+meaning_of words = meaning_of_line (drop 1 words)
 
 -- the answer to words of this meaning: want of memory may hide it, and nothing else
 abbrev pub AnswersTo : Result Meaning Usage → Result Order Usage → Type 0

@@ -1,8 +1,7 @@
-//! The command that the words are read by.
+//! The command that the words behind the side are read by.
 ghost use Rattle.std.specs.Prelude.{◌≡◌, IfOk, false, codes};
 ghost use Rattle.clap.specs.Words.{app_of, rule_of};
-ghost use Rattle.clap.specs.declared.builder.command.Command.TheViews.{out-Command as fields_of};
-ghost use Rattle.dump_cli.specs.CommandLine.{number, prefixes, program, side_app, switch};
+ghost use Rattle.dump_cli.specs.CommandLine.{number, prefixes, program, switch};
 
 use clap::{Arg, ArgAction, Command, value_parser};
 use std::alloc::{AllocError, Global};
@@ -22,6 +21,7 @@ fn workers<'a>(alloc: Global) -> Arg<'a>
 {
     Arg::new(alloc, "workers")
         .long("workers")
+        .action(ArgAction::Set)
         .value_parser(value_parser!(usize).range(1..=64))
         .default_value("4")
 }
@@ -32,6 +32,7 @@ fn window<'a>(alloc: Global) -> Arg<'a>
 {
     Arg::new(alloc, "window")
         .long("window")
+        .action(ArgAction::Set)
         .value_parser(value_parser!(usize).range(1..=4096))
         .default_value("64")
 }
@@ -43,12 +44,12 @@ fn prefixes<'a>(alloc: Global) -> Arg<'a>
     Arg::new(alloc, "PREFIX").required(true).num_args(1..)
 }
 
-// One side of the filter.
-fn side<'a>(alloc: Global, name: &'a str) -> Result<Command<'a>, AllocError>
-    ensures app { IfOk result (λ c. app_of c ≡ side_app name.entry.now) }
-    ensures local { IfOk result (λ c. (fields_of c).has_globals ≡ false) }
+/// The flags and the prefixes behind the side, which is no word of the command.
+pub fn program<'a>(alloc: Global) -> Result<Command<'a>, AllocError>
+    ensures { IfOk result (λ c. app_of c ≡ program) }
 {
-    Command::new(alloc, name)
+    Command::new(alloc, "svndumpfilter")
+        .disable_help_flag(true)
         .arg(switch(alloc, "drop-empty-revs"))?
         .arg(switch(alloc, "drop-all-empty-revs"))?
         .arg(switch(alloc, "renumber-revs"))?
@@ -58,18 +59,4 @@ fn side<'a>(alloc: Global, name: &'a str) -> Result<Command<'a>, AllocError>
         .arg(workers(alloc))?
         .arg(window(alloc))?
         .arg(prefixes(alloc))
-}
-
-/// The program's command.
-pub fn program<'a>(alloc: Global) -> Result<Command<'a>, AllocError>
-    ensures { IfOk result (λ c. app_of c ≡ program) }
-{
-    let include = side(alloc, "include")?;
-    let exclude = side(alloc, "exclude")?;
-    Command::new(alloc, "svndumpfilter")
-        .disable_help_flag(true)
-        .disable_help_subcommand(true)
-        .subcommand_required(true)
-        .subcommand(include)?
-        .subcommand(exclude)
 }

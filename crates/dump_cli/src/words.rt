@@ -1,10 +1,9 @@
 //! The words on the command line.
-ghost use Rattle.std.specs.Prelude.{◌≡◌, ◌≢◌, ◌≤◌, ◌⊎◌, ℕ, [], IfOk, Err, map, true, codes, unwrap_or};
-ghost use Rattle.clap.specs.Words.{all_of, found_of, kind_of, rows_of, takes};
+ghost use Rattle.std.specs.Prelude.{◌≡◌, ◌≢◌, ◌≤◌, ◌⊎◌, ℕ, [], IfOk, Err, map, option_map, true, codes, unwrap_or};
+ghost use Rattle.clap.specs.Words.{all_of, found_of, kind_of, rows_of};
 ghost use Rattle.dump_pipeline.specs.PlanViews.{worker_count, window_size};
-ghost use Rattle.dump_cli.specs.CommandLine.{program};
-ghost use Rattle.dump_cli.specs.Words.{AnswersTo, empty_in, is_lawful, is_set, meaning_of, number_of, order_of, side_of};
-ghost use Rattle.dump_cli.specs.steps.FilledFlags.{AreFilled, IsNumber, IsSwitch};
+ghost use Rattle.dump_cli.specs.Words.{AnswersTo, empty_in, is_lawful, is_set, is_taken, meaning_of, number_of, order_of, side_name, side_of};
+ghost use Rattle.dump_cli.specs.steps.FilledFlags.{AreFilled, IsNumber};
 
 use crate::command::program;
 use clap::error::ErrorKind;
@@ -42,18 +41,30 @@ pub fn options_of<'a>(alloc: Global, words: &'a [&'a str]) -> Result<Order, Usag
 
     // No lawful line is refused as other words.
     ensures lawful { is_lawful (map (λ word. word.now) words.now) ≡ true → result ≢ Err Usage.Words }
-    ensures takes { takes program (map (λ word. word.now) words.now) ≡ true → result ≢ Err Usage.Words }
+    ensures takes { is_taken (map (λ word. word.now) words.now) ≡ true → result ≢ Err Usage.Words }
 {
+    let Some((_, line)) = words.split_first() else {
+        return Err(Usage::Words);
+    };
+    let Some(name) = side_name(line) else {
+        return Err(Usage::Words);
+    };
     let Ok(command) = program(alloc) else {
         return Err(Usage::Memory);
     };
-    let matches = match command.try_get_matches_from(words) {
-        Ok(matches) => matches,
-        Err(error) => return Err(refusal(&error)),
-    };
-    match matches.subcommand() {
-        Some((name, inner)) => read_order(alloc, name, inner),
-        None => Err(Usage::Words),
+    match command.try_get_matches_from(line) {
+        Ok(matches) => read_order(alloc, name, &matches),
+        Err(error) => Err(refusal(&error)),
+    }
+}
+
+// The side that a line begins with.
+fn side_name<'a>(line: &[&'a str]) -> Option<&'a str>
+    ensures { option_map (λ name. name.now) result ≡ side_name (map (λ word. word.now) line.now) }
+{
+    match line.first() {
+        Some(word) if *word == "include" || *word == "exclude" => Some(*word),
+        _ => None,
     }
 }
 
@@ -109,16 +120,13 @@ fn side_named(name: &str) -> Side
 }
 
 fn is_set(inner: &ArgMatches<'_>, name: &str) -> bool
-    requires { IsSwitch name.now (rows_of (found_of inner.now)) }
     ensures { result ≡ is_set name.now (rows_of (found_of inner.now)) }
 {
-    inner.get_flag(name)
+    inner.get_one(name).unwrap_or(false)
 }
 
 // What the flags make of empty revisions, where they don't contradict each other.
 fn read_empty(inner: &ArgMatches<'_>) -> Option<Empty>
-    requires drop_empty { IsSwitch (codes "drop-empty-revs") (rows_of (found_of inner.now)) }
-    requires drop_all { IsSwitch (codes "drop-all-empty-revs") (rows_of (found_of inner.now)) }
     ensures { result ≡ empty_in (rows_of (found_of inner.now)) }
 {
     match (

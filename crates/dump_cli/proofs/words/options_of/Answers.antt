@@ -1,55 +1,75 @@
-use Rattle.std.proofs.Common.{◌≡◌, ◌∙◌, ap, map, subst, sym, List}
+use Rattle.std.proofs.Common.{◌≡◌, ◌∙◌, ap, drop, map, subst, sym, true, List, [], Some, Err}
+use Rattle.std.specs.Borrow.{Bor}
+use Rattle.std.specs.Option.{option_map}
 use Rattle.clap.specs.Kinds.{HasKind}
-use Rattle.clap.specs.Words.{takes, Text, fault_of, found_of, is_simple, is_simple_and_free, rows_of, subcommand_of}
+use Rattle.clap.specs.Walk.{is_empty}
+use Rattle.clap.specs.Words.{takes, Text, fault_of, found_of, is_simple, is_simple_and_free, matches_of, rows_of}
 use Rattle.dump_cli.specs.CommandLine.{program}
-use Rattle.dump_cli.specs.Words.{AnswersTo, meaning_of, order_of}
-use Rattle.dump_cli.specs.steps.FilledFlags.{AreFilled}
-use Rattle.dump_cli.proofs.ProgramLemmas.{free, simple}
-use Rattle.dump_cli.proofs.WordLemmas.{entered_line, joined, refusal_answers, refusal_unlawful}
+use Rattle.dump_cli.specs.Words.{AnswersTo, meaning_of_line, side_name}
+use Rattle.dump_cli.proofs.ProgramLemmas.{filled, free, simple}
+use Rattle.dump_cli.proofs.WordLemmas.{refusal_answers, refusal_unlawful, never_words, second_holds, taken_answers}
 use Rattle.dump_cli.proofs.words.options_of.Goals as goal
+
+pub read_order-requires : goal.read_order-requires
+read_order-requires c = filled c.in-Ok.command c.in-Ok-try_get_matches_from.matches c.in-Ok.ensures
+    c.in-Ok-try_get_matches_from.ensures.parsed
+
+pub returns-in-Ok-try_get_matches_from-clause-meaning : goal.returns-in-Ok-try_get_matches_from-clause-meaning
+returns-in-Ok-try_get_matches_from-clause-meaning c =
+    let line : List Text = map (λ w. w.now) c.in-Some.line.now in
+    let behind : drop 1 (map (λ w. w.now) c.args.words.now) ≡ line =
+    ap (λ (ws : List (Bor Text)). drop 1 (map (λ w. w.now) ws)) c.in-Some.ensures.cases.0 in
+    let named : side_name line ≡ Some c.in-Some-side_name.name.now =
+    sym c.side_name.ensures ∙ ap (option_map (λ (n : Bor Text). n.now)) c.in-Some-side_name.is in
+    let none : fault_of program line ≡ [] = ap (λ a. fault_of a line) (sym c.in-Ok.ensures)
+    ∙ c.in-Ok-try_get_matches_from.ensures.kinds (ap is_simple_and_free c.in-Ok.ensures ∙ free) in
+    let same : rows_of (found_of c.in-Ok-try_get_matches_from.matches) ≡ matches_of program line =
+    (c.in-Ok-try_get_matches_from.ensures.matches (ap is_simple c.in-Ok.ensures ∙ simple)).0
+    ∙ ap (λ a. matches_of a line) c.in-Ok.ensures in
+    subst (λ l. AnswersTo (meaning_of_line l) c.read_order.result) (sym behind)
+    (taken_answers line c.in-Some-side_name.name.now _ c.read_order.result named none same c.read_order.ensures)
+
+pub returns-in-Ok-try_get_matches_from-clause-lawful : goal.returns-in-Ok-try_get_matches_from-clause-lawful
+returns-in-Ok-try_get_matches_from-clause-lawful c lawful is =
+    never_words c.in-Some-side_name.name.now (rows_of (found_of c.in-Ok-try_get_matches_from.matches))
+    c.read_order.result c.read_order.ensures is
+
+pub returns-in-Ok-try_get_matches_from-clause-takes : goal.returns-in-Ok-try_get_matches_from-clause-takes
+returns-in-Ok-try_get_matches_from-clause-takes c taken is =
+    never_words c.in-Some-side_name.name.now (rows_of (found_of c.in-Ok-try_get_matches_from.matches))
+    c.read_order.result c.read_order.ensures is
 
 pub returns-in-Err-clause-meaning : goal.returns-in-Err-clause-meaning
 returns-in-Err-clause-meaning c =
-    let words : List Text = map (λ w. w.now) c.args.words.now in
-    let has : HasKind (fault_of program words) c.in-Err.error = subst
-    (λ a. HasKind (fault_of a words) c.in-Err.error) c.in-Ok.ensures
+    let line : List Text = map (λ w. w.now) c.in-Some.line.now in
+    let behind : drop 1 (map (λ w. w.now) c.args.words.now) ≡ line =
+    ap (λ (ws : List (Bor Text)). drop 1 (map (λ w. w.now) ws)) c.in-Some.ensures.cases.0 in
+    let named : side_name line ≡ Some c.in-Some-side_name.name.now =
+    sym c.side_name.ensures ∙ ap (option_map (λ (n : Bor Text). n.now)) c.in-Some-side_name.is in
+    let has : HasKind (fault_of program line) c.in-Err.error = subst
+    (λ a. HasKind (fault_of a line) c.in-Err.error) c.in-Ok.ensures
     (c.in-Err.ensures.kinds (ap is_simple_and_free c.in-Ok.ensures ∙ free)) in
-    refusal_answers words c.in-Err.error c.refusal.result has c.refusal.ensures.memory c.refusal.ensures.either
+    subst (λ l. AnswersTo (meaning_of_line l) (Err c.refusal.result)) (sym behind)
+    (refusal_answers line c.in-Some-side_name.name.now c.in-Err.error c.refusal.result named has c.refusal.ensures.memory
+    c.refusal.ensures.either)
 
 pub returns-in-Err-clause-lawful : goal.returns-in-Err-clause-lawful
 returns-in-Err-clause-lawful c lawful is =
-    let words : List Text = map (λ w. w.now) c.args.words.now in
-    let has : HasKind (fault_of program words) c.in-Err.error = subst
-    (λ a. HasKind (fault_of a words) c.in-Err.error) c.in-Ok.ensures
+    let line : List Text = map (λ w. w.now) c.in-Some.line.now in
+    let behind : drop 1 (map (λ w. w.now) c.args.words.now) ≡ line =
+    ap (λ (ws : List (Bor Text)). drop 1 (map (λ w. w.now) ws)) c.in-Some.ensures.cases.0 in
+    let has : HasKind (fault_of program line) c.in-Err.error = subst
+    (λ a. HasKind (fault_of a line) c.in-Err.error) c.in-Ok.ensures
     (c.in-Err.ensures.kinds (ap is_simple_and_free c.in-Ok.ensures ∙ free)) in
-    refusal_unlawful words c.in-Err.error c.refusal.result has c.refusal.ensures.memory lawful cc
+    let none : is_empty (fault_of program line) ≡ true =
+    ap (λ l. is_empty (fault_of program l)) (sym behind) ∙ second_holds _ _ lawful in
+    refusal_unlawful line c.in-Err.error c.refusal.result has c.refusal.ensures.memory none cc
 
 pub returns-in-Err-clause-takes : goal.returns-in-Err-clause-takes
-returns-in-Err-clause-takes c takes_them is =
-    let words : List Text = map (λ w. w.now) c.args.words.now in
-    let memory = c.refusal.ensures.memory (c.in-Err.ensures.passes
-    (ap (λ a. takes a words) c.in-Ok.ensures ∙ takes_them)) in
+returns-in-Err-clause-takes c taken is =
+    let line : List Text = map (λ w. w.now) c.in-Some.line.now in
+    let behind : drop 1 (map (λ w. w.now) c.args.words.now) ≡ line =
+    ap (λ (ws : List (Bor Text)). drop 1 (map (λ w. w.now) ws)) c.in-Some.ensures.cases.0 in
+    let passes : takes program line ≡ true = ap (λ l. takes program l) (sym behind) ∙ second_holds _ _ taken in
+    let memory = c.refusal.ensures.memory (c.in-Err.ensures.passes (ap (λ a. takes a line) c.in-Ok.ensures ∙ passes)) in
     cc
-
-pub read_order-requires : goal.read_order-requires
-read_order-requires c =
-    let words : List Text = map (λ w. w.now) c.args.words.now in
-    let none = ap (λ a. fault_of a words) (sym c.in-Ok.ensures) ∙ c.in-Ok-try_get_matches_from.ensures.kinds
-    (ap is_simple_and_free c.in-Ok.ensures ∙ free) in
-    let same = (c.in-Ok-try_get_matches_from.ensures.matches (ap is_simple c.in-Ok.ensures ∙ simple)).1
-    ∙ ap (λ a. subcommand_of a words) c.in-Ok.ensures in
-    let line = entered_line c.in-Ok-try_get_matches_from.matches words none same in
-    subst AreFilled (sym (joined _ _ _ _ _ c.in-Some.ensures.name c.in-Some.ensures.rows line.0 line.1).1) line.3
-
-pub returns-in-Some-clause-meaning : goal.returns-in-Some-clause-meaning
-returns-in-Some-clause-meaning c =
-    let words : List Text = map (λ w. w.now) c.args.words.now in
-    let none = ap (λ a. fault_of a words) (sym c.in-Ok.ensures) ∙ c.in-Ok-try_get_matches_from.ensures.kinds
-    (ap is_simple_and_free c.in-Ok.ensures ∙ free) in
-    let same = (c.in-Ok-try_get_matches_from.ensures.matches (ap is_simple c.in-Ok.ensures ∙ simple)).1
-    ∙ ap (λ a. subcommand_of a words) c.in-Ok.ensures in
-    let line = entered_line c.in-Ok-try_get_matches_from.matches words none same in
-    let parts = joined _ _ _ _ _ c.in-Some.ensures.name c.in-Some.ensures.rows line.0 line.1 in
-    let is : meaning_of words ≡ order_of (c.in-Some.name.now, rows_of (found_of c.in-Some.inner.now)) = line.2
-    ∙ sym (ap order_of parts.2) in
-    subst (λ m. AnswersTo m c.read_order.result) (sym is) c.read_order.ensures
