@@ -1,5 +1,6 @@
 -- Worked steps on a queue of the pool, and wrong ones that its rule refuses.
-use Rattle.std.proofs.Common.{◌≡◌, ℕ, List, [], ◌∷◌, ◌++◌, length, true, refl, ap, sym, ◌∙◌, arith}
+use Rattle.std.proofs.Common.{◌≡◌, ℕ, ◌+◌, List, [], ◌∷◌, ◌++◌, length, sum_by, true, refl, ap, sym, ◌∙◌, arith}
+use Rattle.std.proofs.lemmas.List.Sums.{sum_by-append}
 use Rattle.crossbeam_queue.specs.Fifo.{Pushes}
 use Rattle.dump_lanes.specs.declared.passes.TheConstants.{PARTS}
 use Rattle.dump_lanes.specs.declared.passes.View.{View}
@@ -8,13 +9,14 @@ use Rattle.dump_lanes.specs.declared.protocol.Mark.TheVariants.{Item}
 use Rattle.dump_lanes.specs.declared.steps.Move.TheVariants as move
 use Rattle.dump_lanes.specs.declared.steps.Step.{Step}
 use Rattle.dump_lanes.specs.PoolParts.{Thread}
-use Rattle.dump_lanes.specs.PartSteps.{Part, IsStep, all_put}
+use Rattle.dump_lanes.specs.PartSteps.{Part, IsStep, all_put, all_taken}
 use Rattle.dump_lanes.specs.JobRule.{jobs_part}
 use Rattle.dump_lanes.specs.steps.JobQueue as jobs
 use Rattle.dump_lanes.specs.steps.LaneQueue as lane
 use Rattle.dump_lanes.specs.steps.OwnSteps.{Knows}
-use Rattle.dump_lanes.specs.steps.QueueRule.{leading, Fits}
+use Rattle.dump_lanes.specs.steps.QueueRule.{leading, following, spent, after_put, after_take, Fits}
 use Rattle.dump_lanes.proofs.JobSteps.{cutter_apart}
+use Rattle.dump_lanes.proofs.PartMoves.{put_weight, taken_weight, in_order}
 use Rattle.dump_lanes.proofs.QueueSteps.{begins}
 
 abbrev job : ℕ → Mark ℕ
@@ -87,3 +89,44 @@ not_unnoted {T} x rule =
     let steps : w.steps ≡ [] = ap (λ (k : View (Mark T)). k.steps) after.2 in
     let put : w.put ≡ x ∷ [] = ap (λ (k : View (Mark T)). k.put) after.2 in
     absurd (let e = ap length (ap (all_put jobs_part) (sym steps) ∙ (sym f.put_is ∙ put)) in omega arith)
+
+-- what the passes of a queue put together is as much as they took and it holds
+
+abbrev one : Mark ℕ → ℕ
+one mark = 1
+
+abbrev puts_of : View (Mark ℕ) → ℕ
+puts_of v = sum_by (λ (s : Step (Mark ℕ)). sum_by one (jobs_part.puts s)) v.steps
+
+abbrev takes_of : View (Mark ℕ) → ℕ
+takes_of v = sum_by (λ (s : Step (Mark ℕ)). sum_by one (jobs_part.takes s)) v.steps
+
+balanced : (items : List (Mark ℕ)) (views : List (View (Mark ℕ))) → jobs.IsJobQueue items views
+    → sum_by puts_of views ≡ sum_by takes_of views + sum_by one items
+balanced items views h =
+    let put = h.made (λ s. sum_by one (jobs_part.puts s)) in
+    let taken = h.made (λ s. sum_by one (jobs_part.takes s)) in
+    let a = put_weight jobs_part one h.happened in
+    let b = taken_weight jobs_part one h.happened in
+    let e = ap (λ l. sum_by one l) (in_order jobs_part h.happened items h.steps) in
+    let c = sum_by-append one (all_taken jobs_part h.happened) items in omega arith
+
+-- so no queue begins with an entry that no pass has put
+
+full_queue_is_no_beginning : jobs.IsJobQueue (job 5 ∷ []) (leading PARTS 0 ∷ []) → ⊥
+full_queue_is_no_beginning h = absurd (let e = balanced (job 5 ∷ []) (leading PARTS 0 ∷ []) h in omega arith)
+
+-- and where a pass takes in another it keeps the other's steps: the cutter put a job and the worker took it
+
+abbrev cutter_put : View (Mark ℕ)
+cutter_put = after_put (leading 127 1) (jobs.put_step (job 5))
+
+abbrev worker_took : View (Mark ℕ)
+worker_took = after_take (following 0) (jobs.take_step 0 (job 5))
+
+abbrev without_steps : View (Mark ℕ) → View (Mark ℕ) → View (Mark ℕ)
+without_steps v w = record v { parts = v.parts + w.parts; put = v.put ++ w.put; taken = v.taken ++ w.taken }
+
+merge_keeps_the_steps : jobs.IsJobQueue [] (without_steps cutter_put worker_took ∷ spent ∷ []) → ⊥
+merge_keeps_the_steps h =
+    absurd (let e = balanced [] (without_steps cutter_put worker_took ∷ spent ∷ []) h in omega arith)

@@ -118,6 +118,7 @@
 
 mod ends;
 pub mod laws;
+mod limits;
 mod passes;
 mod pool;
 mod protocol;
@@ -128,6 +129,7 @@ mod stop;
 mod tests;
 
 pub use ends::{LaneIn, LaneOut, Memory, Sent, Taken, lane};
+pub use limits::{MOST_WINDOW, MOST_WORKERS};
 pub use pool::{Credit, CreditPort, DonePort, Drawn, JobPort, Pool, Ports, WorkerPort};
 pub use slots::Slots;
 pub use stop::{StopSeat, StopWord};

@@ -56,6 +56,7 @@ pub struct Ports<J: Drop, D: Drop> {
 impl<J: Drop, D: Drop> Pool<J, D> {
     ghost use Rattle.std.specs.Prelude.{◌≡◌, ◌≤◌, true, false, map, IfOk, OnOk, OnErr};
     ghost use Rattle.std.specs.List.{range_with_len};
+    ghost use Rattle.dump_lanes.specs.declared.limits.TheConstants.{MOST_WORKERS, MOST_WINDOW};
     ghost use Rattle.dump_lanes.specs.steps.PortSides.{new_cutter, new_worker, new_sequencer, new_writer};
     ghost use Rattle.dump_lanes.specs.steps.PortViews.{pool_state, job_port, worker_ports, done_port, credit_port};
 
@@ -67,9 +68,9 @@ impl<J: Drop, D: Drop> Pool<J, D> {
         window: usize,
     ) -> Result<Pool<J, D>, Memory>
         requires some_workers { 1 ≤ workers }
-        requires most_workers { workers ≤ 64 }
+        requires most_workers { workers ≤ MOST_WORKERS }
         requires some_window { 1 ≤ window }
-        requires most_window { window ≤ 4096 }
+        requires most_window { window ≤ MOST_WINDOW }
         ensures workers { IfOk result (λ pool. (pool_state pool).workers ≡ workers) }
         ensures window { IfOk result (λ pool. (pool_state pool).window ≡ window) }
         ensures unopened { IfOk result (λ pool. (pool_state pool).opened ≡ false) }

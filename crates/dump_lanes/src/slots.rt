@@ -5,6 +5,7 @@
 //! 3. An item whose place is taken comes back: nothing in the row is overwritten.
 //! 4. A lift gives what stands in the place of its number, and leaves the place free.
 ghost use Rattle.std.specs.Prelude.{◌≡◌, ◌<◌, ◌≤◌, ◌↔◌, ◌%◌, Some, None, length, replicate, IsOk, IsNone, IfSome, IfOk, IfErr, OnOk, OnErr};
+ghost use Rattle.dump_lanes.specs.declared.limits.TheConstants.{MOST_WINDOW};
 ghost use Rattle.dump_lanes.specs.steps.SlotRow.{slot_item, with_slot_item};
 
 use crate::ends::Memory;
@@ -36,7 +37,7 @@ impl<T: Drop> Slots<T> {
     /// Makes the row, and takes all the memory that it ever has.
     pub fn new(alloc: Global, window: usize) -> Result<Slots<T>, Memory>
         requires some { 1 ≤ window }
-        requires most { window ≤ 4096 }
+        requires most { window ≤ MOST_WINDOW }
         ensures { IfOk result (λ slots. slot_places slots ≡ replicate window None) }
     {
         let Some(places) = empty_places(alloc, window) else {

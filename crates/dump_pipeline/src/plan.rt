@@ -1,5 +1,8 @@
 //! How a run is spread over threads.
 ghost use Rattle.std.specs.Prelude.{◌≡◌, ◌↔◌, ◌≤◌, IsSome, IfSome};
+ghost use Rattle.dump_lanes.specs.declared.limits.TheConstants.{MOST_WORKERS, MOST_WINDOW};
+
+use dump_lanes::{MOST_WINDOW, MOST_WORKERS};
 
 /// How many workers there are, and how many records are in flight at most.
 #[derive(Clone, Copy, Debug, PartialEq, Eq)]
@@ -7,9 +10,9 @@ pub struct Plan {
     workers: usize,
     window: usize,
     pub ghost some_workers: { 1 ≤ workers },
-    pub ghost most_workers: { workers ≤ 64 },
+    pub ghost most_workers: { workers ≤ MOST_WORKERS },
     pub ghost some_window: { 1 ≤ window },
-    pub ghost most_window: { window ≤ 4096 },
+    pub ghost most_window: { window ≤ MOST_WINDOW },
 }
 
 impl Plan {
@@ -22,7 +25,7 @@ impl Plan {
         ensures workers { IfSome result (λ plan. worker_count plan ≡ workers) }
         ensures window { IfSome result (λ plan. window_size plan ≡ window) }
     {
-        if workers < 1 || workers > 64 || window < 1 || window > 4096 {
+        if workers < 1 || workers > MOST_WORKERS || window < 1 || window > MOST_WINDOW {
             return None;
         }
         Some(Plan { workers, window })

@@ -1,5 +1,6 @@
 //! How the two ends of a lane are made.
 ghost use Rattle.std.specs.Prelude.{◌≡◌, ◌≤◌, ◌+◌, [], IfOk};
+ghost use Rattle.dump_lanes.specs.declared.limits.TheConstants.{MOST_WINDOW};
 ghost use Rattle.dump_lanes.specs.steps.LaneEnds.{LaneEnd};
 ghost use Rattle.dump_lanes.specs.steps.LaneViews.{sending, receiving, places};
 
@@ -13,7 +14,7 @@ use std::alloc::Global;
 /// no more than `capacity` items are ever in the lane at once.
 pub fn lane<T: Drop>(alloc: Global, capacity: usize) -> Result<(LaneIn<T>, LaneOut<T>), Memory>
     requires some { 1 ≤ capacity }
-    requires most { capacity ≤ 4096 }
+    requires most { capacity ≤ MOST_WINDOW }
     ensures ends { IfOk result (λ ends. (receiving ends.1).lane ≡ (sending ends.0).lane) }
     ensures room { IfOk result (λ ends. places ends.0 ≡ capacity + 1) }
     ensures nothing_put { IfOk result (λ ends. (sending ends.0).put ≡ []) }

@@ -1,6 +1,7 @@
 //! The queues of a pool.
 ghost use Rattle.std.specs.Prelude.{◌≡◌, ◌+◌, ◌≤◌};
 ghost use Rattle.crossbeam_queue.specs.Passes.{ruled_capacity};
+ghost use Rattle.dump_lanes.specs.declared.limits.TheConstants.{MOST_WORKERS};
 
 use super::bell::Bells;
 use super::credits::{CreditQueue, Purse, Token};
@@ -22,7 +23,7 @@ pub struct Queues<J: Drop, D: Drop> {
     pub workers: usize,
     pub window: usize,
     ghost some_workers: { 1 ≤ workers },
-    ghost most_workers: { workers ≤ 64 },
+    ghost most_workers: { workers ≤ MOST_WORKERS },
     ghost job_places: { ruled_capacity jobs ≡ window + workers },
     ghost places: { ruled_capacity dones ≡ window + workers },
     ghost credit_places: { ruled_capacity credits ≡ window },

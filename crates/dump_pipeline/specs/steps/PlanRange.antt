@@ -1,6 +1,7 @@
 -- The numbers that a plan may have.
 use Rattle.std.specs.Prelude.{ℕ, ◌≤◌}
+use Rattle.dump_lanes.specs.declared.limits.TheConstants.{MOST_WORKERS, MOST_WINDOW}
 
 -- there may be so many workers, and so wide a window (this project's own rule)
 abbrev pub IsInRange : ℕ → ℕ → Type 0
-IsInRange workers window = (1 ≤ workers) × (workers ≤ 64) × (1 ≤ window) × (window ≤ 4096)
+IsInRange workers window = (1 ≤ workers) × (workers ≤ MOST_WORKERS) × (1 ≤ window) × (window ≤ MOST_WINDOW)
