@@ -1,0 +1,28 @@
+-- The command that clap reads the words behind the side by.
+use Rattle.std.specs.Prelude.{true, Some, codes}
+use Rattle.clap.specs.Lexer.{usize_max}
+use Rattle.clap.specs.Simple.{on_top}
+use Rattle.clap.specs.Words.{App, Rule, Text, new_app, new_rule, with_rule}
+use Rattle.clap.specs.declared.builder.action.ArgAction.TheVariants.{SetTrue}
+
+-- a flag without a value
+abbrev pub switch : Text → Rule
+switch name = record (new_rule name) { long = Some name; action = Some SetTrue }
+
+-- one or more prefixes
+abbrev pub prefixes : Rule
+prefixes = record (new_rule (codes "PREFIX")) {
+  required = true;
+  range = Some (record { start_inclusive = 1; end_inclusive = usize_max });
+}
+
+-- no help
+abbrev pub bare : App
+bare = on_top (λ s. record s { disable_help_flag = true }) (new_app (codes "svndumpsurvey"))
+
+-- flags in any order, before, between and behind the prefixes
+abbrev pub flags : App
+flags =
+    let drops = with_rule (with_rule bare (switch (codes "drop-empty-revs"))) (switch (codes "drop-all-empty-revs")) in
+    let numbers = with_rule (with_rule drops (switch (codes "renumber-revs"))) (switch (codes "preserve-revprops")) in
+    with_rule (with_rule numbers (switch (codes "skip-missing-merge-sources"))) prefixes

@@ -1,0 +1,47 @@
+-- What the program does with its words and its input.
+use Rattle.std.specs.Prelude.{◌≡◌, ℕ, Bool, true, false, ◌⊎◌, List, Option, Result, Ok, Err, IfSome}
+use Rattle.std.specs.Io.KnownBytes.{Keeps, Appends}
+use Rattle.dump_rules.specs.Settings.{Settings}
+use Rattle.dump_writer.specs.SinkWords.{IsPrefixOf}
+use Rattle.dump_survey.specs.SurveyText.{IsSurveyText}
+use Rattle.survey_cli.specs.Words.{AnswersTo}
+use Rattle.survey_cli.specs.declared.words.Usage.{Usage}
+use Rattle.survey_cli.specs.declared.words.Usage.TheVariants.{Words, BothDrops, Memory}
+
+-- the status of a whole survey: whether something is found
+abbrev pub status_of : Bool → ℕ
+status_of false = 0
+status_of true = 1
+
+-- the writer took the first of the bytes, perhaps all
+abbrev pub TakesFirst : Option (List ℕ) → Option (List ℕ) → List ℕ → Type 0
+TakesFirst old new text = (part : List ℕ) × IsPrefixOf part text × Appends old new part
+
+-- the writer took the text of this dump's survey, and the status is its own; or it took a first part of it, and the
+-- status is that of a failure
+pub record SurveysDump (settings : Settings) (dump : List ℕ) (old new : Option (List ℕ)) (status : ℕ) : Type 0 where
+  pub text : List ℕ
+  pub found : Bool
+  pub is : IsSurveyText settings dump text found
+  pub arrived : (Appends old new text × (status ≡ status_of found)) ⊎ (TakesFirst old new text × (status ≡ 3))
+
+-- the whole input is surveyed, or nothing is written for want of memory or input
+abbrev pub SurveysInput : Settings → Option (List ℕ) → Option (List ℕ) → Option (List ℕ) → ℕ → Type 0
+SurveysInput settings input old new status =
+    IfSome input (λ dump. SurveysDump settings dump old new status) ⊎ (Keeps old new × (status ≡ 3))
+
+-- other words are refused by 2, and want of memory to read them by 3
+abbrev pub refusal_status : Usage → ℕ
+refusal_status Words = 2
+refusal_status BothDrops = 2
+refusal_status Memory = 3
+
+-- words that were refused write nothing, and others are obeyed on the input
+abbrev pub Obeys : Result Settings Usage → Option (List ℕ) → Option (List ℕ) → Option (List ℕ) → ℕ → Type 0
+Obeys (Err usage) input old new status = Keeps old new × (status ≡ refusal_status usage)
+Obeys (Ok settings) input old new status = SurveysInput settings input old new status
+
+-- words of this meaning have an answer, and it is obeyed
+abbrev pub Surveys : Result Settings Usage → Option (List ℕ) → Option (List ℕ) → Option (List ℕ) → ℕ → Type 0
+Surveys meaning input old new status = (answer : Result Settings Usage) × AnswersTo meaning answer
+    × Obeys answer input old new status

@@ -1,0 +1,4 @@
+pub mod CommandLine
+pub mod Drive
+pub mod Words
+pub mod steps

@@ -1,0 +1,82 @@
+-- What the program's words mean, by the side and by what clap finds behind it.
+use Rattle.std.specs.Prelude.{◌≡◌, ◌&&◌, Bool, true, false, List, [], Option, Some, None, Result, Ok, Err, ⊤, codes, drop, is_some, slice_get, unwrap_or, if◌then◌else◌}
+use Rattle.std.specs.Option.{option_and_then, option_map_or}
+use Rattle.std.specs.Str.{bytes_eq}
+use Rattle.clap.specs.Walk.{is_empty}
+use Rattle.clap.specs.Words.{Row, Text, all_of, fault_of, matches_of, one_of, takes}
+use Rattle.dump_rules.specs.Settings.{Settings}
+use Rattle.dump_rules.specs.declared.options.Side.{Side}
+use Rattle.dump_rules.specs.declared.options.Side.TheVariants.{Include, Exclude}
+use Rattle.dump_rules.specs.declared.options.Empty.{Empty}
+use Rattle.dump_rules.specs.declared.options.Empty.TheVariants.{Pad, DropEmptied, DropAll}
+use Rattle.survey_cli.specs.CommandLine.{flags}
+use Rattle.survey_cli.specs.declared.words.Usage.{Usage}
+use Rattle.survey_cli.specs.declared.words.Usage.TheVariants.{Words, BothDrops, Memory}
+
+-- the side of this name
+abbrev pub side_of : Text → Option Side
+side_of word = if bytes_eq word (codes "include") then Some Include
+    else (if bytes_eq word (codes "exclude") then Some Exclude else None)
+
+-- the line behind the program's name begins with the side
+abbrev pub side_in : List Text → Option Side
+side_in line = option_and_then side_of (slice_get line 0)
+
+-- the words name a side, and what stands behind it is what the command takes
+abbrev pub is_lawful : List Text → Bool
+is_lawful words = is_some (side_in (drop 1 words)) && is_empty (fault_of flags (drop 1 words))
+
+-- the same by clap's test of what it takes
+abbrev pub is_taken : List Text → Bool
+is_taken words = is_some (side_in (drop 1 words)) && takes flags (drop 1 words)
+
+-- whether a switch is set
+abbrev pub is_set : Text → List Row → Bool
+is_set name rows = option_map_or (λ text. bytes_eq text (codes "true")) (one_of name rows) false
+
+-- what becomes of empty revisions: by the first drop flag, by the second, and not by both
+abbrev pub empty_of : Bool → Bool → Option Empty
+empty_of false false = Some Pad
+empty_of true false = Some DropEmptied
+empty_of false true = Some DropAll
+empty_of true true = None
+
+-- the same, by the rows behind a side
+abbrev pub empty_in : List Row → Option Empty
+empty_in rows = empty_of (is_set (codes "drop-empty-revs") rows) (is_set (codes "drop-all-empty-revs") rows)
+
+-- the settings of a side and its rows, where it is known what becomes of empty revisions
+abbrev pub settings_with : Option Empty → Side → List Row → Result Settings Usage
+settings_with None side rows = Err BothDrops
+settings_with (Some empty) side rows = Ok (record {
+  side = side;
+  prefixes = unwrap_or (all_of (codes "PREFIX") rows) [];
+  empty = empty;
+  renumber = is_set (codes "renumber-revs") rows;
+  preserve = is_set (codes "preserve-revprops") rows;
+  skip_missing = is_set (codes "skip-missing-merge-sources") rows;
+})
+
+-- the settings that a side and its rows give
+abbrev pub order_of : Side → List Row → Result Settings Usage
+order_of side rows = settings_with (empty_in rows) side rows
+
+-- the settings by the side that a line begins with, by whether clap takes the line, and by the rows that it finds
+abbrev pub settings_by : Option Side → Bool → List Row → Result Settings Usage
+settings_by None is_taken rows = Err Words
+settings_by (Some side) is_taken rows = if is_taken then order_of side rows else Err Words
+
+-- the settings that a line gives; clap passes over its first word, which is the side
+abbrev pub meaning_of_line : List Text → Result Settings Usage
+meaning_of_line line = settings_by (side_in line) (is_empty (fault_of flags line)) (matches_of flags line)
+
+-- the settings that the words give: only a lawful line gives some, unless it asks for both ways to drop revisions
+abbrev pub meaning_of : List Text → Result Settings Usage
+meaning_of words = meaning_of_line (drop 1 words)
+
+-- the answer to words of this meaning: want of memory may hide it, and nothing else
+abbrev pub AnswersTo : Result Settings Usage → Result Settings Usage → Type 0
+AnswersTo meaning (Ok settings) = meaning ≡ Ok settings
+AnswersTo meaning (Err Words) = meaning ≡ Err Words
+AnswersTo meaning (Err BothDrops) = meaning ≡ Err BothDrops
+AnswersTo meaning (Err Memory) = ⊤

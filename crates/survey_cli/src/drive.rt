@@ -1,0 +1,154 @@
+//! The whole program, over any reader and writers.
+ghost use Rattle.std.specs.Prelude.{◌≡◌, [], map, Ok, IfErr, IfOk};
+ghost use Rattle.std.specs.Io.KnownBytes.{GrowsBy, Keeps};
+ghost use Rattle.dump_writer.specs.steps.SinkStates.{lent_taken, loan_of};
+ghost use Rattle.survey_cli.specs.Words.{meaning_of};
+ghost use Rattle.survey_cli.specs.Drive.{SurveysInput, Surveys, refusal_status};
+ghost use Rattle.survey_cli.specs.steps.Answered.{Arrives, told_status};
+
+use crate::input::{Unread, read_all};
+use crate::lines::{write_failure, write_unread, write_usage};
+use crate::words::{Usage, options_of};
+use dump_rules::Options;
+use dump_survey::{SurveyFailure, write_survey};
+use dump_writer::{OutMut, SinkDown};
+use std::alloc::Global;
+use std::io::{Read, Write};
+
+/// So many bytes of small texts wait for one call of the writer.
+const BUFFER: usize = 1 << 16;
+
+/// A survey that broke off.
+#[derive(Clone, Copy)]
+struct BrokenOff {
+    failure: SurveyFailure,
+    /// How many bytes the writer took.
+    written: u64,
+}
+
+/// The whole program, with its exit status. The reader is thought to have so many bytes; the number spares growing and
+/// has no other meaning.
+pub fn drive<'a, R: Read, W: Write, E: Write>(
+    alloc: Global,
+    words: &'a [&'a str],
+    size: u64,
+    reader: &mut R,
+    writer: &mut W,
+    errors: &mut E,
+) -> u8
+    ensures { Surveys (meaning_of (map (λ word. word.now) words.now)) (R.remaining reader.old) (W.contents writer.old) (W.contents writer.new) result }
+{
+    match options_of(alloc, words) {
+        Ok(options) => survey_input(alloc, &options, size, reader, writer, errors),
+        Err(usage) => refuse(errors, usage),
+    }
+}
+
+/// The line and the status of words that give no options.
+pub fn refuse<E: Write>(errors: &mut E, usage: Usage) -> u8
+    ensures { result ≡ refusal_status usage }
+{
+    match usage {
+        Usage::Words | Usage::BothDrops => {
+            write_usage(errors);
+            2
+        }
+        Usage::Memory => tell_want_of_memory(errors),
+    }
+}
+
+// Surveys the whole input under these options.
+fn survey_input<R: Read, W: Write, E: Write>(
+    alloc: Global,
+    options: &Options,
+    size: u64,
+    reader: &mut R,
+    writer: &mut W,
+    errors: &mut E,
+) -> u8
+    ensures { SurveysInput options.now (R.remaining reader.old) (W.contents writer.old) (W.contents writer.new) result }
+{
+    let input = match read_all(alloc, reader, size) {
+        Ok(input) => input,
+        Err(Unread::Memory) => return tell_want_of_memory(errors),
+        Err(Unread::Source) => {
+            write_unread(errors);
+            return 3;
+        }
+    };
+    let Ok(buffer) = Vec::with_capacity(alloc, BUFFER) else {
+        return tell_want_of_memory(errors);
+    };
+    let mut sink = OutMut::new(writer, buffer);
+    let answer = survey_and_flush(alloc, input.as_slice(), options, &mut sink);
+    let _ = sink.into_inner();
+    tell(errors, answer)
+}
+
+// Writes the survey, and hands on all that waits behind it.
+fn survey_and_flush<W: Write>(
+    alloc: Global,
+    dump: &[u8],
+    options: &Options,
+    sink: &mut OutMut<'_, W>,
+) -> Result<bool, BrokenOff>
+    requires waiting { sink.old.waiting ≡ [] }
+    requires start { sink.old.out.start ≡ sink.old.out.taken }
+    ensures arrives { Arrives options.now dump.now sink.old.out.taken sink.new.out.taken result }
+    ensures loan { loan_of sink.new ≡ loan_of sink.old }
+{
+    let answer = write_survey(alloc, dump, options, sink);
+    flush_behind(sink, answer)
+}
+
+// Hands on all that waits behind a survey, unless its sink failed: then no more is tried.
+fn flush_behind<W: Write>(
+    sink: &mut OutMut<'_, W>,
+    answer: Result<bool, SurveyFailure>,
+) -> Result<bool, BrokenOff>
+    ensures taken { Keeps (lent_taken sink.old) (lent_taken sink.new) }
+    ensures told { IfOk result (λ found. (answer ≡ Ok found) × (sink.new.waiting ≡ [])) }
+    ensures grown { IfErr result (λ broken. GrowsBy sink.new.out.start sink.new.out.taken broken.written) }
+    ensures loan { loan_of sink.new ≡ loan_of sink.old }
+{
+    if let Err(SurveyFailure::Sink) = answer {
+        return Err(broken_off(sink, SurveyFailure::Sink));
+    }
+    match (sink.flush(), answer) {
+        (Ok(()), Ok(found)) => Ok(found),
+        (Ok(()), Err(failure)) => Err(broken_off(sink, failure)),
+        (Err(SinkDown), _) => Err(broken_off(sink, SurveyFailure::Sink)),
+    }
+}
+
+// A failure, with the bytes that the sink's writer took.
+fn broken_off<W: Write>(sink: &OutMut<'_, W>, failure: SurveyFailure) -> BrokenOff
+    ensures { GrowsBy sink.now.out.start sink.now.out.taken result.written }
+{
+    BrokenOff {
+        failure,
+        written: sink.written(),
+    }
+}
+
+// The line of a survey that broke off, and the status.
+fn tell<E: Write>(errors: &mut E, answer: Result<bool, BrokenOff>) -> u8
+    ensures { result ≡ told_status answer }
+{
+    match answer {
+        Ok(false) => 0,
+        Ok(true) => 1,
+        Err(BrokenOff { failure, written }) => {
+            write_failure(errors, failure, written);
+            3
+        }
+    }
+}
+
+// The line and the status where there was no memory before the survey.
+fn tell_want_of_memory<E: Write>(errors: &mut E) -> u8
+    ensures { result ≡ 3 }
+{
+    write_failure(errors, SurveyFailure::Memory, 0);
+    3
+}

@@ -1,0 +1,4 @@
+//! What no clause says: the lines as users see them, and streams that fail.
+
+mod drive;
+mod words;

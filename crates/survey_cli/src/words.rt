@@ -1,0 +1,148 @@
+//! The words on the command line.
+ghost use Rattle.std.specs.Prelude.{◌≡◌, ◌≢◌, ◌⊎◌, [], IfOk, Err, map, true, codes, drop, unwrap_or};
+ghost use Rattle.clap.specs.Words.{all_of, found_of, kind_of, rows_of};
+ghost use Rattle.dump_rules.specs.Settings.{Settings};
+ghost use Rattle.survey_cli.specs.Words.{AnswersTo, empty_in, is_lawful, is_set, is_taken, meaning_of, meaning_of_line, order_of, side_of, side_in};
+
+use crate::command::flags;
+use clap::error::ErrorKind;
+use clap::{ArgMatches, Error};
+use dump_rules::{Empty, Options, Side};
+use std::alloc::Global;
+
+/// Why words give no order.
+#[derive(Clone, Copy, Debug, PartialEq, Eq, thiserror::Error)]
+pub enum Usage {
+    /// They are no line that the program takes.
+    #[error("the words are no call of svndumpsurvey")]
+    Words,
+    /// They ask for both ways to drop revisions.
+    #[error("both ways to drop revisions are asked for")]
+    BothDrops,
+    /// No memory was left for the order.
+    #[error("no memory is left to read the words")]
+    Memory,
+}
+
+/// The options of the filter whose dump is surveyed. `words[0]` is the program's name.
+pub fn options_of<'a>(alloc: Global, words: &'a [&'a str]) -> Result<Options, Usage>
+    ensures meaning { AnswersTo (meaning_of (map (λ word. word.now) words.now)) result }
+
+    // No lawful line is refused as other words.
+    ensures lawful { is_lawful (map (λ word. word.now) words.now) ≡ true → result ≢ Err Usage.Words }
+    ensures takes { is_taken (map (λ word. word.now) words.now) ≡ true → result ≢ Err Usage.Words }
+{
+    let Some((_, line)) = words.split_first() else {
+        return Err(Usage::Words);
+    };
+    let Some(side) = side_in(line) else {
+        return Err(Usage::Words);
+    };
+    let Ok(command) = flags(alloc) else {
+        return Err(Usage::Memory);
+    };
+    match command.try_get_matches_from(line) {
+        Ok(matches) => read_options(alloc, side, &matches),
+        Err(error) => Err(refusal(&error)),
+    }
+}
+
+// The side that a line begins with.
+fn side_in(line: &[&str]) -> Option<Side>
+    ensures { result ≡ side_in (map (λ word. word.now) line.now) }
+{
+    match line.first() {
+        Some(word) => side_of(word),
+        None => None,
+    }
+}
+
+fn side_of(word: &str) -> Option<Side>
+    ensures { result ≡ side_of word.now }
+{
+    match word {
+        "include" => Some(Side::Include),
+        "exclude" => Some(Side::Exclude),
+        _ => None,
+    }
+}
+
+// Why clap refuses the words.
+fn refusal(error: &Error) -> Usage
+    ensures memory { kind_of error.now ≡ ErrorKind.OutOfMemory → result ≡ Usage.Memory }
+    ensures words { kind_of error.now ≢ ErrorKind.OutOfMemory → result ≡ Usage.Words }
+    ensures either { (result ≡ Usage.Words) ⊎ (result ≡ Usage.Memory) }
+{
+    match error.kind() {
+        ErrorKind::OutOfMemory => Usage::Memory,
+        _ => Usage::Words,
+    }
+}
+
+// The options that a side and what stands behind it give.
+fn read_options(alloc: Global, side: Side, matches: &ArgMatches<'_>) -> Result<Options, Usage>
+    ensures { AnswersTo (order_of side (rows_of (found_of matches.now))) result }
+{
+    let Some(empty) = read_empty(matches) else {
+        return Err(Usage::BothDrops);
+    };
+    let Ok(prefixes) = read_prefixes(alloc, matches) else {
+        return Err(Usage::Memory);
+    };
+    let options = Options::new(
+        alloc,
+        side,
+        prefixes.as_slice(),
+        empty,
+        is_set(matches, "renumber-revs"),
+        is_set(matches, "preserve-revprops"),
+        is_set(matches, "skip-missing-merge-sources"),
+    );
+    match options {
+        Ok(options) => Ok(options),
+        Err(_) => Err(Usage::Memory),
+    }
+}
+
+fn is_set(matches: &ArgMatches<'_>, name: &str) -> bool
+    ensures { result ≡ is_set name.now (rows_of (found_of matches.now)) }
+{
+    matches.get_one(name).unwrap_or(false)
+}
+
+// What the flags make of empty revisions, where they don't contradict each other.
+fn read_empty(matches: &ArgMatches<'_>) -> Option<Empty>
+    ensures { result ≡ empty_in (rows_of (found_of matches.now)) }
+{
+    match (
+        is_set(matches, "drop-empty-revs"),
+        is_set(matches, "drop-all-empty-revs"),
+    ) {
+        (false, false) => Some(Empty::Pad),
+        (true, false) => Some(Empty::DropEmptied),
+        (false, true) => Some(Empty::DropAll),
+        (true, true) => None,
+    }
+}
+
+fn read_prefixes<'a>(alloc: Global, matches: &ArgMatches<'a>) -> Result<Vec<&'a [u8]>, Usage>
+    ensures { IfOk result (λ texts. map (λ text. text.now) texts.items ≡ unwrap_or (all_of (codes "PREFIX") (rows_of (found_of matches.now))) []) }
+{
+    match matches.get_strs("PREFIX") {
+        Some(words) => as_bytes(alloc, words),
+        None => Ok(Vec::new(alloc)),
+    }
+}
+
+// The words' bytes.
+fn as_bytes<'a>(alloc: Global, words: &[&'a str]) -> Result<Vec<&'a [u8]>, Usage>
+    ensures { IfOk result (λ texts. map (λ text. text.now) texts.items ≡ map (λ word. word.now) words.now) }
+{
+    let mut texts = Vec::new(alloc);
+    for word in words {
+        if texts.push(word.as_bytes()).is_err() {
+            return Err(Usage::Memory);
+        }
+    }
+    Ok(texts)
+}
