@@ -1,4 +1,5 @@
 # make            proves and builds the program, build/svndumpfilter
+# make survey     proves and builds the second program, build/svndumpsurvey
 # make test       proves what isn't proved yet, runs the tests of every crate, and then tests/ on the program
 # make suites     runs tests/ on the program alone
 # make gate       what a merge needs beside that: proves every crate and its tests once more from nothing, sees that
@@ -20,11 +21,12 @@ NAME ?= svndumpfilter-proved
 FORCE ?=
 
 PROGRAM := build/svndumpfilter
+SURVEY := build/svndumpsurvey
 PLAIN := build/run_plain
 INSTALLED := PREFIX="$(PREFIX)" DESTDIR="$(DESTDIR)" NAME="$(NAME)" FORCE="$(FORCE)" tools/installed
 SOURCES := $(shell tools/sources)
 
-.PHONY: all toolchain test suites gate check case bench soak install uninstall deb clean
+.PHONY: all survey toolchain test suites gate check case bench soak install uninstall deb clean
 .DELETE_ON_ERROR:
 
 all: $(PROGRAM)
@@ -37,14 +39,24 @@ $(PROGRAM): $(SOURCES) | toolchain
 	@tools/build
 	@echo "make: $@ is built"
 
+survey: $(SURVEY)
+
+# the crates that both programs stand on are proved once, by the first
+$(SURVEY): $(SOURCES) | toolchain $(PROGRAM)
+	@echo "make: proving and building $@"
+	@tools/build svndumpsurvey
+	@echo "make: $@ is built"
+
 test: $(PROGRAM) | toolchain
 	@echo "make: proving and running the tests of every crate"
 	tools/tests
 	@$(MAKE) --no-print-directory suites
 
-suites: $(PROGRAM)
+suites: $(PROGRAM) $(SURVEY)
 	@echo "make: running tests/cases on $(PROGRAM)"
 	tests/run $(PROGRAM)
+	@echo "make: running tests/survey on $(SURVEY)"
+	tests/run --survey $(SURVEY)
 	@echo "make: refusing each growth of memory and each start of a thread in turn"
 	tests/refusals $(PROGRAM)
 	@echo "make: running $(PROGRAM) on hostile input, streams and limits"

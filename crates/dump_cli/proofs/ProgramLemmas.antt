@@ -1,5 +1,5 @@
 -- What a lawful line of the program gives.
-use Rattle.std.proofs.Common.{◌≡◌, ◌&&◌, Bool, true, false, not, refl, sym, ap, subst, List, [], length, map, is_some, codes, inl, inr, lit<}
+use Rattle.std.proofs.Common.{◌≡◌, ◌&&◌, Bool, true, false, not, refl, sym, ap, subst, [], length, map, is_some, codes, inl, inr, lit<}
 use Rattle.std.proofs.lemmas.Bool.{eqb-true}
 use Rattle.std.proofs.lemmas.List.{nil_from_length}
 use Rattle.std.specs.List.{list_any}
@@ -8,7 +8,7 @@ use Rattle.clap.specs.Built.{IsParsedFrom}
 use Rattle.clap.specs.Facts.{args_of, groups_of}
 use Rattle.clap.specs.Matches.{found_of}
 use Rattle.clap.specs.Simple.{app_of, has_plain_fields}
-use Rattle.clap.specs.Walk.{Rule, Text, is_empty, rows_of, rule_of}
+use Rattle.clap.specs.Walk.{is_empty, rows_of, rule_of}
 use Rattle.clap.specs.Words.{is_simple, is_simple_and_free}
 use Rattle.clap.specs.declared.builder.command.Command.{Command}
 use Rattle.clap.specs.declared.builder.command.Command.TheOpen.{Command-F}

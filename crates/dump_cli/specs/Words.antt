@@ -1,10 +1,10 @@
 -- What the program's words mean, by the side and by what clap finds behind it.
-use Rattle.std.specs.Prelude.{◌≡◌, ◌&&◌, ◌||◌, ℕ, Bool, true, false, List, [], Option, Some, None, Result, Ok, Err, ⊤, codes, drop, is_some, option_and_then, slice_get, unwrap_or, if◌then◌else◌}
+use Rattle.std.specs.Prelude.{◌≡◌, ◌||◌, ℕ, Bool, true, false, List, [], Option, Some, None, Result, Ok, Err, ⊤, codes, drop, option_and_then, slice_get, unwrap_or, if◌then◌else◌}
 use Rattle.std.specs.Option.{option_map_or}
 use Rattle.std.specs.Str.{bytes_eq}
 use Rattle.std.specs.Str.Parse.{digits_value, without_leading_plus}
 use Rattle.clap.specs.Walk.{is_empty}
-use Rattle.clap.specs.Words.{Row, Text, all_of, fault_of, matches_of, one_of, takes}
+use Rattle.clap.specs.Words.{Row, Text, all_of, fault_of, matches_of, one_of}
 use Rattle.dump_rules.specs.Settings.{Settings}
 use Rattle.dump_rules.specs.declared.options.Side.{Side}
 use Rattle.dump_rules.specs.declared.options.Side.TheVariants.{Include, Exclude}
@@ -20,14 +20,6 @@ use Rattle.dump_cli.specs.declared.words.Usage.TheVariants.{Words, BothDrops, Me
 abbrev pub side_name : List Text → Option Text
 side_name line = option_and_then (λ word. if bytes_eq word (codes "include") || bytes_eq word (codes "exclude")
     then Some word else None) (slice_get line 0)
-
--- behind the program's name stands a side, and behind that what the command takes
-abbrev pub is_lawful : List Text → Bool
-is_lawful words = is_some (side_name (drop 1 words)) && is_empty (fault_of program (drop 1 words))
-
--- the same by clap's test of what it takes
-abbrev pub is_taken : List Text → Bool
-is_taken words = is_some (side_name (drop 1 words)) && takes program (drop 1 words)
 
 -- whether a switch is set
 abbrev pub is_set : Text → List Row → Bool

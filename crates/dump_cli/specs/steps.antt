@@ -1,3 +1,4 @@
-pub mod Lines
 pub mod DrainedRun
 pub mod FilledFlags
+pub mod LawfulLines
+pub mod Lines

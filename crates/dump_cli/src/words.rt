@@ -2,7 +2,8 @@
 ghost use Rattle.std.specs.Prelude.{◌≡◌, ◌≢◌, ◌≤◌, ◌⊎◌, ℕ, [], IfOk, Err, map, option_map, true, codes, unwrap_or};
 ghost use Rattle.clap.specs.Words.{all_of, found_of, kind_of, rows_of};
 ghost use Rattle.dump_pipeline.specs.PlanViews.{worker_count, window_size};
-ghost use Rattle.dump_cli.specs.Words.{AnswersTo, empty_in, is_lawful, is_set, is_taken, meaning_of, number_of, order_of, side_name, side_of};
+ghost use Rattle.dump_cli.specs.Words.{AnswersTo, empty_in, is_set, meaning_of, number_of, order_of, side_name, side_of};
+ghost use Rattle.dump_cli.specs.steps.LawfulLines.{is_lawful, is_taken};
 ghost use Rattle.dump_cli.specs.steps.FilledFlags.{AreFilled, IsNumber};
 
 use crate::command::program;

@@ -1,15 +1,9 @@
 -- The lines of a survey, word for word.
-use Rattle.std.specs.Prelude.{ℕ, ◌+◌, ◌/◌, ◌%◌, Bool, true, false, ◌||◌, ◌==◌, List, [], ◌∷◌, flat_map, nat_lt, unwrap_or, codes, decimal, if◌then◌else◌}
+use Rattle.std.specs.Prelude.{ℕ, ◌+◌, ◌/◌, ◌%◌, Bool, true, false, ◌||◌, ◌==◌, List, [], ◌∷◌, flat_map, nat_lt, codes, decimal, if◌then◌else◌}
 use Rattle.std.specs.List.{concat}
-use Rattle.dump_text.specs.Names.{copy_revision_name}
 use Rattle.dump_text.specs.FaultTable.{fault_code}
-use Rattle.dump_text.specs.steps.FaultNames.{fault_name}
-use Rattle.dump_records.specs.HeaderRules.{header_number}
-use Rattle.dump_records.specs.RecordText.{DumpRecord}
 use Rattle.dump_records.specs.DumpText.{Ending}
 use Rattle.dump_rules.specs.Prefix.{bare_path}
-use Rattle.dump_digest.specs.RecordParts.{node_path}
-use Rattle.dump_history.specs.RecordChanges.{copy_path}
 use Rattle.dump_history.specs.Findings.{Finding, DumpFinding}
 use Rattle.dump_survey.specs.Told.{NodeTold}
 
@@ -31,9 +25,9 @@ unfoldable pub place_text : ℕ → ℕ → List ℕ
 place_text number place = concat (codes "record " ∷ decimal number ∷ codes ", byte " ∷ decimal place ∷ [])
 
 -- what a node is copied from
-unfoldable pub source_text : DumpRecord → List ℕ
-source_text r = concat (codes " is copied from " ∷ shown_path (copy_path r)
-    ∷ codes " at r" ∷ decimal (unwrap_or (header_number copy_revision_name r.headers) 0) ∷ [])
+unfoldable pub source_text : NodeTold → List ℕ
+source_text t = concat (codes " is copied from " ∷ shown_path t.copy_path
+    ∷ codes " at r" ∷ decimal t.copy_revision ∷ [])
 
 -- whether a finding's line tells what the node is copied from
 abbrev pub tells_source : Finding → Bool
@@ -61,9 +55,9 @@ finding_words Finding.TextComesIn = codes ", which is not kept, and has a text f
 
 -- the line of a finding in a node
 unfoldable pub node_line : NodeTold → List ℕ
-node_line t = concat (place_text t.number t.item.place ∷ codes ", r" ∷ decimal t.revision ∷ codes ": "
-    ∷ shown_path (node_path t.item)
-    ∷ (if tells_source t.finding then source_text t.item else [])
+node_line t = concat (place_text t.number t.place ∷ codes ", r" ∷ decimal t.revision ∷ codes ": "
+    ∷ shown_path t.path
+    ∷ (if tells_source t.finding then source_text t else [])
     ∷ finding_words t.finding ∷ codes "\n" ∷ [])
 
 -- the line of a finding in the dump as a whole
@@ -78,4 +72,4 @@ dump_line DumpFinding.NumbersLeft =
 unfoldable pub ending_line : ℕ → Ending → List ℕ
 ending_line count Ending.Whole = []
 ending_line count (Ending.Broken kind place) = concat (place_text count place ∷ codes ": fault "
-    ∷ decimal (fault_code kind) ∷ codes " " ∷ fault_name kind ∷ codes ", what follows is not read\n" ∷ [])
+    ∷ decimal (fault_code kind) ∷ codes ", what follows is not read\n" ∷ [])

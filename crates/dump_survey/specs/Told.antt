@@ -1,37 +1,53 @@
 -- What a survey tells of a dump: each finding in a node of a revision, in order, and where it is.
-use Rattle.std.specs.Prelude.{◌≡◌, ℕ, ◌+◌, List, [], ◌∷◌, ◌++◌, map, Option, Some, None, if◌then◌else◌, MatchBool}
+use Rattle.std.specs.Prelude.{◌≡◌, ℕ, ◌+◌, List, [], ◌∷◌, ◌++◌, map, Option, Some, None, unwrap_or, if◌then◌else◌, MatchBool}
+use Rattle.dump_text.specs.Names.{copy_revision_name}
+use Rattle.dump_records.specs.HeaderRules.{header_number}
 use Rattle.dump_records.specs.RecordText.{DumpRecord}
-use Rattle.dump_records.specs.steps.RecordViews.{record_item, record_number}
 use Rattle.dump_rules.specs.Settings.{Settings}
-use Rattle.dump_digest.specs.RecordParts.{is_revision, is_node}
+use Rattle.dump_digest.specs.RecordParts.{is_revision, is_node, node_path}
 use Rattle.dump_filter.specs.Groups.{revision_number}
+use Rattle.dump_history.specs.RecordChanges.{copy_path}
 use Rattle.dump_history.specs.Findings.{Finding, AreFindingsOf}
 use Rattle.dump_survey.specs.Meaning.{meaning}
 use Rattle.dump_survey.specs.declared.told.Told.{Told}
 
--- a finding in a node: the record and its number, and the number of the revision that it belongs to
+-- a finding in a node: the record's number and place, the number of the revision that it belongs to, its path, and what
+-- it is copied from, no bytes and 0 where it is no copy
 pub record NodeTold : Type 0 where
   pub finding : Finding
   pub number : ℕ
+  pub place : ℕ
   pub revision : ℕ
-  pub item : DumpRecord
+  pub path : List ℕ
+  pub copy_path : List ℕ
+  pub copy_revision : ℕ
 
 -- a finding as the program has it
 abbrev pub told_view : Told → NodeTold
 told_view t = record {
   finding = meaning t.finding;
-  number = record_number t.item;
+  number = t.number;
+  place = t.place;
   revision = t.revision;
-  item = record_item t.item;
+  path = t.path.now;
+  copy_path = t.copy_path.now;
+  copy_revision = t.copy_revision;
 }
+
+-- the number of the revision that the node is copied from
+abbrev pub copy_revision : DumpRecord → ℕ
+copy_revision r = unwrap_or (header_number copy_revision_name r.headers) 0
 
 -- a finding in the node with this number, in this revision
 abbrev pub told_in : ℕ → ℕ → DumpRecord → Finding → NodeTold
 told_in number revision r finding = record {
   finding = finding;
   number = number;
+  place = r.place;
   revision = revision;
-  item = r;
+  path = node_path r;
+  copy_path = copy_path r;
+  copy_revision = copy_revision r;
 }
 
 -- the revision that a node belongs to which comes next, if there is one: behind a revision it is that one, and behind a

@@ -11,12 +11,10 @@ ghost use Rattle.dump_survey.specs.steps.Surveyed.{told_of_node};
 
 use crate::finding::{EVERY_FINDING, NodeFinding};
 use crate::memory::Memory;
-use crate::node::{copy_path_of, copy_revision_of, path_of};
 use crate::slashes::bare_path;
 use crate::surveyor::End;
 use crate::tally::DumpFindings;
 use crate::told::{SurveyedNode, Told};
-use dump_records::Record;
 use dump_text::spell;
 use std::alloc::Global;
 
@@ -87,14 +85,13 @@ fn push_place(line: &mut Vec<u8>, number: u64, place: usize) -> Result<(), Memor
 
 /// Adds what a node is copied from.
 #[tactic(auto, unfolding(crate::specs::Lines::source_text))]
-fn push_source(line: &mut Vec<u8>, item: &Record<'_>) -> Result<(), Memory>
-    requires { IsTrue (is_node (record_item item.now)) }
-    ensures { OnOk result (line.new.items ≡ line.old.items ++ source_text (record_item item.now)) }
+fn push_source(line: &mut Vec<u8>, told: &Told<'_>) -> Result<(), Memory>
+    ensures { OnOk result (line.new.items ≡ line.old.items ++ source_text (told_view told.now)) }
 {
     line.extend_from_slice(b" is copied from ")?;
-    push_path(line, copy_path_of(item))?;
+    push_path(line, told.copy_path)?;
     line.extend_from_slice(b" at r")?;
-    push_number(line, copy_revision_of(item))
+    push_number(line, told.copy_revision)
 }
 
 /// Whether the finding's line tells what the node is copied from.
@@ -114,12 +111,11 @@ fn tells_source(finding: NodeFinding) -> bool
 
 /// Adds what the node is copied from, where the finding's line tells it.
 fn push_told_source(line: &mut Vec<u8>, told: &Told<'_>) -> Result<(), Memory>
-    requires { IsTrue (is_node (record_item told.now.item)) }
     ensures { OnOk result (line.new.items ≡ line.old.items
-        ++ (if tells_source (meaning told.now.finding) then source_text (record_item told.now.item) else [])) }
+        ++ (if tells_source (meaning told.now.finding) then source_text (told_view told.now) else [])) }
 {
     if tells_source(told.finding) {
-        push_source(line, &told.item)?;
+        push_source(line, told)?;
     }
     Ok(())
 }
@@ -149,14 +145,13 @@ fn words(finding: NodeFinding) -> &'static [u8]
 /// Adds the line of a finding in a node.
 #[tactic(auto, unfolding(crate::specs::Lines::node_line))]
 pub(crate) fn push_node_line(lines: &mut Vec<u8>, told: &Told<'_>) -> Result<(), Memory>
-    requires { IsTrue (is_node (record_item told.now.item)) }
     ensures { OnOk result (lines.new.items ≡ lines.old.items ++ node_line (told_view told.now)) }
 {
-    push_place(lines, told.item.number(), told.item.place())?;
+    push_place(lines, told.number, told.place)?;
     lines.extend_from_slice(b", r")?;
     push_number(lines, told.revision)?;
     lines.extend_from_slice(b": ")?;
-    push_path(lines, path_of(&told.item))?;
+    push_path(lines, told.path)?;
     push_told_source(lines, told)?;
     lines.extend_from_slice(words(told.finding))?;
     Ok(lines.push(b'\n')?)
@@ -206,8 +201,6 @@ fn push_ending_line(lines: &mut Vec<u8>, count: u64, end: End) -> Result<(), Mem
     push_place(lines, count, place)?;
     lines.extend_from_slice(b": fault ")?;
     push_number(lines, u64::from(kind.code()))?;
-    lines.extend_from_slice(b" ")?;
-    lines.extend_from_slice(kind.name().as_bytes())?;
     Ok(lines.extend_from_slice(b", what follows is not read\n")?)
 }
 

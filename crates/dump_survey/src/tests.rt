@@ -42,11 +42,8 @@ fn a_finding_is_told_with_its_place(rt: HostRuntime) -> Result<(), Fail> {
         return Err("one finding is wanted".into());
     };
     assert_eq!(rt; told.finding, NodeFinding::OddText);
-    assert_eq!(rt;
-        (told.item.number(), told.item.place(), told.revision),
-        (3, 71, 7)
-    );
-    assert_eq!(rt; told.item.path(), Some(b"trunk//a".as_slice()));
+    assert_eq!(rt; (told.number, told.place, told.revision), (3, 71, 7));
+    assert_eq!(rt; told.path, b"trunk//a".as_slice());
     let found = DumpFindings {
         other_numbers: true,
         ..NOTHING

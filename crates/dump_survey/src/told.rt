@@ -1,22 +1,32 @@
 //! What a survey tells of the nodes of a dump.
-ghost use Rattle.std.specs.Prelude.{◌≡◌, ◌++◌, OnOk, map};
+ghost use Rattle.std.specs.Prelude.{◌≡◌, ◌++◌, IsTrue, OnOk, map};
 ghost use Rattle.dump_records.specs.steps.RecordViews.{record_item, record_number};
+ghost use Rattle.dump_digest.specs.RecordParts.{is_node};
 ghost use Rattle.dump_survey.specs.Meaning.{meaning};
 ghost use Rattle.dump_survey.specs.Told.{told_view, told_in};
 ghost use Rattle.dump_survey.specs.steps.Surveyed.{told_of_node};
 
 use crate::finding::{EVERY_FINDING, Found, NodeFinding};
 use crate::memory::Memory;
+use crate::node::{copy_path_of, copy_revision_of, path_of};
 use dump_records::Record;
 
 /// A finding in a node, and where that is.
-#[derive(Clone, Copy)]
+#[derive(Clone, Copy, Debug, PartialEq, Eq)]
 pub struct Told<'a> {
     pub finding: NodeFinding,
-    /// The node's record.
-    pub item: Record<'a>,
+    /// The number of the node's record in the dump, from 0.
+    pub number: u64,
+    /// The byte of the dump at which the record begins.
+    pub place: usize,
     /// The number of the revision that the node belongs to.
     pub revision: u64,
+    /// The node's path, as it stands.
+    pub path: &'a [u8],
+    /// The path that the node is copied from, as it stands; no bytes where it is no copy.
+    pub copy_path: &'a [u8],
+    /// The number of the revision that the node is copied from; 0 where it is no copy.
+    pub copy_revision: u64,
 }
 
 /// A node of a revision, and what is found in it.
@@ -31,18 +41,24 @@ pub struct SurveyedNode<'a> {
 impl<'a> SurveyedNode<'a> {
     /// A finding as it is told of the node.
     pub(crate) fn told(&self, finding: NodeFinding) -> Told<'a>
+        requires { IsTrue (is_node (record_item self.now.item)) }
         ensures { told_view result ≡ told_in (record_number self.now.item) self.now.revision (record_item self.now.item)
             (meaning finding) }
     {
         Told {
             finding,
-            item: self.item,
+            number: self.item.number(),
+            place: self.item.place(),
             revision: self.revision,
+            path: path_of(&self.item),
+            copy_path: copy_path_of(&self.item),
+            copy_revision: copy_revision_of(&self.item),
         }
     }
 
     /// Adds what is found in the node to what is told already.
     pub fn tell(&self, told: &mut Vec<Told<'a>>) -> Result<(), Memory>
+        requires { IsTrue (is_node (record_item self.now.item)) }
         ensures { OnOk result (map told_view told.new.items ≡ map told_view told.old.items ++ told_of_node self.now) }
     {
         let mut left = EVERY_FINDING.as_slice();

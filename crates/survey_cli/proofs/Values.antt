@@ -1,12 +1,12 @@
 -- Worked values of the definitions, computed and proved by the kernel.
 use Rattle.std.proofs.Common.{◌≡◌, refl, true, false, List, [], ◌∷◌, length, Some, None, Ok, Err, codes}
-use Rattle.clap.specs.Words.{Row, Text}
-use Rattle.clap.specs.declared.builder.value_parser.Reading.TheVariants as reading
+use Rattle.clap.specs.Words.{Text}
 use Rattle.dump_rules.specs.declared.options.Side.TheVariants.{Include, Exclude}
 use Rattle.dump_rules.specs.declared.options.Empty.TheVariants.{Pad, DropAll}
 use Rattle.survey_cli.specs.CommandLine.{flags, prefixes, switch}
-use Rattle.survey_cli.specs.Words.{AnswersTo, empty_of, is_lawful, is_set, meaning_of, order_of, settings_by, side_in, side_of}
-use Rattle.survey_cli.specs.declared.words.Usage.TheVariants.{Words, BothDrops, Memory}
+use Rattle.survey_cli.specs.steps.LawfulLines.{is_lawful}
+use Rattle.survey_cli.specs.Words.{AnswersTo, empty_of, meaning_of, side_in, side_of}
+use Rattle.survey_cli.specs.declared.words.Usage.TheVariants.{Words, BothDrops}
 use Rattle.clap.proofs.OnLiterals.{clap_on_literals}
 
 -- CommandLine

@@ -1,9 +1,9 @@
 -- What the program's words mean, by the side and by what clap finds behind it.
-use Rattle.std.specs.Prelude.{◌≡◌, ◌&&◌, Bool, true, false, List, [], Option, Some, None, Result, Ok, Err, ⊤, codes, drop, is_some, slice_get, unwrap_or, if◌then◌else◌}
+use Rattle.std.specs.Prelude.{◌≡◌, Bool, true, false, List, [], Option, Some, None, Result, Ok, Err, ⊤, codes, drop, slice_get, unwrap_or, if◌then◌else◌}
 use Rattle.std.specs.Option.{option_and_then, option_map_or}
 use Rattle.std.specs.Str.{bytes_eq}
 use Rattle.clap.specs.Walk.{is_empty}
-use Rattle.clap.specs.Words.{Row, Text, all_of, fault_of, matches_of, one_of, takes}
+use Rattle.clap.specs.Words.{Row, Text, all_of, fault_of, matches_of, one_of}
 use Rattle.dump_rules.specs.Settings.{Settings}
 use Rattle.dump_rules.specs.declared.options.Side.{Side}
 use Rattle.dump_rules.specs.declared.options.Side.TheVariants.{Include, Exclude}
@@ -21,14 +21,6 @@ side_of word = if bytes_eq word (codes "include") then Some Include
 -- the line behind the program's name begins with the side
 abbrev pub side_in : List Text → Option Side
 side_in line = option_and_then side_of (slice_get line 0)
-
--- the words name a side, and what stands behind it is what the command takes
-abbrev pub is_lawful : List Text → Bool
-is_lawful words = is_some (side_in (drop 1 words)) && is_empty (fault_of flags (drop 1 words))
-
--- the same by clap's test of what it takes
-abbrev pub is_taken : List Text → Bool
-is_taken words = is_some (side_in (drop 1 words)) && takes flags (drop 1 words)
 
 -- whether a switch is set
 abbrev pub is_set : Text → List Row → Bool

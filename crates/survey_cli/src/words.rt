@@ -2,7 +2,8 @@
 ghost use Rattle.std.specs.Prelude.{◌≡◌, ◌≢◌, ◌⊎◌, [], IfOk, Err, map, true, codes, drop, unwrap_or};
 ghost use Rattle.clap.specs.Words.{all_of, found_of, kind_of, rows_of};
 ghost use Rattle.dump_rules.specs.Settings.{Settings};
-ghost use Rattle.survey_cli.specs.Words.{AnswersTo, empty_in, is_lawful, is_set, is_taken, meaning_of, meaning_of_line, order_of, side_of, side_in};
+ghost use Rattle.survey_cli.specs.Words.{AnswersTo, empty_in, is_set, meaning_of, meaning_of_line, order_of, side_of, side_in};
+ghost use Rattle.survey_cli.specs.steps.LawfulLines.{is_lawful, is_taken};
 
 use crate::command::flags;
 use clap::error::ErrorKind;
