@@ -1,16 +1,22 @@
 -- Where nothing that matters is told, nothing that matters is found in the groups.
-use Rattle.std.proofs.Common.{◌≡◌, Bool, true, false, not, ◌||◌, List, [], ◌∷◌, ◌++◌, flat_map, map, None, refl, sym, ap, ◌∙◌, subst}
+use Rattle.std.proofs.Common.{◌≡◌, ℕ, Bool, true, false, not, ◌||◌, ◌==◌, List, [], ◌∷◌, ◌++◌, length, flat_map, map, None, IsTrue, refl, sym, ap, ◌∙◌, subst, arith}
 use Rattle.std.specs.List.{list_all, list_any}
-use Rattle.std.proofs.lemmas.Bool.{and_from}
+use Rattle.std.proofs.lemmas.Bool.{and_from, ne_eqb}
 use Rattle.dump_text.proofs.BoolLemmas.{first_false, second_false, not_true, not_false}
 use Rattle.dump_records.proofs.Unique.{records_once}
-use Rattle.dump_records.specs.DumpText.{Ending}
-use Rattle.dump_history.specs.Findings.{Finding, dump_findings, is_obstacle, is_alarm}
+use Rattle.dump_records.specs.RecordText.{DumpRecord}
+use Rattle.dump_records.specs.DumpText.{Ending, HasRecords}
+use Rattle.dump_rules.specs.Settings.{Settings}
+use Rattle.dump_filter.specs.FilterLaws.{LengthsFit}
+use Rattle.dump_filter.specs.WholeText.{IsCleanText}
+use Rattle.dump_history.specs.RecordChanges.{Patching}
+use Rattle.dump_history.specs.Findings.{Finding, DumpFinding, dump_findings, is_obstacle, is_alarm}
 use Rattle.dump_history.specs.SurveyLaws.{none_is}
 use Rattle.dump_history.proofs.survey.SurveyLemmas.{surveyed_dump}
-use Rattle.dump_survey.specs.Told.{told_view, AreTold}
+use Rattle.dump_survey.specs.Lines.{node_line, dump_line, place_text}
+use Rattle.dump_survey.specs.Told.{NodeTold, told_view, AreTold}
 use Rattle.dump_survey.specs.SurveyEnds.{ending_of}
-use Rattle.dump_survey.specs.SurveyTies.{all_findings, SilentSurveyRestricts}
+use Rattle.dump_survey.specs.SurveyTies.{all_findings, none_told, DumpRestricts, SilentSurveyRestricts, SilentTextRestricts}
 use Rattle.dump_survey.proofs.TieLemmas.{told_are_findings}
 
 any_both : (test : Finding → Bool) (xs ys : List Finding)
@@ -42,14 +48,66 @@ module _ (test : Finding → Bool) where
       (none_of_nodes fs (first_false (list_any test (flat_map (λ node. node) fs)) _ both))
       (none_of_groups found (second_false (list_any test (flat_map (λ node. node) fs)) _ both))
 
+module _ (patched : Patching) (settings : Settings) (dump text : List ℕ) (records : List DumpRecord)
+    (clean : IsCleanText settings dump records text) (fit : LengthsFit settings records) where
+  -- where nothing that matters is told of the dump, the law has its premise
+  silent : (theirs : List DumpRecord) (ending : Ending) (told : List NodeTold) → HasRecords dump theirs ending
+      → AreTold settings 0 None theirs told → dump_findings settings theirs ≡ []
+      → IsTrue (none_told is_obstacle told) → IsTrue (none_told is_alarm told)
+      → DumpRestricts patched settings records text
+  silent theirs ending told has are nothing no_obstacle no_alarm =
+      let same = records_once dump theirs records ending Ending.Whole has clean.whole in
+      let here = subst (λ l. AreTold settings 0 None l told) same.0 are in
+      let (found, have, all) = told_are_findings settings dump records Ending.Whole told clean.whole here in
+      surveyed_dump patched settings dump text records found clean fit
+      (ap (dump_findings settings) (sym same.0) ∙ nothing) have
+      (none_of_groups is_obstacle found (ap (list_any is_obstacle) (sym all) ∙ not_true _ no_obstacle))
+      (none_of_groups is_alarm found (ap (list_any is_alarm) (sym all) ∙ not_true _ no_alarm))
+
 -- a survey in which nothing that matters is told gives the law its premise
 pub silent_restricts : SilentSurveyRestricts
 silent_restricts patched settings dump text records survey clean fit is nothing no_obstacle no_alarm =
-    let same = records_once dump is.records records (ending_of survey.end.end) Ending.Whole is.has clean.whole in
-    let told = map told_view survey.told.items in
-    let here = subst (λ l. AreTold settings 0 None l told) same.0 is.told in
-    let (found, have, all) = told_are_findings settings dump records Ending.Whole told clean.whole here in
-    surveyed_dump patched settings dump text records found clean fit
-    (ap (dump_findings settings) (sym same.0) ∙ (sym is.found ∙ nothing)) have
-    (none_of_groups is_obstacle found (ap (list_any is_obstacle) (sym all) ∙ not_true _ no_obstacle))
-    (none_of_groups is_alarm found (ap (list_any is_alarm) (sym all) ∙ not_true _ no_alarm))
+    silent patched settings dump text records clean fit is.records (ending_of survey.end.end)
+    (map told_view survey.told.items) is.has is.told (sym is.found ∙ nothing) no_obstacle no_alarm
+
+no_bytes : (xs : List ℕ) → false ≡ not (length xs == 0) → xs ≡ []
+no_bytes [] is = refl
+no_bytes (x ∷ xs) is = absurd (true_is_no_false (sym (ap not (ne_eqb (length (x ∷ xs)) 0 (λ e. omega (arith, e))))
+    ∙ sym is))
+  where
+    true_is_no_false : true ≡ false → ⊥
+    true_is_no_false e = cc
+
+both_none : (xs ys : List ℕ) → xs ++ ys ≡ [] → (xs ≡ []) × (ys ≡ [])
+both_none [] ys none = (refl, none)
+both_none (x ∷ xs) ys none = cc
+
+-- a line of a node has bytes
+no_lines : (told : List NodeTold) → flat_map node_line told ≡ [] → told ≡ []
+unfolding node_line place_text
+no_lines [] none = refl
+no_lines (t ∷ told) none = cc
+
+-- and so has one of the whole dump
+no_dump_lines : (found : List DumpFinding) → flat_map dump_line found ≡ [] → found ≡ []
+unfolding dump_line
+no_dump_lines [] none = refl
+no_dump_lines (DumpFinding.NoRevision ∷ found) none = cc
+no_dump_lines (DumpFinding.OtherNumbers ∷ found) none = cc
+no_dump_lines (DumpFinding.NodeInFirst ∷ found) none = cc
+no_dump_lines (DumpFinding.NumbersLeft ∷ found) none = cc
+
+-- where no line is written nothing is told, and so nothing that matters
+pub silent_text_restricts : SilentTextRestricts
+silent_text_restricts patched settings dump text said records clean fit is =
+    let nothing = sym is.text_is ∙ no_bytes said is.found_is in
+    let parts = both_none (flat_map node_line is.told) _ nothing in
+    let told = no_lines is.told parts.0 in
+    let found = no_dump_lines (dump_findings settings is.records)
+    (both_none (flat_map dump_line (dump_findings settings is.records)) _ parts.1).0 in
+    silent patched settings dump text records clean fit is.records is.ending is.told is.has is.are_told found
+    (none is.told told is_obstacle) (none is.told told is_alarm)
+  where
+    none : (told : List NodeTold) → told ≡ [] → (test : Finding → Bool) → IsTrue (none_told test told)
+    none [] same test = refl
+    none (t ∷ told) same test = cc

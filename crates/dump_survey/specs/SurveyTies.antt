@@ -1,5 +1,5 @@
 -- What a survey tells is what is found in the dump's nodes, group by group; and what follows where it tells nothing.
-use Rattle.std.specs.Prelude.{◌≡◌, ℕ, Bool, not, List, [], ◌∷◌, map, flat_map, Some, None, IsTrue}
+use Rattle.std.specs.Prelude.{◌≡◌, ℕ, Bool, false, not, List, [], ◌∷◌, map, flat_map, Some, None, IsTrue}
 use Rattle.std.specs.List.{list_any}
 use Rattle.dump_records.specs.RecordText.{DumpRecord}
 use Rattle.dump_records.specs.DumpText.{Ending, HasRecords}
@@ -19,6 +19,7 @@ use Rattle.dump_survey.specs.declared.survey.Survey.{Survey}
 use Rattle.dump_survey.specs.DumpFindings.{listed_findings}
 use Rattle.dump_survey.specs.Told.{NodeTold, told_view, AreTold}
 use Rattle.dump_survey.specs.Surveys.{IsSurveyOf}
+use Rattle.dump_survey.specs.SurveyText.{IsSurveyText}
 
 -- the findings of groups, node by node, as one list
 abbrev pub all_findings : List (List (List Finding)) → List Finding
@@ -40,9 +41,16 @@ ToldOnce = (settings : Settings) (records : List DumpRecord) (told others : List
 abbrev pub none_told : (Finding → Bool) → List NodeTold → Bool
 none_told test told = not (list_any test (map (λ (t : NodeTold). t.finding) told))
 
+-- the dump makes revisions, and if it loads and makes no copy that loses its source over something, what is written of
+-- it has the restricted trees
+abbrev pub DumpRestricts : Patching → Settings → List DumpRecord → List ℕ → Type 0
+DumpRestricts patched settings records text = (revisions : List (List Change)) × MakeRevisions patched records revisions
+    × ((trees : List Tree) → loaded_over root_alone revisions ≡ Some trees
+    → IsTrue (nowhere_is_over settings (root_alone ∷ []) root_alone revisions)
+    → LoadsRestricted patched settings records trees text)
+
 -- where the filter's answer is clean, and a survey of the dump tells nothing of the whole, and no obstacle and no alarm
--- of its nodes: the dump makes revisions, and if it loads and makes no copy that loses its source over something, what is
--- written of it has the restricted trees
+-- of its nodes, the dump is restricted
 abbrev pub SilentSurveyRestricts : Type 0
 SilentSurveyRestricts = (patched : Patching) (settings : Settings) (dump text : List ℕ) (records : List DumpRecord)
     (survey : Survey) →
@@ -50,7 +58,10 @@ SilentSurveyRestricts = (patched : Patching) (settings : Settings) (dump text : 
     → listed_findings survey.end.dump ≡ []
     → IsTrue (none_told is_obstacle (map told_view survey.told.items))
     → IsTrue (none_told is_alarm (map told_view survey.told.items))
-    → (revisions : List (List Change)) × MakeRevisions patched records revisions
-    × ((trees : List Tree) → loaded_over root_alone revisions ≡ Some trees
-    → IsTrue (nowhere_is_over settings (root_alone ∷ []) root_alone revisions)
-    → LoadsRestricted patched settings records trees text)
+    → DumpRestricts patched settings records text
+
+-- so it is where the text of a survey says that nothing is found
+abbrev pub SilentTextRestricts : Type 0
+SilentTextRestricts = (patched : Patching) (settings : Settings) (dump text said : List ℕ) (records : List DumpRecord) →
+    IsCleanText settings dump records text → LengthsFit settings records → IsSurveyText settings dump said false
+    → DumpRestricts patched settings records text

@@ -1,5 +1,5 @@
 //! Laws of surveys, each the contract of a function that does nothing.
-ghost use Rattle.dump_survey.specs.SurveyTies.{SilentSurveyRestricts, ToldAreFindings, ToldOnce};
+ghost use Rattle.dump_survey.specs.SurveyTies.{SilentSurveyRestricts, SilentTextRestricts, ToldAreFindings, ToldOnce};
 
 /// What is told of a dump's nodes is one list, and it is what is found in them, in order.
 pub fn each_told_is_found()
@@ -7,7 +7,9 @@ pub fn each_told_is_found()
     ensures once { ToldOnce }
 {}
 
-/// Where a survey tells nothing that matters, a dump makes revisions, and the law of filtered dumps holds.
+/// Where a survey tells nothing that matters, or its text says that nothing is found, a dump makes revisions, and the law
+/// of filtered dumps holds.
 pub fn each_silent_survey_restricts()
-    ensures { SilentSurveyRestricts }
+    ensures survey { SilentSurveyRestricts }
+    ensures text { SilentTextRestricts }
 {}

@@ -5,7 +5,7 @@
 //! in each: of a node of a revision the [`Found`], which [`SurveyedNode::tell`] turns into one [`Told`] for each
 //! [`NodeFinding`], with the record's number and place, the revision and the path. Where the records end it gives
 //! what is found in the dump as a whole, [`DumpFindings`], and whether they end with the dump. [`survey_dump`] keeps all
-//! this in a [`Survey`].
+//! this in a [`Survey`]; [`write_survey`] writes a line for each finding as it is found, and keeps nothing.
 //!
 //! ```
 //! let survey = survey_dump(rt.alloc(), dump.as_slice(), &options)?;
