@@ -1,11 +1,13 @@
 -- What a record lends of its block.
-use Rattle.std.proofs.Common.{◌≡◌, ℕ, Bool, true, false, if◌then◌else◌, List, Option, Some, None, Bor, sym, ◌∙◌, subst}
+use Rattle.std.proofs.Common.{◌≡◌, ℕ, ◌-◌, ◌≤◌, Bool, true, false, if◌then◌else◌, List, Option, Some, None, Bor, length, drop, sym, ◌∙◌, subst, arith}
 use Rattle.std.specs.Option.{option_copied, IfSome}
+use Rattle.std.proofs.lemmas.List.{length-take, length-drop}
 use Rattle.dump_text.specs.HeaderLine.{header_value}
 use Rattle.dump_text.specs.steps.ReadHeaders.{IsPartBetween}
 use Rattle.dump_text.proofs.BlockLemmas.{block_size}
 use Rattle.dump_text.proofs.ValueLemmas.{value_lent, if_copied}
 use Rattle.dump_records.specs.declared.record.Record.{Record}
+use Rattle.dump_records.specs.steps.RecordPlaces.{place_after}
 use Rattle.dump_records.specs.steps.RecordViews.{record_item, IsInBlock}
 
 -- a header's value stands in the block
@@ -27,3 +29,18 @@ pub part_there : {A : Type 0} (b : Bool) (x : A) (whole : Option A) → Some x �
     → Some x ≡ whole
 part_there true x whole is = is
 part_there false x whole is = cc
+
+-- what stands behind a record begins at its end
+pub end_of_record : (r : Record) → place_after (record_item r) ≡ r.after
+end_of_record r =
+    let b = r.block in
+    let dump = b.dump.now in
+    let block = block_size dump b.place b.after b.stands in
+    let up = r.inside.props in
+    let on = r.inside.text in
+    let end = r.inside.end in
+    let props = length-take (r.text_from - b.after) (drop b.after dump) in
+    let text = length-take (r.after - r.text_from) (drop r.text_from dump) in
+    let behind_block = length-drop b.after dump in
+    let behind_props = length-drop r.text_from dump in
+    omega arith

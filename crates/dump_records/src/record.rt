@@ -43,7 +43,8 @@ pub struct Record<'a> {
 }
 
 impl<'a> Record<'a> {
-    ghost use Rattle.std.specs.Prelude.{◌≡◌, ◌==◌, ◌&&◌, ◌++◌, List, [], IfSome, option_copied, slice_range, bytes_eq, unwrap_or, codes};
+    ghost use Rattle.std.specs.Prelude.{◌≡◌, ◌==◌, ◌&&◌, ◌++◌, List, [], IfSome, is_some, option_copied, slice_range, bytes_eq, unwrap_or, codes, drop};
+    ghost use Rattle.std.specs.List.{starts_with};
     ghost use Rattle.dump_text.specs.Names.{path_name, revision_name, copy_path_name, copy_revision_name, property_length_name, text_length_name, node_kind_name, md5_name, sha1_name};
     ghost use Rattle.dump_text.specs.HeaderLine.{has_header, header_value};
     ghost use Rattle.dump_records.specs.HeaderRules.{header_number};
@@ -291,7 +292,9 @@ impl<'a> Record<'a> {
 
     /// Its bytes from this part on with these behind them, where the dump has them there.
     pub fn bytes_from_with(&self, part: RecordPart, end: &[u8]) -> Option<&'a [u8]>
-        ensures { IfSome result (λ bytes. bytes.now ≡ bytes_from part (record_item self.now) ++ end.now) }
+        ensures lent { IfSome result (λ bytes. bytes.now ≡ bytes_from part (record_item self.now) ++ end.now) }
+        ensures there { let r = record_item self.now in
+            is_some result ≡ starts_with ◌==◌ (drop (place_after r) (record_dump self.now)) end.now }
     {
         let dump = self.block.dump();
         if dump[self.after..].starts_with(end) {

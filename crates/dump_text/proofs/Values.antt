@@ -6,7 +6,7 @@ use Rattle.dump_text.specs.declared.fault.FaultKind.{FaultKind}
 use Rattle.dump_text.specs.declared.fault.FaultKind.TheVariants as faults
 use Rattle.dump_text.specs.declared.names.HeaderName.TheVariants as names
 use Rattle.dump_text.specs.FaultTable.{fault_code, IsLeastFault, NoFault}
-use Rattle.dump_text.specs.steps.FaultNames.{fault_name}
+use Rattle.dump_text.specs.FaultNames.{fault_name}
 use Rattle.dump_text.specs.Names.{deciding_names, length_names, copy_names, known_names}
 use Rattle.dump_text.specs.steps.KnownValues.{name_text}
 use Rattle.dump_text.specs.HeaderLine.{Header, header_text, has_byte, is_header, is_named, has_header, count_named, header_value, with_header_value}

@@ -2,6 +2,7 @@ pub mod Number
 pub mod Names
 pub mod HeaderLine
 pub mod FaultTable
+pub mod FaultNames
 pub mod HeaderBlock
 pub mod PropertyList
 pub mod WritingLaws

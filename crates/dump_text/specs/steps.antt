@@ -6,5 +6,4 @@ pub mod Views
 pub mod KnownValues
 pub mod HeadersViews
 pub mod PropertyViews
-pub mod FaultNames
 pub mod PropertyReading

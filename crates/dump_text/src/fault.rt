@@ -40,7 +40,7 @@ pub enum FaultKind {
 
 impl FaultKind {
     ghost use Rattle.dump_text.specs.FaultTable.{fault_code};
-    ghost use Rattle.dump_text.specs.steps.FaultNames.{fault_name};
+    ghost use Rattle.dump_text.specs.FaultNames.{fault_name};
 
     /// The fault's number, 1 to 16, as users see it.
     pub fn code(self) -> u8
