@@ -6,7 +6,8 @@ use crate::{
     Empty, Memory, Merged, Options, Reach, RewriteFault, Side, keeps, merge_reads, new_value,
     rewrite,
 };
-use std::alloc::Global;
+use std::alloc::{AllocError, Global};
+use std::process::Abort;
 use std::test::Fail;
 
 mod mixed_lists;
@@ -14,6 +15,11 @@ mod prefixes;
 
 fn options(alloc: Global, side: Side, prefixes: &[&[u8]]) -> Result<Options, Memory> {
     Options::new(alloc, side, prefixes, Empty::Pad, false, false, false)
+}
+
+/// Whether these prefixes on this side keep a path.
+fn is_kept(alloc: Global, side: Side, prefixes: &[&[u8]], path: &[u8]) -> Result<bool, Memory> {
+    Ok(keeps(&options(alloc, side, prefixes)?, path))
 }
 
 #[test]
@@ -37,106 +43,105 @@ fn prefixes_match_whole_names(rt: HostRuntime) -> Result<(), Fail> {
         (b"", b"", true),
     ];
     for (prefix, path, matched) in rows {
-        let include = options(rt.alloc(), Side::Include, &[prefix])?;
-        assert_eq!(rt; keeps(&include, path), matched, "{prefix:?} {path:?}");
-        let exclude = options(rt.alloc(), Side::Exclude, &[prefix])?;
-        assert_eq!(rt; keeps(&exclude, path), !matched, "{prefix:?} {path:?}");
+        let included = is_kept(rt.alloc(), Side::Include, &[prefix], path)?;
+        let left = is_kept(rt.alloc(), Side::Exclude, &[prefix], path)?;
+        assert!(rt;
+            included == matched && left != matched,
+            "{prefix:?} {path:?}"
+        );
     }
     Ok(())
 }
 
 #[test]
 fn no_prefix_matches_no_path(rt: HostRuntime) -> Result<(), Fail> {
-    let include = options(rt.alloc(), Side::Include, &[])?;
-    assert_eq!(rt; keeps(&include, b"a"), false);
-    let exclude = options(rt.alloc(), Side::Exclude, &[])?;
-    assert_eq!(rt; keeps(&exclude, b"a"), true);
+    assert!(rt; !is_kept(rt.alloc(), Side::Include, &[], b"a")?);
+    assert!(rt; is_kept(rt.alloc(), Side::Exclude, &[], b"a")?);
     Ok(())
+}
+
+fn assert_handed_in(rt: &impl Abort, given: &Options, side: Side, empty: Empty, flags: [bool; 3]) {
+    assert!(rt; given.side() == side && given.empty() == empty);
+    assert!(rt; [given.renumber(), given.preserve(), given.skip_missing()] == flags);
+    assert!(rt; given.prefix(0) == Some(b"//trunk/".as_slice()));
+    assert!(rt; given.prefix(1) == Some(b"".as_slice()));
+    assert!(rt; given.prefix(2).is_none());
 }
 
 #[test]
 fn options_are_as_handed_in(rt: HostRuntime) -> Result<(), Fail> {
-    let rows = [
-        (Side::Include, Empty::Pad, true, false, false),
-        (Side::Exclude, Empty::DropEmptied, false, true, false),
-        (Side::Include, Empty::DropAll, false, false, true),
-    ];
-    for (side, empty, renumber, preserve, skip_missing) in rows {
-        let given = Options::new(
-            rt.alloc(),
-            side,
-            &[b"//trunk/", b""],
-            empty,
-            renumber,
-            preserve,
-            skip_missing,
-        )?;
-        assert_eq!(rt; given.side(), side);
-        assert_eq!(rt; given.empty(), empty);
-        assert_eq!(rt; given.renumber(), renumber);
-        assert_eq!(rt; given.preserve(), preserve);
-        assert_eq!(rt; given.skip_missing(), skip_missing);
-        assert_eq!(rt; given.prefix(0).ok_or("missing")?, b"//trunk/".as_slice());
-        assert_eq!(rt; given.prefix(1).ok_or("missing")?, b"".as_slice());
-        assert!(rt; given.prefix(2).is_none());
+    let prefixes = [b"//trunk/".as_slice(), b""];
+    for (side, empty, flags) in [
+        (Side::Include, Empty::Pad, [true, false, false]),
+        (Side::Exclude, Empty::DropEmptied, [false, true, false]),
+        (Side::Include, Empty::DropAll, [false, false, true]),
+    ] {
+        let [renumber, preserve, skip] = flags;
+        let given = Options::new(rt.alloc(), side, &prefixes, empty, renumber, preserve, skip)?;
+        assert_handed_in(&rt, &given, side, empty, flags);
     }
     Ok(())
 }
 
+fn assert_two_prefixes(rt: &impl Abort, given: &Options) {
+    assert!(rt; given.prefix(0) == Some(b"trunk".as_slice()));
+    assert!(rt; given.prefix(1) == Some(b"tags".as_slice()));
+}
+
 // Run with each allocation refused in turn: options are whole, or there are none.
 #[test]
-fn options_or_no_memory(rt: HostRuntime) -> Result<(), Fail> {
+fn options_or_no_memory(rt: HostRuntime) {
     match options(rt.alloc(), Side::Include, &[b"trunk", b"tags"]) {
-        Ok(given) => {
-            assert_eq!(rt; given.prefix(0).ok_or("missing")?, b"trunk".as_slice());
-            assert_eq!(rt; given.prefix(1).ok_or("missing")?, b"tags".as_slice());
-        }
-        Err(refused) => assert_eq!(rt; refused, Memory),
+        Ok(given) => assert_two_prefixes(&rt, &given),
+        Err(refused) => assert!(rt; refused == Memory),
     }
-    Ok(())
+}
+
+fn assert_images(rt: &impl Abort, reach: &Reach, rows: &[(u64, Option<u64>)]) {
+    for (revision, image) in rows {
+        assert!(rt; reach.reach(*revision) == *image, "{revision}");
+    }
 }
 
 #[test]
 fn images_are_of_the_last_kept_revision(rt: HostRuntime) -> Result<(), Fail> {
     let mut reach = Reach::new(rt.alloc(), 5);
-    assert_eq!(rt; (reach.first(), reach.count()), (5, 0));
-    assert!(rt; reach.reach(100).is_none());
+    assert!(rt; reach.first() == 5 && reach.count() == 0);
+    assert_images(&rt, &reach, &[(100, None)]);
     reach.push(6)?;
     reach.push(9)?;
-    let rows = [
-        (5, None),
-        (6, Some(5)),
-        (8, Some(5)),
-        (9, Some(6)),
-        (100, Some(6)),
-    ];
-    for (revision, image) in rows {
-        assert_eq!(rt; reach.reach(revision), image, "{revision}");
-    }
-    assert_eq!(rt; reach.count(), 2);
+    assert!(rt; reach.count() == 2);
+    let (fifth, sixth) = (Some(5), Some(6));
+    assert_images(
+        &rt,
+        &reach,
+        &[(5, None), (6, fifth), (8, fifth), (9, sixth), (100, sixth)],
+    );
     Ok(())
+}
+
+fn assert_pushed(rt: &impl Abort, reach: &Reach, revision: u64, kept: u64) {
+    assert!(rt; reach.count() == kept + 1);
+    assert!(rt; reach.reach(revision) == Some(5 + kept));
+}
+
+fn assert_unchanged(rt: &impl Abort, reach: &Reach, revision: u64, kept: u64, last: Option<u64>) {
+    assert!(rt; reach.count() == kept);
+    assert!(rt; reach.reach(revision) == last);
 }
 
 // Run with each allocation refused in turn: a revision is kept, or nothing has changed.
 #[test]
-fn push_or_no_memory(rt: HostRuntime) -> Result<(), Fail> {
+fn push_or_no_memory(rt: HostRuntime) {
     let mut reach = Reach::new(rt.alloc(), 5);
     for revision in 6..20 {
         let kept = reach.count();
         let last = reach.reach(revision);
         match reach.push(revision) {
-            Ok(()) => {
-                assert_eq!(rt; reach.count(), kept + 1);
-                assert_eq!(rt; reach.reach(revision), Some(5 + kept));
-            }
-            Err(refused) => {
-                assert_eq!(rt; refused, Memory);
-                assert_eq!(rt; reach.count(), kept);
-                assert_eq!(rt; reach.reach(revision), last);
-            }
+            Ok(()) => assert_pushed(&rt, &reach, revision, kept),
+            Err(_) => assert_unchanged(&rt, &reach, revision, kept, last),
         }
     }
-    Ok(())
 }
 
 #[test]
@@ -159,7 +164,7 @@ fn mergeinfo_is_lines_of_ranges(rt: HostRuntime) {
         (b"/a", false),
     ];
     for (value, reads) in rows {
-        assert_eq!(rt; merge_reads(value), reads, "{value:?}");
+        assert!(rt; merge_reads(value) == reads, "{value:?}");
     }
 }
 
@@ -175,21 +180,27 @@ fn no_revision_stands_with_a_star_and_without(rt: HostRuntime) {
         (b"/a:1\n/a:1*", true),
     ];
     for (value, reads) in rows {
-        assert_eq!(rt; merge_reads(value), reads, "{value:?}");
+        assert!(rt; merge_reads(value) == reads, "{value:?}");
     }
+}
+
+/// A list of 200 single numbers that fall from 1000, of both kinds, with this behind it.
+fn long_list(alloc: Global, more: &str) -> Result<String, AllocError> {
+    let mut text = String::from_str(alloc, "/a:1000")?;
+    for n in 1..200u64 {
+        let lower = 1000 - n;
+        let star = if n % 2 == 0 { "" } else { "*" };
+        text.push_str(&format!(in alloc; ",{lower}{star}")?)?;
+    }
+    text.push_str(more)?;
+    Ok(text)
 }
 
 #[test]
 fn long_lists_of_both_kinds_in_any_order(rt: HostRuntime) -> Result<(), Fail> {
-    let mut text = String::from_str(rt.alloc(), "/a:1000")?;
-    for n in 1..200u64 {
-        let lower = 1000 - n;
-        let star = if n % 2 == 0 { "" } else { "*" };
-        text.push_str(&format!(in rt.alloc(); ",{lower}{star}")?)?;
-    }
-    assert!(rt; merge_reads(text.as_bytes()));
-    for more in ["1000*", "998-999", "0", "", "7-6*"] {
-        let worse = format!(in rt.alloc(); "{text},{more}")?;
+    assert!(rt; merge_reads(long_list(rt.alloc(), "")?.as_bytes()));
+    for more in [",1000*", ",998-999", ",0", ",", ",7-6*"] {
+        let worse = long_list(rt.alloc(), more)?;
         assert!(rt; !merge_reads(worse.as_bytes()), "{more}");
     }
     Ok(())
@@ -212,41 +223,55 @@ fn rules(
     )
 }
 
-// What becomes of a value, which has to be mergeinfo.
-fn rewritten(
+/// Whether this value, which has to be mergeinfo, is written so, or refused with this fault.
+fn is_rewritten(
     alloc: Global,
     value: &[u8],
     options: &Options,
     reach: &Reach,
     now: u64,
-) -> Result<Result<Vec<u8>, RewriteFault>, Fail>
+    wanted: Result<&[u8], RewriteFault>,
+) -> bool
     requires { All (λ k. k ≤ now) reach.now.numbers }
 {
     if !merge_reads(value) {
-        return Err("no mergeinfo".into());
+        return false;
     }
-    Ok(rewrite(alloc, value, options, reach, now))
+    match (rewrite(alloc, value, options, reach, now), wanted) {
+        (Ok(new), Ok(bytes)) => new.as_slice() == bytes,
+        (Err(fault), Err(other)) => fault == other,
+        _ => false,
+    }
 }
 
 #[test]
 fn lines_of_kept_paths_are_written_as_runs(rt: HostRuntime) -> Result<(), Fail> {
     let reach = Reach::new(rt.alloc(), 0);
-    let rows = [
-        (b"/".as_slice(), b"/a:\n/b:1".as_slice(), b"/b:1".as_slice()),
-        (b"/", b"/a:1-999999999999999999", b"/a:1-999999999999999999"),
-        (b"trunk", b"/trunk:4,1-3", b"/trunk:1-4"),
-        (b"trunk", b"/trunk:3,1-2*", b"/trunk:1-2*,3"),
-        (b"trunk", b"/trunk:2,1\n", b"/trunk:1-2"),
-        (b"trunk", b"/trunk:1*", b"/trunk:1*"),
-        (b"trunk", b"/trunk:3-8,5,1-4", b"/trunk:1-8"),
-        (b"trunk", b"/trunk:001,003", b"/trunk:1,3"),
-        (b"/", b"/a:1\n/b:\n/a:2*", b"/a:1\n/a:2*"),
-        (b"/", b"", b""),
-    ];
-    for (prefix, value, wanted) in rows {
-        let options = rules(rt.alloc(), prefix, false, false)?;
-        let new = rewritten(rt.alloc(), value, &options, &reach, 1)??;
-        assert_eq!(rt; new.as_slice(), wanted, "{value:?}");
+    let all = rules(rt.alloc(), b"/", false, false)?;
+    for (value, wanted) in [
+        (b"/a:\n/b:1".as_slice(), b"/b:1".as_slice()),
+        (b"/a:1-999999999999999999", b"/a:1-999999999999999999"),
+        (b"/a:1\n/b:\n/a:2*", b"/a:1\n/a:2*"),
+        (b"", b""),
+    ] {
+        assert!(rt;
+            is_rewritten(rt.alloc(), value, &all, &reach, 1, Ok(wanted)),
+            "{value:?}"
+        );
+    }
+    let trunk = rules(rt.alloc(), b"trunk", false, false)?;
+    for (value, wanted) in [
+        (b"/trunk:4,1-3".as_slice(), b"/trunk:1-4".as_slice()),
+        (b"/trunk:3,1-2*", b"/trunk:1-2*,3"),
+        (b"/trunk:2,1\n", b"/trunk:1-2"),
+        (b"/trunk:1*", b"/trunk:1*"),
+        (b"/trunk:3-8,5,1-4", b"/trunk:1-8"),
+        (b"/trunk:001,003", b"/trunk:1,3"),
+    ] {
+        assert!(rt;
+            is_rewritten(rt.alloc(), value, &trunk, &reach, 1, Ok(wanted)),
+            "{value:?}"
+        );
     }
     Ok(())
 }
@@ -255,13 +280,11 @@ fn lines_of_kept_paths_are_written_as_runs(rt: HostRuntime) -> Result<(), Fail> 
 fn lines_of_other_paths_are_refused_or_left_out(rt: HostRuntime) -> Result<(), Fail> {
     let reach = Reach::new(rt.alloc(), 0);
     let strict = rules(rt.alloc(), b"trunk", false, false)?;
-    match rewritten(rt.alloc(), b"/other:1", &strict, &reach, 1)? {
-        Ok(_) => assert!(rt; false),
-        Err(fault) => assert_eq!(rt; fault, RewriteFault::MergeSource),
-    }
+    let refused = Err(RewriteFault::MergeSource);
+    assert!(rt; is_rewritten(rt.alloc(), b"/other:1", &strict, &reach, 1, refused));
     let lenient = rules(rt.alloc(), b"trunk", false, true)?;
-    let new = rewritten(rt.alloc(), b"/other:1\n/trunk:1", &lenient, &reach, 1)??;
-    assert_eq!(rt; new.as_slice(), b"/trunk:1".as_slice());
+    let left = Ok(b"/trunk:1".as_slice());
+    assert!(rt; is_rewritten(rt.alloc(), b"/other:1\n/trunk:1", &lenient, &reach, 1, left));
     Ok(())
 }
 
@@ -275,13 +298,14 @@ fn kept_revisions_get_new_numbers(rt: HostRuntime) -> Result<(), Fail> {
     reach.push(7)?;
     reach.push(8)?;
     let options = rules(rt.alloc(), b"trunk", true, false)?;
-    let rows = [
+    for (value, wanted) in [
         (b"/trunk:1-4,6*".as_slice(), b"/trunk:1-2".as_slice()),
         (b"/trunk:2-3", b""),
-    ];
-    for (value, wanted) in rows {
-        let new = rewritten(rt.alloc(), value, &options, &reach, 8)??;
-        assert_eq!(rt; new.as_slice(), wanted, "{value:?}");
+    ] {
+        assert!(rt;
+            is_rewritten(rt.alloc(), value, &options, &reach, 8, Ok(wanted)),
+            "{value:?}"
+        );
     }
     Ok(())
 }
@@ -292,15 +316,17 @@ fn long_ranges_cost_no_more_than_short_ones(rt: HostRuntime) -> Result<(), Fail>
     reach.push(1)?;
     reach.push(500000000000000000)?;
     let options = rules(rt.alloc(), b"/", true, false)?;
-    let rows = [
+    let now = 999999999999999999;
+    for (value, wanted) in [
         (b"/a:1-999999999999999999".as_slice(), b"/a:1-2".as_slice()),
         (b"/a:1,2-999999999999999999*", b"/a:1,2*"),
         (b"/a:2-499999999999999999", b""),
         (b"/a:500000000000000000*,1*", b"/a:1-2*"),
-    ];
-    for (value, wanted) in rows {
-        let new = rewritten(rt.alloc(), value, &options, &reach, 999999999999999999)??;
-        assert_eq!(rt; new.as_slice(), wanted, "{value:?}");
+    ] {
+        assert!(rt;
+            is_rewritten(rt.alloc(), value, &options, &reach, now, Ok(wanted)),
+            "{value:?}"
+        );
     }
     Ok(())
 }
@@ -311,19 +337,20 @@ fn numbers_that_the_dump_cannot_have_are_refused(rt: HostRuntime) -> Result<(), 
     reach.push(5)?;
     reach.push(6)?;
     let strict = rules(rt.alloc(), b"/", true, false)?;
+    let refused = RewriteFault::MergeRange;
     for value in [
         b"/trunk:4-5".as_slice(),
         b"/trunk:1-999999999999999999",
         b"/trunk:7",
     ] {
-        match rewritten(rt.alloc(), value, &strict, &reach, 6)? {
-            Ok(_) => assert!(rt; false),
-            Err(fault) => assert_eq!(rt; fault, RewriteFault::MergeRange, "{value:?}"),
-        }
+        assert!(rt;
+            is_rewritten(rt.alloc(), value, &strict, &reach, 6, Err(refused)),
+            "{value:?}"
+        );
     }
     let lenient = rules(rt.alloc(), b"/", true, true)?;
-    let new = rewritten(rt.alloc(), b"/trunk:4-5", &lenient, &reach, 6)??;
-    assert_eq!(rt; new.as_slice(), b"/trunk:5".as_slice());
+    let left = Ok(b"/trunk:5".as_slice());
+    assert!(rt; is_rewritten(rt.alloc(), b"/trunk:4-5", &lenient, &reach, 6, left));
     Ok(())
 }
 
@@ -332,32 +359,45 @@ fn said(value: &[u8], options: &Options) -> Option<Merged> {
     Merged::new().with(value, options)
 }
 
+/// Whether these values miss a source, and whether they name a number of no revision from the first to the present.
+fn faults_of(merged: &Merged, options: &Options, first: u64, present: u64) -> (bool, bool) {
+    (
+        merged.misses_source(),
+        merged.has_foreign_number(options, first, present),
+    )
+}
+
 #[test]
 fn faults_are_told_without_a_new_value(rt: HostRuntime) -> Result<(), Fail> {
     let strict = rules(rt.alloc(), b"trunk", true, false)?;
-    let lenient = rules(rt.alloc(), b"trunk", true, true)?;
-    let old_numbers = rules(rt.alloc(), b"trunk", false, false)?;
-    let rows = [
-        (b"/trunk:5\n/other:5".as_slice(), &strict, true, false),
-        (b"/trunk:5\n", &strict, false, false),
-        (b"/trunk:4-6", &strict, false, true),
-        (b"/trunk:5-7", &strict, false, true),
-        (b"/trunk:5-6\n/other:4", &strict, true, false),
-        (b"/trunk:5\n/other:5", &lenient, false, false),
-        (b"/trunk:4-6", &lenient, false, false),
-        (b"/trunk:5-7", &lenient, false, true),
-        (b"/trunk:5-7", &old_numbers, false, false),
-    ];
-    for (value, options, misses, foreign) in rows {
-        let merged = said(value, options).ok_or("no mergeinfo")?;
-        assert_eq!(rt; merged.misses_source(), misses, "{value:?}");
-        assert_eq!(rt;
-            merged.has_foreign_number(options, 5, 6),
-            foreign,
-            "{value:?}"
-        );
+    for (value, faults) in [
+        (b"/trunk:5\n/other:5".as_slice(), (true, false)),
+        (b"/trunk:5\n", (false, false)),
+        (b"/trunk:4-6", (false, true)),
+        (b"/trunk:5-7", (false, true)),
+        (b"/trunk:5-6\n/other:4", (true, false)),
+    ] {
+        let merged = said(value, &strict).ok_or("no mergeinfo")?;
+        assert!(rt; faults_of(&merged, &strict, 5, 6) == faults, "{value:?}");
     }
     assert!(rt; said(b"/trunk", &strict).is_none());
+    Ok(())
+}
+
+#[test]
+fn faults_are_fewer_where_less_is_asked(rt: HostRuntime) -> Result<(), Fail> {
+    let lenient = rules(rt.alloc(), b"trunk", true, true)?;
+    for (value, faults) in [
+        (b"/trunk:5\n/other:5".as_slice(), (false, false)),
+        (b"/trunk:4-6", (false, false)),
+        (b"/trunk:5-7", (false, true)),
+    ] {
+        let merged = said(value, &lenient).ok_or("no mergeinfo")?;
+        assert!(rt; faults_of(&merged, &lenient, 5, 6) == faults, "{value:?}");
+    }
+    let old_numbers = rules(rt.alloc(), b"trunk", false, false)?;
+    let merged = said(b"/trunk:5-7", &old_numbers).ok_or("no mergeinfo")?;
+    assert!(rt; faults_of(&merged, &old_numbers, 5, 6) == (false, false));
     Ok(())
 }
 
@@ -369,10 +409,9 @@ fn values_are_told_together(rt: HostRuntime) -> Result<(), Fail> {
         .with(b"/trunk/a:5-6\n/other:9", &strict)
         .ok_or("no mergeinfo")?;
     assert!(rt; !first.misses_source());
-    assert!(rt; both.misses_source());
-    assert!(rt; both.has_foreign_number(&strict, 5, 6));
-    assert!(rt; both.has_foreign_number(&strict, 6, 7));
-    assert!(rt; !both.has_foreign_number(&strict, 5, 7));
+    assert!(rt; faults_of(&both, &strict, 5, 6) == (true, true));
+    assert!(rt; faults_of(&both, &strict, 6, 7) == (true, true));
+    assert!(rt; faults_of(&both, &strict, 5, 7) == (true, false));
     assert!(rt; first.with(b"x", &strict).is_none());
     Ok(())
 }
@@ -386,26 +425,30 @@ fn new_value_of_one_without_a_fault(rt: HostRuntime) -> Result<(), Fail> {
         return Err("no mergeinfo".into());
     }
     let new = new_value(rt.alloc(), value, &options, &reach)?;
-    assert_eq!(rt; new.as_slice(), b"/trunk:1-4".as_slice());
+    assert!(rt; new.as_slice() == b"/trunk:1-4".as_slice());
     Ok(())
+}
+
+/// A line of ten thousand single numbers: those that fall from 10000, or the odd ones.
+fn ten_thousand(alloc: Global, falling: bool) -> Result<String, AllocError> {
+    let mut line = String::from_str(alloc, if falling { "/a:10000" } else { "/a:1" })?;
+    for n in 1..10000u64 {
+        let next = if falling { 10000 - n } else { 2 * n + 1 };
+        line.push_str(&format!(in alloc; ",{next}")?)?;
+    }
+    Ok(line)
 }
 
 #[test]
 fn ten_thousand_ranges_in_any_order(rt: HostRuntime) -> Result<(), Fail> {
     let reach = Reach::new(rt.alloc(), 0);
     let options = rules(rt.alloc(), b"/", false, false)?;
-    let mut down = String::from_str(rt.alloc(), "/a:10000")?;
-    let mut odd = String::from_str(rt.alloc(), "/a:1")?;
-    for n in 1..10000u64 {
-        let lower = 10000 - n;
-        let next = 2 * n + 1;
-        down.push_str(&format!(in rt.alloc(); ",{lower}")?)?;
-        odd.push_str(&format!(in rt.alloc(); ",{next}")?)?;
-    }
-    let joined = rewritten(rt.alloc(), down.as_bytes(), &options, &reach, 1)??;
-    assert_eq!(rt; joined.as_slice(), b"/a:1-10000".as_slice());
-    let same = rewritten(rt.alloc(), odd.as_bytes(), &options, &reach, 1)??;
-    assert_eq!(rt; same.as_slice(), odd.as_bytes());
+    let down = ten_thousand(rt.alloc(), true)?;
+    let joined = Ok(b"/a:1-10000".as_slice());
+    assert!(rt; is_rewritten(rt.alloc(), down.as_bytes(), &options, &reach, 1, joined));
+    let odd = ten_thousand(rt.alloc(), false)?;
+    let same = Ok(odd.as_bytes());
+    assert!(rt; is_rewritten(rt.alloc(), odd.as_bytes(), &options, &reach, 1, same));
     Ok(())
 }
 
@@ -417,9 +460,13 @@ fn new_value_or_no_memory(rt: HostRuntime) -> Result<(), Fail> {
     let Ok(options) = rules(rt.alloc(), b"/", false, false) else {
         return Ok(());
     };
-    match rewritten(rt.alloc(), b"/a:4,1-3\n/b:9,7,5,3,1", &options, &reach, 1)? {
-        Ok(new) => assert_eq!(rt; new.as_slice(), b"/a:1-4\n/b:1,3,5,7,9".as_slice()),
-        Err(fault) => assert_eq!(rt; fault, RewriteFault::Memory),
+    let value = b"/a:4,1-3\n/b:9,7,5,3,1".as_slice();
+    if !merge_reads(value) {
+        return Err("no mergeinfo".into());
+    }
+    match rewrite(rt.alloc(), value, &options, &reach, 1) {
+        Ok(new) => assert!(rt; new.as_slice() == b"/a:1-4\n/b:1,3,5,7,9".as_slice()),
+        Err(fault) => assert!(rt; fault == RewriteFault::Memory),
     }
     Ok(())
 }

@@ -1,6 +1,7 @@
 //! Many prefixes at once.
-use super::options;
-use crate::{Side, keeps};
+use super::{is_kept, options};
+use crate::{Options, Side, keeps};
+use std::alloc::Global;
 use std::test::Fail;
 
 #[test]
@@ -40,11 +41,10 @@ fn one_of_many_prefixes_matches(rt: HostRuntime) -> Result<(), Fail> {
         (b"/", false),
         (b"", false),
     ];
-    let include = options(rt.alloc(), Side::Include, &prefixes)?;
-    let exclude = options(rt.alloc(), Side::Exclude, &prefixes)?;
     for (path, matched) in rows {
-        assert_eq!(rt; keeps(&include, path), matched, "{path:?}");
-        assert_eq!(rt; keeps(&exclude, path), !matched, "{path:?}");
+        let included = is_kept(rt.alloc(), Side::Include, &prefixes, path)?;
+        let left = is_kept(rt.alloc(), Side::Exclude, &prefixes, path)?;
+        assert!(rt; included == matched && left != matched, "{path:?}");
     }
     Ok(())
 }
@@ -52,37 +52,43 @@ fn one_of_many_prefixes_matches(rt: HostRuntime) -> Result<(), Fail> {
 #[test]
 fn an_empty_prefix_among_others_matches_all(rt: HostRuntime) -> Result<(), Fail> {
     for empty in [b"".as_slice(), b"/", b"//"] {
-        let include = options(rt.alloc(), Side::Include, &[b"trunk", empty, b"tags/1"])?;
+        let prefixes = [b"trunk", empty, b"tags/1"];
         for path in [b"".as_slice(), b"/", b"a", b"a/b/c", b"trunk", b"/trunk2"] {
-            assert!(rt; keeps(&include, path), "{empty:?} {path:?}");
+            let kept = is_kept(rt.alloc(), Side::Include, &prefixes, path)?;
+            assert!(rt; kept, "{empty:?} {path:?}");
         }
     }
     Ok(())
 }
 
+/// The options that include /p0000/ to /p4999/.
+fn five_thousand(alloc: Global) -> Result<Options, Fail> {
+    let mut names = Vec::new(alloc);
+    for n in 0..5000u64 {
+        names.push(format!(in alloc; "/p{n:04}/")?)?;
+    }
+    let prefixes: Vec<&[u8]> = names.iter().map(|name| name.as_bytes()).collect(alloc)?;
+    Ok(options(alloc, Side::Include, &prefixes)?)
+}
+
+/// Whether these options keep the path pN with this end.
+fn keeps_numbered(alloc: Global, options: &Options, n: u64, end: &str) -> Result<bool, Fail> {
+    let path = format!(in alloc; "p{n:04}{end}")?;
+    Ok(keeps(options, path.as_bytes()))
+}
+
 #[test]
 fn five_thousand_prefixes(rt: HostRuntime) -> Result<(), Fail> {
-    let mut names = Vec::new(rt.alloc());
-    for n in 0..5000u64 {
-        names.push(format!(in rt.alloc(); "/p{n:04}/")?)?;
-    }
-    let prefixes: Vec<&[u8]> = names
-        .iter()
-        .map(|name| name.as_bytes())
-        .collect(rt.alloc())?;
-    let include = options(rt.alloc(), Side::Include, &prefixes)?;
+    let include = five_thousand(rt.alloc())?;
     for n in [0u64, 1, 2499, 4998, 4999] {
         for (end, kept) in [("", true), ("/a/b", true), ("0", false), ("-a", false)] {
-            let path = format!(in rt.alloc(); "p{n:04}{end}")?;
-            assert_eq!(rt; keeps(&include, path.as_bytes()), kept, "{path}");
+            let found = keeps_numbered(rt.alloc(), &include, n, end)?;
+            assert!(rt; found == kept, "p{n} {end}");
         }
     }
     for path in [b"p5000/a".as_slice(), b"p", b"p000", b"o/p0000", b""] {
         assert!(rt; !keeps(&include, path), "{path:?}");
     }
-    assert_eq!(rt;
-        include.prefix(4999).ok_or("missing")?,
-        b"/p4999/".as_slice()
-    );
+    assert!(rt; include.prefix(4999) == Some(b"/p4999/".as_slice()));
     Ok(())
 }
