@@ -120,26 +120,23 @@ fn images_are_of_the_last_kept_revision(rt: HostRuntime) -> Result<(), Fail> {
     Ok(())
 }
 
-fn assert_pushed(rt: &impl Abort, reach: &Reach, revision: u64, kept: u64) {
-    assert!(rt; reach.count() == kept + 1);
-    assert!(rt; reach.reach(revision) == Some(5 + kept));
-}
-
-fn assert_unchanged(rt: &impl Abort, reach: &Reach, revision: u64, kept: u64, last: Option<u64>) {
-    assert!(rt; reach.count() == kept);
-    assert!(rt; reach.reach(revision) == last);
-}
-
 // Run with each allocation refused in turn: a revision is kept, or nothing has changed.
 #[test]
 fn push_or_no_memory(rt: HostRuntime) {
     let mut reach = Reach::new(rt.alloc(), 5);
-    for revision in 6..20 {
-        let kept = reach.count();
-        let last = reach.reach(revision);
+    for revision in 6..20u64 {
+        let kept = revision - 6;
         match reach.push(revision) {
-            Ok(()) => assert_pushed(&rt, &reach, revision, kept),
-            Err(_) => assert_unchanged(&rt, &reach, revision, kept, last),
+            Ok(()) => {
+                assert!(rt; reach.count() == kept + 1);
+                assert_images(&rt, &reach, &[(revision, Some(5 + kept))]);
+            }
+            Err(_) => {
+                assert!(rt; reach.count() == kept);
+                let last = if kept == 0 { None } else { Some(4 + kept) };
+                assert_images(&rt, &reach, &[(revision, last)]);
+                return;
+            }
         }
     }
 }
