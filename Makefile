@@ -67,6 +67,8 @@ suites: $(PROGRAM) $(SURVEY)
 	tests/pages $(PROGRAM)
 	@echo "make: comparing $(PROGRAM) with the stock svndumpfilter"
 	tests/stock $(PROGRAM)
+	@echo "make: loading what $(PROGRAM) writes, and comparing it with what is meant where $(SURVEY) is silent"
+	tests/meaning $(PROGRAM) $(SURVEY)
 	@echo "make: looking whether the README lists the definitions of the statement"
 	tests/trusted
 
