@@ -6,11 +6,12 @@
 #                 the named wrong bodies are refused, and tries all others in batches
 # make check      checks the crate that CRATE names, with what was proved of it before
 # make case       runs the case that NAME names
-# make bench      measures the program on made dumps, beside the filter on one thread, md5sum, sha1sum, cat and, where it
+# make bench      measures both programs on made dumps, beside the filter on one thread, md5sum, sha1sum, cat and, where it
 #                 is installed, the stock svndumpfilter
 # make soak       runs the program ten thousand times on random dumps by random plans, beside the filter on one thread
-# make install    puts the program, its manual page and documents under $(DESTDIR)$(PREFIX), by the name $(NAME); what
-#                 somebody else put there is overwritten with FORCE=1 alone
+# make install    puts both programs, their manual pages and documents under $(DESTDIR)$(PREFIX), the filter by the name
+#                 $(NAME) and the survey by that with svndumpsurvey for svndumpfilter; what somebody else put there is
+#                 overwritten with FORCE=1 alone
 # make uninstall  takes away what was so put, and nothing else
 # make deb        makes a Debian package of the same, build/svndumpfilter-proved_VERSION_ARCHITECTURE.deb
 # make clean      removes build/; what the checks keep in crates/*/out stays
@@ -61,12 +62,14 @@ suites: $(PROGRAM) $(SURVEY)
 	tests/refusals $(PROGRAM)
 	@echo "make: running $(PROGRAM) on hostile input, streams and limits"
 	tests/hostile $(PROGRAM)
-	@echo "make: installing $(PROGRAM) into an empty root"
+	@echo "make: installing both programs into an empty root"
 	tests/install
-	@echo "make: running the examples of the manual page and of the README"
+	@echo "make: running the examples of the manual pages and of the README"
 	tests/pages $(PROGRAM)
 	@echo "make: comparing $(PROGRAM) with the stock svndumpfilter"
 	tests/stock $(PROGRAM)
+	@echo "make: loading what $(PROGRAM) writes, and comparing it with what is meant where $(SURVEY) is silent"
+	tests/meaning $(PROGRAM) $(SURVEY)
 	@echo "make: looking whether the README lists the definitions of the statement"
 	tests/trusted
 
@@ -89,19 +92,19 @@ $(PLAIN): $(PROGRAM) bench/plain bench/run_plain.rt.in
 	@echo "make: building $@"
 	@bench/plain
 
-bench: $(PROGRAM) $(PLAIN)
-	bench/measure $(PROGRAM) $(PLAIN)
+bench: $(PROGRAM) $(PLAIN) $(SURVEY)
+	bench/measure $(PROGRAM) $(PLAIN) $(SURVEY)
 
 soak: $(PROGRAM) $(PLAIN)
 	bench/soak
 
-install: $(PROGRAM)
+install: $(PROGRAM) $(SURVEY)
 	@$(INSTALLED) put
 
 uninstall:
 	@$(INSTALLED) take
 
-deb: $(PROGRAM)
+deb: $(PROGRAM) $(SURVEY)
 	tools/deb
 
 clean:
