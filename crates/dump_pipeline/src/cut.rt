@@ -1,9 +1,10 @@
 //! The cutter.
 ghost use Rattle.std.specs.Prelude.{◌≡◌, ◌<◌, ◌≤◌, ◌^◌, [], length, false, is_none, IfSome};
 ghost use Rattle.dump_lanes.specs.steps.PortViews.{job_port};
-ghost use Rattle.dump_pipeline.specs.steps.Parts.{HasCut};
+ghost use Rattle.dump_pipeline.specs.steps.Parts.{HasCut, HasCutFrom, IsFreshCutter};
 
 use crate::message::{Checked, Job, Run};
+use crate::words::Words;
 use dump_lanes::{Credit, Drawn, JobPort, StopSeat, StopWord};
 use dump_records::{Cut, Cutter};
 use std::sync::Wait;
@@ -11,13 +12,16 @@ use std::sync::Wait;
 /// The cutter's port.
 pub type CutterPort<'a, D> = JobPort<Job<'a, D>, Checked<'a, D>>;
 
-/// What the cutter gives back.
+/// The cutter's ends: its port, and its seats at the word that stops it and at the one that shuts it.
 #[derive(Drop)]
-pub struct CutterEnd<J: Drop, D: Drop> {
+pub struct CutterEnds<J: Drop, D: Drop> {
     pub port: JobPort<J, D>,
     pub seat: StopSeat,
     pub shut: StopSeat,
 }
+
+/// The ends that a run's cutter is given, and gives back.
+pub type Cutting<'a, D> = CutterEnds<Job<'a, D>, Checked<'a, D>>;
 
 // A credit, unless the stop is seen.
 fn draw<'a, D: Run, R: Wait>(
@@ -94,27 +98,21 @@ fn cut_all<'a, D: Run, R: Wait>(
 pub fn cut<'a, D: Run, R: Wait>(
     rt: &R,
     dump: &'a [u8],
-    mut port: CutterPort<'a, D>,
-    word: &StopWord,
-    mut seat: StopSeat,
-    shut_word: &StopWord,
-    mut shut: StopSeat,
-) -> CutterEnd<Job<'a, D>, Checked<'a, D>>
+    words: &Words,
+    ends: Cutting<'a, D>,
+) -> Cutting<'a, D>
     requires dump { dump.now ≡ D.dump }
-    requires open { (job_port port).marks ≡ 0 }
-    requires fresh { (job_port port).put ≡ [] }
-    requires this_word { seat.word ≡ word.now }
-    requires this_shut { shut.word ≡ shut_word.now }
-    ensures pool { (job_port result.port).pool ≡ (job_port port.entry).pool }
-    ensures workers { (job_port result.port).workers ≡ (job_port port.entry).workers }
-    ensures closed { (job_port result.port).marks ≡ (job_port port.entry).workers }
-    ensures cut { result.shut.seen ≡ false → HasCut D.dump (job_port result.port) result.seat.seen }
-    ensures seat { result.seat ≡ record seat { seen = result.seat.seen } }
-    ensures shut { result.shut ≡ record shut { seen = result.shut.seen } }
+    requires fresh { IsFreshCutter words.now ends }
+    ensures { HasCutFrom D.dump ends.entry result }
 {
-    if !shut_word.look(&mut shut) {
-        cut_all(rt, dump, &mut port, word, &mut seat);
+    let CutterEnds {
+        mut port,
+        mut seat,
+        mut shut,
+    } = ends;
+    if !words.shut.look(&mut shut) {
+        cut_all(rt, dump, &mut port, &words.stop, &mut seat);
     }
     port.close(rt);
-    CutterEnd { port, seat, shut }
+    CutterEnds { port, seat, shut }
 }

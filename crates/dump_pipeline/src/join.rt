@@ -6,16 +6,17 @@ ghost use Rattle.dump_lanes.specs.steps.PortSides.{AreWorkersOf};
 ghost use Rattle.dump_lanes.specs.steps.PortViews.{job_port, worker_port, done_port, credit_port};
 ghost use Rattle.dump_lanes.specs.steps.SlotViews.{slot_places};
 ghost use Rattle.dump_writer.specs.SinkWords.{IsPrefixOf};
-ghost use Rattle.dump_pipeline.specs.steps.JoinedNumbers.{AreFirstItems, sequenced_numbers, written_numbers};
+ghost use Rattle.dump_pipeline.specs.steps.JoinedNumbers.{AreFirstItems, sequenced_numbers, sequenced_of, written_numbers};
 ghost use Rattle.dump_pipeline.specs.steps.Messages.{text_of};
-ghost use Rattle.dump_pipeline.specs.steps.Parts.{HasCut, HasWorked, HasSequenced, HasReceived, CountsFailed, is_failure};
+ghost use Rattle.dump_pipeline.specs.steps.Parts.{HasCut, HasCutFrom, HasWorked, HasSequenced, HasSequencedFrom, HasReceived, CountsFailed, is_failure};
 ghost use Rattle.dump_pipeline.specs.RunAnswer.{RunLeaves, SinkFailsOnly};
 
 use crate::answer::{Answer, Failure};
+use crate::cut::Cutting;
 use crate::message::{Checked, Job, NumberedPiece, Run};
 use crate::sequence::{Sequenced, SequencerPort};
 use crate::stage::End;
-use crate::threads::{CutterEnds, CutterThread, SequencerThread, WorkerThread, join_workers};
+use crate::threads::{CutterThread, SequencerThread, WorkerThread, join_workers};
 use crate::words::Words;
 use crate::work::CheckerPort;
 use crate::write::{WriterPort, Written};
@@ -38,7 +39,7 @@ pub type WriterEnd<'a, D> = Written<Job<'a, D>, Checked<'a, D>, NumberedPiece<'a
 /// What the threads brought back. The lane of pieces is settled; what its ends had is kept.
 #[derive(Drop)]
 pub struct Joined<'a, D: Run> {
-    pub cutter: CutterEnds<'a, D>,
+    pub cutter: Cutting<'a, D>,
     pub workers: Vec<CheckerPort<'a, D>>,
     pub sequencer: SequencerPort<'a, D>,
     pub sequences: StopSeat,
@@ -59,27 +60,17 @@ pub fn join_threads<'a, D: Run, R: Threads>(
     written: WriterEnd<'a, D>,
 ) -> Joined<'a, D>
     requires room { (length started.room.items ≡ 0) × (length started.workers.items ≤ vec_capacity started.room) }
-    requires lane { (receiving written.from).lane ≡ (sending started.sequencer.promise.to.value).lane }
+    requires lane { (receiving written.from).lane ≡ (sending started.sequencer.promise.ends.value.to).lane }
     requires told { (receiving written.from).told ≡ LaneEnd.Ended }
     ensures items { AreFirstItems (sequenced_numbers result) }
     ensures pieces { AreFirstItems (written_numbers result) }
     ensures after { IsPrefixOf (written_numbers result) (sequenced_numbers result) }
     ensures all { (receiving result.taken.value).taken ≡ (sent result.put.value).put }
-    ensures cutter { let p = started.entry.cutter.promise in
-        ((job_port result.cutter.port).pool ≡ (job_port p.port.value).pool)
-        × ((job_port result.cutter.port).workers ≡ (job_port p.port.value).workers)
-        × ((job_port result.cutter.port).marks ≡ (job_port p.port.value).workers)
-        × (result.cutter.shut.seen ≡ false → HasCut D.dump (job_port result.cutter.port) result.cutter.seat.seen)
-        × (result.cutter.seat ≡ record p.seat.value { seen = result.cutter.seat.seen })
-        × (result.cutter.shut ≡ record p.shut.value { seen = result.cutter.shut.seen }) }
+    ensures cutter { HasCutFrom D.dump started.entry.cutter.promise.ends.value result.cutter }
     ensures worker_pools { map (λ p. (worker_port p).pool) result.workers.items ≡ map (λ h. (worker_port h.promise.port.value).pool) started.entry.workers.items }
     ensures worker_indices { map (λ p. (worker_port p).index) result.workers.items ≡ map (λ h. (worker_port h.promise.port.value).index) started.entry.workers.items }
     ensures worked { All (λ p. HasWorked (worker_port p)) result.workers.items }
-    ensures sequencer { let p = started.entry.sequencer.promise in
-        ((done_port result.sequencer).pool ≡ (done_port p.port.value).pool)
-        × ((done_port result.sequencer).ended ≡ true)
-        × (result.sequences ≡ record p.seat.value { raised = is_failure result.end })
-        × HasSequenced D.settings D.dump (length (slot_places p.slots.value)) (done_port result.sequencer).taken (sent result.put.value).put result.end result.stray }
+    ensures sequencer { HasSequencedFrom D.settings D.dump started.entry.sequencer.promise.ends.value (sequenced_of result) }
     ensures writer { (result.writer ≡ written.entry.port)
         × (result.writes ≡ written.entry.seat)
         × (result.failed ≡ written.entry.failed)

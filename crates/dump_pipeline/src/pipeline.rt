@@ -8,13 +8,16 @@
 //! 4. When all have ended, what they brought back is put together, and the answer follows.
 ghost use Rattle.std.specs.Prelude.{◌≡◌};
 ghost use Rattle.dump_pipeline.specs.RunAnswer.{RunLeaves, SinkFailsOnly, ThreadsFailFirst};
+ghost use Rattle.dump_pipeline.specs.steps.Parts.{HasRun};
 
 use crate::answer::{Answer, Failure};
+use crate::cut::CutterEnds;
 use crate::gate::Gate;
 use crate::join::{Started, conclude, join_threads};
 use crate::make::{Ends, Given, make};
 use crate::message::Run;
 use crate::plan::Plan;
+use crate::sequence::SequencerEnds;
 use crate::threads::{Crew, start_cutter, start_sequencer, start_workers};
 use crate::words::Words;
 use crate::write::write;
@@ -41,6 +44,14 @@ const REFUSED: Answer = Answer::Failed {
     written: 0,
 };
 
+// What a run works on: the dump, the options, and the gate that each worker passes.
+#[derive(Drop)]
+struct Task<'s, 'a, G> {
+    dump: &'a [u8],
+    options: &'a Options,
+    gate: &'s G,
+}
+
 // Runs all threads to their ends.
 fn run_in<
     's,
@@ -55,22 +66,17 @@ fn run_in<
     scope: &'s Scope<'s, E>,
     rt: &'s R,
     alloc: Global,
-    dump: &'a [u8],
-    options: &'a Options,
-    gate: &'s G,
+    task: Task<'s, 'a, G>,
     words: &'s Words,
     ends: Ends<'a, D>,
     held: Held<'b, S>,
 ) -> Held<'b, S>
-    requires dump { dump.now ≡ D.dump }
-    requires options { options.now ≡ D.settings }
-    requires this_stop { ends.cuts.word ≡ words.now.stop }
-    requires this_shut { ends.shut.word ≡ words.now.shut }
+    requires dump { task.dump.now ≡ D.dump }
+    requires options { task.options.now ≡ D.settings }
+    requires words { (ends.cuts.word ≡ words.now.stop) × (ends.shut.word ≡ words.now.shut) }
     ensures same { result.sink.ghost_name ≡ held.entry.sink.ghost_name }
-    ensures leaves { RunLeaves D.settings D.dump (S.taken held.entry.sink.now) (S.taken result.sink.now) result.answer }
     ensures through { S.through result.sink.now ≡ S.through held.entry.sink.now }
-    ensures failures { SinkFailsOnly (S.failure_count held.entry.sink.now) (S.failure_count result.sink.now) result.answer }
-    ensures threads { ThreadsFailFirst result.answer }
+    ensures ran { HasRun D.settings D.dump (S.taken held.entry.sink.now) (S.taken result.sink.now) (S.failure_count held.entry.sink.now) (S.failure_count result.sink.now) result.answer }
 {
     let Held { sink, answer: _ } = held;
     let Ends {
@@ -93,18 +99,19 @@ fn run_in<
         sequencer,
         writer,
     } = ports;
-    let answer = REFUSED;
-    let Some(sequencer) = start_sequencer(
-        scope,
-        rt,
-        alloc,
+    let Task {
+        dump,
         options,
-        &words.stop,
-        sequencer,
+        gate,
+    } = task;
+    let answer = REFUSED;
+    let sequencer_ends = SequencerEnds {
+        port: sequencer,
         slots,
         to,
-        sequences,
-    ) else {
+        seat: sequences,
+    };
+    let Some(sequencer) = start_sequencer(scope, rt, alloc, options, words, sequencer_ends) else {
         return Held { sink, answer };
     };
     let Some(Crew { workers, cutter }) = start_workers(
@@ -112,7 +119,12 @@ fn run_in<
     ) else {
         return Held { sink, answer };
     };
-    let Some(cutter) = start_cutter(scope, rt, dump, cutter, words, cuts, shut, &mut shuts) else {
+    let cutter_ends = CutterEnds {
+        port: cutter,
+        seat: cuts,
+        shut,
+    };
+    let Some(cutter) = start_cutter(scope, rt, dump, words, cutter_ends, &mut shuts) else {
         return Held { sink, answer };
     };
     let written = write(rt, writer, from, &words.stop, writes, sink);
@@ -128,58 +140,46 @@ fn run_in<
 }
 
 // The scope of a run's threads.
-fn run_scoped<'a, 'b, D: Run + Send + Sync, S: Sink, G: Gate, R: Threads + Wait + Sync>(
+fn run_scoped<'s, 'a, 'b, D: Run + Send + Sync, S: Sink, G: Gate, R: Threads + Wait + Sync>(
     rt: &R,
     alloc: Global,
-    dump: &'a [u8],
-    options: &'a Options,
-    gate: &G,
+    task: Task<'s, 'a, G>,
     words: &Words,
     ends: Ends<'a, D>,
     held: Held<'b, S>,
 ) -> Held<'b, S>
-    requires dump { dump.now ≡ D.dump }
-    requires options { options.now ≡ D.settings }
-    requires this_stop { ends.cuts.word ≡ words.now.stop }
-    requires this_shut { ends.shut.word ≡ words.now.shut }
+    requires dump { task.dump.now ≡ D.dump }
+    requires options { task.options.now ≡ D.settings }
+    requires words { (ends.cuts.word ≡ words.now.stop) × (ends.shut.word ≡ words.now.shut) }
     ensures same { result.sink.ghost_name ≡ held.entry.sink.ghost_name }
-    ensures leaves { RunLeaves D.settings D.dump (S.taken held.entry.sink.now) (S.taken result.sink.now) result.answer }
     ensures through { S.through result.sink.now ≡ S.through held.entry.sink.now }
-    ensures failures { SinkFailsOnly (S.failure_count held.entry.sink.now) (S.failure_count result.sink.now) result.answer }
-    ensures threads { ThreadsFailFirst result.answer }
+    ensures ran { HasRun D.settings D.dump (S.taken held.entry.sink.now) (S.taken result.sink.now) (S.failure_count held.entry.sink.now) (S.failure_count result.sink.now) result.answer }
 {
     thread::scope(
         thread::scope_env(),
         rt,
         move |scope| -> Held<S>
-            requires dump { dump.now ≡ D.dump }
-            requires options { options.now ≡ D.settings }
-            requires this_stop { ends.cuts.word ≡ words.now.stop }
-            requires this_shut { ends.shut.word ≡ words.now.shut }
+            requires dump { task.dump.now ≡ D.dump }
+            requires options { task.options.now ≡ D.settings }
+            requires words { (ends.cuts.word ≡ words.now.stop) × (ends.shut.word ≡ words.now.shut) }
             ensures same { result.sink.ghost_name ≡ held.entry.sink.ghost_name }
-            ensures leaves { RunLeaves D.settings D.dump (S.taken held.entry.sink.now) (S.taken result.sink.now) result.answer }
             ensures through { S.through result.sink.now ≡ S.through held.entry.sink.now }
-            ensures failures { SinkFailsOnly (S.failure_count held.entry.sink.now) (S.failure_count result.sink.now) result.answer }
-            ensures threads { ThreadsFailFirst result.answer }
-        { run_in(scope, rt, alloc, dump, options, gate, words, ends, held) },
+            ensures ran { HasRun D.settings D.dump (S.taken held.entry.sink.now) (S.taken result.sink.now) (S.failure_count held.entry.sink.now) (S.failure_count result.sink.now) result.answer }
+        { run_in(scope, rt, alloc, task, words, ends, held) },
     )
 }
 
 fn run_of<'a, D: Run + Send + Sync, S: Sink, G: Gate, R: Threads + Wait + Sync>(
     rt: &R,
     alloc: Global,
-    dump: &'a [u8],
-    options: &'a Options,
+    task: Task<'_, 'a, G>,
     plan: Plan,
-    gate: &G,
     sink: &mut S,
 ) -> Answer
-    requires dump { dump.now ≡ D.dump }
-    requires options { options.now ≡ D.settings }
-    ensures answer { RunLeaves D.settings D.dump (S.taken sink.old) (S.taken sink.new) result }
+    requires dump { task.dump.now ≡ D.dump }
+    requires options { task.options.now ≡ D.settings }
     ensures through { S.through sink.new ≡ S.through sink.old }
-    ensures sink { SinkFailsOnly (S.failure_count sink.old) (S.failure_count sink.new) result }
-    ensures threads { ThreadsFailFirst result }
+    ensures ran { HasRun D.settings D.dump (S.taken sink.old) (S.taken sink.new) (S.failure_count sink.old) (S.failure_count sink.new) result }
 {
     let Ok(given) = make::<D, R>(rt, alloc, plan) else {
         return Answer::Failed {
@@ -192,7 +192,7 @@ fn run_of<'a, D: Run + Send + Sync, S: Sink, G: Gate, R: Threads + Wait + Sync>(
         sink,
         answer: REFUSED,
     };
-    let held = run_scoped(rt, alloc, dump, options, gate, &words, ends, held);
+    let held = run_scoped(rt, alloc, task, &words, ends, held);
     held.answer
 }
 
@@ -214,5 +214,10 @@ pub fn run<'a, S: Sink, G: Gate, R: Threads + Wait + Sync>(
     ensures sink { SinkFailsOnly (S.failure_count sink.old) (S.failure_count sink.new) result }
     ensures threads { ThreadsFailFirst result }
 {
-    run_of::<Brand, S, G, R>(rt, alloc, dump, options, plan, gate, sink)
+    let task = Task {
+        dump,
+        options,
+        gate,
+    };
+    run_of::<Brand, S, G, R>(rt, alloc, task, plan, sink)
 }

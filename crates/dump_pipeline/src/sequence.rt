@@ -9,10 +9,11 @@ ghost use Rattle.dump_lanes.specs.steps.SlotViews.{slot_places};
 ghost use Rattle.dump_pipeline.specs.steps.Endings.{ending_of};
 ghost use Rattle.dump_pipeline.specs.steps.Messages.{checked_numbers, text_of};
 ghost use Rattle.dump_pipeline.specs.declared.stage.Stage.{Stage as Stages};
-ghost use Rattle.dump_pipeline.specs.steps.Parts.{HasFiltered, HasReleased, HasSequenced, IsEndOf, is_failure, stage_end};
+ghost use Rattle.dump_pipeline.specs.steps.Parts.{HasFiltered, HasReleased, HasSequenced, HasSequencedFrom, IsEndOf, IsFreshSequencer, is_failure, stage_end};
 
 use crate::message::{Checked, Job, Last, NumberedPiece, Run};
 use crate::stage::{End, Stage};
+use crate::words::Words;
 use dump_digest::Done;
 use dump_filter::{Filter, StepFault};
 use dump_lanes::{DonePort, LaneIn, Sent, Slots, StopSeat, StopWord};
@@ -24,6 +25,18 @@ use std::sync::Wait;
 
 /// The sequencer's port.
 pub type SequencerPort<'a, D> = DonePort<Job<'a, D>, Checked<'a, D>>;
+
+/// The sequencer's ends: its port, the row of slots, the lane to the writer, and its seat at the stop.
+#[derive(Drop)]
+pub struct SequencerEnds<J: Drop, D: Drop, T: Drop> {
+    pub port: DonePort<J, D>,
+    pub slots: Slots<D>,
+    pub to: LaneIn<T>,
+    pub seat: StopSeat,
+}
+
+/// The ends that a run's sequencer is given.
+pub type Sequencing<'a, D> = SequencerEnds<Job<'a, D>, Checked<'a, D>, NumberedPiece<'a>>;
 
 /// What the sequencer gives back.
 #[derive(Drop)]
@@ -222,39 +235,32 @@ fn release_all<'a, D: Run, R: Wait>(
     rt: &R,
     alloc: Global,
     options: &'a Options,
-    port: &mut SequencerPort<'a, D>,
-    slots: &mut Slots<Checked<'a, D>>,
-    to: &mut LaneIn<NumberedPiece<'a>>,
-    word: &StopWord,
-    seat: &mut StopSeat,
+    words: &Words,
+    ends: &mut Sequencing<'a, D>,
 ) -> (Option<End>, bool)
     requires options { options.now ≡ D.settings }
-    requires nothing_taken { (done_port port.old).taken ≡ [] }
-    requires nothing_put { (sending to.old).put ≡ [] }
-    requires empty { slot_places slots.old ≡ replicate (length (slot_places slots.old)) None }
-    requires this_word { seat.old.word ≡ word.now }
-    requires unraised { seat.old.raised ≡ false }
-    ensures pool { (done_port port.new).pool ≡ (done_port port.old).pool }
-    ensures lane { (sending to.new).lane ≡ (sending to.old).lane }
-    ensures seat { seat.new ≡ record seat.old { raised = is_failure result.0 } }
-    ensures sequenced { HasSequenced D.settings D.dump (length (slot_places slots.old)) (done_port port.new).taken (sending to.new).put result.0 result.1 }
-    ensures ended { result.1 ≡ false → (done_port port.new).ended ≡ true }
+    requires fresh { IsFreshSequencer words.now ends.old }
+    ensures pool { (done_port ends.new.port).pool ≡ (done_port ends.old.port).pool }
+    ensures lane { (sending ends.new.to).lane ≡ (sending ends.old.to).lane }
+    ensures seat { ends.new.seat ≡ record ends.old.seat { raised = is_failure result.0 } }
+    ensures sequenced { HasSequenced D.settings D.dump (length (slot_places ends.old.slots)) (done_port ends.new.port).taken (sending ends.new.to).put result.0 result.1 }
+    ensures ended { result.1 ≡ false → (done_port ends.new.port).ended ≡ true }
 {
     let mut next = 0u64;
     let mut stage = Stage::Going(Filter::new(alloc, options));
     for _ in rt.forever() {
-        let checked = match slots.lift(next) {
+        let checked = match ends.slots.lift(next) {
             Some(checked) => {
                 if checked.number != next {
                     return (stage.end(), true);
                 }
                 checked
             }
-            None => match port.take(rt) {
+            None => match ends.port.take(rt) {
                 Some(checked) => {
                     let number = checked.number;
                     if number != next {
-                        match slots.place(number, checked) {
+                        match ends.slots.place(number, checked) {
                             Ok(()) => continue,
                             Err(_) => return (stage.end(), true),
                         }
@@ -264,70 +270,30 @@ fn release_all<'a, D: Run, R: Wait>(
                 None => return (stage.end(), false),
             },
         };
-        let piece = step::<D>(alloc, &mut stage, checked, word, seat);
-        release(rt, to, piece);
+        let piece = step::<D>(alloc, &mut stage, checked, &words.stop, &mut ends.seat);
+        release(rt, &mut ends.to, piece);
         next += 1;
     }
     unreachable!()
 }
 
-// Releases the items in order, and takes all that come.
-fn take_all<'a, D: Run, R: Wait>(
-    rt: &R,
-    alloc: Global,
-    options: &'a Options,
-    port: &mut SequencerPort<'a, D>,
-    slots: &mut Slots<Checked<'a, D>>,
-    to: &mut LaneIn<NumberedPiece<'a>>,
-    word: &StopWord,
-    seat: &mut StopSeat,
-) -> (Option<End>, bool)
-    requires options { options.now ≡ D.settings }
-    requires nothing_taken { (done_port port.old).taken ≡ [] }
-    requires nothing_put { (sending to.old).put ≡ [] }
-    requires empty { slot_places slots.old ≡ replicate (length (slot_places slots.old)) None }
-    requires this_word { seat.old.word ≡ word.now }
-    requires unraised { seat.old.raised ≡ false }
-    ensures pool { (done_port port.new).pool ≡ (done_port port.old).pool }
-    ensures lane { (sending to.new).lane ≡ (sending to.old).lane }
-    ensures seat { seat.new ≡ record seat.old { raised = is_failure result.0 } }
-    ensures sequenced { HasSequenced D.settings D.dump (length (slot_places slots.old)) (done_port port.new).taken (sending to.new).put result.0 result.1 }
-    ensures ended { (done_port port.new).ended ≡ true }
-{
-    let (end, stray) = release_all(rt, alloc, options, port, slots, to, word, seat);
-    if !stray {
-        return (end, false);
-    }
-    drain(rt, port);
-    (end, true)
-}
-
-/// Filters all items in order, and releases what is written of them.
+/// Filters all items in order, and releases what is written of them. Where one was astray it takes what still comes.
 pub fn sequence<'a, D: Run, R: Wait>(
     rt: &R,
     alloc: Global,
     options: &'a Options,
-    mut port: SequencerPort<'a, D>,
-    mut slots: Slots<Checked<'a, D>>,
-    mut to: LaneIn<NumberedPiece<'a>>,
-    word: &StopWord,
-    mut seat: StopSeat,
+    words: &Words,
+    mut ends: Sequencing<'a, D>,
 ) -> Sequenced<Job<'a, D>, Checked<'a, D>, NumberedPiece<'a>>
     requires options { options.now ≡ D.settings }
-    requires nothing_taken { (done_port port).taken ≡ [] }
-    requires nothing_put { (sending to).put ≡ [] }
-    requires empty { slot_places slots ≡ replicate (length (slot_places slots)) None }
-    requires this_word { seat.word ≡ word.now }
-    requires unraised { seat.raised ≡ false }
-    ensures pool { (done_port result.port).pool ≡ (done_port port.entry).pool }
-    ensures ended { (done_port result.port).ended ≡ true }
-    ensures lane { (sent result.sent).lane ≡ (sending to.entry).lane }
-    ensures seat { result.seat ≡ record seat { raised = is_failure result.end } }
-    ensures sequenced { HasSequenced D.settings D.dump (length (slot_places slots.entry)) (done_port result.port).taken (sent result.sent).put result.end result.stray }
+    requires fresh { IsFreshSequencer words.now ends }
+    ensures { HasSequencedFrom D.settings D.dump ends.entry result }
 {
-    let (end, stray) = take_all(
-        rt, alloc, options, &mut port, &mut slots, &mut to, word, &mut seat,
-    );
+    let (end, stray) = release_all(rt, alloc, options, words, &mut ends);
+    if stray {
+        drain(rt, &mut ends.port);
+    }
+    let SequencerEnds { port, to, seat, .. } = ends;
     Sequenced {
         port,
         sent: to.close(rt),

@@ -1,7 +1,6 @@
 //! A worker.
-ghost use Rattle.std.specs.Prelude.{◌≡◌, [], false};
-ghost use Rattle.dump_lanes.specs.steps.PortViews.{worker_port};
-ghost use Rattle.dump_pipeline.specs.steps.Parts.{HasWorked};
+ghost use Rattle.std.specs.Prelude.{◌≡◌};
+ghost use Rattle.dump_pipeline.specs.steps.Parts.{HasWorkedFrom, IsFreshWorker};
 
 use crate::gate::Gate;
 use crate::message::{Checked, Job, Run};
@@ -20,12 +19,8 @@ pub fn work<'a, D: Run, G: Gate, R: Wait>(
     mut port: CheckerPort<'a, D>,
 ) -> CheckerPort<'a, D>
     requires options { options.now ≡ D.settings }
-    requires open { (worker_port port).closed ≡ false }
-    requires untaken { (worker_port port).taken ≡ [] }
-    requires ungiven { (worker_port port).given ≡ [] }
-    ensures pool { (worker_port result).pool ≡ (worker_port port.entry).pool }
-    ensures index { (worker_port result).index ≡ (worker_port port.entry).index }
-    ensures worked { HasWorked (worker_port result) }
+    requires fresh { IsFreshWorker port }
+    ensures { HasWorkedFrom port.entry result }
 {
     for _ in rt.forever() {
         match port.take(rt) {

@@ -1,5 +1,5 @@
 -- What each thread of a run gives back.
-use Rattle.std.specs.Prelude.{◌≡◌, ℕ, ◌+◌, ◌≤◌, Bool, true, false, List, [], length, Option, Some, None, MatchBool}
+use Rattle.std.specs.Prelude.{◌≡◌, ℕ, ◌+◌, ◌≤◌, Bool, true, false, List, [], length, replicate, Option, Some, None, MatchBool}
 use Rattle.std.specs.Io.KnownBytes.{Appends}
 use Rattle.dump_records.specs.DumpText.{Ending}
 use Rattle.dump_records.specs.steps.CutRecords.{EndsAfter}
@@ -7,7 +7,15 @@ use Rattle.dump_rules.specs.Settings.{Settings}
 use Rattle.dump_writer.specs.SinkWords.{capped, IsPrefixOf, HasFailedSince}
 use Rattle.dump_filter.specs.steps.FilterState.{FilterState}
 use Rattle.dump_lanes.specs.Arrivals.{first_numbers, Clash, IsWaiting}
+use Rattle.dump_lanes.specs.declared.pool.worker.WorkerPort.{WorkerPort}
+use Rattle.dump_lanes.specs.steps.LaneViews.{sending, sent}
 use Rattle.dump_lanes.specs.steps.PortSides.{CutterSide, WorkerSide, IsDone}
+use Rattle.dump_lanes.specs.steps.PortViews.{job_port, worker_port, done_port}
+use Rattle.dump_lanes.specs.steps.SlotViews.{slot_places}
+use Rattle.dump_pipeline.specs.declared.cut.CutterEnds.{CutterEnds}
+use Rattle.dump_pipeline.specs.declared.sequence.SequencerEnds.{SequencerEnds}
+use Rattle.dump_pipeline.specs.declared.sequence.Sequenced.{Sequenced}
+use Rattle.dump_pipeline.specs.declared.words.Words.{Words}
 use Rattle.dump_pipeline.specs.declared.answer.Answer.{Answer}
 use Rattle.dump_pipeline.specs.declared.answer.Answer.TheVariants as answers
 use Rattle.dump_pipeline.specs.declared.answer.Failure.TheVariants as failures
@@ -22,7 +30,29 @@ use Rattle.dump_pipeline.specs.declared.stage.Stage.TheVariants.{Going, Ended}
 use Rattle.dump_pipeline.specs.FilterAnswer.{IsFilterAnswer}
 use Rattle.dump_pipeline.specs.steps.Messages.{job_numbers, checked_numbers, piece_numbers, text_of}
 use Rattle.dump_pipeline.specs.steps.Progress.{Progress}
-use Rattle.dump_pipeline.specs.RunAnswer.{IsFilterPrefix}
+use Rattle.dump_pipeline.specs.RunAnswer.{IsFilterPrefix, RunLeaves, SinkFailsOnly, ThreadsFailFirst}
+
+module _ {D : Type 0} {run : Ghosts D} where
+  -- the ends of a cutter that has done nothing, under these words
+  pub record IsFreshCutter (words : Words) (ends : CutterEnds (Job D run) (Checked D run)) : Type 0 where
+    pub open_ : (job_port ends.port).marks ≡ 0
+    pub nothing_put : (job_port ends.port).put ≡ []
+    pub this_stop : ends.seat.word ≡ words.stop
+    pub this_shut : ends.shut.word ≡ words.shut
+
+  -- a worker's port that wasn't used
+  pub record IsFreshWorker (port : WorkerPort (Job D run) (Checked D run)) : Type 0 where
+    pub open_ : (worker_port port).closed ≡ false
+    pub nothing_taken : (worker_port port).taken ≡ []
+    pub nothing_given : (worker_port port).given ≡ []
+
+  -- the ends of a sequencer that has done nothing, under these words
+  pub record IsFreshSequencer (words : Words) (ends : SequencerEnds (Job D run) (Checked D run) NumberedPiece) : Type 0 where
+    pub nothing_taken : (done_port ends.port).taken ≡ []
+    pub nothing_put : (sending ends.to).put ≡ []
+    pub empty : slot_places ends.slots ≡ replicate (length (slot_places ends.slots)) None
+    pub this_stop : ends.seat.word ≡ words.stop
+    pub unraised : ends.seat.raised ≡ false
 
 -- a cutter's port that has put the first so many items, each under a credit
 pub record HasPut {D : Type 0} {run : Ghosts D} (count : ℕ) (old new : CutterSide (Job D run)) : Type 0 where
@@ -41,10 +71,26 @@ pub record HasCut {D : Type 0} {run : Ghosts D} (dump : List ℕ) (new : CutterS
   pub credits : count ≤ new.drawn
   pub whole : seen ≡ false → (total : ℕ) × (ending : Ending) × EndsAfter dump total ending × (count ≡ total + 1)
 
+-- what the cutter gives back of its ends: it was closed, and has cut unless it was shut before
+pub record HasCutFrom {D : Type 0} {run : Ghosts D} (dump : List ℕ)
+    (old new : CutterEnds (Job D run) (Checked D run)) : Type 0 where
+  pub pool : (job_port new.port).pool ≡ (job_port old.port).pool
+  pub workers : (job_port new.port).workers ≡ (job_port old.port).workers
+  pub closed : (job_port new.port).marks ≡ (job_port old.port).workers
+  pub cut : new.shut.seen ≡ false → HasCut dump (job_port new.port) new.seat.seen
+  pub seat : new.seat ≡ record old.seat { seen = new.seat.seen }
+  pub shut : new.shut ≡ record old.shut { seen = new.shut.seen }
+
 -- what a worker gives back: it has ended, and gave one checked item for each job that it took, with its number
 pub record HasWorked {D : Type 0} {run : Ghosts D} (worker : WorkerSide (Job D run) (Checked D run)) : Type 0 where
   pub done : IsDone worker
   pub numbers : checked_numbers worker.given ≡ job_numbers worker.taken
+
+-- the port that a worker gives back of the one that it was given
+pub record HasWorkedFrom {D : Type 0} {run : Ghosts D} (old new : WorkerPort (Job D run) (Checked D run)) : Type 0 where
+  pub pool : (worker_port new).pool ≡ (worker_port old).pool
+  pub index : (worker_port new).index ≡ (worker_port old).index
+  pub worked : HasWorked (worker_port new)
 
 -- what the sequencer ended with, if it did
 abbrev pub stage_end : Stage → Option End
@@ -94,6 +140,16 @@ pub record HasSequenced {D : Type 0} {run : Ghosts D} (settings : Settings) (dum
   pub order : MatchBool stray (Clash window (length put) (checked_numbers taken))
       (IsWaiting (length put) (checked_numbers taken))
 
+-- what the sequencer gives back of its ends: it has taken all, and raised the stop where it failed
+pub record HasSequencedFrom {D : Type 0} {run : Ghosts D} (settings : Settings) (dump : List ℕ)
+    (ends : SequencerEnds (Job D run) (Checked D run) NumberedPiece) (given : Sequenced (Job D run) (Checked D run) NumberedPiece) : Type 0 where
+  pub pool : (done_port given.port).pool ≡ (done_port ends.port).pool
+  pub ended : (done_port given.port).ended ≡ true
+  pub lane : (sent given.sent).lane ≡ (sending ends.to).lane
+  pub seat : given.seat ≡ record ends.seat { raised = is_failure given.end }
+  pub sequenced : HasSequenced settings dump (length (slot_places ends.slots)) (done_port given.port).taken
+      (sent given.sent).put given.end given.stray
+
 -- what the sink received of the pieces that the writer took: all, or after a failure their first bytes, and their count
 pub record HasReceived (failed : Bool) (text : List ℕ) (old new : Option (List ℕ)) (written : ℕ) : Type 0 where
   pub received : List ℕ
@@ -104,3 +160,10 @@ pub record HasReceived (failed : Bool) (text : List ℕ) (old new : Option (List
 -- the sink's count of failures rose where it failed, and else is as before
 abbrev pub CountsFailed : Bool → ℕ → ℕ → Type 0
 CountsFailed failed old new = MatchBool failed (HasFailedSince old new) (new ≡ old)
+
+-- what a run leaves of its sink, where so many failures were counted before and behind it, and its answer
+pub record HasRun (settings : Settings) (dump : List ℕ) (first now : Option (List ℕ)) (failures failed : ℕ)
+    (answer : Answer) : Type 0 where
+  pub leaves : RunLeaves settings dump first now answer
+  pub sink : SinkFailsOnly failures failed answer
+  pub threads : ThreadsFailFirst answer

@@ -1,6 +1,5 @@
-use Rattle.std.proofs.Common.{◌≡◌, ◌∙◌, ℕ, List, Option, None, sym, ap, subst, map, length, arith}
+use Rattle.std.proofs.Common.{rules, ◌≡◌, ◌∙◌, refl, ℕ, List, Option, None, sym, ap, subst, map, length, arith}
 use Rattle.std.proofs.lemmas.List.{length-replicate}
-use Rattle.dump_lanes.specs.declared.slots.Slots.{Slots}
 use Rattle.dump_lanes.specs.steps.LaneViews.{sent}
 use Rattle.dump_lanes.specs.steps.SlotViews.{slot_places}
 use Rattle.dump_pipeline.specs.steps.Parts.{HasSequenced}
@@ -13,25 +12,30 @@ use Rattle.dump_lanes.proofs.PortsTogether.{length_of_map, same_ports, fresh_wor
 use Rattle.dump_pipeline.specs.declared.answer.Failure.TheVariants as failures
 use Rattle.dump_pipeline.specs.declared.message.Job.{Job}
 use Rattle.dump_pipeline.specs.declared.message.Checked.{Checked}
+use Rattle.dump_pipeline.specs.declared.message.NumberedPiece.{NumberedPiece}
+use Rattle.dump_pipeline.specs.declared.cut.CutterEnds.{CutterEnds}
+use Rattle.dump_pipeline.specs.declared.sequence.SequencerEnds.{SequencerEnds}
 use Rattle.dump_lanes.proofs.FreshPorts.{none_taken, none_given, workers_count}
 use Rattle.dump_pipeline.proofs.Joined.{nothing_written, threads_fail}
 use Rattle.dump_pipeline.proofs.pipeline.run_in.Goals as goal
 
-pub returns-in_default-clause-leaves : goal.returns-in_default-clause-leaves
-returns-in_default-clause-leaves g c = nothing_written g.D.Run.settings g.D.Run.dump
-    (g.S.Sink.taken c.args.held.sink.now) failures.Threads
+pub returns-in_default-clause-ran : goal.returns-in_default-clause-ran
+returns-in_default-clause-ran g c = record {
+  leaves = nothing_written g.D.Run.settings g.D.Run.dump (g.S.Sink.taken c.args.held.sink.now) failures.Threads;
+  sink = refl;
+  threads = refl;
+}
 
-pub start_workers-requires-clause-open : goal.start_workers-requires-clause-open
-start_workers-requires-clause-open g c κs within = none_closed
-    (pool_state c.args.ends.pool) c.args.ends.ports.workers.items c.args.ends.working
-
-pub start_workers-requires-clause-untaken : goal.start_workers-requires-clause-untaken
-start_workers-requires-clause-untaken g c κs within = none_taken
-    (pool_state c.args.ends.pool) c.args.ends.ports.workers.items c.args.ends.working
-
-pub start_workers-requires-clause-ungiven : goal.start_workers-requires-clause-ungiven
-start_workers-requires-clause-ungiven g c κs within = none_given
-    (pool_state c.args.ends.pool) c.args.ends.ports.workers.items c.args.ends.working
+pub start_workers-requires-clause-fresh : goal.start_workers-requires-clause-fresh
+start_workers-requires-clause-fresh g c κs within =
+    let pool = pool_state c.args.ends.pool in
+    let ports = c.args.ends.ports.workers.items in
+    let working = c.args.ends.working in
+    λ k d below. record {
+      open_ = none_closed pool ports working k d below;
+      nothing_taken = none_taken pool ports working k d below;
+      nothing_given = none_given pool ports working k d below;
+    }
 
 pub start_workers-requires-clause-room : goal.start_workers-requires-clause-room
 start_workers-requires-clause-room g c κs within =
@@ -39,15 +43,21 @@ start_workers-requires-clause-room g c κs within =
     let count = workers_count (pool_state c.args.ends.pool) c.args.ends.ports.workers.items c.args.ends.working in
     (room.0, let most = room.1 in omega arith)
 
-pub returns-in_default-start_workers-clause-leaves :
-    goal.returns-in_default-start_workers-clause-leaves
-returns-in_default-start_workers-clause-leaves g c = nothing_written g.D.Run.settings g.D.Run.dump
-    (g.S.Sink.taken c.args.held.sink.now) failures.Threads
+pub returns-in_default-start_workers-clause-ran :
+    goal.returns-in_default-start_workers-clause-ran
+returns-in_default-start_workers-clause-ran g c = record {
+  leaves = nothing_written g.D.Run.settings g.D.Run.dump (g.S.Sink.taken c.args.held.sink.now) failures.Threads;
+  sink = refl;
+  threads = refl;
+}
 
-pub returns-in_default-start_cutter-clause-leaves :
-    goal.returns-in_default-start_cutter-clause-leaves
-returns-in_default-start_cutter-clause-leaves g c = nothing_written g.D.Run.settings g.D.Run.dump
-    (g.S.Sink.taken c.args.held.sink.now) failures.Threads
+pub returns-in_default-start_cutter-clause-ran :
+    goal.returns-in_default-start_cutter-clause-ran
+returns-in_default-start_cutter-clause-ran g c = record {
+  leaves = nothing_written g.D.Run.settings g.D.Run.dump (g.S.Sink.taken c.args.held.sink.now) failures.Threads;
+  sink = refl;
+  threads = refl;
+}
 
 pub join_threads-joined-requires-clause-room : goal.join_threads-joined-requires-clause-room
 join_threads-joined-requires-clause-room g c =
@@ -78,12 +88,13 @@ conclude-answer-requires-clause-workers g c =
     same_ports (job_port c.args.ends.ports.cutter).pool (job_port c.args.ends.ports.cutter).workers ports new
     (c.join_threads-joined.ensures.worker_pools ∙ c.in-Some-start_workers.ensures.pool)
     (c.join_threads-joined.ensures.worker_indices ∙ c.in-Some-start_workers.ensures.index) at in
-    let same : c.in-Some-start_cutter.cutter.promise.port.value ≡ c.args.ends.ports.cutter = c.in-Some-start_cutter.ensures.port ∙ c.in-Some-start_workers.ensures.cutter in
+    let same : c.in-Some-start_cutter.cutter.promise.ends.value.port ≡ c.args.ends.ports.cutter = ap (λ (ends : CutterEnds J E). ends.port) c.in-Some-start_cutter.ensures.ends
+    ∙ c.in-Some-start_workers.ensures.cutter in
     let same_pool : (job_port c.join_threads-joined.result.cutter.port).pool ≡
-    (job_port c.args.ends.ports.cutter).pool = c.join_threads-joined.ensures.cutter.0
+    (job_port c.args.ends.ports.cutter).pool = c.join_threads-joined.ensures.cutter.pool
     ∙ ap (λ (p : JobPort J E). (job_port p).pool) same in
     let same_workers : (job_port c.join_threads-joined.result.cutter.port).workers ≡
-    (job_port c.args.ends.ports.cutter).workers = c.join_threads-joined.ensures.cutter.1
+    (job_port c.args.ends.ports.cutter).workers = c.join_threads-joined.ensures.cutter.workers
     ∙ ap (λ (p : JobPort J E). (job_port p).workers) same in
     subst (λ (x : PoolName × ℕ). AreWorkersOf x.0 x.1 (map (λ (p : WorkerPort J E). worker_port p) new))
     (λ i. (sym same_pool i, sym same_workers i)) all
@@ -94,8 +105,8 @@ conclude-answer-requires-clause-sequenced g c =
     let E : Type 0 = Checked g.row.D.Denot g.D.Run in
     let none : Option E = None in
     let joined = c.join_threads-joined.result in
-    let wide : length (slot_places c.in-Some.sequencer.promise.slots.value) ≡ (pool_state c.args.ends.pool).window =
-    ap (λ (s : Slots E). length (slot_places s)) c.in-Some.ensures.slots
+    let wide : length (slot_places c.in-Some.sequencer.promise.ends.value.slots) ≡ (pool_state c.args.ends.pool).window =
+    ap (λ (ends : SequencerEnds J E NumberedPiece). length (slot_places ends.slots)) c.in-Some.ensures
     ∙ (ap (λ (l : List (Option E)). length l) c.args.ends.places
     ∙ length-replicate (pool_state c.args.ends.pool).window none) in
     let window : (credit_port joined.writer).window ≡ (pool_state c.args.ends.pool).window =
@@ -103,7 +114,11 @@ conclude-answer-requires-clause-sequenced g c =
     ∙ (c.write-written.ensures.window ∙ ap (λ (x : WriterSide). x.window) c.args.ends.writer) in
     subst (λ (w : ℕ). HasSequenced g.D.Run.settings g.D.Run.dump w (done_port joined.sequencer).taken
     (sent joined.put.value).put joined.end joined.stray)
-    (wide ∙ sym window) c.join_threads-joined.ensures.sequencer.3
+    (wide ∙ sym window) c.join_threads-joined.ensures.sequencer.sequenced
 
-pub returns-clause-threads : goal.returns-clause-threads
-returns-clause-threads g c = threads_fail c.conclude-answer.result c.conclude-answer.ensures.no_threads
+pub returns-clause-ran : goal.returns-clause-ran
+returns-clause-ran g c = record {
+  leaves = search rules;
+  sink = search rules;
+  threads = threads_fail c.conclude-answer.result c.conclude-answer.ensures.no_threads;
+}

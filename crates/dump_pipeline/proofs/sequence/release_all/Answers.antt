@@ -1,4 +1,4 @@
-use Rattle.std.proofs.Common.{rules, refl, sym, ap, subst, ◌≡◌, ◌∙◌, ◌+◌, ℕ, List, length, true, false}
+use Rattle.std.proofs.Common.{rules, refl, sym, ap, subst, ◌≡◌, ◌∙◌, ◌+◌, ◌++◌, ◌∷◌, [], ℕ, List, length, true, false}
 use Rattle.std.proofs.lemmas.Bool.{false≢true}
 use Rattle.dump_lanes.specs.Arrivals.{IsWaiting}
 use Rattle.dump_lanes.specs.steps.ArrivalRows.{Row}
@@ -8,7 +8,10 @@ use Rattle.dump_lanes.specs.steps.PortSides.{SequencerSide}
 use Rattle.dump_lanes.specs.steps.PortViews.{done_port}
 use Rattle.dump_lanes.specs.steps.SlotViews.{slot_places}
 use Rattle.dump_pipeline.specs.declared.message.Checked.{Checked}
+use Rattle.dump_pipeline.specs.declared.message.Job.{Job}
 use Rattle.dump_pipeline.specs.declared.message.NumberedPiece.{NumberedPiece}
+use Rattle.dump_pipeline.specs.declared.sequence.SequencerEnds.{SequencerEnds}
+use Rattle.dump_lanes.specs.declared.ends.LaneIn.{LaneIn}
 use Rattle.dump_pipeline.specs.steps.Messages.{checked_number, checked_numbers, text_of}
 use Rattle.dump_pipeline.specs.steps.Parts.{HasReleased}
 use Rattle.dump_pipeline.proofs.Released.{begins_with}
@@ -22,23 +25,23 @@ loop-init g c = record {
   lane = refl;
   seat = search rules;
   text = begins_with g.D.Run.settings c.args.options.now g.D.Run.dump c.new.result
-      (sending c.args.to.now).put c.requires.options c.new.ensures c.requires.nothing_put;
-  numbered = numbers_at_first (sending c.args.to.now).put c.requires.nothing_put;
-  count = ap (λ (l : List NumberedPiece). length l) c.requires.nothing_put;
-  row = row_first (done_port c.args.port.now).taken
-      (slot_places c.args.slots.now) c.requires.nothing_taken c.requires.empty;
+      (sending c.args.ends.now.to).put c.requires.options c.new.ensures c.requires.fresh.nothing_put;
+  numbered = numbers_at_first (sending c.args.ends.now.to).put c.requires.fresh.nothing_put;
+  count = ap (λ (l : List NumberedPiece). length l) c.requires.fresh.nothing_put;
+  row = row_first (done_port c.args.ends.now.port).taken
+      (slot_places c.args.ends.now.slots) c.requires.fresh.nothing_taken c.requires.fresh.empty;
 }
 
 pub returns-then-checked-next-clause-sequenced : goal.returns-then-checked-next-clause-sequenced
 returns-then-checked-next-clause-sequenced g c =
-    sequenced_so g.D.Run.settings g.D.Run.dump (length (slot_places c.args.slots.now)) c.loop.next
-    (done_port c.loop.port).taken (sending c.loop.to).put c.end.result true
+    sequenced_so g.D.Run.settings g.D.Run.dump (length (slot_places c.args.ends.now.slots)) c.loop.next
+    (done_port c.loop.ends.port).taken (sending c.loop.ends.to).put c.end.result true
     (ended_so g.D.Run.settings g.D.Run.dump c.loop.stage c.end.result c.loop.next
-    (text_of (sending c.loop.to).put) c.end.ensures c.loop.invariant.text)
+    (text_of (sending c.loop.ends.to).put) c.end.ensures c.loop.invariant.text)
     c.loop.invariant.numbered c.loop.invariant.count
-    (lifted_wrong (length (slot_places c.args.slots.now)) c.loop.next (checked_numbers (done_port c.loop.port).taken)
-    (slot_places c.loop.slots) c.lift.result c.in-Some-lift.checked
-    c.loop.slots.some_places c.loop.invariant.row c.lift.ensures.value c.in-Some-lift.is c.if-checked-next.true)
+    (lifted_wrong (length (slot_places c.args.ends.now.slots)) c.loop.next (checked_numbers (done_port c.loop.ends.port).taken)
+    (slot_places c.loop.ends.slots) c.lift.result c.in-Some-lift.checked
+    c.loop.ends.slots.some_places c.loop.invariant.row c.lift.ensures.value c.in-Some-lift.is c.if-checked-next.true)
 
 pub step-piece-requires-clause-released : goal.step-piece-requires-clause-released
 step-piece-requires-clause-released g c =
@@ -46,61 +49,70 @@ step-piece-requires-clause-released g c =
       | in-Some-lift+else-checked-next w ↦ ap checked_number w.checked-is ∙ w.if-checked-next.false
       | in-None-lift+in-Some-take+else-number-next w ↦ ap checked_number w.checked-is ∙ w.if-number-next.false
     ] in (
-      text_of (sending c.loop.to).put,
-      subst (λ (n : ℕ). HasReleased g.D.Run.settings g.D.Run.dump c.loop.stage n (text_of (sending c.loop.to).put))
+      text_of (sending c.loop.ends.to).put,
+      subst (λ (n : ℕ). HasReleased g.D.Run.settings g.D.Run.dump c.loop.stage n (text_of (sending c.loop.ends.to).put))
           (sym number) c.loop.invariant.text,
     )
 
 pub loop-preserved : goal.loop-preserved
 loop-preserved g c =
-    let w : ℕ = length (slot_places c.args.slots.now) in
+    let E : Type 0 = Checked g.row.D.Denot g.D.Run in
+    let Ends : Type 0 = SequencerEnds (Job g.row.D.Denot g.D.Run) E NumberedPiece in
+    let w : ℕ = length (slot_places c.args.ends.now.slots) in
     let next : ℕ = c.loop.next in
-    let arrived : List ℕ = checked_numbers (done_port c.loop.port).taken in
+    let arrived : List ℕ = checked_numbers (done_port c.loop.ends.port).taken in
     let number : c.match-lift.checked.number ≡ next = elim c.match-lift.branch [
       | in-Some-lift+else-checked-next w ↦ ap checked_number w.checked-is ∙ w.if-checked-next.false
       | in-None-lift+in-Some-take+else-number-next w ↦ ap checked_number w.checked-is ∙ w.if-number-next.false
     ] in
+    let same_lane : c.match-lift.ends.to ≡ c.loop.ends.to = elim c.match-lift.branch [
+      | in-Some-lift+else-checked-next l ↦ ap (λ (ends : Ends). ends.to) l.ends-is
+      | in-None-lift+in-Some-take+else-number-next t ↦ ap (λ (ends : Ends). ends.to) t.ends-is
+    ] in
+    let released = subst
+    (λ (to : LaneIn NumberedPiece). sending c.release.new.to ≡ record (sending to) { put = (sending to).put ++ c.step-piece.result ∷ [] })
+    same_lane c.release.ensures in
     let given : c.step-piece.result.number ≡ next = c.step-piece.ensures.number ∙ number in
     record {
       pool = elim c.match-lift.branch [
-        | in-Some-lift+else-checked-next l ↦ ap (λ port. (done_port port).pool) l.port-is ∙ c.loop.invariant.pool
-        | in-None-lift+in-Some-take+else-number-next t ↦ ap (λ port. (done_port port).pool) t.port-is
-            ∙ ap (λ (x : SequencerSide (Checked g.row.D.Denot g.D.Run)). x.pool) t.in-Some-take.ensures.1
+        | in-Some-lift+else-checked-next l ↦ ap (λ (ends : Ends). (done_port ends.port).pool) l.ends-is ∙ c.loop.invariant.pool
+        | in-None-lift+in-Some-take+else-number-next t ↦ ap (λ (ends : Ends). (done_port ends.port).pool) t.ends-is
+            ∙ ap (λ (x : SequencerSide E). x.pool) t.in-Some-take.ensures.1
             ∙ c.loop.invariant.pool
       ];
-      lane = ap (λ (x : Sending NumberedPiece). x.lane) c.release.ensures ∙ c.loop.invariant.lane;
+      lane = ap (λ (x : Sending NumberedPiece). x.lane) released ∙ c.loop.invariant.lane;
       seat = search rules;
       text = text_released g.D.Run.settings g.D.Run.dump c.step-piece.new.stage next c.match-lift.checked.number
-          (sending c.loop.to) (sending c.release.new.to) c.step-piece.result c.release.ensures number
-          (c.step-piece.ensures.text (text_of (sending c.loop.to).put)
-          (subst (λ (n : ℕ). HasReleased g.D.Run.settings g.D.Run.dump c.loop.stage n (text_of (sending c.loop.to).put))
+          (sending c.loop.ends.to) (sending c.release.new.to) c.step-piece.result released number
+          (c.step-piece.ensures.text (text_of (sending c.loop.ends.to).put)
+          (subst (λ (n : ℕ). HasReleased g.D.Run.settings g.D.Run.dump c.loop.stage n (text_of (sending c.loop.ends.to).put))
           (sym number) c.loop.invariant.text));
-      numbered = numbers_released next (sending c.loop.to) (sending c.release.new.to) c.step-piece.result
-          c.release.ensures given c.loop.invariant.numbered;
-      count = count_released next (sending c.loop.to) (sending c.release.new.to) c.step-piece.result c.release.ensures
+      numbered = numbers_released next (sending c.loop.ends.to) (sending c.release.new.to) c.step-piece.result
+          released given c.loop.invariant.numbered;
+      count = count_released next (sending c.loop.ends.to) (sending c.release.new.to) c.step-piece.result released
           c.loop.invariant.count;
       row = elim c.match-lift.branch [
         | in-Some-lift+else-checked-next l ↦
-            subst (λ port. Row checked_number w (next + 1) (checked_numbers (done_port port).taken) (slot_places c.lift.new.self))
-            (sym l.port-is)
-            (row_lifted w next arrived (slot_places c.loop.slots) (slot_places c.lift.new.self) c.lift.result
-            l.in-Some-lift.checked c.loop.slots.some_places c.loop.invariant.row c.lift.ensures.value l.in-Some-lift.is
+            subst (λ (ends : Ends). Row checked_number w (next + 1) (checked_numbers (done_port ends.port).taken) (slot_places ends.slots))
+            (sym l.ends-is)
+            (row_lifted w next arrived (slot_places c.loop.ends.slots) (slot_places c.lift.new.self) c.lift.result
+            l.in-Some-lift.checked c.loop.ends.slots.some_places c.loop.invariant.row c.lift.ensures.value l.in-Some-lift.is
             l.if-checked-next.false c.lift.ensures.emptied)
         | in-None-lift+in-Some-take+else-number-next t ↦
-            subst (λ port. Row checked_number w (next + 1) (checked_numbers (done_port port).taken) (slot_places c.lift.new.self))
-            (sym t.port-is)
-            (row_passed w next (done_port c.loop.port).taken (done_port t.take.new.self).taken
+            subst (λ (ends : Ends). Row checked_number w (next + 1) (checked_numbers (done_port ends.port).taken) (slot_places ends.slots))
+            (sym t.ends-is)
+            (row_passed w next (done_port c.loop.ends.port).taken (done_port t.take.new.self).taken
             (slot_places c.lift.new.self) t.in-Some-take.checked
-            (row_unlifted w next arrived (slot_places c.loop.slots) (slot_places c.lift.new.self) c.lift.result
+            (row_unlifted w next arrived (slot_places c.loop.ends.slots) (slot_places c.lift.new.self) c.lift.result
             c.loop.invariant.row c.lift.ensures.value t.in-None-lift.is c.lift.ensures.emptied)
-            (ap (λ (x : SequencerSide (Checked g.row.D.Denot g.D.Run)). x.taken) t.in-Some-take.ensures.1)
+            (ap (λ (x : SequencerSide E). x.taken) t.in-Some-take.ensures.1)
             t.if-number-next.false)
       ];
     }
 
 pub loop-preserved-in-Ok : goal.loop-preserved-in-Ok
 loop-preserved-in-Ok g c =
-    let w : ℕ = length (slot_places c.args.slots.now) in
+    let w : ℕ = length (slot_places c.args.ends.now.slots) in
     let took = c.in-Some-take.ensures.1 in
     record {
       pool = ap (λ (x : SequencerSide (Checked g.row.D.Denot g.D.Run)). x.pool) took ∙ c.loop.invariant.pool;
@@ -109,10 +121,10 @@ loop-preserved-in-Ok g c =
       text = c.loop.invariant.text;
       numbered = c.loop.invariant.numbered;
       count = c.loop.invariant.count;
-      row = row_placed w c.loop.next (done_port c.loop.port).taken (done_port c.take.new.self).taken
+      row = row_placed w c.loop.next (done_port c.loop.ends.port).taken (done_port c.take.new.self).taken
           (slot_places c.lift.new.self) (slot_places c.place.new.self) c.in-Some-take.checked
           c.lift.new.self.some_places
-          (row_unlifted w c.loop.next (checked_numbers (done_port c.loop.port).taken) (slot_places c.loop.slots)
+          (row_unlifted w c.loop.next (checked_numbers (done_port c.loop.ends.port).taken) (slot_places c.loop.ends.slots)
           (slot_places c.lift.new.self) c.lift.result c.loop.invariant.row
           c.lift.ensures.value c.in-None-lift.is c.lift.ensures.emptied)
           (ap (λ (x : SequencerSide (Checked g.row.D.Denot g.D.Run)). x.taken) took)
@@ -121,17 +133,17 @@ loop-preserved-in-Ok g c =
 
 pub returns-in-Err-clause-sequenced : goal.returns-in-Err-clause-sequenced
 returns-in-Err-clause-sequenced g c =
-    let w : ℕ = length (slot_places c.args.slots.now) in
+    let w : ℕ = length (slot_places c.args.ends.now.slots) in
     let took = c.in-Some-take.ensures.1 in
     sequenced_so g.D.Run.settings g.D.Run.dump w c.loop.next (done_port c.take.new.self).taken
-    (sending c.loop.to).put c.end-in-Err.result true
+    (sending c.loop.ends.to).put c.end-in-Err.result true
     (ended_so g.D.Run.settings g.D.Run.dump c.loop.stage c.end-in-Err.result c.loop.next
-    (text_of (sending c.loop.to).put) c.end-in-Err.ensures c.loop.invariant.text)
+    (text_of (sending c.loop.ends.to).put) c.end-in-Err.ensures c.loop.invariant.text)
     c.loop.invariant.numbered c.loop.invariant.count
-    (place_clash w c.loop.next (done_port c.loop.port).taken (done_port c.take.new.self).taken
+    (place_clash w c.loop.next (done_port c.loop.ends.port).taken (done_port c.take.new.self).taken
     (slot_places c.lift.new.self) c.in-Some-take.checked
     c.lift.new.self.some_places
-    (row_unlifted w c.loop.next (checked_numbers (done_port c.loop.port).taken) (slot_places c.loop.slots)
+    (row_unlifted w c.loop.next (checked_numbers (done_port c.loop.ends.port).taken) (slot_places c.loop.ends.slots)
     (slot_places c.lift.new.self) c.lift.result c.loop.invariant.row
     c.lift.ensures.value c.in-None-lift.is c.lift.ensures.emptied)
     (ap (λ (x : SequencerSide (Checked g.row.D.Denot g.D.Run)). x.taken) took)
@@ -139,14 +151,14 @@ returns-in-Err-clause-sequenced g c =
 
 pub returns-in-None-take-clause-sequenced : goal.returns-in-None-take-clause-sequenced
 returns-in-None-take-clause-sequenced g c =
-    let w : ℕ = length (slot_places c.args.slots.now) in
-    let same : (done_port c.take.new.self).taken ≡ (done_port c.loop.port).taken = ap
+    let w : ℕ = length (slot_places c.args.ends.now.slots) in
+    let same : (done_port c.take.new.self).taken ≡ (done_port c.loop.ends.port).taken = ap
     (λ (x : SequencerSide (Checked g.row.D.Denot g.D.Run)). x.taken) c.in-None-take.ensures in
     sequenced_so g.D.Run.settings g.D.Run.dump w c.loop.next (done_port c.take.new.self).taken
-    (sending c.loop.to).put c.end-in-None-take.result false
+    (sending c.loop.ends.to).put c.end-in-None-take.result false
     (ended_so g.D.Run.settings g.D.Run.dump c.loop.stage c.end-in-None-take.result c.loop.next
-    (text_of (sending c.loop.to).put) c.end-in-None-take.ensures c.loop.invariant.text)
+    (text_of (sending c.loop.ends.to).put) c.end-in-None-take.ensures c.loop.invariant.text)
     c.loop.invariant.numbered c.loop.invariant.count
     (subst (λ (l : List (Checked g.row.D.Denot g.D.Run)). IsWaiting c.loop.next (checked_numbers l)) (sym same)
-    (none_lifted w c.loop.next (checked_numbers (done_port c.loop.port).taken)
-    (slot_places c.loop.slots) c.lift.result c.loop.invariant.row c.lift.ensures.value c.in-None-lift.is))
+    (none_lifted w c.loop.next (checked_numbers (done_port c.loop.ends.port).taken)
+    (slot_places c.loop.ends.slots) c.lift.result c.loop.invariant.row c.lift.ensures.value c.in-None-lift.is))
