@@ -1,3 +1,4 @@
+pub mod GrowthLemmas
 pub mod LineLemmas
 pub mod LossLemmas
 pub mod NameLemmas

@@ -27,13 +27,17 @@
 //! takes time by the number of copies times that of prefixes.
 #![tactic(auto)]
 
+mod as_well;
 mod finding;
+mod growth;
 pub mod laws;
 mod lines;
 mod memory;
 mod names;
+mod needs;
 mod node;
 mod plain;
+mod prefix_set;
 mod prefixes;
 mod slashes;
 mod survey;
@@ -43,6 +47,7 @@ mod told;
 mod words;
 mod writing;
 
+pub use as_well::keep_as_well;
 pub use finding::{EVERY_FINDING, Found, NodeFinding};
 pub use memory::Memory;
 pub use survey::{Survey, survey_dump};
