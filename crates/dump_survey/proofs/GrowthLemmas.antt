@@ -48,7 +48,8 @@ begins_trans (b ∷ prefix) (c ∷ mid) path first is = reaches_trans (b ∷ pre
 
 -- tests of lists
 
-any_both : {X : Type 0} (f g : X → Bool) → ((x : X) → f x ≡ true → g x ≡ true) → (xs : List X)
+-- what one element passes, it passes that passes more
+pub any_both : {X : Type 0} (f g : X → Bool) → ((x : X) → f x ≡ true → g x ≡ true) → (xs : List X)
     → list_any f xs ≡ true → list_any g xs ≡ true
 any_both f g each [] some = some
 any_both f g each (x ∷ xs) some =
