@@ -1,7 +1,7 @@
 -- Prefixes that grow by what copies want.
-use Rattle.std.proofs.Common.{◌≡◌, ℕ, ◌+◌, ◌<◌, ◌≤◌, Bool, true, false, not, ◌&&◌, ◌||◌, List, [], ◌∷◌, ◌++◌, length, filter, map, take, drop, get_or, ◌-◌, bytes_eq, nat_eq, Bor, IsTrue, cond, refl, sym, ap, ap₂, ◌∙◌, subst, inl, inr, arith, append-nil, append_assoc}
-use Rattle.std.specs.List.{list_any, starts_with}
-use Rattle.std.proofs.lemmas.Bool.{or_cases, or_left, or_right, or_parts, or_from, and_parts, and_from, not-true, not-false, both_ways, false_from_ne_true, not_from_true}
+use Rattle.std.proofs.Common.{◌≡◌, ℕ, ◌<◌, ◌≤◌, Bool, true, false, not, ◌&&◌, ◌||◌, List, [], ◌∷◌, ◌++◌, length, filter, map, take, drop, get_or, ◌-◌, bytes_eq, nat_eq, Bor, IsTrue, cond, refl, sym, ap, ap₂, ◌∙◌, subst, inl, inr, arith, append-nil, append_assoc}
+use Rattle.std.specs.List.{list_any}
+use Rattle.std.proofs.lemmas.Bool.{or_cases, or_left, or_right, or_parts, or_from, and_parts, and_from, not-true, both_ways, false_from_ne_true}
 use Rattle.std.proofs.Math.Seq.{take-length}
 use Rattle.std.proofs.lemmas.List.Folds.{list_any-append}
 use Rattle.std.proofs.lemmas.Slice.Eq.{bytes_eq-Decides}
@@ -224,8 +224,8 @@ fewer_unmatched needs prefixes path some itself =
         let parts = and_parts (is_open prefixes n) (bytes_eq n.wanted path) both in
         let same : n.wanted ≡ path = (bytes_eq-Decides n.wanted path).0 parts.1 in
         let here : is_matched (prefixes ++ path ∷ []) n.wanted ≡ true = appended n.wanted
-            ∙ or_right (is_matched prefixes n.wanted) (matches_path path n.wanted || false)
-            (or_left (matches_path path n.wanted) false (subst (λ t. matches_path path t ≡ true) (sym same) itself)) in
+        ∙ or_right (is_matched prefixes n.wanted) (matches_path path n.wanted || false)
+        (or_left (matches_path path n.wanted) false (subst (λ t. matches_path path t ≡ true) (sym same) itself)) in
         and_from (was n) (not (is n))
         (and_parts (is_matched prefixes n.matched) (not (is_matched prefixes n.wanted)) parts.0).1
         (ap (λ b. not (not b)) here)

@@ -24,7 +24,9 @@ fn what_copies_want_is_kept_as_well(rt: HostRuntime) -> Result<(), Fail> {
     for (side, prefix, copies, wanted) in rows {
         let mut dump = format!(in rt.alloc(); "{FRONT}")?;
         for (path, source) in copies {
-            let node = format!(in rt.alloc(); "Node-path: {path}\nNode-kind: dir\nNode-action: add\nNode-copyfrom-rev: 0\nNode-copyfrom-path: {source}\n\n\n")?;
+            let node = format!(in rt.alloc();
+                "Node-path: {path}\nNode-kind: dir\nNode-action: add\nNode-copyfrom-rev: 0\nNode-copyfrom-path: {source}\n\n\n"
+            )?;
             dump.push_str(&node)?;
         }
         let options = rules(rt.alloc(), side, prefix)?;

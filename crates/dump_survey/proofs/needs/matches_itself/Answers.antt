@@ -1,4 +1,4 @@
-use Rattle.std.proofs.Common.{sym, ap, ap₂, ◌∙◌}
+use Rattle.std.proofs.Common.{sym, ap₂, ◌∙◌}
 use Rattle.dump_rules.specs.Prefix.{begins_path}
 use Rattle.dump_survey.proofs.PrefixLemmas.{begins_behind}
 use Rattle.dump_survey.proofs.needs.matches_itself.Goals as goal

@@ -1,4 +1,4 @@
-use Rattle.std.proofs.Common.{List, ℕ, ◌<◌, ◌-◌, length, map, option_map, subst, refl, ap, arith}
+use Rattle.std.proofs.Common.{map, option_map, subst, ap, arith}
 use Rattle.dump_records.specs.declared.cutter.Cut.{Cut}
 use Rattle.dump_records.specs.DumpText.{Ending}
 use Rattle.dump_records.specs.steps.RecordViews.{CutStep}

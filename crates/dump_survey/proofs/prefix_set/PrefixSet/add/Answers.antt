@@ -1,7 +1,6 @@
-use Rattle.std.proofs.Common.{◌≡◌, ◌++◌, ◌∷◌, [], ◌≤◌, ℕ, List, length, map, subst, sym, ap, ◌∙◌, arith}
+use Rattle.std.proofs.Common.{◌≡◌, ◌++◌, ◌∷◌, [], ℕ, List, length, ap, ◌∙◌, arith}
 use Rattle.std.specs.List.{list_any}
 use Rattle.dump_rules.specs.Prefix.{bare_prefix, begins_path}
-use Rattle.dump_rules.specs.steps.PrefixSearch.{AreWithin, BeginSame}
 use Rattle.dump_rules.proofs.BarePrefixLemmas.{begin_more, within_more}
 use Rattle.dump_survey.proofs.prefix_set.PrefixSet.add.Goals as goal
 
