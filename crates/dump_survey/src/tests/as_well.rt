@@ -1,7 +1,7 @@
 //! What to keep as well, on worked dumps.
 use super::rules;
-use crate::keep_as_well;
-use dump_rules::Side;
+use crate::{Memory, keep_as_well};
+use dump_rules::{Empty, Options, Side};
 use std::test::Fail;
 
 const FRONT: &str = "SVN-fs-dump-format-version: 2\n\nRevision-number: 0\n\nRevision-number: 1\n\n";
@@ -37,6 +37,34 @@ fn what_copies_want_is_kept_as_well(rt: HostRuntime) -> Result<(), Fail> {
             found.push(b' ')?;
         }
         assert_eq!(rt; found.as_slice(), wanted.as_bytes(), "{prefix}");
+    }
+    Ok(())
+}
+
+const CHAIN: &[u8] =
+    b"SVN-fs-dump-format-version: 2\n\nRevision-number: 0\n\nRevision-number: 1\n\n\
+Node-path: b\nNode-kind: dir\nNode-action: add\nNode-copyfrom-rev: 0\nNode-copyfrom-path: a\n\n\n\
+Node-path: c\nNode-kind: dir\nNode-action: add\nNode-copyfrom-rev: 0\nNode-copyfrom-path: b\n\n\n";
+
+// Run with each allocation refused in turn: all is told, or there is no memory.
+#[test]
+fn what_to_keep_as_well_or_no_memory(rt: HostRuntime) -> Result<(), Fail> {
+    let prefixes = [b"c".as_slice()];
+    let made = Options::new(
+        rt.alloc(),
+        Side::Include,
+        &prefixes,
+        Empty::Pad,
+        false,
+        false,
+        false,
+    );
+    let Ok(options) = made else {
+        return Ok(());
+    };
+    match keep_as_well(rt.alloc(), CHAIN, &options) {
+        Ok(paths) => assert_eq!(rt; paths.len(), 2),
+        Err(refused) => assert_eq!(rt; refused, Memory),
     }
     Ok(())
 }
