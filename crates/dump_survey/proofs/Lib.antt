@@ -1,6 +1,8 @@
+pub mod GrowthLemmas
 pub mod LineLemmas
 pub mod LossLemmas
 pub mod NameLemmas
+pub mod NeedLemmas
 pub mod NodeLemmas
 pub mod PlainLemmas
 pub mod PrefixLemmas

@@ -1,10 +1,11 @@
 -- Bare prefixes below paths as texts.
-use Rattle.std.proofs.Common.{◌≡◌, ℕ, ◌+◌, Bool, true, false, not, ◌&&◌, ◌||◌, ◌==◌, List, [], ◌∷◌, ◌++◌, length, drop, map, nat_eq, if◌then◌else◌, Option, Some, None, MatchOption, Bor, option_copied, refl, sym, ap, ◌∙◌, arith, append_assoc, append-nil, get_or, nat_lt}
+use Rattle.std.proofs.Common.{◌≡◌, ℕ, ◌+◌, Bool, true, false, not, ◌&&◌, ◌||◌, ◌==◌, List, [], ◌∷◌, ◌++◌, length, drop, map, nat_eq, if◌then◌else◌, Option, Some, None, MatchOption, Bor, option_copied, is_some, bytes_eq, refl, sym, ap, ◌∙◌, arith, append_assoc, append-nil, get_or, nat_lt}
 use Rattle.std.proofs.lemmas.List.{map-append, drop_more, drop_all}
 use Rattle.std.proofs.lemmas.Option.{slice_get_within, get_or_from_slice_get, slice_get-get_or, none-some}
+use Rattle.std.proofs.lemmas.Bool.{or_from, or_right}
 use borrow.Author.Tests.{ltb-true, ltb-false}
 use Rattle.std.specs.List.{starts_with, list_any, list_all, slice_get}
-use Rattle.dump_rules.specs.Prefix.{bare_path, bare_prefix}
+use Rattle.dump_rules.specs.Prefix.{bare_path, bare_prefix, begins_path}
 use Rattle.dump_rules.specs.declared.options.Side.TheVariants.{Include, Exclude}
 use Rattle.dump_rules.specs.Settings.{Settings}
 use Rattle.dump_trees.specs.Restriction.{is_above_some}
@@ -54,6 +55,15 @@ found_behind (b ∷ front) (c ∷ text) rest is = cases (found_behind front text
         → ((t && starts_with nat_eq text (front ++ 47 ∷ [])) ≡ true) × (drop (length front) text ≡ 47 ∷ rest)
     cases more true is = more is
     cases more false is = absurd (let bad : None ≡ Some rest = is in cc)
+
+-- so a prefix that isn't empty begins a text that isn't the prefix
+pub begins_behind : (bare text : List ℕ) (found : Option (Bor (List ℕ))) → (length bare == 0) ≡ false
+    → bytes_eq text bare ≡ false → option_copied found ≡ behind_slash bare text → is_some found ≡ begins_path bare text
+begins_behind [] text found there other told = absurd (let bad : true ≡ false = there in cc)
+begins_behind (b ∷ bare) text None there other told =
+    sym (or_from _ _ other (none_behind (b ∷ bare) text (sym told)))
+begins_behind (b ∷ bare) text (Some rest) there other told =
+    sym (or_right (bytes_eq text (b ∷ bare)) _ (found_behind (b ∷ bare) text rest.now (sym told)).0)
 
 -- the text of a path that isn't the root's is its text, behind a slash
 pub whole_text : (path : List ℕ) (b : ℕ) (text : List ℕ) → bare_path path ≡ b ∷ text

@@ -62,6 +62,12 @@ pub comes_next : (dump : List ℕ) (before : List DumpRecord) (number : ℕ) (r 
 comes_next dump before number r begins count next =
     one_more dump before r begins ∣ subst (λ n. IsRecordOf dump n r) (sym count) next ∣₁
 
+-- a dump begins with no records
+pub begins_with_none : (dump : List ℕ) → BeginsWithRecords dump []
+begins_with_none dump =
+    let (records, ending, has, once) = each_dump_has_one_list dump in
+    begins_prefix dump [] records (has.0, has.1, has.2)
+
 -- before the first record
 pub at_first : (dump : List ℕ) (settings : Settings) (prefixes : List (List ℕ)) (tally : Tally) (cutter : CutterState)
     → cutter ≡ record { dump = dump; number = 0 } → prefixes ≡ map bare_prefix settings.prefixes → tally ≡ no_tally
@@ -69,15 +75,10 @@ pub at_first : (dump : List ℕ) (settings : Settings) (prefixes : List (List �
 at_first dump settings prefixes tally cutter is same none = record {
   prefixes_are = same;
   before = [];
-  begins = nothing cutter.dump;
+  begins = begins_with_none cutter.dump;
   count = sym (ap (λ (c : CutterState). c.number) is);
   tallied = none;
 }
-  where
-    nothing : (dump : List ℕ) → BeginsWithRecords dump []
-    nothing dump =
-        let (records, ending, has, once) = each_dump_has_one_list dump in
-        begins_prefix dump [] records (has.0, has.1, has.2)
 
 -- what is found is what is found in the node
 found_is : (settings : Settings) (r : DumpRecord) (found : Found) → IsFoundIn settings r found

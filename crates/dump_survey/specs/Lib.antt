@@ -1,4 +1,5 @@
 pub mod DumpFindings
+pub mod KeepAsWell
 pub mod Lines
 pub mod Meaning
 pub mod SurveyEnds

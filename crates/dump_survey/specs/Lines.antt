@@ -2,6 +2,7 @@
 use Rattle.std.specs.Prelude.{ℕ, ◌+◌, ◌/◌, ◌%◌, Bool, true, false, ◌||◌, ◌==◌, List, [], ◌∷◌, flat_map, nat_lt, codes, decimal, if◌then◌else◌}
 use Rattle.std.specs.List.{concat}
 use Rattle.dump_text.specs.FaultTable.{fault_code}
+use Rattle.dump_text.specs.FaultNames.{fault_name}
 use Rattle.dump_records.specs.DumpText.{Ending}
 use Rattle.dump_rules.specs.Prefix.{bare_path}
 use Rattle.dump_history.specs.Findings.{Finding, DumpFinding}
@@ -72,4 +73,4 @@ dump_line DumpFinding.NumbersLeft =
 unfoldable pub ending_line : ℕ → Ending → List ℕ
 ending_line count Ending.Whole = []
 ending_line count (Ending.Broken kind place) = concat (place_text count place ∷ codes ": fault "
-    ∷ decimal (fault_code kind) ∷ codes ", what follows is not read\n" ∷ [])
+    ∷ decimal (fault_code kind) ∷ codes " " ∷ fault_name kind ∷ codes ", what follows is not read\n" ∷ [])

@@ -1,6 +1,7 @@
 pub mod Found
 pub mod Losses
 pub mod Names
+pub mod Needs
 pub mod Prefixes
 pub mod Steps
 pub mod Surveyed

@@ -6,6 +6,7 @@
 //! [`NodeFinding`], with the record's number and place, the revision and the path. Where the records end it gives
 //! what is found in the dump as a whole, [`DumpFindings`], and whether they end with the dump. [`survey_dump`] keeps all
 //! this in a [`Survey`]; [`write_survey`] writes a line for each finding as it is found, and keeps nothing.
+//! [`keep_as_well`] tells which prefixes more let the filter stop at no copy.
 //!
 //! ```
 //! let survey = survey_dump(rt.alloc(), dump.as_slice(), &options)?;
@@ -27,13 +28,17 @@
 //! takes time by the number of copies times that of prefixes.
 #![tactic(auto)]
 
+mod as_well;
 mod finding;
+mod growth;
 pub mod laws;
 mod lines;
 mod memory;
 mod names;
+mod needs;
 mod node;
 mod plain;
+mod prefix_set;
 mod prefixes;
 mod slashes;
 mod survey;
@@ -43,6 +48,7 @@ mod told;
 mod words;
 mod writing;
 
+pub use as_well::keep_as_well;
 pub use finding::{EVERY_FINDING, Found, NodeFinding};
 pub use memory::Memory;
 pub use survey::{Survey, survey_dump};

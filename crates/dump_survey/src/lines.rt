@@ -201,6 +201,8 @@ fn push_ending_line(lines: &mut Vec<u8>, count: u64, end: End) -> Result<(), Mem
     push_place(lines, count, place)?;
     lines.extend_from_slice(b": fault ")?;
     push_number(lines, u64::from(kind.code()))?;
+    lines.push(b' ')?;
+    lines.extend_from_slice(kind.name().as_bytes())?;
     Ok(lines.extend_from_slice(b", what follows is not read\n")?)
 }
 

@@ -113,7 +113,7 @@ fn makes(item: &Record<'_>) -> bool
 }
 
 /// Whether the node is a file with its text and its properties, neither of them a delta.
-fn is_whole_file(item: &Record<'_>) -> bool
+pub(crate) fn is_whole_file(item: &Record<'_>) -> bool
     ensures { result ≡ is_whole_file (record_item item.now) }
 {
     item.is_file() && item.has_text() && !item.text_delta() && !item.prop_delta()
@@ -128,7 +128,7 @@ fn makes_copy(item: &Record<'_>) -> bool
 }
 
 /// Whether the node has a copy source.
-fn is_copy(item: &Record<'_>) -> bool
+pub(crate) fn is_copy(item: &Record<'_>) -> bool
     requires { IsTrue (is_node (record_item item.now)) }
     ensures { result ≡ is_copy (record_item item.now) }
 {

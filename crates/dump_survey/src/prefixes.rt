@@ -28,7 +28,7 @@ impl<'o> Model for Prefixes<'o> {
 }
 
 /// What stands in the text behind this front and a slash, if it begins so.
-fn behind<'t>(front: &[u8], text: &'t [u8]) -> Option<&'t [u8]>
+pub(crate) fn behind<'t>(front: &[u8], text: &'t [u8]) -> Option<&'t [u8]>
     ensures { option_copied result ≡ behind_slash front.now text.now }
 {
     let mut front = front;

@@ -6,6 +6,7 @@ use dump_text::FaultKind;
 use std::alloc::Global;
 use std::test::Fail;
 
+mod as_well;
 mod nodes;
 mod text;
 

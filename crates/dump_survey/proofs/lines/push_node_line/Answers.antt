@@ -1,4 +1,4 @@
-use Rattle.std.proofs.Common.{◌≡◌, [], ◌∷◌, ◌++◌, ◌∙◌, refl, ap, codes, decimal, if◌then◌else◌}
+use Rattle.std.proofs.Common.{[], ◌∷◌, ◌++◌, ◌∙◌, refl, ap, codes, decimal, if◌then◌else◌}
 use Rattle.dump_survey.specs.Lines.{finding_words, node_line, place_text, shown_path, source_text, tells_source}
 use Rattle.dump_survey.specs.Told.{told_view}
 use Rattle.dump_survey.proofs.LineLemmas.{all_added}

@@ -1,4 +1,4 @@
-use Rattle.std.proofs.Common.{◌≡◌, [], ◌∷◌, refl, codes, decimal}
+use Rattle.std.proofs.Common.{[], ◌∷◌, refl, codes, decimal}
 use Rattle.dump_survey.specs.Lines.{shown_path, source_text}
 use Rattle.dump_survey.specs.Told.{told_view}
 use Rattle.dump_survey.proofs.LineLemmas.{all_added, map_ok}

@@ -1,0 +1,381 @@
+-- What copies need, record by record, and what is to be kept as well.
+use Rattle.std.proofs.Common.{◌≡◌, ℕ, ◌+◌, ◌-◌, ◌≤◌, ◌<◌, Bool, true, false, not, ◌&&◌, ◌||◌, List, [], ◌∷◌, ◌++◌, length, length-append, map, take, get_or, reverse, Option, Some, None, option_map, unwrap_or, bytes_eq, Bor, Vec, Global, Result, Ok, Err, cond, refl, sym, ap, ap₂, ◌∙◌, subst, arith, append-nil, append_assoc}
+use Rattle.std.specs.Result.{IfOk}
+use Rattle.std.specs.List.{list_any, filter_map, cons_option}
+use Rattle.std.specs.List.Sorted.{IsPermutation}
+use Rattle.std.proofs.lemmas.List.Sorted.{list_any-IsPermutation}
+use Rattle.dump_rules.proofs.PrefixLemmas.{any_mapped}
+use Rattle.std.proofs.lemmas.Bool.{or_from, and_parts, and_from}
+use Rattle.std.proofs.Math.Seq.{take-length}
+use Rattle.std.proofs.lemmas.List.{map-append, take_more, reverse-append, reverse-reverse}
+use Rattle.std.proofs.lemmas.List.Folds.{list_any-append}
+use Rattle.std.proofs.lemmas.List.Elements.{filter_map-append}
+use Rattle.dump_records.specs.declared.record.Record.{Record}
+use Rattle.dump_records.specs.declared.cutter.Cut.TheVariants as cuts
+use Rattle.dump_records.specs.RecordText.{DumpRecord}
+use Rattle.dump_records.specs.DumpText.{Ending, BeginsWithRecords, HasRecords}
+use Rattle.dump_records.specs.steps.CutterState.{CutterState}
+use Rattle.dump_records.specs.steps.CutRecords.{EndsAfter}
+use Rattle.dump_records.specs.steps.RecordViews.{record_item, CutStep}
+use Rattle.dump_records.proofs.CutLemmas.{count_fits}
+use Rattle.dump_records.proofs.Prefixes.{whole_list}
+use Rattle.dump_rules.specs.Prefix.{bare_prefix, bare_path, begins_path, matches_path}
+use Rattle.dump_rules.specs.steps.PrefixSearch.{BeginSame}
+use Rattle.dump_rules.specs.declared.options.Side.{Side}
+use Rattle.dump_rules.specs.declared.options.Side.TheVariants.{Include, Exclude}
+use Rattle.dump_rules.specs.Settings.{Settings, side_keeps}
+use Rattle.dump_digest.specs.RecordParts.{is_node, is_copy, node_path}
+use Rattle.dump_filter.specs.NewHeaders.{is_whole_file}
+use Rattle.dump_history.specs.RecordChanges.{copy_path}
+use Rattle.dump_survey.specs.declared.memory.Memory.{Memory}
+use Rattle.dump_survey.specs.declared.needs.Need.{Need}
+use Rattle.dump_survey.specs.KeepAsWell.{with_prefixes, stops_at, wanted_path, matches_itself, is_wanted, AreWanted, covers, uncovered, are_apart, stops_somewhere, AreKeptAsWell, AreKeptAsWellIn}
+use Rattle.dump_survey.specs.steps.Needs.{PathNeed, need_view, need_of, needs_of, can_not_stand, copy_need, is_matched, is_open, AreNeeded, each_matches_itself}
+use Rattle.dump_survey.proofs.GrowthLemmas.{any_both, needs_path, uncovered_same, uncovered_apart}
+use Rattle.dump_survey.proofs.SurveyorLemmas.{begins_with_none, comes_next}
+
+-- record by record
+
+-- what the records that the cutter has given need
+pub record NeedsSoFar (side : Side) (dump : List ℕ) (cutter : CutterState) (needs : List PathNeed) : Type 0 where
+  pub dump_is : cutter.dump ≡ dump
+  pub before : List DumpRecord
+  pub begins : BeginsWithRecords dump before
+  pub count : length before ≡ cutter.number
+  pub needs_are : needs ≡ needs_of side before
+
+pub no_needs : (side : Side) (dump : List ℕ) (cutter : CutterState) (needs : List PathNeed)
+    → cutter ≡ record { dump = dump; number = 0 } → needs ≡ [] → NeedsSoFar side dump cutter needs
+no_needs side dump cutter needs is none = record {
+  dump_is = ap (λ (c : CutterState). c.dump) is;
+  before = [];
+  begins = begins_with_none dump;
+  count = sym (ap (λ (c : CutterState). c.number) is);
+  needs_are = none;
+}
+
+module _ (side : Side) (dump : List ℕ) (cutter after : CutterState) (needs : List PathNeed)
+    (so_far : NeedsSoFar side dump cutter needs) where
+  module _ (item : Record) (step : CutStep cutter (cuts.Item item) after) where
+    next_begins : BeginsWithRecords dump (so_far.before ++ record_item item ∷ [])
+    next_begins = subst (λ d. BeginsWithRecords d (so_far.before ++ record_item item ∷ [])) so_far.dump_is
+        (comes_next cutter.dump so_far.before cutter.number (record_item item)
+        (subst (λ d. BeginsWithRecords d so_far.before) (sym so_far.dump_is) so_far.begins) so_far.count step.2)
+
+    -- the cutter is nearer to the end
+    pub cutter_nearer : (after.number ≡ cutter.number + 1) × (after.number ≤ length dump)
+    cutter_nearer =
+        let begins = next_begins in
+        let fits = count_fits 0 0 dump begins.0 (so_far.before ++ record_item item ∷ []) begins.1 in
+        let size = length-append so_far.before (record_item item ∷ []) in
+        let count = so_far.count in
+        let number = ap (λ (c : CutterState). c.number) step.3 in
+        (number, omega arith)
+
+    more_needs : (need : Option PathNeed) → need ≡ need_of side (record_item item) → (all : List PathNeed)
+        → all ≡ filter_map (λ (n : Option PathNeed). n) (need ∷ []) → needs ++ all ≡ needs_of side (so_far.before ++ record_item item ∷ [])
+    more_needs need is all are =
+        ap₂ (λ some others. some ++ others) so_far.needs_are (are ∙ ap (λ (n : Option PathNeed). filter_map (λ (m : Option PathNeed). m) (n ∷ [])) is)
+        ∙ sym (filter_map-append (need_of side) so_far.before (record_item item ∷ []))
+
+    -- what one more record needs
+    pub needs_more : (need : Option PathNeed) → need ≡ need_of side (record_item item) → (all : List PathNeed)
+        → all ≡ needs ++ filter_map (λ (n : Option PathNeed). n) (need ∷ []) → NeedsSoFar side dump after all
+    needs_more need is all are = record {
+      dump_is = ap (λ (c : CutterState). c.dump) step.3 ∙ so_far.dump_is;
+      before = so_far.before ++ record_item item ∷ [];
+      begins = next_begins;
+      count = length-append so_far.before (record_item item ∷ [])
+          ∙ (ap (λ n. n + 1) so_far.count ∙ sym (ap (λ (c : CutterState). c.number) step.3));
+      needs_are = are ∙ more_needs need is (filter_map (λ (n : Option PathNeed). n) (need ∷ [])) refl;
+    }
+
+  -- where the records end
+  pub all_needs : (ending : Ending) → EndsAfter cutter.dump cutter.number ending
+      → (records : List DumpRecord) × (end : Ending) × HasRecords dump records end × (needs ≡ needs_of side records)
+  all_needs ending ends = (
+    so_far.before,
+    ending,
+    whole_list dump so_far.before ending so_far.begins
+        (subst (λ d. EndsAfter d (length so_far.before) ending) so_far.dump_is
+        (subst (λ n. EndsAfter cutter.dump n ending) (sym so_far.count) ends)),
+    so_far.needs_are,
+  )
+
+-- from the last path to the first
+
+-- the paths behind those that are left
+pub record UncoveredSoFar (paths left set top : List (List ℕ)) : Type 0 where
+  pub behind : List (List ℕ)
+  pub paths_are : paths ≡ left ++ behind
+  pub begins : (text : List ℕ)
+      → list_any (λ prefix. begins_path prefix text) set ≡ list_any (λ path. begins_path (bare_prefix path) text) behind
+  pub top_is : top ≡ reverse (uncovered behind)
+
+pub none_behind : (paths : List (List ℕ)) → UncoveredSoFar paths paths [] []
+none_behind paths = record { behind = []; paths_are = sym (append-nil paths); begins = λ text. refl; top_is = refl }
+
+or_swapped : (a b : Bool) → (a || (b || false)) ≡ (b || a)
+or_swapped true true = refl
+or_swapped true false = refl
+or_swapped false true = refl
+or_swapped false false = refl
+
+pub one_behind : (paths left set top next : List (List ℕ)) (path : List ℕ) (begun : Bool)
+    → UncoveredSoFar paths (left ++ path ∷ []) set top
+    → begun ≡ list_any (λ prefix. begins_path prefix (bare_prefix path)) set
+    → BeginSame next (set ++ bare_prefix path ∷ [])
+    → UncoveredSoFar paths left next (cond begun top (top ++ path ∷ []))
+one_behind paths left set top next path begun so_far is same = record {
+  behind = path ∷ so_far.behind;
+  paths_are = so_far.paths_are ∙ append_assoc left (path ∷ []) so_far.behind;
+  begins = λ text. same text
+      ∙ (list_any-append (λ prefix. begins_path prefix text) set (bare_prefix path ∷ [])
+      ∙ (ap (λ b. b || (begins_path (bare_prefix path) text || false)) (so_far.begins text)
+      ∙ or_swapped (list_any (λ other. begins_path (bare_prefix other) text) so_far.behind)
+      (begins_path (bare_prefix path) text)));
+  top_is = by begun (is ∙ so_far.begins (bare_prefix path));
+}
+  where
+    by : (b : Bool) → b ≡ list_any (λ other. covers other path) so_far.behind
+        → cond b top (top ++ path ∷ []) ≡ reverse (uncovered (path ∷ so_far.behind))
+    by true covered = rw (← covered) so_far.top_is
+    by false free = rw (← free) (ap (λ l. l ++ path ∷ []) so_far.top_is
+        ∙ sym (reverse-append (path ∷ []) (uncovered so_far.behind)))
+
+-- the path that stands last
+pub last_path : (left : List (Bor (List ℕ))) (d : Bor (List ℕ)) → 1 ≤ length left
+    → map (λ (path : Bor (List ℕ)). path.now) left ≡ map (λ (path : Bor (List ℕ)). path.now) (take (length left - 1) left)
+    ++ (get_or left (length left - 1) d).now ∷ []
+last_path left d some =
+    ap (map (λ (path : Bor (List ℕ)). path.now)) (sym (take-length left)
+    ∙ (ap (λ n. take n left) (let e : length left ≡ length left - 1 + 1 = omega arith in e)
+    ∙ take_more left (length left - 1) d (omega arith)))
+    ∙ map-append (λ (path : Bor (List ℕ)). path.now) (take (length left - 1) left) (get_or left (length left - 1) d ∷ [])
+
+-- a path is put to the others or not
+pub path_behind : (paths : List (List ℕ)) (left : List (Bor (List ℕ))) (d : Bor (List ℕ)) (set next : List (List ℕ))
+    (top all : List (Bor (List ℕ))) (begun : Bool) → 1 ≤ length left
+    → UncoveredSoFar paths (map (λ (path : Bor (List ℕ)). path.now) left) set (map (λ (path : Bor (List ℕ)). path.now) top)
+    → begun ≡ list_any (λ prefix. begins_path prefix (bare_prefix (get_or left (length left - 1) d).now)) set
+    → BeginSame next (set ++ bare_prefix (get_or left (length left - 1) d).now ∷ [])
+    → all ≡ cond begun top (top ++ get_or left (length left - 1) d ∷ [])
+    → UncoveredSoFar paths (map (λ (path : Bor (List ℕ)). path.now) (take (length left - 1) left)) next
+    (map (λ (path : Bor (List ℕ)). path.now) all)
+path_behind paths left d set next top all begun some so_far is same are =
+    subst (UncoveredSoFar paths (map now (take (length left - 1) left)) next) (sym (ap (map now) are ∙ by begun))
+    (one_behind paths (map now (take (length left - 1) left)) set (map now top) next last.now begun
+    (subst (λ l. UncoveredSoFar paths l set (map now top)) (last_path left d some) so_far) is same)
+  where
+    now : Bor (List ℕ) → List ℕ
+    now path = path.now
+
+    last : Bor (List ℕ)
+    last = get_or left (length left - 1) d
+
+    by : (b : Bool) → map now (cond b top (top ++ last ∷ [])) ≡ cond b (map now top) (map now top ++ last.now ∷ [])
+    by true = refl
+    by false = map-append now top (last ∷ [])
+
+-- where none is left
+pub all_uncovered : (paths set : List (List ℕ)) (left top items : List (Bor (List ℕ))) → length left < 1
+    → UncoveredSoFar paths (map (λ (path : Bor (List ℕ)). path.now) left) set (map (λ (path : Bor (List ℕ)). path.now) top)
+    → items ≡ reverse top → map (λ (path : Bor (List ℕ)). path.now) items ≡ uncovered paths
+all_uncovered paths set (x ∷ left) top items short so_far are = absurd (omega arith)
+all_uncovered paths set [] top items short so_far are =
+    ap (map (λ (path : Bor (List ℕ)). path.now)) are
+    ∙ (reversed top ∙ (ap reverse so_far.top_is
+    ∙ (reverse-reverse (uncovered so_far.behind) ∙ ap uncovered (sym so_far.paths_are))))
+  where
+    reversed : (xs : List (Bor (List ℕ))) → map (λ (path : Bor (List ℕ)). path.now) (reverse xs)
+        ≡ reverse (map (λ (path : Bor (List ℕ)). path.now) xs)
+    reversed [] = refl
+    reversed (x ∷ xs) =
+        ap (map (λ (path : Bor (List ℕ)). path.now)) (reverse-append (x ∷ []) xs)
+        ∙ (map-append (λ (path : Bor (List ℕ)). path.now) (reverse xs) (x ∷ [])
+        ∙ (ap (λ l. l ++ x.now ∷ []) (reversed xs)
+        ∙ sym (reverse-append (x.now ∷ []) (map (λ (path : Bor (List ℕ)). path.now) xs))))
+
+-- what is put to the needs, and what isn't
+pub pushed : (items all : List Need) (need : Need) (found : Option Need) → found ≡ Some need → all ≡ items ++ need ∷ []
+    → map need_view all ≡ map need_view items ++ filter_map (λ (n : Option PathNeed). n) (option_map need_view found ∷ [])
+pushed items all need found is are =
+    ap (map need_view) are ∙ (map-append need_view items (need ∷ [])
+    ∙ ap (λ (f : Option Need). map need_view items ++ filter_map (λ (n : Option PathNeed). n) (option_map need_view f ∷ [])) (sym is))
+
+pub not_pushed : (items : List Need) (found : Option Need) → found ≡ None
+    → map need_view items ≡ map need_view items ++ filter_map (λ (n : Option PathNeed). n) (option_map need_view found ∷ [])
+not_pushed items found is =
+    sym (append-nil (map need_view items))
+    ∙ ap (λ (f : Option Need). map need_view items ++ filter_map (λ (n : Option PathNeed). n) (option_map need_view f ∷ [])) (sym is)
+
+-- what is to be kept as well
+
+any_filtered : {X Y : Type 0} (test : Y → Bool) (h : X → Option Y) (xs : List X)
+    → list_any test (filter_map h xs) ≡ list_any (λ x. unwrap_or (option_map test (h x)) false) xs
+any_filtered test h [] = refl
+any_filtered {X} {Y} test h (x ∷ xs) = by (h x) (any_filtered test h xs)
+  where
+    by : (y : Option Y) → list_any test (filter_map h xs) ≡ list_any (λ x. unwrap_or (option_map test (h x)) false) xs
+        → list_any test (cons_option y (filter_map h xs))
+        ≡ (unwrap_or (option_map test y) false || list_any (λ x. unwrap_or (option_map test (h x)) false) xs)
+    by None more = more
+    by (Some y) more = ap (λ b. test y || b) more
+
+any_same : {X : Type 0} (f g : X → Bool) → ((x : X) → f x ≡ g x) → (xs : List X) → list_any f xs ≡ list_any g xs
+any_same f g each [] = refl
+any_same f g each (x ∷ xs) = ap₂ (λ a b. a || b) (each x) (any_same f g each xs)
+
+some_where : {X : Type 0} (c : Bool) (x : X) (test : X → Bool)
+    → unwrap_or (option_map test (cond c (Some x) None)) false ≡ (c && test x)
+some_where true x test = refl
+some_where false x test = refl
+
+-- a copy's parts, in another order
+parts_of_stop : (node copy part itself kept lost : Bool)
+    → ((((node && copy) && part) && itself) && (kept && lost)) ≡ ((node && ((kept && (copy && lost)) && part)) && itself)
+parts_of_stop false copy part itself kept lost = refl
+parts_of_stop true false part itself false lost = refl
+parts_of_stop true false part itself true lost = refl
+parts_of_stop true true false itself false lost = refl
+parts_of_stop true true false itself true true = refl
+parts_of_stop true true false itself true false = refl
+parts_of_stop true true true true false lost = refl
+parts_of_stop true true true false false lost = refl
+parts_of_stop true true true true true true = refl
+parts_of_stop true true true true true false = refl
+parts_of_stop true true true false true true = refl
+parts_of_stop true true true false true false = refl
+
+and_swapped : (a b : Bool) → (a && not b) ≡ (not b && not (not a))
+and_swapped true true = refl
+and_swapped true false = refl
+and_swapped false true = refl
+and_swapped false false = refl
+
+-- the filter stops at a copy where what it needs isn't met
+open_stops : (side : Side) (prefixes : List (List ℕ)) (r : DumpRecord)
+    → ((can_not_stand r && matches_itself (wanted_path side r)) && is_open prefixes (copy_need side r))
+    ≡ ((is_node r && ((side_keeps side (is_matched prefixes (node_path r))
+    && (is_copy r && not (side_keeps side (is_matched prefixes (copy_path r))))) && not (is_whole_file r)))
+    && matches_itself (wanted_path side r))
+open_stops Include prefixes r =
+    parts_of_stop (is_node r) (is_copy r) (not (is_whole_file r)) (matches_itself (copy_path r))
+    (is_matched prefixes (node_path r)) (not (is_matched prefixes (copy_path r)))
+open_stops Exclude prefixes r =
+    ap (λ b. (can_not_stand r && matches_itself (node_path r)) && b)
+    (and_swapped (is_matched prefixes (copy_path r)) (is_matched prefixes (node_path r)))
+    ∙ parts_of_stop (is_node r) (is_copy r) (not (is_whole_file r)) (matches_itself (node_path r))
+    (not (is_matched prefixes (node_path r))) (not (not (is_matched prefixes (copy_path r))))
+
+-- no need is open where the filter stops nowhere
+none_stops : (settings : Settings) (records : List DumpRecord)
+    → list_any (is_open settings.prefixes) (needs_of settings.side records) ≡ stops_somewhere settings records
+none_stops settings records =
+    any_filtered (is_open settings.prefixes) (need_of settings.side) records
+    ∙ any_same _ (λ r. stops_at settings r && matches_itself (wanted_path settings.side r))
+    (λ r. some_where (can_not_stand r && matches_itself (wanted_path settings.side r)) (copy_need settings.side r)
+    (is_open settings.prefixes) ∙ open_stops settings.side settings.prefixes r) records
+
+-- what a need wants is wanted
+need_wanted : (settings : Settings) (records : List DumpRecord) (path : List ℕ)
+    → needs_path (needs_of settings.side records) settings.prefixes path ≡ true → is_wanted settings records path ≡ true
+need_wanted settings records path some =
+    any_both _ (λ r. stops_at settings r && bytes_eq (wanted_path settings.side r) path) each records
+    (sym (any_filtered (λ (n : PathNeed). is_open settings.prefixes n && bytes_eq n.wanted path) (need_of settings.side) records)
+    ∙ some)
+  where
+    each : (r : DumpRecord) → unwrap_or (option_map (λ (n : PathNeed). is_open settings.prefixes n && bytes_eq n.wanted path)
+        (need_of settings.side r)) false ≡ true → (stops_at settings r && bytes_eq (wanted_path settings.side r) path) ≡ true
+    each r found =
+        let can = can_not_stand r && matches_itself (wanted_path settings.side r) in
+        let here = is_open settings.prefixes (copy_need settings.side r) in
+        let same = bytes_eq (wanted_path settings.side r) path in
+        let parts = and_parts can (here && same) (sym (some_where can (copy_need settings.side r)
+        (λ (n : PathNeed). is_open settings.prefixes n && bytes_eq n.wanted path)) ∙ found) in
+        let both = and_parts here same parts.1 in
+        let stops = and_parts (stops_at settings r) (matches_itself (wanted_path settings.side r))
+        (sym (open_stops settings.side settings.prefixes r) ∙ and_from can here parts.0 both.0) in
+        and_from (stops_at settings r) same stops.0 both.1
+
+-- the wanted paths of needs match themselves
+pub needs_match : (side : Side) (records : List DumpRecord) (needs : List PathNeed)
+    → ((test : PathNeed → Bool) → list_any test needs ≡ list_any test (needs_of side records))
+    → each_matches_itself needs ≡ true
+needs_match side records needs same =
+    ap not (same (λ (n : PathNeed). not (matches_itself n.wanted))
+    ∙ (any_filtered (λ (n : PathNeed). not (matches_itself n.wanted)) (need_of side) records
+    ∙ none_of records))
+  where
+    by : (can itself : Bool) → ((can && itself) && not itself) ≡ false
+    by false itself = refl
+    by true true = refl
+    by true false = refl
+
+    none_of : (rs : List DumpRecord)
+        → list_any (λ r. unwrap_or (option_map (λ (n : PathNeed). not (matches_itself n.wanted)) (need_of side r)) false) rs ≡ false
+    none_of [] = refl
+    none_of (r ∷ rs) = or_from _ _
+        (some_where (can_not_stand r && matches_itself (wanted_path side r)) (copy_need side r)
+        (λ (n : PathNeed). not (matches_itself n.wanted))
+        ∙ by (can_not_stand r) (matches_itself (wanted_path side r))) (none_of rs)
+
+-- so what is needed is wanted, path by path
+all_wanted : (settings : Settings) (records : List DumpRecord) (needs : List PathNeed)
+    → ((test : PathNeed → Bool) → list_any test needs ≡ list_any test (needs_of settings.side records))
+    → (before paths : List (List ℕ)) → AreNeeded needs (settings.prefixes ++ before) paths
+    → AreWanted settings records before paths
+all_wanted settings records needs same before [] needed = tt
+all_wanted settings records needs same before (path ∷ paths) (some, itself, more) = (
+  need_wanted (with_prefixes settings before) records path
+      (sym (same (λ (n : PathNeed). is_open (settings.prefixes ++ before) n && bytes_eq n.wanted path)) ∙ some),
+  itself,
+  all_wanted settings records needs same (before ++ path ∷ []) paths
+      (subst (λ l. AreNeeded needs l paths) (append_assoc settings.prefixes before (path ∷ [])) more),
+)
+
+-- and is to be kept as well
+pub kept_as_well : (settings : Settings) (records : List DumpRecord) (needs : List PathNeed) (wanted paths : List (List ℕ))
+    → ((test : PathNeed → Bool) → list_any test needs ≡ list_any test (needs_of settings.side records))
+    → AreNeeded needs settings.prefixes wanted
+    → list_any (is_open (settings.prefixes ++ wanted)) needs ≡ false
+    → paths ≡ uncovered wanted → AreKeptAsWell settings records paths
+kept_as_well settings records needs wanted paths same needed closed is = record {
+  wanted = wanted;
+  are_wanted = all_wanted settings records needs same [] wanted
+      (subst (λ l. AreNeeded needs l wanted) (sym (append-nil settings.prefixes)) needed);
+  paths_are = is;
+  apart = subst (λ l. are_apart l ≡ true) (sym is) (uncovered_apart needs settings.prefixes wanted needed);
+  stops_nowhere = sym (none_stops (with_prefixes settings paths) records)
+      ∙ (sym (same (is_open (settings.prefixes ++ paths))) ∙ (any_same (is_open (settings.prefixes ++ paths))
+      (is_open (settings.prefixes ++ wanted)) (λ n. ap₂ (λ m w. m && not w) (alike n.matched) (alike n.wanted)) needs
+      ∙ closed));
+}
+  where
+    alike : (text : List ℕ) → is_matched (settings.prefixes ++ paths) text ≡ is_matched (settings.prefixes ++ wanted) text
+    alike text =
+        list_any-append (λ prefix. matches_path prefix text) settings.prefixes paths
+        ∙ (ap (λ b. is_matched settings.prefixes text || b)
+        (ap (λ l. is_matched l text) is ∙ uncovered_same wanted (bare_path text))
+        ∙ sym (list_any-append (λ prefix. matches_path prefix text) settings.prefixes wanted))
+
+-- in another order needs are tested alike
+pub reordered : (some all : List Need) (needs : List PathNeed) → IsPermutation some all → map need_view some ≡ needs
+    → (test : PathNeed → Bool) → list_any test (map need_view all) ≡ list_any test needs
+reordered some all needs same are test =
+    any_mapped need_view test all
+    ∙ (sym (list_any-IsPermutation (λ n. test (need_view n)) some all same)
+    ∙ (sym (any_mapped need_view test some) ∙ ap (list_any test) are))
+
+-- so it is where there was memory
+pub kept_in : (settings : Settings) (dump : List ℕ) (needs : List PathNeed) (wanted : List (List ℕ))
+    → ((records : List DumpRecord) × (ending : Ending) × HasRecords dump records ending
+    × ((test : PathNeed → Bool) → list_any test needs ≡ list_any test (needs_of settings.side records)))
+    → AreNeeded needs settings.prefixes wanted
+    → list_any (is_open (settings.prefixes ++ wanted)) needs ≡ false
+    → (result : Result (Vec (Bor (List ℕ)) Global) Memory)
+    → IfOk result (λ paths. map (λ (path : Bor (List ℕ)). path.now) paths.items ≡ uncovered wanted)
+    → IfOk result (λ paths. AreKeptAsWellIn settings dump (map (λ (path : Bor (List ℕ)). path.now) paths.items))
+kept_in settings dump needs wanted (records, ending, has, same) needed closed (Ok paths) is =
+    (records, ending, has, kept_as_well settings records needs wanted (map (λ (path : Bor (List ℕ)). path.now) paths.items) same needed closed is)
+kept_in settings dump needs wanted found needed closed (Err e) is = tt

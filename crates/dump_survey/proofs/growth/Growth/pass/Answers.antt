@@ -1,0 +1,10 @@
+use Rattle.std.proofs.Common.{sym, ◌∙◌, map}
+use Rattle.dump_survey.specs.steps.Needs.{need_view}
+use Rattle.dump_survey.proofs.GrowthLemmas.{pass_adds}
+use Rattle.dump_survey.proofs.growth.Growth.pass.Goals as goal
+
+pub loop-left-preserved-in_ok-add : goal.loop-left-preserved-in_ok-add
+loop-left-preserved-in_ok-add c =
+    pass_adds (map need_view c.args.needs.now) c.loop-left.left.now _ c.args.self.now c.loop-left.self c.add.new.self
+    c.loop-left.grew c.in-len1-up.len_at_least c.loop-left.invariant c.requires
+    (sym c.is_open.ensures ∙ c.if-is_open.true) c.in_ok-add.ensures

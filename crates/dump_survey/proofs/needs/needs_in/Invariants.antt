@@ -1,0 +1,10 @@
+use Rattle.std.proofs.Common.{◌-◌, length, map}
+use Rattle.dump_survey.specs.steps.Needs.{need_view}
+use Rattle.dump_survey.proofs.NeedLemmas.{NeedsSoFar}
+use Rattle.dump_survey.proofs.needs.needs_in.Given as goal
+
+abbrev pub invariant-loop-item : goal.invariant-loop-item
+invariant-loop-item l = NeedsSoFar l.side l.dump l.cutter (map need_view l.needs.items)
+
+abbrev pub decreases-loop-item : goal.decreases-loop-item
+decreases-loop-item l = length l.dump - l.cutter.number

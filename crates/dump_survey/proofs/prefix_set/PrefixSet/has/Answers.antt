@@ -1,0 +1,10 @@
+use Rattle.std.proofs.Common.{bytes_eq, ap, ◌∙◌, List, ℕ}
+use Rattle.std.specs.List.{list_any}
+use Rattle.dump_rules.proofs.BarePrefixLemmas.{any_found}
+use Rattle.dump_survey.proofs.prefix_set.PrefixSet.has.Goals as goal
+
+pub returns : goal.returns
+returns c =
+    c.contains.ensures
+    ∙ any_found (λ prefix. prefix.items) c.args.text.now c.self.inside.bare.keys
+    ∙ ap (list_any (λ (prefix : List ℕ). bytes_eq c.args.text.now prefix)) c.self.view_is

@@ -1,0 +1,91 @@
+//! The copies of a dump that can't stand without their source.
+ghost use Rattle.std.specs.Prelude.{◌≡◌, List, IfOk, map, option_map};
+ghost use Rattle.dump_records.specs.RecordText.{DumpRecord};
+ghost use Rattle.dump_records.specs.DumpText.{Ending, HasRecords};
+ghost use Rattle.dump_records.specs.steps.RecordViews.{record_item};
+ghost use Rattle.dump_survey.specs.KeepAsWell.{matches_itself};
+ghost use Rattle.dump_survey.specs.steps.Needs.{can_not_stand, need_of, need_view, needs_of};
+
+use crate::memory::Memory;
+use crate::node::{copy_path_of, is_copy, is_whole_file, path_of};
+use crate::prefixes::behind;
+use crate::slashes::{bare_path, bare_prefix};
+use dump_records::{Cut, Cutter, Record};
+use dump_rules::Side;
+use std::alloc::Global;
+
+/// What a copy needs: where a prefix matches the first path, one has to match the second.
+#[derive(Clone, Copy)]
+pub(crate) struct Need<'a> {
+    pub(crate) matched: &'a [u8],
+    pub(crate) wanted: &'a [u8],
+}
+
+/// Whether the path, as a prefix, matches itself.
+fn matches_itself(path: &[u8]) -> bool
+    ensures { result ≡ matches_itself path.now }
+{
+    let bare = bare_prefix(path);
+    let text = bare_path(path);
+    if bare.is_empty() || text == bare {
+        return true;
+    }
+    behind(bare, text).is_some()
+}
+
+/// Whether the record is a copy that can't stand without its source.
+fn can_not_stand(item: &Record<'_>) -> bool
+    ensures { result ≡ can_not_stand (record_item item.now) }
+{
+    item.path().is_some() && is_copy(item) && !is_whole_file(item)
+}
+
+/// What the record needs, where it is such a copy.
+fn need_of<'a>(item: &Record<'a>, side: Side) -> Option<Need<'a>>
+    ensures { option_map need_view result ≡ need_of side (record_item item.now) }
+{
+    if !can_not_stand(item) {
+        return None;
+    }
+    let path = path_of(item);
+    let source = copy_path_of(item);
+    let need = match side {
+        Side::Include => Need {
+            matched: path,
+            wanted: source,
+        },
+        Side::Exclude => Need {
+            matched: source,
+            wanted: path,
+        },
+    };
+    if matches_itself(need.wanted) {
+        Some(need)
+    } else {
+        None
+    }
+}
+
+/// What the records of the dump need, in their order, up to where their list ends.
+pub(crate) fn needs_in<'a>(
+    alloc: Global,
+    dump: &'a [u8],
+    side: Side,
+) -> Result<Vec<Need<'a>>, Memory>
+    ensures { IfOk result (λ needs. (records : List DumpRecord) × (ending : Ending) × HasRecords dump.now records ending
+        × (map need_view needs.items ≡ needs_of side records)) }
+{
+    let mut cutter = Cutter::new(dump);
+    let mut needs = Vec::new(alloc);
+    loop {
+        match cutter.next() {
+            Cut::Item(item) => {
+                if let Some(need) = need_of(&item, side) {
+                    needs.push(need)?;
+                }
+            }
+            Cut::Finished => return Ok(needs),
+            Cut::Fault { .. } => return Ok(needs),
+        }
+    }
+}
