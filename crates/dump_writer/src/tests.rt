@@ -10,6 +10,7 @@ use crate::{
 };
 use std::alloc::Global;
 use std::io::{self, ErrorKind, Write};
+use std::process::Abort;
 use std::test::Fail;
 
 // What a broken writer answers once it has no room left.
@@ -135,35 +136,61 @@ fn pieces_are_written_up_to_the_trouble(rt: HostRuntime) -> Result<(), Fail> {
     Ok(())
 }
 
-#[test]
-fn trouble_comes_once_or_for_good(rt: HostRuntime) {
-    let mut sink = MemorySink::new(rt.alloc(), 8, Trouble::Once(3));
-    assert_eq!(rt; sink.accept(b"abcde"), Ok(3));
-    assert_eq!(rt; sink.accept(b""), Ok(0));
-    assert_eq!(rt; sink.accept(b"de"), Err(SinkDown));
-    assert_eq!(rt; sink.accept(b"de"), Ok(2));
-    assert_eq!(rt; sink.taken(), b"abcde".as_slice());
-    assert_eq!(rt; sink.failures(), 1);
-
-    let mut sink = MemorySink::new(rt.alloc(), 8, Trouble::From(3));
-    assert_eq!(rt; sink.accept(b"abcde"), Ok(3));
-    for failures in 1..4 {
-        assert_eq!(rt; sink.accept(b"de"), Err(SinkDown));
-        assert_eq!(rt; sink.failures(), failures);
+/// Hands the sink these bytes in turn, and compares each answer.
+fn assert_accepts<S: Sink>(
+    rt: &impl Abort,
+    sink: &mut S,
+    calls: &[(&[u8], Result<usize, SinkDown>)],
+) {
+    for (bytes, answer) in calls {
+        assert!(rt; sink.accept(bytes) == *answer, "{bytes:?}");
     }
-    assert_eq!(rt; sink.taken(), b"abc".as_slice());
+}
+
+/// What a sink took, and how often it failed.
+fn assert_holds(rt: &impl Abort, sink: &MemorySink, taken: &[u8], failures: u64) {
+    assert!(rt; sink.taken() == taken);
+    assert!(rt; sink.failures() == failures);
+}
+
+#[test]
+fn trouble_comes_once(rt: HostRuntime) {
+    let mut sink = MemorySink::new(rt.alloc(), 8, Trouble::Once(3));
+    let calls = [
+        (b"abcde".as_slice(), Ok(3)),
+        (b"", Ok(0)),
+        (b"de", Err(SinkDown)),
+        (b"de", Ok(2)),
+    ];
+    assert_accepts(&rt, &mut sink, &calls);
+    assert_holds(&rt, &sink, b"abcde", 1);
+}
+
+#[test]
+fn trouble_comes_for_good(rt: HostRuntime) {
+    let mut sink = MemorySink::new(rt.alloc(), 8, Trouble::From(3));
+    assert_accepts(&rt, &mut sink, &[(b"abcde", Ok(3))]);
+    for failures in 1..4 {
+        assert_accepts(&rt, &mut sink, &[(b"de", Err(SinkDown))]);
+        assert_holds(&rt, &sink, b"abc", failures);
+    }
+}
+
+/// How many bytes an `Out` wrote, and how often it failed.
+fn assert_counts<W: Write>(rt: &impl Abort, out: &Out<W>, written: u64, failures: u64) {
+    assert!(rt; out.written() == written);
+    assert!(rt; out.failures() == failures);
 }
 
 #[test]
 fn a_writer_is_written_counted_and_given_back(rt: HostRuntime) -> Result<(), Fail> {
     let piece = five(rt.alloc())?;
     let mut out = Out::new(Vec::from_slice(rt.alloc(), b"> ")?);
-    assert_eq!(rt; write_piece(&mut out, &piece), Ok(()));
-    assert_eq!(rt; out.accept(b""), Ok(0));
-    assert_eq!(rt; out.accept(b"fg"), Ok(2));
-    assert_eq!(rt; out.flush(), Ok(()));
-    assert_eq!(rt; (out.written(), out.failures()), (7, 0));
-    assert_eq!(rt; out.into_inner().as_slice(), b"> abcdefg".as_slice());
+    assert!(rt; write_piece(&mut out, &piece) == Ok(()));
+    assert_accepts(&rt, &mut out, &[(b"", Ok(0)), (b"fg", Ok(2))]);
+    assert!(rt; out.flush() == Ok(()));
+    assert_counts(&rt, &out, 7, 0);
+    assert!(rt; out.into_inner().as_slice() == b"> abcdefg".as_slice());
     Ok(())
 }
 
@@ -232,41 +259,44 @@ fn a_writer_that_breaks_is_a_failure(rt: HostRuntime) -> Result<(), Fail> {
 fn a_worn_out_sink_takes_nothing(rt: HostRuntime) -> Result<(), Fail> {
     let piece = five(rt.alloc())?;
     let mut sink = WornOut { calls: 0 };
-    assert_eq!(rt;
-        write_piece(&mut sink, &piece),
-        Err(SinkFault { written: 0 })
-    );
-    assert_eq!(rt; (sink.failures(), sink.calls), (u64::MAX, 1));
+    assert!(rt; write_piece(&mut sink, &piece) == Err(SinkFault { written: 0 }));
+    assert!(rt; sink.failures() == u64::MAX && sink.calls == 1);
+    Ok(())
+}
 
+#[test]
+fn no_call_is_made_for_no_bytes(rt: HostRuntime) -> Result<(), Fail> {
     let mut blank = Piece::new(rt.alloc());
     blank.push(Chunk::Lent(b""))?;
     blank.push(Chunk::Own(Vec::new(rt.alloc())))?;
-    assert_eq!(rt; write_piece(&mut sink, &blank), Ok(()));
-    assert_eq!(rt; sink.calls, 1, "no call for no bytes");
+    let mut sink = WornOut { calls: 0 };
+    assert!(rt; write_piece(&mut sink, &blank) == Ok(()));
+    assert!(rt; sink.calls == 0);
     Ok(())
+}
+
+// Run with each allocation refused in turn: what fails leaves the chunks.
+#[test]
+fn a_refused_growth_leaves_the_piece(rt: HostRuntime) {
+    let mut piece = Piece::new(rt.alloc());
+    assert!(rt; piece.push(Chunk::Lent(b"a")) == Ok(()), "takes no memory");
+    assert!(rt;
+        piece.push(Chunk::Lent(b"b")) == Ok(()),
+        "nor does the second"
+    );
+    let pushed = piece.push(Chunk::Lent(b"c"));
+    let count = if pushed == Ok(()) { 3 } else { 2 };
+    assert!(rt; piece.chunks().len() == count);
 }
 
 // Run with each allocation refused in turn: what fails leaves the bytes, and the next call goes on.
 #[test]
-fn a_refused_growth_changes_nothing(rt: HostRuntime) {
-    let mut piece = Piece::new(rt.alloc());
-    assert_eq!(rt; piece.push(Chunk::Lent(b"a")), Ok(()), "takes no memory");
-    assert_eq!(rt;
-        piece.push(Chunk::Lent(b"b")),
-        Ok(()),
-        "nor does the second"
-    );
-    let pushed = piece.push(Chunk::Lent(b"c"));
-    assert_eq!(rt; piece.chunks().len(), 2 + usize::from(pushed == Ok(())));
-    assert!(rt; pushed == Ok(()) || pushed == Err(Memory));
-
+fn a_refused_growth_leaves_the_sink(rt: HostRuntime) {
     let mut sink = MemorySink::new(rt.alloc(), 8, Trouble::From(2));
-    let refused = sink.accept(b"abc").is_err();
-    assert_eq!(rt; sink.failures(), u64::from(refused));
-    assert_eq!(rt; sink.taken().is_empty(), refused);
-    if refused {
-        assert_eq!(rt; sink.accept(b"abc"), Ok(2));
+    if sink.accept(b"abc").is_err() {
+        assert_holds(&rt, &sink, b"", 1);
+        assert_accepts(&rt, &mut sink, &[(b"abc", Ok(2))]);
     }
-    assert_eq!(rt; sink.taken(), b"ab".as_slice());
-    assert_eq!(rt; sink.accept(b"c"), Err(SinkDown));
+    assert!(rt; sink.taken() == b"ab".as_slice());
+    assert_accepts(&rt, &mut sink, &[(b"c", Err(SinkDown))]);
 }
