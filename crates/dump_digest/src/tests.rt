@@ -4,6 +4,7 @@ use dump_records::{Cut, Cutter, Record};
 use dump_rules::{Empty, Options, Side};
 use dump_text::FaultKind;
 use std::alloc::Global;
+use std::process::Abort;
 use std::test::Fail;
 
 const UUID: u64 = 1;
@@ -97,14 +98,26 @@ fn a_done_keeps_its_record_and_verdict(rt: HostRuntime) -> Result<(), Fail> {
     Ok(())
 }
 
+/// The verdict on the record of the dump above with this number.
+fn verdict_on_record(alloc: Global, number: u64) -> Result<Verdict, Fail> {
+    let options = include_trunk(alloc)?;
+    Ok(check(&record(DUMP, number)?, &options))
+}
+
 #[test]
 fn properties_of_revisions_and_of_kept_nodes_are_checked(rt: HostRuntime) -> Result<(), Fail> {
-    let options = include_trunk(rt.alloc())?;
-    assert_eq!(rt; check(&record(DUMP, UUID)?, &options), OK);
-    assert_eq!(rt; check(&record(DUMP, REVISION)?, &options), BAD_PROPERTIES);
-    assert_eq!(rt; check(&record(DUMP, GOOD_NODE)?, &options), OK);
-    assert_eq!(rt; check(&record(DUMP, BAD_NODE)?, &options), BAD_PROPERTIES);
-    assert_eq!(rt; check(&record(DUMP, OTHER_BAD_NODE)?, &options), OK);
+    for (number, verdict) in [
+        (UUID, OK),
+        (REVISION, BAD_PROPERTIES),
+        (GOOD_NODE, OK),
+        (BAD_NODE, BAD_PROPERTIES),
+        (OTHER_BAD_NODE, OK),
+    ] {
+        assert!(rt;
+            verdict_on_record(rt.alloc(), number)? == verdict,
+            "{number}"
+        );
+    }
     Ok(())
 }
 
@@ -312,9 +325,10 @@ fn mergeinfo_of_kept_nodes_is_checked(rt: HostRuntime) -> Result<(), Fail> {
 
 // A record with a property block of these entries.
 fn record_with_entries(alloc: Global, header: &str, entries: &str) -> Result<String, Fail> {
-    let length = entries.len() + 10;
+    let block = format!(in alloc; "{entries}PROPS-END\n")?;
+    let length = block.len();
     let text = format!(in alloc;
-        "{header}\nProp-content-length: {length}\nContent-length: {length}\n\n{entries}PROPS-END\n\n"
+        "{header}\nProp-content-length: {length}\nContent-length: {length}\n\n{block}\n"
     )?;
     Ok(text)
 }
@@ -376,31 +390,33 @@ fn deleted_mergeinfo_is_none(rt: HostRuntime) -> Result<(), Fail> {
 const COPY: &str = "Node-path: trunk\nNode-copyfrom-rev: 1\nNode-copyfrom-path: tags\n\
 Prop-content-length: 45\nContent-length: 45\n\nK 13\nsvn:mergeinfo\nV 10\n/trunk:2-4\nPROPS-END\n\n\n";
 
+fn assert_is_read(rt: &impl Abort, done: &Done<'_>) {
+    assert!(rt; done.is_kept() && done.has_mergeinfo() && done.has_lost_source());
+    assert!(rt; done.merge_fault(2, 4).is_none());
+    assert!(rt; done.merge_fault(3, 4) == Some(FaultKind::MergeRange));
+    assert!(rt; done.merge_fault(2, 3) == Some(FaultKind::MergeRange));
+}
+
+fn assert_has_mergeinfo(rt: &impl Abort, done: &Done<'_>) -> Result<(), Fail> {
+    let props = done.props().ok_or("no properties")?;
+    assert!(rt; props.get(b"svn:mergeinfo") == Some(b"/trunk:2-4".as_slice()));
+    Ok(())
+}
+
+fn assert_is_dropped(rt: &impl Abort, done: &Done<'_>) {
+    assert!(rt; !done.is_kept() && done.props().is_none());
+}
+
 #[test]
 fn a_done_tells_what_its_check_read(rt: HostRuntime) -> Result<(), Fail> {
-    let options = Options::new(
-        rt.alloc(),
-        Side::Include,
-        &[b"trunk"],
-        Empty::Pad,
-        true,
-        false,
-        false,
-    )?;
+    let (side, prefixes) = (Side::Include, [b"trunk".as_slice()]);
+    let options = Options::new(rt.alloc(), side, &prefixes, Empty::Pad, true, false, false)?;
     let dump = format!(in rt.alloc();
         "SVN-fs-dump-format-version: 2\n\n{COPY}Node-path: tags\n\n\n"
     )?;
     let done = Done::of(record(dump.as_bytes(), 1)?, &options);
-    assert!(rt; done.is_kept() && done.has_mergeinfo() && done.has_lost_source());
-    let props = done.props().ok_or("no properties")?;
-    assert_eq!(rt;
-        props.get(b"svn:mergeinfo").ok_or("no mergeinfo")?,
-        b"/trunk:2-4".as_slice()
-    );
-    assert_eq!(rt; done.merge_fault(2, 4), None);
-    assert_eq!(rt; done.merge_fault(3, 4), Some(FaultKind::MergeRange));
-    assert_eq!(rt; done.merge_fault(2, 3), Some(FaultKind::MergeRange));
-    let dropped = Done::of(record(dump.as_bytes(), 2)?, &options);
-    assert!(rt; !dropped.is_kept() && dropped.props().is_none());
+    assert_is_read(&rt, &done);
+    assert_has_mergeinfo(&rt, &done)?;
+    assert_is_dropped(&rt, &Done::of(record(dump.as_bytes(), 2)?, &options));
     Ok(())
 }
