@@ -261,11 +261,7 @@ fn push_as_well_line(lines: &mut Vec<u8>, side: Side, path: &[u8]) -> Result<(),
 }
 
 /// The lines of what is to be kept as well.
-pub(crate) fn as_well_lines(
-    alloc: Global,
-    side: Side,
-    paths: &[&[u8]],
-) -> Result<Vec<u8>, Memory>
+pub(crate) fn as_well_lines(alloc: Global, side: Side, paths: &[&[u8]]) -> Result<Vec<u8>, Memory>
     ensures { IfOk result (λ lines. lines.items ≡ as_well_lines side (map (λ path. path.now) paths.now)) }
 {
     let mut lines = Vec::new(alloc);
