@@ -1,3 +1,4 @@
+pub mod AsWellLines
 pub mod DumpFindings
 pub mod KeepAsWell
 pub mod Lines

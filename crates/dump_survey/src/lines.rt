@@ -1,7 +1,8 @@
 //! The lines of a survey.
-ghost use Rattle.std.specs.Prelude.{◌≡◌, ◌++◌, ◌<◌, [], if◌then◌else◌, IfOk, OnOk, IsTrue, flat_map, decimal};
+ghost use Rattle.std.specs.Prelude.{◌≡◌, ◌++◌, ◌<◌, [], if◌then◌else◌, IfOk, OnOk, IsTrue, flat_map, decimal, map};
 ghost use Rattle.dump_records.specs.steps.RecordViews.{record_item};
 ghost use Rattle.dump_digest.specs.RecordParts.{is_node};
+ghost use Rattle.dump_survey.specs.AsWellLines.{as_well_line, as_well_lines, as_well_words};
 ghost use Rattle.dump_survey.specs.DumpFindings.{listed_findings};
 ghost use Rattle.dump_survey.specs.Lines.{dump_line, ending_line, finding_words, node_line, place_text, shown_byte, shown_path, small_digit, source_text, tells_source};
 ghost use Rattle.dump_survey.specs.Meaning.{meaning};
@@ -15,6 +16,7 @@ use crate::slashes::bare_path;
 use crate::surveyor::End;
 use crate::tally::DumpFindings;
 use crate::told::{SurveyedNode, Told};
+use dump_rules::Side;
 use dump_text::spell;
 use std::alloc::Global;
 
@@ -233,6 +235,39 @@ pub(crate) fn node_lines(alloc: Global, node: &SurveyedNode<'_>) -> Result<Vec<u
         if node.found.has(*finding) {
             push_node_line(&mut lines, &node.told(*finding))?;
         }
+        left = others;
+    }
+    Ok(lines)
+}
+
+/// What the line of a path to be kept as well says before it.
+fn as_well_words(side: Side) -> &'static [u8]
+    ensures { result.now ≡ as_well_words side }
+{
+    match side {
+        Side::Include => b"keep as well: ",
+        Side::Exclude => b"leave out as well: ",
+    }
+}
+
+/// Adds the line of a path to be kept as well.
+#[tactic(auto, unfolding(crate::specs::AsWellLines::as_well_line))]
+fn push_as_well_line(lines: &mut Vec<u8>, side: Side, path: &[u8]) -> Result<(), Memory>
+    ensures { OnOk result (lines.new.items ≡ lines.old.items ++ as_well_line side path.now) }
+{
+    lines.extend_from_slice(as_well_words(side))?;
+    push_path(lines, path)?;
+    Ok(lines.push(b'\n')?)
+}
+
+/// The lines of what is to be kept as well.
+pub(crate) fn as_well_lines(alloc: Global, side: Side, paths: &[&[u8]]) -> Result<Vec<u8>, Memory>
+    ensures { IfOk result (λ lines. lines.items ≡ as_well_lines side (map (λ path. path.now) paths.now)) }
+{
+    let mut lines = Vec::new(alloc);
+    let mut left = paths;
+    while let [path, others @ ..] = left {
+        push_as_well_line(&mut lines, side, path)?;
         left = others;
     }
     Ok(lines)

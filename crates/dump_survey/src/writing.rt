@@ -1,12 +1,14 @@
-//! The survey of a dump, written as it is found.
-ghost use Rattle.std.specs.Prelude.{◌≡◌, ◌≢◌, ◌==◌, List, ℕ, Err, IfOk, OnErr, length, not};
+//! The survey of a dump, written as it is found, and what to keep as well.
+ghost use Rattle.std.specs.Prelude.{◌≡◌, ◌≢◌, ◌==◌, List, ℕ, Err, IfOk, OnErr, OnOk, length, not};
 ghost use Rattle.std.specs.Io.KnownBytes.{Appends};
 ghost use Rattle.dump_writer.specs.SinkWords.{HasFailedSince};
 ghost use Rattle.dump_survey.specs.declared.writing.SurveyFailure.TheVariants as failures;
+ghost use Rattle.dump_survey.specs.AsWellLines.{AreAsWellLines};
 ghost use Rattle.dump_survey.specs.SurveyText.{IsSurveyText, BreaksOffSurvey};
-ghost use Rattle.dump_survey.specs.steps.Writing.{TakesSome};
+ghost use Rattle.dump_survey.specs.steps.Writing.{TakesSome, TakesSomeAsWell};
 
-use crate::lines::{end_lines, node_lines};
+use crate::as_well::keep_as_well;
+use crate::lines::{as_well_lines, end_lines, node_lines};
 use crate::memory::Memory;
 use crate::surveyor::{Step, Surveyor};
 use dump_rules::Options;
@@ -91,4 +93,26 @@ pub fn write_survey<S: Sink>(
             }
         }
     }
+}
+
+/// Writes a line for each path that is to be kept as well where a dump is filtered under these options, in the order of
+/// [`keep_as_well`]: none where the filter stops at no copy. Nothing is written before all is known.
+pub fn write_as_well<S: Sink>(
+    alloc: Global,
+    dump: &[u8],
+    options: &Options,
+    sink: &mut S,
+) -> Result<(), SurveyFailure>
+    ensures whole { OnOk result ((lines : List ℕ) × AreAsWellLines options.now dump.now lines
+        × Appends (S.taken sink.old) (S.taken sink.new) lines) }
+    ensures part { OnErr result (TakesSomeAsWell options.now dump.now (S.taken sink.old) (S.taken sink.new)) }
+    ensures no_failure { result ≢ Err SurveyFailure.Sink → S.failure_count sink.new ≡ S.failure_count sink.old }
+    ensures failed { result ≡ Err SurveyFailure.Sink
+        → HasFailedSince (S.failure_count sink.old) (S.failure_count sink.new) }
+    ensures through { S.through sink.new ≡ S.through sink.old }
+{
+    let paths = keep_as_well(alloc, dump, options)?;
+    let lines = as_well_lines(alloc, options.side(), &paths)?;
+    write_lines(alloc, sink, lines)?;
+    Ok(())
 }

@@ -1,16 +1,18 @@
 -- A survey whose last bytes are handed on.
-use Rattle.std.proofs.Common.{◌≡◌, ℕ, Bool, List, [], ◌++◌, Option, None, Some, Result, Ok, Err, IfOk, IfErr, OnErr, refl, sym, ap, subst, ◌∙◌, append_assoc}
+use Rattle.std.proofs.Common.{◌≡◌, ℕ, Bool, List, [], ◌++◌, Option, None, Some, Result, Ok, Err, IfOk, IfErr, IfSome, OnErr, inl, inr, refl, sym, ap, subst, ◌∙◌, append_assoc}
 use Rattle.std.proofs.lemmas.List.{append_cancel_left, append-nil}
 use Rattle.std.specs.Io.KnownBytes.{Appends, Keeps, GrowsBy, append_known}
-use Rattle.std.proofs.KnownBytes.{Appends-kept}
+use Rattle.std.proofs.KnownBytes.{Appends-kept, Appends-trans}
 use Rattle.dump_rules.specs.Settings.{Settings}
 use Rattle.dump_writer.specs.steps.SinkStates.{LentState, lent_taken}
 use Rattle.dump_writer.specs.SinkWords.{IsPrefixOf}
+use Rattle.dump_survey.specs.AsWellLines.{AreAsWellLines}
 use Rattle.dump_survey.specs.SurveyText.{IsSurveyText, BreaksOffSurvey}
+use Rattle.dump_survey.specs.steps.Writing.{TakesSomeAsWell}
 use Rattle.dump_survey.specs.declared.writing.SurveyFailure.{SurveyFailure}
-use Rattle.survey_cli.specs.Drive.{TakesFirst}
+use Rattle.survey_cli.specs.Drive.{IsWholeText, SurveysDump, SurveysInput, TakesFirst}
 use Rattle.survey_cli.specs.declared.drive.BrokenOff.{BrokenOff}
-use Rattle.survey_cli.specs.steps.Answered.{Arrives, IsWritten}
+use Rattle.survey_cli.specs.steps.Answered.{Arrives, BreaksOff, told_status}
 
 -- where nothing waits the known bytes are those of the writer
 from_none : (a b : Option (List ℕ)) (bytes : List ℕ) → Appends (append_known a []) b bytes → Appends a b bytes
@@ -61,41 +63,102 @@ handed_on a b sink text appended kept none = from_none a sink.out.taken text
     (Appends-kept (append_known a []) b (append_known sink.out.taken []) text appended
     (subst (λ w. Keeps b (append_known sink.out.taken w)) none kept)))
 
--- a survey that was written whole, or broke off
+-- what is told of a failure holds where there is one
+pub at_err : {X E A : Type 0} (r : Result X E) → A → OnErr r A
+at_err (Ok x) is = tt
+at_err (Err e) is = is
+
+-- a survey that broke off
+pub survey_broke_off : (settings : Settings) (dump : List ℕ) (old new : Option (List ℕ))
+    → BreaksOffSurvey settings dump old new → BreaksOff settings dump old new
+survey_broke_off settings dump old new off = (off.text, off.found, inl off.is, (off.part, off.begins, off.appended))
+
+module _ (settings : Settings) (dump : List ℕ) (old mid new : Option (List ℕ)) (found : Bool)
+    (survey : (text : List ℕ) × IsSurveyText settings dump text found × Appends old mid text) where
+  -- a survey and the lines behind it
+  whole_with : (lines : List ℕ) → AreAsWellLines settings dump lines
+      → IsWholeText settings dump (survey.0 ++ lines) found
+  whole_with lines are = record {
+    survey = survey.0;
+    is_survey = survey.1;
+    as_well = lines;
+    are_as_well = are;
+    text_is = refl;
+  }
+
+  pub whole_written : (lines : List ℕ) × AreAsWellLines settings dump lines × Appends mid new lines
+      → (text : List ℕ) × IsWholeText settings dump text found × Appends old new text
+  whole_written (lines, are, appends) =
+      (survey.0 ++ lines, whole_with lines are, Appends-trans old mid new survey.0 lines survey.2 appends)
+
+  -- a survey behind which the lines broke off
+  pub lines_broke_off : TakesSomeAsWell settings dump mid new → BreaksOff settings dump old new
+  lines_broke_off (inl none) = (
+    survey.0,
+    found,
+    inl survey.1,
+    (
+      survey.0 ++ [],
+      ([], sym (append-nil (survey.0 ++ []) ∙ append-nil survey.0)),
+      Appends-trans old mid new survey.0 [] survey.2 none,
+    ),
+  )
+  lines_broke_off (inr (lines, are, (part, (rest, front), appends))) = (
+    survey.0 ++ lines,
+    found,
+    inr (whole_with lines are),
+    (
+      survey.0 ++ part,
+      (rest, ap (λ l. survey.0 ++ l) front ∙ sym (append_assoc survey.0 part rest)),
+      Appends-trans old mid new survey.0 part survey.2 appends,
+    ),
+  )
+
+-- a text that was written whole, or broke off
 pub written_of : (settings : Settings) (dump : List ℕ) (old new : Option (List ℕ)) (answer : Result Bool SurveyFailure)
-    → IfOk answer (λ found. (text : List ℕ) × IsSurveyText settings dump text found × Appends old new text)
-    → OnErr answer (BreaksOffSurvey settings dump old new) → IsWritten settings dump old new answer
+    → IfOk answer (λ found. (text : List ℕ) × IsWholeText settings dump text found × Appends old new text)
+    → OnErr answer (BreaksOff settings dump old new) → Arrives settings dump old new answer
 written_of settings dump old new (Ok found) whole part = whole
 written_of settings dump old new (Err failure) whole part = part
 
--- a survey with what is told behind it
+-- a text with what is told behind it
 pub arrives_behind : (settings : Settings) (dump : List ℕ) (answer : Result Bool SurveyFailure)
     (told : Result Bool BrokenOff) (a b : Option (List ℕ)) (sink : LentState)
-    → IsWritten settings dump (append_known a []) b answer → Keeps b (lent_taken sink) → sink.out.start ≡ a
+    → Arrives settings dump (append_known a []) b answer → Keeps b (lent_taken sink) → sink.out.start ≡ a
     → IfOk told (λ found. (answer ≡ Ok found) × (sink.waiting ≡ []))
     → IfErr told (λ broken. GrowsBy sink.out.start sink.out.taken broken.written)
     → Arrives settings dump a sink.out.taken told
 arrives_behind settings dump answer (Ok found) a b sink written kept start all broken =
-    let whole : IsWritten settings dump (append_known a []) b (Ok found) =
-    subst (IsWritten settings dump (append_known a []) b) all.0 written in
+    let whole : (text : List ℕ) × IsWholeText settings dump text found × Appends (append_known a []) b text =
+    subst (Arrives settings dump (append_known a []) b) all.0 written in
     (whole.0, whole.1, handed_on a b sink whole.0 whole.2 kept all.1)
 arrives_behind settings dump answer (Err off) a b sink written kept start all broken = go answer written
   where
     grown : GrowsBy a sink.out.taken off.written
     grown = subst (λ s. GrowsBy s sink.out.taken off.written) start broken
 
-    go : (r : Result Bool SurveyFailure) → IsWritten settings dump (append_known a []) b r
-        → Arrives settings dump a sink.out.taken (Err off)
+    go : (r : Result Bool SurveyFailure) → Arrives settings dump (append_known a []) b r
+        → BreaksOff settings dump a sink.out.taken
     go (Ok found) all = (
       all.0,
       found,
-      all.1,
+      inr all.1,
       broke_off a b sink.out.taken sink.waiting all.0 all.0 off.written all.2 kept grown ([], sym (append-nil all.0)),
     )
-    go (Err failure) broken = (
-      broken.text,
-      broken.found,
-      broken.is,
-      broke_off a b sink.out.taken sink.waiting broken.part broken.text off.written broken.appended kept grown
-          broken.begins,
-    )
+    go (Err failure) (text, found, is, (part, begins, appended)) =
+        (text, found, is, broke_off a b sink.out.taken sink.waiting part text off.written appended kept grown begins)
+
+-- the status says how the text arrived
+surveys_so : (settings : Settings) (dump : List ℕ) (old new : Option (List ℕ)) (answer : Result Bool BrokenOff)
+    → Arrives settings dump old new answer → SurveysDump settings dump old new (told_status answer)
+surveys_so settings dump old new (Ok found) (text, is, all) = (text, found, inl (is, all, refl))
+surveys_so settings dump old new (Err off) (text, found, is, part) = (text, found, inr (is, part, refl))
+
+-- so it is of the whole input
+pub surveys_input : (settings : Settings) (input : Option (List ℕ)) (dump : List ℕ) (old new : Option (List ℕ))
+    (answer : Result Bool BrokenOff) (status : ℕ) → IfSome input (λ left. dump ≡ left)
+    → Arrives settings dump old new answer → status ≡ told_status answer → SurveysInput settings input old new status
+surveys_input settings None dump old new answer status whole arrives is = inl tt
+surveys_input settings (Some left) dump old new answer status whole arrives is =
+    inl (subst (λ text. SurveysDump settings text old new status) whole
+    (subst (λ n. SurveysDump settings dump old new n) (sym is) (surveys_so settings dump old new answer arrives)))

@@ -1,8 +1,9 @@
 -- What the program does with its words and its input.
-use Rattle.std.specs.Prelude.{◌≡◌, ℕ, Bool, true, false, ◌⊎◌, List, Option, Result, Ok, Err, IfSome}
+use Rattle.std.specs.Prelude.{◌≡◌, ℕ, Bool, true, false, ◌⊎◌, List, ◌++◌, Option, Result, Ok, Err, IfSome}
 use Rattle.std.specs.Io.KnownBytes.{Keeps, Appends}
 use Rattle.dump_rules.specs.Settings.{Settings}
 use Rattle.dump_writer.specs.SinkWords.{IsPrefixOf}
+use Rattle.dump_survey.specs.AsWellLines.{AreAsWellLines}
 use Rattle.dump_survey.specs.SurveyText.{IsSurveyText}
 use Rattle.survey_cli.specs.Words.{AnswersTo}
 use Rattle.survey_cli.specs.declared.words.Usage.{Usage}
@@ -17,13 +18,24 @@ status_of true = 1
 abbrev pub TakesFirst : Option (List ℕ) → Option (List ℕ) → List ℕ → Type 0
 TakesFirst old new text = (part : List ℕ) × IsPrefixOf part text × Appends old new part
 
--- the writer took the text of this dump's survey, and the status is its own; or it took a first part of it, and the
+-- this is the text of a survey, with the lines of what is to be kept as well behind it, and whether something is found
+pub record IsWholeText (settings : Settings) (dump text : List ℕ) (found : Bool) : Type 0 where
+  pub survey : List ℕ
+  pub is_survey : IsSurveyText settings dump survey found
+  pub as_well : List ℕ
+  pub are_as_well : AreAsWellLines settings dump as_well
+  pub text_is : text ≡ survey ++ as_well
+
+-- this is the text of a survey, with or without the lines of what is to be kept as well
+abbrev pub IsText : Settings → List ℕ → List ℕ → Bool → Type 0
+IsText settings dump text found = IsSurveyText settings dump text found ⊎ IsWholeText settings dump text found
+
+-- the writer took the whole text, and the status is the survey's own; or it took a first part of such a text, and the
 -- status is that of a failure
-pub record SurveysDump (settings : Settings) (dump : List ℕ) (old new : Option (List ℕ)) (status : ℕ) : Type 0 where
-  pub text : List ℕ
-  pub found : Bool
-  pub is : IsSurveyText settings dump text found
-  pub arrived : (Appends old new text × (status ≡ status_of found)) ⊎ (TakesFirst old new text × (status ≡ 3))
+abbrev pub SurveysDump : Settings → List ℕ → Option (List ℕ) → Option (List ℕ) → ℕ → Type 0
+SurveysDump settings dump old new status = (text : List ℕ) × (found : Bool)
+    × ((IsWholeText settings dump text found × Appends old new text × (status ≡ status_of found))
+    ⊎ (IsText settings dump text found × TakesFirst old new text × (status ≡ 3)))
 
 -- the whole input is surveyed, or nothing is written for want of memory or input
 abbrev pub SurveysInput : Settings → Option (List ℕ) → Option (List ℕ) → Option (List ℕ) → ℕ → Type 0

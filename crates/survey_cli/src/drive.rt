@@ -1,16 +1,16 @@
 //! The whole program, over any reader and writers.
-ghost use Rattle.std.specs.Prelude.{◌≡◌, [], map, Ok, IfErr, IfOk};
-ghost use Rattle.std.specs.Io.KnownBytes.{GrowsBy, Keeps};
+ghost use Rattle.std.specs.Prelude.{◌≡◌, [], List, ℕ, map, Ok, IfErr, IfOk, OnErr};
+ghost use Rattle.std.specs.Io.KnownBytes.{Appends, GrowsBy, Keeps};
 ghost use Rattle.dump_writer.specs.steps.SinkStates.{lent_taken, loan_of};
 ghost use Rattle.survey_cli.specs.Words.{meaning_of};
-ghost use Rattle.survey_cli.specs.Drive.{SurveysInput, Surveys, refusal_status};
-ghost use Rattle.survey_cli.specs.steps.Answered.{Arrives, told_status};
+ghost use Rattle.survey_cli.specs.Drive.{IsWholeText, SurveysInput, Surveys, refusal_status};
+ghost use Rattle.survey_cli.specs.steps.Answered.{Arrives, BreaksOff, told_status};
 
 use crate::input::{Unread, read_all};
 use crate::lines::{write_failure, write_unread, write_usage};
 use crate::words::{Usage, options_of};
 use dump_rules::Options;
-use dump_survey::{SurveyFailure, write_survey};
+use dump_survey::{SurveyFailure, write_as_well, write_survey};
 use dump_writer::{OutMut, SinkDown};
 use std::alloc::Global;
 use std::io::{Read, Write};
@@ -85,7 +85,7 @@ fn survey_input<R: Read, W: Write, E: Write>(
     tell(errors, answer)
 }
 
-// Writes the survey, and hands on all that waits behind it.
+// Writes the survey and behind it what to keep as well, and hands on all that waits.
 fn survey_and_flush<W: Write>(
     alloc: Global,
     dump: &[u8],
@@ -97,11 +97,28 @@ fn survey_and_flush<W: Write>(
     ensures arrives { Arrives options.now dump.now sink.old.out.taken sink.new.out.taken result }
     ensures loan { loan_of sink.new ≡ loan_of sink.old }
 {
-    let answer = write_survey(alloc, dump, options, sink);
+    let answer = write_text(alloc, dump, options, sink);
     flush_behind(sink, answer)
 }
 
-// Hands on all that waits behind a survey, unless its sink failed: then no more is tried.
+// Writes the survey, and behind it what to keep as well.
+fn write_text<W: Write>(
+    alloc: Global,
+    dump: &[u8],
+    options: &Options,
+    sink: &mut OutMut<'_, W>,
+) -> Result<bool, SurveyFailure>
+    ensures whole { IfOk result (λ found. (text : List ℕ) × IsWholeText options.now dump.now text found
+        × Appends (lent_taken sink.old) (lent_taken sink.new) text) }
+    ensures part { OnErr result (BreaksOff options.now dump.now (lent_taken sink.old) (lent_taken sink.new)) }
+    ensures loan { loan_of sink.new ≡ loan_of sink.old }
+{
+    let found = write_survey(alloc, dump, options, sink)?;
+    write_as_well(alloc, dump, options, sink)?;
+    Ok(found)
+}
+
+// Hands on all that waits behind a text, unless its sink failed: then no more is tried.
 fn flush_behind<W: Write>(
     sink: &mut OutMut<'_, W>,
     answer: Result<bool, SurveyFailure>,

@@ -12,9 +12,15 @@ Revision-number: 0\n\n\
 Revision-number: 1\n\n\
 Node-path: tags/one\nNode-kind: dir\nNode-action: add\nNode-copyfrom-rev: 0\nNode-copyfrom-path: trunk\n\n\n";
 
-const LINES: &[u8] =
+const KEEP_LINES: &[u8] =
     b"record 3, byte 71, r1: /tags/one is copied from /trunk at r0, which is not kept: fault 12\n\
-record 3, byte 71, r1: /tags/one is copied from /trunk at r0, which is not kept, and may lose its properties\n";
+record 3, byte 71, r1: /tags/one is copied from /trunk at r0, which is not kept, and may lose its properties\n\
+keep as well: /trunk\n";
+
+const LEAVE_OUT_LINES: &[u8] =
+    b"record 3, byte 71, r1: /tags/one is copied from /trunk at r0, which is not kept: fault 12\n\
+record 3, byte 71, r1: /tags/one is copied from /trunk at r0, which is not kept, and may lose its properties\n\
+leave out as well: /tags/one\n";
 
 // Fails at once, in reading and in writing.
 #[derive(Drop)]
@@ -67,7 +73,9 @@ fn assert_survey(
 fn the_status_says_whether_something_is_found(rt: HostRuntime) -> Result<(), Fail> {
     let alloc = rt.alloc();
     assert_survey(&rt, alloc, "svndumpsurvey include trunk tags", 0, b"", "")?;
-    assert_survey(&rt, alloc, "svndumpsurvey include tags", 1, LINES, "")?;
+    assert_survey(&rt, alloc, "svndumpsurvey include tags", 1, KEEP_LINES, "")?;
+    let line = "svndumpsurvey exclude trunk";
+    assert_survey(&rt, alloc, line, 1, LEAVE_OUT_LINES, "")?;
     let usage = "usage: svndumpsurvey include|exclude [OPTIONS] PREFIX...\n";
     assert_survey(&rt, alloc, "svndumpsurvey include", 2, b"", usage)
 }

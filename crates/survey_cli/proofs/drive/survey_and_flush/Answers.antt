@@ -1,22 +1,22 @@
 use Rattle.std.proofs.Common.{◌≡◌, List, [], ℕ, rules, subst}
 use Rattle.std.specs.Io.KnownBytes.{append_known}
 use Rattle.dump_writer.specs.steps.SinkStates.{lent_taken}
-use Rattle.survey_cli.specs.steps.Answered.{IsWritten}
+use Rattle.survey_cli.specs.steps.Answered.{Arrives}
 use Rattle.survey_cli.proofs.DriveLemmas.{arrives_behind, written_of}
 use Rattle.survey_cli.proofs.drive.survey_and_flush.Goals as goal
 
 pub returns-clause-arrives : goal.returns-clause-arrives
 returns-clause-arrives g c =
     let first = c.args.sink.now in
-    let behind = c.write_survey-answer.new.sink in
+    let behind = c.write_text-answer.new.sink in
     let last = c.flush_behind.new.sink in
-    let written : IsWritten c.args.options.now c.args.dump.now (append_known first.out.taken []) (lent_taken behind)
-    c.write_survey-answer.result =
-    subst (λ (w : List ℕ). IsWritten c.args.options.now c.args.dump.now (append_known first.out.taken w)
-    (lent_taken behind) c.write_survey-answer.result)
+    let written : Arrives c.args.options.now c.args.dump.now (append_known first.out.taken []) (lent_taken behind)
+    c.write_text-answer.result =
+    subst (λ (w : List ℕ). Arrives c.args.options.now c.args.dump.now (append_known first.out.taken w)
+    (lent_taken behind) c.write_text-answer.result)
     c.requires.waiting (written_of c.args.options.now c.args.dump.now (lent_taken first) (lent_taken behind)
-    c.write_survey-answer.result c.write_survey-answer.ensures.whole c.write_survey-answer.ensures.part) in
+    c.write_text-answer.result c.write_text-answer.ensures.whole c.write_text-answer.ensures.part) in
     let start : last.out.start ≡ first.out.taken = search rules in
-    arrives_behind c.args.options.now c.args.dump.now c.write_survey-answer.result c.flush_behind.result first.out.taken
+    arrives_behind c.args.options.now c.args.dump.now c.write_text-answer.result c.flush_behind.result first.out.taken
     (lent_taken behind) last written c.flush_behind.ensures.taken start c.flush_behind.ensures.told
     c.flush_behind.ensures.grown
