@@ -120,24 +120,17 @@ fn images_are_of_the_last_kept_revision(rt: HostRuntime) -> Result<(), Fail> {
     Ok(())
 }
 
-// Run with each allocation refused in turn: a revision is kept, or nothing has changed.
+// Run with each allocation refused in turn: a revision is kept, or nothing has changed, and the next one is.
 #[test]
 fn push_or_no_memory(rt: HostRuntime) {
     let mut reach = Reach::new(rt.alloc(), 5);
     for revision in 6..20u64 {
-        let kept = revision - 6;
-        match reach.push(revision) {
-            Ok(()) => {
-                assert!(rt; reach.count() == kept + 1);
-                assert_images(&rt, &reach, &[(revision, Some(5 + kept))]);
-            }
-            Err(_) => {
-                assert!(rt; reach.count() == kept);
-                let last = if kept == 0 { None } else { Some(4 + kept) };
-                assert_images(&rt, &reach, &[(revision, last)]);
-                return;
-            }
-        }
+        let kept = reach.count();
+        let last = reach.reach(revision);
+        let pushed = reach.push(revision).is_ok();
+        let image = if pushed { kept.checked_add(5) } else { last };
+        assert!(rt; reach.count().checked_sub(kept) == Some(u64::from(pushed)));
+        assert_images(&rt, &reach, &[(revision, image)]);
     }
 }
 
