@@ -61,7 +61,7 @@ fn input_that_comes_in_drops_is_read_whole(rt: HostRuntime) -> Result<(), Fail> 
         fails: false,
     };
     let input = read_all(rt.alloc(), &mut dripping, 4)?;
-    assert_eq!(rt; input.as_slice(), b"some text".as_slice());
+    assert!(rt; input.as_slice() == b"some text".as_slice());
     Ok(())
 }
 
@@ -89,7 +89,7 @@ fn a_line_has_the_counts_of_a_clean_run(rt: HostRuntime) -> Result<(), Fail> {
     write_report(&mut lines, report)?;
     let wanted =
         "revisions kept 2, dropped 0; nodes kept 3, dropped 1; texts checked 18446744073709551615\n";
-    assert_eq!(rt; lines.as_slice(), wanted.as_bytes());
+    assert!(rt; lines.as_slice() == wanted.as_bytes());
     Ok(())
 }
 
@@ -106,7 +106,7 @@ fn lines_tell_failures(rt: HostRuntime) {
     let wanted = "svndumpfilter: failure 20 Sink after 100 bytes\n\
         svndumpfilter: failure 21 Memory after 0 bytes\n\
         svndumpfilter: failure 22 Threads after 18446744073709551615 bytes\n";
-    assert_eq!(rt; lines.as_slice(), wanted.as_bytes());
+    assert!(rt; lines.as_slice() == wanted.as_bytes());
 }
 
 #[test]
@@ -118,7 +118,7 @@ fn lines_tell_what_else_ends_a_run(rt: HostRuntime) {
     let wanted = "svndumpfilter: fault 11 Sha1 in record 2 at byte 151\n\
         svndumpfilter: failure 24 Source after 0 bytes\n\
         usage: svndumpfilter include|exclude [OPTIONS] PREFIX...\n";
-    assert_eq!(rt; lines.as_slice(), wanted.as_bytes());
+    assert!(rt; lines.as_slice() == wanted.as_bytes());
 }
 
 // A terminal that is gone.

@@ -90,11 +90,11 @@ fn include_trunk(alloc: Global) -> Result<Options, Fail> {
 fn a_done_keeps_its_record_and_verdict(rt: HostRuntime) -> Result<(), Fail> {
     let options = include_trunk(rt.alloc())?;
     let done = Done::of(record(DUMP, UUID)?, &options);
-    assert_eq!(rt; done.verdict(), OK);
-    assert_eq!(rt; (done.item().number(), done.item().place()), (1, 31));
+    assert!(rt; done.verdict() == OK);
+    assert!(rt; (done.item().number(), done.item().place()) == (1, 31));
     let done = Done::of(record(DUMP, REVISION)?, &options);
-    assert_eq!(rt; done.verdict(), BAD_PROPERTIES);
-    assert_eq!(rt; (done.item().number(), done.item().place()), (2, 40));
+    assert!(rt; done.verdict() == BAD_PROPERTIES);
+    assert!(rt; (done.item().number(), done.item().place()) == (2, 40));
     Ok(())
 }
 
@@ -204,16 +204,8 @@ fn digests_are_those_of_the_text(rt: HostRuntime) -> Result<(), Fail> {
         ),
     ];
     for (digests, verdict) in rows {
-        assert_eq!(rt;
-            verdict_on_abc(rt.alloc(), "trunk/f", digests)?,
-            verdict,
-            "{digests}"
-        );
-        assert_eq!(rt;
-            verdict_on_abc(rt.alloc(), "other/f", digests)?,
-            OK,
-            "{digests}"
-        );
+        assert!(rt; verdict_on_abc(rt.alloc(), "trunk/f", digests)? == verdict, "{digests}");
+        assert!(rt; verdict_on_abc(rt.alloc(), "other/f", digests)? == OK, "{digests}");
     }
     Ok(())
 }
@@ -227,7 +219,7 @@ Text-content-md5: 900150983cd24fb0d6963f7d28e17f73\n";
 #[test]
 fn both_digests_are_told(rt: HostRuntime) -> Result<(), Fail> {
     let found = verdict_on_abc(rt.alloc(), "trunk/f", WRONG_DIGESTS)?;
-    assert_eq!(rt; found, BAD_DIGESTS);
+    assert!(rt; found == BAD_DIGESTS);
     Ok(())
 }
 
@@ -247,7 +239,7 @@ fn deltas_are_not_digested(rt: HostRuntime) -> Result<(), Fail> {
             let lines = format!(in alloc; "{delta}{digests}")?;
             let file = abc_file(alloc, "trunk/f", lines.as_str())?;
             let found = verdict_under(alloc, version, file.as_str())?;
-            assert_eq!(rt; found, verdict, "{version} {lines}");
+            assert!(rt; found == verdict, "{version} {lines}");
         }
     }
     Ok(())
@@ -265,7 +257,7 @@ SVN-fs-dump-format-version: 3\n\n{file}SVN-fs-dump-format-version: 2\n\n{file}"
     )?;
     for (number, verdict) in [(1, BAD_DIGESTS), (3, OK), (5, BAD_DIGESTS)] {
         let found = check(&record(dump.as_bytes(), number)?, &options);
-        assert_eq!(rt; found, verdict, "{number}");
+        assert!(rt; found == verdict, "{number}");
     }
     Ok(())
 }
@@ -274,13 +266,13 @@ SVN-fs-dump-format-version: 3\n\n{file}SVN-fs-dump-format-version: 2\n\n{file}"
 fn texts_have_a_length(rt: HostRuntime) -> Result<(), Fail> {
     let none = "Node-path: trunk/f\nNode-action: change\n\
 Text-content-md5: 900150983cd24fb0d6963f7d28e17f73\n\n\n";
-    assert_eq!(rt; verdict_on(rt.alloc(), none)?, OK);
+    assert!(rt; verdict_on(rt.alloc(), none)? == OK);
     let empty = "Node-path: trunk/f\nText-content-length: 0\n\
 Text-content-md5: d41d8cd98f00b204e9800998ecf8427e\nContent-length: 0\n\n\n\n";
-    assert_eq!(rt; verdict_on(rt.alloc(), empty)?, CHECKED);
+    assert!(rt; verdict_on(rt.alloc(), empty)? == CHECKED);
     let behind_properties = "Node-path: trunk/f\nProp-content-length: 10\nText-content-length: 3\n\
 Text-content-md5: 900150983cd24fb0d6963f7d28e17f72\nContent-length: 13\n\nPROPS-END\nabc\n\n";
-    assert_eq!(rt; verdict_on(rt.alloc(), behind_properties)?, CHECKED);
+    assert!(rt; verdict_on(rt.alloc(), behind_properties)? == CHECKED);
     Ok(())
 }
 
@@ -318,7 +310,7 @@ fn mergeinfo_of_kept_nodes_is_checked(rt: HostRuntime) -> Result<(), Fail> {
     ];
     for (header, first, second, end, verdict) in rows {
         let found = verdict_on_values(rt.alloc(), header, first, second, end)?;
-        assert_eq!(rt; found, verdict, "{header} {first} {second} {end}");
+        assert!(rt; found == verdict, "{header} {first} {second} {end}");
     }
     Ok(())
 }
@@ -350,10 +342,10 @@ fn nodes_under_version_three_may_delete_properties(rt: HostRuntime) -> Result<()
     for (version, header, verdict) in rows {
         let deleting = record_with_entries(alloc, header, "K 1\na\nV 1\nb\nD 1\nc\n")?;
         let found = verdict_under(alloc, version, deleting.as_str())?;
-        assert_eq!(rt; found, verdict, "{version} {header}");
+        assert!(rt; found == verdict, "{version} {header}");
         let setting = record_with_entries(alloc, header, "K 1\na\nV 1\nb\n")?;
         let found = verdict_under(alloc, version, setting.as_str())?;
-        assert_eq!(rt; found, OK, "{version} {header}");
+        assert!(rt; found == OK, "{version} {header}");
     }
     Ok(())
 }
@@ -377,11 +369,11 @@ fn deleted_mergeinfo_is_none(rt: HostRuntime) -> Result<(), Fail> {
         let node = record_with_entries(alloc, "Node-path: trunk", entries.as_str())?;
         let dump = format!(in alloc; "SVN-fs-dump-format-version: 3\n\n{node}")?;
         let done = Done::of(record(dump.as_bytes(), 1)?, &options);
-        assert_eq!(rt; done.verdict(), verdict, "{entries}");
-        assert_eq!(rt; done.has_mergeinfo(), has, "{entries}");
+        assert!(rt; done.verdict() == verdict, "{entries}");
+        assert!(rt; done.has_mergeinfo() == has, "{entries}");
         let props = done.props().ok_or("no properties")?;
         let entry = props.entries().next().ok_or("no entry")?;
-        assert_eq!(rt; is_mergeinfo(&entry), first_is, "{entries}");
+        assert!(rt; is_mergeinfo(&entry) == first_is, "{entries}");
     }
     Ok(())
 }

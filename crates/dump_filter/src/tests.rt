@@ -158,17 +158,17 @@ fn pass<'a>(
     let Cut::Item(record) = cutter.next() else {
         return Err(None);
     };
-    assert_eq!(rt; filter.expected(), record.number());
+    assert!(rt; filter.expected() == record.number());
     let done = Done::of(record, options);
     match filter.step(alloc, done) {
         Ok(piece) => {
-            assert_eq!(rt; out.add(&piece), Ok(()));
+            assert!(rt; out.add(&piece) == Ok(()));
             Ok(())
         }
         Err(fault) => {
-            assert_eq!(rt; filter.expected(), record.number());
+            assert!(rt; filter.expected() == record.number());
             let again = filter.step(alloc, done).err();
-            assert_eq!(rt; again, Some(StepFault::Closed));
+            assert!(rt; again == Some(StepFault::Closed));
             Err(Some(fault))
         }
     }
@@ -203,11 +203,11 @@ fn run<'a>(
     let mut filter = Filter::new(alloc, options);
     if let Err(Some(fault)) = pass_all(rt, alloc, dump, &mut filter, options, out) {
         let end = filter.finish(alloc).err();
-        assert_eq!(rt; end, Some(StepFault::Closed));
+        assert!(rt; end == Some(StepFault::Closed));
         return Err(fault);
     }
     let (piece, report) = filter.finish(alloc)?;
-    assert_eq!(rt; out.add(&piece), Ok(()));
+    assert!(rt; out.add(&piece) == Ok(()));
     Ok(report)
 }
 
@@ -217,8 +217,8 @@ fn assert_worked(rt: &impl Abort, alloc: Global, worked: &Worked<'_>) -> Result<
     let mut out = Written::new(alloc)?;
     let answer = run(rt, alloc, &dump, &options, &mut out);
     let written = joined(alloc, worked.written)?;
-    assert_eq!(rt; out.text.as_slice(), written.as_slice());
-    assert_eq!(rt; answer, Ok(report(worked.counts)));
+    assert!(rt; out.text.as_slice() == written.as_slice());
+    assert!(rt; answer == Ok(report(worked.counts)));
     Ok(())
 }
 
@@ -228,9 +228,9 @@ fn assert_refused(rt: &impl Abort, alloc: Global, refused: &Refused<'_>) -> Resu
     let mut out = Written::new(alloc)?;
     let answer = run(rt, alloc, &dump, &options, &mut out);
     let written = joined(alloc, refused.written)?;
-    assert_eq!(rt; answer, Err(StepFault::Rule(refused.kind)));
-    assert_eq!(rt; out.lengths.as_slice(), refused.lengths);
-    assert_eq!(rt; out.text.as_slice(), written.as_slice());
+    assert!(rt; answer == Err(StepFault::Rule(refused.kind)));
+    assert!(rt; out.lengths.as_slice() == refused.lengths);
+    assert!(rt; out.text.as_slice() == written.as_slice());
     Ok(())
 }
 

@@ -9,7 +9,7 @@ mod stopping;
 mod threads;
 
 use super::{LaneIn, LaneOut, Memory, Sent, Taken, lane};
-use std::alloc::AllocError;
+use std::alloc::{AllocError, Global};
 use std::sync::Wait;
 use std::test::*;
 use std::thread::{Threads, join};
@@ -19,13 +19,13 @@ fn two_items_and_the_end(rt: HostRuntime) -> Result<(), Fail> {
     let Ok((mut input, mut output)) = lane::<u32>(rt.alloc(), 2) else {
         return Err(AllocError.into());
     };
-    assert_eq!(rt; input.put(&rt, 1), Ok(()));
-    assert_eq!(rt; input.put(&rt, 2), Ok(()));
+    assert!(rt; input.put(&rt, 1).is_ok());
+    assert!(rt; input.put(&rt, 2).is_ok());
     let sent = input.close(&rt);
-    assert_eq!(rt; output.take(&rt), Taken::Item(1));
-    assert_eq!(rt; output.take(&rt), Taken::Item(2));
-    assert_eq!(rt; output.take(&rt), Taken::Closed);
-    assert_eq!(rt; output.take(&rt), Taken::Closed);
+    assert!(rt; output.take(&rt) == Taken::Item(1));
+    assert!(rt; output.take(&rt) == Taken::Item(2));
+    assert!(rt; output.take(&rt) == Taken::Closed);
+    assert!(rt; output.take(&rt) == Taken::Closed);
     output.settle(sent);
     Ok(())
 }
@@ -35,11 +35,11 @@ fn the_input_is_dropped(rt: HostRuntime) -> Result<(), Fail> {
     let Ok((mut input, mut output)) = lane::<u32>(rt.alloc(), 2) else {
         return Err(AllocError.into());
     };
-    assert_eq!(rt; input.put(&rt, 1), Ok(()));
+    assert!(rt; input.put(&rt, 1).is_ok());
     drop(input);
-    assert_eq!(rt; output.take(&rt), Taken::Item(1));
-    assert_eq!(rt; output.take(&rt), Taken::Lost);
-    assert_eq!(rt; output.take(&rt), Taken::Lost);
+    assert!(rt; output.take(&rt) == Taken::Item(1));
+    assert!(rt; output.take(&rt) == Taken::Lost);
+    assert!(rt; output.take(&rt) == Taken::Lost);
     Ok(())
 }
 
@@ -49,7 +49,7 @@ fn the_output_is_dropped(rt: HostRuntime) -> Result<(), Fail> {
         return Err(AllocError.into());
     };
     drop(output);
-    assert_eq!(rt; input.put(&rt, 1), Err(1));
+    assert!(rt; input.put(&rt, 1) == Err(1));
     Ok(())
 }
 
@@ -58,10 +58,33 @@ fn the_output_is_dropped(rt: HostRuntime) -> Result<(), Fail> {
 fn a_lane_or_no_memory(rt: HostRuntime) {
     match lane::<u32>(rt.alloc(), 4096) {
         Ok((mut input, mut output)) => {
-            assert_eq!(rt; input.put(&rt, 1), Ok(()));
-            assert_eq!(rt; output.take(&rt), Taken::Item(1));
+            let put = input.put(&rt, 1) == Ok(());
+            assert!(rt; put && output.take(&rt) == Taken::Item(1));
         }
-        Err(refused) => assert_eq!(rt; refused, Memory),
+        Err(refused) => assert!(rt; refused == Memory),
+    }
+}
+
+// Puts two items, and says whether both were taken.
+fn put_two<R: Wait>(rt: &R, alloc: Global, input: &mut LaneIn<String>) -> Result<bool, Fail> {
+    let first = String::from_str(alloc, "first")?;
+    let second = String::from_str(alloc, "second")?;
+    Ok(input.put(rt, first).is_ok() && input.put(rt, second).is_ok())
+}
+
+fn is_next<R: Wait>(rt: &R, output: &mut LaneOut<String>, wanted: &str) -> bool {
+    match output.take(rt) {
+        Taken::Item(text) => text.as_str() == wanted,
+        _ => false,
+    }
+}
+
+// Whether an item comes back.
+fn is_refused<R: Wait>(rt: &R, alloc: Global, input: &mut LaneIn<String>) -> Result<bool, Fail> {
+    let third = String::from_str(alloc, "third")?;
+    match input.put(rt, third) {
+        Err(back) => Ok(back.as_str() == "third"),
+        Ok(()) => Ok(false),
     }
 }
 
@@ -70,21 +93,12 @@ fn items_that_own_memory(rt: HostRuntime) -> Result<(), Fail> {
     let Ok((mut input, mut output)) = lane::<String>(rt.alloc(), 2) else {
         return Err(AllocError.into());
     };
-    let first = String::from_str(rt.alloc(), "first")?;
-    let second = String::from_str(rt.alloc(), "second")?;
-    assert!(rt; input.put(&rt, first).is_ok());
-    assert!(rt; input.put(&rt, second).is_ok());
-    let Taken::Item(text) = output.take(&rt) else {
-        return Err(AllocError.into());
-    };
-    assert_eq!(rt; text.as_str(), "first");
+    let put = put_two(&rt, rt.alloc(), &mut input)?;
+    let first = is_next(&rt, &mut output, "first");
     // The second is dropped with the lane.
     drop(output);
-    let third = String::from_str(rt.alloc(), "third")?;
-    let Err(back) = input.put(&rt, third) else {
-        return Err(AllocError.into());
-    };
-    assert_eq!(rt; back.as_str(), "third");
+    let refused = is_refused(&rt, rt.alloc(), &mut input)?;
+    assert!(rt; put && first && refused);
     Ok(())
 }
 

@@ -11,17 +11,14 @@ ghost use Rattle.dump_pipeline.specs.RunAnswer.{RunLeaves, SinkFailsOnly, Thread
 ghost use Rattle.dump_pipeline.specs.steps.Parts.{HasRun};
 
 use crate::answer::{Answer, Failure};
-use crate::cut::CutterEnds;
 use crate::gate::Gate;
 use crate::join::{Started, conclude, join_threads};
 use crate::make::{Ends, Given, make};
 use crate::message::Run;
 use crate::plan::Plan;
-use crate::sequence::SequencerEnds;
 use crate::threads::{Crew, start_cutter, start_sequencer, start_workers};
 use crate::words::Words;
 use crate::write::write;
-use dump_lanes::Ports;
 use dump_rules::Options;
 use dump_writer::Sink;
 use std::alloc::Global;
@@ -73,7 +70,7 @@ fn run_in<
 ) -> Held<'b, S>
     requires dump { task.dump.now ≡ D.dump }
     requires options { task.options.now ≡ D.settings }
-    requires words { (ends.cuts.word ≡ words.now.stop) × (ends.shut.word ≡ words.now.shut) }
+    requires words { (ends.cutter.seat.word ≡ words.now.stop) × (ends.cutter.shut.word ≡ words.now.shut) }
     ensures same { result.sink.ghost_name ≡ held.entry.sink.ghost_name }
     ensures through { S.through result.sink.now ≡ S.through held.entry.sink.now }
     ensures ran { HasRun D.settings D.dump (S.taken held.entry.sink.now) (S.taken result.sink.now) (S.failure_count held.entry.sink.now) (S.failure_count result.sink.now) result.answer }
@@ -81,37 +78,21 @@ fn run_in<
     let Held { sink, answer: _ } = held;
     let Ends {
         pool: _,
-        ports,
-        slots,
-        to,
-        from,
-        cuts,
-        sequences,
-        writes,
-        shut,
-        mut shuts,
-        workers: room,
-        ended,
-    } = ends;
-    let Ports {
         cutter,
         workers,
         sequencer,
         writer,
-    } = ports;
+        mut shuts,
+        room,
+        ended,
+    } = ends;
     let Task {
         dump,
         options,
         gate,
     } = task;
     let answer = REFUSED;
-    let sequencer_ends = SequencerEnds {
-        port: sequencer,
-        slots,
-        to,
-        seat: sequences,
-    };
-    let Some(sequencer) = start_sequencer(scope, rt, alloc, options, words, sequencer_ends) else {
+    let Some(sequencer) = start_sequencer(scope, rt, alloc, options, words, sequencer) else {
         return Held { sink, answer };
     };
     let Some(Crew { workers, cutter }) = start_workers(
@@ -119,15 +100,10 @@ fn run_in<
     ) else {
         return Held { sink, answer };
     };
-    let cutter_ends = CutterEnds {
-        port: cutter,
-        seat: cuts,
-        shut,
-    };
-    let Some(cutter) = start_cutter(scope, rt, dump, words, cutter_ends, &mut shuts) else {
+    let Some(cutter) = start_cutter(scope, rt, dump, words, cutter, &mut shuts) else {
         return Held { sink, answer };
     };
-    let written = write(rt, writer, from, &words.stop, writes, sink);
+    let written = write(rt, writer, &words.stop, sink);
     let started = Started {
         sequencer,
         workers,
@@ -150,7 +126,7 @@ fn run_scoped<'s, 'a, 'b, D: Run + Send + Sync, S: Sink, G: Gate, R: Threads + W
 ) -> Held<'b, S>
     requires dump { task.dump.now ≡ D.dump }
     requires options { task.options.now ≡ D.settings }
-    requires words { (ends.cuts.word ≡ words.now.stop) × (ends.shut.word ≡ words.now.shut) }
+    requires words { (ends.cutter.seat.word ≡ words.now.stop) × (ends.cutter.shut.word ≡ words.now.shut) }
     ensures same { result.sink.ghost_name ≡ held.entry.sink.ghost_name }
     ensures through { S.through result.sink.now ≡ S.through held.entry.sink.now }
     ensures ran { HasRun D.settings D.dump (S.taken held.entry.sink.now) (S.taken result.sink.now) (S.failure_count held.entry.sink.now) (S.failure_count result.sink.now) result.answer }
@@ -161,7 +137,7 @@ fn run_scoped<'s, 'a, 'b, D: Run + Send + Sync, S: Sink, G: Gate, R: Threads + W
         move |scope| -> Held<S>
             requires dump { task.dump.now ≡ D.dump }
             requires options { task.options.now ≡ D.settings }
-            requires words { (ends.cuts.word ≡ words.now.stop) × (ends.shut.word ≡ words.now.shut) }
+            requires words { (ends.cutter.seat.word ≡ words.now.stop) × (ends.cutter.shut.word ≡ words.now.shut) }
             ensures same { result.sink.ghost_name ≡ held.entry.sink.ghost_name }
             ensures through { S.through result.sink.now ≡ S.through held.entry.sink.now }
             ensures ran { HasRun D.settings D.dump (S.taken held.entry.sink.now) (S.taken result.sink.now) (S.failure_count held.entry.sink.now) (S.failure_count result.sink.now) result.answer }

@@ -3,7 +3,7 @@ ghost use Rattle.std.specs.Prelude.{◌≡◌, ◌≤◌, length, map, All, IfSo
 ghost use Rattle.dump_lanes.specs.steps.PortViews.{job_port, worker_port};
 ghost use Rattle.dump_pipeline.specs.steps.Parts.{HasCutFrom, HasSequencedFrom, HasWorked, HasWorkedFrom, IsFreshCutter, IsFreshSequencer, IsFreshWorker};
 
-use crate::cut::{CutterPort, Cutting, cut};
+use crate::cut::{Cutting, cut};
 use crate::gate::Gate;
 use crate::message::{Checked, Job, NumberedPiece, Run};
 use crate::sequence::{Sequenced, Sequencing, sequence};
@@ -81,11 +81,11 @@ fn start_worker<'s, 'a: 's, E: 's, D: Run + Send + Sync + 's, G: Gate + 's, R: W
     options: &'a Options,
     gate: &'s G,
     port: CheckerPort<'a, D>,
-    cutter: &mut Option<CutterPort<'a, D>>,
+    cutter: &mut Option<Cutting<'a, D>>,
 ) -> Option<WorkerThread<'a, D>>
     requires options { options.now ≡ D.settings }
     requires fresh { IsFreshWorker port }
-    requires cutter { IfSome cutter.old (λ p. (job_port p).marks ≡ 0) }
+    requires cutter { IfSome cutter.old (λ ends. (job_port ends.port).marks ≡ 0) }
     ensures port { IfSome result (λ h. h.promise.port.value ≡ port.entry) }
     ensures same { OnSome result (cutter.new ≡ cutter.old) }
     ensures refused { IfNone result (IsNone cutter.new) }
@@ -104,7 +104,7 @@ fn start_worker<'s, 'a: 's, E: 's, D: Run + Send + Sync + 's, G: Gate + 's, R: W
         Ok(thread) => Some(thread),
         Err(refused) => {
             if let Some(mut cutter) = cutter.take() {
-                cutter.close(rt);
+                cutter.port.close(rt);
             }
             (refused.value)();
             None
@@ -112,11 +112,11 @@ fn start_worker<'s, 'a: 's, E: 's, D: Run + Send + Sync + 's, G: Gate + 's, R: W
     }
 }
 
-/// The workers that were started, and the cutter's port.
+/// The workers that were started, and the cutter's ends.
 #[derive(Drop)]
 pub struct Crew<'a, D: Run> {
     pub workers: Vec<WorkerThread<'a, D>>,
-    pub cutter: CutterPort<'a, D>,
+    pub cutter: Cutting<'a, D>,
 }
 
 /// Starts the workers' threads. Where one is refused all end.
@@ -134,12 +134,12 @@ pub fn start_workers<
     gate: &'s G,
     ports: Vec<CheckerPort<'a, D>>,
     room: Vec<WorkerThread<'a, D>>,
-    cutter: CutterPort<'a, D>,
+    cutter: Cutting<'a, D>,
 ) -> Option<Crew<'a, D>>
     requires options { options.now ≡ D.settings }
     requires fresh { All (λ p. IsFreshWorker p) ports.items }
     requires room { (length room.items ≡ 0) × (length ports.items ≤ vec_capacity room) }
-    requires cutter { (job_port cutter).marks ≡ 0 }
+    requires cutter { (job_port cutter.port).marks ≡ 0 }
     ensures cutter { IfSome result (λ crew. crew.cutter ≡ cutter.entry) }
     ensures pool { IfSome result (λ crew. map (λ h. (worker_port h.promise.port.value).pool) crew.workers.items ≡ map (λ p. (worker_port p).pool) ports.entry.items) }
     ensures index { IfSome result (λ crew. map (λ h. (worker_port h.promise.port.value).index) crew.workers.items ≡ map (λ p. (worker_port p).index) ports.entry.items) }

@@ -15,6 +15,17 @@ use std::sync::Wait;
 /// The writer's port.
 pub type WriterPort<'a, D> = CreditPort<Job<'a, D>, Checked<'a, D>>;
 
+/// The writer's ends: its port, the lane from the sequencer, and its seat at the stop.
+#[derive(Drop)]
+pub struct WriterEnds<J: Drop, D: Drop, T: Drop> {
+    pub port: CreditPort<J, D>,
+    pub from: LaneOut<T>,
+    pub seat: StopSeat,
+}
+
+/// The ends that a run's writer is given.
+pub type Writing<'a, D> = WriterEnds<Job<'a, D>, Checked<'a, D>, NumberedPiece<'a>>;
+
 /// What the writer gives back.
 #[derive(Drop)]
 pub struct Written<J: Drop, D: Drop, T: Drop> {
@@ -60,26 +71,29 @@ fn write_one<S: Sink>(
 /// Writes the pieces, up to the first that isn't taken whole, and gives back each credit.
 pub fn write<'a, D: Run, S: Sink, R: Wait>(
     rt: &R,
-    mut port: WriterPort<'a, D>,
-    mut from: LaneOut<NumberedPiece<'a>>,
+    ends: Writing<'a, D>,
     word: &StopWord,
-    mut seat: StopSeat,
     sink: &mut S,
 ) -> Written<Job<'a, D>, Checked<'a, D>, NumberedPiece<'a>>
-    requires nothing_back { (credit_port port).back ≡ 0 }
-    requires nothing_taken { (receiving from).taken ≡ [] }
-    requires this_word { seat.word ≡ word.now }
-    requires unraised { seat.raised ≡ false }
-    ensures pool { (credit_port result.port).pool ≡ (credit_port port.entry).pool }
-    ensures window { (credit_port result.port).window ≡ (credit_port port.entry).window }
+    requires nothing_back { (credit_port ends.port).back ≡ 0 }
+    requires nothing_taken { (receiving ends.from).taken ≡ [] }
+    requires this_word { ends.seat.word ≡ word.now }
+    requires unraised { ends.seat.raised ≡ false }
+    ensures pool { (credit_port result.port).pool ≡ (credit_port ends.entry.port).pool }
+    ensures window { (credit_port result.port).window ≡ (credit_port ends.entry.port).window }
     ensures back { (credit_port result.port).back ≡ length (receiving result.from).taken }
-    ensures lane { (receiving result.from).lane ≡ (receiving from.entry).lane }
+    ensures lane { (receiving result.from).lane ≡ (receiving ends.entry.from).lane }
     ensures told { (receiving result.from).told ≡ LaneEnd.Ended }
-    ensures seat { result.seat ≡ record seat { raised = result.failed } }
+    ensures seat { result.seat ≡ record ends.entry.seat { raised = result.failed } }
     ensures text { HasReceived result.failed (text_of (receiving result.from).taken) (S.taken sink.old) (S.taken sink.new) result.count }
     ensures failures { CountsFailed result.failed (S.failure_count sink.old) (S.failure_count sink.new) }
     ensures through { S.through sink.new ≡ S.through sink.old }
 {
+    let WriterEnds {
+        mut port,
+        mut from,
+        mut seat,
+    } = ends;
     let mut failed = false;
     let mut count = 0u64;
     for _ in rt.forever() {

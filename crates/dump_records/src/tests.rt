@@ -3,7 +3,6 @@ use crate::laws::{each_dump_has_one_list, no_record_begins_another};
 use crate::{Cut, Cutter, Record, RecordKind, RecordPart};
 use dump_text::FaultKind;
 use std::alloc::Global;
-use std::process::Abort;
 use std::test::Fail;
 
 const VERSION: &[u8] = b"SVN-fs-dump-format-version: 2\n\n";
@@ -56,10 +55,21 @@ fn next_record<'a>(cutter: &mut Cutter<'a>) -> Result<Record<'a>, Fail> {
     }
 }
 
+// Whether so many records are cut, and then this is told again and again.
+fn ends_behind(dump: &[u8], count: u64, end: Seen) -> bool {
+    let mut cutter = Cutter::new(dump);
+    for number in 0..count {
+        if seen_in(cutter.next()) != Seen::Item(number) {
+            return false;
+        }
+    }
+    seen_in(cutter.next()) == end && seen_in(cutter.next()) == end
+}
+
 #[test]
 fn the_end_is_told_again(rt: HostRuntime) -> Result<(), Fail> {
     let all = joined(rt.alloc(), &[VERSION, UUID, REVISION])?;
-    assert_eq!(rt; all.len(), 195);
+    assert!(rt; all.len() == 195);
     let whole = all.get(..194).ok_or("too short")?;
     let short = all.get(..193).ok_or("too short")?;
     let cut = all.get(..80).ok_or("too short")?;
@@ -73,13 +83,7 @@ fn the_end_is_told_again(rt: HostRuntime) -> Result<(), Fail> {
         (cut, 2, Seen::Fault(FaultKind::HeaderCut, 75)),
     ];
     for (dump, count, end) in rows {
-        let mut cutter = Cutter::new(dump);
-        for number in 0..count {
-            assert_eq!(rt; seen_in(cutter.next()), Seen::Item(number), "{dump:?}");
-        }
-        for _ in 0..2 {
-            assert_eq!(rt; seen_in(cutter.next()), end, "{dump:?}");
-        }
+        assert!(rt; ends_behind(dump, count, end), "{dump:?}");
     }
     Ok(())
 }
@@ -87,9 +91,15 @@ fn the_end_is_told_again(rt: HostRuntime) -> Result<(), Fail> {
 #[test]
 fn the_first_record_is_a_version_record(rt: HostRuntime) {
     for dump in [UUID, REVISION] {
-        let first = seen_in(Cutter::new(dump).next());
-        assert_eq!(rt; first, Seen::Fault(FaultKind::Version, 0), "{dump:?}");
+        assert!(rt; ends_behind(dump, 0, Seen::Fault(FaultKind::Version, 0)), "{dump:?}");
     }
+}
+
+// Whether the bytes from a part are lent, with one LF behind them and not with two.
+fn is_lent(record: &Record<'_>, part: RecordPart, bytes: &[u8], with: &[u8]) -> bool {
+    record.bytes_from(part) == bytes
+        && record.bytes_from_with(part, b"\n") == Some(with)
+        && record.bytes_from_with(part, b"\n\n").is_none()
 }
 
 #[test]
@@ -99,8 +109,7 @@ fn the_bytes_from_a_part_are_lent_with_what_stands_behind(rt: HostRuntime) -> Re
     let props = b"PROPS-END\n".as_slice();
     let dump = joined(alloc, &[VERSION, block, props, b"\n"])?;
     let mut cutter = Cutter::new(&dump);
-    let version = next_record(&mut cutter)?;
-    assert_eq!(rt; version.bytes_from(RecordPart::Block), VERSION);
+    assert!(rt; next_record(&mut cutter)?.bytes_from(RecordPart::Block) == VERSION);
     let revision = next_record(&mut cutter)?;
     let (alone, followed) = (
         joined(alloc, &[block, props])?,
@@ -111,9 +120,7 @@ fn the_bytes_from_a_part_are_lent_with_what_stands_behind(rt: HostRuntime) -> Re
         (RecordPart::Properties, props, b"PROPS-END\n\n"),
         (RecordPart::Text, b"", b"\n"),
     ] {
-        assert_eq!(rt; revision.bytes_from(part), bytes);
-        assert_eq!(rt; revision.bytes_from_with(part, b"\n"), Some(with));
-        assert_eq!(rt; revision.bytes_from_with(part, b"\n\n"), None);
+        assert!(rt; is_lent(&revision, part, bytes, with));
     }
     Ok(())
 }
@@ -122,19 +129,28 @@ fn the_bytes_from_a_part_are_lent_with_what_stands_behind(rt: HostRuntime) -> Re
 fn no_version_but_two_and_three_is_read(rt: HostRuntime) -> Result<(), Fail> {
     for first in [VERSION, VERSION_THREE] {
         let dump = joined(rt.alloc(), &[first, VERSION_FOUR])?;
-        let mut cutter = Cutter::new(&dump);
-        assert_eq!(rt; seen_in(cutter.next()), Seen::Item(0));
-        assert_eq!(rt; seen_in(cutter.next()), Seen::Fault(FaultKind::Version, 31));
+        assert!(rt; ends_behind(&dump, 1, Seen::Fault(FaultKind::Version, 31)));
     }
     for dump in [
         VERSION_FOUR,
         b"SVN-fs-dump-format-version: 1\n\n",
         b"SVN-fs-dump-format-version: x\n\n",
     ] {
-        let first = seen_in(Cutter::new(dump).next());
-        assert_eq!(rt; first, Seen::Fault(FaultKind::Version, 0), "{dump:?}");
+        assert!(rt; ends_behind(dump, 0, Seen::Fault(FaultKind::Version, 0)), "{dump:?}");
     }
     Ok(())
+}
+
+// Whether the records of a dump stand under these versions.
+fn are_in_force(dump: &[u8], versions: [u64; 8]) -> bool {
+    let mut cutter = Cutter::new(dump);
+    for version in versions {
+        match cutter.next() {
+            Cut::Item(record) if record.version() == version => {}
+            _ => return false,
+        }
+    }
+    seen_in(cutter.next()) == Seen::Finished
 }
 
 #[test]
@@ -150,11 +166,7 @@ fn the_last_version_up_to_a_record_is_in_force(rt: HostRuntime) -> Result<(), Fa
         NODE,
     ];
     let dump = joined(rt.alloc(), &parts)?;
-    let mut cutter = Cutter::new(&dump);
-    for version in [2, 2, 2, 3, 3, 3, 2, 2] {
-        assert_eq!(rt; next_record(&mut cutter)?.version(), version);
-    }
-    assert_eq!(rt; seen_in(cutter.next()), Seen::Finished);
+    assert!(rt; are_in_force(&dump, [2, 2, 2, 3, 3, 3, 2, 2]));
     Ok(())
 }
 
@@ -197,11 +209,7 @@ fn only_a_node_under_version_three_has_a_delta(rt: HostRuntime) -> Result<(), Fa
         ),
     ];
     for (version, lines, deltas) in rows {
-        assert_eq!(rt;
-            deltas_behind(alloc, version, lines)?,
-            deltas,
-            "{version:?} {lines:?}"
-        );
+        assert!(rt; deltas_behind(alloc, version, lines)? == deltas, "{version:?} {lines:?}");
     }
     Ok(())
 }
@@ -234,56 +242,53 @@ fn header_lines_that_break_a_rule_are_a_fault(rt: HostRuntime) -> Result<(), Fai
     ];
     for (block, kind) in rows {
         let dump = joined(rt.alloc(), &[VERSION, block])?;
-        let mut cutter = Cutter::new(&dump);
-        assert_eq!(rt; seen_in(cutter.next()), Seen::Item(0));
-        assert_eq!(rt; seen_in(cutter.next()), Seen::Fault(kind, 31), "{block:?}");
+        assert!(rt; ends_behind(&dump, 1, Seen::Fault(kind, 31)), "{block:?}");
     }
     Ok(())
 }
 
-// Its kind, its number, its place and the place behind it.
-fn assert_placed(
-    rt: &impl Abort,
-    item: &Record<'_>,
-    kind: RecordKind,
-    places: (u64, usize, usize),
-) {
-    assert_eq!(rt; item.kind(), kind);
-    assert_eq!(rt; (item.number(), item.place(), item.after()), places);
+// Whether a record has this kind, number, place and place behind it.
+fn is_placed(item: &Record<'_>, kind: RecordKind, places: (u64, usize, usize)) -> bool {
+    item.kind() == kind && (item.number(), item.place(), item.after()) == places
 }
 
-fn assert_has_no_copy(rt: &impl Abort, revision: &Record<'_>) {
-    assert_eq!(rt; revision.path(), None);
-    assert_eq!(rt; revision.copy_path(), None);
-    assert_eq!(rt; revision.copy_revision(), None);
+fn has_no_copy(revision: &Record<'_>) -> bool {
+    revision.path().is_none()
+        && revision.copy_path().is_none()
+        && revision.copy_revision().is_none()
 }
 
-fn assert_has_only_properties(rt: &impl Abort, revision: &Record<'_>) {
-    assert_eq!(rt; (revision.has_props(), revision.has_text()), (true, false));
-    assert_eq!(rt; revision.props(), Some(b"PROPS-END\n".as_slice()));
-    assert_eq!(rt; revision.text(), None);
-    assert_eq!(rt; revision.property_bytes(), b"PROPS-END\n".as_slice());
-    assert_eq!(rt; revision.text_bytes(), b"".as_slice());
+fn has_only_properties(revision: &Record<'_>) -> bool {
+    let props = b"PROPS-END\n".as_slice();
+    revision.has_props()
+        && !revision.has_text()
+        && revision.props() == Some(props)
+        && revision.text().is_none()
+        && revision.property_bytes() == props
+        && revision.text_bytes().is_empty()
 }
 
-fn assert_is_copied(rt: &impl Abort, node: &Record<'_>) {
-    assert_eq!(rt; node.path(), Some(b"trunk/f".as_slice()));
-    assert_eq!(rt; node.copy_path(), Some(b"other/f".as_slice()));
-    assert_eq!(rt; node.copy_revision(), Some(3));
-    assert_eq!(rt; node.revision(), None);
+fn is_copied(node: &Record<'_>) -> bool {
+    node.path() == Some(b"trunk/f".as_slice())
+        && node.copy_path() == Some(b"other/f".as_slice())
+        && node.copy_revision() == Some(3)
+        && node.revision().is_none()
 }
 
-fn assert_has_only_text(rt: &impl Abort, node: &Record<'_>) {
-    assert_eq!(rt; (node.has_props(), node.has_text()), (false, true));
-    assert_eq!(rt; node.props(), None);
-    assert_eq!(rt; node.text(), Some(b"abc".as_slice()));
-    assert_eq!(rt; node.property_bytes(), b"".as_slice());
-    assert_eq!(rt; node.text_bytes(), b"abc".as_slice());
+fn has_only_text(node: &Record<'_>) -> bool {
+    let text = b"abc".as_slice();
+    !node.has_props()
+        && node.has_text()
+        && node.props().is_none()
+        && node.text() == Some(text)
+        && node.property_bytes().is_empty()
+        && node.text_bytes() == text
 }
 
-fn assert_has_block(rt: &impl Abort, node: &Record<'_>) {
-    assert_eq!(rt; (node.block().place(), node.block().after()), (176, 319));
-    assert_eq!(rt; node.block().get(b"Node-kind"), Some(b"file".as_slice()));
+fn has_block(node: &Record<'_>) -> bool {
+    let block = node.block();
+    (block.place(), block.after()) == (176, 319)
+        && block.get(b"Node-kind") == Some(b"file".as_slice())
 }
 
 #[test]
@@ -291,22 +296,19 @@ fn records_are_read(rt: HostRuntime) -> Result<(), Fail> {
     let dump = joined(rt.alloc(), &[VERSION, UUID, COPYING_REVISION, NODE])?;
     let mut cutter = Cutter::new(&dump);
     let version = next_record(&mut cutter)?;
-    assert_placed(&rt, &version, RecordKind::Version, (0, 0, 31));
+    assert!(rt; is_placed(&version, RecordKind::Version, (0, 0, 31)));
     let uuid = next_record(&mut cutter)?;
-    assert_placed(&rt, &uuid, RecordKind::Uuid, (1, 31, 75));
+    assert!(rt; is_placed(&uuid, RecordKind::Uuid, (1, 31, 75)));
 
     let revision = next_record(&mut cutter)?;
-    assert_placed(&rt, &revision, RecordKind::Revision, (2, 75, 176));
-    assert_eq!(rt; revision.revision(), Some(4));
-    assert_has_only_properties(&rt, &revision);
-    assert_has_no_copy(&rt, &revision);
+    let placed = is_placed(&revision, RecordKind::Revision, (2, 75, 176));
+    assert!(rt; placed && revision.revision() == Some(4));
+    assert!(rt; has_only_properties(&revision) && has_no_copy(&revision));
 
     let node = next_record(&mut cutter)?;
-    assert_placed(&rt, &node, RecordKind::Node, (3, 176, 322));
-    assert_has_block(&rt, &node);
-    assert_is_copied(&rt, &node);
-    assert_has_only_text(&rt, &node);
-    assert_eq!(rt; seen_in(cutter.next()), Seen::Finished);
+    assert!(rt; is_placed(&node, RecordKind::Node, (3, 176, 322)) && has_block(&node));
+    assert!(rt; is_copied(&node) && has_only_text(&node));
+    assert!(rt; seen_in(cutter.next()) == Seen::Finished);
     Ok(())
 }
 
@@ -317,18 +319,13 @@ fn what_the_lines_of_a_node_say_is_read(rt: HostRuntime) -> Result<(), Fail> {
     let folder = b"Node-path: d\nNode-kind: dir\n\n";
     let dump = joined(rt.alloc(), &[VERSION, file, folder])?;
     let mut cutter = Cutter::new(&dump);
-    assert_eq!(rt; seen_in(cutter.next()), Seen::Item(0));
-
-    let file = next_record(&mut cutter)?;
-    assert!(rt; file.is_file());
+    next_record(&mut cutter)?;
     let md5 = b"900150983cd24fb0d6963f7d28e17f72".as_slice();
-    assert_eq!(rt; file.md5(), Some(md5));
     let sha1 = b"a9993e364706816aba3e25717850c26c9cd0d89d".as_slice();
-    assert_eq!(rt; file.sha1(), Some(sha1));
-
+    let file = next_record(&mut cutter)?;
+    assert!(rt; file.is_file() && file.md5() == Some(md5) && file.sha1() == Some(sha1));
     let folder = next_record(&mut cutter)?;
-    assert!(rt; !folder.is_file());
-    assert_eq!(rt; (folder.md5(), folder.sha1()), (None, None));
+    assert!(rt; !folder.is_file() && folder.md5().is_none() && folder.sha1().is_none());
     Ok(())
 }
 
@@ -370,7 +367,7 @@ fn a_block_is_written_as_it_stands(rt: HostRuntime) -> Result<(), Fail> {
         (b"Revision-number: 01\n", b"", false),
     ];
     for (lines, content, written) in rows {
-        assert_eq!(rt; is_written(alloc, lines, content)?, written);
+        assert!(rt; is_written(alloc, lines, content)? == written);
     }
     Ok(())
 }

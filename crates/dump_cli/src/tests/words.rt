@@ -209,7 +209,7 @@ fn behind_two_minus_signs_stand_prefixes(rt: HostRuntime) -> Result<(), Fail> {
 fn assert_refused<'a>(rt: &impl Abort, alloc: Global, words: &'a [&'a str], usage: Usage) {
     match options_of(alloc, words) {
         Ok(_) => panic!(rt; "{words:?} is an order"),
-        Err(found) => assert_eq!(rt; found, usage, "in {words:?}"),
+        Err(found) => assert!(rt; found == usage, "in {words:?}"),
     }
 }
 
@@ -302,13 +302,10 @@ fn an_order_or_no_memory(rt: HostRuntime) {
     ];
     match options_of(rt.alloc(), &words) {
         Ok(order) => {
-            assert_eq!(rt; order.options.side(), Side::Exclude);
-            assert_eq!(rt; order.options.prefix(1), Some(b"b".as_slice()));
-            assert_eq!(rt;
-                (order.plan.workers(), order.plan.window(), order.quiet),
-                (2, 64, true)
-            );
+            assert!(rt; order.options.side() == Side::Exclude);
+            assert!(rt; order.options.prefix(1) == Some(b"b".as_slice()));
+            assert!(rt; (order.plan.workers(), order.plan.window(), order.quiet) == (2, 64, true));
         }
-        Err(usage) => assert_eq!(rt; usage, Usage::Memory),
+        Err(usage) => assert!(rt; usage == Usage::Memory),
     }
 }

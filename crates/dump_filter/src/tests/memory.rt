@@ -28,11 +28,11 @@ fn assert_whole_or_closed(rt: &impl Abort, alloc: Global, worked: &Worked<'_>) {
     };
     match run(rt, alloc, &dump, &options, &mut out) {
         Ok(counted) => {
-            assert_eq!(rt; counted, report(worked.counts));
-            assert_eq!(rt; out.text.as_slice(), written.as_slice());
+            assert!(rt; counted == report(worked.counts));
+            assert!(rt; out.text.as_slice() == written.as_slice());
         }
         Err(fault) => {
-            assert_eq!(rt; fault, StepFault::Memory);
+            assert!(rt; fault == StepFault::Memory);
             assert!(rt; written.as_slice().starts_with(out.text.as_slice()));
         }
     }

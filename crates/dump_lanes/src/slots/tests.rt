@@ -1,22 +1,29 @@
 use super::Slots;
 use crate::ends::Memory;
-use std::alloc::AllocError;
+use std::alloc::{AllocError, Global};
 use std::test::*;
+
+// Whether three items pass through two places.
+fn pass_through(slots: &mut Slots<u32>) -> bool {
+    let front = slots.place(0, 10) == Ok(()) && slots.place(2, 12) == Err(12);
+    let first = slots.place(1, 11) == Ok(()) && slots.lift(0) == Some(10);
+    let gone = slots.lift(0).is_none() && slots.place(2, 12) == Ok(());
+    front && first && gone && slots.lift(1) == Some(11) && slots.lift(2) == Some(12)
+}
 
 #[test]
 fn three_items_in_two_places(rt: HostRuntime) -> Result<(), Fail> {
     let Ok(mut slots) = Slots::<u32>::new(rt.alloc(), 2) else {
         return Err(AllocError.into());
     };
-    assert_eq!(rt; slots.place(0, 10), Ok(()));
-    assert_eq!(rt; slots.place(2, 12), Err(12));
-    assert_eq!(rt; slots.place(1, 11), Ok(()));
-    assert_eq!(rt; slots.lift(0), Some(10));
-    assert_eq!(rt; slots.lift(0), None);
-    assert_eq!(rt; slots.place(2, 12), Ok(()));
-    assert_eq!(rt; slots.lift(1), Some(11));
-    assert_eq!(rt; slots.lift(2), Some(12));
+    assert!(rt; pass_through(&mut slots));
     Ok(())
+}
+
+// Whether two items of the greatest numbers pass through one place.
+fn pass_alone(slots: &mut Slots<u32>) -> bool {
+    let first = slots.place(u64::MAX, 1) == Ok(()) && slots.place(u64::MAX - 1, 2) == Err(2);
+    first && slots.lift(0) == Some(1) && slots.place(u64::MAX - 1, 2) == Ok(())
 }
 
 #[test]
@@ -24,11 +31,19 @@ fn the_greatest_numbers_and_one_place(rt: HostRuntime) -> Result<(), Fail> {
     let Ok(mut slots) = Slots::<u32>::new(rt.alloc(), 1) else {
         return Err(AllocError.into());
     };
-    assert_eq!(rt; slots.place(u64::MAX, 1), Ok(()));
-    assert_eq!(rt; slots.place(u64::MAX - 1, 2), Err(2));
-    assert_eq!(rt; slots.lift(0), Some(1));
-    assert_eq!(rt; slots.place(u64::MAX - 1, 2), Ok(()));
+    assert!(rt; pass_alone(&mut slots));
     Ok(())
+}
+
+// Places two items of which the second is out of place at first, and says whether it came back then.
+fn place_two(slots: &mut Slots<String>, alloc: Global) -> Result<bool, Fail> {
+    let first = String::from_str(alloc, "first")?;
+    let second = String::from_str(alloc, "second")?;
+    let placed = slots.place(7, first).is_ok();
+    match slots.place(9, second) {
+        Err(back) => Ok(placed && back.as_str() == "second" && slots.place(8, back).is_ok()),
+        Ok(()) => Ok(false),
+    }
 }
 
 #[test]
@@ -36,19 +51,13 @@ fn items_that_own_memory(rt: HostRuntime) -> Result<(), Fail> {
     let Ok(mut slots) = Slots::<String>::new(rt.alloc(), 2) else {
         return Err(AllocError.into());
     };
-    let first = String::from_str(rt.alloc(), "first")?;
-    let second = String::from_str(rt.alloc(), "second")?;
-    assert!(rt; slots.place(7, first).is_ok());
-    let Err(back) = slots.place(9, second) else {
-        return Err(AllocError.into());
-    };
-    assert_eq!(rt; back.as_str(), "second");
+    let placed = place_two(&mut slots, rt.alloc())?;
     // The second is dropped with the row.
-    assert!(rt; slots.place(8, back).is_ok());
-    let Some(text) = slots.lift(7) else {
-        return Err(AllocError.into());
+    let lifted = match slots.lift(7) {
+        Some(text) => text.as_str() == "first",
+        None => false,
     };
-    assert_eq!(rt; text.as_str(), "first");
+    assert!(rt; placed && lifted);
     Ok(())
 }
 
@@ -57,9 +66,9 @@ fn items_that_own_memory(rt: HostRuntime) -> Result<(), Fail> {
 fn a_row_or_no_memory(rt: HostRuntime) {
     match Slots::<u32>::new(rt.alloc(), 4096) {
         Ok(mut slots) => {
-            assert_eq!(rt; slots.place(5000, 1), Ok(()));
-            assert_eq!(rt; slots.lift(5000), Some(1));
+            let placed = slots.place(5000, 1) == Ok(());
+            assert!(rt; placed && slots.lift(5000) == Some(1));
         }
-        Err(refused) => assert_eq!(rt; refused, Memory),
+        Err(refused) => assert!(rt; refused == Memory),
     }
 }

@@ -20,12 +20,9 @@ fn draw_twice<R: Wait>(
     requires open { (job_port port).marks ≡ 0 }
     requires seat { seat.word ≡ word.now }
 {
-    let Drawn::Credit(_) = port.draw(rt, word, &mut seat) else {
-        return false;
-    };
     match port.draw(rt, word, &mut seat) {
-        Drawn::Credit(_) => false,
-        Drawn::Stop => true,
+        Drawn::Credit(_) => matches!(port.draw(rt, word, &mut seat), Drawn::Stop),
+        Drawn::Stop => false,
     }
 }
 

@@ -1,7 +1,7 @@
 //! Runs over threads: several plans, records that are held back, sinks that break off, stops that end the cutting.
 
 use super::gates::{Counting, Holding, Telling, Watching};
-use super::{DUMP, TRUNK2, options, report, write_group, write_revision};
+use super::{DUMP, TRUNK2, is_first_part, options, report, write_group, write_revision};
 use crate::{Answer, Failure, FreeGate, Gate, Plan, run};
 use dump_filter::Report;
 use dump_rules::{Empty, Options, Side};
@@ -37,8 +37,8 @@ pub fn everything(alloc: Global) -> Result<Options, Fail> {
     )?)
 }
 
-/// Runs over threads into a sink that takes all, and compares the answer and what it took.
-pub fn assert_run<R: Threads + Wait + Sync + Abort, G: Gate>(
+/// Whether a run over threads into a sink that takes all gives this answer and these bytes.
+pub fn is_run<R: Threads + Wait + Sync, G: Gate>(
     rt: &R,
     alloc: Global,
     dump: &[u8],
@@ -46,21 +46,29 @@ pub fn assert_run<R: Threads + Wait + Sync + Abort, G: Gate>(
     plan: Plan,
     gate: &G,
     wanted: (Answer, &[u8]),
-) {
+) -> bool {
     let mut sink = MemorySink::new(alloc, 1000, Trouble::Never);
     let answer = run(rt, alloc, dump, options, plan, gate, &mut sink);
-    assert_eq!(rt; answer, wanted.0);
-    assert_eq!(rt; sink.taken(), wanted.1);
+    answer == wanted.0 && sink.taken() == wanted.1
+}
+
+// Whether the dump is cut down to what is under `trunk`.
+fn is_cut_down<R: Threads + Wait + Sync, G: Gate>(
+    rt: &R,
+    alloc: Global,
+    plan: Plan,
+    gate: &G,
+) -> Result<bool, Fail> {
+    let options = options(alloc, Side::Include, Empty::Pad)?;
+    let wanted = (report(2, 1), &DUMP[..TRUNK2]);
+    Ok(is_run(rt, alloc, DUMP, &options, plan, gate, wanted))
 }
 
 #[test]
 fn each_plan_gives_the_same(rt: HostRuntime) -> Result<(), Fail> {
-    let alloc = rt.alloc();
-    let options = options(alloc, Side::Include, Empty::Pad)?;
-    let wanted = (report(2, 1), &DUMP[..TRUNK2]);
     for (workers, window) in [(1, 1), (2, 4), (4, 64), (64, 4096)] {
         let plan = plan(workers, window)?;
-        assert_run(&rt, alloc, DUMP, &options, plan, &FreeGate, wanted);
+        assert!(rt; is_cut_down(&rt, rt.alloc(), plan, &FreeGate)?);
     }
     Ok(())
 }
@@ -68,21 +76,32 @@ fn each_plan_gives_the_same(rt: HostRuntime) -> Result<(), Fail> {
 // Record 0 waits for record 1: one thread alone would wait for ever.
 #[test]
 fn records_are_checked_at_the_same_time(rt: HostRuntime) -> Result<(), Fail> {
-    let alloc = rt.alloc();
-    let options = options(alloc, Side::Include, Empty::Pad)?;
     let gate = Holding::new(0, 0b10, 0);
-    let wanted = (report(2, 1), &DUMP[..TRUNK2]);
-    assert_run(&rt, alloc, DUMP, &options, plan(2, 64)?, &gate, wanted);
+    assert!(rt; is_cut_down(&rt, rt.alloc(), plan(2, 64)?, &gate)?);
     assert!(rt; !gate.is_late());
-    assert_eq!(rt; gate.passed(), 0b111111);
+    assert!(rt; gate.passed() == 0b111111);
     Ok(())
+}
+
+// Whether the dump is cut down into a sink that tells how many bytes it took.
+fn is_told<R: Threads + Wait + Sync, G: Gate>(
+    rt: &R,
+    alloc: Global,
+    gate: &G,
+    count: &AtomicU64,
+) -> Result<bool, Fail> {
+    let options = options(alloc, Side::Include, Empty::Pad)?;
+    let plan = plan(2, 64)?;
+    let mut sink = Telling {
+        sink: MemorySink::new(alloc, 1000, Trouble::Never),
+        count,
+    };
+    Ok(run(rt, alloc, DUMP, &options, plan, gate, &mut sink) == report(2, 1))
 }
 
 // The last record waits until the first piece was written.
 #[test]
 fn pieces_are_written_while_records_are_checked(rt: HostRuntime) -> Result<(), Fail> {
-    let alloc = rt.alloc();
-    let options = options(alloc, Side::Include, Empty::Pad)?;
     let count = AtomicU64::new(0);
     let gate = Watching {
         count: &count,
@@ -90,115 +109,135 @@ fn pieces_are_written_while_records_are_checked(rt: HostRuntime) -> Result<(), F
         at_first: AtomicU64::new(0),
         late: AtomicU64::new(0),
     };
-    let mut sink = Telling {
-        sink: MemorySink::new(alloc, 1000, Trouble::Never),
-        count: &count,
-    };
-    let answer = run(&rt, alloc, DUMP, &options, plan(2, 64)?, &gate, &mut sink);
-    assert_eq!(rt; answer, report(2, 1));
-    assert_eq!(rt; gate.at_first.load(Ordering::SeqCst), 1);
-    assert_eq!(rt; gate.late.load(Ordering::SeqCst), 0);
+    assert!(rt; is_told(&rt, rt.alloc(), &gate, &count)?);
+    assert!(rt; gate.at_first.load(Ordering::SeqCst) == 1);
+    assert!(rt; gate.late.load(Ordering::SeqCst) == 0);
     Ok(())
 }
 
-// A file whose digest header is wrong.
-fn write_wrong_file(dump: &mut Vec<u8>, path: &str, header: &str) -> Result<(), Fail> {
-    write!(
-        dump,
-        "Node-path: {path}\nNode-kind: file\nNode-action: add\nText-content-length: 3\n{header}\nContent-length: 3\n\nabc\n\n"
-    )?;
-    Ok(())
-}
+const FOLDER: &[u8] = b"Node-path: a\n\
+Node-kind: dir\n\
+Node-action: add\n\
+Prop-content-length: 10\n\
+Content-length: 10\n\
+\n\
+PROPS-END\n\
+\n\
+\n\
+";
 
-fn write_folder(dump: &mut Vec<u8>, path: &str) -> Result<(), Fail> {
-    write!(
-        dump,
-        "Node-path: {path}\nNode-kind: dir\nNode-action: add\nProp-content-length: 10\nContent-length: 10\n\nPROPS-END\n\n\n"
-    )?;
-    Ok(())
-}
+// Files whose digest headers are wrong.
+const WRONG_SHA1: &[u8] = b"Node-path: a/x\n\
+Node-kind: file\n\
+Node-action: add\n\
+Text-content-length: 3\n\
+Text-content-sha1: a9993e364706816aba3e25717850c26c9cd0d89e\n\
+Content-length: 3\n\
+\n\
+abc\n\
+\n\
+";
 
-const WRONG_SHA1: &str = "Text-content-sha1: a9993e364706816aba3e25717850c26c9cd0d89e";
+const WRONG_MD5: &[u8] = b"Node-path: a/y\n\
+Node-kind: file\n\
+Node-action: add\n\
+Text-content-length: 3\n\
+Text-content-md5: 900150983cd24fb0d6963f7d28e17f73\n\
+Content-length: 3\n\
+\n\
+abc\n\
+\n\
+";
 
-const WRONG_MD5: &str = "Text-content-md5: 900150983cd24fb0d6963f7d28e17f73";
-
-pub const SHA1_IN_RECORD_2: Answer = Answer::Fault {
+// The wrong digest in record 2 is the answer.
+const SHA1_IN_RECORD_2: Answer = Answer::Fault {
     kind: FaultKind::Sha1,
     number: 2,
     place: 151,
 };
 
-// Records 2 and 5 have wrong digests.
+/// Records 2 and 5 have wrong digests.
 pub fn wrong_in_2_and_5(alloc: Global) -> Result<Vec<u8>, Fail> {
     let mut dump = Vec::from_slice(alloc, VERSION)?;
     write_revision(&mut dump, 0)?;
-    write_wrong_file(&mut dump, "a/x", WRONG_SHA1)?;
+    dump.extend_from_slice(WRONG_SHA1)?;
     write_revision(&mut dump, 1)?;
-    write_folder(&mut dump, "a")?;
-    write_wrong_file(&mut dump, "a/y", WRONG_MD5)?;
+    dump.extend_from_slice(FOLDER)?;
+    dump.extend_from_slice(WRONG_MD5)?;
     Ok(dump)
+}
+
+/// Whether the wrong digest in record 2 is the answer, and nothing behind the version is written.
+pub fn is_first_fault<R: Threads + Wait + Sync, G: Gate>(
+    rt: &R,
+    alloc: Global,
+    dump: &[u8],
+    plan: Plan,
+    gate: &G,
+) -> Result<bool, Fail> {
+    let options = everything(alloc)?;
+    let wanted = (SHA1_IN_RECORD_2, VERSION);
+    Ok(is_run(rt, alloc, dump, &options, plan, gate, wanted))
 }
 
 // The fault of record 2 is the answer, though that of record 5 is found before it.
 #[test]
 fn the_first_fault_is_answered_and_not_the_one_found_first(rt: HostRuntime) -> Result<(), Fail> {
-    let alloc = rt.alloc();
-    let dump = wrong_in_2_and_5(alloc)?;
-    let options = everything(alloc)?;
+    let dump = wrong_in_2_and_5(rt.alloc())?;
     let gate = Holding::new(2, 1 << 5, 0);
-    let wanted = (SHA1_IN_RECORD_2, VERSION);
-    assert_run(&rt, alloc, &dump, &options, plan(4, 64)?, &gate, wanted);
+    assert!(rt; is_first_fault(&rt, rt.alloc(), &dump, plan(4, 64)?, &gate)?);
     assert!(rt; !gate.is_late());
     Ok(())
 }
 
-// The dump, and behind it a header that is cut.
-fn with_junk(alloc: Global) -> Result<Vec<u8>, Fail> {
+/// The dump, and behind it a header that is cut.
+pub fn with_junk(alloc: Global) -> Result<Vec<u8>, Fail> {
     let mut dump = Vec::from_slice(alloc, DUMP)?;
     dump.extend_from_slice(b"junk")?;
     Ok(dump)
 }
 
-#[test]
-fn a_broken_sink_gets_a_first_part(rt: HostRuntime) -> Result<(), Fail> {
-    let alloc = rt.alloc();
-    let dump = with_junk(alloc)?;
+// Whether a sink that fails once gets a first part.
+fn is_broken_off<R: Threads + Wait + Sync>(rt: &R, alloc: Global) -> Result<bool, Fail> {
+    let plan = plan(4, 64)?;
     let options = options(alloc, Side::Include, Empty::Pad)?;
+    let dump = with_junk(alloc)?;
     let mut sink = MemorySink::new(alloc, 1000, Trouble::Once(100));
-    let answer = run(
-        &rt,
-        alloc,
-        &dump,
-        &options,
-        plan(4, 64)?,
-        &FreeGate,
-        &mut sink,
-    );
     let failed = Answer::Failed {
         failure: Failure::Sink,
         written: 100,
     };
-    assert_eq!(rt; answer, failed);
-    assert_eq!(rt; sink.taken(), &DUMP[..100]);
-    Ok(())
+    let answer = run(rt, alloc, &dump, &options, plan, &FreeGate, &mut sink);
+    Ok(answer == failed && sink.taken() == &DUMP[..100])
 }
 
 #[test]
-fn what_stands_before_a_cut_header_is_written(rt: HostRuntime) -> Result<(), Fail> {
-    let alloc = rt.alloc();
-    let dump = with_junk(alloc)?;
+fn a_broken_sink_gets_a_first_part(rt: HostRuntime) -> Result<(), Fail> {
+    assert!(rt; is_broken_off(&rt, rt.alloc())?);
+    Ok(())
+}
+
+// Whether all before a header that is cut is written.
+fn is_cut_header<R: Threads + Wait + Sync>(rt: &R, alloc: Global) -> Result<bool, Fail> {
+    let plan = plan(4, 64)?;
     let options = options(alloc, Side::Include, Empty::Pad)?;
+    let dump = with_junk(alloc)?;
     let fault = Answer::Fault {
         kind: FaultKind::HeaderCut,
         number: 6,
         place: 589,
     };
     let wanted = (fault, &DUMP[..TRUNK2]);
-    assert_run(&rt, alloc, &dump, &options, plan(4, 64)?, &FreeGate, wanted);
+    Ok(is_run(rt, alloc, &dump, &options, plan, &FreeGate, wanted))
+}
+
+#[test]
+fn what_stands_before_a_cut_header_is_written(rt: HostRuntime) -> Result<(), Fail> {
+    assert!(rt; is_cut_header(&rt, rt.alloc())?);
     Ok(())
 }
 
-// A hundred revisions, of which every second is kept.
+/// A hundred revisions, of which every second is kept.
 pub fn hundred(alloc: Global) -> Result<Vec<u8>, Fail> {
     let mut dump = Vec::from_slice(alloc, VERSION)?;
     write_revision(&mut dump, 0)?;
@@ -230,28 +269,27 @@ pub const HALF: Answer = Answer::Clean(Report {
     texts_checked: 0,
 });
 
-// Runs over it, through a gate.
-fn assert_half<R: Threads + Wait + Sync + Abort, G: Gate>(
+// Whether a run over it, through a gate, keeps half of it.
+fn is_halved<R: Threads + Wait + Sync, G: Gate>(
     rt: &R,
     alloc: Global,
     plan: Plan,
     gate: &G,
-) -> Result<(), Fail> {
-    let (dump, options) = (hundred(alloc)?, renumbering(alloc)?);
+) -> Result<bool, Fail> {
+    let options = renumbering(alloc)?;
+    let dump = hundred(alloc)?;
     let mut sink = MemorySink::new(alloc, 1000, Trouble::Never);
     let answer = run(rt, alloc, &dump, &options, plan, gate, &mut sink);
-    assert_eq!(rt; answer, HALF);
-    assert_eq!(rt; sink.taken().len(), 11_359);
-    Ok(())
+    Ok(answer == HALF && sink.taken().len() == 11_359)
 }
 
 #[test]
 fn each_record_passes_the_gate_once(rt: HostRuntime) -> Result<(), Fail> {
     for (workers, window) in [(1, 1), (4, 64), (64, 4096)] {
         let gate = Counting::new();
-        assert_half(&rt, rt.alloc(), plan(workers, window)?, &gate)?;
-        assert_eq!(rt; gate.words(), [u64::MAX, u64::MAX, u64::MAX, 0xff]);
-        assert_eq!(rt; gate.others(), 0);
+        assert!(rt; is_halved(&rt, rt.alloc(), plan(workers, window)?, &gate)?);
+        assert!(rt; gate.words() == [u64::MAX, u64::MAX, u64::MAX, 0xff]);
+        assert!(rt; gate.others() == 0);
     }
     Ok(())
 }
@@ -260,7 +298,7 @@ fn each_record_passes_the_gate_once(rt: HostRuntime) -> Result<(), Fail> {
 #[test]
 fn any_worker_takes_any_record(rt: HostRuntime) -> Result<(), Fail> {
     let gate = Holding::new(0, 0b11_1111_1110, 0);
-    assert_half(&rt, rt.alloc(), plan(4, 64)?, &gate)?;
+    assert!(rt; is_halved(&rt, rt.alloc(), plan(4, 64)?, &gate)?);
     assert!(rt; !gate.is_late());
     Ok(())
 }
@@ -269,47 +307,54 @@ fn any_worker_takes_any_record(rt: HostRuntime) -> Result<(), Fail> {
 #[test]
 fn no_more_are_under_way_than_the_window_has(rt: HostRuntime) -> Result<(), Fail> {
     let gate = Holding::new(0, 0b1110, 100_000);
-    assert_half(&rt, rt.alloc(), plan(2, 4)?, &gate)?;
+    assert!(rt; is_halved(&rt, rt.alloc(), plan(2, 4)?, &gate)?);
     assert!(rt; !gate.is_late());
-    assert_eq!(rt; gate.before(), 0b1110);
+    assert!(rt; gate.before() == 0b1110);
     Ok(())
 }
 
-// A wrong digest in record 2, and a thousand records behind it.
+/// A wrong digest in record 2, and a thousand records behind it.
 pub fn early_fault(alloc: Global) -> Result<Vec<u8>, Fail> {
     let mut dump = Vec::from_slice(alloc, VERSION)?;
     write_revision(&mut dump, 0)?;
-    write_wrong_file(&mut dump, "a/x", WRONG_SHA1)?;
+    dump.extend_from_slice(WRONG_SHA1)?;
     for _ in 0..1000 {
-        write_folder(&mut dump, "a")?;
+        dump.extend_from_slice(FOLDER)?;
     }
     Ok(dump)
 }
 
 #[test]
 fn a_fault_stops_the_cutting(rt: HostRuntime) -> Result<(), Fail> {
-    let alloc = rt.alloc();
-    let (dump, options) = (early_fault(alloc)?, everything(alloc)?);
+    let dump = early_fault(rt.alloc())?;
     let gate = Holding::new(u64::MAX, 0, 0);
-    let wanted = (SHA1_IN_RECORD_2, VERSION);
-    assert_run(&rt, alloc, &dump, &options, plan(1, 1)?, &gate, wanted);
-    assert_eq!(rt; gate.passed(), 0b111);
+    assert!(rt; is_first_fault(&rt, rt.alloc(), &dump, plan(1, 1)?, &gate)?);
+    assert!(rt; gate.passed() == 0b111);
     Ok(())
 }
 
-#[test]
-fn a_broken_sink_stops_the_cutting(rt: HostRuntime) -> Result<(), Fail> {
-    let alloc = rt.alloc();
-    let (dump, options) = (early_fault(alloc)?, everything(alloc)?);
-    let gate = Holding::new(u64::MAX, 0, 0);
+// Whether a run into a sink that takes nothing fails at once.
+fn is_refused<R: Threads + Wait + Sync, G: Gate>(
+    rt: &R,
+    alloc: Global,
+    gate: &G,
+) -> Result<bool, Fail> {
+    let plan = plan(1, 1)?;
+    let options = everything(alloc)?;
+    let dump = early_fault(alloc)?;
     let mut sink = MemorySink::new(alloc, 1000, Trouble::From(0));
-    let answer = run(&rt, alloc, &dump, &options, plan(1, 1)?, &gate, &mut sink);
     let failed = Answer::Failed {
         failure: Failure::Sink,
         written: 0,
     };
-    assert_eq!(rt; answer, failed);
-    assert_eq!(rt; gate.passed(), 0b1);
+    Ok(run(rt, alloc, &dump, &options, plan, gate, &mut sink) == failed)
+}
+
+#[test]
+fn a_broken_sink_stops_the_cutting(rt: HostRuntime) -> Result<(), Fail> {
+    let gate = Holding::new(u64::MAX, 0, 0);
+    assert!(rt; is_refused(&rt, rt.alloc(), &gate)?);
+    assert!(rt; gate.passed() == 0b1);
     Ok(())
 }
 
@@ -326,11 +371,5 @@ fn want_of_memory_leaves_a_first_part_over_threads(rt: HostRuntime) {
     };
     let mut sink = MemorySink::new(alloc, 1000, Trouble::Never);
     let answer = run(&rt, alloc, DUMP, &options, plan, &FreeGate, &mut sink);
-    assert!(rt; DUMP.starts_with(sink.taken()));
-    match answer {
-        Answer::Failed { written, .. } => {
-            assert_eq!(rt; sink.taken().len() as u64, written);
-        }
-        _ => assert_eq!(rt; answer, report(2, 1)),
-    }
+    assert!(rt; is_first_part(answer, sink.taken()));
 }

@@ -29,7 +29,7 @@ returns-in_default-clause-ran g c = record {
 pub start_workers-requires-clause-fresh : goal.start_workers-requires-clause-fresh
 start_workers-requires-clause-fresh g c κs within =
     let pool = pool_state c.args.ends.pool in
-    let ports = c.args.ends.ports.workers.items in
+    let ports = c.args.ends.workers.items in
     let working = c.args.ends.working in
     λ k d below. record {
       open_ = none_closed pool ports working k d below;
@@ -39,8 +39,8 @@ start_workers-requires-clause-fresh g c κs within =
 
 pub start_workers-requires-clause-room : goal.start_workers-requires-clause-room
 start_workers-requires-clause-room g c κs within =
-    let room = c.args.ends.room in
-    let count = workers_count (pool_state c.args.ends.pool) c.args.ends.ports.workers.items c.args.ends.working in
+    let room = c.args.ends.room_for_threads in
+    let count = workers_count (pool_state c.args.ends.pool) c.args.ends.workers.items c.args.ends.working in
     (room.0, let most = room.1 in omega arith)
 
 pub returns-in_default-start_workers-clause-ran :
@@ -64,7 +64,7 @@ join_threads-joined-requires-clause-room g c =
     let J : Type 0 = Job g.row.D.Denot g.D.Run in
     let E : Type 0 = Checked g.row.D.Denot g.D.Run in
     let started = c.in-Some-start_workers.field-0.workers.items in
-    let ports : List (WorkerPort J E) = c.args.ends.ports.workers.items in
+    let ports : List (WorkerPort J E) = c.args.ends.workers.items in
     let long : length started ≡ length ports =
     sym (length_of_map (λ w. (worker_port w.promise.port.value).index) started)
     ∙ (ap (λ (l : List ℕ). length l) c.in-Some-start_workers.ensures.index
@@ -77,24 +77,24 @@ pub conclude-answer-requires-clause-workers : goal.conclude-answer-requires-clau
 conclude-answer-requires-clause-workers g c =
     let J : Type 0 = Job g.row.D.Denot g.D.Run in
     let E : Type 0 = Checked g.row.D.Denot g.D.Run in
-    let ports : List (WorkerPort J E) = c.args.ends.ports.workers.items in
+    let ports : List (WorkerPort J E) = c.args.ends.workers.items in
     let new : List (WorkerPort J E) = c.join_threads-joined.result.workers.items in
-    let at : AreWorkersOf (job_port c.args.ends.ports.cutter).pool (job_port c.args.ends.ports.cutter).workers
+    let at : AreWorkersOf (job_port c.args.ends.cutter.port).pool (job_port c.args.ends.cutter.port).workers
     (map (λ (p : WorkerPort J E). worker_port p) ports) =
-    fresh_workers (pool_state c.args.ends.pool) (job_port c.args.ends.ports.cutter)
-    (map (λ (p : WorkerPort J E). worker_port p) ports) c.args.ends.cutter c.args.ends.working in
-    let all : AreWorkersOf (job_port c.args.ends.ports.cutter).pool (job_port c.args.ends.ports.cutter).workers
+    fresh_workers (pool_state c.args.ends.pool) (job_port c.args.ends.cutter.port)
+    (map (λ (p : WorkerPort J E). worker_port p) ports) c.args.ends.cutting c.args.ends.working in
+    let all : AreWorkersOf (job_port c.args.ends.cutter.port).pool (job_port c.args.ends.cutter.port).workers
     (map (λ (p : WorkerPort J E). worker_port p) new) =
-    same_ports (job_port c.args.ends.ports.cutter).pool (job_port c.args.ends.ports.cutter).workers ports new
+    same_ports (job_port c.args.ends.cutter.port).pool (job_port c.args.ends.cutter.port).workers ports new
     (c.join_threads-joined.ensures.worker_pools ∙ c.in-Some-start_workers.ensures.pool)
     (c.join_threads-joined.ensures.worker_indices ∙ c.in-Some-start_workers.ensures.index) at in
-    let same : c.in-Some-start_cutter.cutter.promise.ends.value.port ≡ c.args.ends.ports.cutter = ap (λ (ends : CutterEnds J E). ends.port) c.in-Some-start_cutter.ensures.ends
-    ∙ c.in-Some-start_workers.ensures.cutter in
+    let same : c.in-Some-start_cutter.cutter.promise.ends.value.port ≡ c.args.ends.cutter.port = ap (λ (ends : CutterEnds J E). ends.port)
+    (c.in-Some-start_cutter.ensures.ends ∙ c.in-Some-start_workers.ensures.cutter) in
     let same_pool : (job_port c.join_threads-joined.result.cutter.port).pool ≡
-    (job_port c.args.ends.ports.cutter).pool = c.join_threads-joined.ensures.cutter.pool
+    (job_port c.args.ends.cutter.port).pool = c.join_threads-joined.ensures.cutter.pool
     ∙ ap (λ (p : JobPort J E). (job_port p).pool) same in
     let same_workers : (job_port c.join_threads-joined.result.cutter.port).workers ≡
-    (job_port c.args.ends.ports.cutter).workers = c.join_threads-joined.ensures.cutter.workers
+    (job_port c.args.ends.cutter.port).workers = c.join_threads-joined.ensures.cutter.workers
     ∙ ap (λ (p : JobPort J E). (job_port p).workers) same in
     subst (λ (x : PoolName × ℕ). AreWorkersOf x.0 x.1 (map (λ (p : WorkerPort J E). worker_port p) new))
     (λ i. (sym same_pool i, sym same_workers i)) all
@@ -111,7 +111,7 @@ conclude-answer-requires-clause-sequenced g c =
     ∙ length-replicate (pool_state c.args.ends.pool).window none) in
     let window : (credit_port joined.writer).window ≡ (pool_state c.args.ends.pool).window =
     ap (λ (p : CreditPort J E). (credit_port p).window) c.join_threads-joined.ensures.writer.0
-    ∙ (c.write-written.ensures.window ∙ ap (λ (x : WriterSide). x.window) c.args.ends.writer) in
+    ∙ (c.write-written.ensures.window ∙ ap (λ (x : WriterSide). x.window) c.args.ends.writing) in
     subst (λ (w : ℕ). HasSequenced g.D.Run.settings g.D.Run.dump w (done_port joined.sequencer).taken
     (sent joined.put.value).put joined.end joined.stray)
     (wide ∙ sym window) c.join_threads-joined.ensures.sequencer.sequenced
