@@ -9,8 +9,8 @@ ghost use Rattle.dump_pipeline.specs.PlanViews.{worker_count, window_size};
 
 use crate::message::{Checked, Job, NumberedPiece, Run};
 use crate::plan::Plan;
+use crate::stops::Words;
 use crate::threads::WorkerThread;
-use crate::words::Words;
 use crate::work::CheckerPort;
 use dump_lanes::{LaneIn, LaneOut, Memory, Pool, Ports, Slots, StopSeat, StopWord, lane};
 use std::alloc::Global;
