@@ -72,13 +72,15 @@ suites: $(PROGRAM) $(SURVEY)
 	tests/meaning $(PROGRAM) $(SURVEY)
 	@echo "make: looking whether the README lists the definitions of the statement"
 	tests/trusted
+	@echo "make: looking whether each definition's name stands in one crate"
+	tests/words
 
 gate: | toolchain
 	@echo "make: proving every crate from nothing, with its tests and the named wrong bodies"
 	rt ci
 	@echo "make: trying all other wrong bodies, in rounds"
 	tests/wrong
-	@echo "make: seeing that tests/wrong and tests/trusted fail where they have to"
+	@echo "make: seeing that tests/wrong, tests/trusted and tests/words fail where they have to"
 	tests/guards
 
 check: | toolchain

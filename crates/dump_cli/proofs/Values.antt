@@ -14,7 +14,7 @@ use Rattle.dump_pipeline.specs.declared.answer.Failure.TheVariants as failures
 use Rattle.dump_pipeline.proofs.Values.{empty_answer}
 use Rattle.dump_cli.specs.CommandLine.{switch, number, prefixes, program}
 use Rattle.dump_cli.specs.declared.words.Usage.TheVariants.{Words, BothDrops, Memory}
-use Rattle.dump_cli.specs.Words.{is_set, number_of, side_of, empty_of, order_of, AnswersTo}
+use Rattle.dump_cli.specs.Words.{is_set, flag_number, side_of, empty_of, order_of, AnswersTo}
 use Rattle.dump_cli.specs.steps.FilledFlags.{IsNumber, AreFilled}
 use Rattle.dump_cli.specs.Drive.{status_of, BreaksOff, Ran, CarriesOut, refusal_status, Obeys, Drives}
 use Rattle.dump_cli.specs.steps.DrainedRun.{IsSilent, TellsBehind, FailsOnlyBehind}
@@ -53,7 +53,7 @@ set = refl
 not_set : is_set (codes "renumber-revs") (flags (codes "false") (codes "false")) ≡ false
 not_set = refl
 
-twelve : number_of (codes "workers") (flags (codes "false") (codes "false")) ≡ 12
+twelve : flag_number (codes "workers") (flags (codes "false") (codes "false")) ≡ 12
 twelve = refl
 
 includes : side_of (codes "include") ≡ Include

@@ -15,7 +15,7 @@ use Rattle.clap.proofs.WalkLemmas.{one_text-rows}
 use Rattle.dump_rules.specs.declared.options.Empty.{Empty}
 use Rattle.dump_rules.specs.declared.options.Side.{Side}
 use Rattle.dump_cli.specs.CommandLine.{program}
-use Rattle.dump_cli.specs.Words.{AnswersTo, empty_in, is_set, meaning_of_line, meaning_with, number_of, order_by, order_of, side_name, side_of}
+use Rattle.dump_cli.specs.Words.{AnswersTo, empty_in, is_set, meaning_of_line, meaning_with, flag_number, order_by, order_of, side_name, side_of}
 use Rattle.dump_cli.specs.declared.words.Order.{Order}
 use Rattle.dump_cli.specs.declared.words.Usage.{Usage}
 use Rattle.dump_cli.specs.declared.words.Usage.TheVariants.{Words, Memory}
@@ -52,7 +52,7 @@ flag_is E m name o none reads = go (one_text m name) refl
 pub number_is : (E : Type 0) (G : List ℕ → Result ℕ E → Type 0) (m : Found) (name : Text) (most : ℕ) (r : Option ℕ)
     → ((u : List ℕ) (x : Result ℕ E) → G u x → ParsesUnsigned 64 10 u x)
     → IsNumber name most (rows_of m) → ((t : Text) → one_text m name ≡ Some t → ReadsOne G t r)
-    → (n : ℕ) × (r ≡ Some n) × (n ≡ number_of name (rows_of m)) × (1 ≤ n) × (n ≤ most)
+    → (n : ℕ) × (r ≡ Some n) × (n ≡ flag_number name (rows_of m)) × (1 ≤ n) × (n ≤ most)
 number_is E G m name most r only number reads = go r (reads text (one_text-rows m name ∙ number.1))
   where
     text : Text
@@ -61,10 +61,10 @@ number_is E G m name most r only number reads = go r (reads text (one_text-rows 
     digits : ℕ
     digits = digits_value 10 (without_leading_plus text)
 
-    means : digits ≡ number_of name (rows_of m)
+    means : digits ≡ flag_number name (rows_of m)
     means = ap (λ o. digits_value 10 (without_leading_plus (unwrap_or o []))) (sym number.1)
 
-    go : (o : Option ℕ) → ReadsOne G text o → (n : ℕ) × (o ≡ Some n) × (n ≡ number_of name (rows_of m)) × (1 ≤ n)
+    go : (o : Option ℕ) → ReadsOne G text o → (n : ℕ) × (o ≡ Some n) × (n ≡ flag_number name (rows_of m)) × (1 ≤ n)
         × (n ≤ most)
     go (Some v) read =
         let parsed = only text (Ok v) read in (
@@ -108,7 +108,7 @@ refused line name kinds named is some =
     ∙ ap (λ (k : Kinds). order_by (Some name) (is_empty k) (matches_of program line)) is
     ∙ ap (λ b. order_by (Some name) b (matches_of program line)) some
 
--- a refusal for the words or for want of memory is an answer to a line with such a fault
+-- a refusal as other words or as out of memory is an answer to a line with such a fault
 pub refusal_answers : (line : List Text) (name : Text) (e : Error) (u : Usage) → side_name line ≡ Some name
     → HasKind (fault_of program line) e → (kind_of e ≡ OutOfMemory → u ≡ Memory) → ((u ≡ Words) ⊎ (u ≡ Memory))
     → AnswersTo (meaning_of_line line) (Err u)

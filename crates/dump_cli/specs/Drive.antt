@@ -35,13 +35,13 @@ pub record Ran (settings : Settings) (input : List ℕ) (old new : Option (List 
   pub answered : IsRunAnswer settings input sent answer
   pub arrived : (Appends old new sent × (told ≡ answer)) ⊎ BreaksOff old new sent told
 
--- an order is run on the whole input, or writes nothing for want of memory or input
+-- an order is run on the whole input, or writes nothing, out of memory or without input
 abbrev pub CarriesOut : Settings → Option (List ℕ) → Option (List ℕ) → Option (List ℕ) → ℕ → Type 0
 CarriesOut settings input old new status =
     IfSome input (λ bytes. (told : Answer) × Ran settings bytes old new told × (status ≡ status_of told))
     ⊎ (Keeps old new × (status ≡ 1))
 
--- words that are no order are refused by 2, and want of memory for an order by 1
+-- words that are no order are refused by 2, and an order that is out of memory by 1
 abbrev pub refusal_status : Usage → ℕ
 refusal_status Words = 2
 refusal_status BothDrops = 2

@@ -26,8 +26,8 @@ abbrev pub is_set : Text → List Row → Bool
 is_set name rows = option_map_or (λ text. bytes_eq text (codes "true")) (one_of name rows) false
 
 -- the number of a flag; without it its default stands in the rows
-abbrev pub number_of : Text → List Row → ℕ
-number_of name rows = digits_value 10 (without_leading_plus (unwrap_or (one_of name rows) []))
+abbrev pub flag_number : Text → List Row → ℕ
+flag_number name rows = digits_value 10 (without_leading_plus (unwrap_or (one_of name rows) []))
 
 -- the command has no third side
 abbrev pub side_of : Text → Side
@@ -66,8 +66,8 @@ meaning_with (Some empty) side rows = Ok (record {
     preserve = is_set (codes "preserve-revprops") rows;
     skip_missing = is_set (codes "skip-missing-merge-sources") rows;
   };
-  workers = number_of (codes "workers") rows;
-  window = number_of (codes "window") rows;
+  workers = flag_number (codes "workers") rows;
+  window = flag_number (codes "window") rows;
   quiet = is_set (codes "quiet") rows;
 })
 
@@ -92,7 +92,7 @@ meaning_of_line line = order_by (side_name line) (is_empty (fault_of program lin
 abbrev pub meaning_of : List Text → Result Meaning Usage
 meaning_of words = meaning_of_line (drop 1 words)
 
--- the answer to words of this meaning: want of memory may hide it, and nothing else
+-- the answer to words of this meaning: out of memory may hide it, and nothing else
 abbrev pub AnswersTo : Result Meaning Usage → Result Order Usage → Type 0
 AnswersTo meaning (Ok order) = meaning ≡ Ok (shown order)
 AnswersTo meaning (Err Words) = meaning ≡ Err Words

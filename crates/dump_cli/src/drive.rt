@@ -8,7 +8,7 @@ ghost use Rattle.dump_cli.specs.Drive.{CarriesOut, Drives, Ran, refusal_status, 
 ghost use Rattle.dump_cli.specs.steps.DrainedRun.{FailsOnlyBehind, IsSilent, TellsBehind};
 
 use crate::input::{Unread, read_all};
-use crate::lines::{write_failure, write_fault, write_report, write_unread, write_usage};
+use crate::messages::{write_failure, write_fault, write_report, write_unread, write_usage};
 use crate::words::{Order, Usage, options_of};
 use dump_pipeline::{Answer, Failure, FreeGate, Plan, run};
 use dump_rules::Options;
@@ -62,7 +62,7 @@ pub fn refuse<E: Write>(errors: &mut E, usage: Usage) -> u8
             write_usage(errors);
             2
         }
-        Usage::Memory => tell_want_of_memory(errors),
+        Usage::Memory => tell_out_of_memory(errors),
     }
 }
 
@@ -80,14 +80,14 @@ fn carry_out<H: Threads + Wait + Sync, R: Read, W: Write, E: Write>(
 {
     let input = match read_all(alloc, reader, size) {
         Ok(input) => input,
-        Err(Unread::Memory) => return tell_want_of_memory(errors),
+        Err(Unread::Memory) => return tell_out_of_memory(errors),
         Err(Unread::Source) => {
             write_unread(errors);
             return 1;
         }
     };
     let Ok(buffer) = Vec::with_capacity(alloc, BUFFER) else {
-        return tell_want_of_memory(errors);
+        return tell_out_of_memory(errors);
     };
     let mut sink = OutMut::new(writer, buffer);
     let answer = run_and_flush(
@@ -180,7 +180,7 @@ fn tell<E: Write>(errors: &mut E, answer: Answer, quiet: bool) -> u8
 }
 
 // The line and the status where there was no memory before the run.
-fn tell_want_of_memory<E: Write>(errors: &mut E) -> u8
+fn tell_out_of_memory<E: Write>(errors: &mut E) -> u8
     ensures { result ≡ 1 }
 {
     write_failure(errors, Failure::Memory, 0);

@@ -4,7 +4,7 @@ mod drive;
 mod words;
 
 use crate::input::{Unread, read_all};
-use crate::lines::{write_failure, write_fault, write_report, write_unread, write_usage};
+use crate::messages::{write_failure, write_fault, write_report, write_unread, write_usage};
 use dump_filter::Report;
 use dump_pipeline::Failure;
 use dump_text::FaultKind;

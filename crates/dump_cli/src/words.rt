@@ -2,8 +2,8 @@
 ghost use Rattle.std.specs.Prelude.{◌≡◌, ◌≢◌, ◌≤◌, ◌⊎◌, ℕ, [], IfOk, Err, map, option_map, true, codes, unwrap_or};
 ghost use Rattle.clap.specs.Words.{all_of, found_of, kind_of, rows_of};
 ghost use Rattle.dump_pipeline.specs.PlanViews.{worker_count, window_size};
-ghost use Rattle.dump_cli.specs.Words.{AnswersTo, empty_in, is_set, meaning_of, number_of, order_of, side_name, side_of};
-ghost use Rattle.dump_cli.specs.steps.LawfulLines.{is_lawful, is_taken};
+ghost use Rattle.dump_cli.specs.Words.{AnswersTo, empty_in, is_set, meaning_of, flag_number, order_of, side_name, side_of};
+ghost use Rattle.dump_cli.specs.steps.LawfulLines.{is_call, is_taken};
 ghost use Rattle.dump_cli.specs.steps.FilledFlags.{AreFilled, IsNumber};
 
 use crate::command::program;
@@ -41,7 +41,7 @@ pub fn options_of<'a>(alloc: Global, words: &'a [&'a str]) -> Result<Order, Usag
     ensures meaning { AnswersTo (meaning_of (map (λ word. word.now) words.now)) result }
 
     // No lawful line is refused as other words.
-    ensures lawful { is_lawful (map (λ word. word.now) words.now) ≡ true → result ≢ Err Usage.Words }
+    ensures lawful { is_call (map (λ word. word.now) words.now) ≡ true → result ≢ Err Usage.Words }
     ensures takes { is_taken (map (λ word. word.now) words.now) ≡ true → result ≢ Err Usage.Words }
 {
     let Some((_, line)) = words.split_first() else {
@@ -144,8 +144,8 @@ fn read_empty(inner: &ArgMatches<'_>) -> Option<Empty>
 fn read_plan(inner: &ArgMatches<'_>) -> Plan
     requires workers { IsNumber (codes "workers") 64 (rows_of (found_of inner.now)) }
     requires window { IsNumber (codes "window") 4096 (rows_of (found_of inner.now)) }
-    ensures workers { worker_count result ≡ number_of (codes "workers") (rows_of (found_of inner.now)) }
-    ensures window { window_size result ≡ number_of (codes "window") (rows_of (found_of inner.now)) }
+    ensures workers { worker_count result ≡ flag_number (codes "workers") (rows_of (found_of inner.now)) }
+    ensures window { window_size result ≡ flag_number (codes "window") (rows_of (found_of inner.now)) }
 {
     let Some(plan) = Plan::new(read_number(inner, "workers"), read_number(inner, "window")) else {
         unreachable!()
@@ -155,7 +155,7 @@ fn read_plan(inner: &ArgMatches<'_>) -> Plan
 
 fn read_number(inner: &ArgMatches<'_>, name: &str) -> usize
     requires { (most : ℕ) × IsNumber name.now most (rows_of (found_of inner.now)) }
-    ensures value { result ≡ number_of name.now (rows_of (found_of inner.now)) }
+    ensures value { result ≡ flag_number name.now (rows_of (found_of inner.now)) }
     ensures range { (most : ℕ) → IsNumber name.now most (rows_of (found_of inner.now)) → (1 ≤ result) × (result ≤ most) }
 {
     let Some(number) = inner.get_one(name) else {

@@ -9,7 +9,7 @@ use Rattle.dump_records.proofs.Unique.{keeps}
 use Rattle.dump_text.proofs.BoolLemmas.{not_so}
 use Rattle.dump_text.proofs.BlockLemmas.{has_value}
 use Rattle.dump_rules.specs.Settings.{Settings, keeps_path}
-use Rattle.dump_digest.specs.RecordParts.{is_revision, is_kept_node, has_lost_source}
+use Rattle.dump_digest.specs.RecordParts.{is_revision_record, is_kept_node, has_lost_source}
 
 -- a record with a path is a kept node exactly where its path is kept
 pub kept_some : (settings : Settings) (r : DumpRecord) (path : List ℕ) → header_value path_name r.headers ≡ Some path
@@ -42,6 +42,6 @@ lost_none settings r is =
 
 -- a record is a revision exactly where it has a revision's number
 pub revision_told : (r : DumpRecord) (number : ℕ) → is_lawful number r.headers ≡ true
-    → is_some (header_number revision_name r.headers) ≡ is_revision r
+    → is_some (header_number revision_name r.headers) ≡ is_revision_record r
 revision_told r number lawful = sym (revision_there r.headers
     (not_so (has_bad_number r.headers) (keeps number r.headers lawful).number_ok))

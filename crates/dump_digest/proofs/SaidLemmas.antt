@@ -19,8 +19,8 @@ use Rattle.dump_rules.proofs.faults.MergedMeaning.{or_false, or_or}
 use Rattle.dump_digest.specs.declared.content.Content.{Content}
 use Rattle.dump_digest.specs.declared.verdict.Verdict.{Verdict}
 use Rattle.dump_digest.specs.steps.VerdictMeaning.{IsVerdict}
-use Rattle.dump_digest.specs.declared.mergeinfo.Mergeinfo.{Mergeinfo}
-use Rattle.dump_digest.specs.RecordParts.{is_revision, is_kept_node, is_mergeinfo, value_of, HasPropertyList, HasPropertyBlock}
+use Rattle.dump_digest.specs.declared.node_mergeinfo.Mergeinfo.{Mergeinfo}
+use Rattle.dump_digest.specs.RecordParts.{is_revision_record, is_kept_node, is_mergeinfo, value_of, HasPropertyList, HasPropertyBlock}
 use Rattle.dump_digest.specs.steps.Checks.{properties_read}
 use Rattle.dump_digest.specs.ContentFaults.{HasBadMergeinfo}
 use Rattle.dump_digest.specs.steps.MergeFaults.{misses, is_foreign}
@@ -173,7 +173,7 @@ pub asked_kept : (s : Settings) (r : DumpRecord) (found : Option Props) (ok : Bo
     → ok ≡ is_some found
     → is_some found ≡ (is_asked s r && ok)
 asked_kept s r found ok kept is = sym is ∙ ap (λ b. b && ok)
-    (sym (or_right (is_revision r) (is_kept_node s r) kept))
+    (sym (or_right (is_revision_record r) (is_kept_node s r) kept))
 
 -- of another record no mergeinfo is read, and no copy source
 pub content_of_other : (s : Settings) (r : DumpRecord) (v : Verdict) (found : Option Props) → IsFalse (is_kept_node s r)

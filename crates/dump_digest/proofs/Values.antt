@@ -10,7 +10,7 @@ use Rattle.dump_rules.specs.declared.options.Side.TheVariants.{Include}
 use Rattle.dump_rules.specs.declared.options.Empty.TheVariants.{Pad}
 use Rattle.dump_rules.specs.Settings.{Settings}
 use Rattle.dump_records.specs.RecordText.{DumpRecord}
-use Rattle.dump_digest.specs.RecordParts.{is_revision, is_node, node_path, is_kept_node, is_copy, has_lost_source, has_text, has_whole_text, is_checked_text, takes_deletes, HasPropertyList, HasPropertyBlock, is_mergeinfo, value_of}
+use Rattle.dump_digest.specs.RecordParts.{is_revision_record, is_node, node_path, is_kept_node, is_copy, has_lost_source, has_text, has_whole_text, is_checked_text, takes_deletes, HasPropertyList, HasPropertyBlock, is_mergeinfo, value_of}
 use Rattle.dump_digest.specs.ContentFaults.{HasBadProperties, DiffersFromDigest, HasBadMd5, HasBadSha1, IsMergeinfoValueOf, HasBadMergeinfo}
 
 -- a digest header has digits of either case, as many as the digest needs
@@ -88,7 +88,7 @@ copy source = record {
   text = [];
 }
 
-no_revision : is_revision counted_file ≡ false
+no_revision : is_revision_record counted_file ≡ false
 no_revision = refl
 
 a_node : is_node counted_file ≡ true

@@ -10,7 +10,7 @@ use Rattle.dump_text.specs.PropertyList.{Property}
 use Rattle.dump_text.proofs.BoolLemmas.{absurd_bool, false_true, not_so}
 use Rattle.dump_records.specs.RecordText.{DumpRecord}
 use Rattle.dump_rules.specs.Settings.{Settings}
-use Rattle.dump_digest.specs.RecordParts.{is_revision, is_kept_node, has_whole_text, is_checked_text, value_of, HasPropertyList, HasPropertyBlock}
+use Rattle.dump_digest.specs.RecordParts.{is_revision_record, is_kept_node, has_whole_text, is_checked_text, value_of, HasPropertyList, HasPropertyBlock}
 use Rattle.dump_digest.specs.ContentFaults.{HasBadProperties, DiffersFromDigest, HasBadMd5, HasBadSha1, HasBadMergeinfo}
 use Rattle.dump_digest.specs.steps.Checks.{properties_read}
 use Rattle.dump_digest.specs.steps.VerdictMeaning.{IsVerdict}
@@ -61,8 +61,8 @@ so false = inr false_true
 properties_choice : (settings : Settings) (r : DumpRecord) → HasBadProperties settings r
     ⊎ (¬ HasBadProperties settings r)
 properties_choice settings r =
-    both (IsTrue (is_revision r || is_kept_node settings r)) (¬ HasPropertyBlock r)
-    (so (is_revision r || is_kept_node settings r)) (elim (block_or_not r) [
+    both (IsTrue (is_revision_record r || is_kept_node settings r)) (¬ HasPropertyBlock r)
+    (so (is_revision_record r || is_kept_node settings r)) (elim (block_or_not r) [
       | inl has ↦ inr (λ none. none has)
       | inr none ↦ inl none
     ])

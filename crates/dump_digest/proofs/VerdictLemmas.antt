@@ -6,7 +6,7 @@ use Rattle.dump_text.specs.Names.{md5_name, sha1_name}
 use Rattle.dump_records.specs.RecordText.{DumpRecord}
 use Rattle.dump_rules.specs.Settings.{Settings}
 use Rattle.dump_digest.specs.declared.verdict.Verdict.{Verdict}
-use Rattle.dump_digest.specs.RecordParts.{is_revision, is_kept_node, HasPropertyBlock}
+use Rattle.dump_digest.specs.RecordParts.{is_revision_record, is_kept_node, HasPropertyBlock}
 use Rattle.dump_digest.specs.ContentFaults.{HasBadMergeinfo}
 use Rattle.dump_digest.specs.steps.Checks.{HasOtherDigest, is_told_text}
 use Rattle.dump_digest.specs.steps.VerdictMeaning.{IsVerdict}
@@ -26,8 +26,8 @@ unread r ok means = (λ none has. absurd_bool _ (means.1 has) none, λ none. by_
     by_ok false e none = e
 
 -- properties that aren't asked
-pub not_asked : (r : DumpRecord) → IsFalse (is_revision r) → IsFalse true
-    ↔ (IsTrue (is_revision r) × ¬ HasPropertyBlock r)
+pub not_asked : (r : DumpRecord) → IsFalse (is_revision_record r) → IsFalse true
+    ↔ (IsTrue (is_revision_record r) × ¬ HasPropertyBlock r)
 not_asked r none = (λ e. cc, λ bad. absurd (absurd_bool _ bad.0 none))
 
 -- properties that are, of a node
@@ -36,8 +36,9 @@ pub found_properties : {T : Type 0} (r : DumpRecord) (found : Option T) (ok : Bo
 found_properties r found ok is means = unread r ok (λ e. means.0 (sym is ∙ e), λ has. is ∙ means.1 has)
 
 -- and of a revision
-pub asked : {T : Type 0} (r : DumpRecord) (ok : Bool) (found : Option T) → IsTrue (is_revision r) → ok ≡ is_some found
-    → (IsSome found ↔ HasPropertyBlock r) → IsFalse ok ↔ (IsTrue (is_revision r) × ¬ HasPropertyBlock r)
+pub asked : {T : Type 0} (r : DumpRecord) (ok : Bool) (found : Option T) → IsTrue (is_revision_record r)
+    → ok ≡ is_some found
+    → (IsSome found ↔ HasPropertyBlock r) → IsFalse ok ↔ (IsTrue (is_revision_record r) × ¬ HasPropertyBlock r)
 asked r ok found revision is means =
     let read = found_properties r found ok is means in
     (λ e. (revision, read.0 e), λ bad. read.1 bad.1)
@@ -51,7 +52,7 @@ pub kept_verdict : (settings : Settings) (r : DumpRecord) (v : Verdict) → IsTr
     → v.checked ≡ is_told_text r
     → IsVerdict settings r v
 kept_verdict settings r v kept props first second merge checked = record {
-  props = (λ e. (or_right (is_revision r) (is_kept_node settings r) kept, props.0 e), λ bad. props.1 bad.1);
+  props = (λ e. (or_right (is_revision_record r) (is_kept_node settings r) kept, props.0 e), λ bad. props.1 bad.1);
   md5 = (λ e. let other = first.0 e in (kept, other.0, other.1), λ bad. first.1 (bad.1, bad.2));
   sha1 = (λ e. let other = second.0 e in (kept, other.0, other.1), λ bad. second.1 (bad.1, bad.2));
   merge = merge;
@@ -60,12 +61,12 @@ kept_verdict settings r v kept props first second merge checked = record {
 
 -- another record
 pub other_verdict : (settings : Settings) (r : DumpRecord) (props_ok : Bool) → IsFalse (is_kept_node settings r)
-    → (IsFalse props_ok ↔ (IsTrue (is_revision r) × ¬ HasPropertyBlock r))
+    → (IsFalse props_ok ↔ (IsTrue (is_revision_record r) × ¬ HasPropertyBlock r))
     → IsVerdict settings r
     (record { props_ok = props_ok; md5_ok = true; sha1_ok = true; merge_ok = true; checked = false })
 other_verdict settings r props_ok other props = record {
   props =
-      let revision = or_none (is_revision r) (is_kept_node settings r) other in
+      let revision = or_none (is_revision_record r) (is_kept_node settings r) other in
       (λ e. let bad = props.0 e in (revision ∙ bad.0, bad.1), λ bad. props.1 (sym revision ∙ bad.0, bad.1));
   md5 = (λ e. cc, λ bad. absurd (absurd_bool _ bad.0 other));
   sha1 = (λ e. cc, λ bad. absurd (absurd_bool _ bad.0 other));

@@ -8,11 +8,11 @@ ghost use Rattle.dump_records.specs.steps.RecordViews.{record_item};
 ghost use Rattle.dump_rules.specs.Settings.{Settings};
 ghost use Rattle.dump_digest.specs.steps.Checks.{properties_read};
 ghost use Rattle.dump_digest.specs.steps.ContentViews.{IsContent, IsSaidBy};
-ghost use Rattle.dump_digest.specs.RecordParts.{HasPropertyBlock, has_lost_source, is_kept_node, is_node, is_revision, takes_deletes};
+ghost use Rattle.dump_digest.specs.RecordParts.{HasPropertyBlock, has_lost_source, is_kept_node, is_node, is_revision_record, takes_deletes};
 
 use crate::digests::text_check;
 use crate::kept::is_kept;
-use crate::mergeinfo::Mergeinfo;
+use crate::node_mergeinfo::Mergeinfo;
 use crate::verdict::Verdict;
 use dump_records::Record;
 use dump_rules::{Options, keeps};
@@ -101,7 +101,7 @@ fn read_kept<'a>(item: &Record<'a>, options: &Options) -> Content<'a>
 
 /// What is read of a revision.
 fn read_revision<'a>(item: &Record<'a>) -> Content<'a>
-    requires { IsTrue (is_revision (record_item item.now)) }
+    requires { IsTrue (is_revision_record (record_item item.now)) }
     ensures { (settings : Settings) → IsFalse (is_kept_node settings (record_item item.now))
         → IsContent settings (record_item item.now) result }
 {
@@ -120,7 +120,7 @@ fn read_revision<'a>(item: &Record<'a>) -> Content<'a>
 
 /// What is read of a record that is neither a revision nor a kept node.
 fn read_nothing<'a>() -> Content<'a>
-    ensures { (settings : Settings) (r : DumpRecord) → IsFalse (is_revision r) → IsFalse (is_kept_node settings r)
+    ensures { (settings : Settings) (r : DumpRecord) → IsFalse (is_revision_record r) → IsFalse (is_kept_node settings r)
         → IsContent settings r result }
 {
     Content {

@@ -25,12 +25,12 @@ mod content;
 mod digests;
 mod done;
 mod kept;
-mod mergeinfo;
+mod node_mergeinfo;
 mod verdict;
 
 pub use done::Done;
 pub use kept::is_kept;
-pub use mergeinfo::is_mergeinfo;
+pub use node_mergeinfo::is_mergeinfo;
 pub use verdict::{Verdict, check};
 
 #[cfg(test)]

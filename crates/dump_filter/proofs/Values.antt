@@ -18,7 +18,7 @@ use Rattle.dump_filter.specs.NewHeaders.{with_length, with_lengths, written_numb
 use Rattle.dump_filter.specs.RecordFaults.{ends_in_group, IsOutOfOrder, present_number, HasBadCopyRevision, HoldsOfRecord, IsRecordFault, AreFaultFree}
 use Rattle.dump_filter.specs.NewContent.{padding_log, is_date, padding_properties, revision_properties, IsNewProperty, AreNewProperties, new_block}
 use Rattle.dump_filter.specs.RecordOutput.{whole_text, revision_text, IsRevisionOutput, IsNodeOutput, IsOutput, IsWrittenBlock}
-use Rattle.dump_filter.specs.Written.{is_open, is_written, AreOutputs, IsWritten}
+use Rattle.dump_filter.specs.Written.{is_open, is_written, AreOutputs, IsWrittenText}
 use Rattle.dump_filter.specs.WholeText.{IsCleanText}
 use Rattle.dump_filter.specs.Counts.{report_of}
 
@@ -494,7 +494,7 @@ outputs = (codes "UUID: 7bf7a5ef\n\n", [], refl, refl, ([], [], refl, refl, refl
 abbrev pub version_text : List ℕ
 version_text = codes "SVN-fs-dump-format-version: 2\n\n"
 
-version_written : IsWritten padding true (version ∷ []) version_text
+version_written : IsWrittenText padding true (version ∷ []) version_text
 version_written = (version_text, [], refl, refl, refl)
 
 -- WholeText

@@ -9,7 +9,7 @@ use Rattle.dump_rules.specs.Settings.{Settings}
 use Rattle.dump_filter.specs.Groups.{kept_revisions}
 use Rattle.dump_filter.specs.RecordFaults.{AreFaultFree}
 use Rattle.dump_filter.specs.RecordOutput.{IsWrittenBlock}
-use Rattle.dump_filter.specs.Written.{is_written, IsWritten}
+use Rattle.dump_filter.specs.Written.{is_written, IsWrittenText}
 use Rattle.dump_filter.specs.WholeText.{IsCleanText}
 
 -- what is written of the first records of a dump, while more may follow, begins what is written of them and more, where
@@ -19,8 +19,8 @@ WrittenOnlyGrows = (settings : Settings) (ended : Bool) (dump : List ℕ) (recor
     (old new : List ℕ) →
     BeginsWithRecords dump (records ++ more)
     → AreFaultFree settings (records ++ more)
-    → IsWritten settings false records old
-    → IsWritten settings ended (records ++ more) new
+    → IsWrittenText settings false records old
+    → IsWrittenText settings ended (records ++ more) new
     → IsPrefixOf old new
 
 -- each length that is written can be read again

@@ -4,7 +4,7 @@ ghost use Rattle.dump_records.specs.steps.RecordViews.{record_item};
 ghost use Rattle.dump_records.specs.RecordText.{DumpRecord};
 ghost use Rattle.dump_rules.specs.Settings.{Settings};
 ghost use Rattle.dump_digest.specs.steps.DoneViews.{done_record, done_verdict};
-ghost use Rattle.dump_digest.specs.RecordParts.{is_revision};
+ghost use Rattle.dump_digest.specs.RecordParts.{is_revision_record};
 ghost use Rattle.dump_filter.specs.steps.NewProperties.{IsReadNode};
 ghost use Rattle.dump_filter.specs.steps.State.{view_pending, view_group, view_state, revision_count};
 ghost use Rattle.dump_filter.specs.steps.State.PresentGroup.{Pending as IsPending};
@@ -140,7 +140,7 @@ impl<'a> State<'a> {
     ) -> Result<Piece<'a>, Memory>
         requires kept { AreKept self.old.revisions (view_group self.old.group) }
         requires room { revision_count (view_state self.old) < 2 ^ 64 }
-        requires revision { IsTrue (is_revision (record_item (done_record done))) }
+        requires revision { IsTrue (is_revision_record (record_item (done_record done))) }
         ensures piece { let r = record_item (done_record done.entry) in
             IfOk result (λ piece. IsPiece options.now (view_state self.old) r Fate.Hold piece) }
         ensures state { let r = record_item (done_record done.entry) in
@@ -189,7 +189,7 @@ impl<'a> State<'a> {
         requires nodes_kept { self.old.report.nodes_kept + 1 < 2 ^ 64 }
         requires nodes_dropped { self.old.report.nodes_dropped + 1 < 2 ^ 64 }
         requires node { (copy : Change) → fate ≡ Fate.Keep copy → IsReadNode done }
-        requires revision { fate ≡ Fate.Hold → IsTrue (is_revision (record_item (done_record done))) }
+        requires revision { fate ≡ Fate.Hold → IsTrue (is_revision_record (record_item (done_record done))) }
         ensures piece { let r = record_item (done_record done.entry) in
             IfOk result (λ piece. IsPiece options.now (view_state self.old) r fate piece) }
         ensures state { let r = record_item (done_record done.entry) in
@@ -233,7 +233,7 @@ impl<'a> State<'a> {
         requires nodes_dropped { self.old.report.nodes_dropped + 1 < 2 ^ 64 }
         requires texts { self.old.report.texts_checked + 1 < 2 ^ 64 }
         requires node { (copy : Change) → fate ≡ Fate.Keep copy → IsReadNode done }
-        requires revision { fate ≡ Fate.Hold → IsTrue (is_revision (record_item (done_record done))) }
+        requires revision { fate ≡ Fate.Hold → IsTrue (is_revision_record (record_item (done_record done))) }
         ensures piece { let r = record_item (done_record done.entry) in
             IfOk result (λ piece. IsPiece options.now (view_state self.old) r fate piece) }
         ensures state { let r = record_item (done_record done.entry) in

@@ -34,7 +34,7 @@ impl<'o, 'a> Model for Filter<'o, 'a> {
     ghost use Rattle.dump_records.specs.steps.RecordViews.{record_dump, record_number};
     ghost use Rattle.dump_filter.specs.steps.FilterState.{FilterState};
     ghost use Rattle.dump_filter.specs.steps.State.{view_state};
-    ghost use Rattle.dump_filter.specs.steps.Knowledge.{Knows};
+    ghost use Rattle.dump_filter.specs.steps.Knowledge.{KnowsAccepted};
 
     ghost Value = { FilterState };
 
@@ -44,7 +44,7 @@ impl<'o, 'a> Model for Filter<'o, 'a> {
       active = f.active;
     } };
 
-    ghost invariant = { λ f. f.active ≡ true → Knows f.options.now f.state.last (view_state f.state) };
+    ghost invariant = { λ f. f.active ≡ true → KnowsAccepted f.options.now f.state.last (view_state f.state) };
 }
 
 impl<'o, 'a> Filter<'o, 'a> {
@@ -77,7 +77,7 @@ impl<'o, 'a> Filter<'o, 'a> {
         }
     }
 
-    /// What is written where this record comes next. A fault comes before want of memory; after either, each call
+    /// What is written where this record comes next. A fault comes before out of memory; after either, each call
     /// answers `Closed`.
     pub fn step(&mut self, alloc: Global, done: Done<'a>) -> Result<Piece<'a>, StepFault>
         requires options { done_settings done ≡ self.old.settings }

@@ -9,13 +9,13 @@ ghost use Rattle.dump_filter.specs.steps.MadeBytes.{made_or};
 ghost use Rattle.dump_filter.specs.steps.OwnText.{revision_own};
 ghost use Rattle.dump_filter.specs.steps.NewLines.{AreLengths, new_record};
 ghost use Rattle.dump_digest.specs.steps.DoneViews.{done_record};
-ghost use Rattle.dump_digest.specs.RecordParts.{is_revision, HasPropertyList};
+ghost use Rattle.dump_digest.specs.RecordParts.{is_revision_record, HasPropertyList};
 ghost use Rattle.dump_filter.specs.steps.NewProperties.{IsReadNode};
 ghost use Rattle.dump_filter.specs.steps.Advance.{IsOwnNode};
 
 use crate::fate::CopyChange;
 use crate::new_lines::{Changes, new_lines};
-use crate::props::{node_properties, revision_properties};
+use crate::new_properties::{node_properties, revision_properties};
 use dump_digest::Done;
 use dump_records::{Record, RecordPart};
 use dump_rules::{Options, Reach};
@@ -112,7 +112,7 @@ pub(crate) fn push_revision<'a>(
     number: u64,
     padded: bool,
 ) -> Result<(), Memory>
-    requires { IsTrue (is_revision (record_item (done_record done.now))) }
+    requires { IsTrue (is_revision_record (record_item (done_record done.now))) }
     ensures { let r = record_item (done_record done.now) in OnOk result ((ps : List Property) → HasPropertyList r ps
         → piece.new ≡ piece.old ++ revision_own r number padded ps) }
 {

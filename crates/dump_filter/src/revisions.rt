@@ -2,7 +2,7 @@
 ghost use Rattle.std.specs.Prelude.{◌≡◌, ◌<◌, ◌+◌, ◌^◌, OnOk, Some, length, IsTrue};
 ghost use Rattle.dump_records.specs.steps.RecordViews.{record_item};
 ghost use Rattle.dump_digest.specs.steps.DoneViews.{done_record};
-ghost use Rattle.dump_digest.specs.RecordParts.{is_revision};
+ghost use Rattle.dump_digest.specs.RecordParts.{is_revision_record};
 ghost use Rattle.dump_rules.specs.Renumbering.{image};
 ghost use Rattle.dump_filter.specs.Groups.{revision_number};
 ghost use Rattle.dump_filter.specs.steps.State.{view_pending, view_group, no_revisions, node_revision};
@@ -27,7 +27,7 @@ pub(crate) struct Revisions {
 
 /// The number of a revision record.
 pub(crate) fn revision_number(item: &Record<'_>) -> u64
-    requires { IsTrue (is_revision (record_item item.now)) }
+    requires { IsTrue (is_revision_record (record_item item.now)) }
     ensures { result ≡ revision_number (record_item item.now) }
 {
     let Some(number) = item.revision() else {
@@ -118,7 +118,7 @@ impl Revisions {
 
     /// Makes a revision the present one. New numbers count from the dump's first revision, so they begin anew at that.
     pub(crate) fn begin(&mut self, alloc: Global, item: &Record<'_>)
-        requires { IsTrue (is_revision (record_item item.now)) }
+        requires { IsTrue (is_revision_record (record_item item.now)) }
         ensures { self.new ≡ record {
           kept = started self.old.present (record_item item.now) self.old.kept;
           present = Some (revision_number (record_item item.now));

@@ -14,7 +14,7 @@ use Rattle.dump_lanes.specs.declared.stop.protocol.Marks.{Marks}
 use Rattle.dump_lanes.specs.PoolEvents.{Event}
 use Rattle.dump_lanes.specs.PoolParts.{stop_share}
 use Rattle.dump_lanes.specs.StopRule.{is_event, IsStep}
-use Rattle.dump_lanes.specs.steps.StopMarks.{marks, spent, after_raise, after_look, left_half, right_half, joined, word_of, Fits, SomeRaised, IsStop, SeesOwn, KnowsSteps, HasLooked, HasChecked}
+use Rattle.dump_lanes.specs.steps.StopMarks.{marks, spent, after_raise, after_look, left_half, right_half, joined_marks, word_of, Fits, SomeRaised, IsStop, SeesOwn, KnowsSteps, HasLooked, HasChecked}
 use Rattle.dump_lanes.proofs.Views.{AllViews, AllViews-set, AllViews-one, AllViews-more, within, sum_by-set, sum_by-alone, sum_by-least}
 
 abbrev share_of : Marks → ℕ
@@ -307,9 +307,9 @@ or_gives false b up f g e = g e
 
 -- a seat takes in another
 pub joins : (id : ℕ) (v : Marks) (other : ℕ) (u : Marks) → 0 < v.share
-    → Joins {S = Unit {0}} IsStop id v other u (joined v u) spent
+    → Joins {S = Unit {0}} IsStop id v other u (joined_marks v u) spent
 joins id v other u shared s h at two at' =
-    let both : Marks = joined v u in
+    let both : Marks = joined_marks v u in
     let taken : List Marks = set s.views id both in
     let was : get_elem? s.views other ≡ some u = sym (set_else s.views id other both two) ∙ at' in
     let m = h.fits id v at in

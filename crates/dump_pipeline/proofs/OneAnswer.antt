@@ -10,7 +10,7 @@ use Rattle.dump_rules.specs.Settings.{Settings}
 use Rattle.dump_filter.specs.Counts.{report_of}
 use Rattle.dump_filter.specs.Groups.{kept_revisions}
 use Rattle.dump_filter.specs.RecordFaults.{AreFaultFree, HoldsOfRecord, IsRecordFault}
-use Rattle.dump_filter.specs.Written.{IsWritten}
+use Rattle.dump_filter.specs.Written.{IsWrittenText}
 use Rattle.dump_filter.proofs.knowing.FilterLemmas.{free_none, begins_none}
 use Rattle.dump_filter.proofs.knowing.OnceLemmas.{outputs_once}
 use Rattle.dump_pipeline.specs.declared.answer.Answer.{Answer}
@@ -21,9 +21,9 @@ use Rattle.dump_pipeline.proofs.RunLemmas.{goes_on}
 
 -- what is written of the same records is the same text
 written_once : (settings : Settings) (ended : Bool) (rs ss : List DumpRecord) (x y : List ℕ) → rs ≡ ss
-    → IsWritten settings ended rs x → IsWritten settings ended ss y → x ≡ y
+    → IsWrittenText settings ended rs x → IsWrittenText settings ended ss y → x ≡ y
 written_once settings ended rs ss x y same a b = outputs_once settings ended (kept_revisions settings rs) rs x y a
-    (subst (λ (l : List DumpRecord). IsWritten settings ended l y) (sym same) b)
+    (subst (λ (l : List DumpRecord). IsWrittenText settings ended l y) (sym same) b)
 
 module _ (settings : Settings) (dump : List ℕ) where
   -- a record with a fault doesn't stand among records that have none

@@ -22,7 +22,7 @@ use Rattle.dump_filter.specs.steps.FilterState.{Seen, FilterState, first_state, 
 use Rattle.dump_filter.specs.RecordFaults.{AreFaultFree, HoldsOfRecord, IsRecordFault}
 use Rattle.dump_filter.specs.WholeText.{IsCleanText}
 use Rattle.dump_filter.specs.Groups.{kept_revisions}
-use Rattle.dump_filter.specs.Written.{IsWritten}
+use Rattle.dump_filter.specs.Written.{IsWrittenText}
 use Rattle.dump_filter.proofs.knowing.FilterLemmas.{free_more, free_none, begins_none}
 use Rattle.dump_filter.proofs.knowing.OnceLemmas.{outputs_once}
 use Rattle.dump_filter.proofs.knowing.Answered.{AllLawful, Reached, reached_written, all_lawful, lawful_front, lawful_behind, reach, reached_none, follow, Outcome}
@@ -40,7 +40,7 @@ prefix_trans a b c (x, is) (y, at) = (x ++ y, at ∙ ap (λ t. t ++ y) is ∙ ap
 
 -- what was written of records without a fault begins the filter's text of the dump
 pub goes_on : (settings : Settings) (dump : List ℕ) (before : List DumpRecord) (text : List ℕ)
-    → BeginsWithRecords dump before → AreFaultFree settings before → IsWritten settings false before text
+    → BeginsWithRecords dump before → AreFaultFree settings before → IsWrittenText settings false before text
     → IsFilterPrefix settings dump text
 goes_on settings dump before text begins free written = by_law (each_dump_has_one_list dump)
   where
@@ -179,10 +179,10 @@ module _ (settings : Settings) (dump : List ℕ) (cutter : CutterState) (filter 
       (subst (λ (s : Settings). NoFault (HoldsOfRecord s p.before r)) p.settings_is (accepts p.before p.accepted).0)
 
   written_with : (r : DumpRecord) (piece : List ℕ) → Accepts filter r piece
-      → IsWritten settings false (p.before ++ r ∷ []) (p.text ++ piece)
-  written_with r piece accepts = subst (λ (s : Settings). IsWritten s false (p.before ++ r ∷ [])
+      → IsWrittenText settings false (p.before ++ r ∷ []) (p.text ++ piece)
+  written_with r piece accepts = subst (λ (s : Settings). IsWrittenText s false (p.before ++ r ∷ [])
       (p.text ++ piece)) p.settings_is
-      ((accepts p.before p.accepted).1 p.text (subst (λ (s : Settings). IsWritten s false p.before p.text)
+      ((accepts p.before p.accepted).1 p.text (subst (λ (s : Settings). IsWrittenText s false p.before p.text)
       (sym p.settings_is) p.out))
 
   -- the count of the bytes behind a part of a piece
@@ -203,7 +203,7 @@ module _ (settings : Settings) (dump : List ℕ) (cutter : CutterState) (filter 
 
   goes_on_behind : (text : List ℕ) (before : List DumpRecord) (received : List ℕ) → IsPrefixOf received text
       → BeginsWithRecords dump before
-      → AreFaultFree settings before → IsWritten settings false before text → IsFilterPrefix settings dump received
+      → AreFaultFree settings before → IsWrittenText settings false before text → IsFilterPrefix settings dump received
   goes_on_behind text before received front begins free out =
       let (whole, answer, is, more) = goes_on settings dump before text begins free out in
       (whole, answer, is, prefix_trans received text whole front more)
@@ -213,8 +213,8 @@ module _ (settings : Settings) (dump : List ℕ) (cutter : CutterState) (filter 
   clean_text piece ends finishes = record {
     whole = ends_here Ending.Whole ends;
     fault_free = p.free;
-    written = subst (λ (s : Settings). IsWritten s true p.before (p.text ++ piece)) p.settings_is
-        (finishes p.before p.text p.accepted (subst (λ (s : Settings). IsWritten s false p.before p.text)
+    written = subst (λ (s : Settings). IsWrittenText s true p.before (p.text ++ piece)) p.settings_is
+        (finishes p.before p.text p.accepted (subst (λ (s : Settings). IsWrittenText s false p.before p.text)
         (sym p.settings_is) p.out));
   }
 

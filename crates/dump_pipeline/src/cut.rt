@@ -4,7 +4,7 @@ ghost use Rattle.dump_lanes.specs.steps.PortViews.{job_port};
 ghost use Rattle.dump_pipeline.specs.steps.Parts.{HasCut, HasCutFrom, IsFreshCutter};
 
 use crate::message::{Checked, Job, Run};
-use crate::words::Words;
+use crate::stops::Words;
 use dump_lanes::{Credit, Drawn, JobPort, StopSeat, StopWord};
 use dump_records::{Cut, Cutter};
 use std::sync::Wait;

@@ -34,8 +34,8 @@ mod plain;
 mod plan;
 mod sequence;
 mod stage;
+mod stops;
 mod threads;
-mod words;
 mod work;
 mod write;
 

@@ -13,7 +13,7 @@ ghost use Rattle.dump_pipeline.specs.steps.Parts.{HasFiltered, HasReleased, HasS
 
 use crate::message::{Checked, Job, Last, NumberedPiece, Run};
 use crate::stage::{End, Stage};
-use crate::words::Words;
+use crate::stops::Words;
 use dump_digest::Done;
 use dump_filter::{Filter, StepFault};
 use dump_lanes::{DonePort, LaneIn, Sent, Slots, StopSeat, StopWord};

@@ -7,7 +7,7 @@ use crate::cut::{Cutting, cut};
 use crate::gate::Gate;
 use crate::message::{Checked, Job, NumberedPiece, Run};
 use crate::sequence::{Sequenced, Sequencing, sequence};
-use crate::words::Words;
+use crate::stops::Words;
 use crate::work::{CheckerPort, work};
 use dump_lanes::StopSeat;
 use dump_rules::Options;

@@ -11,7 +11,7 @@ use Rattle.dump_rules.proofs.PrefixLemmas.{any_mapped}
 use Rattle.dump_trees.proofs.paths.KeptPaths.{reaches, reaches_more}
 use Rattle.dump_survey.specs.declared.needs.Need.{Need}
 use Rattle.dump_survey.specs.KeepAsWell.{matches_itself, covers, uncovered, are_apart}
-use Rattle.dump_survey.specs.steps.Needs.{PathNeed, Grown, need_view, grown_prefixes, is_matched, is_open, AreNeeded, unmatched, each_matches_itself, IsPass}
+use Rattle.dump_survey.specs.steps.Needs.{PathNeed, Grown, need_view, grown_prefixes, is_matched, is_unmet, AreNeeded, unmatched, each_matches_itself, IsPass}
 
 -- one prefix and another one
 
@@ -110,16 +110,16 @@ covers_matches path other itself is = begins_trans (bare_prefix path) (bare_pref
 
 -- whether the path is wanted by an open need
 abbrev pub needs_path : List PathNeed → List (List ℕ) → List ℕ → Bool
-needs_path needs prefixes path = list_any (λ (n : PathNeed). is_open prefixes n && bytes_eq n.wanted path) needs
+needs_path needs prefixes path = list_any (λ (n : PathNeed). is_unmet prefixes n && bytes_eq n.wanted path) needs
 
 -- what is needed isn't matched yet
 needed_unmatched : (needs : List PathNeed) (prefixes : List (List ℕ)) (path : List ℕ)
     → needs_path needs prefixes path ≡ true → is_matched prefixes path ≡ false
 needed_unmatched [] prefixes path some = absurd (let bad : false ≡ true = some in cc)
 needed_unmatched (n ∷ needs) prefixes path some =
-    elim (or_cases (is_open prefixes n && bytes_eq n.wanted path) (needs_path needs prefixes path) some) [
+    elim (or_cases (is_unmet prefixes n && bytes_eq n.wanted path) (needs_path needs prefixes path) some) [
       | inl here ↦
-          let parts = and_parts (is_open prefixes n) (bytes_eq n.wanted path) here in
+          let parts = and_parts (is_unmet prefixes n) (bytes_eq n.wanted path) here in
           let same : n.wanted ≡ path = (bytes_eq-Decides n.wanted path).0 parts.1 in
           let left = (and_parts (is_matched prefixes n.matched) (not (is_matched prefixes n.wanted)) parts.0).1 in
           subst (λ p. is_matched prefixes p ≡ false) same (not-true (is_matched prefixes n.wanted) left)
@@ -207,7 +207,8 @@ pub fewer_unmatched : (needs : List PathNeed) (prefixes : List (List ℕ)) (path
 fewer_unmatched needs prefixes path some itself =
     count_less was is
     (λ n left. ap not ((or_parts _ _ (sym (appended n.wanted) ∙ not-true _ left)).0)) needs
-    (any_both (λ (n : PathNeed). is_open prefixes n && bytes_eq n.wanted path) (λ n. was n && not (is n)) found needs some)
+    (any_both (λ (n : PathNeed). is_unmet prefixes n && bytes_eq n.wanted path) (λ n. was n && not (is n)) found needs
+    some)
   where
     was : PathNeed → Bool
     was n = not (is_matched prefixes n.wanted)
@@ -219,9 +220,9 @@ fewer_unmatched needs prefixes path some itself =
         ≡ (is_matched prefixes text || (matches_path path text || false))
     appended text = list_any-append (λ prefix. matches_path prefix text) prefixes (path ∷ [])
 
-    found : (n : PathNeed) → (is_open prefixes n && bytes_eq n.wanted path) ≡ true → (was n && not (is n)) ≡ true
+    found : (n : PathNeed) → (is_unmet prefixes n && bytes_eq n.wanted path) ≡ true → (was n && not (is n)) ≡ true
     found n both =
-        let parts = and_parts (is_open prefixes n) (bytes_eq n.wanted path) both in
+        let parts = and_parts (is_unmet prefixes n) (bytes_eq n.wanted path) both in
         let same : n.wanted ≡ path = (bytes_eq-Decides n.wanted path).0 parts.1 in
         let here : is_matched (prefixes ++ path ∷ []) n.wanted ≡ true = appended n.wanted
         ∙ or_right (is_matched prefixes n.wanted) (matches_path path n.wanted || false)
@@ -260,7 +261,7 @@ pub record PassSoFar (needs left : List PathNeed) (old new : Grown) (grew : Bool
   pub needed : AreNeeded needs (grown_prefixes old) more
   pub among : (test : PathNeed → Bool) → list_any test left ≡ true → list_any test needs ≡ true
   pub closed : grew ≡ false → (new ≡ old)
-      × (list_any (is_open (grown_prefixes new)) needs ≡ list_any (is_open (grown_prefixes new)) left)
+      × (list_any (is_unmet (grown_prefixes new)) needs ≡ list_any (is_unmet (grown_prefixes new)) left)
   pub fewer : grew ≡ true → unmatched needs (grown_prefixes new) < unmatched needs (grown_prefixes old)
 
 pub pass_starts : (needs : List PathNeed) (old : Grown) → PassSoFar needs needs old old false
@@ -288,7 +289,7 @@ pass_ends needs old new grew so_far = record {
 module _ (needs left : List PathNeed) (n : PathNeed) (old new : Grown) (grew : Bool)
     (so_far : PassSoFar needs (n ∷ left) old new grew) where
   -- a need that is met
-  pub pass_on : is_open (grown_prefixes new) n ≡ false → PassSoFar needs left old new grew
+  pub pass_on : is_unmet (grown_prefixes new) n ≡ false → PassSoFar needs left old new grew
   pass_on shut = record {
     given = so_far.given;
     more = so_far.more;
@@ -297,7 +298,7 @@ module _ (needs left : List PathNeed) (n : PathNeed) (old new : Grown) (grew : B
     among = λ test some. so_far.among test (or_right (test n) _ some);
     closed = λ none.
         let before = so_far.closed none in
-        (before.0, before.1 ∙ ap (λ b. b || list_any (is_open (grown_prefixes new)) left) shut);
+        (before.0, before.1 ∙ ap (λ b. b || list_any (is_unmet (grown_prefixes new)) left) shut);
     fewer = so_far.fewer;
   }
 
@@ -306,9 +307,9 @@ module _ (needs left : List PathNeed) (n : PathNeed) (old new : Grown) (grew : B
       ∙ sym (append_assoc old.given old.added so_far.more)
 
   -- the present need's path is needed
-  is_needed : is_open (grown_prefixes new) n ≡ true → needs_path needs (grown_prefixes new) n.wanted ≡ true
-  is_needed open_now = so_far.among (λ (m : PathNeed). is_open (grown_prefixes new) m && bytes_eq m.wanted n.wanted)
-      (or_left _ _ (and_from (is_open (grown_prefixes new) n) (bytes_eq n.wanted n.wanted) open_now
+  is_needed : is_unmet (grown_prefixes new) n ≡ true → needs_path needs (grown_prefixes new) n.wanted ≡ true
+  is_needed open_now = so_far.among (λ (m : PathNeed). is_unmet (grown_prefixes new) m && bytes_eq m.wanted n.wanted)
+      (or_left _ _ (and_from (is_unmet (grown_prefixes new) n) (bytes_eq n.wanted n.wanted) open_now
       ((bytes_eq-Decides n.wanted n.wanted).1 refl)))
 
   no_more : (a b c : ℕ) → a < b → (grew ≡ false → b ≡ c) → (grew ≡ true → b < c) → a < c
@@ -319,7 +320,7 @@ module _ (needs left : List PathNeed) (n : PathNeed) (old new : Grown) (grew : B
       by false is = let h = same is in omega arith
 
   -- one that isn't met
-  pub pass_grows : (next : Grown) → is_open (grown_prefixes new) n ≡ true → matches_itself n.wanted ≡ true
+  pub pass_grows : (next : Grown) → is_unmet (grown_prefixes new) n ≡ true → matches_itself n.wanted ≡ true
       → next ≡ record new { added = new.added ++ n.wanted ∷ [] } → PassSoFar needs left old next true
   pass_grows next open_now itself is =
       subst (λ g. PassSoFar needs left old g true) (sym is) record {
@@ -343,7 +344,7 @@ front_taken x left = ap (λ n. take n left) (let e : length (x ∷ left) - 1 ≡
 -- the need that comes next isn't met
 pub pass_adds : (needs : List PathNeed) (left : List Need) (d : Need) (old new next : Grown) (grew : Bool)
     → 1 ≤ length left → PassSoFar needs (map need_view left) old new grew → IsTrue (each_matches_itself needs)
-    → is_open (grown_prefixes new) (need_view (get_or left 0 d)) ≡ true
+    → is_unmet (grown_prefixes new) (need_view (get_or left 0 d)) ≡ true
     → next ≡ record new { added = new.added ++ (get_or left 0 d).wanted.now ∷ [] }
     → PassSoFar needs (map need_view (take (length left - 1) (drop 1 left))) old next true
 pass_adds needs [] d old new next grew some so_far itself open_now is = absurd (omega arith)

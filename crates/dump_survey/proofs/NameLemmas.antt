@@ -4,8 +4,8 @@ use Rattle.std.specs.List.{list_all, onto_first}
 use Rattle.dump_trees.specs.Paths.{path_text, is_short, names_of}
 use Rattle.dump_rules.specs.Prefix.{bare_path}
 use Rattle.dump_trees.proofs.paths.PathNames.{split, split_text}
-use Rattle.dump_survey.specs.declared.names.Name.{Name}
-use Rattle.dump_survey.specs.declared.names.Name.TheVariants.{Empty, Dot, Other}
+use Rattle.dump_survey.specs.declared.short_paths.Name.{Name}
+use Rattle.dump_survey.specs.declared.short_paths.Name.TheVariants.{Empty, Dot, Other}
 use Rattle.dump_survey.specs.steps.Names.{name_with, is_whole, are_short_from}
 
 -- whether a name is neither empty nor a dot

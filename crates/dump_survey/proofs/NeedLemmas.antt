@@ -30,7 +30,7 @@ use Rattle.dump_history.specs.RecordChanges.{copy_path}
 use Rattle.dump_survey.specs.declared.memory.Memory.{Memory}
 use Rattle.dump_survey.specs.declared.needs.Need.{Need}
 use Rattle.dump_survey.specs.KeepAsWell.{with_prefixes, stops_at, wanted_path, matches_itself, is_wanted, AreWanted, covers, uncovered, are_apart, stops_somewhere, AreKeptAsWell, AreKeptAsWellIn}
-use Rattle.dump_survey.specs.steps.Needs.{PathNeed, need_view, need_of, needs_of, can_not_stand, copy_need, is_matched, is_open, AreNeeded, each_matches_itself}
+use Rattle.dump_survey.specs.steps.Needs.{PathNeed, need_view, need_of, needs_of, can_not_stand, copy_need, is_matched, is_unmet, AreNeeded, each_matches_itself}
 use Rattle.dump_survey.proofs.GrowthLemmas.{any_both, needs_path, uncovered_same, uncovered_apart}
 use Rattle.dump_survey.proofs.SurveyorLemmas.{begins_with_none, comes_next}
 
@@ -255,7 +255,7 @@ and_swapped false false = refl
 
 -- the filter stops at a copy where what it needs isn't met
 open_stops : (side : Side) (prefixes : List (List ℕ)) (r : DumpRecord)
-    → ((can_not_stand r && matches_itself (wanted_path side r)) && is_open prefixes (copy_need side r))
+    → ((can_not_stand r && matches_itself (wanted_path side r)) && is_unmet prefixes (copy_need side r))
     ≡ ((is_node r && ((side_keeps side (is_matched prefixes (node_path r))
     && (is_copy r && not (side_keeps side (is_matched prefixes (copy_path r))))) && not (is_whole_file r)))
     && matches_itself (wanted_path side r))
@@ -270,29 +270,31 @@ open_stops Exclude prefixes r =
 
 -- no need is open where the filter stops nowhere
 none_stops : (settings : Settings) (records : List DumpRecord)
-    → list_any (is_open settings.prefixes) (needs_of settings.side records) ≡ stops_somewhere settings records
+    → list_any (is_unmet settings.prefixes) (needs_of settings.side records) ≡ stops_somewhere settings records
 none_stops settings records =
-    any_filtered (is_open settings.prefixes) (need_of settings.side) records
+    any_filtered (is_unmet settings.prefixes) (need_of settings.side) records
     ∙ any_same _ (λ r. stops_at settings r && matches_itself (wanted_path settings.side r))
     (λ r. some_where (can_not_stand r && matches_itself (wanted_path settings.side r)) (copy_need settings.side r)
-    (is_open settings.prefixes) ∙ open_stops settings.side settings.prefixes r) records
+    (is_unmet settings.prefixes) ∙ open_stops settings.side settings.prefixes r) records
 
 -- what a need wants is wanted
 need_wanted : (settings : Settings) (records : List DumpRecord) (path : List ℕ)
     → needs_path (needs_of settings.side records) settings.prefixes path ≡ true → is_wanted settings records path ≡ true
 need_wanted settings records path some =
     any_both _ (λ r. stops_at settings r && bytes_eq (wanted_path settings.side r) path) each records
-    (sym (any_filtered (λ (n : PathNeed). is_open settings.prefixes n && bytes_eq n.wanted path) (need_of settings.side) records)
+    (sym (any_filtered (λ (n : PathNeed). is_unmet settings.prefixes n && bytes_eq n.wanted path)
+    (need_of settings.side) records)
     ∙ some)
   where
-    each : (r : DumpRecord) → unwrap_or (option_map (λ (n : PathNeed). is_open settings.prefixes n && bytes_eq n.wanted path)
+    each : (r : DumpRecord)
+        → unwrap_or (option_map (λ (n : PathNeed). is_unmet settings.prefixes n && bytes_eq n.wanted path)
         (need_of settings.side r)) false ≡ true → (stops_at settings r && bytes_eq (wanted_path settings.side r) path) ≡ true
     each r found =
         let can = can_not_stand r && matches_itself (wanted_path settings.side r) in
-        let here = is_open settings.prefixes (copy_need settings.side r) in
+        let here = is_unmet settings.prefixes (copy_need settings.side r) in
         let same = bytes_eq (wanted_path settings.side r) path in
         let parts = and_parts can (here && same) (sym (some_where can (copy_need settings.side r)
-        (λ (n : PathNeed). is_open settings.prefixes n && bytes_eq n.wanted path)) ∙ found) in
+        (λ (n : PathNeed). is_unmet settings.prefixes n && bytes_eq n.wanted path)) ∙ found) in
         let both = and_parts here same parts.1 in
         let stops = and_parts (stops_at settings r) (matches_itself (wanted_path settings.side r))
         (sym (open_stops settings.side settings.prefixes r) ∙ and_from can here parts.0 both.0) in
@@ -328,7 +330,7 @@ all_wanted : (settings : Settings) (records : List DumpRecord) (needs : List Pat
 all_wanted settings records needs same before [] needed = tt
 all_wanted settings records needs same before (path ∷ paths) (some, itself, more) = (
   need_wanted (with_prefixes settings before) records path
-      (sym (same (λ (n : PathNeed). is_open (settings.prefixes ++ before) n && bytes_eq n.wanted path)) ∙ some),
+      (sym (same (λ (n : PathNeed). is_unmet (settings.prefixes ++ before) n && bytes_eq n.wanted path)) ∙ some),
   itself,
   all_wanted settings records needs same (before ++ path ∷ []) paths
       (subst (λ l. AreNeeded needs l paths) (append_assoc settings.prefixes before (path ∷ [])) more),
@@ -338,7 +340,7 @@ all_wanted settings records needs same before (path ∷ paths) (some, itself, mo
 pub kept_as_well : (settings : Settings) (records : List DumpRecord) (needs : List PathNeed) (wanted paths : List (List ℕ))
     → ((test : PathNeed → Bool) → list_any test needs ≡ list_any test (needs_of settings.side records))
     → AreNeeded needs settings.prefixes wanted
-    → list_any (is_open (settings.prefixes ++ wanted)) needs ≡ false
+    → list_any (is_unmet (settings.prefixes ++ wanted)) needs ≡ false
     → paths ≡ uncovered wanted → AreKeptAsWell settings records paths
 kept_as_well settings records needs wanted paths same needed closed is = record {
   wanted = wanted;
@@ -347,8 +349,8 @@ kept_as_well settings records needs wanted paths same needed closed is = record 
   paths_are = is;
   apart = subst (λ l. are_apart l ≡ true) (sym is) (uncovered_apart needs settings.prefixes wanted needed);
   stops_nowhere = sym (none_stops (with_prefixes settings paths) records)
-      ∙ (sym (same (is_open (settings.prefixes ++ paths))) ∙ (any_same (is_open (settings.prefixes ++ paths))
-      (is_open (settings.prefixes ++ wanted)) (λ n. ap₂ (λ m w. m && not w) (alike n.matched) (alike n.wanted)) needs
+      ∙ (sym (same (is_unmet (settings.prefixes ++ paths))) ∙ (any_same (is_unmet (settings.prefixes ++ paths))
+      (is_unmet (settings.prefixes ++ wanted)) (λ n. ap₂ (λ m w. m && not w) (alike n.matched) (alike n.wanted)) needs
       ∙ closed));
 }
   where
@@ -372,7 +374,7 @@ pub kept_in : (settings : Settings) (dump : List ℕ) (needs : List PathNeed) (w
     → ((records : List DumpRecord) × (ending : Ending) × HasRecords dump records ending
     × ((test : PathNeed → Bool) → list_any test needs ≡ list_any test (needs_of settings.side records)))
     → AreNeeded needs settings.prefixes wanted
-    → list_any (is_open (settings.prefixes ++ wanted)) needs ≡ false
+    → list_any (is_unmet (settings.prefixes ++ wanted)) needs ≡ false
     → (result : Result (Vec (Bor (List ℕ)) Global) Memory)
     → IfOk result (λ paths. map (λ (path : Bor (List ℕ)). path.now) paths.items ≡ uncovered wanted)
     → IfOk result (λ paths. AreKeptAsWellIn settings dump (map (λ (path : Bor (List ℕ)). path.now) paths.items))

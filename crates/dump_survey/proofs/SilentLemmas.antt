@@ -15,7 +15,7 @@ use Rattle.dump_history.specs.SurveyLaws.{none_is}
 use Rattle.dump_history.proofs.survey.SurveyLemmas.{surveyed_dump}
 use Rattle.dump_survey.specs.Lines.{node_line, dump_line, place_text}
 use Rattle.dump_survey.specs.Told.{NodeTold, told_view, AreTold}
-use Rattle.dump_survey.specs.SurveyEnds.{ending_of}
+use Rattle.dump_survey.specs.SurveyEnds.{survey_ending}
 use Rattle.dump_survey.specs.SurveyTies.{all_findings, none_told, DumpRestricts, SilentSurveyRestricts, SilentTextRestricts}
 use Rattle.dump_survey.proofs.TieLemmas.{told_are_findings}
 
@@ -67,7 +67,7 @@ module _ (patched : Patching) (settings : Settings) (dump text : List ℕ) (reco
 -- a survey in which nothing that matters is told gives the law its premise
 pub silent_restricts : SilentSurveyRestricts
 silent_restricts patched settings dump text records survey clean fit is nothing no_obstacle no_alarm =
-    silent patched settings dump text records clean fit is.records (ending_of survey.end.end)
+    silent patched settings dump text records clean fit is.records (survey_ending survey.end.end)
     (map told_view survey.told.items) is.has is.told (sym is.found ∙ nothing) no_obstacle no_alarm
 
 no_bytes : (xs : List ℕ) → false ≡ not (length xs == 0) → xs ≡ []

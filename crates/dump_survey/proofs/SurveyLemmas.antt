@@ -10,9 +10,9 @@ use Rattle.dump_survey.specs.declared.surveyor.Step.TheVariants.{Node, Other, Fi
 use Rattle.dump_survey.specs.declared.told.SurveyedNode.{SurveyedNode}
 use Rattle.dump_survey.specs.declared.surveyor.SurveyEnd.{SurveyEnd}
 use Rattle.dump_survey.specs.DumpFindings.{listed_findings}
-use Rattle.dump_survey.specs.Told.{NodeTold, opened, IsToldOf, AreTold}
+use Rattle.dump_survey.specs.Told.{NodeTold, present_after, IsToldOf, AreTold}
 use Rattle.dump_survey.specs.steps.Surveyed.{told_of_node}
-use Rattle.dump_survey.specs.SurveyEnds.{ending_of}
+use Rattle.dump_survey.specs.SurveyEnds.{survey_ending}
 use Rattle.dump_survey.specs.steps.Surveying.{Surveying}
 use Rattle.dump_survey.specs.steps.Steps.{ComesNext, open_behind, SurveyStep}
 
@@ -42,8 +42,8 @@ told_more settings number present (x ∷ records) r told this (first, others, al
   others ++ this,
   ap (λ l. l ++ this) all ∙ append_assoc first others this,
   one,
-  told_more settings (number + 1) (opened present x) records r others this more
-      (subst (λ n. IsToldOf settings n (open_behind (opened present x) records) r this)
+  told_more settings (number + 1) (present_after present x) records r others this more
+      (subst (λ n. IsToldOf settings n (open_behind (present_after present x) records) r this)
       (let e : number + length (x ∷ records) ≡ number + 1 + length records = omega arith in e) is),
 )
 
@@ -103,12 +103,12 @@ module _ (settings : Settings) (dump : List ℕ) (state after : Surveying) (told
 
   -- where the records end all are told
   pub all_told : (end : SurveyEnd) → SurveyStep state (Finished end) after
-      → HasRecords dump so_far.before (ending_of end.end)
+      → HasRecords dump so_far.before (survey_ending end.end)
       × (listed_findings end.dump ≡ dump_findings settings so_far.before)
   all_told end (records, has, count, found, next) =
-      let here = subst (λ d. HasRecords d records (ending_of end.end)) so_far.dump_is has in
+      let here = subst (λ d. HasRecords d records (survey_ending end.end)) so_far.dump_is has in
       let all : records ≡ so_far.before = begins_once dump records so_far.before (count ∙ sym so_far.count)
       (here.0, here.1, here.2) so_far.begins in (
-        subst (λ l. HasRecords dump l (ending_of end.end)) all here,
+        subst (λ l. HasRecords dump l (survey_ending end.end)) all here,
         found ∙ ap₂ dump_findings so_far.settings_is all,
       )

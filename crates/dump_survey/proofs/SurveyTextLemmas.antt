@@ -10,7 +10,7 @@ use Rattle.dump_digest.specs.RecordParts.{is_node}
 use Rattle.dump_writer.specs.SinkWords.{IsPrefixOf}
 use Rattle.dump_history.specs.Findings.{Finding, AreFindingsOf, dump_findings}
 use Rattle.dump_history.proofs.survey.FindingLemmas.{findings_once}
-use Rattle.dump_survey.specs.Told.{NodeTold, told_in, opened, IsToldOf, AreTold}
+use Rattle.dump_survey.specs.Told.{NodeTold, told_in, present_after, IsToldOf, AreTold}
 use Rattle.dump_survey.specs.Lines.{node_line, dump_line, ending_line}
 use Rattle.dump_survey.specs.SurveyText.{IsSurveyText, survey_lines}
 use Rattle.dump_survey.proofs.TieLemmas.{told_once}
@@ -35,7 +35,7 @@ told_of_records : (settings : Settings) (number : ℕ) (present : Option ℕ) (r
 told_of_records settings number present [] = ([], refl)
 told_of_records settings number present (r ∷ records) =
     let (this, one) = told_of_record settings number present r in
-    let (others, more) = told_of_records settings (number + 1) (opened present r) records in
+    let (others, more) = told_of_records settings (number + 1) (present_after present r) records in
     (this ++ others, (this, others, refl, one, more))
 
 -- what is told of records begins with what is told of the first of them
@@ -44,7 +44,8 @@ told_front : (settings : Settings) (number : ℕ) (present : Option ℕ) (record
     → (front behind : List NodeTold) × (told ≡ front ++ behind) × AreTold settings number present records front
 told_front settings number present [] rest told are = ([], told, refl, refl)
 told_front settings number present (r ∷ records) rest told (this, others, is, one, more) =
-    let (front, behind, same, are) = told_front settings (number + 1) (opened present r) records rest others more in (
+    let (front, behind, same, are) =
+    told_front settings (number + 1) (present_after present r) records rest others more in (
       this ++ front,
       behind,
       is ∙ (ap (λ l. this ++ l) same ∙ sym (append_assoc this front behind)),

@@ -14,7 +14,7 @@ use Rattle.dump_records.proofs.ListLaw.{each_dump_has_one_list}
 use Rattle.dump_records.proofs.Prefixes.{begins_prefix, one_more, whole_list}
 use Rattle.dump_rules.specs.Settings.{Settings}
 use Rattle.dump_rules.specs.Prefix.{bare_prefix}
-use Rattle.dump_digest.specs.RecordParts.{is_revision, is_node}
+use Rattle.dump_digest.specs.RecordParts.{is_revision_record, is_node}
 use Rattle.dump_filter.proofs.groups.KindLemmas.{alone}
 use Rattle.dump_survey.specs.declared.tally.Tally.{Tally}
 use Rattle.dump_survey.specs.steps.Tally.{no_tally, next_tally, tally_findings}
@@ -29,9 +29,9 @@ use Rattle.dump_survey.specs.steps.Found.{has_found, IsFoundIn}
 use Rattle.dump_survey.specs.Told.{NodeTold, IsToldOf, told_in}
 use Rattle.dump_survey.specs.steps.Found.{listed}
 use Rattle.dump_survey.specs.steps.Surveyed.{told_of_node}
-use Rattle.dump_survey.specs.SurveyEnds.{ending_of}
+use Rattle.dump_survey.specs.SurveyEnds.{survey_ending}
 use Rattle.dump_survey.specs.steps.Surveying.{Surveying, Surveys}
-use Rattle.dump_survey.specs.steps.Steps.{IsStepOf, IsEndOf, ComesNext, open_behind, SurveyStep}
+use Rattle.dump_survey.specs.steps.Steps.{IsStepOf, TellsEnd, ComesNext, open_behind, SurveyStep}
 use Rattle.dump_survey.proofs.TallyLemmas.{is_single, filter_same, tally_more, count_within, present_number, present_is, tally_tells}
 
 -- a lawful record is no node that is a revision too
@@ -39,7 +39,7 @@ single : (number : ℕ) (r : DumpRecord) → is_lawful number r.headers ≡ true
     → is_single r ≡ true
 single number r lawful = by (is_node r) refl
   where
-    by : (b : Bool) → is_node r ≡ b → not (b && is_revision r) ≡ true
+    by : (b : Bool) → is_node r ≡ b → not (b && is_revision_record r) ≡ true
     by true node = ap not (alone number r lawful node)
     by false other = refl
 
@@ -103,17 +103,17 @@ module _ (settings : Settings) (prefixes : List (List ℕ)) (tally : Tally) (cut
   seen c = record { dump = c.dump; settings = settings; number = c.number }
 
   -- what is known where the records end
-  pub ended : (end : End) (step : Step) → EndsAfter cutter.dump cutter.number (ending_of end) → after ≡ cutter
-      → IsEndOf settings tally end step
+  pub ended : (end : End) (step : Step) → EndsAfter cutter.dump cutter.number (survey_ending end) → after ≡ cutter
+      → TellsEnd settings tally end step
       → SurveyStep (seen cutter) step (seen after)
   ended end (Node node) ends same is = absurd is
   ended end Other ends same is = absurd is
   ended end (Finished told) ends same (end_is, found) =
       let begins = knows.begins in
-      let has = whole_list cutter.dump knows.before (ending_of end) begins
-      (subst (λ n. EndsAfter cutter.dump n (ending_of end)) (sym knows.count) ends) in (
+      let has = whole_list cutter.dump knows.before (survey_ending end) begins
+      (subst (λ n. EndsAfter cutter.dump n (survey_ending end)) (sym knows.count) ends) in (
         knows.before,
-        subst (λ e. HasRecords cutter.dump knows.before (ending_of e)) (sym end_is) has,
+        subst (λ e. HasRecords cutter.dump knows.before (survey_ending e)) (sym end_is) has,
         knows.count,
         found ∙ (ap (tally_findings settings) knows.tallied
             ∙ tally_tells settings knows.before (begun_single cutter.dump knows.before begins)),

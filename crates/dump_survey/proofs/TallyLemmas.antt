@@ -5,7 +5,7 @@ use Rattle.std.proofs.lemmas.Bool.{and_parts}
 use Rattle.std.proofs.lemmas.List.Sums.{take_while-cons}
 use Rattle.dump_records.specs.RecordText.{DumpRecord}
 use Rattle.dump_rules.specs.Settings.{Settings}
-use Rattle.dump_digest.specs.RecordParts.{is_revision, is_node, is_kept_node}
+use Rattle.dump_digest.specs.RecordParts.{is_revision_record, is_node, is_kept_node}
 use Rattle.dump_filter.specs.Groups.{group_of, groups, group_number, revision_number, revision_numbers, keeps_group, keeps_empty}
 use Rattle.dump_history.specs.DumpChanges.{counts_from}
 use Rattle.dump_history.specs.Findings.{DumpFinding, every_dump_finding, is_found_in_dump, first_has_node, dump_findings}
@@ -28,7 +28,7 @@ node_count t kept (Some p) = refl
 count_is : (settings : Settings) (t : Tally) (records : List DumpRecord)
     → (tally_behind settings t records).count ≡ t.count + length (groups records)
 count_is settings t [] = omega arith
-count_is settings t (r ∷ records) = by (λ u. count_is settings u records) (is_revision r) (is_node r)
+count_is settings t (r ∷ records) = by (λ u. count_is settings u records) (is_revision_record r) (is_node r)
   where
     by : ((u : Tally) → (tally_behind settings u records).count ≡ u.count + length (groups records)) → (v n : Bool)
         → (tally_behind settings (if v then revision_tally settings t r
@@ -43,7 +43,7 @@ count_is settings t (r ∷ records) = by (λ u. count_is settings u records) (is
 pub count_within : (settings : Settings) (t : Tally) (records : List DumpRecord)
     → (tally_behind settings t records).count ≤ t.count + length records
 count_within settings t [] = omega arith
-count_within settings t (r ∷ records) = by (λ u. count_within settings u records) (is_revision r) (is_node r)
+count_within settings t (r ∷ records) = by (λ u. count_within settings u records) (is_revision_record r) (is_node r)
   where
     by : ((u : Tally) → (tally_behind settings u records).count ≤ u.count + length records) → (v n : Bool)
         → (tally_behind settings (if v then revision_tally settings t r
@@ -65,7 +65,7 @@ pub present_is : (settings : Settings) (t : Tally) (records : List DumpRecord)
 present_is settings t [] = refl
 present_is settings t (r ∷ records) =
     present_is settings (next_tally settings t r) records
-    ∙ ap (λ p. open_behind p records) (by (is_revision r) (is_node r))
+    ∙ ap (λ p. open_behind p records) (by (is_revision_record r) (is_node r))
   where
     of_node : (p : Option Present) → t.present ≡ p
         → present_number (node_tally t (is_kept_node settings r) p).present ≡ present_number p
@@ -95,7 +95,7 @@ node_numbered t kept (Some p) = refl
 numbered_is : (settings : Settings) (t : Tally) (records : List DumpRecord)
     → (tally_behind settings t records).numbered ≡ (t.numbered && counts_from t.count (revision_numbers records))
 numbered_is settings t [] = sym (and_true t.numbered)
-numbered_is settings t (r ∷ records) = by (λ u. numbered_is settings u records) (is_revision r) (is_node r)
+numbered_is settings t (r ∷ records) = by (λ u. numbered_is settings u records) (is_revision_record r) (is_node r)
   where
     next : t.count + 1 ≡ suc t.count
     next = omega arith
@@ -126,7 +126,7 @@ nodes_none r records is = take_while-cons is_node r records ∙ ap (λ b. cond b
 
 -- whether the record is no node that is a revision too
 abbrev pub is_single : DumpRecord → Bool
-is_single r = not (is_node r && is_revision r)
+is_single r = not (is_node r && is_revision_record r)
 
 -- whether the present revision is kept, where these nodes follow
 abbrev closes : Settings → Option Present → List DumpRecord → Bool
@@ -202,7 +202,7 @@ module _ (settings : Settings) (t : Tally) (r : DumpRecord) (records : List Dump
       && list_all (keeps_group settings) (groups records)))
   kept_node node = more (node_tally t (is_kept_node settings r) t.present) ∙ node_closes t.present node refl
 
-  kept_step : (v n : Bool) → is_revision r ≡ v → is_node r ≡ n → not (n && v) ≡ true
+  kept_step : (v n : Bool) → is_revision_record r ≡ v → is_node r ≡ n → not (n && v) ≡ true
       → keeps_present settings (tally_behind settings (if v then revision_tally settings t r
       else if n then node_tally t (is_kept_node settings r) t.present else other_tally settings t) records)
       ≡ (t.all_kept && (closes settings t.present (nodes (r ∷ records))
@@ -219,7 +219,8 @@ kept_is settings t [] single =
     ap (λ b. t.all_kept && b) (sym (closes_none settings t.present) ∙ sym (and_true (closes settings t.present [])))
 kept_is settings t (r ∷ records) single =
     let parts = and_parts (is_single r) (list_all is_single records) single in
-    kept_step settings t r records (λ u. kept_is settings u records parts.1) (is_revision r) (is_node r) refl refl parts.0
+    kept_step settings t r records (λ u. kept_is settings u records parts.1) (is_revision_record r) (is_node r)
+    refl refl parts.0
 
 -- whether the first revision has a node, where so many came already and this one is present
 abbrev first_has : ℕ → Option Present → List DumpRecord → Bool
@@ -243,7 +244,7 @@ module _ (settings : Settings) (t : Tally) (r : DumpRecord) (records : List Dump
   none_first zero (Some p) other = ap (λ (ns : List DumpRecord). not (length ns == 0)) (nodes_none r records other)
   none_first (suc n) p other = refl
 
-  first_revision : (n : ℕ) → t.count ≡ n → is_node r ≡ false → is_revision r ≡ true
+  first_revision : (n : ℕ) → t.count ≡ n → is_node r ≡ false → is_revision_record r ≡ true
       → (tally_behind settings (revision_tally settings t r) records).node_in_first
       ≡ (t.node_in_first || first_has n t.present (r ∷ records))
   first_revision zero count other rev = more (revision_tally settings t r) 1 (omega arith)
@@ -252,7 +253,7 @@ module _ (settings : Settings) (t : Tally) (r : DumpRecord) (records : List Dump
   first_revision (suc n) count other rev = more (revision_tally settings t r) (suc (suc n)) (omega arith)
       ∙ ap (λ b. t.node_in_first || b) (sym (none_first n t.present other))
 
-  first_other : (n : ℕ) → t.count ≡ n → is_node r ≡ false → is_revision r ≡ false
+  first_other : (n : ℕ) → t.count ≡ n → is_node r ≡ false → is_revision_record r ≡ false
       → (tally_behind settings (other_tally settings t) records).node_in_first
       ≡ (t.node_in_first || first_has n t.present (r ∷ records))
   first_other zero count other rev = more (other_tally settings t) zero count
@@ -265,8 +266,8 @@ module _ (settings : Settings) (t : Tally) (r : DumpRecord) (records : List Dump
       closed zero = refl
       closed (suc n) = refl
 
-  node_first : (n : ℕ) (p : Option Present) → t.count ≡ n → t.present ≡ p → is_node r ≡ true → is_revision r ≡ false
-      → ((node_tally t (is_kept_node settings r) p).node_in_first
+  node_first : (n : ℕ) (p : Option Present) → t.count ≡ n → t.present ≡ p → is_node r ≡ true
+      → is_revision_record r ≡ false → ((node_tally t (is_kept_node settings r) p).node_in_first
       || first_has n (node_tally t (is_kept_node settings r) p).present records)
       ≡ (t.node_in_first || first_has n p (r ∷ records))
   node_first zero None count is node rev =
@@ -290,7 +291,7 @@ module _ (settings : Settings) (t : Tally) (r : DumpRecord) (records : List Dump
       (ap (λ c. t.node_in_first || c == 1) count ∙ ap (λ b. t.node_in_first || b) (not_one n)
       ∙ or_false t.node_in_first)
 
-  first_node : (n : ℕ) → t.count ≡ n → is_node r ≡ true → is_revision r ≡ false
+  first_node : (n : ℕ) → t.count ≡ n → is_node r ≡ true → is_revision_record r ≡ false
       → (tally_behind settings (node_tally t (is_kept_node settings r) t.present) records).node_in_first
       ≡ (t.node_in_first || first_has n t.present (r ∷ records))
   first_node n count node rev =
@@ -298,7 +299,7 @@ module _ (settings : Settings) (t : Tally) (r : DumpRecord) (records : List Dump
       (node_count t (is_kept_node settings r) t.present ∙ count)
       ∙ node_first n t.present count refl node rev
 
-  first_step : (n : ℕ) → t.count ≡ n → (v m : Bool) → is_revision r ≡ v → is_node r ≡ m → not (m && v) ≡ true
+  first_step : (n : ℕ) → t.count ≡ n → (v m : Bool) → is_revision_record r ≡ v → is_node r ≡ m → not (m && v) ≡ true
       → (tally_behind settings (if v then revision_tally settings t r
       else if m then node_tally t (is_kept_node settings r) t.present else other_tally settings t) records).node_in_first
       ≡ (t.node_in_first || first_has n t.present (r ∷ records))
@@ -320,7 +321,7 @@ first_is settings t [] single n count = sym (ap (λ b. t.node_in_first || b) (no
     nothing (suc (suc n)) p = refl
 first_is settings t (r ∷ records) single n count =
     let parts = and_parts (is_single r) (list_all is_single records) single in
-    first_step settings t r records (λ u m is. first_is settings u records parts.1 m is) n count (is_revision r)
+    first_step settings t r records (λ u m is. first_is settings u records parts.1 m is) n count (is_revision_record r)
     (is_node r) refl refl parts.0
 
 zero_more : (n : ℕ) → 0 + n ≡ n

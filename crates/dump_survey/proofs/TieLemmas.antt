@@ -5,11 +5,11 @@ use Rattle.std.proofs.lemmas.Bool.{and_parts}
 use Rattle.std.proofs.lemmas.List.{map-append}
 use Rattle.dump_records.specs.RecordText.{DumpRecord}
 use Rattle.dump_rules.specs.Settings.{Settings}
-use Rattle.dump_digest.specs.RecordParts.{is_revision, is_node}
+use Rattle.dump_digest.specs.RecordParts.{is_revision_record, is_node}
 use Rattle.dump_filter.specs.Groups.{Group, group_of, groups, revision_number}
 use Rattle.dump_history.specs.Findings.{Finding, AreFindingsOf}
 use Rattle.dump_history.proofs.survey.FindingLemmas.{findings_once}
-use Rattle.dump_survey.specs.Told.{NodeTold, told_in, opened, IsToldOf, AreTold}
+use Rattle.dump_survey.specs.Told.{NodeTold, told_in, present_after, IsToldOf, AreTold}
 use Rattle.dump_survey.specs.SurveyTies.{all_findings, ToldAreFindings, ToldOnce}
 use Rattle.dump_survey.proofs.TallyLemmas.{nodes, nodes_more, nodes_none, is_single}
 use Rattle.dump_survey.proofs.SurveyorLemmas.{begun_single}
@@ -102,8 +102,8 @@ module _ (settings : Settings) (number : ℕ) (r : DumpRecord) (records : List D
             ∙ sym (append_assoc fs (node_findings rest.first) (all_findings rest.found)));
       }
 
-  covers_step : (present : Option ℕ) (this others : List NodeTold) (v n : Bool) → is_revision r ≡ v → is_node r ≡ n
-      → not (n && v) ≡ true → IsToldOf settings number present r this
+  covers_step : (present : Option ℕ) (this others : List NodeTold) (v n : Bool) → is_revision_record r ≡ v
+      → is_node r ≡ n → not (n && v) ≡ true → IsToldOf settings number present r this
       → Covers settings (own_nodes (if v then Some (revision_number r) else if n then present else None) records)
       (groups records) others
       → Covers settings (own_nodes present (r ∷ records))
@@ -124,8 +124,8 @@ covers settings number (Some revision) [] told single is =
 covers settings number present (r ∷ records) told single (this, others, told_is, one, more) =
     let parts = and_parts (is_single r) (list_all is_single records) single in
     subst (Covers settings (own_nodes present (r ∷ records)) (groups (r ∷ records))) (sym told_is)
-    (covers_step settings number r records present this others (is_revision r) (is_node r) refl refl parts.0 one
-    (covers settings (number + 1) (opened present r) records others parts.1 more))
+    (covers_step settings number r records present this others (is_revision_record r) (is_node r) refl refl parts.0 one
+    (covers settings (number + 1) (present_after present r) records others parts.1 more))
 
 -- what is told of a dump's nodes are the findings of its groups
 pub told_are_findings : ToldAreFindings
@@ -158,7 +158,7 @@ told_once_from : (settings : Settings) (number : ℕ) (present : Option ℕ) (re
 told_once_from settings number present [] told others is too = too ∙ sym is
 told_once_from settings number present (r ∷ records) told others (x, xs, is, one, more) (y, ys, is_too, one_too, more_too) =
     is_too ∙ (ap₂ (λ l m. l ++ m) (one_told settings number present r x y one one_too)
-    (told_once_from settings (number + 1) (opened present r) records xs ys more more_too) ∙ sym is)
+    (told_once_from settings (number + 1) (present_after present r) records xs ys more more_too) ∙ sym is)
 
 -- and a dump has one list of them
 pub told_once : ToldOnce

@@ -14,7 +14,7 @@ use Rattle.dump_survey.specs.declared.surveyor.SurveyEnd.{SurveyEnd}
 use Rattle.dump_survey.specs.declared.told.SurveyedNode.{SurveyedNode}
 use Rattle.dump_survey.specs.DumpFindings.{listed_findings}
 use Rattle.dump_survey.specs.Lines.{node_line, dump_line, ending_line}
-use Rattle.dump_survey.specs.SurveyEnds.{ending_of}
+use Rattle.dump_survey.specs.SurveyEnds.{survey_ending}
 use Rattle.dump_survey.specs.SurveyText.{IsSurveyText, BreaksOffSurvey}
 use Rattle.dump_survey.specs.Told.{NodeTold}
 use Rattle.dump_survey.specs.steps.Steps.{SurveyStep}
@@ -146,19 +146,20 @@ module _ (settings : Settings) (dump : List ℕ) (state after : Surveying) (old 
       (subst (λ l. IsPrefixOf l text) (flat_map-append node_line so_far.told (told_of_node node)) begins) takes
 
   module _ (end : SurveyEnd) (step : SurveyStep state (Finished end) after) (lines : List ℕ)
-      (lines_are : lines ≡ flat_map dump_line (listed_findings end.dump) ++ ending_line count (ending_of end.end)) where
+      (lines_are : lines
+      ≡ flat_map dump_line (listed_findings end.dump) ++ ending_line count (survey_ending end.end)) where
     -- with the lines of its end the text is whole
     text_whole : IsSurveyText settings dump (flat_map node_line so_far.told ++ lines)
         (has_some (flat_map node_line so_far.told ++ lines))
     text_whole =
         let all = all_told settings dump state after so_far.told so_far.have end step in record {
           records = so_far.have.before;
-          ending = ending_of end.end;
+          ending = survey_ending end.end;
           has = all.0;
           told = so_far.told;
           are_told = so_far.have.told;
           text_is = ap (λ l. flat_map node_line so_far.told ++ l)
-              (lines_are ∙ ap₂ (λ fs n. flat_map dump_line fs ++ ending_line n (ending_of end.end)) all.1
+              (lines_are ∙ ap₂ (λ fs n. flat_map dump_line fs ++ ending_line n (survey_ending end.end)) all.1
               (so_far.counted ∙ sym so_far.have.count));
           found_is = refl;
         }

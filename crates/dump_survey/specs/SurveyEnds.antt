@@ -4,6 +4,6 @@ use Rattle.dump_survey.specs.declared.surveyor.End.{End}
 use Rattle.dump_survey.specs.declared.surveyor.End.TheVariants as ends
 
 -- the ending of the list of records, as the program has it
-abbrev pub ending_of : End → Ending
-ending_of ends.Whole = Ending.Whole
-ending_of (ends.Broken kind place) = Ending.Broken kind place
+abbrev pub survey_ending : End → Ending
+survey_ending ends.Whole = Ending.Whole
+survey_ending (ends.Broken kind place) = Ending.Broken kind place

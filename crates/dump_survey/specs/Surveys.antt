@@ -6,12 +6,12 @@ use Rattle.dump_rules.specs.Settings.{Settings}
 use Rattle.dump_history.specs.Findings.{dump_findings}
 use Rattle.dump_survey.specs.declared.survey.Survey.{Survey}
 use Rattle.dump_survey.specs.DumpFindings.{listed_findings}
-use Rattle.dump_survey.specs.SurveyEnds.{ending_of}
+use Rattle.dump_survey.specs.SurveyEnds.{survey_ending}
 use Rattle.dump_survey.specs.Told.{told_view, AreTold}
 
 -- this is told of the dump's nodes, these are its records, and this is the survey
 pub record IsSurveyOf (settings : Settings) (dump : List ℕ) (survey : Survey) : Type 0 where
   pub records : List DumpRecord
-  pub has : HasRecords dump records (ending_of survey.end.end)
+  pub has : HasRecords dump records (survey_ending survey.end.end)
   pub told : AreTold settings 0 None records (map told_view survey.told.items)
   pub found : listed_findings survey.end.dump ≡ dump_findings settings records

@@ -4,7 +4,7 @@ use Rattle.dump_text.specs.Names.{copy_revision_name}
 use Rattle.dump_records.specs.HeaderRules.{header_number}
 use Rattle.dump_records.specs.RecordText.{DumpRecord}
 use Rattle.dump_rules.specs.Settings.{Settings}
-use Rattle.dump_digest.specs.RecordParts.{is_revision, is_node, node_path}
+use Rattle.dump_digest.specs.RecordParts.{is_revision_record, is_node, node_path}
 use Rattle.dump_filter.specs.Groups.{revision_number}
 use Rattle.dump_history.specs.RecordChanges.{copy_path}
 use Rattle.dump_history.specs.Findings.{Finding, AreFindingsOf}
@@ -52,8 +52,8 @@ told_in number revision r finding = record {
 
 -- the revision that a node belongs to which comes next, if there is one: behind a revision it is that one, and behind a
 -- node that node's
-abbrev pub opened : Option ℕ → DumpRecord → Option ℕ
-opened present r = if is_revision r then Some (revision_number r) else if is_node r then present else None
+abbrev pub present_after : Option ℕ → DumpRecord → Option ℕ
+present_after present r = if is_revision_record r then Some (revision_number r) else if is_node r then present else None
 
 -- this is told of the record with this number, where a node belongs to this revision
 abbrev pub IsToldOf : Settings → ℕ → Option ℕ → DumpRecord → List NodeTold → Type 0
@@ -67,4 +67,4 @@ abbrev pub AreTold : Settings → ℕ → Option ℕ → List DumpRecord → Lis
 AreTold settings number present [] told = told ≡ []
 AreTold settings number present (r ∷ records) told = (this others : List NodeTold) × (told ≡ this ++ others)
     × IsToldOf settings number present r this
-    × AreTold settings (number + 1) (opened present r) records others
+    × AreTold settings (number + 1) (present_after present r) records others

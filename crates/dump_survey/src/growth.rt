@@ -1,7 +1,7 @@
 //! Prefixes that grow until each copy that a prefix reaches has what it needs.
 ghost use Rattle.std.specs.Prelude.{◌≡◌, ◌++◌, ◌∷◌, [], IfOk, OnOk, IsTrue, false, map};
 ghost use Rattle.std.specs.List.{list_any};
-ghost use Rattle.dump_survey.specs.steps.Needs.{AreNeeded, IsPass, each_matches_itself, grown_prefixes, is_matched, is_open, need_view};
+ghost use Rattle.dump_survey.specs.steps.Needs.{AreNeeded, IsPass, each_matches_itself, grown_prefixes, is_matched, is_unmet, need_view};
 
 use crate::memory::Memory;
 use crate::needs::Need;
@@ -62,8 +62,8 @@ impl<'o, 'a> Growth<'o, 'a> {
     }
 
     /// Whether a need isn't met.
-    fn is_open(&self, need: &Need<'_>) -> bool
-        ensures { result ≡ is_open (grown_prefixes self.now) (need_view need.now) }
+    fn is_unmet(&self, need: &Need<'_>) -> bool
+        ensures { result ≡ is_unmet (grown_prefixes self.now) (need_view need.now) }
     {
         self.matches(need.matched) && !self.matches(need.wanted)
     }
@@ -88,7 +88,7 @@ impl<'o, 'a> Growth<'o, 'a> {
         let mut grew = false;
         let mut left = needs;
         while let [need, others @ ..] = left {
-            if self.is_open(need) {
+            if self.is_unmet(need) {
                 self.add(alloc, need.wanted)?;
                 grew = true;
             }
@@ -108,7 +108,7 @@ pub(crate) fn wanted_paths<'a>(
     requires { IsTrue (each_matches_itself (map need_view needs.now)) }
     ensures needed { IfOk result (λ paths. AreNeeded (map need_view needs.now) options.now.prefixes
         (map (λ path. path.now) paths.items)) }
-    ensures closed { IfOk result (λ paths. list_any (is_open (options.now.prefixes ++ map (λ path. path.now) paths.items))
+    ensures closed { IfOk result (λ paths. list_any (is_unmet (options.now.prefixes ++ map (λ path. path.now) paths.items))
         (map need_view needs.now) ≡ false) }
 {
     let mut growth = Growth::new(alloc, options);

@@ -32,30 +32,30 @@ mod as_well;
 mod finding;
 mod growth;
 pub mod laws;
-mod lines;
 mod memory;
-mod names;
 mod needs;
 mod node;
+mod node_headers;
 mod plain;
 mod prefix_set;
 mod prefixes;
+mod short_paths;
 mod slashes;
 mod survey;
+mod survey_lines;
+mod survey_text;
 mod surveyor;
 mod tally;
 mod told;
-mod words;
-mod writing;
 
 pub use as_well::keep_as_well;
 pub use finding::{EVERY_FINDING, Found, NodeFinding};
 pub use memory::Memory;
 pub use survey::{Survey, survey_dump};
+pub use survey_text::{SurveyFailure, write_as_well, write_survey};
 pub use surveyor::{End, Step, SurveyEnd, Surveyor};
 pub use tally::DumpFindings;
 pub use told::{SurveyedNode, Told};
-pub use writing::{SurveyFailure, write_as_well, write_survey};
 
 #[cfg(test)]
 mod tests;

@@ -17,10 +17,10 @@ ghost use Rattle.dump_survey.specs.steps.Losses.{AreObstaclesOf, AreLossesOf};
 
 use crate::finding::{Found, Losses, Obstacles};
 use crate::memory::Memory;
-use crate::names::is_short;
+use crate::node_headers::{ADD, DELETE, REPLACE, action_of, has_odd_delta, is_known_action};
 use crate::plain::{are_lines_plain, are_names_plain, properties_of};
 use crate::prefixes::Prefixes;
-use crate::words::{ADD, DELETE, REPLACE, action_of, has_odd_delta, is_known_action};
+use crate::short_paths::is_short;
 use dump_records::Record;
 use dump_rules::{Options, Side, keeps};
 use dump_text::Props;

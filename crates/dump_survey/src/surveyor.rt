@@ -2,7 +2,7 @@
 ghost use Rattle.std.specs.Prelude.{◌≡◌, ◌+◌, ◌<◌, ◌^◌, IfOk, map};
 ghost use Rattle.dump_records.specs.steps.RecordViews.{record_item};
 ghost use Rattle.dump_rules.specs.Prefix.{bare_prefix};
-ghost use Rattle.dump_survey.specs.steps.Steps.{IsStepOf, IsEndOf};
+ghost use Rattle.dump_survey.specs.steps.Steps.{IsStepOf, TellsEnd};
 
 use crate::memory::Memory;
 use crate::node::find;
@@ -89,7 +89,7 @@ fn step_of<'a>(
 
 /// What is known behind the records of this tally, which end so.
 fn finished<'a>(options: &Options, tally: &Tally, end: End) -> Step<'a>
-    ensures { IsEndOf options.now tally.now end result }
+    ensures { TellsEnd options.now tally.now end result }
 {
     Step::Finished(SurveyEnd {
         dump: tally.findings(options),

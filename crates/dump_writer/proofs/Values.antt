@@ -1,8 +1,8 @@
 -- Worked values of the definitions, computed and proved by the kernel.
 use Rattle.std.proofs.Common.{◌≡◌, ℕ, refl, ap, true, false, List, [], length, Some, Ok, Err, codes, inl, inr, arith, lit<}
 use base.Fml.{GName}
-use Rattle.dump_writer.specs.declared.memory.Trouble.{Trouble}
-use Rattle.dump_writer.specs.declared.memory.Trouble.TheVariants.{Never, Once, From}
+use Rattle.dump_writer.specs.declared.memory_sink.Trouble.{Trouble}
+use Rattle.dump_writer.specs.declared.memory_sink.Trouble.TheVariants.{Never, Once, From}
 use Rattle.dump_writer.specs.declared.sink.SinkDown.{SinkDown}
 use Rattle.dump_writer.specs.SinkWords.{greatest, capped, HasFailedSince, IsPrefixOf}
 use Rattle.dump_writer.specs.steps.SinkCalls.{CountsFailure, TakesOnlyFirst}

@@ -30,13 +30,13 @@
 #![tactic(auto)]
 
 mod counted;
-mod memory;
+mod memory_sink;
 mod out;
 mod out_mut;
 mod piece;
 mod sink;
 
-pub use memory::{MemorySink, Trouble};
+pub use memory_sink::{MemorySink, Trouble};
 pub use out::Out;
 pub use out_mut::OutMut;
 pub use piece::{Chunk, Memory, Piece, write_piece};

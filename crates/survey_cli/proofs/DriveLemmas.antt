@@ -9,10 +9,10 @@ use Rattle.dump_writer.specs.SinkWords.{IsPrefixOf}
 use Rattle.dump_survey.specs.AsWellLines.{AreAsWellLines}
 use Rattle.dump_survey.specs.SurveyText.{IsSurveyText, BreaksOffSurvey}
 use Rattle.dump_survey.specs.steps.Writing.{TakesSomeAsWell}
-use Rattle.dump_survey.specs.declared.writing.SurveyFailure.{SurveyFailure}
+use Rattle.dump_survey.specs.declared.survey_text.SurveyFailure.{SurveyFailure}
 use Rattle.survey_cli.specs.Drive.{IsWholeText, SurveysDump, SurveysInput, TakesFirst}
 use Rattle.survey_cli.specs.declared.drive.BrokenOff.{BrokenOff}
-use Rattle.survey_cli.specs.steps.Answered.{Arrives, BreaksOff, told_status}
+use Rattle.survey_cli.specs.steps.Answered.{Arrives, SurveyBreaksOff, told_status}
 
 -- where nothing waits the known bytes are those of the writer
 from_none : (a b : Option (List ℕ)) (bytes : List ℕ) → Appends (append_known a []) b bytes → Appends a b bytes
@@ -70,7 +70,7 @@ at_err (Err e) is = is
 
 -- a survey that broke off
 pub survey_broke_off : (settings : Settings) (dump : List ℕ) (old new : Option (List ℕ))
-    → BreaksOffSurvey settings dump old new → BreaksOff settings dump old new
+    → BreaksOffSurvey settings dump old new → SurveyBreaksOff settings dump old new
 survey_broke_off settings dump old new off = (off.text, off.found, inl off.is, (off.part, off.begins, off.appended))
 
 module _ (settings : Settings) (dump : List ℕ) (old mid new : Option (List ℕ)) (found : Bool)
@@ -92,7 +92,7 @@ module _ (settings : Settings) (dump : List ℕ) (old mid new : Option (List ℕ
       (survey.0 ++ lines, whole_with lines are, Appends-trans old mid new survey.0 lines survey.2 appends)
 
   -- a survey behind which the lines broke off
-  pub lines_broke_off : TakesSomeAsWell settings dump mid new → BreaksOff settings dump old new
+  pub lines_broke_off : TakesSomeAsWell settings dump mid new → SurveyBreaksOff settings dump old new
   lines_broke_off (inl none) = (
     survey.0,
     found,
@@ -117,7 +117,7 @@ module _ (settings : Settings) (dump : List ℕ) (old mid new : Option (List ℕ
 -- a text that was written whole, or broke off
 pub written_of : (settings : Settings) (dump : List ℕ) (old new : Option (List ℕ)) (answer : Result Bool SurveyFailure)
     → IfOk answer (λ found. (text : List ℕ) × IsWholeText settings dump text found × Appends old new text)
-    → OnErr answer (BreaksOff settings dump old new) → Arrives settings dump old new answer
+    → OnErr answer (SurveyBreaksOff settings dump old new) → Arrives settings dump old new answer
 written_of settings dump old new (Ok found) whole part = whole
 written_of settings dump old new (Err failure) whole part = part
 
@@ -138,7 +138,7 @@ arrives_behind settings dump answer (Err off) a b sink written kept start all br
     grown = subst (λ s. GrowsBy s sink.out.taken off.written) start broken
 
     go : (r : Result Bool SurveyFailure) → Arrives settings dump (append_known a []) b r
-        → BreaksOff settings dump a sink.out.taken
+        → SurveyBreaksOff settings dump a sink.out.taken
     go (Ok found) all = (
       all.0,
       found,

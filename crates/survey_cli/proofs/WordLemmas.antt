@@ -7,7 +7,7 @@ use Rattle.std.proofs.lemmas.Slice.Eq.{bytes_eq-Decides}
 use Rattle.clap.specs.Words.{ReadsOne, Text, one_text, rows_of}
 use Rattle.clap.specs.declared.parser.matches.Found.{Found}
 use Rattle.clap.proofs.WalkLemmas.{one_text-rows}
-use Rattle.survey_cli.specs.Words.{is_set}
+use Rattle.survey_cli.specs.Words.{is_flag_set}
 
 -- a text that isn't this one differs from it
 differs : (text other : Text) → (text ≡ other → ⊥) → bytes_eq text other ≡ false
@@ -20,10 +20,10 @@ differs text other not_same = go (bytes_eq text other) refl
 -- what is read of a flag, or false where nothing is, says whether it is set
 pub flag_is : (E : Type 0) (m : Found) (name : Text) (o : Option Bool) → (one_text m name ≡ None → o ≡ None)
     → ((t : Text) → one_text m name ≡ Some t → ReadsOne {E = E} ParsesBool t o)
-    → unwrap_or o false ≡ is_set name (rows_of m)
+    → unwrap_or o false ≡ is_flag_set name (rows_of m)
 flag_is E m name o none reads = go (one_text m name) refl
   where
-    is : (t : Option Text) → one_text m name ≡ t → is_set name (rows_of m) ≡ option_map_or
+    is : (t : Option Text) → one_text m name ≡ t → is_flag_set name (rows_of m) ≡ option_map_or
         (λ text. bytes_eq text (codes "true")) t false
     is t e = ap (λ u. option_map_or (λ text. bytes_eq text (codes "true")) u false) (sym (one_text-rows m name) ∙ e)
 
@@ -32,6 +32,6 @@ flag_is E m name o none reads = go (one_text m name) refl
     read t (Some false) e = rw e refl
     read t None e = sym (differs t (codes "true") e.1.0)
 
-    go : (t : Option Text) → one_text m name ≡ t → unwrap_or o false ≡ is_set name (rows_of m)
+    go : (t : Option Text) → one_text m name ≡ t → unwrap_or o false ≡ is_flag_set name (rows_of m)
     go None e = ap (λ v. unwrap_or v false) (none e) ∙ sym (is None e)
     go (Some t) e = read t o (reads t e) ∙ sym (is (Some t) e)

@@ -5,14 +5,14 @@ use Rattle.dump_rules.specs.Settings.{Settings}
 use Rattle.dump_writer.specs.SinkWords.{IsPrefixOf}
 use Rattle.dump_survey.specs.AsWellLines.{AreAsWellLines}
 use Rattle.dump_survey.specs.SurveyText.{IsSurveyText}
-use Rattle.survey_cli.specs.Words.{AnswersTo}
+use Rattle.survey_cli.specs.Words.{TellsSettings}
 use Rattle.survey_cli.specs.declared.words.Usage.{Usage}
 use Rattle.survey_cli.specs.declared.words.Usage.TheVariants.{Words, BothDrops, Memory}
 
 -- the status of a whole survey: whether something is found
-abbrev pub status_of : Bool → ℕ
-status_of false = 0
-status_of true = 1
+abbrev pub finding_status : Bool → ℕ
+finding_status false = 0
+finding_status true = 1
 
 -- the writer took the first of the bytes, perhaps all
 abbrev pub TakesFirst : Option (List ℕ) → Option (List ℕ) → List ℕ → Type 0
@@ -34,26 +34,26 @@ IsText settings dump text found = IsSurveyText settings dump text found ⊎ IsWh
 -- status is that of a failure
 abbrev pub SurveysDump : Settings → List ℕ → Option (List ℕ) → Option (List ℕ) → ℕ → Type 0
 SurveysDump settings dump old new status = (text : List ℕ) × (found : Bool)
-    × ((IsWholeText settings dump text found × Appends old new text × (status ≡ status_of found))
+    × ((IsWholeText settings dump text found × Appends old new text × (status ≡ finding_status found))
     ⊎ (IsText settings dump text found × TakesFirst old new text × (status ≡ 3)))
 
--- the whole input is surveyed, or nothing is written for want of memory or input
+-- the whole input is surveyed, or nothing is written, out of memory or without input
 abbrev pub SurveysInput : Settings → Option (List ℕ) → Option (List ℕ) → Option (List ℕ) → ℕ → Type 0
 SurveysInput settings input old new status =
     IfSome input (λ dump. SurveysDump settings dump old new status) ⊎ (Keeps old new × (status ≡ 3))
 
--- other words are refused by 2, and want of memory to read them by 3
-abbrev pub refusal_status : Usage → ℕ
-refusal_status Words = 2
-refusal_status BothDrops = 2
-refusal_status Memory = 3
+-- other words are refused by 2, and where reading them is out of memory by 3
+abbrev pub usage_status : Usage → ℕ
+usage_status Words = 2
+usage_status BothDrops = 2
+usage_status Memory = 3
 
 -- words that were refused write nothing, and others are obeyed on the input
-abbrev pub Obeys : Result Settings Usage → Option (List ℕ) → Option (List ℕ) → Option (List ℕ) → ℕ → Type 0
-Obeys (Err usage) input old new status = Keeps old new × (status ≡ refusal_status usage)
-Obeys (Ok settings) input old new status = SurveysInput settings input old new status
+abbrev pub SurveysOrRefuses : Result Settings Usage → Option (List ℕ) → Option (List ℕ) → Option (List ℕ) → ℕ → Type 0
+SurveysOrRefuses (Err usage) input old new status = Keeps old new × (status ≡ usage_status usage)
+SurveysOrRefuses (Ok settings) input old new status = SurveysInput settings input old new status
 
 -- words of this meaning have an answer, and it is obeyed
-abbrev pub Surveys : Result Settings Usage → Option (List ℕ) → Option (List ℕ) → Option (List ℕ) → ℕ → Type 0
-Surveys meaning input old new status = (answer : Result Settings Usage) × AnswersTo meaning answer
-    × Obeys answer input old new status
+abbrev pub DrivesSurvey : Result Settings Usage → Option (List ℕ) → Option (List ℕ) → Option (List ℕ) → ℕ → Type 0
+DrivesSurvey meaning input old new status = (answer : Result Settings Usage) × TellsSettings meaning answer
+    × SurveysOrRefuses answer input old new status

@@ -14,28 +14,29 @@ use Rattle.survey_cli.specs.declared.words.Usage.{Usage}
 use Rattle.survey_cli.specs.declared.words.Usage.TheVariants.{Words, BothDrops, Memory}
 
 -- the side of this name
-abbrev pub side_of : Text → Option Side
-side_of word = if bytes_eq word (codes "include") then Some Include
+abbrev pub named_side : Text → Option Side
+named_side word = if bytes_eq word (codes "include") then Some Include
     else (if bytes_eq word (codes "exclude") then Some Exclude else None)
 
 -- the line behind the program's name begins with the side
 abbrev pub side_in : List Text → Option Side
-side_in line = option_and_then side_of (slice_get line 0)
+side_in line = option_and_then named_side (slice_get line 0)
 
 -- whether a switch is set
-abbrev pub is_set : Text → List Row → Bool
-is_set name rows = option_map_or (λ text. bytes_eq text (codes "true")) (one_of name rows) false
+abbrev pub is_flag_set : Text → List Row → Bool
+is_flag_set name rows = option_map_or (λ text. bytes_eq text (codes "true")) (one_of name rows) false
 
 -- what becomes of empty revisions: by the first drop flag, by the second, and not by both
-abbrev pub empty_of : Bool → Bool → Option Empty
-empty_of false false = Some Pad
-empty_of true false = Some DropEmptied
-empty_of false true = Some DropAll
-empty_of true true = None
+abbrev pub empty_by_drops : Bool → Bool → Option Empty
+empty_by_drops false false = Some Pad
+empty_by_drops true false = Some DropEmptied
+empty_by_drops false true = Some DropAll
+empty_by_drops true true = None
 
 -- the same, by the rows behind a side
-abbrev pub empty_in : List Row → Option Empty
-empty_in rows = empty_of (is_set (codes "drop-empty-revs") rows) (is_set (codes "drop-all-empty-revs") rows)
+abbrev pub empty_by_rows : List Row → Option Empty
+empty_by_rows rows =
+    empty_by_drops (is_flag_set (codes "drop-empty-revs") rows) (is_flag_set (codes "drop-all-empty-revs") rows)
 
 -- the settings of a side and its rows, where it is known what becomes of empty revisions
 abbrev pub settings_with : Option Empty → Side → List Row → Result Settings Usage
@@ -44,31 +45,31 @@ settings_with (Some empty) side rows = Ok (record {
   side = side;
   prefixes = unwrap_or (all_of (codes "PREFIX") rows) [];
   empty = empty;
-  renumber = is_set (codes "renumber-revs") rows;
-  preserve = is_set (codes "preserve-revprops") rows;
-  skip_missing = is_set (codes "skip-missing-merge-sources") rows;
+  renumber = is_flag_set (codes "renumber-revs") rows;
+  preserve = is_flag_set (codes "preserve-revprops") rows;
+  skip_missing = is_flag_set (codes "skip-missing-merge-sources") rows;
 })
 
 -- the settings that a side and its rows give
-abbrev pub order_of : Side → List Row → Result Settings Usage
-order_of side rows = settings_with (empty_in rows) side rows
+abbrev pub settings_of_side : Side → List Row → Result Settings Usage
+settings_of_side side rows = settings_with (empty_by_rows rows) side rows
 
 -- the settings by the side that a line begins with, by whether clap takes the line, and by the rows that it finds
 abbrev pub settings_by : Option Side → Bool → List Row → Result Settings Usage
 settings_by None is_taken rows = Err Words
-settings_by (Some side) is_taken rows = if is_taken then order_of side rows else Err Words
+settings_by (Some side) is_taken rows = if is_taken then settings_of_side side rows else Err Words
 
 -- the settings that a line gives; clap passes over its first word, which is the side
-abbrev pub meaning_of_line : List Text → Result Settings Usage
-meaning_of_line line = settings_by (side_in line) (is_empty (fault_of flags line)) (matches_of flags line)
+abbrev pub settings_of_line : List Text → Result Settings Usage
+settings_of_line line = settings_by (side_in line) (is_empty (fault_of flags line)) (matches_of flags line)
 
 -- the settings that the words give: only a lawful line gives some, unless it asks for both ways to drop revisions
-abbrev pub meaning_of : List Text → Result Settings Usage
-meaning_of words = meaning_of_line (drop 1 words)
+abbrev pub settings_of_words : List Text → Result Settings Usage
+settings_of_words words = settings_of_line (drop 1 words)
 
--- the answer to words of this meaning: want of memory may hide it, and nothing else
-abbrev pub AnswersTo : Result Settings Usage → Result Settings Usage → Type 0
-AnswersTo meaning (Ok settings) = meaning ≡ Ok settings
-AnswersTo meaning (Err Words) = meaning ≡ Err Words
-AnswersTo meaning (Err BothDrops) = meaning ≡ Err BothDrops
-AnswersTo meaning (Err Memory) = ⊤
+-- the answer to words of this meaning: out of memory may hide it, and nothing else
+abbrev pub TellsSettings : Result Settings Usage → Result Settings Usage → Type 0
+TellsSettings meaning (Ok settings) = meaning ≡ Ok settings
+TellsSettings meaning (Err Words) = meaning ≡ Err Words
+TellsSettings meaning (Err BothDrops) = meaning ≡ Err BothDrops
+TellsSettings meaning (Err Memory) = ⊤

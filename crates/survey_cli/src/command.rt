@@ -1,21 +1,21 @@
 //! The command that the words behind the side are read by.
 ghost use Rattle.std.specs.Prelude.{◌≡◌, IfOk, false};
 ghost use Rattle.clap.specs.Words.{app_of, rule_of};
-ghost use Rattle.survey_cli.specs.CommandLine.{flags, prefixes, switch};
+ghost use Rattle.survey_cli.specs.CommandLine.{flags, prefix_words, plain_flag};
 
 use clap::{Arg, ArgAction, Command};
 use std::alloc::{AllocError, Global};
 
 // A flag without a value.
-fn switch<'a>(alloc: Global, name: &'a str) -> Arg<'a>
-    ensures rule { rule_of result ≡ switch name.entry.now }
+fn plain_flag<'a>(alloc: Global, name: &'a str) -> Arg<'a>
+    ensures rule { rule_of result ≡ plain_flag name.entry.now }
     ensures local { result.global ≡ false }
 {
     Arg::new(alloc, name).long(name).action(ArgAction::SetTrue)
 }
 
-fn prefixes<'a>(alloc: Global) -> Arg<'a>
-    ensures rule { rule_of result ≡ prefixes }
+fn prefix_words<'a>(alloc: Global) -> Arg<'a>
+    ensures rule { rule_of result ≡ prefix_words }
     ensures local { result.global ≡ false }
 {
     Arg::new(alloc, "PREFIX").required(true).num_args(1..)
@@ -27,10 +27,10 @@ pub fn flags<'a>(alloc: Global) -> Result<Command<'a>, AllocError>
 {
     Command::new(alloc, "svndumpsurvey")
         .disable_help_flag(true)
-        .arg(switch(alloc, "drop-empty-revs"))?
-        .arg(switch(alloc, "drop-all-empty-revs"))?
-        .arg(switch(alloc, "renumber-revs"))?
-        .arg(switch(alloc, "preserve-revprops"))?
-        .arg(switch(alloc, "skip-missing-merge-sources"))?
-        .arg(prefixes(alloc))
+        .arg(plain_flag(alloc, "drop-empty-revs"))?
+        .arg(plain_flag(alloc, "drop-all-empty-revs"))?
+        .arg(plain_flag(alloc, "renumber-revs"))?
+        .arg(plain_flag(alloc, "preserve-revprops"))?
+        .arg(plain_flag(alloc, "skip-missing-merge-sources"))?
+        .arg(prefix_words(alloc))
 }

@@ -2,12 +2,12 @@
 ghost use Rattle.std.specs.Prelude.{◌≡◌, [], List, ℕ, map, Ok, IfErr, IfOk, OnErr};
 ghost use Rattle.std.specs.Io.KnownBytes.{Appends, GrowsBy, Keeps};
 ghost use Rattle.dump_writer.specs.steps.SinkStates.{lent_taken, loan_of};
-ghost use Rattle.survey_cli.specs.Words.{meaning_of};
-ghost use Rattle.survey_cli.specs.Drive.{IsWholeText, SurveysInput, Surveys, refusal_status};
-ghost use Rattle.survey_cli.specs.steps.Answered.{Arrives, BreaksOff, told_status};
+ghost use Rattle.survey_cli.specs.Words.{settings_of_words};
+ghost use Rattle.survey_cli.specs.Drive.{IsWholeText, SurveysInput, DrivesSurvey, usage_status};
+ghost use Rattle.survey_cli.specs.steps.Answered.{Arrives, SurveyBreaksOff, told_status};
 
 use crate::input::{Unread, read_all};
-use crate::lines::{write_failure, write_unread, write_usage};
+use crate::messages::{write_failure, write_unread, write_usage};
 use crate::words::{Usage, options_of};
 use dump_rules::Options;
 use dump_survey::{SurveyFailure, write_as_well, write_survey};
@@ -36,7 +36,7 @@ pub fn drive<'a, R: Read, W: Write, E: Write>(
     writer: &mut W,
     errors: &mut E,
 ) -> u8
-    ensures { Surveys (meaning_of (map (λ word. word.now) words.now)) (R.remaining reader.old) (W.contents writer.old) (W.contents writer.new) result }
+    ensures { DrivesSurvey (settings_of_words (map (λ word. word.now) words.now)) (R.remaining reader.old) (W.contents writer.old) (W.contents writer.new) result }
 {
     match options_of(alloc, words) {
         Ok(options) => survey_input(alloc, &options, size, reader, writer, errors),
@@ -46,14 +46,14 @@ pub fn drive<'a, R: Read, W: Write, E: Write>(
 
 /// The line and the status of words that give no options.
 pub fn refuse<E: Write>(errors: &mut E, usage: Usage) -> u8
-    ensures { result ≡ refusal_status usage }
+    ensures { result ≡ usage_status usage }
 {
     match usage {
         Usage::Words | Usage::BothDrops => {
             write_usage(errors);
             2
         }
-        Usage::Memory => tell_want_of_memory(errors),
+        Usage::Memory => tell_out_of_memory(errors),
     }
 }
 
@@ -70,14 +70,14 @@ fn survey_input<R: Read, W: Write, E: Write>(
 {
     let input = match read_all(alloc, reader, size) {
         Ok(input) => input,
-        Err(Unread::Memory) => return tell_want_of_memory(errors),
+        Err(Unread::Memory) => return tell_out_of_memory(errors),
         Err(Unread::Source) => {
             write_unread(errors);
             return 3;
         }
     };
     let Ok(buffer) = Vec::with_capacity(alloc, BUFFER) else {
-        return tell_want_of_memory(errors);
+        return tell_out_of_memory(errors);
     };
     let mut sink = OutMut::new(writer, buffer);
     let answer = survey_and_flush(alloc, input.as_slice(), options, &mut sink);
@@ -110,7 +110,7 @@ fn write_text<W: Write>(
 ) -> Result<bool, SurveyFailure>
     ensures whole { IfOk result (λ found. (text : List ℕ) × IsWholeText options.now dump.now text found
         × Appends (lent_taken sink.old) (lent_taken sink.new) text) }
-    ensures part { OnErr result (BreaksOff options.now dump.now (lent_taken sink.old) (lent_taken sink.new)) }
+    ensures part { OnErr result (SurveyBreaksOff options.now dump.now (lent_taken sink.old) (lent_taken sink.new)) }
     ensures loan { loan_of sink.new ≡ loan_of sink.old }
 {
     let found = write_survey(alloc, dump, options, sink)?;
@@ -163,7 +163,7 @@ fn tell<E: Write>(errors: &mut E, answer: Result<bool, BrokenOff>) -> u8
 }
 
 // The line and the status where there was no memory before the survey.
-fn tell_want_of_memory<E: Write>(errors: &mut E) -> u8
+fn tell_out_of_memory<E: Write>(errors: &mut E) -> u8
     ensures { result ≡ 3 }
 {
     write_failure(errors, SurveyFailure::Memory, 0);

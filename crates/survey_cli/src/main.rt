@@ -4,7 +4,7 @@
 mod command;
 mod drive;
 mod input;
-mod lines;
+mod messages;
 #[cfg(test)]
 mod tests;
 mod words;

@@ -2,8 +2,8 @@
 ghost use Rattle.std.specs.Prelude.{◌≡◌, ◌≢◌, ◌⊎◌, [], IfOk, Err, map, true, codes, drop, unwrap_or};
 ghost use Rattle.clap.specs.Words.{all_of, found_of, kind_of, rows_of};
 ghost use Rattle.dump_rules.specs.Settings.{Settings};
-ghost use Rattle.survey_cli.specs.Words.{AnswersTo, empty_in, is_set, meaning_of, meaning_of_line, order_of, side_of, side_in};
-ghost use Rattle.survey_cli.specs.steps.LawfulLines.{is_lawful, is_taken};
+ghost use Rattle.survey_cli.specs.Words.{TellsSettings, empty_by_rows, is_flag_set, settings_of_words, settings_of_line, settings_of_side, named_side, side_in};
+ghost use Rattle.survey_cli.specs.steps.LawfulLines.{is_survey_call, is_taken_call};
 
 use crate::command::flags;
 use clap::error::ErrorKind;
@@ -27,11 +27,11 @@ pub enum Usage {
 
 /// The options of the filter whose dump is surveyed. `words[0]` is the program's name.
 pub fn options_of<'a>(alloc: Global, words: &'a [&'a str]) -> Result<Options, Usage>
-    ensures meaning { AnswersTo (meaning_of (map (λ word. word.now) words.now)) result }
+    ensures meaning { TellsSettings (settings_of_words (map (λ word. word.now) words.now)) result }
 
     // No lawful line is refused as other words.
-    ensures lawful { is_lawful (map (λ word. word.now) words.now) ≡ true → result ≢ Err Usage.Words }
-    ensures takes { is_taken (map (λ word. word.now) words.now) ≡ true → result ≢ Err Usage.Words }
+    ensures lawful { is_survey_call (map (λ word. word.now) words.now) ≡ true → result ≢ Err Usage.Words }
+    ensures takes { is_taken_call (map (λ word. word.now) words.now) ≡ true → result ≢ Err Usage.Words }
 {
     let Some((_, line)) = words.split_first() else {
         return Err(Usage::Words);
@@ -53,13 +53,13 @@ fn side_in(line: &[&str]) -> Option<Side>
     ensures { result ≡ side_in (map (λ word. word.now) line.now) }
 {
     match line.first() {
-        Some(word) => side_of(word),
+        Some(word) => named_side(word),
         None => None,
     }
 }
 
-fn side_of(word: &str) -> Option<Side>
-    ensures { result ≡ side_of word.now }
+fn named_side(word: &str) -> Option<Side>
+    ensures { result ≡ named_side word.now }
 {
     match word {
         "include" => Some(Side::Include),
@@ -82,7 +82,7 @@ fn refusal(error: &Error) -> Usage
 
 // The options that a side and what stands behind it give.
 fn read_options(alloc: Global, side: Side, matches: &ArgMatches<'_>) -> Result<Options, Usage>
-    ensures { AnswersTo (order_of side (rows_of (found_of matches.now))) result }
+    ensures { TellsSettings (settings_of_side side (rows_of (found_of matches.now))) result }
 {
     let Some(empty) = read_empty(matches) else {
         return Err(Usage::BothDrops);
@@ -95,9 +95,9 @@ fn read_options(alloc: Global, side: Side, matches: &ArgMatches<'_>) -> Result<O
         side,
         prefixes.as_slice(),
         empty,
-        is_set(matches, "renumber-revs"),
-        is_set(matches, "preserve-revprops"),
-        is_set(matches, "skip-missing-merge-sources"),
+        is_flag_set(matches, "renumber-revs"),
+        is_flag_set(matches, "preserve-revprops"),
+        is_flag_set(matches, "skip-missing-merge-sources"),
     );
     match options {
         Ok(options) => Ok(options),
@@ -105,19 +105,19 @@ fn read_options(alloc: Global, side: Side, matches: &ArgMatches<'_>) -> Result<O
     }
 }
 
-fn is_set(matches: &ArgMatches<'_>, name: &str) -> bool
-    ensures { result ≡ is_set name.now (rows_of (found_of matches.now)) }
+fn is_flag_set(matches: &ArgMatches<'_>, name: &str) -> bool
+    ensures { result ≡ is_flag_set name.now (rows_of (found_of matches.now)) }
 {
     matches.get_one(name).unwrap_or(false)
 }
 
 // What the flags make of empty revisions, where they don't contradict each other.
 fn read_empty(matches: &ArgMatches<'_>) -> Option<Empty>
-    ensures { result ≡ empty_in (rows_of (found_of matches.now)) }
+    ensures { result ≡ empty_by_rows (rows_of (found_of matches.now)) }
 {
     match (
-        is_set(matches, "drop-empty-revs"),
-        is_set(matches, "drop-all-empty-revs"),
+        is_flag_set(matches, "drop-empty-revs"),
+        is_flag_set(matches, "drop-all-empty-revs"),
     ) {
         (false, false) => Some(Empty::Pad),
         (true, false) => Some(Empty::DropEmptied),

@@ -6,8 +6,8 @@ use Rattle.dump_cli.specs.CommandLine.{program}
 use Rattle.dump_cli.specs.Words.{side_name}
 
 -- behind the program's name stands a side, and behind that what the command takes
-abbrev pub is_lawful : List Text → Bool
-is_lawful words = is_some (side_name (drop 1 words)) && is_empty (fault_of program (drop 1 words))
+abbrev pub is_call : List Text → Bool
+is_call words = is_some (side_name (drop 1 words)) && is_empty (fault_of program (drop 1 words))
 
 -- the same by clap's test of what it takes
 abbrev pub is_taken : List Text → Bool

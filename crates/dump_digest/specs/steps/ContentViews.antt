@@ -9,10 +9,10 @@ use Rattle.dump_records.specs.RecordText.{DumpRecord}
 use Rattle.dump_rules.specs.Settings.{Settings}
 use Rattle.dump_rules.specs.steps.Merged.{is_outside}
 use Rattle.dump_digest.specs.declared.content.Content.{Content}
-use Rattle.dump_digest.specs.declared.mergeinfo.Mergeinfo.{Mergeinfo}
+use Rattle.dump_digest.specs.declared.node_mergeinfo.Mergeinfo.{Mergeinfo}
 use Rattle.dump_digest.specs.steps.Checks.{properties_read}
 use Rattle.dump_digest.specs.steps.MergeFaults.{misses, is_foreign}
-use Rattle.dump_digest.specs.RecordParts.{is_revision, is_kept_node, HasPropertyList, HasPropertyBlock, is_mergeinfo, has_lost_source}
+use Rattle.dump_digest.specs.RecordParts.{is_revision_record, is_kept_node, HasPropertyList, HasPropertyBlock, is_mergeinfo, has_lost_source}
 use Rattle.dump_digest.specs.steps.VerdictMeaning.{IsVerdict}
 
 -- this is the mergeinfo among the properties, each value of which can be read
@@ -25,7 +25,7 @@ pub record IsSaidBy (settings : Settings) (ps : List Property) (m : Mergeinfo) :
 
 -- whether the properties of the record are read: those of a revision and of a kept node
 abbrev pub is_asked : Settings → DumpRecord → Bool
-is_asked settings r = is_revision r || is_kept_node settings r
+is_asked settings r = is_revision_record r || is_kept_node settings r
 
 -- these are the record's properties, where they can be read
 pub record ArePropertiesOf (r : DumpRecord) (found : Option Props) : Type 0 where

@@ -27,7 +27,7 @@ merge_fault settings first present ok ps =
     else Some MergeInfo
 
 -- each value of mergeinfo in the block is some lines
-abbrev pub HasLines : List ℕ → Type 0
-HasLines block = (ps : List Property) → IsPropertyBlock block ps → (p : Property) → Contains ps p
+abbrev pub HasGoodMergeinfo : List ℕ → Type 0
+HasGoodMergeinfo block = (ps : List Property) → IsPropertyBlock block ps → (p : Property) → Contains ps p
     → IsTrue (is_mergeinfo p)
     → ¬ ¬ HasMergeLines (value_of p)

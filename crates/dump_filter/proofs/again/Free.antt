@@ -9,7 +9,7 @@ use Rattle.dump_text.specs.declared.fault.FaultKind.TheVariants as faults
 use Rattle.dump_records.specs.RecordText.{DumpRecord}
 use Rattle.dump_rules.specs.Settings.{Settings}
 use Rattle.dump_rules.specs.Renumbering.{KeptRevisions, new_number}
-use Rattle.dump_digest.specs.RecordParts.{is_revision, is_node, is_kept_node}
+use Rattle.dump_digest.specs.RecordParts.{is_revision_record, is_node, is_kept_node}
 use Rattle.dump_filter.specs.FilterLaws.{keep_all}
 use Rattle.dump_filter.specs.Groups.{group_of, keeps_group, revision_number, kept_revisions}
 use Rattle.dump_filter.specs.NewHeaders.{written_number, is_whole_file}
@@ -28,13 +28,13 @@ use Rattle.dump_filter.proofs.again.ReadAgain.{IsClean, IsReadAgain, AreReadAgai
 
 -- which records are written
 
-written_revision : (settings : Settings) (r : DumpRecord) (rest : List DumpRecord) → is_revision r ≡ true
+written_revision : (settings : Settings) (r : DumpRecord) (rest : List DumpRecord) → is_revision_record r ≡ true
     → is_written settings true r rest ≡ true
     → keeps_group settings (group_of r rest) ≡ true
 written_revision settings r rest rev written = first_true (keeps_group settings (group_of r rest)) true
     (rw rev at written)
 
-written_node : (settings : Settings) (r : DumpRecord) (rest : List DumpRecord) → is_revision r ≡ false
+written_node : (settings : Settings) (r : DumpRecord) (rest : List DumpRecord) → is_revision_record r ≡ false
     → is_node r ≡ true → is_written settings true r rest ≡ true
     → is_kept_node settings r ≡ true
 written_node settings r rest other node written =
@@ -54,7 +54,7 @@ any_cons settings r rest node = ap (list_any (is_kept_node settings)) nodes
     nodes = rw node (take_cons (prefix_len is_node rest) r rest)
 
 -- no group of a dropped revision has a kept node
-dropped_group : (settings : Settings) (r : DumpRecord) (rest : List DumpRecord) → is_revision r ≡ true
+dropped_group : (settings : Settings) (r : DumpRecord) (rest : List DumpRecord) → is_revision_record r ≡ true
     → is_written settings true r rest ≡ false → ¬ AnyKept settings rest
 dropped_group settings r rest rev dropped any =
     absurd_bool (is_written settings true r rest)
@@ -72,9 +72,9 @@ later_contains m n numbers (k, within, is) = (suc k, omega arith, is)
 among_rest : (settings : Settings) (kept : KeptRevisions) (r : DumpRecord) (rest : List DumpRecord)
     → AreAmong kept settings (r ∷ rest) → AreAmong kept settings rest
 among_rest settings kept r rest among n has = among n
-    (cases (is_revision r) (keeps_group settings (group_of r rest)) refl refl)
+    (cases (is_revision_record r) (keeps_group settings (group_of r rest)) refl refl)
   where
-    cases : (v k : Bool) → is_revision r ≡ v → keeps_group settings (group_of r rest) ≡ k
+    cases : (v k : Bool) → is_revision_record r ≡ v → keeps_group settings (group_of r rest) ≡ k
         → Contains (kept_numbers settings (r ∷ rest)) n
     cases true true rev keep =
         subst (λ (l : List ℕ). Contains l n) (sym (kept_revision settings r rest rev keep))
@@ -84,7 +84,7 @@ among_rest settings kept r rest among n has = among n
     cases false k other _ = subst (λ (l : List ℕ). Contains l n) (sym (no_revision settings r rest other)) has
 
 own_among : (settings : Settings) (kept : KeptRevisions) (r : DumpRecord) (rest : List DumpRecord)
-    → is_revision r ≡ true → keeps_group settings (group_of r rest) ≡ true
+    → is_revision_record r ≡ true → keeps_group settings (group_of r rest) ≡ true
     → AreAmong kept settings (r ∷ rest) → Contains kept.numbers (revision_number r)
 own_among settings kept r rest rev keep among =
     let first : Contains (revision_number r ∷ kept_numbers settings rest) (revision_number r) =
@@ -119,11 +119,11 @@ module _ (settings : Settings) (kept : KeptRevisions) where
       → is_written settings true r rest ≡ true
       → AreAmong kept settings (r ∷ rest) → IsReadAgain settings kept r rest front s → IsBelow p q
       → IsBelow (present_behind p r) (present_behind q s)
-  below_written r s rest p q front written among read below = cases (is_revision r) refl
+  below_written r s rest p q front written among read below = cases (is_revision_record r) refl
     where
-      cases : (b : Bool) → is_revision r ≡ b → IsBelow (present_behind p r) (present_behind q s)
+      cases : (b : Bool) → is_revision_record r ≡ b → IsBelow (present_behind p r) (present_behind q s)
       cases true rev =
-          let new_rev : is_revision s ≡ true = read.revision ∙ rev in
+          let new_rev : is_revision_record s ≡ true = read.revision ∙ rev in
           let keep = written_revision settings r rest rev written in
           let has = own_among settings kept r rest rev keep among in
           let number : revision_number s ≡ written_number settings kept (revision_number r) = read.number rev in
@@ -132,22 +132,22 @@ module _ (settings : Settings) (kept : KeptRevisions) where
           (written_rises settings kept (revision_number r) n has low) in
           rw (new_rev, rev) rises
       cases false other =
-          let no_rev : is_revision s ≡ false = read.revision ∙ other in
+          let no_rev : is_revision_record s ≡ false = read.revision ∙ other in
           rw (no_rev, other) below
 
-  below_dropped : (r : DumpRecord) (p q : Option ℕ) → (is_revision r ≡ true → RisesFrom p (revision_number r))
+  below_dropped : (r : DumpRecord) (p q : Option ℕ) → (is_revision_record r ≡ true → RisesFrom p (revision_number r))
       → IsBelow p q → IsBelow (present_behind p r) q
   below_dropped r p None above below = tt
-  below_dropped r p (Some m) above below = cases (is_revision r) refl
+  below_dropped r p (Some m) above below = cases (is_revision_record r) refl
     where
-      cases : (b : Bool) → is_revision r ≡ b → IsBelow (present_behind p r) (Some m)
+      cases : (b : Bool) → is_revision_record r ≡ b → IsBelow (present_behind p r) (Some m)
       cases true rev =
           let rises : (n : ℕ) → revision_number r < n → m < written_number settings kept n = λ n low. below n
           (rises_through p (revision_number r) n (above rev) low) in
           rw rev rises
       cases false other = rw other below
 
-  node_written : (r : DumpRecord) (rest : List DumpRecord) → (is_node r ≡ true → is_revision r ≡ false)
+  node_written : (r : DumpRecord) (rest : List DumpRecord) → (is_node r ≡ true → is_revision_record r ≡ false)
       → is_written settings true r rest ≡ true
       → is_node r ≡ true → AnyKept settings (r ∷ rest)
   node_written r rest lone written node =
@@ -157,10 +157,10 @@ module _ (settings : Settings) (kept : KeptRevisions) where
 
   follow_dropped : (r : DumpRecord) (rest : List DumpRecord) (g h : Bool) → is_written settings true r rest ≡ false
       → (is_node r ≡ true → g ≡ true)
-      → MayFollow g h (r ∷ rest) → MayFollow (is_revision r || is_node r) h rest
-  follow_dropped r rest g h dropped node_ok follows in_group any = cases (is_revision r) (is_node r) refl refl
+      → MayFollow g h (r ∷ rest) → MayFollow (is_revision_record r || is_node r) h rest
+  follow_dropped r rest g h dropped node_ok follows in_group any = cases (is_revision_record r) (is_node r) refl refl
     where
-      cases : (v n : Bool) → is_revision r ≡ v → is_node r ≡ n → h ≡ true
+      cases : (v n : Bool) → is_revision_record r ≡ v → is_node r ≡ n → h ≡ true
       cases true n rev node = absurd (dropped_group settings r rest rev dropped any)
       cases false true other node =
           follows (node_ok node)
@@ -186,11 +186,11 @@ module _ (settings : Settings) (kept : KeptRevisions) where
           → AreInOrder g' p' rest
           → IsBelow p' q' → MayFollow g' h' rest → AreInOrder h' q' more
 
-      rise_again : (s : DumpRecord) → IsReadAgain settings kept r rest front s → is_revision s ≡ true → (q' : Option ℕ)
-          → IsBelow p q' → RisesFrom q' (revision_number s)
+      rise_again : (s : DumpRecord) → IsReadAgain settings kept r rest front s → is_revision_record s ≡ true
+          → (q' : Option ℕ) → IsBelow p q' → RisesFrom q' (revision_number s)
       rise_again s read rev None under = tt
       rise_again s read rev (Some m) under =
-          let old_rev : is_revision r ≡ true = sym read.revision ∙ rev in
+          let old_rev : is_revision_record r ≡ true = sym read.revision ∙ rev in
           subst (λ (n : ℕ). m < n) (sym (read.number old_rev)) (under (revision_number r) (are.1 old_rev))
 
       by_written : (s : DumpRecord) (more : List DumpRecord) → is_written settings true r rest ≡ true → again ≡ s ∷ more
@@ -201,13 +201,13 @@ module _ (settings : Settings) (kept : KeptRevisions) where
           let node_ok : is_node s ≡ true → h ≡ true = λ node.
           (let old_node : is_node r ≡ true = sym read.node ∙ node in follows (are.0 old_node)
           (node_written r rest lone written old_node)) in
-          let kinds : (is_revision s || is_node s) ≡
-          (is_revision r || is_node r) = λ i. read.revision i || read.node i in
+          let kinds : (is_revision_record s || is_node s) ≡
+          (is_revision_record r || is_node r) = λ i. read.revision i || read.node i in
           subst (λ (l : List DumpRecord). AreInOrder h q l) (sym same) (
             node_ok,
             (λ rev. rise_again s read rev q below),
-            later more reads (is_revision r || is_node r) (is_revision s || is_node s) (present_behind p r)
-                (present_behind q s) are.2
+            later more reads (is_revision_record r || is_node r) (is_revision_record s || is_node s)
+                (present_behind p r) (present_behind q s) are.2
                 (below_written r s rest p q front written among read below) (λ in_group any. kinds ∙ in_group),
           )
 
@@ -219,7 +219,7 @@ module _ (settings : Settings) (kept : KeptRevisions) where
           → Later → AreInOrder h q again
       cases true written (s, more, same, read, reads) later = by_written s more written same read reads later
       cases false dropped (none, reads) later =
-          later again reads (is_revision r || is_node r) h (present_behind p r) q are.2
+          later again reads (is_revision_record r || is_node r) h (present_behind p r) q are.2
           (below_dropped r p q are.1 below) (follow_dropped r rest g h dropped are.0 follows)
 
 -- the content of what is written

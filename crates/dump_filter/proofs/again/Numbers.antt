@@ -7,7 +7,7 @@ use Rattle.dump_rules.specs.Settings.{Settings}
 use Rattle.dump_rules.specs.Renumbering.{KeptRevisions, new_number}
 use Rattle.dump_rules.specs.steps.RisingNumbers.{RiseFrom}
 use Rattle.dump_rules.proofs.ReachLemmas.{below, below-cons}
-use Rattle.dump_digest.specs.RecordParts.{is_revision, is_node}
+use Rattle.dump_digest.specs.RecordParts.{is_revision_record, is_node}
 use Rattle.dump_filter.specs.Groups.{group_of, keeps_group, revision_number, revision_numbers, first_number, kept_revisions}
 use Rattle.dump_filter.specs.RecordFaults.{AreFaultFree}
 use Rattle.dump_filter.specs.steps.Knowledge.{kept_numbers}
@@ -18,19 +18,19 @@ use Rattle.dump_filter.proofs.again.ReadAgain.{AtEach}
 -- the kept numbers of a list that a record begins
 
 -- a kept revision's number stands before the kept numbers of the records behind it
-pub kept_revision : (settings : Settings) (r : DumpRecord) (rest : List DumpRecord) → is_revision r ≡ true
+pub kept_revision : (settings : Settings) (r : DumpRecord) (rest : List DumpRecord) → is_revision_record r ≡ true
     → keeps_group settings (group_of r rest) ≡ true
     → kept_numbers settings (r ∷ rest) ≡ revision_number r ∷ kept_numbers settings rest
 kept_revision settings r rest rev keep = rw rev (rw keep refl)
 
 -- a dropped revision adds no kept number
-pub dropped_revision : (settings : Settings) (r : DumpRecord) (rest : List DumpRecord) → is_revision r ≡ true
+pub dropped_revision : (settings : Settings) (r : DumpRecord) (rest : List DumpRecord) → is_revision_record r ≡ true
     → keeps_group settings (group_of r rest) ≡ false
     → kept_numbers settings (r ∷ rest) ≡ kept_numbers settings rest
 dropped_revision settings r rest rev drop = rw rev (rw drop refl)
 
 -- a record that is no revision adds no kept number
-pub no_revision : (settings : Settings) (r : DumpRecord) (rest : List DumpRecord) → is_revision r ≡ false
+pub no_revision : (settings : Settings) (r : DumpRecord) (rest : List DumpRecord) → is_revision_record r ≡ false
     → kept_numbers settings (r ∷ rest) ≡ kept_numbers settings rest
 no_revision settings r rest other = rw other refl
 
@@ -40,7 +40,7 @@ rise_lower : (low high : ℕ) (numbers : List ℕ) → low ≤ high → RiseFrom
 rise_lower low high [] within up = tt
 rise_lower low high (n ∷ numbers) within up = let over = up.0 in (omega arith, up.1)
 
-rise_next : (settings : Settings) (low : ℕ) (r : DumpRecord) (rest : List DumpRecord) → is_revision r ≡ true
+rise_next : (settings : Settings) (low : ℕ) (r : DumpRecord) (rest : List DumpRecord) → is_revision_record r ≡ true
     → low ≤ revision_number r
     → RiseFrom (revision_number r + 1) (kept_numbers settings rest) → RiseFrom low (kept_numbers settings (r ∷ rest))
 rise_next settings low r rest rev within up = cases (keeps_group settings (group_of r rest)) refl
@@ -53,11 +53,11 @@ rise_next settings low r rest rev within up = cases (keeps_group settings (group
 rise_behind : (settings : Settings) (g : Bool) (q : ℕ) (records : List DumpRecord) → AreInOrder g (Some q) records
     → RiseFrom (q + 1) (kept_numbers settings records)
 rise_behind settings g q [] are = tt
-rise_behind settings g q (r ∷ rest) are = cases (is_revision r) refl
+rise_behind settings g q (r ∷ rest) are = cases (is_revision_record r) refl
     (λ h p is. rise_behind settings h p rest is)
     are
   where
-    cases : (b : Bool) → is_revision r ≡ b
+    cases : (b : Bool) → is_revision_record r ≡ b
         → ((h : Bool) (p : ℕ) → AreInOrder h (Some p) rest → RiseFrom (p + 1) (kept_numbers settings rest))
         → AreInOrder g (Some q) (r ∷ rest) → RiseFrom (q + 1) (kept_numbers settings (r ∷ rest))
     cases true rev later order =
@@ -71,9 +71,9 @@ rise_behind settings g q (r ∷ rest) are = cases (is_revision r) refl
 rise_first : (settings : Settings) (g : Bool) (records : List DumpRecord) → AreInOrder g None records
     → RiseFrom (first_number (revision_numbers records)) (kept_numbers settings records)
 rise_first settings g [] are = tt
-rise_first settings g (r ∷ rest) are = cases (is_revision r) refl (λ h is. rise_first settings h rest is) are
+rise_first settings g (r ∷ rest) are = cases (is_revision_record r) refl (λ h is. rise_first settings h rest is) are
   where
-    cases : (b : Bool) → is_revision r ≡ b
+    cases : (b : Bool) → is_revision_record r ≡ b
         → ((h : Bool) → AreInOrder h None rest → RiseFrom (first_number (revision_numbers rest))
         (kept_numbers settings rest))
         → AreInOrder g None (r ∷ rest) → RiseFrom (first_number (revision_numbers (r ∷ rest)))
@@ -146,10 +146,10 @@ zero_kept : (settings : Settings) (records : List DumpRecord) → first_number (
     → Contains (kept_numbers settings records) k → 1 ≤ k
     → 1 ≤ below k (kept_numbers settings records)
 zero_kept settings [] first k has some = let within = has.1 in absurd (omega arith)
-zero_kept settings (r ∷ rest) first k has some = cases (is_revision r) refl
+zero_kept settings (r ∷ rest) first k has some = cases (is_revision_record r) refl
     (λ is in_rest. zero_kept settings rest is k in_rest some)
   where
-    cases : (b : Bool) → is_revision r ≡ b
+    cases : (b : Bool) → is_revision_record r ≡ b
         → (first_number (revision_numbers rest) ≡ 0 → Contains (kept_numbers settings rest) k
         → 1 ≤ below k (kept_numbers settings rest))
         → 1 ≤ below k (kept_numbers settings (r ∷ rest))
@@ -181,34 +181,41 @@ positive settings records k has some = cases (first_number (revision_numbers rec
 
 above_each : (first : ℕ) (before : List DumpRecord) (g : Bool) (q : ℕ) (records : List DumpRecord) → first ≤ q
     → AreInOrder g (Some q) records
-    → AtEach (λ done r after. is_revision r ≡ true → first ≤ revision_number r) before records
+    → AtEach (λ done r after. is_revision_record r ≡ true → first ≤ revision_number r) before records
 above_each first before g q [] low are = tt
 above_each first before g q (r ∷ rest) low are =
-    let here : is_revision r ≡ true → first ≤ revision_number r = λ rev. (let above = are.1 rev in omega arith) in
-    (here, cases (is_revision r) refl (λ h p over is. above_each first (before ++ r ∷ []) h p rest over is) here are.2)
+    let here : is_revision_record r ≡ true → first ≤ revision_number r =
+    λ rev. (let above = are.1 rev in omega arith) in (
+      here,
+      cases (is_revision_record r) refl (λ h p over is. above_each first (before ++ r ∷ []) h p rest over is)
+          here are.2,
+    )
   where
-    cases : (b : Bool) → is_revision r ≡ b
+    cases : (b : Bool) → is_revision_record r ≡ b
         → ((h : Bool) (p : ℕ) → first ≤ p → AreInOrder h (Some p) rest
-        → AtEach (λ done x after. is_revision x ≡ true → first ≤ revision_number x) (before ++ r ∷ []) rest)
-        → (is_revision r ≡ true → first ≤ revision_number r)
-        → AreInOrder (is_revision r || is_node r) (if is_revision r then Some (revision_number r) else Some q) rest
-        → AtEach (λ done x after. is_revision x ≡ true → first ≤ revision_number x) (before ++ r ∷ []) rest
+        → AtEach (λ done x after. is_revision_record x ≡ true → first ≤ revision_number x) (before ++ r ∷ []) rest)
+        → (is_revision_record r ≡ true → first ≤ revision_number r)
+        → AreInOrder (is_revision_record r || is_node r)
+        (if is_revision_record r then Some (revision_number r) else Some q) rest
+        → AtEach (λ done x after. is_revision_record x ≡ true → first ≤ revision_number x) (before ++ r ∷ []) rest
     cases true rev later here order = later _ _ (here rev) (rw rev at order)
     cases false other later here order = later _ _ low (rw other at order)
 
 above_first : (before : List DumpRecord) (g : Bool) (records : List DumpRecord) → AreInOrder g None records
-    → AtEach (λ done r after. is_revision r ≡ true
+    → AtEach (λ done r after. is_revision_record r ≡ true
     → first_number (revision_numbers records) ≤ revision_number r) before records
 above_first before g [] are = tt
-above_first before g (r ∷ rest) are = cases (is_revision r) refl
+above_first before g (r ∷ rest) are = cases (is_revision_record r) refl
     (λ h is. above_first (before ++ r ∷ []) h rest is) are.2
   where
     Above : ℕ → List DumpRecord → List DumpRecord → Type 0
-    Above first done records = AtEach (λ d x after. is_revision x ≡ true → first ≤ revision_number x) done records
+    Above first done records =
+        AtEach (λ d x after. is_revision_record x ≡ true → first ≤ revision_number x) done records
 
-    cases : (b : Bool) → is_revision r ≡ b
+    cases : (b : Bool) → is_revision_record r ≡ b
         → ((h : Bool) → AreInOrder h None rest → Above (first_number (revision_numbers rest)) (before ++ r ∷ []) rest)
-        → AreInOrder (is_revision r || is_node r) (if is_revision r then Some (revision_number r) else None) rest
+        → AreInOrder (is_revision_record r || is_node r)
+        (if is_revision_record r then Some (revision_number r) else None) rest
         → Above (first_number (revision_numbers (r ∷ rest))) before (r ∷ rest)
     cases true rev later order =
         let first : first_number (revision_numbers (r ∷ rest)) ≡ revision_number r = rw rev refl in
@@ -220,10 +227,10 @@ above_first before g (r ∷ rest) are = cases (is_revision r) refl
     cases false other later order =
         let first : first_number (revision_numbers (r ∷ rest)) ≡ first_number (revision_numbers rest) = rw other refl in
         subst (λ (n : ℕ). Above n before (r ∷ rest)) (sym first)
-        ((λ is. absurd (absurd_bool (is_revision r) is other)), later _ (rw other at order))
+        ((λ is. absurd (absurd_bool (is_revision_record r) is other)), later _ (rw other at order))
 
 -- where no record has a fault, no revision's number is below the first one
 pub revisions_above : (settings : Settings) (records : List DumpRecord) → AreFaultFree settings records
-    → AtEach (λ before r after. is_revision r ≡ true
+    → AtEach (λ before r after. is_revision_record r ≡ true
     → (kept_revisions settings records).first ≤ revision_number r) [] records
 revisions_above settings records free = above_first [] false records (in_order settings records free)

@@ -8,7 +8,7 @@ use Rattle.std.proofs.lemmas.List.{append-nil}
 use Rattle.dump_text.specs.declared.fault.FaultKind.TheVariants as faults
 use Rattle.dump_records.specs.RecordText.{DumpRecord}
 use Rattle.dump_rules.specs.Settings.{Settings}
-use Rattle.dump_digest.specs.RecordParts.{is_revision, is_node}
+use Rattle.dump_digest.specs.RecordParts.{is_revision_record, is_node}
 use Rattle.dump_filter.specs.Groups.{revision_number, revision_numbers, present_revision}
 use Rattle.dump_filter.specs.RecordFaults.{ends_in_group, IsOutOfOrder, AreFaultFree}
 use Rattle.dump_text.proofs.BoolLemmas.{absurd_bool}
@@ -20,38 +20,39 @@ RisesFrom present number = MatchOption present ⊤ (λ q. q < number)
 
 -- the present revision behind a record
 abbrev pub present_behind : Option ℕ → DumpRecord → Option ℕ
-present_behind present r = if is_revision r then Some (revision_number r) else present
+present_behind present r = if is_revision_record r then Some (revision_number r) else present
 
 -- the records are in order, where a node may follow or not, behind the present revision
 abbrev pub AreInOrder : Bool → Option ℕ → List DumpRecord → Type 0
 AreInOrder open_group present [] = Unit {0}
 AreInOrder open_group present (r ∷ rest) = (is_node r ≡ true → open_group ≡ true)
-    × (is_revision r ≡ true → RisesFrom present (revision_number r))
-    × AreInOrder (is_revision r || is_node r) (present_behind present r) rest
+    × (is_revision_record r ≡ true → RisesFrom present (revision_number r))
+    × AreInOrder (is_revision_record r || is_node r) (present_behind present r) rest
 
 -- one more record
 
 numbers_more : (before : List DumpRecord) (r : DumpRecord)
     → revision_numbers (before ++ r ∷ []) ≡ revision_numbers before ++
-    (if is_revision r then revision_number r ∷ [] else [])
-numbers_more [] r = cases (is_revision r) refl
+    (if is_revision_record r then revision_number r ∷ [] else [])
+numbers_more [] r = cases (is_revision_record r) refl
   where
-    cases : (b : Bool) → is_revision r ≡ b → revision_numbers (r ∷ []) ≡ (if b then revision_number r ∷ [] else [])
+    cases : (b : Bool) → is_revision_record r ≡ b
+        → revision_numbers (r ∷ []) ≡ (if b then revision_number r ∷ [] else [])
     cases true is = rw is refl
     cases false is = rw is refl
-numbers_more (x ∷ before) r = cases (is_revision x) refl (numbers_more before r)
+numbers_more (x ∷ before) r = cases (is_revision_record x) refl (numbers_more before r)
   where
-    cases : (b : Bool) → is_revision x ≡ b
+    cases : (b : Bool) → is_revision_record x ≡ b
         → revision_numbers (before ++ r ∷ []) ≡ revision_numbers before ++
-        (if is_revision r then revision_number r ∷ [] else [])
+        (if is_revision_record r then revision_number r ∷ [] else [])
         → revision_numbers (x ∷ (before ++ r ∷ [])) ≡ revision_numbers (x ∷ before) ++
-        (if is_revision r then revision_number r ∷ [] else [])
+        (if is_revision_record r then revision_number r ∷ [] else [])
     cases true is more = rw is (ap (λ (t : List ℕ). revision_number x ∷ t) more)
     cases false is more = rw is more
 
 present_more : (before : List DumpRecord) (r : DumpRecord) → present_revision (before ++ r ∷ []) ≡ present_behind
     (present_revision before) r
-present_more before r = ap (last_or None) (numbers_more before r) ∙ cases (is_revision r)
+present_more before r = ap (last_or None) (numbers_more before r) ∙ cases (is_revision_record r)
   where
     cases : (b : Bool) → last_or None (revision_numbers before ++ (if b then revision_number r ∷ [] else []))
         ≡ (if b then Some (revision_number r) else present_revision before)
@@ -59,7 +60,7 @@ present_more before r = ap (last_or None) (numbers_more before r) ∙ cases (is_
     cases false = ap (last_or None) (append-nil (revision_numbers before))
 
 ends_more : (before : List DumpRecord) (r : DumpRecord) → ends_in_group (last_or None (before ++ r ∷ [])) ≡
-    (is_revision r || is_node r)
+    (is_revision_record r || is_node r)
 ends_more before r = ap ends_in_group (last_is None before r)
 
 -- records behind others are in order
@@ -68,14 +69,14 @@ AreInOrderBehind before rest = AreInOrder (ends_in_group (last_or None before)) 
 
 order_more : (before : List DumpRecord) (r : DumpRecord) (rest : List DumpRecord)
     → AreInOrderBehind (before ++ r ∷ []) rest
-    → AreInOrder (is_revision r || is_node r) (present_behind (present_revision before) r) rest
+    → AreInOrder (is_revision_record r || is_node r) (present_behind (present_revision before) r) rest
 order_more before r rest are =
     subst (λ (g : Bool). AreInOrder g (present_behind (present_revision before) r) rest) (ends_more before r)
     (subst (λ (p : Option ℕ). AreInOrder (ends_in_group (last_or None (before ++ r ∷ []))) p rest)
     (present_more before r) are)
 
 order_less : (before : List DumpRecord) (r : DumpRecord) (rest : List DumpRecord)
-    → AreInOrder (is_revision r || is_node r) (present_behind (present_revision before) r) rest
+    → AreInOrder (is_revision_record r || is_node r) (present_behind (present_revision before) r) rest
     → AreInOrderBehind (before ++ r ∷ []) rest
 order_less before r rest are =
     subst (λ (p : Option ℕ). AreInOrder (ends_in_group (last_or None (before ++ r ∷ []))) p rest)
@@ -93,7 +94,7 @@ node_follows before r fine node = cases (ends_in_group (last_or None before)) re
     cases true is = refl
     cases false is = absurd (fine (inl (rw (node, is) refl)))
 
-number_rises : (before : List DumpRecord) (r : DumpRecord) → ¬ IsOutOfOrder before r → is_revision r ≡ true
+number_rises : (before : List DumpRecord) (r : DumpRecord) → ¬ IsOutOfOrder before r → is_revision_record r ≡ true
     → RisesFrom (present_revision before) (revision_number r)
 number_rises before r fine rev = cases (present_revision before) refl
   where
@@ -125,7 +126,7 @@ in_order settings records free = order_behind settings [] records free
 
 fits_order : (before : List DumpRecord) (r : DumpRecord)
     → (is_node r ≡ true → ends_in_group (last_or None before) ≡ true)
-    → (is_revision r ≡ true → RisesFrom (present_revision before) (revision_number r)) → ¬ IsOutOfOrder before r
+    → (is_revision_record r ≡ true → RisesFrom (present_revision before) (revision_number r)) → ¬ IsOutOfOrder before r
 fits_order before r node rev (inl bad) = lone (is_node r) (ends_in_group (last_or None before)) node bad
   where
     lone : (n g : Bool) → (n ≡ true → g ≡ true) → (n && not g) ≡ true → ⊥

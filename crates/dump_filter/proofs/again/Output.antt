@@ -20,7 +20,7 @@ use Rattle.dump_rules.specs.steps.RisingNumbers.{RiseFrom}
 use Rattle.dump_rules.specs.Rewriting.{IsNewMergeinfo}
 use Rattle.dump_rules.proofs.ReachLemmas.{image_fits}
 use Rattle.dump_rules.proofs.new_values.RunsLaw.{number_small}
-use Rattle.dump_digest.specs.RecordParts.{is_revision, is_node, is_kept_node, is_mergeinfo, mergeinfo_name, value_of, has_whole_text, has_lost_source, HasPropertyList, is_copy}
+use Rattle.dump_digest.specs.RecordParts.{is_revision_record, is_node, is_kept_node, is_mergeinfo, mergeinfo_name, value_of, has_whole_text, has_lost_source, HasPropertyList, is_copy}
 use Rattle.dump_digest.specs.ContentFaults.{HasBadMd5, HasBadSha1, HasBadMergeinfo, DiffersFromDigest}
 use Rattle.dump_digest.proofs.PropertyBlocks.{property_list_once}
 use Rattle.dump_filter.specs.FilterLaws.{keep_all}
@@ -88,7 +88,7 @@ same_there name old new same = sym (has_value name new) ∙ ap is_some same ∙ 
 pub other_again : (settings : Settings) (kept : KeptRevisions) (number : ℕ) (r : DumpRecord)
     (after : List DumpRecord) (front : List ℕ)
     → is_block r.headers ≡ true → is_lawful number r.headers ≡ true
-    → is_revision r ≡ false → is_node r ≡ false → front ≡ block_text r.headers → (place : ℕ) → (s : DumpRecord)
+    → is_revision_record r ≡ false → is_node r ≡ false → front ≡ block_text r.headers → (place : ℕ) → (s : DumpRecord)
     × (s.place ≡ place) × IsReadAgain settings kept r after front s
 other_again settings kept number r after front block lawful no_revision no_node is place = (
   record { place = place; version = r.version; headers = r.headers; props = []; text = [] },
@@ -105,11 +105,11 @@ other_again settings kept number r after front block lawful no_revision no_node 
     version_line = λ before. refl;
     revision = refl;
     node = refl;
-    number = λ rev. absurd (absurd_bool (is_revision r) rev no_revision);
+    number = λ rev. absurd (absurd_bool (is_revision_record r) rev no_revision);
     node_again = λ node. absurd (absurd_bool (is_node r) node no_node);
-    revision_again = λ rev. absurd (absurd_bool (is_revision r) rev no_revision);
+    revision_again = λ rev. absurd (absurd_bool (is_revision_record r) rev no_revision);
     clean = record {
-      props = λ bad. absurd (absurd_bool (is_revision r || is_kept_node keep_all r) bad.0
+      props = λ bad. absurd (absurd_bool (is_revision_record r || is_kept_node keep_all r) bad.0
           (rw (no_revision, no_node) refl));
       md5 = λ bad. no_kept bad.0;
       sha1 = λ bad. no_kept bad.0;
@@ -160,7 +160,7 @@ pub revision_again : (settings : Settings) (kept : KeptRevisions) (number : ℕ)
     (after : List DumpRecord) (front : List ℕ)
     → is_block r.headers ≡ true → is_lawful number r.headers ≡ true → length r.props ≡ property_length r.headers
     → length r.text ≡ text_length r.headers
-    → is_revision r ≡ true → is_node r ≡ false → written_number settings kept (revision_number r) < 10 ^ 18
+    → is_revision_record r ≡ true → is_node r ≡ false → written_number settings kept (revision_number r) < 10 ^ 18
     → ((block : List ℕ) → IsWrittenBlock settings kept r after block → length block + length r.text < 10 ^ 18)
     → IsRevisionOutput settings kept (group_of r after) front → (place : ℕ) → (s : DumpRecord) × (s.place ≡ place)
     × IsReadAgain settings kept r after front s
@@ -508,7 +508,7 @@ pub node_again : (settings : Settings) (kept : KeptRevisions) (number : ℕ) (r 
     (front : List ℕ)
     → is_block r.headers ≡ true → is_lawful number r.headers ≡ true → length r.props ≡ property_length r.headers
     → length r.text ≡ text_length r.headers
-    → is_revision r ≡ false → is_kept_node settings r ≡ true → RiseFrom kept.first kept.numbers
+    → is_revision_record r ≡ false → is_kept_node settings r ≡ true → RiseFrom kept.first kept.numbers
     → OwnValues settings kept
     → ¬ HasBadMd5 settings r → ¬ HasBadSha1 settings r
     → (has_lost_source settings r ≡ true → is_whole_file r ≡ true)
@@ -530,8 +530,8 @@ node_again settings kept number r after front block lawful props_fit text_fits n
         false new small none;
     revision = lifted.revision;
     node = lifted.node;
-    number = λ rev. absurd (absurd_bool (is_revision r) rev no_revision);
-    revision_again = λ rev. absurd (absurd_bool (is_revision r) rev no_revision);
+    number = λ rev. absurd (absurd_bool (is_revision_record r) rev no_revision);
+    revision_again = λ rev. absurd (absurd_bool (is_revision_record r) rev no_revision);
     node_again = λ node. record {
       mid = mid;
       old = old;
@@ -553,7 +553,8 @@ node_again settings kept number r after front block lawful props_fit text_fits n
       merge = no_bad_merge;
     };
     output = λ again after.
-        second_side (is_revision (it place)) (IsRevisionOutput keep_all again (group_of (it place) after) front) _
+        second_side (is_revision_record (it place))
+        (IsRevisionOutput keep_all again (group_of (it place) after) front) _
         (lifted.revision ∙ no_revision)
         (first_side (is_node (it place)) (IsNodeOutput keep_all again (it place) front) _ (lifted.node ∙ node)
         (lines, new, new, stays_copy again (it place) here_block copied, here, own.1 again, written));

@@ -10,7 +10,7 @@ use Rattle.dump_rules.specs.Renumbering.{KeptRevisions, new_number}
 use Rattle.dump_rules.specs.steps.RisingNumbers.{RiseFrom}
 use Rattle.dump_rules.proofs.new_values.OwnValue.{own_value}
 use Rattle.dump_rules.proofs.ReachLemmas.{new_number_fits}
-use Rattle.dump_digest.specs.RecordParts.{is_revision, is_node, is_kept_node, has_lost_source}
+use Rattle.dump_digest.specs.RecordParts.{is_revision_record, is_node, is_kept_node, has_lost_source}
 use Rattle.dump_filter.specs.FilterLaws.{LengthsFit, keep_all, KeepsItsOwnText}
 use Rattle.dump_filter.specs.Groups.{group_of, has_kept_node, keeps_group, revision_number, kept_revisions}
 use Rattle.dump_filter.specs.NewHeaders.{is_whole_file}
@@ -80,7 +80,7 @@ module _ (settings : Settings) (dump text : List ℕ) (records : List DumpRecord
   -- each record that is written is read again
   record_again : (before after : List DumpRecord) (r : DumpRecord) → records ≡ before ++ r ∷ after
       → HasAgain settings kept r after
-  record_again before after r at front written output place = by_kind (is_revision r)
+  record_again before after r at front written output place = by_kind (is_revision_record r)
       (is_node r) refl refl written output
     where
       stands : Stands r
@@ -92,20 +92,20 @@ module _ (settings : Settings) (dump text : List ℕ) (records : List DumpRecord
       sizes : (block : List ℕ) → IsWrittenBlock settings kept r after block → length block + length r.text < 10 ^ 18
       sizes block is = fit before after r block at written is
 
-      above : is_revision r ≡ true → kept.first ≤ revision_number r
+      above : is_revision_record r ≡ true → kept.first ≤ revision_number r
       above =
-          at_split (λ x more. is_revision x ≡ true → kept.first ≤ revision_number x) [] before after r
-          (subst (λ (l : List DumpRecord). AtEach (λ done x more. is_revision x ≡ true
+          at_split (λ x more. is_revision_record x ≡ true → kept.first ≤ revision_number x) [] before after r
+          (subst (λ (l : List DumpRecord). AtEach (λ done x more. is_revision_record x ≡ true
           → kept.first ≤ revision_number x) [] l) at
           (revisions_above settings records clean.fault_free))
 
-      number_small : is_revision r ≡ true → (renumber : Bool)
+      number_small : is_revision_record r ≡ true → (renumber : Bool)
           → (if renumber then new_number kept (revision_number r) else revision_number r) < 10 ^ 18
       number_small rev true = let below = new_number_fits kept (revision_number r) rise
           (above rev) in let small = revision_small r in omega (arith, below, small)
       number_small rev false = revision_small r
 
-      by_kind : (v n : Bool) → is_revision r ≡ v → is_node r ≡ n
+      by_kind : (v n : Bool) → is_revision_record r ≡ v → is_node r ≡ n
           → (if v then keeps_group settings (group_of r after) &&
           (true || not (is_open after) || has_kept_node settings
           (group_of r after)) else if n then is_kept_node settings r else true) ≡ true
@@ -114,7 +114,7 @@ module _ (settings : Settings) (dump text : List ℕ) (records : List DumpRecord
           → (s : DumpRecord) × (s.place ≡ place) × IsReadAgain settings kept r after front s
       by_kind true n rev node kept_group out =
           let no_node : is_node r ≡ false = not_so (is_node r)
-          (λ is. absurd_bool (is_revision r) rev (alone stands.0 r b.lawful is)) in
+          (λ is. absurd_bool (is_revision_record r) rev (alone stands.0 r b.lawful is)) in
           revision_again settings kept stands.0 r after front b.block b.lawful b.props_fit b.text_fits rev no_node
           (number_small rev settings.renumber) sizes out place
       by_kind false true no_rev node keep out =

@@ -9,7 +9,7 @@ use Rattle.dump_records.specs.HeaderRules.{header_number, version_from, property
 use Rattle.dump_records.specs.RecordText.{DumpRecord, record_text, is_lawful}
 use Rattle.dump_rules.specs.Settings.{Settings}
 use Rattle.dump_rules.specs.Renumbering.{KeptRevisions}
-use Rattle.dump_digest.specs.RecordParts.{is_revision, is_node, has_lost_source, HasPropertyList}
+use Rattle.dump_digest.specs.RecordParts.{is_revision_record, is_node, has_lost_source, HasPropertyList}
 use Rattle.dump_digest.specs.ContentFaults.{HasBadProperties, HasBadMd5, HasBadSha1, HasBadMergeinfo}
 use Rattle.dump_filter.specs.FilterLaws.{keep_all}
 use Rattle.dump_filter.specs.Groups.{group_of, is_padded, revision_number}
@@ -56,10 +56,10 @@ pub record IsReadAgain (settings : Settings) (kept : KeptRevisions) (r : DumpRec
   pub text_fits : length s.text ≡ text_length s.headers
   pub version : s.version ≡ r.version
   pub version_line : (before : ℕ) → version_from before s.headers ≡ version_from before r.headers
-  pub revision : is_revision s ≡ is_revision r
+  pub revision : is_revision_record s ≡ is_revision_record r
   pub node : is_node s ≡ is_node r
-  pub number : is_revision r ≡ true → revision_number s ≡ written_number settings kept (revision_number r)
-  pub revision_again : is_revision r ≡ true → (ps : List Property) × HasPropertyList r ps
+  pub number : is_revision_record r ≡ true → revision_number s ≡ written_number settings kept (revision_number r)
+  pub revision_again : is_revision_record r ≡ true → (ps : List Property) × HasPropertyList r ps
       × HasPropertyList s (revision_properties (is_padded settings (group_of r after)) ps)
   pub node_again : is_node r ≡ true → IsNodeAgain settings kept r s
   pub clean : IsClean s

@@ -12,7 +12,7 @@ use Rattle.dump_records.specs.declared.kind.RecordKind.TheVariants as kinds
 use Rattle.dump_records.proofs.Unique.{keeps}
 use Rattle.dump_rules.specs.Settings.{Settings, keeps_path}
 use Rattle.dump_rules.specs.Renumbering.{KeptRevisions}
-use Rattle.dump_digest.specs.RecordParts.{is_revision, is_node}
+use Rattle.dump_digest.specs.RecordParts.{is_revision_record, is_node}
 use Rattle.dump_filter.specs.FilterLaws.{keep_all}
 use Rattle.dump_filter.specs.Groups.{Group, group_of, group_number, has_kept_node, keeps_group}
 use Rattle.dump_filter.specs.RecordOutput.{IsOutput}
@@ -57,7 +57,7 @@ version_written settings number r after lawful has =
     let kind : kind_of r.headers ≡ kinds.Version = rw has refl in
     let of = subst (λ (which : RecordKind). IsOfKind r which) kind (of_kind number r lawful) in
     let no_node : is_node r ≡ false = of.0 in
-    let no_revision : is_revision r ≡ false = of.1 in
+    let no_revision : is_revision_record r ≡ false = of.1 in
     rw (no_revision, no_node) refl
 
 first_written : (settings : Settings) (r : DumpRecord) (after : List DumpRecord) → is_lawful 0 r.headers ≡ true
@@ -213,9 +213,9 @@ all_groups : (g : Group) → keeps_group keep_all g ≡ true
 all_groups g = or_right (group_number g == 0 || has_kept_node keep_all g) true refl
 
 pub all_written : (s : DumpRecord) (after : List DumpRecord) → is_written keep_all true s after ≡ true
-all_written s after = cases (is_revision s) (is_node s) refl refl
+all_written s after = cases (is_revision_record s) (is_node s) refl refl
   where
-    cases : (v n : Bool) → is_revision s ≡ v → is_node s ≡ n → is_written keep_all true s after ≡ true
+    cases : (v n : Bool) → is_revision_record s ≡ v → is_node s ≡ n → is_written keep_all true s after ≡ true
     cases true n rev node = rw rev (both_true (keeps_group keep_all (group_of s after)) true
         (all_groups (group_of s after)) refl)
     cases false true other node = rw (other, node) refl

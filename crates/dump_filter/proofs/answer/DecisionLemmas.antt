@@ -12,7 +12,7 @@ use Rattle.dump_records.proofs.Unique.{code_once}
 use Rattle.dump_rules.specs.Settings.{Settings, keeps_path}
 use Rattle.dump_rules.specs.Renumbering.{KeptRevisions, image}
 use Rattle.dump_rules.specs.Rewriting.{HasForeignNumber}
-use Rattle.dump_digest.specs.RecordParts.{is_revision, is_node, is_kept_node, node_path, HasPropertyList, HasPropertyBlock}
+use Rattle.dump_digest.specs.RecordParts.{is_revision_record, is_node, is_kept_node, node_path, HasPropertyList, HasPropertyBlock}
 use Rattle.dump_digest.specs.ContentFaults.{HasBadMergeinfo}
 use Rattle.dump_digest.specs.steps.VerdictMeaning.{IsVerdict}
 use Rattle.dump_digest.specs.declared.verdict.Verdict.{Verdict}
@@ -42,15 +42,15 @@ IsFate settings s r (fates.Keep copy) = (is_plain r ≡ true) × (is_kept_node s
     × (¬ HasNoSource settings (front_kept s.revisions.kept s.group) (node_revision s.revisions) r)
     × (¬ IsForeign settings (front_kept s.revisions.kept s.group) (node_revision s.revisions) r)
 IsFate settings s r fates.Drop = (is_plain r ≡ true) × (is_kept_node settings r ≡ false)
-IsFate settings s r fates.Hold = (is_node r ≡ false) × (is_revision r ≡ true)
-IsFate settings s r fates.Pass = (is_node r ≡ false) × (is_revision r ≡ false)
+IsFate settings s r fates.Hold = (is_node r ≡ false) × (is_revision_record r ≡ true)
+IsFate settings s r fates.Pass = (is_node r ≡ false) × (is_revision_record r ≡ false)
 
 -- what is known of a record of this fate
 pub record IsTaken (settings : Settings) (before : List DumpRecord) (s : State) (r : DumpRecord)
     (fate : Fate) : Type 0 where
   pub free : NoFault (HoldsOfRecord settings before r)
   pub in_order : is_in_order s r ≡ true
-  pub readable : (is_revision r || is_kept_node settings r) ≡ true → HasPropertyBlock r
+  pub readable : (is_revision_record r || is_kept_node settings r) ≡ true → HasPropertyBlock r
   pub is : IsFate settings s r fate
 
 -- the record is of this fate, or has this fault
@@ -146,7 +146,7 @@ other_none settings before r drop below faults.MergeSource = λ h. absurd_bool (
 other_none settings before r drop below faults.MergeRange = λ h. absurd_bool (is_kept_node settings r) h.1.0 drop
 
 readable_is : (settings : Settings) (before : List DumpRecord) (r : DumpRecord) → NoneBelow settings before r 10
-    → (is_revision r || is_kept_node settings r) ≡ true → HasPropertyBlock r
+    → (is_revision_record r || is_kept_node settings r) ≡ true → HasPropertyBlock r
 readable_is settings before r none asked =
     block_stable r (λ bad. none faults.Props (omega arith) (asked, bad))
 
@@ -300,9 +300,10 @@ module _ (settings : Settings) (before : List DumpRecord) (s : State) (text : Li
       → IsFalse ok ↔ ∥ HasBadMergeinfo settings r ∥₁
       → (ps : List Property) → (is_kept_node settings r ≡ true → HasPropertyList r ps)
       → IsAnswer settings before s r (fate_of settings s r ok ps)
-  fate_answer good none ok means ps block = by_kind (is_node r) (is_kept_node settings r) (is_revision r) refl refl refl
+  fate_answer good none ok means ps block =
+      by_kind (is_node r) (is_kept_node settings r) (is_revision_record r) refl refl refl
     where
-      by_kind : (n k v : Bool) → is_node r ≡ n → is_kept_node settings r ≡ k → is_revision r ≡ v
+      by_kind : (n k v : Bool) → is_node r ≡ n → is_kept_node settings r ≡ k → is_revision_record r ≡ v
           → IsAnswer settings before s r
           (if n then (if k then node_fate settings s r ok ps else Ok fates.Drop) else if v then Ok fates.Hold
           else Ok fates.Pass)
@@ -392,15 +393,16 @@ pub fate_of_node : (settings : Settings) (s : State) (r : DumpRecord) (ok : Bool
     → is_kept_node settings r ≡ true → fate_of settings s r ok ps ≡ node_fate settings s r ok ps
 fate_of_node settings s r ok ps keep =
     let kept : Result Fate FaultKind = if is_kept_node settings r then node_fate settings s r ok ps else Ok fates.Drop in
-    ap (λ b. if b then kept else if is_revision r then Ok fates.Hold else Ok fates.Pass) (first_true (is_node r) _ keep)
+    ap (λ b. if b then kept else if is_revision_record r then Ok fates.Hold else Ok fates.Pass)
+    (first_true (is_node r) _ keep)
     ∙ ap (λ b. if b then node_fate settings s r ok ps else Ok fates.Drop) keep
 
 -- the fate of a revision is to be held
 pub fate_of_revision : (settings : Settings) (s : State) (r : DumpRecord) (ok : Bool) (ps : List Property)
-    → is_node r ≡ false → is_revision r ≡ true → Ok fates.Hold ≡ fate_of settings s r ok ps
+    → is_node r ≡ false → is_revision_record r ≡ true → Ok fates.Hold ≡ fate_of settings s r ok ps
 fate_of_revision settings s r ok ps no_node revision =
     let kept : Result Fate FaultKind = if is_kept_node settings r then node_fate settings s r ok ps else Ok fates.Drop in
-    sym (ap (λ b. if b then kept else if is_revision r then Ok fates.Hold else Ok fates.Pass) no_node
+    sym (ap (λ b. if b then kept else if is_revision_record r then Ok fates.Hold else Ok fates.Pass) no_node
     ∙ ap (λ b. if b then Ok fates.Hold else Ok fates.Pass) revision)
 
 -- a record in order that can be read has its fate

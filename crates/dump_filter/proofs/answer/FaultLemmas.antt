@@ -13,7 +13,7 @@ use Rattle.dump_records.specs.steps.RecordViews.{part_of_node}
 use Rattle.dump_records.proofs.Unique.{keeps}
 use Rattle.dump_rules.specs.Settings.{Settings}
 use Rattle.dump_rules.specs.Renumbering.{KeptRevisions, image}
-use Rattle.dump_digest.specs.RecordParts.{is_revision, is_node, is_kept_node}
+use Rattle.dump_digest.specs.RecordParts.{is_revision_record, is_node, is_kept_node}
 use Rattle.dump_filter.specs.declared.fate.CopyChange.{CopyChange}
 use Rattle.dump_filter.specs.declared.fate.CopyChange.TheVariants as copies
 use Rattle.dump_filter.specs.Groups.{revision_number, revision_numbers, first_number, kept_revisions}
@@ -40,7 +40,7 @@ module _ (settings : Settings) (before : List DumpRecord) (s : State) (text : Li
   ends_is = ends_open settings before s st.shape
 
   -- a record that may come next isn't out of order
-  pub ordered : (is_node r ≡ true → is_revision r ≡ false) → is_in_order s r ≡ true → ¬ IsOutOfOrder before r
+  pub ordered : (is_node r ≡ true → is_revision_record r ≡ false) → is_in_order s r ≡ true → ¬ IsOutOfOrder before r
   ordered alone good (inl bad) =
       let node : is_node r ≡ true = first_true (is_node r) (not (ends_in_group (last_or None before))) bad in
       let none : ends_in_group (last_or None before) ≡ false =
@@ -49,7 +49,8 @@ module _ (settings : Settings) (before : List DumpRecord) (s : State) (text : Li
       let some : is_open s.group ≡ true = sym (rw node refl) ∙ good in
       absurd_bool (is_open s.group) some (sym ends_is ∙ none)
   ordered alone good (inr (rev, present, at, low)) =
-      let other : is_node r ≡ false = not_so (is_node r) (λ node. absurd_bool (is_revision r) rev (alone node)) in
+      let other : is_node r ≡ false =
+      not_so (is_node r) (λ node. absurd_bool (is_revision_record r) rev (alone node)) in
       let up : rises s.revisions.present (revision_number r) ≡ true = sym (rw (other, rev) refl) ∙ good in
       let above = ltb-true present (revision_number r)
       (ap (λ p. rises p (revision_number r)) (sym (st.present_is ∙ at)) ∙ up) in
@@ -57,14 +58,14 @@ module _ (settings : Settings) (before : List DumpRecord) (s : State) (text : Li
 
   -- a record that may not come next is out of order
   pub disordered : is_in_order s r ≡ false → IsOutOfOrder before r
-  disordered bad = by_kind (is_node r) (is_revision r) refl refl bad
+  disordered bad = by_kind (is_node r) (is_revision_record r) refl refl bad
     where
-      by_present : is_revision r ≡ true → (p : Option ℕ) → s.revisions.present ≡ p → rises p (revision_number r) ≡ false
-          → IsOutOfOrder before r
+      by_present : is_revision_record r ≡ true → (p : Option ℕ) → s.revisions.present ≡ p
+          → rises p (revision_number r) ≡ false → IsOutOfOrder before r
       by_present rev None is low = absurd (false_true (sym low))
       by_present rev (Some p) is low = inr (rev, p, sym st.present_is ∙ is, ltb-false p (revision_number r) low)
 
-      by_kind : (n v : Bool) → is_node r ≡ n → is_revision r ≡ v
+      by_kind : (n v : Bool) → is_node r ≡ n → is_revision_record r ≡ v
           → (if n then is_open s.group else if v then rises s.revisions.present (revision_number r) else true) ≡ false
           → IsOutOfOrder before r
       by_kind true v node is none =
@@ -74,8 +75,8 @@ module _ (settings : Settings) (before : List DumpRecord) (s : State) (text : Li
       by_kind false false other no_rev no_way = absurd (false_true (sym no_way))
 
 -- a revision above the present one
-pub above_present : (s : State) (r : DumpRecord) → is_in_order s r ≡ true → is_node r ≡ false → is_revision r ≡ true
-    → (p : ℕ) → s.revisions.present ≡ Some p → p < revision_number r
+pub above_present : (s : State) (r : DumpRecord) → is_in_order s r ≡ true → is_node r ≡ false
+    → is_revision_record r ≡ true → (p : ℕ) → s.revisions.present ≡ Some p → p < revision_number r
 above_present s r good other rev p is =
     ltb-true p (revision_number r) (ap (λ q. rises q (revision_number r)) (sym is) ∙ sym (rw (other, rev) refl) ∙ good)
 

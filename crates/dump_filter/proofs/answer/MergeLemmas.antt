@@ -18,11 +18,11 @@ use Rattle.dump_records.specs.steps.RecordViews.{record_item}
 use Rattle.dump_digest.specs.declared.done.Done.{Done}
 use Rattle.dump_digest.specs.steps.DoneViews.{done_record, done_settings, done_verdict}
 use Rattle.dump_digest.specs.steps.ContentViews.{is_asked}
-use Rattle.dump_digest.specs.RecordParts.{is_revision, is_kept_node, is_mergeinfo, value_of, HasPropertyList, HasPropertyBlock}
+use Rattle.dump_digest.specs.RecordParts.{is_revision_record, is_kept_node, is_mergeinfo, value_of, HasPropertyList, HasPropertyBlock}
 use Rattle.dump_filter.specs.steps.NewProperties.{IsReadNode}
 use Rattle.dump_digest.specs.ContentFaults.{IsMergeinfoValueOf, HasBadMergeinfo}
 use Rattle.dump_digest.proofs.VerdictChoice.{bad_choice}
-use Rattle.dump_digest.specs.steps.MergeFaults.{misses, is_foreign, merge_fault, HasLines}
+use Rattle.dump_digest.specs.steps.MergeFaults.{misses, is_foreign, merge_fault, HasGoodMergeinfo}
 use Rattle.dump_text.proofs.BoolLemmas.{first_true, second_true, both_true, false_true, absurd_bool}
 use Rattle.dump_digest.proofs.PropertyBlocks.{property_list_once}
 
@@ -124,7 +124,7 @@ module _ (settings : Settings) (r : DumpRecord) (keep : is_kept_node settings r 
 
 -- a kept node without bad mergeinfo has lines in each value
 pub lines_told : (settings : Settings) (r : DumpRecord) → is_kept_node settings r ≡ true → ¬ HasBadMergeinfo settings r
-    → HasPropertyBlock r → HasLines r.props
+    → HasPropertyBlock r → HasGoodMergeinfo r.props
 lines_told settings r keep fine (qs, list) ps block p within is none =
     let same : ps ≡ qs = property_block_once r.props ps qs block list.0 in
     let here = subst (λ (l : List Property). Contains l p) same within in
@@ -132,17 +132,17 @@ lines_told settings r keep fine (qs, list) ps block p within is none =
 
 -- a kept node's properties are asked for
 pub asked_node : (d : Done) → IsReadNode d → IsTrue (is_asked (done_settings d) (record_item (done_record d)))
-asked_node d (kept, ok) = or_right (is_revision (record_item (done_record d)))
+asked_node d (kept, ok) = or_right (is_revision_record (record_item (done_record d)))
     (is_kept_node (done_settings d) (record_item (done_record d))) kept
 
 -- each value of its mergeinfo is some lines
 pub read_lines : (d : Done) → IsReadNode d → HasPropertyBlock (record_item (done_record d))
-    → HasLines (record_item (done_record d)).props
+    → HasGoodMergeinfo (record_item (done_record d)).props
 read_lines d (kept, ok) =
     lines_told (done_settings d) (record_item (done_record d)) kept
     (λ bad. absurd_bool (done_verdict d).merge_ok ok (d.judged.verdict_is.merge.1 ∣ bad ∣₁))
 
 -- and those of a revision are
-pub asked_revision : (d : Done) → IsTrue (is_revision (record_item (done_record d)))
+pub asked_revision : (d : Done) → IsTrue (is_revision_record (record_item (done_record d)))
     → IsTrue (is_asked (done_settings d) (record_item (done_record d)))
 asked_revision d revision = ap (λ b. b || is_kept_node (done_settings d) (record_item (done_record d))) revision

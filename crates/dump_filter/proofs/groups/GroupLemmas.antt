@@ -8,7 +8,7 @@ use Rattle.dump_records.specs.RecordText.{DumpRecord}
 use Rattle.dump_text.specs.HeaderBlock.{block_text}
 use Rattle.dump_rules.specs.Settings.{Settings}
 use Rattle.dump_rules.specs.Renumbering.{KeptRevisions}
-use Rattle.dump_digest.specs.RecordParts.{is_revision, is_node, is_kept_node}
+use Rattle.dump_digest.specs.RecordParts.{is_revision_record, is_node, is_kept_node}
 use Rattle.dump_filter.specs.Groups.{Group, group_of, groups, group_number, has_kept_node, is_bare, is_pad, is_padded, keeps_group, keeps_empty, revision_number}
 use Rattle.dump_filter.specs.RecordOutput.{revision_text, IsRevisionOutput, IsNodeOutput, IsOutput}
 use Rattle.dump_filter.specs.steps.Knowledge.{is_plain}
@@ -41,9 +41,9 @@ group_before x xs zs y other = ap (λ (ns : List DumpRecord). record { revision 
 pub groups_before : (xs zs : List DumpRecord) (y : DumpRecord) → is_node y ≡ false
     → groups (xs ++ y ∷ zs) ≡ groups xs ++ groups (y ∷ zs)
 groups_before [] zs y other = refl
-groups_before (x ∷ xs) zs y other = cases (is_revision x) refl (groups_before xs zs y other)
+groups_before (x ∷ xs) zs y other = cases (is_revision_record x) refl (groups_before xs zs y other)
   where
-    cases : (b : Bool) → is_revision x ≡ b → groups (xs ++ y ∷ zs) ≡ groups xs ++ groups (y ∷ zs)
+    cases : (b : Bool) → is_revision_record x ≡ b → groups (xs ++ y ∷ zs) ≡ groups xs ++ groups (y ∷ zs)
         → groups (x ∷ (xs ++ y ∷ zs)) ≡ groups (x ∷ xs) ++ groups (y ∷ zs)
     cases true is more = rw is (ap (λ (g : Group). g ∷ groups (xs ++ y ∷ zs)) (group_before x xs zs y other)
         ∙ ap (λ (gs : List Group). group_of x xs ∷ gs) more)
@@ -51,11 +51,11 @@ groups_before (x ∷ xs) zs y other = cases (is_revision x) refl (groups_before 
 
 -- what is a node and nothing else is a node
 pub plain_node : (r : DumpRecord) → is_plain r ≡ true → is_node r ≡ true
-plain_node r h = first_true (is_node r) (not (is_revision r)) h
+plain_node r h = first_true (is_node r) (not (is_revision_record r)) h
 
 -- what is a node and nothing else is no revision
-pub plain_other : (r : DumpRecord) → is_plain r ≡ true → is_revision r ≡ false
-plain_other r h = not_true (is_revision r) (second_true (is_node r) (not (is_revision r)) h)
+pub plain_other : (r : DumpRecord) → is_plain r ≡ true → is_revision_record r ≡ false
+plain_other r h = not_true (is_revision_record r) (second_true (is_node r) (not (is_revision_record r)) h)
 
 pub all_nodes : (ns : List DumpRecord) → list_all is_plain ns ≡ true → list_all is_node ns ≡ true
 all_nodes [] all = refl
@@ -83,13 +83,13 @@ pub own_group : (y : DumpRecord) (ns : List DumpRecord) → list_all is_plain ns
 own_group y ns all = ap (λ (t : List DumpRecord). record { revision = y; nodes = t }) (take_nodes ns all)
 
 -- a revision and its nodes are one group
-pub groups_revision : (y : DumpRecord) (ns : List DumpRecord) → is_revision y ≡ true → list_all is_plain ns ≡ true
-    → groups (y ∷ ns) ≡ record { revision = y; nodes = ns } ∷ []
+pub groups_revision : (y : DumpRecord) (ns : List DumpRecord) → is_revision_record y ≡ true
+    → list_all is_plain ns ≡ true → groups (y ∷ ns) ≡ record { revision = y; nodes = ns } ∷ []
 groups_revision y ns is all = rw is (ap (λ (g : Group). g ∷ groups ns) (own_group y ns all)
     ∙ ap (λ (gs : List Group). record { revision = y; nodes = ns } ∷ gs) (no_groups ns all))
 
 -- a record that is no revision, alone, is no group
-pub groups_other : (y : DumpRecord) → is_revision y ≡ false → groups (y ∷ []) ≡ []
+pub groups_other : (y : DumpRecord) → is_revision_record y ≡ false → groups (y ∷ []) ≡ []
 groups_other y is = rw is refl
 
 -- nodes and nothing else, with one more, are so still
@@ -107,7 +107,7 @@ module _ (settings : Settings) (k : KeptRevisions) where
   -- a record before one that is no node is written as if the dump had ended
   written_before : (ended : Bool) (x : DumpRecord) (xs zs : List DumpRecord) (y : DumpRecord) → is_node y ≡ false
       → is_written settings ended x (xs ++ y ∷ zs) ≡ is_written settings true x xs
-  written_before ended x xs zs y other = cases (is_revision x) refl
+  written_before ended x xs zs y other = cases (is_revision_record x) refl
     where
       closed : is_open (xs ++ y ∷ zs) ≡ false
       closed = list_all-append is_node xs (y ∷ zs) ∙ rw other (and-false (list_all is_node xs))
@@ -117,7 +117,7 @@ module _ (settings : Settings) (k : KeptRevisions) where
       either true false c = refl
       either false b c = refl
 
-      cases : (b : Bool) → is_revision x ≡ b → is_written settings ended x
+      cases : (b : Bool) → is_revision_record x ≡ b → is_written settings ended x
           (xs ++ y ∷ zs) ≡ is_written settings true x xs
       cases true is = rw is
           (ap (λ (g : Group). keeps_group settings g &&
@@ -129,11 +129,11 @@ module _ (settings : Settings) (k : KeptRevisions) where
 
   -- what is written of a record, by its group
   abbrev OutputBy : DumpRecord → Group → List ℕ → Type 0
-  OutputBy r g text = MatchBool (is_revision r) (IsRevisionOutput settings k g text)
+  OutputBy r g text = MatchBool (is_revision_record r) (IsRevisionOutput settings k g text)
       (MatchBool (is_node r) (IsNodeOutput settings k r text) (text ≡ block_text r.headers))
 
   -- the group of a record that is no revision doesn't matter
-  plain_output : (r : DumpRecord) (g h : Group) (text : List ℕ) → is_revision r ≡ false → OutputBy r g text
+  plain_output : (r : DumpRecord) (g h : Group) (text : List ℕ) → is_revision_record r ≡ false → OutputBy r g text
       → OutputBy r h text
   plain_output r g h text other out =
       subst (λ (b : Bool). MatchBool b (IsRevisionOutput settings k h text)
@@ -149,7 +149,7 @@ module _ (settings : Settings) (k : KeptRevisions) where
   moved_output b c r g h text same group out =
       subst (λ (d : Bool). WrittenBy d r h text) same (subst (λ (i : Group). WrittenBy b r i text) group out)
 
-  plain_written : (b c : Bool) (r : DumpRecord) (g h : Group) (text : List ℕ) → is_revision r ≡ false → b ≡ c
+  plain_written : (b c : Bool) (r : DumpRecord) (g h : Group) (text : List ℕ) → is_revision_record r ≡ false → b ≡ c
       → WrittenBy b r g text → WrittenBy c r h text
   plain_written b c r g h text other same out = subst (λ (d : Bool). WrittenBy d r h text) same (by_case b out)
     where
@@ -252,8 +252,8 @@ module _ (settings : Settings) (k : KeptRevisions) where
       (second_false (is_kept_node settings n) (list_any (is_kept_node settings) ns) none) more
 
   -- a revision whose group has a kept node is written
-  rev_kept : (ended : Bool) (y : DumpRecord) (ns : List DumpRecord) → is_revision y ≡ true → list_all is_plain ns ≡ true
-      → list_any (is_kept_node settings) ns ≡ true → is_written settings ended y ns ≡ true
+  rev_kept : (ended : Bool) (y : DumpRecord) (ns : List DumpRecord) → is_revision_record y ≡ true
+      → list_all is_plain ns ≡ true → list_any (is_kept_node settings) ns ≡ true → is_written settings ended y ns ≡ true
   rev_kept ended y ns rev all some =
       rw rev
       (ap (λ (g : Group). keeps_group settings g && (ended || not (is_open ns) || has_kept_node settings g))
@@ -272,7 +272,7 @@ module _ (settings : Settings) (k : KeptRevisions) where
       all_true false e false false = refl
 
   -- one without waits while the dump may go on
-  rev_waits : (y : DumpRecord) (ns : List DumpRecord) → is_revision y ≡ true → list_all is_plain ns ≡ true
+  rev_waits : (y : DumpRecord) (ns : List DumpRecord) → is_revision_record y ≡ true → list_all is_plain ns ≡ true
       → list_any (is_kept_node settings) ns ≡ false → is_written settings false y ns ≡ false
   rev_waits y ns rev all none =
       rw rev
@@ -283,7 +283,7 @@ module _ (settings : Settings) (k : KeptRevisions) where
       ∙ and-false (keeps_group settings (record { revision = y; nodes = ns })))
 
   -- and is written at the end where the options keep it
-  rev_ends : (y : DumpRecord) (ns : List DumpRecord) → is_revision y ≡ true → list_all is_plain ns ≡ true
+  rev_ends : (y : DumpRecord) (ns : List DumpRecord) → is_revision_record y ≡ true → list_all is_plain ns ≡ true
       → is_written settings true y ns ≡ keeps_group settings (record { revision = y; nodes = ns })
   rev_ends y ns rev all =
       rw rev
@@ -291,13 +291,13 @@ module _ (settings : Settings) (k : KeptRevisions) where
       ∙ and-true (keeps_group settings (record { revision = y; nodes = ns })))
 
   -- what is written of a revision, by its group
-  own_output : (y : DumpRecord) (ns : List DumpRecord) (text : List ℕ) → is_revision y ≡ true
+  own_output : (y : DumpRecord) (ns : List DumpRecord) (text : List ℕ) → is_revision_record y ≡ true
       → list_all is_plain ns ≡ true
       → IsRevisionOutput settings k (record { revision = y; nodes = ns }) text → IsOutput settings k y ns text
   own_output y ns text rev all out = rw rev (subst (λ (g : Group). IsRevisionOutput settings k g text)
       (sym (own_group y ns all)) out)
 
-  output_own : (y : DumpRecord) (ns : List DumpRecord) (text : List ℕ) → is_revision y ≡ true
+  output_own : (y : DumpRecord) (ns : List DumpRecord) (text : List ℕ) → is_revision_record y ≡ true
       → list_all is_plain ns ≡ true
       → IsOutput settings k y ns text → IsRevisionOutput settings k (record { revision = y; nodes = ns }) text
   output_own y ns text rev all out = subst (λ (g : Group). IsRevisionOutput settings k g text) (own_group y ns all)
@@ -315,7 +315,7 @@ module _ (settings : Settings) (k : KeptRevisions) where
       none true c d = refl
       none false c d = refl
 
-  passed_output : (y : DumpRecord) (ns ms : List DumpRecord) (text : List ℕ) → is_revision y ≡ true
+  passed_output : (y : DumpRecord) (ns ms : List DumpRecord) (text : List ℕ) → is_revision_record y ≡ true
       → list_all is_plain ns ≡ true → list_all is_plain ms ≡ true
       → list_any (is_kept_node settings) ns ≡ true → list_any (is_kept_node settings) ms ≡ true
       → IsOutput settings k y ns text → IsOutput settings k y ms text
@@ -330,7 +330,7 @@ module _ (settings : Settings) (k : KeptRevisions) where
 
 -- a list that ends with the group of a revision
 module _ (settings : Settings) (k : KeptRevisions) (closed ns : List DumpRecord) (y : DumpRecord) (text : List ℕ)
-    (other : is_node y ≡ false) (rev : is_revision y ≡ true) (all : list_all is_plain ns ≡ true)
+    (other : is_node y ≡ false) (rev : is_revision_record y ≡ true) (all : list_all is_plain ns ≡ true)
     (out : AreOutputs settings false k (closed ++ y ∷ ns) text) where
   -- what is written before the group, of its revision, and of its nodes
   record Parts : Type 0 where
@@ -471,7 +471,8 @@ module _ (settings : Settings) (k : KeptRevisions) (closed ns : List DumpRecord)
 
 module _ (settings : Settings) (k : KeptRevisions) where
   -- a list that ends with a version or UUID record ends as it stands
-  pub idle_end : (closed : List DumpRecord) (y : DumpRecord) (text : List ℕ) → is_node y ≡ false → is_revision y ≡ false
+  pub idle_end : (closed : List DumpRecord) (y : DumpRecord) (text : List ℕ) → is_node y ≡ false
+      → is_revision_record y ≡ false
       → AreOutputs settings false k (closed ++ y ∷ []) text → AreOutputs settings true k (closed ++ y ∷ []) text
   idle_end closed y text other no_rev out =
       let cut = outputs_cut settings k false closed [] y text other out in
@@ -489,7 +490,7 @@ module _ (settings : Settings) (k : KeptRevisions) where
 
   -- a revision behind ended records waits
   pub revision_more : (before : List DumpRecord) (r : DumpRecord) (text : List ℕ) → is_node r ≡ false
-      → is_revision r ≡ true
+      → is_revision_record r ≡ true
       → AreOutputs settings true k before text → AreOutputs settings false k (before ++ r ∷ []) text
   revision_more before r text other rev out =
       subst (AreOutputs settings false k (before ++ r ∷ [])) (append-nil text)
@@ -504,7 +505,7 @@ module _ (settings : Settings) (k : KeptRevisions) where
 
   -- a version or UUID record is written as it stood
   pub other_more : (before : List DumpRecord) (r : DumpRecord) (text : List ℕ) → is_node r ≡ false
-      → is_revision r ≡ false
+      → is_revision_record r ≡ false
       → AreOutputs settings true k before text → AreOutputs settings false k (before ++ r ∷ [])
       (text ++ block_text r.headers)
   other_more before r text other no_rev out =

@@ -8,15 +8,15 @@ use Rattle.dump_records.specs.declared.kind.RecordKind.{RecordKind}
 use Rattle.dump_records.specs.declared.kind.RecordKind.TheVariants as kinds
 use Rattle.dump_records.specs.RecordText.{DumpRecord, is_lawful}
 use Rattle.dump_records.proofs.Unique.{keeps}
-use Rattle.dump_digest.specs.RecordParts.{is_revision, is_node}
+use Rattle.dump_digest.specs.RecordParts.{is_revision_record, is_node}
 use Rattle.dump_text.proofs.BoolLemmas.{not_so, false_true}
 
 -- a record is of this kind, and of no other
 abbrev pub IsOfKind : DumpRecord → RecordKind → Type 0
-IsOfKind r kinds.Version = (is_node r ≡ false) × (is_revision r ≡ false)
-IsOfKind r kinds.Uuid = (is_node r ≡ false) × (is_revision r ≡ false)
-IsOfKind r kinds.Revision = (is_node r ≡ false) × (is_revision r ≡ true)
-IsOfKind r kinds.Node = (is_node r ≡ true) × (is_revision r ≡ false)
+IsOfKind r kinds.Version = (is_node r ≡ false) × (is_revision_record r ≡ false)
+IsOfKind r kinds.Uuid = (is_node r ≡ false) × (is_revision_record r ≡ false)
+IsOfKind r kinds.Revision = (is_node r ≡ false) × (is_revision_record r ≡ true)
+IsOfKind r kinds.Node = (is_node r ≡ true) × (is_revision_record r ≡ false)
 
 -- the kind that the lines of a lawful record give is its own
 pub of_kind : (number : ℕ) (r : DumpRecord) → IsTrue (is_lawful number r.headers) → IsOfKind r (kind_of r.headers)
@@ -55,10 +55,10 @@ of_kind number r lawful =
 
 -- a node is no revision
 pub alone : (number : ℕ) (r : DumpRecord) → IsTrue (is_lawful number r.headers) → is_node r ≡ true
-    → is_revision r ≡ false
+    → is_revision_record r ≡ false
 alone number r lawful node = by_kind (kind_of r.headers) (of_kind number r lawful)
   where
-    by_kind : (which : RecordKind) → IsOfKind r which → is_revision r ≡ false
+    by_kind : (which : RecordKind) → IsOfKind r which → is_revision_record r ≡ false
     by_kind kinds.Version (other, no_rev) = no_rev
     by_kind kinds.Uuid (other, no_rev) = no_rev
     by_kind kinds.Revision (other, rev) = absurd (false_true (sym other ∙ node))

@@ -7,24 +7,24 @@ use Rattle.std.proofs.lemmas.List.Elements.{filter-append}
 use Rattle.std.proofs.lemmas.List.Sums.{sum_by-append}
 use Rattle.dump_records.specs.RecordText.{DumpRecord}
 use Rattle.dump_rules.specs.Settings.{Settings}
-use Rattle.dump_digest.specs.RecordParts.{is_revision, is_node, is_kept_node}
+use Rattle.dump_digest.specs.RecordParts.{is_revision_record, is_node, is_kept_node}
 use Rattle.dump_filter.specs.Groups.{Group, groups, group_number, keeps_group, keeps_empty, revision_number, revision_numbers, first_number, present_revision}
 use Rattle.dump_filter.specs.steps.Knowledge.{is_plain, kept_numbers}
 use Rattle.dump_filter.proofs.groups.GroupLemmas.{groups_before, groups_revision, groups_other}
 
 -- one more record
-pub numbers_other : (before : List DumpRecord) (r : DumpRecord) → is_revision r ≡ false
+pub numbers_other : (before : List DumpRecord) (r : DumpRecord) → is_revision_record r ≡ false
     → revision_numbers (before ++ r ∷ []) ≡ revision_numbers before
 numbers_other [] r other = rw other refl
-numbers_other (x ∷ before) r other = cases (is_revision x) refl (numbers_other before r other)
+numbers_other (x ∷ before) r other = cases (is_revision_record x) refl (numbers_other before r other)
   where
-    cases : (b : Bool) → is_revision x ≡ b → revision_numbers (before ++ r ∷ []) ≡ revision_numbers before
+    cases : (b : Bool) → is_revision_record x ≡ b → revision_numbers (before ++ r ∷ []) ≡ revision_numbers before
         → revision_numbers (x ∷ (before ++ r ∷ [])) ≡ revision_numbers (x ∷ before)
     cases true is more = rw is (ap (λ (t : List ℕ). revision_number x ∷ t) more)
     cases false is more = rw is more
 
 pub numbers_revision : (before : List DumpRecord) (r : DumpRecord) (ns : List DumpRecord) → is_node r ≡ false
-    → is_revision r ≡ true → list_all is_plain ns ≡ true
+    → is_revision_record r ≡ true → list_all is_plain ns ≡ true
     → revision_numbers (before ++ r ∷ ns) ≡ revision_numbers before ++ revision_number r ∷ []
 numbers_revision before r ns other rev all =
     ap (map group_number) (groups_before before ns r other ∙ ap (λ (gs : List Group). groups before ++ gs)
@@ -32,19 +32,19 @@ numbers_revision before r ns other rev all =
     ∙ map-append group_number (groups before) (record { revision = r; nodes = ns } ∷ [])
 
 -- a record that is no revision leaves the present revision as it is
-pub present_other : (before : List DumpRecord) (r : DumpRecord) → is_revision r ≡ false
+pub present_other : (before : List DumpRecord) (r : DumpRecord) → is_revision_record r ≡ false
     → present_revision (before ++ r ∷ []) ≡ present_revision before
 present_other before r other = ap (last_or None) (numbers_other before r other)
 
 -- behind a revision and its nodes that revision is the present one
 pub present_group : (before : List DumpRecord) (r : DumpRecord) (ns : List DumpRecord) → is_node r ≡ false
-    → is_revision r ≡ true → list_all is_plain ns ≡ true
+    → is_revision_record r ≡ true → list_all is_plain ns ≡ true
     → present_revision (before ++ r ∷ ns) ≡ Some (revision_number r)
 present_group before r ns other rev all = ap (last_or None) (numbers_revision before r ns other rev all)
     ∙ last_or_pushed None (revision_numbers before) (revision_number r)
 
 -- a record that is no revision leaves the first number as it is
-pub first_other : (before : List DumpRecord) (r : DumpRecord) → is_revision r ≡ false
+pub first_other : (before : List DumpRecord) (r : DumpRecord) → is_revision_record r ≡ false
     → first_number (revision_numbers (before ++ r ∷ [])) ≡ first_number (revision_numbers before)
 first_other before r other = ap first_number (numbers_other before r other)
 
@@ -61,8 +61,8 @@ no_numbers before none = cases (revision_numbers before) none
     cases (n ∷ ns) e = absurd (some_last n ns e)
 
 -- the first revision stays the first
-pub first_stays : (before : List DumpRecord) (r : DumpRecord) (present : ℕ) → is_node r ≡ false → is_revision r ≡ true
-    → present_revision before ≡ Some present
+pub first_stays : (before : List DumpRecord) (r : DumpRecord) (present : ℕ) → is_node r ≡ false
+    → is_revision_record r ≡ true → present_revision before ≡ Some present
     → first_number (revision_numbers (before ++ r ∷ [])) ≡ first_number (revision_numbers before)
 first_stays before r present other rev is = ap first_number (numbers_revision before r [] other rev refl)
     ∙ cases (revision_numbers before) is
@@ -73,7 +73,7 @@ first_stays before r present other rev is = ap first_number (numbers_revision be
     cases (n ∷ ns) e = refl
 
 -- the first revision's number is the first number
-pub first_begins : (before : List DumpRecord) (r : DumpRecord) → is_node r ≡ false → is_revision r ≡ true
+pub first_begins : (before : List DumpRecord) (r : DumpRecord) → is_node r ≡ false → is_revision_record r ≡ true
     → present_revision before ≡ None
     → first_number (revision_numbers (before ++ r ∷ [])) ≡ revision_number r
 first_begins before r other rev none =
@@ -82,7 +82,7 @@ first_begins before r other rev none =
 
 -- the kept revisions of a list that ends with a group
 pub kept_group : (settings : Settings) (closed ns : List DumpRecord) (y : DumpRecord) → is_node y ≡ false
-    → is_revision y ≡ true → list_all is_plain ns ≡ true
+    → is_revision_record y ≡ true → list_all is_plain ns ≡ true
     → kept_numbers settings (closed ++ y ∷ ns)
     ≡ kept_numbers settings closed ++ (if keeps_group settings
     (record { revision = y; nodes = ns }) then revision_number y ∷ [] else [])
@@ -105,7 +105,7 @@ kept_group settings closed ns y other rev all =
 
 -- a version or UUID record adds no kept number
 pub kept_other : (settings : Settings) (closed : List DumpRecord) (y : DumpRecord) → is_node y ≡ false
-    → is_revision y ≡ false
+    → is_revision_record y ≡ false
     → kept_numbers settings (closed ++ y ∷ []) ≡ kept_numbers settings closed
 kept_other settings closed y other no_rev =
     ap (λ (gs : List Group). map group_number (filter (keeps_group settings) gs))
@@ -119,7 +119,7 @@ count_one p xs x = sum_by-append (λ y. if p y then 1 else 0) xs (x ∷ []) ∙ 
 
 -- a revision and its nodes add one group to a count, if it is counted
 pub group_counts : (p : Group → Bool) (closed ns : List DumpRecord) (y : DumpRecord) → is_node y ≡ false
-    → is_revision y ≡ true → list_all is_plain ns ≡ true
+    → is_revision_record y ≡ true → list_all is_plain ns ≡ true
     → count_by p (groups (closed ++ y ∷ ns)) ≡ count_by p (groups closed) +
     (if p (record { revision = y; nodes = ns }) then 1 else 0)
 group_counts p closed ns y other rev all =
@@ -129,7 +129,7 @@ group_counts p closed ns y other rev all =
 
 -- a version or UUID record adds no group to a count
 pub other_counts : (p : Group → Bool) (closed : List DumpRecord) (y : DumpRecord) → is_node y ≡ false
-    → is_revision y ≡ false
+    → is_revision_record y ≡ false
     → count_by p (groups (closed ++ y ∷ [])) ≡ count_by p (groups closed)
 other_counts p closed y other no_rev =
     ap (count_by p) (groups_before closed [] y other ∙ ap (λ (gs : List Group). groups closed ++ gs)

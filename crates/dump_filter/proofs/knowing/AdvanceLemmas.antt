@@ -14,7 +14,7 @@ use Rattle.dump_rules.specs.Mergeinfo.{HasMergeLines}
 use Rattle.dump_rules.specs.Rewriting.{IsNewMergeinfo}
 use Rattle.dump_rules.proofs.faults.FaultLemmas.{has_lines}
 use Rattle.dump_rules.proofs.new_values.ValueLemmas.{new_value}
-use Rattle.dump_digest.specs.RecordParts.{is_revision, is_node, is_kept_node, is_mergeinfo, is_checked_text, value_of, HasPropertyBlock}
+use Rattle.dump_digest.specs.RecordParts.{is_revision_record, is_node, is_kept_node, is_mergeinfo, is_checked_text, value_of, HasPropertyBlock}
 use Rattle.dump_filter.specs.declared.fate.CopyChange.{CopyChange}
 use Rattle.dump_filter.specs.declared.fate.Fate.{Fate}
 use Rattle.dump_filter.specs.declared.fate.Fate.TheVariants as fates
@@ -22,9 +22,9 @@ use Rattle.dump_filter.specs.declared.report.Report.{Report}
 use Rattle.dump_filter.specs.Groups.{kept_revisions, revision_number}
 use Rattle.dump_filter.specs.RecordFaults.{AreFaultFree}
 use Rattle.dump_filter.specs.NewContent.{IsNewProperty, AreNewProperties}
-use Rattle.dump_digest.specs.steps.MergeFaults.{HasLines}
+use Rattle.dump_digest.specs.steps.MergeFaults.{HasGoodMergeinfo}
 use Rattle.dump_filter.specs.steps.OwnText.{revision_own, node_own}
-use Rattle.dump_filter.specs.Written.{IsWritten}
+use Rattle.dump_filter.specs.Written.{IsWrittenText}
 use Rattle.dump_filter.specs.steps.State.{PresentGroup, State, no_revisions, pending_count, revision_count}
 use Rattle.dump_filter.specs.steps.State.PresentGroup.{NoGroup, Pending, Written}
 use Rattle.dump_filter.specs.steps.Advance.{stays, pads, next_number, IsOwnRevision, IsOwnNode, IsEndText, IsFrontText, IsPiece, with_kept, front_kept, end_kept, with_kept_revision, with_dropped_revision, front_report, end_report, ended, emptied, started, text_count, next_state}
@@ -69,7 +69,7 @@ next_stands settings before s text r (fates.Keep copy) checked piece st readable
     subst (λ (t : List ℕ). Stands settings (before ++ r ∷ []) next (text ++ t)) (sym joined)
     (keep_stands settings r plain text before s copy next.report front own st.shape st keep
     (sym (rw (plain_node r plain) refl) ∙ taken.in_order) (front_dropped s.group s.report) readable
-    (taken.readable (or_right (is_revision r) (is_kept_node settings r) keep)) new source known at_front at_own)
+    (taken.readable (or_right (is_revision_record r) (is_kept_node settings r) keep)) new source known at_front at_own)
 next_stands settings before s text r fates.Drop checked piece st readable taken none =
     let (plain, drop) = taken.is in
     let next = next_state settings s r fates.Drop checked in
@@ -120,7 +120,7 @@ properties_exist settings kept rise (p ∷ ps) lines =
     (q ∷ new, (one, all))
 
 node_exists : (settings : Settings) (kept : KeptRevisions) (r : DumpRecord) (copy : CopyChange)
-    → RiseFrom kept.first kept.numbers → HasPropertyBlock r → HasLines r.props
+    → RiseFrom kept.first kept.numbers → HasPropertyBlock r → HasGoodMergeinfo r.props
     → (text : List ℕ) × IsOwnNode settings kept r copy text
 node_exists settings kept r copy rise (ps, block) lines =
     let (new, all) = properties_exist settings kept rise ps (lines ps block.0) in (
@@ -172,7 +172,7 @@ pub piece_exists : (settings : Settings) (before : List DumpRecord) (s : State) 
 piece_exists settings before s r (fates.Keep copy) up readable taken =
     let keep = taken.is.1 in
     let front = front_exists settings s.revisions.kept s.group readable in
-    let block = taken.readable (or_right (is_revision r) (is_kept_node settings r) keep) in
+    let block = taken.readable (or_right (is_revision_record r) (is_kept_node settings r) keep) in
     let own = node_exists settings (front_kept s.revisions.kept s.group) r copy (rising s up) block
     (lines_told settings r keep (taken.free faults.MergeInfo) block) in
     (front.0 ++ own.0, (front.0, own.0, refl, front.1, own.1))
@@ -184,13 +184,13 @@ piece_exists settings before s r fates.Pass up readable taken =
 
 -- what stands is written, and nothing else is
 pub stands_written : (settings : Settings) (before : List DumpRecord) (s : State) (text : List ℕ)
-    → Stands settings before s text → IsWritten settings false before text
+    → Stands settings before s text → IsWrittenText settings false before text
 stands_written settings before s text st =
     st.written (kept_revisions settings before) (becomes settings before s text st)
 
 -- what stands written of the records is the only text that is written of them
 pub stands_once : (settings : Settings) (before : List DumpRecord) (s : State) (text other : List ℕ)
-    → Stands settings before s text → IsWritten settings false before other → text ≡ other
+    → Stands settings before s text → IsWrittenText settings false before other → text ≡ other
 stands_once settings before s text other st written =
     outputs_once settings false (kept_revisions settings before) before text other
     (stands_written settings before s text st) written

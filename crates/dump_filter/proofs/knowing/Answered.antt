@@ -8,7 +8,7 @@ use Rattle.dump_rules.specs.Settings.{Settings}
 use Rattle.dump_filter.specs.declared.fate.Fate.{Fate}
 use Rattle.dump_filter.specs.Groups.{kept_revisions}
 use Rattle.dump_filter.specs.RecordFaults.{IsRecordFault, AreFaultFree}
-use Rattle.dump_filter.specs.Written.{IsWritten}
+use Rattle.dump_filter.specs.Written.{IsWrittenText}
 use Rattle.dump_filter.specs.steps.State.{State, new_state}
 use Rattle.dump_filter.specs.steps.Advance.{next_state}
 use Rattle.dump_filter.specs.steps.Decision.{decided}
@@ -53,13 +53,13 @@ reached_none settings = record { state = new_state; text = []; stands = new_stan
 
 -- what was reached is what is written of these records
 pub reached_written : (settings : Settings) (before : List DumpRecord) (reached : Reached settings before)
-    → IsWritten settings false before reached.text
+    → IsWrittenText settings false before reached.text
 reached_written settings before d = stands_written settings before d.state d.text d.stands
 
 -- the end behind records without a fault
 record End (settings : Settings) (before : List DumpRecord) (text : List ℕ) : Type 0 where
   more : List ℕ
-  written : IsWritten settings true before (text ++ more)
+  written : IsWrittenText settings true before (text ++ more)
 
 reached_end : (settings : Settings) (before : List DumpRecord) → AreFaultFree settings before
     → (d : Reached settings before) → End settings before d.text
@@ -130,11 +130,11 @@ pub data Outcome (settings : Settings) (before rest : List DumpRecord) (text : L
   Stops : (mid after : List DumpRecord) (r : DumpRecord) (fault : FaultKind) → rest ≡ mid ++ r ∷ after
       → AreFaultFree settings (before ++ mid)
       → IsRecordFault settings (before ++ mid) r fault → (more : List ℕ)
-      → IsWritten settings false (before ++ mid) (text ++ more)
+      → IsWrittenText settings false (before ++ mid) (text ++ more)
       → Outcome settings before rest text
   Ends : AreFaultFree settings (before ++ rest) → (more : List ℕ)
-      → IsWritten settings false (before ++ rest) (text ++ more)
-      → (end : List ℕ) → IsWritten settings true (before ++ rest) ((text ++ more) ++ end)
+      → IsWrittenText settings false (before ++ rest) (text ++ more)
+      → (end : List ℕ) → IsWrittenText settings true (before ++ rest) ((text ++ more) ++ end)
       → Outcome settings before rest text
 
 further : (settings : Settings) (before rest : List DumpRecord) (r : DumpRecord) (text turn next : List ℕ)
@@ -145,17 +145,17 @@ further settings before rest r text turn next is (Stops mid after x fault at fre
     let texts : next ++ more ≡ text ++ (turn ++ more) = ap (λ t. t ++ more) is ∙ append_assoc text turn more in
     Stops (r ∷ mid) after x fault (ap (λ (l : List DumpRecord). r ∷ l) at) (subst (AreFaultFree settings) moved free)
     (subst (λ (l : List DumpRecord). IsRecordFault settings l x fault) moved has) (turn ++ more)
-    (subst (λ (t : List ℕ). IsWritten settings false (before ++ r ∷ mid) t) texts
-    (subst (λ (l : List DumpRecord). IsWritten settings false l (next ++ more)) moved written))
+    (subst (λ (t : List ℕ). IsWrittenText settings false (before ++ r ∷ mid) t) texts
+    (subst (λ (l : List DumpRecord). IsWrittenText settings false l (next ++ more)) moved written))
 further settings before rest r text turn next is (Ends free more written end whole) =
     let moved : (before ++ r ∷ []) ++ rest ≡ before ++ r ∷ rest = append_assoc before (r ∷ []) rest in
     let texts : next ++ more ≡ text ++ (turn ++ more) = ap (λ t. t ++ more) is ∙ append_assoc text turn more in
     Ends (subst (AreFaultFree settings) moved free) (turn ++ more)
-    (subst (λ (t : List ℕ). IsWritten settings false (before ++ r ∷ rest) t) texts
-    (subst (λ (l : List DumpRecord). IsWritten settings false l (next ++ more)) moved written))
+    (subst (λ (t : List ℕ). IsWrittenText settings false (before ++ r ∷ rest) t) texts
+    (subst (λ (l : List DumpRecord). IsWrittenText settings false l (next ++ more)) moved written))
     end
-    (subst (λ (t : List ℕ). IsWritten settings true (before ++ r ∷ rest) (t ++ end)) texts
-    (subst (λ (l : List DumpRecord). IsWritten settings true l ((next ++ more) ++ end)) moved whole))
+    (subst (λ (t : List ℕ). IsWrittenText settings true (before ++ r ∷ rest) (t ++ end)) texts
+    (subst (λ (l : List DumpRecord). IsWrittenText settings true l ((next ++ more) ++ end)) moved whole))
 
 -- lawful records behind those without a fault end without one, or stop at the first that has one
 pub follow : (settings : Settings) (before rest : List DumpRecord) → AllLawful rest → AreFaultFree settings before
@@ -166,12 +166,12 @@ follow settings before [] all free reached =
     let text_same : reached.text ++ [] ≡ reached.text = append-nil reached.text in
     let end = reached_end settings before free reached in
     Ends (subst (AreFaultFree settings) (sym same) free) []
-    (subst (λ (t : List ℕ). IsWritten settings false (before ++ []) t) (sym text_same)
-    (subst (λ (l : List DumpRecord). IsWritten settings false l reached.text) (sym same)
+    (subst (λ (t : List ℕ). IsWrittenText settings false (before ++ []) t) (sym text_same)
+    (subst (λ (l : List DumpRecord). IsWrittenText settings false l reached.text) (sym same)
     (reached_written settings before reached)))
     end.more
-    (subst (λ (t : List ℕ). IsWritten settings true (before ++ []) (t ++ end.more)) (sym text_same)
-    (subst (λ (l : List DumpRecord). IsWritten settings true l (reached.text ++ end.more)) (sym same) end.written))
+    (subst (λ (t : List ℕ). IsWrittenText settings true (before ++ []) (t ++ end.more)) (sym text_same)
+    (subst (λ (l : List DumpRecord). IsWrittenText settings true l (reached.text ++ end.more)) (sym same) end.written))
 follow settings before (r ∷ rest) all free reached =
     elim (choice settings before free reached r all.0.0 all.0.1) [
       | inl next ↦ further settings before rest r reached.text next.more next.next.text next.text_is
@@ -180,7 +180,7 @@ follow settings before (r ∷ rest) all free reached =
           let same : before ++ [] ≡ before = append-nil before in
           Stops [] rest r found.0 refl (subst (AreFaultFree settings) (sym same) free)
           (subst (λ (l : List DumpRecord). IsRecordFault settings l r found.0) (sym same) found.1) []
-          (subst (λ (t : List ℕ). IsWritten settings false (before ++ []) t) (sym (append-nil reached.text))
-          (subst (λ (l : List DumpRecord). IsWritten settings false l reached.text) (sym same)
+          (subst (λ (t : List ℕ). IsWrittenText settings false (before ++ []) t) (sym (append-nil reached.text))
+          (subst (λ (l : List DumpRecord). IsWrittenText settings false l reached.text) (sym same)
           (reached_written settings before reached)))
     ]

@@ -19,7 +19,7 @@ use Rattle.dump_records.proofs.Unique.{least_once}
 use Rattle.dump_rules.specs.Settings.{Settings}
 use Rattle.dump_digest.specs.steps.DoneViews.{done_record, done_settings, done_verdict}
 use Rattle.dump_digest.specs.declared.done.Done.{Done}
-use Rattle.dump_digest.specs.RecordParts.{is_revision, is_node, is_kept_node, is_checked_text}
+use Rattle.dump_digest.specs.RecordParts.{is_revision_record, is_node, is_kept_node, is_checked_text}
 use Rattle.dump_digest.specs.steps.VerdictMeaning.{IsVerdict}
 use Rattle.dump_digest.specs.declared.verdict.Verdict.{Verdict}
 use Rattle.dump_filter.specs.declared.fate.CopyChange.{CopyChange}
@@ -29,13 +29,13 @@ use Rattle.dump_filter.specs.declared.filter.Filter.TheInside.{Inside}
 use Rattle.dump_filter.specs.declared.report.Report.{Report}
 use Rattle.dump_filter.specs.Groups.{groups, group_number, keeps_group, kept_revisions}
 use Rattle.dump_filter.specs.RecordFaults.{HoldsOfRecord, IsRecordFault, AreFaultFree}
-use Rattle.dump_filter.specs.Written.{IsWritten}
+use Rattle.dump_filter.specs.Written.{IsWrittenText}
 use Rattle.dump_filter.specs.Counts.{report_of}
 use Rattle.dump_filter.specs.steps.FilterState.{Seen, FilterState, count_up_to, AreAccepted, IsOfSameDump, Accepts, Refuses, Finishes}
 use Rattle.dump_filter.specs.steps.State.{State, view_state, new_state, revision_count}
 use Rattle.dump_filter.specs.steps.Advance.{IsEndText, IsPiece, ended, next_state}
 use Rattle.dump_filter.specs.steps.Decision.{decided, AreAsked}
-use Rattle.dump_filter.specs.steps.Knowledge.{Stands, AreUpTo, Knows}
+use Rattle.dump_filter.specs.steps.Knowledge.{Stands, AreUpTo, KnowsAccepted}
 use Rattle.dump_filter.specs.steps.Knowledge.Shape.{Fresh}
 use Rattle.dump_text.proofs.BoolLemmas.{absurd_bool, not_so, not_true}
 use Rattle.dump_filter.proofs.knowing.StandsNext.{IsReadable, ended_numbers, ended_dropped, ended_text, becomes_ended}
@@ -141,7 +141,7 @@ new_stands settings = record {
 }
 
 -- a filter that has accepted nothing
-pub new_knows : (settings : Settings) → Knows settings None new_state
+pub new_knows : (settings : Settings) → KnowsAccepted settings None new_state
 new_knows settings = record {
   before = [];
   up_to = refl;
@@ -156,11 +156,11 @@ new_knows settings = record {
 }
 
 -- the same facts of the same record and state
-pub knows_as : (settings : Settings) (last last' : Option Record) (s s' : State) → Knows settings last s → last' ≡ last
-    → s' ≡ s → Knows settings last' s'
+pub knows_as : (settings : Settings) (last last' : Option Record) (s s' : State) → KnowsAccepted settings last s
+    → last' ≡ last → s' ≡ s → KnowsAccepted settings last' s'
 knows_as settings last last' s s' knows l e =
-    subst (λ (x : Option Record). Knows settings x s') (sym l)
-    (subst (λ (x : State). Knows settings last x) (sym e) knows)
+    subst (λ (x : Option Record). KnowsAccepted settings x s') (sym l)
+    (subst (λ (x : State). KnowsAccepted settings last x) (sym e) knows)
 
 -- the properties that are asked of a record
 pub asked_properties : (settings : Settings) (r : DumpRecord) (v : Verdict) → IsVerdict settings r v
@@ -171,19 +171,19 @@ asked_properties settings r v means = elim (block_or_not r) [
     [],
     λ keep ok. absurd
         (absurd_bool v.props_ok ok
-        (means.props.1 (or_right (is_revision r) (is_kept_node settings r) keep, none))),
+        (means.props.1 (or_right (is_revision_record r) (is_kept_node settings r) keep, none))),
   )
 ]
 
 -- the fields of an active filter, and what is seen of it
 pub record Holds (f : Inside) (state : FilterState) : Type 0 where
-  pub knows : Knows f.options.now f.state.last (view_state f.state)
+  pub knows : KnowsAccepted f.options.now f.state.last (view_state f.state)
   pub view_is : record { settings = f.options.now; last = option_map seen f.state.last; active = f.active } ≡ state
   pub active : f.active ≡ true
 
 -- what a call of an active filter begins with
 pub holds : (f : Inside) (state : FilterState)
-    → (f.active ≡ true → Knows f.options.now f.state.last (view_state f.state))
+    → (f.active ≡ true → KnowsAccepted f.options.now f.state.last (view_state f.state))
     → record { settings = f.options.now; last = option_map seen f.state.last; active = f.active } ≡ state
     → f.active ≡ true → Holds f state
 holds f state knows view_is active = record { knows = knows active; view_is = view_is; active = active }
@@ -221,15 +221,15 @@ module _ {f : Inside} {state : FilterState} (h : Holds f state) where
   pub finishes : (end : List ℕ) → IsEndText settings s.revisions.kept s.group end → Finishes state end
   finishes end ends records text accepted written =
       let same = is_before records accepted in
-      let mine : IsWritten settings false before text =
-      subst (λ (l : List DumpRecord). IsWritten settings false l text) same
-      (subst (λ (v : Settings). IsWritten v false records text) (sym settings_is) written) in
+      let mine : IsWrittenText settings false before text =
+      subst (λ (l : List DumpRecord). IsWrittenText settings false l text) same
+      (subst (λ (v : Settings). IsWrittenText v false records text) (sym settings_is) written) in
       let texts = stands_once settings before s h.knows.text text h.knows.stands mine in
-      subst (λ (v : Settings). IsWritten v true records (text ++ end)) settings_is
-      (subst (λ (l : List DumpRecord). IsWritten settings true l (text ++ end)) (sym same)
-      (subst (λ (t : List ℕ). IsWritten settings true before (t ++ end)) texts at_end))
+      subst (λ (v : Settings). IsWrittenText v true records (text ++ end)) settings_is
+      (subst (λ (l : List DumpRecord). IsWrittenText settings true l (text ++ end)) (sym same)
+      (subst (λ (t : List ℕ). IsWrittenText settings true before (t ++ end)) texts at_end))
     where
-      at_end : IsWritten settings true before (h.knows.text ++ end)
+      at_end : IsWrittenText settings true before (h.knows.text ++ end)
       at_end = ended_text settings before s h.knows.text end h.knows.stands.shape h.knows.stands.numbers readable
           h.knows.stands.written ends
           (kept_revisions settings before) (becomes_ended settings before s h.knows.text h.knows.stands)
@@ -342,7 +342,7 @@ module _ {f : Inside} {state : FilterState} (h : Holds f state) where
       )
 
       -- a record that is held back is a revision
-      pub held_is_revision : fate ≡ fates.Hold → is_revision r ≡ true
+      pub held_is_revision : fate ≡ fates.Hold → is_revision_record r ≡ true
       held_is_revision held = (subst (IsTaken settings before s r) held taken).is.1
 
       -- a record with a fate is accepted, with what is written of it
@@ -350,15 +350,16 @@ module _ {f : Inside} {state : FilterState} (h : Holds f state) where
       accepts piece is_piece list accepted =
           let same = is_before list accepted in
           subst (λ (x : Settings). NoFault (HoldsOfRecord x list r)
-          × ((text : List ℕ) → IsWritten x false list text → IsWritten x false (list ++ r ∷ []) (text ++ piece)))
+          × ((text : List ℕ) → IsWrittenText x false list text
+          → IsWrittenText x false (list ++ r ∷ []) (text ++ piece)))
           settings_is
           (subst (λ (l : List DumpRecord). NoFault (HoldsOfRecord settings l r)
-          × ((text : List ℕ) → IsWritten settings false l text
-          → IsWritten settings false (l ++ r ∷ []) (text ++ piece))) (sym same) (
+          × ((text : List ℕ) → IsWrittenText settings false l text
+          → IsWrittenText settings false (l ++ r ∷ []) (text ++ piece))) (sym same) (
             taken.free,
             λ text written.
                 let texts = stands_once settings before s h.knows.text text h.knows.stands written in
-                subst (λ (t : List ℕ). IsWritten settings false (before ++ r ∷ []) (t ++ piece)) texts
+                subst (λ (t : List ℕ). IsWrittenText settings false (before ++ r ∷ []) (t ++ piece)) texts
                 (stands_written settings (before ++ r ∷ []) (next_state settings s r fate v.checked)
                 (h.knows.text ++ piece) (next piece is_piece)),
           ))
@@ -367,7 +368,7 @@ module _ {f : Inside} {state : FilterState} (h : Holds f state) where
       pub next_knows : (piece : List ℕ) → IsPiece settings s r fate piece
           → IsOfSameDump state (record_dump (done_record done))
           → record_number (done_record done) ≡ count_up_to state.last
-          → Knows settings (Some (done_record done)) (next_state settings s r fate v.checked)
+          → KnowsAccepted settings (Some (done_record done)) (next_state settings s r fate v.checked)
       next_knows piece is_piece same number = record {
         before = before ++ r ∷ [];
         up_to = up_to_next settings f.active f.state.last before (done_record done) h.knows.up_to

@@ -5,7 +5,7 @@ use Rattle.dump_records.specs.RecordText.{DumpRecord}
 use Rattle.dump_rules.specs.Settings.{Settings}
 use Rattle.dump_filter.specs.Groups.{kept_revisions}
 use Rattle.dump_filter.specs.RecordFaults.{AreFaultFree}
-use Rattle.dump_filter.specs.Written.{IsWritten}
+use Rattle.dump_filter.specs.Written.{IsWrittenText}
 use Rattle.dump_filter.specs.FilterLaws.{WrittenOnlyGrows}
 use Rattle.dump_filter.proofs.knowing.OnceLemmas.{outputs_once}
 use Rattle.dump_filter.proofs.knowing.FilterLemmas.{free_none}
@@ -13,7 +13,7 @@ use Rattle.dump_filter.proofs.knowing.Answered.{AllLawful, all_lawful, lawful_fr
 use Rattle.dump_filter.proofs.knowing.Answered.Outcome.{Stops, Ends}
 
 written_once : (settings : Settings) (ended : Bool) (records : List DumpRecord) (x y : List ℕ)
-    → IsWritten settings ended records x → IsWritten settings ended records y → x ≡ y
+    → IsWrittenText settings ended records x → IsWrittenText settings ended records y → x ≡ y
 written_once settings ended records x y = outputs_once settings ended (kept_revisions settings records) records x y
 
 front_free : (settings : Settings) (records more : List DumpRecord) → AreFaultFree settings (records ++ more)
@@ -45,9 +45,9 @@ written_only_grows settings ended dump records more old new begins free was is =
     begin : (rest : List ℕ) → new ≡ reached.text ++ rest → IsPrefixOf old new
     begin rest e = (rest, e ∙ ap (λ t. t ++ rest) same)
 
-    by_ended : (e : Bool) → IsWritten settings e (records ++ more) new → (front : List ℕ)
-        → IsWritten settings false (records ++ more) (reached.text ++ front) → (end : List ℕ)
-        → IsWritten settings true (records ++ more) ((reached.text ++ front) ++ end) → IsPrefixOf old new
+    by_ended : (e : Bool) → IsWrittenText settings e (records ++ more) new → (front : List ℕ)
+        → IsWrittenText settings false (records ++ more) (reached.text ++ front) → (end : List ℕ)
+        → IsWrittenText settings true (records ++ more) ((reached.text ++ front) ++ end) → IsPrefixOf old new
     by_ended true written front going end whole =
         begin (front ++ end) (written_once settings true (records ++ more) new
         ((reached.text ++ front) ++ end) written whole ∙ append_assoc reached.text front end)

@@ -13,7 +13,7 @@ use Rattle.dump_rules.specs.Settings.{Settings}
 use Rattle.dump_rules.specs.Renumbering.{KeptRevisions, image}
 use Rattle.dump_rules.specs.Rewriting.{IsNewMergeinfo}
 use Rattle.dump_rules.proofs.new_values.OneNewValue.{one_new_value}
-use Rattle.dump_digest.specs.RecordParts.{is_revision, is_node, is_mergeinfo, value_of}
+use Rattle.dump_digest.specs.RecordParts.{is_revision_record, is_node, is_mergeinfo, value_of}
 use Rattle.dump_filter.specs.Groups.{Group, group_of, is_padded}
 use Rattle.dump_filter.specs.NewHeaders.{becomes_plain, without_copy_headers, IsWrittenCopyNumber, IsNewCopy}
 use Rattle.dump_digest.specs.RecordParts.{is_copy}
@@ -98,7 +98,7 @@ revision_once settings k g x y (ps, block, is) (qs, block', is') =
 
 output_once : (settings : Settings) (k : KeptRevisions) (r : DumpRecord) (after : List DumpRecord) (x y : List ℕ)
     → IsOutput settings k r after x → IsOutput settings k r after y → x ≡ y
-output_once settings k r after x y = cases (is_revision r) (is_node r)
+output_once settings k r after x y = cases (is_revision_record r) (is_node r)
   where
     cases : (v n : Bool) → MatchBool v (IsRevisionOutput settings k (group_of r after) x)
         (MatchBool n (IsNodeOutput settings k r x) (x ≡ block_text r.headers))

@@ -8,7 +8,7 @@ use Rattle.dump_text.specs.HeaderBlock.{block_text}
 use Rattle.dump_records.specs.RecordText.{DumpRecord}
 use Rattle.dump_rules.specs.Settings.{Settings}
 use Rattle.dump_rules.specs.Renumbering.{KeptRevisions}
-use Rattle.dump_digest.specs.RecordParts.{is_revision, is_node, is_kept_node, HasPropertyBlock}
+use Rattle.dump_digest.specs.RecordParts.{is_revision_record, is_node, is_kept_node, HasPropertyBlock}
 use Rattle.dump_filter.specs.declared.fate.CopyChange.{CopyChange}
 use Rattle.dump_filter.specs.declared.report.Report.{Report}
 use Rattle.dump_filter.specs.Groups.{keeps_group, revision_number, revision_numbers, first_number, present_revision, kept_revisions, keeps_empty}
@@ -165,7 +165,7 @@ ends_behind x (n ∷ ns) ends all =
     (second_true (is_plain n) (list_all is_plain ns) all)
 
 ends_so : (first : Option DumpRecord) (closed : List DumpRecord) (y : DumpRecord) (ns : List DumpRecord)
-    → is_revision y ≡ true → list_all is_plain ns ≡ true
+    → is_revision_record y ≡ true → list_all is_plain ns ≡ true
     → ends_in_group (last_or first (closed ++ y ∷ ns)) ≡ true
 ends_so first [] y ns rev all = ends_behind y ns (ap (λ b. b || is_node y) rev) all
 ends_so first (x ∷ closed) y ns rev all = ends_so (Some x) closed y ns rev all
@@ -328,7 +328,7 @@ module _ (settings : Settings) (before : List DumpRecord) (s : State) (r : DumpR
       (λ present. AreRising s.revisions.kept present s.group)
 
   -- behind a version or UUID record the group's end and the record are written, too
-  pub pass_stands : is_revision r ≡ false
+  pub pass_stands : is_revision_record r ≡ false
       → Stands settings (before ++ r ∷ []) (record (ended settings s) { report = report })
       (text ++ (end ++ block_text r.headers))
   pass_stands no_rev = record {
@@ -354,7 +354,7 @@ module _ (settings : Settings) (before : List DumpRecord) (s : State) (r : DumpR
       by_present (Some p) up = end_rising settings s.revisions.kept s.group p up
 
   -- behind a revision record the end of the group before it is written, too, and the revision is pending
-  pub hold_stands : is_revision r ≡ true → ((p : ℕ) → s.revisions.present ≡ Some p → p < revision_number r)
+  pub hold_stands : is_revision_record r ≡ true → ((p : ℕ) → s.revisions.present ≡ Some p → p < revision_number r)
       → Stands settings (before ++ r ∷ []) (record (begun (ended settings s) r) { report = report }) (text ++ end)
   hold_stands rev above = record {
     present_is = sym (present_group before r [] other rev refl);

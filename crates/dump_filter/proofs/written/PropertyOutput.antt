@@ -20,7 +20,7 @@ use Rattle.dump_rules.specs.Rewriting.{IsNewMergeinfo}
 use Rattle.dump_digest.specs.RecordParts.{is_mergeinfo, value_of, HasPropertyList}
 use Rattle.dump_filter.specs.NewContent.{padding_log, padding_properties, IsNewProperty, AreNewProperties, new_block}
 use Rattle.dump_filter.specs.steps.NewProperties.{property_of, dated_padding}
-use Rattle.dump_digest.specs.steps.MergeFaults.{HasLines}
+use Rattle.dump_digest.specs.steps.MergeFaults.{HasGoodMergeinfo}
 use Rattle.dump_digest.specs.steps.ContentViews.{ArePropertiesOf}
 use Rattle.dump_text.specs.declared.props.Props.{Props}
 use Rattle.dump_text.specs.steps.PropertyViews.{props_bytes}
@@ -151,15 +151,15 @@ all_rewritten settings kept block out rest after before end after_is = λ ps is.
     )
 
 -- the mergeinfo of what is left of a block is some lines
-pub left_lines : (block rest front : List ℕ) (p : Property) → HasLines block → block ≡ front ++ rest → IsEntry front p
-    → HasLines rest
+pub left_lines : (block rest front : List ℕ) (p : Property) → HasGoodMergeinfo block → block ≡ front ++ rest
+    → IsEntry front p → HasGoodMergeinfo rest
 left_lines block rest front p lines cut one ps is q (i, within, at) = elim is [
   | inl (none, empty) ↦ absurd (let size : length ps ≡ 0 = ap length empty in omega arith)
   | inr more ↦ lines (p ∷ ps) (inr (front, rest, cut, one, more)) q (suc i, omega arith, at)
 ]
 
 -- a mergeinfo entry's value is some lines, where each of the block's is
-pub entry_lines : (block rest front : List ℕ) (p : Property) → HasLines block → HasPropertyChanges block
+pub entry_lines : (block rest front : List ℕ) (p : Property) → HasGoodMergeinfo block → HasPropertyChanges block
     → block ≡ front ++ rest → IsEntry front p → IsTrue (is_mergeinfo p) → ¬ ¬ HasMergeLines (value_of p)
 entry_lines block rest front p lines (ps, is) cut one merge =
     let left = left_of block p rest ps (entry_parts block front rest p cut one) is in

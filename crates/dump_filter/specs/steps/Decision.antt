@@ -9,7 +9,7 @@ use Rattle.dump_records.specs.RecordText.{DumpRecord}
 use Rattle.dump_records.specs.steps.RecordViews.{part_of_node}
 use Rattle.dump_rules.specs.Settings.{Settings}
 use Rattle.dump_rules.specs.Renumbering.{KeptRevisions, image}
-use Rattle.dump_digest.specs.RecordParts.{is_revision, is_node, is_kept_node, HasPropertyList}
+use Rattle.dump_digest.specs.RecordParts.{is_revision_record, is_node, is_kept_node, HasPropertyList}
 use Rattle.dump_digest.specs.declared.verdict.Verdict.{Verdict}
 use Rattle.dump_filter.specs.Groups.{revision_number}
 use Rattle.dump_filter.specs.NewHeaders.{is_whole_file, stays_copy}
@@ -37,7 +37,7 @@ rises (Some present) number = nat_lt present number
 abbrev pub is_in_order : State → DumpRecord → Bool
 is_in_order s r =
     if is_node r then is_open s.group
-    else if is_revision r then rises s.revisions.present (revision_number r) else true
+    else if is_revision_record r then rises s.revisions.present (revision_number r) else true
 
 -- whether a node is copied from a path that isn't kept, and can't stand alone
 abbrev pub is_orphan : Settings → DumpRecord → Bool
@@ -88,7 +88,7 @@ node_fate settings s r merge_ok ps =
 abbrev pub fate_of : Settings → State → DumpRecord → Bool → List Property → Result Fate FaultKind
 fate_of settings s r merge_ok ps =
     if is_node r then (if is_kept_node settings r then node_fate settings s r merge_ok ps else Ok fates.Drop)
-    else if is_revision r then Ok fates.Hold else Ok fates.Pass
+    else if is_revision_record r then Ok fates.Hold else Ok fates.Pass
 
 -- the fate of the record that comes next, with this verdict and these properties, or its fault
 abbrev pub decided : Settings → State → DumpRecord → Verdict → List Property → Result Fate FaultKind

@@ -8,7 +8,7 @@ use Rattle.dump_records.specs.DumpText.{BeginsWithRecords}
 use Rattle.dump_rules.specs.Settings.{Settings}
 use Rattle.dump_rules.specs.Renumbering.{KeptRevisions}
 use Rattle.dump_rules.specs.steps.RisingNumbers.{RiseFrom}
-use Rattle.dump_digest.specs.RecordParts.{is_revision, is_node, is_kept_node, is_checked_text}
+use Rattle.dump_digest.specs.RecordParts.{is_revision_record, is_node, is_kept_node, is_checked_text}
 use Rattle.dump_filter.specs.Groups.{groups, keeps_group, revision_number, present_revision, kept_revisions}
 use Rattle.dump_filter.specs.RecordFaults.{AreFaultFree}
 use Rattle.dump_filter.specs.Written.{AreOutputs}
@@ -18,7 +18,7 @@ use Rattle.dump_filter.specs.steps.State.PresentGroup.{NoGroup, Pending, Written
 
 -- a node that is nothing else
 abbrev pub is_plain : DumpRecord → Bool
-is_plain r = is_node r && not (is_revision r)
+is_plain r = is_node r && not (is_revision_record r)
 
 -- the numbers of the kept revisions of the list
 abbrev pub kept_numbers : Settings → List DumpRecord → List ℕ
@@ -42,16 +42,16 @@ in_group s group y = record s { group = group; revisions = record s.revisions { 
 pub data Shape (settings : Settings) : List DumpRecord → State → Type 0 where
   Fresh : (s : State) → HasCounts s [] 0
       → Shape settings [] (record s { group = NoGroup; revisions = record s.revisions { present = None } })
-  Idle : (s : State) (closed : List DumpRecord) (y : DumpRecord) → is_node y ≡ false → is_revision y ≡ false
+  Idle : (s : State) (closed : List DumpRecord) (y : DumpRecord) → is_node y ≡ false → is_revision_record y ≡ false
       → HasCounts s (kept_numbers settings closed) (dropped_groups settings closed)
       → Shape settings (closed ++ y ∷ []) (record s { group = NoGroup })
   Passed : (s : State) (closed : List DumpRecord) (y : DumpRecord) (ns : List DumpRecord)
-      → is_node y ≡ false → is_revision y ≡ true
+      → is_node y ≡ false → is_revision_record y ≡ true
       → list_all is_plain ns ≡ true → list_any (is_kept_node settings) ns ≡ true
       → HasCounts s (kept_numbers settings closed ++ revision_number y ∷ []) (dropped_groups settings closed)
       → Shape settings (closed ++ y ∷ ns) (in_group s Written y)
   Waits : (s : State) (closed : List DumpRecord) (y : DumpRecord) (ns : List DumpRecord)
-      → is_node y ≡ false → is_revision y ≡ true
+      → is_node y ≡ false → is_revision_record y ≡ true
       → list_all is_plain ns ≡ true → list_any (is_kept_node settings) ns ≡ false
       → HasCounts s (kept_numbers settings closed) (dropped_groups settings closed)
       → Shape settings (closed ++ y ∷ ns) (in_group s (Pending (record { revision = y; bare = length ns == 0 })) y)
@@ -105,7 +105,7 @@ AreUpTo last records = MatchOption last (records ≡ [])
     (λ r. BeginsWithRecords (record_dump r) records × (length records ≡ record_number r + 1))
 
 -- what the last record and the state of a filter say of the records that it has accepted
-pub record Knows (settings : Settings) (last : Option Record) (s : State) : Type 0 where
+pub record KnowsAccepted (settings : Settings) (last : Option Record) (s : State) : Type 0 where
   pub before : List DumpRecord
   pub up_to : AreUpTo last before
   pub free : AreFaultFree settings before

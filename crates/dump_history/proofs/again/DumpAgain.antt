@@ -7,7 +7,7 @@ use Rattle.dump_text.proofs.BoolLemmas.{equals_itself, first_true, second_true, 
 use Rattle.dump_records.specs.RecordText.{DumpRecord}
 use Rattle.dump_rules.specs.Settings.{Settings}
 use Rattle.dump_rules.specs.Renumbering.{KeptRevisions}
-use Rattle.dump_digest.specs.RecordParts.{is_revision, is_node}
+use Rattle.dump_digest.specs.RecordParts.{is_revision_record, is_node}
 use Rattle.dump_filter.specs.Groups.{Group, groups, group_number, has_kept_node, is_bare, keeps_empty, first_number, keeps_group, kept_revisions}
 use Rattle.dump_filter.specs.NewContent.{IsNewProperty}
 use Rattle.dump_filter.specs.NewHeaders.{IsWrittenCopyNumber}
@@ -36,9 +36,9 @@ all_nodes (r ∷ records) = cases (is_node r) refl (all_nodes records)
 -- a dump's groups are revisions with nodes
 pub groups_are : (records : List DumpRecord) → AllRevisions (groups records) × AllHaveNodes (groups records)
 groups_are [] = (tt, tt)
-groups_are (r ∷ records) = cases (is_revision r) refl (groups_are records)
+groups_are (r ∷ records) = cases (is_revision_record r) refl (groups_are records)
   where
-    cases : (b : Bool) → is_revision r ≡ b → AllRevisions (groups records) × AllHaveNodes (groups records)
+    cases : (b : Bool) → is_revision_record r ≡ b → AllRevisions (groups records) × AllHaveNodes (groups records)
         → AllRevisions (groups (r ∷ records)) × AllHaveNodes (groups (r ∷ records))
     cases true is (revs, nodes) = rw is ((is, revs), (all_nodes records, nodes))
     cases false is more = rw is more

@@ -6,7 +6,7 @@ use Rattle.dump_text.proofs.BoolLemmas.{first_true, second_true}
 use Rattle.dump_text.specs.PropertyList.{Property}
 use Rattle.dump_rules.specs.Settings.{Settings}
 use Rattle.dump_rules.specs.Renumbering.{KeptRevisions, new_number}
-use Rattle.dump_digest.specs.RecordParts.{is_revision, HasPropertyList}
+use Rattle.dump_digest.specs.RecordParts.{is_revision_record, HasPropertyList}
 use Rattle.dump_filter.specs.Groups.{Group, group_number, is_padded, keeps_group}
 use Rattle.dump_filter.specs.NewContent.{revision_properties}
 use Rattle.dump_filter.specs.NewHeaders.{written_number}
@@ -21,7 +21,7 @@ use Rattle.dump_history.proofs.again.GroupChanges.{GroupsMake, empty_rule, AllHa
 -- the groups' revisions are revisions
 abbrev pub AllRevisions : List Group → Type 0
 AllRevisions [] = Unit {0}
-AllRevisions (g ∷ gs) = (is_revision g.revision ≡ true) × AllRevisions gs
+AllRevisions (g ∷ gs) = (is_revision_record g.revision ≡ true) × AllRevisions gs
 
 module _ (settings : Settings) where
   -- the numbers of the kept ones of these groups
@@ -63,7 +63,7 @@ module _ (settings : Settings) where
       by_kept false drop more = ap (list_all (λ k. nat_lt a k)) (kept_first g gs false drop) ∙ more
 
   module _ (kept : KeptRevisions) where
-    number_again : (g h : Group) → is_revision g.revision ≡ true → IsGroupAgain settings kept g h
+    number_again : (g h : Group) → is_revision_record g.revision ≡ true → IsGroupAgain settings kept g h
         → group_number h ≡ written_number settings kept (group_number g)
     number_again g h rev read = read.revision.number rev
 

@@ -6,7 +6,7 @@ use Rattle.dump_text.proofs.BoolLemmas.{first_false, second_false, absurd_bool}
 use Rattle.dump_records.specs.RecordText.{DumpRecord, is_lawful}
 use Rattle.dump_rules.specs.Settings.{Settings}
 use Rattle.dump_rules.specs.Renumbering.{KeptRevisions}
-use Rattle.dump_digest.specs.RecordParts.{is_revision, is_node, is_kept_node}
+use Rattle.dump_digest.specs.RecordParts.{is_revision_record, is_node, is_kept_node}
 use Rattle.dump_filter.specs.Groups.{Group, group_of, groups, group_number, is_bare, has_kept_node, keeps_empty, keeps_group}
 use Rattle.dump_filter.specs.Written.{is_written}
 use Rattle.dump_filter.proofs.groups.KindLemmas.{alone}
@@ -61,7 +61,7 @@ module _ (settings : Settings) (kept : KeptRevisions) where
 
   -- when a record is written
 
-  is_written-revision : (r : DumpRecord) (after : List DumpRecord) → is_revision r ≡ true
+  is_written-revision : (r : DumpRecord) (after : List DumpRecord) → is_revision_record r ≡ true
       → is_written settings true r after ≡ keeps_group settings (group_of r after)
   is_written-revision r after rev = rw rev (also_true (keeps_group settings (group_of r after)))
     where
@@ -69,7 +69,7 @@ module _ (settings : Settings) (kept : KeptRevisions) where
       also_true true = refl
       also_true false = refl
 
-  is_written-other : (r : DumpRecord) (after : List DumpRecord) → is_revision r ≡ false
+  is_written-other : (r : DumpRecord) (after : List DumpRecord) → is_revision_record r ≡ false
       → is_written settings true r after ≡ (if is_node r then is_kept_node settings r else true)
   is_written-other r after other = rw other refl
 
@@ -85,9 +85,9 @@ module _ (settings : Settings) (kept : KeptRevisions) where
   -- where a record isn't written, none of the nodes behind it that stand first is kept, if it is no node itself
   pub dropped_behind : (r : DumpRecord) (after : List DumpRecord) → is_node r ≡ false
       → is_written settings true r after ≡ false → keeps_first after ≡ false
-  dropped_behind r after no_node dropped = cases (is_revision r) refl
+  dropped_behind r after no_node dropped = cases (is_revision_record r) refl
     where
-      cases : (b : Bool) → is_revision r ≡ b → keeps_first after ≡ false
+      cases : (b : Bool) → is_revision_record r ≡ b → keeps_first after ≡ false
       cases true rev = none_kept (group_of r after) (sym (is_written-revision r after rev) ∙ dropped)
       cases false other =
           let written : is_written settings true r after ≡ true =
@@ -176,17 +176,17 @@ module _ (settings : Settings) (kept : KeptRevisions) where
       → AreReadAgain settings kept records text again → AreGroupsAgain (groups records) (groups again)
   groups_again [] text again lawful (empty, same) = ap groups same
   groups_again (r ∷ after) text again lawful (front, rest, at, this) =
-      by_revision (is_revision r) refl (λ more reads. groups_again after rest more lawful.1 reads)
+      by_revision (is_revision_record r) refl (λ more reads. groups_again after rest more lawful.1 reads)
     where
-      revision_first : (s : DumpRecord) (more : List DumpRecord) → is_revision s ≡ true
+      revision_first : (s : DumpRecord) (more : List DumpRecord) → is_revision_record s ≡ true
           → groups (s ∷ more) ≡ group_of s more ∷ groups more
       revision_first s more rev = rw rev refl
 
-      other_first : (s : DumpRecord) (more : List DumpRecord) → is_revision s ≡ false
+      other_first : (s : DumpRecord) (more : List DumpRecord) → is_revision_record s ≡ false
           → groups (s ∷ more) ≡ groups more
       other_first s more other = rw other refl
 
-      by_kept : is_revision r ≡ true → (w : Bool) → keeps_group settings (group_of r after) ≡ w
+      by_kept : is_revision_record r ≡ true → (w : Bool) → keeps_group settings (group_of r after) ≡ w
           → Reads r after front rest again w → Later rest after
           → AreGroupsAgain (group_of r after ∷ groups after) (groups again)
       by_kept rev true keep (s, more, same, read, reads) later =
@@ -205,14 +205,14 @@ module _ (settings : Settings) (kept : KeptRevisions) where
           )
       by_kept rev false drop (empty, reads) later = rw drop (later again reads)
 
-      by_other : is_revision r ≡ false → (w : Bool) → Reads r after front rest again w → Later rest after
+      by_other : is_revision_record r ≡ false → (w : Bool) → Reads r after front rest again w → Later rest after
           → AreGroupsAgain (groups after) (groups again)
       by_other other true (s, more, same, read, reads) later =
           subst (AreGroupsAgain (groups after))
           (sym (ap groups same ∙ other_first s more (read.revision ∙ other))) (later more reads)
       by_other other false (empty, reads) later = later again reads
 
-      by_revision : (b : Bool) → is_revision r ≡ b → Later rest after
+      by_revision : (b : Bool) → is_revision_record r ≡ b → Later rest after
           → AreGroupsAgain (groups (r ∷ after)) (groups again)
       by_revision true rev later =
           subst (λ (gs : List Group). AreGroupsAgain gs (groups again)) (sym (revision_first r after rev))

@@ -4,7 +4,7 @@ use Rattle.dump_text.proofs.BoolLemmas.{first_true, second_true, both_true, absu
 use Rattle.dump_records.specs.RecordText.{DumpRecord}
 use Rattle.dump_rules.specs.Settings.{Settings}
 use Rattle.dump_rules.specs.Renumbering.{KeptRevisions}
-use Rattle.dump_digest.specs.RecordParts.{is_revision, is_node}
+use Rattle.dump_digest.specs.RecordParts.{is_revision_record, is_node}
 use Rattle.dump_filter.specs.Written.{is_written}
 use Rattle.dump_filter.proofs.knowing.Answered.{AllLawful}
 use Rattle.dump_filter.proofs.again.ReadAgain.{AreReadAgain}
@@ -24,7 +24,7 @@ module _ (settings : Settings) (kept : KeptRevisions) where
     where
       cases : (b : Bool) → is_node r ≡ b → keeps_first settings kept (r ∷ records) ≡ false
       cases true node = absurd (absurd_bool (not (is_node r) || false)
-          (first_true (not (is_node r) || false) (has_ordered_nodes (is_revision r || is_node r) records) fine)
+          (first_true (not (is_node r) || false) (has_ordered_nodes (is_revision_record r || is_node r) records) fine)
           (rw node refl))
       cases false other = keeps_first-node settings kept r records false other
 
@@ -37,16 +37,17 @@ module _ (settings : Settings) (kept : KeptRevisions) where
       ap (has_ordered_nodes may_again) same
   order_again may_follow may_again (r ∷ after) text again lawful order may (front, rest, at, this) =
       by_node (is_node r) refl (is_written settings true r after) refl this
-      (λ now more allowed reads. order_again (is_revision r || is_node r) now after rest more lawful.1
-      (second_true (not (is_node r) || may_follow) (has_ordered_nodes (is_revision r || is_node r) after) order)
+      (λ now more allowed reads. order_again (is_revision_record r || is_node r) now after rest more lawful.1
+      (second_true (not (is_node r) || may_follow) (has_ordered_nodes (is_revision_record r || is_node r) after) order)
       allowed reads)
     where
       here : (not (is_node r) || may_follow) ≡ true
-      here = first_true (not (is_node r) || may_follow) (has_ordered_nodes (is_revision r || is_node r) after) order
+      here = first_true (not (is_node r) || may_follow)
+          (has_ordered_nodes (is_revision_record r || is_node r) after) order
 
-      later_order : has_ordered_nodes (is_revision r || is_node r) after ≡ true
+      later_order : has_ordered_nodes (is_revision_record r || is_node r) after ≡ true
       later_order = second_true (not (is_node r) || may_follow)
-          (has_ordered_nodes (is_revision r || is_node r) after) order
+          (has_ordered_nodes (is_revision_record r || is_node r) after) order
 
       by_node : (n : Bool) → is_node r ≡ n → (w : Bool) → is_written settings true r after ≡ w
           → Reads settings kept r after front rest again w
@@ -58,10 +59,11 @@ module _ (settings : Settings) (kept : KeptRevisions) where
           let allowed = may (keeps_first-node settings kept r after true node
           ∙ ap (λ b. b || keeps_first settings kept after) keep) in
           ap (has_ordered_nodes may_again) same
-          ∙ both_true (not (is_node s) || may_again) (has_ordered_nodes (is_revision s || is_node s) more)
+          ∙ both_true (not (is_node s) || may_again) (has_ordered_nodes (is_revision_record s || is_node s) more)
           (ap (λ b. not (is_node s) || b) allowed ∙ or_true (not (is_node s)))
-          (later (is_revision s || is_node s) more (λ first. ap (λ b. is_revision s || b) (read.node ∙ node)
-          ∙ or_true (is_revision s)) reads)
+          (later (is_revision_record s || is_node s) more
+          (λ first. ap (λ b. is_revision_record s || b) (read.node ∙ node)
+          ∙ or_true (is_revision_record s)) reads)
       by_node true node false dropped (empty, reads) later =
           let drop = sym (node_written settings kept r after lawful.0.0 lawful.0.1 node) ∙ dropped in
           later may_again again
@@ -69,12 +71,12 @@ module _ (settings : Settings) (kept : KeptRevisions) where
           ∙ ap (λ b. b || keeps_first settings kept after) drop ∙ first)) reads
       by_node false other true written (s, more, same, read, reads) later =
           ap (has_ordered_nodes may_again) same
-          ∙ both_true (not (is_node s) || may_again) (has_ordered_nodes (is_revision s || is_node s) more)
+          ∙ both_true (not (is_node s) || may_again) (has_ordered_nodes (is_revision_record s || is_node s) more)
           (ap (λ b. not b || may_again) (read.node ∙ other))
-          (later (is_revision s || is_node s) more (λ first. now_open (is_revision r) refl first) reads)
+          (later (is_revision_record s || is_node s) more (λ first. now_open (is_revision_record r) refl first) reads)
         where
-          now_open : (v : Bool) → is_revision r ≡ v → keeps_first settings kept after ≡ true
-              → (is_revision s || is_node s) ≡ true
+          now_open : (v : Bool) → is_revision_record r ≡ v → keeps_first settings kept after ≡ true
+              → (is_revision_record s || is_node s) ≡ true
           now_open true rev first = ap (λ b. b || is_node s) (read.revision ∙ rev)
           now_open false plain first =
               let closed = subst (λ (b : Bool). has_ordered_nodes b after ≡ true)

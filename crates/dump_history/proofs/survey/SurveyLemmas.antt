@@ -7,7 +7,7 @@ use Rattle.dump_text.specs.declared.fault.FaultKind.TheVariants.{Order}
 use Rattle.dump_text.proofs.BoolLemmas.{first_true, second_true, first_false, second_false, both_true, not_true, not_so}
 use Rattle.dump_records.specs.RecordText.{DumpRecord}
 use Rattle.dump_rules.specs.Settings.{Settings}
-use Rattle.dump_digest.specs.RecordParts.{is_revision, is_node}
+use Rattle.dump_digest.specs.RecordParts.{is_revision_record, is_node}
 use Rattle.dump_filter.specs.Groups.{Group, groups, revision_numbers, is_bare}
 use Rattle.dump_filter.specs.RecordFaults.{ends_in_group, AreFaultFree}
 use Rattle.dump_trees.specs.Changes.{Change}
@@ -132,7 +132,7 @@ module _ (settings : Settings) (all : List DumpRecord) (free : AreFaultFree sett
   order_behind before [] at = refl
   order_behind before (r ∷ rest) at =
       both_true (not (is_node r) || ends_in_group (last_or None before))
-      (has_ordered_nodes (is_revision r || is_node r) rest)
+      (has_ordered_nodes (is_revision_record r || is_node r) rest)
       (may_stand (is_node r) (ends_in_group (last_or None before))
       (not_so (is_node r && not (ends_in_group (last_or None before))) (λ out. free before rest r at Order (inl out))))
       (subst (λ o. has_ordered_nodes (ends_in_group o) rest ≡ true) (last_pushed None before r)

@@ -9,13 +9,13 @@ use Rattle.dump_text.specs.HeaderLine.{has_header, with_header_value}
 use Rattle.dump_text.specs.PropertyList.{Property, property_block_text}
 use Rattle.dump_records.specs.RecordText.{DumpRecord}
 use Rattle.dump_rules.specs.Renumbering.{image}
-use Rattle.dump_digest.specs.RecordParts.{is_revision, is_node, is_kept_node, has_lost_source, HasPropertyList}
+use Rattle.dump_digest.specs.RecordParts.{is_revision_record, is_node, is_kept_node, has_lost_source, HasPropertyList}
 use Rattle.dump_filter.specs.FilterLaws.{LengthsFit}
 use Rattle.dump_filter.specs.Groups.{group_of, is_padded, revision_number, present_revision, kept_revisions}
 use Rattle.dump_filter.specs.NewHeaders.{is_whole_file, stays_copy}
 use Rattle.dump_filter.specs.RecordFaults.{ends_in_group, IsOutOfOrder, HasBadCopyRevision, HoldsOfRecord, AreFaultFree}
 use Rattle.dump_filter.specs.RecordOutput.{IsWrittenBlock}
-use Rattle.dump_filter.specs.Written.{IsWritten}
+use Rattle.dump_filter.specs.Written.{IsWrittenText}
 use Rattle.dump_filter.specs.WholeText.{IsCleanText}
 use Rattle.dump_digest.proofs.PropertyBlocks.{property_list_once}
 use Rattle.dump_filter.proofs.again.ReadAgain.{AtEach}
@@ -65,11 +65,11 @@ module _ (before : List DumpRecord) (r : DumpRecord) (ordered : ¬ IsOutOfOrder 
 
 -- a node that directly follows a revision is in order
 follows : (before : List DumpRecord) (r : DumpRecord)
-    → (is_node r && not (ends_in_group (last_or None before))) ≡ false → is_revision r ≡ false
+    → (is_node r && not (ends_in_group (last_or None before))) ≡ false → is_revision_record r ≡ false
     → ¬ IsOutOfOrder before r
 follows before r fine no_rev (inl e) =
     absurd_bool (is_node r && not (ends_in_group (last_or None before))) e fine
-follows before r fine no_rev (inr (rev, number, also, le)) = absurd_bool (is_revision r) rev no_rev
+follows before r fine no_rev (inr (rev, number, also, le)) = absurd_bool (is_revision_record r) rev no_rev
 
 -- a revision whose number is above the present one is in order
 rises : (before : List DumpRecord) (r : DumpRecord) (present : ℕ) → is_node r ≡ false
@@ -172,7 +172,7 @@ is_text : text ≡ codes "SVN-fs-dump-format-version: 2\n\n" ++ revision_part (c
     ++ trunk_part ++ last_part
 is_text = refl
 
-written : IsWritten settings true records text
+written : IsWrittenText settings true records text
 unfolding digits
 written = (
   codes "SVN-fs-dump-format-version: 2\n\n",
@@ -238,7 +238,7 @@ clean = record { whole = whole; fault_free = free; written = written }
 
 -- a record without properties and text, which isn't padded, gets neither
 no_block : (r : DumpRecord) (after : List DumpRecord) → has_header property_length_name r.headers ≡ false
-    → (is_revision r && is_padded settings (group_of r after)) ≡ false → r.text ≡ [] → (part : List ℕ)
+    → (is_revision_record r && is_padded settings (group_of r after)) ≡ false → r.text ≡ [] → (part : List ℕ)
     → IsWrittenBlock settings (kept_revisions settings records) r after part → length part + length r.text < 10 ^ 18
 no_block r after no_props not_padded empty part (old, new, list, how, is) =
     let none : length part ≡ 0 = ap length is

@@ -29,8 +29,8 @@ left_half v = marks (v.share / 2) v.raised v.seen v.steps
 abbrev pub right_half : Marks → Marks
 right_half v = marks (v.share / 2) v.raised v.seen []
 
-abbrev pub joined : Marks → Marks → Marks
-joined v w = marks (v.share + w.share) (v.raised || w.raised) (v.seen || w.seen) (w.steps ++ v.steps)
+abbrev pub joined_marks : Marks → Marks → Marks
+joined_marks v w = marks (v.share + w.share) (v.raised || w.raised) (v.seen || w.seen) (w.steps ++ v.steps)
 
 -- the word's number: 1 where the stop is up
 abbrev pub word_of : Bool → ℕ

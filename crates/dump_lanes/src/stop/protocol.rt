@@ -76,9 +76,9 @@ impl Split<Marks> for Halves {
 }
 
 impl Join<Marks> for Halves {
-    ghost use Rattle.dump_lanes.specs.steps.StopMarks.{joined, spent};
+    ghost use Rattle.dump_lanes.specs.steps.StopMarks.{joined_marks, spent};
 
-    ghost both = { joined };
+    ghost both = { joined_marks };
 
     ghost spent = { spent };
 }

@@ -15,7 +15,7 @@ use Rattle.dump_lanes.specs.steps.SlotViews.{slot_places}
 use Rattle.dump_pipeline.specs.declared.cut.CutterEnds.{CutterEnds}
 use Rattle.dump_pipeline.specs.declared.sequence.SequencerEnds.{SequencerEnds}
 use Rattle.dump_pipeline.specs.declared.sequence.Sequenced.{Sequenced}
-use Rattle.dump_pipeline.specs.declared.words.Words.{Words}
+use Rattle.dump_pipeline.specs.declared.stops.Words.{Words}
 use Rattle.dump_pipeline.specs.declared.answer.Answer.{Answer}
 use Rattle.dump_pipeline.specs.declared.answer.Answer.TheVariants as answers
 use Rattle.dump_pipeline.specs.declared.answer.Failure.TheVariants as failures

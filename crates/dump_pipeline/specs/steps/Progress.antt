@@ -8,7 +8,7 @@ use Rattle.dump_rules.specs.Settings.{Settings}
 use Rattle.dump_writer.specs.SinkWords.{capped}
 use Rattle.dump_filter.specs.steps.FilterState.{FilterState, count_up_to, AreAccepted, IsOfSameDump}
 use Rattle.dump_filter.specs.RecordFaults.{AreFaultFree}
-use Rattle.dump_filter.specs.Written.{IsWritten}
+use Rattle.dump_filter.specs.Written.{IsWrittenText}
 
 -- what a run has done so far: it has taken these records, found no fault in them, and written their text
 pub record Progress (settings : Settings) (dump : List ℕ) (cutter : CutterState) (filter : FilterState)
@@ -24,6 +24,6 @@ pub record Progress (settings : Settings) (dump : List ℕ) (cutter : CutterStat
   pub next : count_up_to filter.last ≡ cutter.number
   pub free : AreFaultFree settings before
   pub text : List ℕ
-  pub out : IsWritten settings false before text
+  pub out : IsWrittenText settings false before text
   pub appended : Appends old new text
   pub sized : written ≡ capped (length text)

@@ -21,7 +21,7 @@ pub record StopsShort (old new : Option (List ℕ)) (piece : List ℕ) (before c
   pub appended : Appends old new (take part piece)
   pub count_is : count ≡ capped (before + part)
 
--- the end of a run: the last piece and the counts, or its first bytes, or nothing for want of memory
+-- the end of a run: the last piece and the counts, or its first bytes, or nothing where it is out of memory
 abbrev pub EndsRun : FilterState → Option (List ℕ) → Option (List ℕ) → ℕ → Answer → Type 0
 EndsRun filter old new written (Clean report) = (piece : List ℕ) × Finishes filter piece × Appends old new piece
     × ((records : List DumpRecord) → AreAccepted filter records → report ≡ report_of filter.settings records)

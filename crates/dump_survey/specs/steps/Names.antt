@@ -1,7 +1,7 @@
 -- The names of a path, read byte by byte.
 use Rattle.std.specs.Prelude.{ℕ, Bool, true, false, ◌&&◌, ◌==◌, List, [], ◌∷◌, if◌then◌else◌}
-use Rattle.dump_survey.specs.declared.names.Name.{Name}
-use Rattle.dump_survey.specs.declared.names.Name.TheVariants.{Empty, Dot, Other}
+use Rattle.dump_survey.specs.declared.short_paths.Name.{Name}
+use Rattle.dump_survey.specs.declared.short_paths.Name.TheVariants.{Empty, Dot, Other}
 
 -- the name with one more byte
 abbrev pub name_with : Name → ℕ → Name

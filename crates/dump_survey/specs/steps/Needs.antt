@@ -46,8 +46,8 @@ abbrev pub is_matched : List (List ℕ) → List ℕ → Bool
 is_matched prefixes path = list_any (λ prefix. matches_path prefix path) prefixes
 
 -- whether the need isn't met
-abbrev pub is_open : List (List ℕ) → PathNeed → Bool
-is_open prefixes n = is_matched prefixes n.matched && not (is_matched prefixes n.wanted)
+abbrev pub is_unmet : List (List ℕ) → PathNeed → Bool
+is_unmet prefixes n = is_matched prefixes n.matched && not (is_matched prefixes n.wanted)
 
 -- prefixes, and those that were added
 pub record Grown : Type 0 where
@@ -62,7 +62,7 @@ grown_prefixes g = g.given ++ g.added
 abbrev pub AreNeeded : List PathNeed → List (List ℕ) → List (List ℕ) → Type 0
 AreNeeded needs prefixes [] = ⊤
 AreNeeded needs prefixes (path ∷ paths) =
-    IsTrue (list_any (λ (n : PathNeed). is_open prefixes n && bytes_eq n.wanted path) needs)
+    IsTrue (list_any (λ (n : PathNeed). is_unmet prefixes n && bytes_eq n.wanted path) needs)
     × IsTrue (matches_itself path) × AreNeeded needs (prefixes ++ path ∷ []) paths
 
 -- how many of the needs want a path that isn't matched
@@ -79,5 +79,5 @@ pub record IsPass (needs : List PathNeed) (old new : Grown) (grew : Bool) : Type
   pub more : List (List ℕ)
   pub added : new.added ≡ old.added ++ more
   pub needed : AreNeeded needs (grown_prefixes old) more
-  pub closed : grew ≡ false → list_any (is_open (grown_prefixes new)) needs ≡ false
+  pub closed : grew ≡ false → list_any (is_unmet (grown_prefixes new)) needs ≡ false
   pub fewer : grew ≡ true → unmatched needs (grown_prefixes new) < unmatched needs (grown_prefixes old)

@@ -14,9 +14,9 @@ use Rattle.dump_survey.specs.declared.surveyor.Step.{Step}
 use Rattle.dump_survey.specs.declared.surveyor.Step.TheVariants.{Node, Other, Finished}
 use Rattle.dump_survey.specs.DumpFindings.{listed_findings}
 use Rattle.dump_survey.specs.steps.Found.{IsFoundIn}
-use Rattle.dump_survey.specs.Told.{opened, IsToldOf}
+use Rattle.dump_survey.specs.Told.{present_after, IsToldOf}
 use Rattle.dump_survey.specs.steps.Surveyed.{told_of_node}
-use Rattle.dump_survey.specs.SurveyEnds.{ending_of}
+use Rattle.dump_survey.specs.SurveyEnds.{survey_ending}
 use Rattle.dump_survey.specs.steps.Surveying.{Surveying}
 use Rattle.dump_survey.specs.steps.Tally.{tally_findings}
 
@@ -30,15 +30,15 @@ IsStepOf settings item present Other = (present ≡ None) ⊎ (is_node (record_i
 IsStepOf settings item present (Finished end) = ⊥
 
 -- the step tells this end, and what is found behind the records of the tally
-abbrev pub IsEndOf : Settings → Tally → End → Step → Type 0
-IsEndOf settings tally end (Finished told) =
+abbrev pub TellsEnd : Settings → Tally → End → Step → Type 0
+TellsEnd settings tally end (Finished told) =
     (told.end ≡ end) × (listed_findings told.dump ≡ tally_findings settings tally)
-IsEndOf settings tally end _ = ⊥
+TellsEnd settings tally end _ = ⊥
 
 -- the revision that a node belongs to which comes behind these records, where it would have belonged to this one
 abbrev pub open_behind : Option ℕ → List DumpRecord → Option ℕ
 open_behind present [] = present
-open_behind present (r ∷ records) = open_behind (opened present r) records
+open_behind present (r ∷ records) = open_behind (present_after present r) records
 
 -- the record comes next in the dump
 pub record ComesNext (old : Surveying) (before : List DumpRecord) (r : DumpRecord) (new : Surveying) : Type 0 where
@@ -53,7 +53,7 @@ SurveyStep old (Node node) new = (before : List DumpRecord) × ComesNext old bef
     × IsToldOf old.settings old.number (open_behind None before) (record_item node.item) (told_of_node node)
 SurveyStep old Other new = (before : List DumpRecord) × (r : DumpRecord) × ComesNext old before r new
     × IsToldOf old.settings old.number (open_behind None before) r []
-SurveyStep old (Finished end) new = (records : List DumpRecord) × HasRecords old.dump records (ending_of end.end)
+SurveyStep old (Finished end) new = (records : List DumpRecord) × HasRecords old.dump records (survey_ending end.end)
     × (length records ≡ old.number)
     × (listed_findings end.dump ≡ dump_findings old.settings records)
     × (new ≡ old)

@@ -2,7 +2,7 @@
 use Rattle.std.specs.Prelude.{◌+◌, ◌==◌, Bool, true, false, not, ◌&&◌, ◌||◌, List, [], ◌∷◌, filter, Option, Some, None, if◌then◌else◌}
 use Rattle.dump_records.specs.RecordText.{DumpRecord}
 use Rattle.dump_rules.specs.Settings.{Settings}
-use Rattle.dump_digest.specs.RecordParts.{is_revision, is_node, is_kept_node}
+use Rattle.dump_digest.specs.RecordParts.{is_revision_record, is_node, is_kept_node}
 use Rattle.dump_filter.specs.Groups.{revision_number, keeps_empty}
 use Rattle.dump_history.specs.Findings.{DumpFinding, every_dump_finding}
 use Rattle.dump_survey.specs.declared.tally.Present.{Present}
@@ -46,7 +46,7 @@ other_tally settings t = record t { all_kept = keeps_present settings t; present
 -- behind one more record
 abbrev pub next_tally : Settings → Tally → DumpRecord → Tally
 next_tally settings t r =
-    if is_revision r then revision_tally settings t r
+    if is_revision_record r then revision_tally settings t r
     else if is_node r then node_tally t (is_kept_node settings r) t.present
     else other_tally settings t
 

@@ -2,8 +2,8 @@
 use Rattle.std.specs.Prelude.{◌≡◌, ℕ, ◌+◌, ◌-◌, ◌<◌, ◌==◌, Bool, min, List, ◌++◌, length, take, Option, Result, Ok, Err, if◌then◌else◌}
 use base.Fml.{GName}
 use Rattle.std.specs.Io.KnownBytes.{append_known}
-use Rattle.dump_writer.specs.declared.memory.Trouble.{Trouble}
-use Rattle.dump_writer.specs.declared.memory.Trouble.TheVariants.{Never, Once, From}
+use Rattle.dump_writer.specs.declared.memory_sink.Trouble.{Trouble}
+use Rattle.dump_writer.specs.declared.memory_sink.Trouble.TheVariants.{Never, Once, From}
 use Rattle.dump_writer.specs.declared.sink.SinkDown.{SinkDown}
 use Rattle.dump_writer.specs.SinkWords.{capped}
 use Rattle.dump_writer.specs.steps.SinkCalls.{Loan}
@@ -65,7 +65,7 @@ trouble_after Never own = Never
 trouble_after (Once total) own = if own then Never else Once total
 trouble_after (From total) own = From total
 
--- one call of a sink in memory: it takes its share; or it fails, at its trouble or for want of memory
+-- one call of a sink in memory: it takes its share; or it fails, at its trouble or out of memory
 abbrev pub MemoryStep : MemoryState → List ℕ → Result ℕ SinkDown → MemoryState → Type 0
 MemoryStep old bytes (Ok n) new =
     (n ≡ share_of old (length bytes)) × (new ≡ record old { taken = old.taken ++ take n bytes })

@@ -1,0 +1,216 @@
+//! The property block of a record that is written: made anew, or none where it is written as it stands.
+ghost use Rattle.std.specs.Prelude.{◌≡◌, ◌++◌, List, false, IsTrue, OnOk, IfOk, codes, option_copied};
+ghost use Rattle.dump_text.specs.PropertyList.{Property, IsPropertyBlock, entry_text, property_block_text};
+ghost use Rattle.dump_text.specs.steps.PropertyReading.{property_value};
+ghost use Rattle.dump_text.specs.steps.PropertyViews.{props_bytes, entry_property};
+ghost use Rattle.dump_records.specs.RecordText.{DumpRecord};
+ghost use Rattle.dump_records.specs.steps.RecordViews.{record_item};
+ghost use Rattle.dump_rules.specs.Mergeinfo.{HasMergeLines};
+ghost use Rattle.dump_digest.specs.steps.ContentViews.{ArePropertiesOf};
+ghost use Rattle.dump_digest.specs.steps.DoneViews.{done_record};
+ghost use Rattle.dump_digest.specs.steps.MergeFaults.{HasGoodMergeinfo};
+ghost use Rattle.dump_digest.specs.RecordParts.{is_mergeinfo, value_of, HasPropertyList, HasPropertyBlock};
+ghost use Rattle.dump_filter.specs.NewContent.{revision_properties, IsNewProperty, AreNewProperties, new_block};
+ghost use Rattle.dump_filter.specs.steps.MadeBytes.{made_or};
+ghost use Rattle.dump_filter.specs.steps.NewProperties.{IsReadNode, dated_padding};
+
+use dump_digest::{Done, is_mergeinfo};
+use dump_records::Record;
+use dump_rules::{Options, Reach, new_value};
+use dump_text::{Entry, Props, push_block_end, push_deletion, push_property};
+use dump_writer::Memory;
+use std::alloc::{AllocError, Global};
+
+/// The property that has the date of a revision.
+const DATE: &[u8] = b"svn:date";
+
+/// The log of an empty revision.
+const PADDING_LOG: &[u8] = b"This is an empty revision for padding.";
+
+/// Adds an entry as it stands.
+fn push_entry(out: &mut Vec<u8>, entry: &Entry<'_>) -> Result<(), AllocError>
+    ensures { OnOk result (out.new.items ≡ out.old.items ++ entry_text (entry_property entry.now)) }
+{
+    if entry.gone {
+        push_deletion(out, entry.name)
+    } else {
+        push_property(out, entry.name, entry.value)
+    }
+}
+
+/// The properties of a block, written anew.
+fn write_entries(alloc: Global, props: &Props<'_>) -> Result<Vec<u8>, Memory>
+    ensures { IfOk result (λ out. (ps : List Property) → IsPropertyBlock (props_bytes props.now) ps
+        → out.items ≡ property_block_text ps) }
+{
+    let mut out = Vec::new(alloc);
+    let mut entries = props.entries();
+    while let Some(entry) = entries.next() {
+        push_entry(&mut out, &entry)?;
+    }
+    push_block_end(&mut out)?;
+    Ok(out)
+}
+
+/// The block as it is written; none where it stays.
+fn respelled(alloc: Global, props: &Props<'_>) -> Result<Option<Vec<u8>>, Memory>
+    ensures { IfOk result (λ made. (ps : List Property) → IsPropertyBlock (props_bytes props.now) ps
+        → made_or made (props_bytes props.now) ≡ property_block_text ps) }
+{
+    if props.spelled() {
+        return Ok(None);
+    }
+    let bytes = write_entries(alloc, props)?;
+    Ok(Some(bytes))
+}
+
+/// The first date among some properties.
+fn date_of<'a>(props: &Option<Props<'a>>) -> Option<&'a [u8]>
+    ensures { (r : DumpRecord) → ArePropertiesOf r props.now → (ps : List Property) → HasPropertyList r ps
+        → option_copied result ≡ property_value (codes "svn:date") ps }
+{
+    match props {
+        Some(props) => props.get(DATE),
+        None => None,
+    }
+}
+
+/// The properties of an empty revision of this date, if it has one.
+fn write_padding(alloc: Global, date: Option<&[u8]>) -> Result<Vec<u8>, Memory>
+    ensures { IfOk result (λ out. out.items ≡ property_block_text (dated_padding (option_copied date.entry))) }
+{
+    let mut out = Vec::new(alloc);
+    if let Some(date) = date {
+        push_property(&mut out, DATE, date)?;
+    }
+    push_property(&mut out, b"svn:log", PADDING_LOG)?;
+    push_block_end(&mut out)?;
+    Ok(out)
+}
+
+/// The property block of a record with these properties as it is written, if it has a length for one.
+fn respelled_block(
+    alloc: Global,
+    item: &Record<'_>,
+    props: &Option<Props<'_>>,
+) -> Result<Option<Vec<u8>>, Memory>
+    requires { ArePropertiesOf (record_item item.now) props.now }
+    ensures { let r = record_item item.now in IfOk result (λ made. (ps : List Property) → HasPropertyList r ps
+        → made_or made r.props ≡ new_block false r ps) }
+{
+    match props {
+        Some(props) => {
+            if item.has_props() {
+                respelled(alloc, props)
+            } else {
+                Ok(None)
+            }
+        }
+        None => Ok(None),
+    }
+}
+
+/// The property block of a revision with these properties as it is written, padded or not.
+pub(crate) fn revision_properties(
+    alloc: Global,
+    item: &Record<'_>,
+    props: &Option<Props<'_>>,
+    padded: bool,
+) -> Result<Option<Vec<u8>>, Memory>
+    requires { ArePropertiesOf (record_item item.now) props.now }
+    ensures { let r = record_item item.now in IfOk result (λ made. (ps : List Property) → HasPropertyList r ps
+        → made_or made r.props ≡ new_block padded r (revision_properties padded ps)) }
+{
+    if padded {
+        let bytes = write_padding(alloc, date_of(props))?;
+        return Ok(Some(bytes));
+    }
+    respelled_block(alloc, item, props)
+}
+
+/// Adds a property of a kept node, with its new value where it is mergeinfo.
+fn push_rewritten(
+    out: &mut Vec<u8>,
+    alloc: Global,
+    options: &Options,
+    kept: &Reach,
+    entry: &Entry<'_>,
+) -> Result<(), Memory>
+    requires { IsTrue (is_mergeinfo (entry_property entry.now)) → ¬ ¬ HasMergeLines (value_of (entry_property entry.now)) }
+    ensures { OnOk result ((new : Property) × IsNewProperty options.now kept.now (entry_property entry.now) new
+        × (out.new.items ≡ out.old.items ++ entry_text new)) }
+{
+    if !is_mergeinfo(entry) {
+        return Ok(push_entry(out, entry)?);
+    }
+    match new_value(alloc, entry.value, options, kept) {
+        Ok(value) => Ok(push_property(out, entry.name, &value)?),
+        Err(_) => Err(Memory),
+    }
+}
+
+/// The properties of a kept node, written anew with new values of mergeinfo.
+fn write_rewritten(
+    alloc: Global,
+    options: &Options,
+    kept: &Reach,
+    props: &Props<'_>,
+) -> Result<Vec<u8>, Memory>
+    requires { HasGoodMergeinfo (props_bytes props.now) }
+    ensures { IfOk result (λ out. (ps : List Property) → IsPropertyBlock (props_bytes props.now) ps
+        → (new : List Property) × AreNewProperties options.now kept.now ps new × (out.items ≡ property_block_text new)) }
+{
+    let mut out = Vec::new(alloc);
+    let mut entries = props.entries();
+    while let Some(entry) = entries.next() {
+        push_rewritten(&mut out, alloc, options, kept, &entry)?;
+    }
+    push_block_end(&mut out)?;
+    Ok(out)
+}
+
+/// The property block of a kept node with mergeinfo as it is written, with new values, if it has a length for one.
+fn rewritten_block(
+    alloc: Global,
+    options: &Options,
+    kept: &Reach,
+    item: &Record<'_>,
+    props: &Option<Props<'_>>,
+) -> Result<Option<Vec<u8>>, Memory>
+    requires read { ArePropertiesOf (record_item item.now) props.now }
+    requires lines { HasPropertyBlock (record_item item.now) → HasGoodMergeinfo (record_item item.now).props }
+    ensures { let r = record_item item.now in IfOk result (λ made. (ps : List Property) → HasPropertyList r ps
+        → (new : List Property) × AreNewProperties options.now kept.now ps new × (made_or made r.props ≡ new_block false r new)) }
+{
+    match props {
+        Some(props) => {
+            if item.has_props() {
+                let bytes = write_rewritten(alloc, options, kept, props)?;
+                Ok(Some(bytes))
+            } else {
+                Ok(None)
+            }
+        }
+        None => Ok(None),
+    }
+}
+
+/// The property block of a kept node as it is written, with new values of mergeinfo.
+pub(crate) fn node_properties(
+    alloc: Global,
+    options: &Options,
+    kept: &Reach,
+    done: &Done<'_>,
+) -> Result<Option<Vec<u8>>, Memory>
+    requires node { IsReadNode done.now }
+    ensures { let r = record_item (done_record done.now) in IfOk result (λ made. (ps : List Property) → HasPropertyList r ps
+        → (new : List Property) × AreNewProperties options.now kept.now ps new × (made_or made r.props ≡ new_block false r new)) }
+{
+    let item = done.item();
+    let props = done.props();
+    if done.has_mergeinfo() {
+        rewritten_block(alloc, options, kept, &item, &props)
+    } else {
+        respelled_block(alloc, &item, &props)
+    }
+}

@@ -1,0 +1,24 @@
+use Rattle.std.proofs.Common.{[], ◌∷◌, refl, codes, decimal}
+use Rattle.dump_survey.specs.Lines.{shown_path, source_text}
+use Rattle.dump_survey.specs.Told.{told_view}
+use Rattle.dump_survey.proofs.LineLemmas.{all_added, map_ok}
+use Rattle.dump_survey.proofs.survey_lines.push_source.Goals as goal
+
+pub returns : goal.returns
+unfolding source_text
+returns c =
+    let t = told_view c.args.told.now in
+    map_ok c.push_number.result (λ is. all_added c.args.line.now.items c.push_number.new.line.items
+    (codes " is copied from " ∷ shown_path t.copy_path ∷ codes " at r" ∷ decimal t.copy_revision ∷ []) (
+      c.extend_from_slice.new.self.items,
+      c.in_ok-extend_from_slice.ensures.items,
+      (
+        c.push_path.new.line.items,
+        c.in_ok-push_path.ensures,
+        (
+          c.extend_from_slice-2.new.self.items,
+          c.in_ok-extend_from_slice-2.ensures.items,
+          (c.push_number.new.line.items, is, refl),
+        ),
+      ),
+    )) c.push_number.ensures

@@ -1,0 +1,274 @@
+//! The lines of a survey.
+ghost use Rattle.std.specs.Prelude.{◌≡◌, ◌++◌, ◌<◌, [], if◌then◌else◌, IfOk, OnOk, IsTrue, flat_map, decimal, map};
+ghost use Rattle.dump_records.specs.steps.RecordViews.{record_item};
+ghost use Rattle.dump_digest.specs.RecordParts.{is_node};
+ghost use Rattle.dump_survey.specs.AsWellLines.{as_well_line, as_well_lines, as_well_words};
+ghost use Rattle.dump_survey.specs.DumpFindings.{listed_findings};
+ghost use Rattle.dump_survey.specs.Lines.{dump_line, ending_line, finding_words, node_line, place_text, shown_byte, shown_path, small_digit, source_text, tells_source};
+ghost use Rattle.dump_survey.specs.Meaning.{meaning};
+ghost use Rattle.dump_survey.specs.SurveyEnds.{survey_ending};
+ghost use Rattle.dump_survey.specs.Told.{told_view};
+ghost use Rattle.dump_survey.specs.steps.Surveyed.{told_of_node};
+
+use crate::finding::{EVERY_FINDING, NodeFinding};
+use crate::memory::Memory;
+use crate::slashes::bare_path;
+use crate::surveyor::End;
+use crate::tally::DumpFindings;
+use crate::told::{SurveyedNode, Told};
+use dump_rules::Side;
+use dump_text::spell;
+use std::alloc::Global;
+
+/// A digit of base 16.
+fn small_digit(value: u8) -> u8
+    requires { value < 16 }
+    ensures { result ≡ small_digit value }
+{
+    if value < 10 {
+        b'0' + value
+    } else {
+        b'a' - 10 + value
+    }
+}
+
+/// Adds a byte as it is shown.
+#[tactic(auto, unfolding(crate::specs::Lines::shown_byte))]
+fn push_byte(line: &mut Vec<u8>, byte: u8) -> Result<(), Memory>
+    ensures { OnOk result (line.new.items ≡ line.old.items ++ shown_byte byte) }
+{
+    if byte < 32 || byte == 127 {
+        let shown = [b'\\', b'x', small_digit(byte / 16), small_digit(byte % 16)];
+        line.extend_from_slice(&shown)?;
+    } else {
+        line.push(byte)?;
+    }
+    Ok(())
+}
+
+/// Adds a text as it is shown.
+fn push_shown(line: &mut Vec<u8>, text: &[u8]) -> Result<(), Memory>
+    ensures { OnOk result (line.new.items ≡ line.old.items ++ flat_map shown_byte text.now) }
+{
+    let mut rest = text;
+    while let [byte, behind @ ..] = rest {
+        push_byte(line, *byte)?;
+        rest = behind;
+    }
+    Ok(())
+}
+
+/// Adds a path as it is shown.
+#[tactic(auto, unfolding(crate::specs::Lines::shown_path))]
+fn push_path(line: &mut Vec<u8>, path: &[u8]) -> Result<(), Memory>
+    ensures { OnOk result (line.new.items ≡ line.old.items ++ shown_path path.now) }
+{
+    line.push(b'/')?;
+    push_shown(line, bare_path(path))
+}
+
+/// Adds a number, in decimal digits.
+fn push_number(line: &mut Vec<u8>, number: u64) -> Result<(), Memory>
+    ensures { OnOk result (line.new.items ≡ line.old.items ++ decimal number) }
+{
+    Ok(line.extend_from_slice(spell(number).bytes())?)
+}
+
+/// Adds where a record is.
+#[tactic(auto, unfolding(crate::specs::Lines::place_text))]
+fn push_place(line: &mut Vec<u8>, number: u64, place: usize) -> Result<(), Memory>
+    ensures { OnOk result (line.new.items ≡ line.old.items ++ place_text number place) }
+{
+    line.extend_from_slice(b"record ")?;
+    push_number(line, number)?;
+    line.extend_from_slice(b", byte ")?;
+    push_number(line, place as u64)
+}
+
+/// Adds what a node is copied from.
+#[tactic(auto, unfolding(crate::specs::Lines::source_text))]
+fn push_source(line: &mut Vec<u8>, told: &Told<'_>) -> Result<(), Memory>
+    ensures { OnOk result (line.new.items ≡ line.old.items ++ source_text (told_view told.now)) }
+{
+    line.extend_from_slice(b" is copied from ")?;
+    push_path(line, told.copy_path)?;
+    line.extend_from_slice(b" at r")?;
+    push_number(line, told.copy_revision)
+}
+
+/// Whether the finding's line tells what the node is copied from.
+fn tells_source(finding: NodeFinding) -> bool
+    ensures { result ≡ tells_source (meaning finding) }
+{
+    matches!(
+        finding,
+        NodeFinding::NoWholeFile
+            | NodeFinding::PropertiesLost
+            | NodeFinding::CopyLoses
+            | NodeFinding::CopyLetsIn
+            | NodeFinding::FolderBrings
+            | NodeFinding::TextComesIn
+    )
+}
+
+/// Adds what the node is copied from, where the finding's line tells it.
+fn push_told_source(line: &mut Vec<u8>, told: &Told<'_>) -> Result<(), Memory>
+    ensures { OnOk result (line.new.items ≡ line.old.items
+        ++ (if tells_source (meaning told.now.finding) then source_text (told_view told.now) else [])) }
+{
+    if tells_source(told.finding) {
+        push_source(line, told)?;
+    }
+    Ok(())
+}
+
+/// What the line of the finding says behind the paths.
+#[tactic(auto, unfolding(crate::specs::Lines::finding_words))]
+fn words(finding: NodeFinding) -> &'static [u8]
+    ensures { result.now ≡ finding_words (meaning finding) }
+{
+    match finding {
+        NodeFinding::UnreadBlock => b" has properties that can't be read",
+        NodeFinding::Delta => b" tells of a delta, which format version 2 doesn't have",
+        NodeFinding::UnknownAction => b" has no action, or an unknown one",
+        NodeFinding::OddText => {
+            b" has a path, a copy source or another text that the load reads otherwise"
+        }
+        NodeFinding::NoWholeFile => b", which is not kept: fault 12",
+        NodeFinding::PropertiesLost => b", which is not kept, and may lose its properties",
+        NodeFinding::CopyLoses => b", and may lose what is left out there and not here",
+        NodeFinding::CopyLetsIn => b", and may let in what is left out here and not there",
+        NodeFinding::FolderTakes => b" is not kept, and is deleted: what is kept below it may stay",
+        NodeFinding::FolderBrings => b", and is not kept: what is kept below it may be missing",
+        NodeFinding::TextComesIn => b", which is not kept, and has a text from there",
+    }
+}
+
+/// Adds the line of a finding in a node.
+#[tactic(auto, unfolding(crate::specs::Lines::node_line))]
+pub(crate) fn push_node_line(lines: &mut Vec<u8>, told: &Told<'_>) -> Result<(), Memory>
+    ensures { OnOk result (lines.new.items ≡ lines.old.items ++ node_line (told_view told.now)) }
+{
+    push_place(lines, told.number, told.place)?;
+    lines.extend_from_slice(b", r")?;
+    push_number(lines, told.revision)?;
+    lines.extend_from_slice(b": ")?;
+    push_path(lines, told.path)?;
+    push_told_source(lines, told)?;
+    lines.extend_from_slice(words(told.finding))?;
+    Ok(lines.push(b'\n')?)
+}
+
+/// Adds the line, if this is found.
+fn push_if(lines: &mut Vec<u8>, found: bool, line: &[u8]) -> Result<(), Memory>
+    ensures { OnOk result (lines.new.items ≡ lines.old.items ++ (if found then line.now else [])) }
+{
+    if found {
+        lines.extend_from_slice(line)?;
+    }
+    Ok(())
+}
+
+/// Adds the lines of what is found in the dump as a whole.
+fn push_dump_lines(lines: &mut Vec<u8>, found: &DumpFindings) -> Result<(), Memory>
+    ensures { OnOk result (lines.new.items ≡ lines.old.items ++ flat_map dump_line (listed_findings found.now)) }
+{
+    push_if(lines, found.no_revision, b"the dump has no revision\n")?;
+    push_if(
+        lines,
+        found.other_numbers,
+        b"the revisions of the dump are not numbered 0, 1, 2 and so on\n",
+    )?;
+    push_if(
+        lines,
+        found.node_in_first,
+        b"the first revision of the dump has a node\n",
+    )?;
+    push_if(
+        lines,
+        found.numbers_left,
+        b"a revision is left out, and those behind it keep their numbers: give --renumber-revs\n",
+    )?;
+    Ok(())
+}
+
+/// Adds the line of what ends the list of so many records before the dump's end, if something does.
+#[tactic(auto, unfolding(crate::specs::Lines::ending_line))]
+fn push_ending_line(lines: &mut Vec<u8>, count: u64, end: End) -> Result<(), Memory>
+    ensures { OnOk result (lines.new.items ≡ lines.old.items ++ ending_line count (survey_ending end)) }
+{
+    let End::Broken { kind, place } = end else {
+        return Ok(());
+    };
+    push_place(lines, count, place)?;
+    lines.extend_from_slice(b": fault ")?;
+    push_number(lines, u64::from(kind.code()))?;
+    lines.push(b' ')?;
+    lines.extend_from_slice(kind.name().as_bytes())?;
+    Ok(lines.extend_from_slice(b", what follows is not read\n")?)
+}
+
+/// The lines of what is known where so many records end.
+pub(crate) fn end_lines(
+    alloc: Global,
+    count: u64,
+    found: &DumpFindings,
+    end: End,
+) -> Result<Vec<u8>, Memory>
+    ensures { IfOk result (λ lines. lines.items
+        ≡ flat_map dump_line (listed_findings found.now) ++ ending_line count (survey_ending end)) }
+{
+    let mut lines = Vec::new(alloc);
+    push_dump_lines(&mut lines, found)?;
+    push_ending_line(&mut lines, count, end)?;
+    Ok(lines)
+}
+
+/// The lines of what is found in a node.
+pub(crate) fn node_lines(alloc: Global, node: &SurveyedNode<'_>) -> Result<Vec<u8>, Memory>
+    requires { IsTrue (is_node (record_item node.now.item)) }
+    ensures { IfOk result (λ lines. lines.items ≡ flat_map node_line (told_of_node node.now)) }
+{
+    let mut lines = Vec::new(alloc);
+    let mut left = EVERY_FINDING.as_slice();
+    while let [finding, others @ ..] = left {
+        if node.found.has(*finding) {
+            push_node_line(&mut lines, &node.told(*finding))?;
+        }
+        left = others;
+    }
+    Ok(lines)
+}
+
+/// What the line of a path to be kept as well says before it.
+fn as_well_words(side: Side) -> &'static [u8]
+    ensures { result.now ≡ as_well_words side }
+{
+    match side {
+        Side::Include => b"keep as well: ",
+        Side::Exclude => b"leave out as well: ",
+    }
+}
+
+/// Adds the line of a path to be kept as well.
+#[tactic(auto, unfolding(crate::specs::AsWellLines::as_well_line))]
+fn push_as_well_line(lines: &mut Vec<u8>, side: Side, path: &[u8]) -> Result<(), Memory>
+    ensures { OnOk result (lines.new.items ≡ lines.old.items ++ as_well_line side path.now) }
+{
+    lines.extend_from_slice(as_well_words(side))?;
+    push_path(lines, path)?;
+    Ok(lines.push(b'\n')?)
+}
+
+/// The lines of what is to be kept as well.
+pub(crate) fn as_well_lines(alloc: Global, side: Side, paths: &[&[u8]]) -> Result<Vec<u8>, Memory>
+    ensures { IfOk result (λ lines. lines.items ≡ as_well_lines side (map (λ path. path.now) paths.now)) }
+{
+    let mut lines = Vec::new(alloc);
+    let mut left = paths;
+    while let [path, others @ ..] = left {
+        push_as_well_line(&mut lines, side, path)?;
+        left = others;
+    }
+    Ok(lines)
+}

@@ -1,0 +1,118 @@
+//! The survey of a dump, written as it is found, and what to keep as well.
+ghost use Rattle.std.specs.Prelude.{◌≡◌, ◌≢◌, ◌==◌, List, ℕ, Err, IfOk, OnErr, OnOk, length, not};
+ghost use Rattle.std.specs.Io.KnownBytes.{Appends};
+ghost use Rattle.dump_writer.specs.SinkWords.{HasFailedSince};
+ghost use Rattle.dump_survey.specs.declared.survey_text.SurveyFailure.TheVariants as failures;
+ghost use Rattle.dump_survey.specs.AsWellLines.{AreAsWellLines};
+ghost use Rattle.dump_survey.specs.SurveyText.{IsSurveyText, BreaksOffSurvey};
+ghost use Rattle.dump_survey.specs.steps.Writing.{TakesSome, TakesSomeAsWell};
+
+use crate::as_well::keep_as_well;
+use crate::memory::Memory;
+use crate::survey_lines::{as_well_lines, end_lines, node_lines};
+use crate::surveyor::{Step, Surveyor};
+use dump_rules::Options;
+use dump_writer::{Chunk, Piece, Sink, write_piece};
+use std::alloc::Global;
+
+/// Why a survey wasn't written whole.
+#[derive(Clone, Copy, Debug, PartialEq, Eq)]
+pub enum SurveyFailure {
+    /// Memory ran out.
+    Memory,
+    /// The sink failed.
+    Sink,
+}
+
+impl From<Memory> for SurveyFailure {
+    ghost from_gives = { λ _ r. r ≡ failures.Memory };
+
+    fn from(_memory: Memory) -> SurveyFailure {
+        SurveyFailure::Memory
+    }
+}
+
+impl From<dump_writer::Memory> for SurveyFailure {
+    ghost from_gives = { λ _ r. r ≡ failures.Memory };
+
+    fn from(_memory: dump_writer::Memory) -> SurveyFailure {
+        SurveyFailure::Memory
+    }
+}
+
+/// Writes lines, and tells whether there are any.
+fn write_lines<S: Sink>(alloc: Global, sink: &mut S, lines: Vec<u8>) -> Result<bool, SurveyFailure>
+    ensures whole { IfOk result (λ _. Appends (S.taken sink.old) (S.taken sink.new) lines.items) }
+    ensures some { IfOk result (λ some. some ≡ not (length lines.items == 0)) }
+    ensures part { OnErr result (TakesSome (S.taken sink.old) (S.taken sink.new) lines.items) }
+    ensures no_failure { result ≢ Err SurveyFailure.Sink → S.failure_count sink.new ≡ S.failure_count sink.old }
+    ensures failed { result ≡ Err SurveyFailure.Sink
+        → HasFailedSince (S.failure_count sink.old) (S.failure_count sink.new) }
+    ensures through { S.through sink.new ≡ S.through sink.old }
+{
+    let some = !lines.is_empty();
+    let mut piece = Piece::new(alloc);
+    piece.push(Chunk::Own(lines))?;
+    match write_piece(sink, &piece) {
+        Ok(()) => Ok(some),
+        Err(_) => Err(SurveyFailure::Sink),
+    }
+}
+
+/// Writes the survey of a dump for the filter under these options, each line as it is found, and tells whether
+/// something was found.
+pub fn write_survey<S: Sink>(
+    alloc: Global,
+    dump: &[u8],
+    options: &Options,
+    sink: &mut S,
+) -> Result<bool, SurveyFailure>
+    ensures whole { IfOk result (λ found. (text : List ℕ) × IsSurveyText options.now dump.now text found
+        × Appends (S.taken sink.old) (S.taken sink.new) text) }
+    ensures part { OnErr result (BreaksOffSurvey options.now dump.now (S.taken sink.old) (S.taken sink.new)) }
+    ensures no_failure { result ≢ Err SurveyFailure.Sink → S.failure_count sink.new ≡ S.failure_count sink.old }
+    ensures failed { result ≡ Err SurveyFailure.Sink
+        → HasFailedSince (S.failure_count sink.old) (S.failure_count sink.new) }
+    ensures through { S.through sink.new ≡ S.through sink.old }
+{
+    let mut surveyor = Surveyor::new(alloc, dump, options)?;
+    let mut found = false;
+    let mut count = 0u64;
+    loop {
+        match surveyor.next(alloc)? {
+            Step::Node(node) => {
+                let lines = node_lines(alloc, &node)?;
+                found |= write_lines(alloc, sink, lines)?;
+                count += 1;
+            }
+            Step::Other => count += 1,
+            Step::Finished(end) => {
+                let lines = end_lines(alloc, count, &end.dump, end.end)?;
+                found |= write_lines(alloc, sink, lines)?;
+                return Ok(found);
+            }
+        }
+    }
+}
+
+/// Writes a line for each path that is to be kept as well where a dump is filtered under these options, in the order of
+/// [`keep_as_well`]: none where the filter stops at no copy. Nothing is written before all is known.
+pub fn write_as_well<S: Sink>(
+    alloc: Global,
+    dump: &[u8],
+    options: &Options,
+    sink: &mut S,
+) -> Result<(), SurveyFailure>
+    ensures whole { OnOk result ((lines : List ℕ) × AreAsWellLines options.now dump.now lines
+        × Appends (S.taken sink.old) (S.taken sink.new) lines) }
+    ensures part { OnErr result (TakesSomeAsWell options.now dump.now (S.taken sink.old) (S.taken sink.new)) }
+    ensures no_failure { result ≢ Err SurveyFailure.Sink → S.failure_count sink.new ≡ S.failure_count sink.old }
+    ensures failed { result ≡ Err SurveyFailure.Sink
+        → HasFailedSince (S.failure_count sink.old) (S.failure_count sink.new) }
+    ensures through { S.through sink.new ≡ S.through sink.old }
+{
+    let paths = keep_as_well(alloc, dump, options)?;
+    let lines = as_well_lines(alloc, options.side(), &paths)?;
+    write_lines(alloc, sink, lines)?;
+    Ok(())
+}
