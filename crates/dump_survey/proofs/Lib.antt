@@ -1,3 +1,5 @@
+pub mod FolderLemmas
+pub mod GivenLemmas
 pub mod GrowthLemmas
 pub mod LineLemmas
 pub mod LossLemmas

@@ -20,7 +20,7 @@ use Rattle.dump_survey.specs.Told.{NodeTold}
 use Rattle.dump_survey.specs.steps.Steps.{SurveyStep}
 use Rattle.dump_survey.specs.steps.Surveyed.{told_of_node}
 use Rattle.dump_survey.specs.steps.Surveying.{Surveying}
-use Rattle.dump_survey.specs.steps.Writing.{TakesSome}
+use Rattle.dump_survey.specs.LinesBehind.{TakesSome}
 use Rattle.dump_survey.proofs.SurveyLemmas.{HaveTold, node_told, nothing_told, node_nearer, other_nearer, all_told}
 use Rattle.dump_survey.proofs.SurveyTextLemmas.{begins_text}
 

@@ -1,7 +1,9 @@
 pub mod AsWellLines
 pub mod DumpFindings
+pub mod Folders
 pub mod KeepAsWell
 pub mod Lines
+pub mod LinesBehind
 pub mod Meaning
 pub mod SurveyEnds
 pub mod SurveyText

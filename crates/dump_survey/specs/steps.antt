@@ -1,3 +1,4 @@
+pub mod Folders
 pub mod Found
 pub mod Losses
 pub mod Names
@@ -7,4 +8,3 @@ pub mod Steps
 pub mod Surveyed
 pub mod Surveying
 pub mod Tally
-pub mod Writing

@@ -6,7 +6,8 @@
 //! [`NodeFinding`], with the record's number and place, the revision and the path. Where the records end it gives
 //! what is found in the dump as a whole, [`DumpFindings`], and whether they end with the dump. [`survey_dump`] keeps all
 //! this in a [`Survey`]; [`write_survey`] writes a line for each finding as it is found, and keeps nothing.
-//! [`keep_as_well`] tells which prefixes more let the filter stop at no copy, and [`write_as_well`] writes a line for each.
+//! [`folders_to_make`] tells which folders the load wants, [`keep_as_well`] which prefixes more let the filter stop at no
+//! copy, and [`write_behind`] writes a line for each.
 //!
 //! ```
 //! let survey = survey_dump(rt.alloc(), dump.as_slice(), &options)?;
@@ -30,6 +31,7 @@
 
 mod as_well;
 mod finding;
+mod folders;
 mod growth;
 pub mod laws;
 mod memory;
@@ -50,9 +52,10 @@ mod told;
 
 pub use as_well::keep_as_well;
 pub use finding::{EVERY_FINDING, Found, NodeFinding};
+pub use folders::folders_to_make;
 pub use memory::Memory;
 pub use survey::{Survey, survey_dump};
-pub use survey_text::{SurveyFailure, write_as_well, write_survey};
+pub use survey_text::{SurveyFailure, write_behind, write_survey};
 pub use surveyor::{End, Step, SurveyEnd, Surveyor};
 pub use tally::DumpFindings;
 pub use told::{SurveyedNode, Told};

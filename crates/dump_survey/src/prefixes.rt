@@ -16,7 +16,7 @@ use std::marker::Model;
 /// The options' prefixes, in their order, without the slashes at their ends.
 #[derive(Drop)]
 pub(crate) struct Prefixes<'o> {
-    bare: Vec<&'o [u8]>,
+    pub(crate) bare: Vec<&'o [u8]>,
 }
 
 impl<'o> Model for Prefixes<'o> {

@@ -4,6 +4,7 @@ ghost use Rattle.dump_records.specs.steps.RecordViews.{record_item};
 ghost use Rattle.dump_digest.specs.RecordParts.{is_node};
 ghost use Rattle.dump_survey.specs.AsWellLines.{as_well_line, as_well_lines, as_well_words};
 ghost use Rattle.dump_survey.specs.DumpFindings.{listed_findings};
+ghost use Rattle.dump_survey.specs.LinesBehind.{folder_line, folder_lines};
 ghost use Rattle.dump_survey.specs.Lines.{dump_line, ending_line, finding_words, node_line, place_text, shown_byte, shown_path, small_digit, source_text, tells_source};
 ghost use Rattle.dump_survey.specs.Meaning.{meaning};
 ghost use Rattle.dump_survey.specs.SurveyEnds.{survey_ending};
@@ -268,6 +269,29 @@ pub(crate) fn as_well_lines(alloc: Global, side: Side, paths: &[&[u8]]) -> Resul
     let mut left = paths;
     while let [path, others @ ..] = left {
         push_as_well_line(&mut lines, side, path)?;
+        left = others;
+    }
+    Ok(lines)
+}
+
+/// Adds the line of a folder to be made.
+#[tactic(auto, unfolding(crate::specs::LinesBehind::folder_line))]
+fn push_folder_line(lines: &mut Vec<u8>, path: &[u8]) -> Result<(), Memory>
+    ensures { OnOk result (lines.new.items ≡ lines.old.items ++ folder_line path.now) }
+{
+    lines.extend_from_slice(b"make before the load: ")?;
+    push_path(lines, path)?;
+    Ok(lines.push(b'\n')?)
+}
+
+/// The lines of the folders to be made.
+pub(crate) fn folder_lines(alloc: Global, folders: &[&[u8]]) -> Result<Vec<u8>, Memory>
+    ensures { IfOk result (λ lines. lines.items ≡ folder_lines (map (λ path. path.now) folders.now)) }
+{
+    let mut lines = Vec::new(alloc);
+    let mut left = folders;
+    while let [path, others @ ..] = left {
+        push_folder_line(&mut lines, path)?;
         left = others;
     }
     Ok(lines)

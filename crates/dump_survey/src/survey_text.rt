@@ -1,15 +1,15 @@
-//! The survey of a dump, written as it is found, and what to keep as well.
+//! The survey of a dump, written as it is found, and what stands behind it.
 ghost use Rattle.std.specs.Prelude.{◌≡◌, ◌≢◌, ◌==◌, List, ℕ, Err, IfOk, OnErr, OnOk, length, not};
 ghost use Rattle.std.specs.Io.KnownBytes.{Appends};
 ghost use Rattle.dump_writer.specs.SinkWords.{HasFailedSince};
 ghost use Rattle.dump_survey.specs.declared.survey_text.SurveyFailure.TheVariants as failures;
-ghost use Rattle.dump_survey.specs.AsWellLines.{AreAsWellLines};
 ghost use Rattle.dump_survey.specs.SurveyText.{IsSurveyText, BreaksOffSurvey};
-ghost use Rattle.dump_survey.specs.steps.Writing.{TakesSome, TakesSomeAsWell};
+ghost use Rattle.dump_survey.specs.LinesBehind.{AreLinesBehind, TakesSome, TakesSomeBehind};
 
 use crate::as_well::keep_as_well;
+use crate::folders::folders_to_make;
+use crate::survey_lines::{as_well_lines, end_lines, folder_lines, node_lines};
 use crate::memory::Memory;
-use crate::survey_lines::{as_well_lines, end_lines, node_lines};
 use crate::surveyor::{Step, Surveyor};
 use dump_rules::Options;
 use dump_writer::{Chunk, Piece, Sink, write_piece};
@@ -95,24 +95,37 @@ pub fn write_survey<S: Sink>(
     }
 }
 
-/// Writes a line for each path that is to be kept as well where a dump is filtered under these options, in the order of
+/// The lines of the folders to make before what is filtered under these options is loaded, and of what is to be kept as
+/// well.
+fn lines_behind(alloc: Global, dump: &[u8], options: &Options) -> Result<Vec<u8>, Memory>
+    ensures { IfOk result (λ lines. AreLinesBehind options.now dump.now lines.items) }
+{
+    let folders = folders_to_make(alloc, options)?;
+    let paths = keep_as_well(alloc, dump, options)?;
+    let mut lines = folder_lines(alloc, &folders)?;
+    let as_well = as_well_lines(alloc, options.side(), &paths)?;
+    lines.extend_from_slice(&as_well)?;
+    Ok(lines)
+}
+
+/// Writes what stands behind the findings where a dump is filtered under these options: a line for each folder to make
+/// before the load, in the order of [`folders_to_make`], and one for each path that is to be kept as well, in that of
 /// [`keep_as_well`]: none where the filter stops at no copy. Nothing is written before all is known.
-pub fn write_as_well<S: Sink>(
+pub fn write_behind<S: Sink>(
     alloc: Global,
     dump: &[u8],
     options: &Options,
     sink: &mut S,
 ) -> Result<(), SurveyFailure>
-    ensures whole { OnOk result ((lines : List ℕ) × AreAsWellLines options.now dump.now lines
+    ensures whole { OnOk result ((lines : List ℕ) × AreLinesBehind options.now dump.now lines
         × Appends (S.taken sink.old) (S.taken sink.new) lines) }
-    ensures part { OnErr result (TakesSomeAsWell options.now dump.now (S.taken sink.old) (S.taken sink.new)) }
+    ensures part { OnErr result (TakesSomeBehind options.now dump.now (S.taken sink.old) (S.taken sink.new)) }
     ensures no_failure { result ≢ Err SurveyFailure.Sink → S.failure_count sink.new ≡ S.failure_count sink.old }
     ensures failed { result ≡ Err SurveyFailure.Sink
         → HasFailedSince (S.failure_count sink.old) (S.failure_count sink.new) }
     ensures through { S.through sink.new ≡ S.through sink.old }
 {
-    let paths = keep_as_well(alloc, dump, options)?;
-    let lines = as_well_lines(alloc, options.side(), &paths)?;
+    let lines = lines_behind(alloc, dump, options)?;
     write_lines(alloc, sink, lines)?;
     Ok(())
 }

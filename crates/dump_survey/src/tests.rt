@@ -7,6 +7,7 @@ use std::alloc::Global;
 use std::test::Fail;
 
 mod as_well;
+mod folders;
 mod nodes;
 mod text;
 

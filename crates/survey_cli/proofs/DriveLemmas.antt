@@ -6,9 +6,8 @@ use Rattle.std.proofs.KnownBytes.{Appends-kept, Appends-trans}
 use Rattle.dump_rules.specs.Settings.{Settings}
 use Rattle.dump_writer.specs.steps.SinkStates.{LentState, lent_taken}
 use Rattle.dump_writer.specs.SinkWords.{IsPrefixOf}
-use Rattle.dump_survey.specs.AsWellLines.{AreAsWellLines}
 use Rattle.dump_survey.specs.SurveyText.{IsSurveyText, BreaksOffSurvey}
-use Rattle.dump_survey.specs.steps.Writing.{TakesSomeAsWell}
+use Rattle.dump_survey.specs.LinesBehind.{AreLinesBehind, TakesSomeBehind}
 use Rattle.dump_survey.specs.declared.survey_text.SurveyFailure.{SurveyFailure}
 use Rattle.survey_cli.specs.Drive.{IsWholeText, SurveysDump, SurveysInput, TakesFirst}
 use Rattle.survey_cli.specs.declared.drive.BrokenOff.{BrokenOff}
@@ -76,23 +75,23 @@ survey_broke_off settings dump old new off = (off.text, off.found, inl off.is, (
 module _ (settings : Settings) (dump : List ℕ) (old mid new : Option (List ℕ)) (found : Bool)
     (survey : (text : List ℕ) × IsSurveyText settings dump text found × Appends old mid text) where
   -- a survey and the lines behind it
-  whole_with : (lines : List ℕ) → AreAsWellLines settings dump lines
+  whole_with : (lines : List ℕ) → AreLinesBehind settings dump lines
       → IsWholeText settings dump (survey.0 ++ lines) found
   whole_with lines are = record {
     survey = survey.0;
     is_survey = survey.1;
-    as_well = lines;
-    are_as_well = are;
+    behind = lines;
+    are_behind = are;
     text_is = refl;
   }
 
-  pub whole_written : (lines : List ℕ) × AreAsWellLines settings dump lines × Appends mid new lines
+  pub whole_written : (lines : List ℕ) × AreLinesBehind settings dump lines × Appends mid new lines
       → (text : List ℕ) × IsWholeText settings dump text found × Appends old new text
   whole_written (lines, are, appends) =
       (survey.0 ++ lines, whole_with lines are, Appends-trans old mid new survey.0 lines survey.2 appends)
 
   -- a survey behind which the lines broke off
-  pub lines_broke_off : TakesSomeAsWell settings dump mid new → SurveyBreaksOff settings dump old new
+  pub lines_broke_off : TakesSomeBehind settings dump mid new → SurveyBreaksOff settings dump old new
   lines_broke_off (inl none) = (
     survey.0,
     found,

@@ -3,7 +3,7 @@ use Rattle.std.specs.Prelude.{◌≡◌, ℕ, Bool, true, false, ◌⊎◌, List
 use Rattle.std.specs.Io.KnownBytes.{Keeps, Appends}
 use Rattle.dump_rules.specs.Settings.{Settings}
 use Rattle.dump_writer.specs.SinkWords.{IsPrefixOf}
-use Rattle.dump_survey.specs.AsWellLines.{AreAsWellLines}
+use Rattle.dump_survey.specs.LinesBehind.{AreLinesBehind}
 use Rattle.dump_survey.specs.SurveyText.{IsSurveyText}
 use Rattle.survey_cli.specs.Words.{TellsSettings}
 use Rattle.survey_cli.specs.declared.words.Usage.{Usage}
@@ -18,15 +18,15 @@ finding_status true = 1
 abbrev pub TakesFirst : Option (List ℕ) → Option (List ℕ) → List ℕ → Type 0
 TakesFirst old new text = (part : List ℕ) × IsPrefixOf part text × Appends old new part
 
--- this is the text of a survey, with the lines of what is to be kept as well behind it, and whether something is found
+-- this is the text of a survey, with the lines behind its findings, and whether something is found
 pub record IsWholeText (settings : Settings) (dump text : List ℕ) (found : Bool) : Type 0 where
   pub survey : List ℕ
   pub is_survey : IsSurveyText settings dump survey found
-  pub as_well : List ℕ
-  pub are_as_well : AreAsWellLines settings dump as_well
-  pub text_is : text ≡ survey ++ as_well
+  pub behind : List ℕ
+  pub are_behind : AreLinesBehind settings dump behind
+  pub text_is : text ≡ survey ++ behind
 
--- this is the text of a survey, with or without the lines of what is to be kept as well
+-- this is the text of a survey, with or without the lines behind its findings
 abbrev pub IsText : Settings → List ℕ → List ℕ → Bool → Type 0
 IsText settings dump text found = IsSurveyText settings dump text found ⊎ IsWholeText settings dump text found
 

@@ -10,7 +10,7 @@ use crate::input::{Unread, read_all};
 use crate::messages::{write_failure, write_unread, write_usage};
 use crate::words::{Usage, options_of};
 use dump_rules::Options;
-use dump_survey::{SurveyFailure, write_as_well, write_survey};
+use dump_survey::{SurveyFailure, write_behind, write_survey};
 use dump_writer::{OutMut, SinkDown};
 use std::alloc::Global;
 use std::io::{Read, Write};
@@ -85,7 +85,7 @@ fn survey_input<R: Read, W: Write, E: Write>(
     tell(errors, answer)
 }
 
-// Writes the survey and behind it what to keep as well, and hands on all that waits.
+// Writes the survey and behind it the folders to make and what to keep as well, and hands on all that waits.
 fn survey_and_flush<W: Write>(
     alloc: Global,
     dump: &[u8],
@@ -101,7 +101,7 @@ fn survey_and_flush<W: Write>(
     flush_behind(sink, answer)
 }
 
-// Writes the survey, and behind it what to keep as well.
+// Writes the survey, and behind it the folders to make and what to keep as well.
 fn write_text<W: Write>(
     alloc: Global,
     dump: &[u8],
@@ -114,7 +114,7 @@ fn write_text<W: Write>(
     ensures loan { loan_of sink.new ≡ loan_of sink.old }
 {
     let found = write_survey(alloc, dump, options, sink)?;
-    write_as_well(alloc, dump, options, sink)?;
+    write_behind(alloc, dump, options, sink)?;
     Ok(found)
 }
 

@@ -1,7 +1,8 @@
 //! What to keep as well, on worked dumps.
 use super::rules;
-use crate::{Memory, keep_as_well};
+use crate::{Memory, SurveyFailure, keep_as_well, write_behind};
 use dump_rules::{Empty, Options, Side};
+use dump_writer::{MemorySink, Trouble};
 use std::test::Fail;
 
 const FRONT: &str = "SVN-fs-dump-format-version: 2\n\nRevision-number: 0\n\nRevision-number: 1\n\n";
@@ -65,6 +66,35 @@ fn what_to_keep_as_well_or_no_memory(rt: HostRuntime) -> Result<(), Fail> {
     match keep_as_well(rt.alloc(), CHAIN, &options) {
         Ok(paths) => assert_eq!(rt; paths.len(), 2),
         Err(refused) => assert_eq!(rt; refused, Memory),
+    }
+    Ok(())
+}
+
+// So of the lines behind the findings.
+#[test]
+fn lines_behind_the_findings_or_no_memory(rt: HostRuntime) -> Result<(), Fail> {
+    let prefixes = [b"x/y".as_slice(), b"c".as_slice()];
+    let made = Options::new(
+        rt.alloc(),
+        Side::Include,
+        &prefixes,
+        Empty::Pad,
+        false,
+        false,
+        false,
+    );
+    let Ok(options) = made else {
+        return Ok(());
+    };
+    let mut sink = MemorySink::new(rt.alloc(), 8, Trouble::Never);
+    match write_behind(rt.alloc(), CHAIN, &options, &mut sink) {
+        Ok(()) => {
+            let lines = b"make before the load: /x\nkeep as well: /b\nkeep as well: /a\n";
+            assert!(rt; sink.taken() == lines.as_slice());
+        }
+        Err(failure) => assert!(rt;
+            failure == SurveyFailure::Memory || failure == SurveyFailure::Sink
+        ),
     }
     Ok(())
 }

@@ -3,7 +3,7 @@ use Rattle.std.specs.Io.KnownBytes.{Appends}
 use Rattle.dump_survey.specs.declared.surveyor.Step.{Step}
 use Rattle.dump_survey.specs.steps.Steps.{SurveyStep}
 use Rattle.dump_survey.specs.steps.Surveying.{Surveying}
-use Rattle.dump_survey.specs.steps.Writing.{TakesSome}
+use Rattle.dump_survey.specs.LinesBehind.{TakesSome}
 use Rattle.dump_survey.proofs.SurveyLemmas.{node_nearer, other_nearer}
 use Rattle.dump_survey.proofs.WritingLemmas.{at_err, no_error, broken_in_end, broken_in_node, broken_off, node_written, nothing_written, other_written, whole_written}
 use Rattle.dump_survey.proofs.survey_text.write_survey.Goals as goal

@@ -1,0 +1,203 @@
+-- The folders to make before the load.
+use Rattle.std.proofs.Common.{◌≡◌, ◌≢◌, ℕ, ◌+◌, ◌-◌, ◌<◌, ◌≤◌, Bool, true, false, not, ◌&&◌, ◌||◌, ◌==◌, List, [], ◌∷◌, ◌++◌, take, drop, length, get_or, map, flat_map, filter, bytes_eq, if◌then◌else◌, Bor, refl, sym, ap, ap₂, ◌∙◌, arith, append_assoc, append-nil}
+use Rattle.std.specs.List.{list_any}
+use Rattle.std.specs.Cmp.Lexicographic.{slice_cmp}
+use Rattle.std.specs.Ordering.{is_eq, match_ordering, nat_cmp}
+use Rattle.std.specs.declared.cmp.Ordering.{Ordering}
+use Rattle.std.specs.declared.cmp.Ordering.TheVariants.{Less, Equal, Greater}
+use Rattle.std.specs.BTreeSet.{insert_key}
+use Rattle.std.proofs.lemmas.Bool.Decides.{nat_tests}
+use Rattle.std.proofs.lemmas.List.{take_more, drop_more, drop_all, map-append}
+use Rattle.std.proofs.Math.Seq.{take-length}
+use Rattle.std.proofs.lemmas.Map.Text.{is_eq-slice_cmp}
+use Rattle.std.proofs.lemmas.Slice.Eq.{bytes_eq-Decides}
+use Rattle.dump_rules.specs.Settings.{Settings, keeps_path}
+use Rattle.dump_survey.specs.Folders.{each_once, fronts, with_new}
+use Rattle.dump_survey.specs.steps.Folders.{HaveSame}
+
+-- a folder that is looked up
+
+swapped : (a b c : Bool) → (a || (b || c)) ≡ (b || (a || c))
+swapped true true c = refl
+swapped true false c = refl
+swapped false b c = refl
+
+any_inserted : {V : Type 0} (items : V → List ℕ) (p : List ℕ → Bool) (k : V) (ks : List V)
+    → list_any p (map items (insert_key (λ x y. slice_cmp nat_cmp (items x) (items y)) ks k))
+    ≡ (p (items k) || list_any p (map items ks))
+any_inserted items p k [] = refl
+any_inserted {V} items p k (x ∷ xs) = at (any_inserted items p k xs) (slice_cmp nat_cmp (items k) (items x)) refl
+  where
+    twice : (a b : Bool) → (a || b) ≡ (a || (a || b))
+    twice true b = refl
+    twice false b = refl
+
+    at : list_any p (map items (insert_key (λ x y. slice_cmp nat_cmp (items x) (items y)) xs k)) ≡
+        (p (items k) || list_any p (map items xs))
+        → (o : Ordering) → slice_cmp nat_cmp (items k) (items x) ≡ o
+        → list_any p (map items (match_ordering o (k ∷ x ∷ xs) (x ∷ xs)
+        (x ∷ insert_key (λ x y. slice_cmp nat_cmp (items x) (items y)) xs k)))
+        ≡ (p (items k) || list_any p (map items (x ∷ xs)))
+    at behind Less is = refl
+    at behind Equal is =
+        let same : items k ≡ items x = (bytes_eq-Decides (items k) (items x)).0
+        (sym (is_eq-slice_cmp (items k) (items x)) ∙ ap is_eq is) in
+        twice (p (items x)) (list_any p (map items xs))
+        ∙ ap (λ t. p t || (p (items x) || list_any p (map items xs))) (sym same)
+    at behind Greater is =
+        ap (λ b. p (items x) || b) behind ∙ swapped (p (items x)) (p (items k)) (list_any p (map items xs))
+
+pub any_pushed : (p : List ℕ → Bool) (texts : List (List ℕ)) (text : List ℕ) → list_any p (texts ++ text ∷ []) ≡
+    (p text || list_any p texts)
+any_pushed p [] text = refl
+any_pushed p (t ∷ texts) text = ap (λ b. p t || b) (any_pushed p texts text) ∙ swapped (p t) (p text) (list_any p texts)
+
+-- one more folder in both
+pub known_more : {V : Type 0} (items : V → List ℕ) (ks : List V) (k : V) (folders : List (Bor (List ℕ)))
+    (folder : Bor (List ℕ)) → items k ≡ folder.now → HaveSame (map items ks) (map (λ f. f.now) folders)
+    → HaveSame (map items (insert_key (λ x y. slice_cmp nat_cmp (items x) (items y)) ks k))
+    (map (λ f. f.now) (folders ++ folder ∷ []))
+known_more items ks k folders folder copied same text =
+    let p = λ (other : List ℕ). bytes_eq text other in
+    any_inserted items p k ks
+    ∙ (ap₂ (λ (t : List ℕ) (b : Bool). p t || b) copied (same text)
+    ∙ (sym (any_pushed p (map (λ f. f.now) folders) folder.now)
+    ∙ ap (list_any p) (sym (map-append (λ (f : Bor (List ℕ)). f.now) folders (folder ∷ [])))))
+
+-- a folder that is known isn't added again, and another one is
+pub known_stays : (folders : List (List ℕ)) (path : List ℕ) → list_any (λ other. bytes_eq path other) folders ≡ true
+    → folders ≡ with_new folders path
+known_stays folders path known = ap (λ b. if b then folders else folders ++ path ∷ []) (sym known)
+
+pub new_is_added : (folders : List (List ℕ)) (path : List ℕ) → list_any (λ other. bytes_eq path other) folders ≡ false
+    → folders ++ path ∷ [] ≡ with_new folders path
+new_is_added folders path new = ap (λ b. if b then folders else folders ++ path ∷ []) (sym new)
+
+pub added_new : (folders : List (Bor (List ℕ))) (folder : Bor (List ℕ)) (old : List (List ℕ)) → map (λ f. f.now) folders ≡ old
+    → list_any (λ other. bytes_eq folder.now other) old ≡ false
+    → map (λ f. f.now) (folders ++ folder ∷ []) ≡ with_new old folder.now
+added_new folders folder old same new =
+    map-append (λ (f : Bor (List ℕ)). f.now) folders (folder ∷ [])
+    ∙ (ap (λ fs. fs ++ folder.now ∷ []) same ∙ new_is_added old folder.now new)
+
+-- the paths above a bare prefix, place by place
+
+-- those that aren't kept
+abbrev pub left_of : Settings → List (List ℕ) → List (List ℕ)
+left_of settings paths = filter (λ path. not (keeps_path settings path)) paths
+
+-- those from a place on
+abbrev pub fronts_from : List ℕ → ℕ → List (List ℕ)
+fronts_from bare n = map (λ front. take n bare ++ front) (fronts (drop n bare))
+
+pub all_fronts : (bare : List ℕ) → fronts bare ≡ fronts_from bare 0
+all_fronts bare = same (fronts bare)
+  where
+    same : (texts : List (List ℕ)) → texts ≡ map (λ front. [] ++ front) texts
+    same [] = refl
+    same (text ∷ texts) = ap (λ ts. text ∷ ts) (same texts)
+
+-- behind the last place there are none
+pub no_front : (bare : List ℕ) (n : ℕ) → length bare ≤ n → fronts_from bare n ≡ []
+no_front bare n over = ap (λ text. map (λ front. take n bare ++ front) (fronts text)) (drop_all n bare over)
+
+mapped_on : (first : List ℕ) (b : ℕ) (texts : List (List ℕ))
+    → map (λ front. first ++ front) (map (λ front. b ∷ front) texts) ≡ map (λ front. (first ++ b ∷ []) ++ front) texts
+mapped_on first b [] = refl
+mapped_on first b (text ∷ texts) =
+    ap₂ (λ (t : List ℕ) (ts : List (List ℕ)). t ∷ ts) (sym (append_assoc first (b ∷ []) text)) (mapped_on first b texts)
+
+next_of : (first : List ℕ) (b : ℕ) (rest : List ℕ) → map (λ front. first ++ front) (fronts (b ∷ rest))
+    ≡ (if b == 47 then first ∷ [] else []) ++ map (λ front. (first ++ b ∷ []) ++ front) (fronts rest)
+next_of first b rest = cases (b == 47)
+  where
+    cases : (t : Bool) → map (λ front. first ++ front) ((if t then [] ∷ [] else []) ++ map (λ front. b ∷ front) (fronts rest))
+        ≡ (if t then first ∷ [] else []) ++ map (λ front. (first ++ b ∷ []) ++ front) (fronts rest)
+    cases true = ap₂ (λ (t : List ℕ) (ts : List (List ℕ)). t ∷ ts) (append-nil first) (mapped_on first b (fronts rest))
+    cases false = mapped_on first b (fronts rest)
+
+next_front : (bare : List ℕ) (n : ℕ) → n < length bare → fronts_from bare n
+    ≡ (if get_or bare n 0 == 47 then take n bare ∷ [] else []) ++ fronts_from bare (n + 1)
+next_front bare n low =
+    ap (λ text. map (λ front. take n bare ++ front) (fronts text)) (drop_more bare n 0 low)
+    ∙ (next_of (take n bare) (get_or bare n 0) (drop (n + 1) bare)
+    ∙ ap (λ (t : List ℕ). (if get_or bare n 0 == 47 then take n bare ∷ [] else [])
+    ++ map (λ front. t ++ front) (fronts (drop (n + 1) bare))) (sym (take_more bare n 0 low)))
+
+-- at a place the path before it is added, where a slash stands there and it isn't kept
+pub place_adds : (settings : Settings) (told : List (List ℕ)) (bare : List ℕ) (n : ℕ) → n < length bare
+    → get_or bare n 0 ≡ 47 → keeps_path settings (take n bare) ≡ false
+    → each_once told (left_of settings (fronts_from bare n))
+    ≡ each_once (with_new told (take n bare)) (left_of settings (fronts_from bare (n + 1)))
+place_adds settings told bare n low slash left =
+    ap (λ texts. each_once told (left_of settings texts)) (next_front bare n low
+    ∙ ap (λ b. (if b == 47 then take n bare ∷ [] else []) ++ fronts_from bare (n + 1)) slash)
+    ∙ ap (λ b. each_once told (if not b then take n bare ∷ left_of settings (fronts_from bare (n + 1))
+    else left_of settings (fronts_from bare (n + 1)))) left
+
+pub place_passes : (settings : Settings) (told : List (List ℕ)) (bare : List ℕ) (n : ℕ) → n < length bare
+    → ((get_or bare n 0 == 47) && not (keeps_path settings (take n bare))) ≡ false
+    → each_once told (left_of settings (fronts_from bare n))
+    ≡ each_once told (left_of settings (fronts_from bare (n + 1)))
+place_passes settings told bare n low none =
+    ap (λ texts. each_once told (left_of settings texts)) (next_front bare n low)
+    ∙ cases (get_or bare n 0 == 47) (keeps_path settings (take n bare)) refl none
+  where
+    more : List (List ℕ)
+    more = fronts_from bare (n + 1)
+
+    cases : (a k : Bool) → keeps_path settings (take n bare) ≡ k → (a && not k) ≡ false
+        → each_once told (left_of settings ((if a then take n bare ∷ [] else []) ++ more))
+        ≡ each_once told (left_of settings more)
+    cases false k is none = refl
+    cases true true is none = ap (λ b. each_once told (if not b then take n bare ∷ left_of settings more
+        else left_of settings more)) is
+    cases true false is none = absurd (let bad : true ≡ false = none in cc)
+
+-- a kept path, or a byte that is no slash, adds nothing
+pub kept_passes : (slash kept : Bool) → kept ≡ true → (slash && not kept) ≡ false
+kept_passes true kept is = ap not is
+kept_passes false kept is = refl
+
+pub other_passes : (byte : ℕ) (kept : Bool) → byte ≢ 47 → ((byte == 47) && not kept) ≡ false
+other_passes byte kept other = ap (λ t. t && not kept) (let e : (byte == 47) ≡ false = grind (arith, nat_tests) in e)
+
+-- prefix by prefix
+
+pub once_append : (told xs ys : List (List ℕ)) → each_once told (xs ++ ys) ≡ each_once (each_once told xs) ys
+once_append told [] ys = refl
+once_append told (x ∷ xs) ys = once_append (with_new told x) xs ys
+
+pub left_append : (settings : Settings) (xs ys : List (List ℕ))
+    → left_of settings (xs ++ ys) ≡ left_of settings xs ++ left_of settings ys
+left_append settings [] ys = refl
+left_append settings (x ∷ xs) ys = cases (keeps_path settings x) (left_append settings xs ys)
+  where
+    cases : (k : Bool) → left_of settings (xs ++ ys) ≡ left_of settings xs ++ left_of settings ys
+        → (if not k then x ∷ left_of settings (xs ++ ys) else left_of settings (xs ++ ys))
+        ≡ (if not k then x ∷ left_of settings xs else left_of settings xs) ++ left_of settings ys
+    cases true behind = behind
+    cases false behind = ap (λ l. x ∷ l) behind
+
+-- what is to be added of one more bare prefix
+prefix_adds : (settings : Settings) (told new : List (List ℕ)) (bare : List ℕ) (others : List (List ℕ))
+    → new ≡ each_once told (left_of settings (fronts bare))
+    → each_once told (left_of settings (flat_map fronts (bare ∷ others)))
+    ≡ each_once new (left_of settings (flat_map fronts others))
+prefix_adds settings told new bare others added =
+    ap (each_once told) (left_append settings (fronts bare) (flat_map fronts others))
+    ∙ (once_append told (left_of settings (fronts bare)) (left_of settings (flat_map fronts others))
+    ∙ ap (λ t. each_once t (left_of settings (flat_map fronts others))) (sym added))
+
+first_left : {X : Type 0} (x : X) (left : List X) → take (length (x ∷ left) - 1) (drop 1 (x ∷ left)) ≡ left
+first_left x left = ap (λ n. take n left) (let e : length (x ∷ left) - 1 ≡ length left = omega arith in e) ∙ take-length left
+
+pub next_adds : (settings : Settings) (left : List (Bor (List ℕ))) (d : Bor (List ℕ)) (told new : List (List ℕ))
+    → 1 ≤ length left → new ≡ each_once told (left_of settings (fronts (get_or left 0 d).now))
+    → each_once told (left_of settings (flat_map fronts (map (λ prefix. prefix.now) left)))
+    ≡ each_once new (left_of settings (flat_map fronts (map (λ prefix. prefix.now) (take (length left - 1) (drop 1 left)))))
+next_adds settings [] d told new some added = absurd (omega arith)
+next_adds settings (prefix ∷ left) d told new some added =
+    prefix_adds settings told new prefix.now (map (λ (p : Bor (List ℕ)). p.now) left) added
+    ∙ ap (λ (l : List (Bor (List ℕ))). each_once new (left_of settings (flat_map fronts (map (λ p. p.now) l))))
+    (sym (first_left prefix left))

@@ -1,0 +1,34 @@
+-- What stands behind the findings, word for word: the folders to make before the load, and what to keep as well.
+use Rattle.std.specs.Prelude.{◌≡◌, ℕ, ◌⊎◌, List, [], ◌∷◌, ◌++◌, flat_map, codes, Option}
+use Rattle.std.specs.List.{concat}
+use Rattle.std.specs.Io.KnownBytes.{Appends}
+use Rattle.dump_rules.specs.Settings.{Settings}
+use Rattle.dump_writer.specs.SinkWords.{IsPrefixOf}
+use Rattle.dump_survey.specs.AsWellLines.{AreAsWellLines}
+use Rattle.dump_survey.specs.Folders.{AreFoldersToMake}
+use Rattle.dump_survey.specs.Lines.{shown_path}
+
+-- the line of a folder to be made
+unfoldable pub folder_line : List ℕ → List ℕ
+folder_line path = concat (codes "make before the load: " ∷ shown_path path ∷ codes "\n" ∷ [])
+
+-- one line for each of the folders
+abbrev pub folder_lines : List (List ℕ) → List ℕ
+folder_lines folders = flat_map folder_line folders
+
+-- these are the lines behind the findings where this dump is filtered
+pub record AreLinesBehind (settings : Settings) (dump lines : List ℕ) : Type 0 where
+  pub folders : List (List ℕ)
+  pub are_folders : AreFoldersToMake settings folders
+  pub as_well : List ℕ
+  pub are_as_well : AreAsWellLines settings dump as_well
+  pub lines_are : lines ≡ folder_lines folders ++ as_well
+
+-- the sink took a first part of the lines
+abbrev pub TakesSome : Option (List ℕ) → Option (List ℕ) → List ℕ → Type 0
+TakesSome old new lines = (part : List ℕ) × IsPrefixOf part lines × Appends old new part
+
+-- the sink took nothing, or a first part of the lines behind the findings
+abbrev pub TakesSomeBehind : Settings → List ℕ → Option (List ℕ) → Option (List ℕ) → Type 0
+TakesSomeBehind settings dump old new =
+    Appends old new [] ⊎ ((lines : List ℕ) × AreLinesBehind settings dump lines × TakesSome old new lines)
