@@ -245,22 +245,28 @@ fn deltas_are_not_digested(rt: HostRuntime) -> Result<(), Fail> {
     Ok(())
 }
 
-// A delta with wrong digests, under version 2, then 3, then 2 again.
-fn thrice(alloc: Global) -> Result<String, Fail> {
+// A delta with wrong digests.
+fn wrong_delta(alloc: Global) -> Result<String, Fail> {
     let lines = format!(in alloc; "Text-delta: true\n{WRONG_DIGESTS}")?;
-    let file = abc_file(alloc, "trunk/f", lines.as_str())?;
+    abc_file(alloc, "trunk/f", lines.as_str())
+}
+
+// A file under version 2, then 3, then 2 again.
+fn thrice(alloc: Global, file: &str) -> Result<String, Fail> {
     let mut dump = String::new(alloc);
     for version in ["2", "3", "2"] {
-        for part in ["SVN-fs-dump-format-version: ", version, "\n\n", file.as_str()] {
-            dump.push_str(part)?;
-        }
+        dump.push_str("SVN-fs-dump-format-version: ")?;
+        dump.push_str(version)?;
+        dump.push_str("\n\n")?;
+        dump.push_str(file)?;
     }
     Ok(dump)
 }
 
 #[test]
 fn the_version_in_force_says_what_a_delta_is(rt: HostRuntime) -> Result<(), Fail> {
-    let dump = thrice(rt.alloc())?;
+    let file = wrong_delta(rt.alloc())?;
+    let dump = thrice(rt.alloc(), file.as_str())?;
     let options = include_trunk(rt.alloc())?;
     for (number, verdict) in [(1, BAD_DIGESTS), (3, OK), (5, BAD_DIGESTS)] {
         assert!(rt; check(&record(dump.as_bytes(), number)?, &options) == verdict, "{number}");
