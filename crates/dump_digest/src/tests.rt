@@ -204,8 +204,14 @@ fn digests_are_those_of_the_text(rt: HostRuntime) -> Result<(), Fail> {
         ),
     ];
     for (digests, verdict) in rows {
-        assert!(rt; verdict_on_abc(rt.alloc(), "trunk/f", digests)? == verdict, "{digests}");
-        assert!(rt; verdict_on_abc(rt.alloc(), "other/f", digests)? == OK, "{digests}");
+        assert!(rt;
+            verdict_on_abc(rt.alloc(), "trunk/f", digests)? == verdict,
+            "{digests}"
+        );
+        assert!(rt;
+            verdict_on_abc(rt.alloc(), "other/f", digests)? == OK,
+            "{digests}"
+        );
     }
     Ok(())
 }
@@ -269,7 +275,10 @@ fn the_version_in_force_says_what_a_delta_is(rt: HostRuntime) -> Result<(), Fail
     let dump = thrice(rt.alloc(), file.as_str())?;
     let options = include_trunk(rt.alloc())?;
     for (number, verdict) in [(1, BAD_DIGESTS), (3, OK), (5, BAD_DIGESTS)] {
-        assert!(rt; check(&record(dump.as_bytes(), number)?, &options) == verdict, "{number}");
+        assert!(rt;
+            check(&record(dump.as_bytes(), number)?, &options) == verdict,
+            "{number}"
+        );
     }
     Ok(())
 }
@@ -330,7 +339,12 @@ fn mergeinfo_of_kept_nodes_is_checked(rt: HostRuntime) -> Result<(), Fail> {
 // A record with a property block of these entries.
 fn record_with_entries(alloc: Global, header: &str, entries: &str) -> Result<String, Fail> {
     let length = format!(in alloc; "{}", entries.len().saturating_add(10))?;
-    let lines = ["\nProp-content-length: ", length.as_str(), "\nContent-length: ", length.as_str()];
+    let lines = [
+        "\nProp-content-length: ",
+        length.as_str(),
+        "\nContent-length: ",
+        length.as_str(),
+    ];
     let mut text = String::from_str(alloc, header)?;
     for part in lines {
         text.push_str(part)?;

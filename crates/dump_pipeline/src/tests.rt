@@ -145,7 +145,10 @@ fn nothing_is_written_behind_a_failure(rt: HostRuntime) -> Result<(), Fail> {
 }
 
 // The dump lacks as many bytes as stand behind the first ones.
-const CUT_DUMPS: [(usize, FaultKind); 2] = [(569, FaultKind::HeaderCut), (585, FaultKind::ContentCut)];
+const CUT_DUMPS: [(usize, FaultKind); 2] = [
+    (569, FaultKind::HeaderCut),
+    (585, FaultKind::ContentCut),
+];
 
 #[test]
 fn what_stands_before_a_fault_is_written(rt: HostRuntime) -> Result<(), Fail> {

@@ -91,7 +91,10 @@ fn the_end_is_told_again(rt: HostRuntime) -> Result<(), Fail> {
 #[test]
 fn the_first_record_is_a_version_record(rt: HostRuntime) {
     for dump in [UUID, REVISION] {
-        assert!(rt; ends_behind(dump, 0, Seen::Fault(FaultKind::Version, 0)), "{dump:?}");
+        assert!(rt;
+            ends_behind(dump, 0, Seen::Fault(FaultKind::Version, 0)),
+            "{dump:?}"
+        );
     }
 }
 
@@ -136,7 +139,10 @@ fn no_version_but_two_and_three_is_read(rt: HostRuntime) -> Result<(), Fail> {
         b"SVN-fs-dump-format-version: 1\n\n",
         b"SVN-fs-dump-format-version: x\n\n",
     ] {
-        assert!(rt; ends_behind(dump, 0, Seen::Fault(FaultKind::Version, 0)), "{dump:?}");
+        assert!(rt;
+            ends_behind(dump, 0, Seen::Fault(FaultKind::Version, 0)),
+            "{dump:?}"
+        );
     }
     Ok(())
 }
@@ -209,7 +215,10 @@ fn only_a_node_under_version_three_has_a_delta(rt: HostRuntime) -> Result<(), Fa
         ),
     ];
     for (version, lines, deltas) in rows {
-        assert!(rt; deltas_behind(alloc, version, lines)? == deltas, "{version:?} {lines:?}");
+        assert!(rt;
+            deltas_behind(alloc, version, lines)? == deltas,
+            "{version:?} {lines:?}"
+        );
     }
     Ok(())
 }

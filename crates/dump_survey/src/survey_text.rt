@@ -8,8 +8,8 @@ ghost use Rattle.dump_survey.specs.LinesBehind.{AreLinesBehind, TakesSome, Takes
 
 use crate::as_well::keep_as_well;
 use crate::folders::folders_to_make;
-use crate::survey_lines::{as_well_lines, end_lines, folder_lines, node_lines};
 use crate::memory::Memory;
+use crate::survey_lines::{as_well_lines, end_lines, folder_lines, node_lines};
 use crate::surveyor::{Step, Surveyor};
 use dump_rules::Options;
 use dump_writer::{Chunk, Piece, Sink, write_piece};

@@ -71,7 +71,11 @@ fn lines_are_given_in_their_order(rt: HostRuntime) -> Result<(), Fail> {
     let first = Some(b"a: b".as_slice());
     assert!(rt; block.get(b"Note") == first, "the first of two");
     let rows = [
-        (b"Note".as_slice(), b"a: b".as_slice(), b"Note: a: b".as_slice()),
+        (
+            b"Note".as_slice(),
+            b"a: b".as_slice(),
+            b"Note: a: b".as_slice(),
+        ),
         (b"UUID", b"", b"UUID: "),
         (b"Note", b" c", b"Note:  c"),
     ];
@@ -122,7 +126,10 @@ fn no_block_is_cut_short_or_malformed(rt: HostRuntime) {
         (b"Node-path\n", 0, FaultKind::HeaderCut),
     ];
     for (dump, place, kind) in rows {
-        assert!(rt; Block::cut(dump, place).err() == Some(kind), "{dump:?} at {place}");
+        assert!(rt;
+            Block::cut(dump, place).err() == Some(kind),
+            "{dump:?} at {place}"
+        );
     }
 }
 

@@ -98,7 +98,10 @@ fn a_dump_is_cut_at_each_byte(rt: HostRuntime) -> Result<(), Fail> {
     let options = everything(rt.alloc())?;
     for by in PLANS {
         for count in 0..=CUTTABLE.len() {
-            assert!(rt; is_of_first(&rt, rt.alloc(), &options, by, count)?, "{count}");
+            assert!(rt;
+                is_of_first(&rt, rt.alloc(), &options, by, count)?,
+                "{count}"
+            );
         }
     }
     Ok(())

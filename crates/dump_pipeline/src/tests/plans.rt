@@ -19,6 +19,9 @@ fn plans_in_range_are_made(rt: HostRuntime) {
 #[test]
 fn plans_out_of_range_are_refused(rt: HostRuntime) {
     for (workers, window) in [(0, 1), (1, 0), (65, 1), (1, 4097)] {
-        assert!(rt; Plan::new(workers, window).is_none(), "of {workers} and {window}");
+        assert!(rt;
+            Plan::new(workers, window).is_none(),
+            "of {workers} and {window}"
+        );
     }
 }
