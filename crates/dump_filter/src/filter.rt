@@ -77,7 +77,7 @@ impl<'o, 'a> Filter<'o, 'a> {
         }
     }
 
-    /// What is written where this record comes next. A fault comes before out of memory; after either, each call
+    /// What is written where this record comes next. A fault comes before a lack of memory; after either, each call
     /// answers `Closed`.
     pub fn step(&mut self, alloc: Global, done: Done<'a>) -> Result<Piece<'a>, StepFault>
         requires options { done_settings done ≡ self.old.settings }

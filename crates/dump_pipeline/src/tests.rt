@@ -144,7 +144,7 @@ fn nothing_is_written_behind_a_failure(rt: HostRuntime) -> Result<(), Fail> {
     Ok(())
 }
 
-// The dump lacks as many bytes as stand behind the first ones.
+// To how many bytes the dump is cut, inside its last node, and the fault of that node.
 const CUT_DUMPS: [(usize, FaultKind); 2] = [
     (569, FaultKind::HeaderCut),
     (585, FaultKind::ContentCut),
