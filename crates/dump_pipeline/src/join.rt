@@ -17,21 +17,12 @@ use crate::message::{Checked, Job, NumberedPiece, Run};
 use crate::sequence::{Sequenced, SequencerPort};
 use crate::stage::End;
 use crate::stops::Words;
-use crate::threads::{CutterThread, SequencerThread, WorkerThread, join_workers};
+use crate::threads::{Started, join_workers};
 use crate::work::CheckerPort;
 use crate::write::{WriterPort, Written};
 use dump_lanes::{LaneOut, Ports, Sent, StopSeat};
 use std::snapshot::Snapshot;
 use std::thread::Threads;
-
-/// The threads of a run, and room for the workers' ports.
-#[derive(Drop)]
-pub struct Started<'a, D: Run> {
-    pub sequencer: SequencerThread<'a, D>,
-    pub workers: Vec<WorkerThread<'a, D>>,
-    pub cutter: CutterThread<'a, D>,
-    pub room: Vec<CheckerPort<'a, D>>,
-}
 
 /// What the writer gives back.
 pub type WriterEnd<'a, D> = Written<Job<'a, D>, Checked<'a, D>, NumberedPiece<'a>>;
@@ -40,6 +31,7 @@ pub type WriterEnd<'a, D> = Written<Job<'a, D>, Checked<'a, D>, NumberedPiece<'a
 #[derive(Drop)]
 pub struct Joined<'a, D: Run> {
     pub cutter: Cutting<'a, D>,
+    pub shuts: StopSeat,
     pub workers: Vec<CheckerPort<'a, D>>,
     pub sequencer: SequencerPort<'a, D>,
     pub sequences: StopSeat,
@@ -53,13 +45,14 @@ pub struct Joined<'a, D: Run> {
     pub taken: Snapshot<LaneOut<NumberedPiece<'a>>>,
 }
 
-/// Joins the threads, and settles the lane of pieces.
+/// Joins the threads, with room for the workers' ports, and settles the lane of pieces.
 pub fn join_threads<'a, D: Run, R: Threads>(
     rt: &R,
     started: Started<'a, D>,
+    room: Vec<CheckerPort<'a, D>>,
     written: WriterEnd<'a, D>,
 ) -> Joined<'a, D>
-    requires room { (length started.room.items ≡ 0) × (length started.workers.items ≤ vec_capacity started.room) }
+    requires room { (length room.items ≡ 0) × (length started.workers.items ≤ vec_capacity room) }
     requires lane { (receiving written.from).lane ≡ (sending started.sequencer.promise.ends.value.to).lane }
     requires told { (receiving written.from).told ≡ LaneEnd.Ended }
     ensures items { AreFirstItems (sequenced_numbers result) }
@@ -67,6 +60,7 @@ pub fn join_threads<'a, D: Run, R: Threads>(
     ensures after { IsPrefixOf (written_numbers result) (sequenced_numbers result) }
     ensures all { (receiving result.taken.value).taken ≡ (sent result.put.value).put }
     ensures cutter { HasCutFrom D.dump started.entry.cutter.promise.ends.value result.cutter }
+    ensures shuts { result.shuts ≡ started.entry.shuts }
     ensures worker_pools { map (λ p. (worker_port p).pool) result.workers.items ≡ map (λ h. (worker_port h.promise.port.value).pool) started.entry.workers.items }
     ensures worker_indices { map (λ p. (worker_port p).index) result.workers.items ≡ map (λ h. (worker_port h.promise.port.value).index) started.entry.workers.items }
     ensures worked { All (λ p. HasWorked (worker_port p)) result.workers.items }
@@ -81,7 +75,7 @@ pub fn join_threads<'a, D: Run, R: Threads>(
         sequencer,
         workers,
         cutter,
-        room,
+        shuts,
     } = started;
     let cutter = cutter.join(rt);
     let workers = join_workers(rt, workers, room);
@@ -103,6 +97,7 @@ pub fn join_threads<'a, D: Run, R: Threads>(
     from.settle(sent);
     Joined {
         cutter,
+        shuts,
         workers,
         sequencer,
         sequences,
@@ -118,7 +113,7 @@ pub fn join_threads<'a, D: Run, R: Threads>(
 }
 
 /// The answer, once all threads have ended.
-pub fn conclude<'a, D: Run>(words: &Words, joined: Joined<'a, D>, shuts: StopSeat) -> Answer
+pub fn conclude<'a, D: Run>(words: &Words, joined: Joined<'a, D>) -> Answer
     requires workers { AreWorkersOf (job_port joined.cutter.port).pool (job_port joined.cutter.port).workers (map (λ p. worker_port p) joined.workers.items) }
     requires worked { All (λ p. HasWorked (worker_port p)) joined.workers.items }
     requires closed { (job_port joined.cutter.port).marks ≡ (job_port joined.cutter.port).workers }
@@ -132,9 +127,9 @@ pub fn conclude<'a, D: Run>(words: &Words, joined: Joined<'a, D>, shuts: StopSea
     requires stops { (joined.cutter.seat.word ≡ words.now.stop) × (joined.sequences.word ≡ words.now.stop) × (joined.writes.word ≡ words.now.stop) }
     requires shares { joined.cutter.seat.share + joined.sequences.share + joined.writes.share ≡ 4 }
     requires raised { (joined.cutter.seat.raised ≡ false) × (joined.sequences.raised ≡ is_failure joined.end) × (joined.writes.raised ≡ joined.failed) }
-    requires shut { (joined.cutter.shut.word ≡ words.now.shut) × (shuts.word ≡ words.now.shut) }
-    requires shut_shares { joined.cutter.shut.share + shuts.share ≡ 4 }
-    requires unshut { (joined.cutter.shut.raised ≡ false) × (shuts.raised ≡ false) }
+    requires shut { (joined.cutter.shut.word ≡ words.now.shut) × (joined.shuts.word ≡ words.now.shut) }
+    requires shut_shares { joined.cutter.shut.share + joined.shuts.share ≡ 4 }
+    requires unshut { (joined.cutter.shut.raised ≡ false) × (joined.shuts.raised ≡ false) }
     ensures answer { (first now : Option (List ℕ)) → HasReceived joined.entry.failed (text_of (receiving joined.entry.taken.value).taken) first now joined.entry.count
         → RunLeaves D.settings D.dump first now result }
     ensures failures { (first now : ℕ) → CountsFailed joined.entry.failed first now → SinkFailsOnly first now result }
@@ -144,6 +139,7 @@ pub fn conclude<'a, D: Run>(words: &Words, joined: Joined<'a, D>, shuts: StopSea
 {
     let Joined {
         cutter,
+        shuts,
         workers,
         sequencer,
         sequences,

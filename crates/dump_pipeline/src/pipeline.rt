@@ -12,12 +12,12 @@ ghost use Rattle.dump_pipeline.specs.steps.Parts.{HasRun};
 
 use crate::answer::{Answer, Failure};
 use crate::gate::Gate;
-use crate::join::{Started, conclude, join_threads};
+use crate::join::{conclude, join_threads};
 use crate::make::{Ends, Given, make};
 use crate::message::Run;
 use crate::plan::Plan;
 use crate::stops::Words;
-use crate::threads::{Crew, start_cutter, start_sequencer, start_workers};
+use crate::threads::{Task, start};
 use crate::write::write;
 use dump_rules::Options;
 use dump_writer::Sink;
@@ -41,14 +41,6 @@ const REFUSED: Answer = Answer::Failed {
     written: 0,
 };
 
-// What a run works on: the dump, the options, and the gate that each worker passes.
-#[derive(Drop)]
-struct Task<'s, 'a, G> {
-    dump: &'a [u8],
-    options: &'a Options,
-    gate: &'s G,
-}
-
 // Runs all threads to their ends.
 fn run_in<
     's,
@@ -70,48 +62,25 @@ fn run_in<
 ) -> Held<'b, S>
     requires dump { task.dump.now ≡ D.dump }
     requires options { task.options.now ≡ D.settings }
-    requires words { (ends.cutter.seat.word ≡ words.now.stop) × (ends.cutter.shut.word ≡ words.now.shut) }
+    requires words { (ends.threads.cutter.seat.word ≡ words.now.stop) × (ends.threads.cutter.shut.word ≡ words.now.shut) }
     ensures same { result.sink.ghost_name ≡ held.entry.sink.ghost_name }
     ensures through { S.through result.sink.now ≡ S.through held.entry.sink.now }
     ensures ran { HasRun D.settings D.dump (S.taken held.entry.sink.now) (S.taken result.sink.now) (S.failure_count held.entry.sink.now) (S.failure_count result.sink.now) result.answer }
 {
     let Held { sink, answer: _ } = held;
     let Ends {
-        pool: _,
-        cutter,
-        workers,
-        sequencer,
+        threads,
         writer,
-        mut shuts,
-        room,
         ended,
+        ..
     } = ends;
-    let Task {
-        dump,
-        options,
-        gate,
-    } = task;
-    let answer = REFUSED;
-    let Some(sequencer) = start_sequencer(scope, rt, alloc, options, words, sequencer) else {
-        return Held { sink, answer };
-    };
-    let Some(Crew { workers, cutter }) = start_workers(
-        scope, rt, options, gate, workers, room, cutter,
-    ) else {
-        return Held { sink, answer };
-    };
-    let Some(cutter) = start_cutter(scope, rt, dump, words, cutter, &mut shuts) else {
+    let Some(started) = start(scope, rt, alloc, task, words, threads) else {
+        let answer = REFUSED;
         return Held { sink, answer };
     };
     let written = write(rt, writer, &words.stop, sink);
-    let started = Started {
-        sequencer,
-        workers,
-        cutter,
-        room: ended,
-    };
-    let joined = join_threads(rt, started, written);
-    let answer = conclude(words, joined, shuts);
+    let joined = join_threads(rt, started, ended, written);
+    let answer = conclude(words, joined);
     Held { sink, answer }
 }
 
@@ -126,7 +95,7 @@ fn run_scoped<'s, 'a, 'b, D: Run + Send + Sync, S: Sink, G: Gate, R: Threads + W
 ) -> Held<'b, S>
     requires dump { task.dump.now ≡ D.dump }
     requires options { task.options.now ≡ D.settings }
-    requires words { (ends.cutter.seat.word ≡ words.now.stop) × (ends.cutter.shut.word ≡ words.now.shut) }
+    requires words { (ends.threads.cutter.seat.word ≡ words.now.stop) × (ends.threads.cutter.shut.word ≡ words.now.shut) }
     ensures same { result.sink.ghost_name ≡ held.entry.sink.ghost_name }
     ensures through { S.through result.sink.now ≡ S.through held.entry.sink.now }
     ensures ran { HasRun D.settings D.dump (S.taken held.entry.sink.now) (S.taken result.sink.now) (S.failure_count held.entry.sink.now) (S.failure_count result.sink.now) result.answer }
@@ -137,7 +106,7 @@ fn run_scoped<'s, 'a, 'b, D: Run + Send + Sync, S: Sink, G: Gate, R: Threads + W
         move |scope| -> Held<S>
             requires dump { task.dump.now ≡ D.dump }
             requires options { task.options.now ≡ D.settings }
-            requires words { (ends.cutter.seat.word ≡ words.now.stop) × (ends.cutter.shut.word ≡ words.now.shut) }
+            requires words { (ends.threads.cutter.seat.word ≡ words.now.stop) × (ends.threads.cutter.shut.word ≡ words.now.shut) }
             ensures same { result.sink.ghost_name ≡ held.entry.sink.ghost_name }
             ensures through { S.through result.sink.now ≡ S.through held.entry.sink.now }
             ensures ran { HasRun D.settings D.dump (S.taken held.entry.sink.now) (S.taken result.sink.now) (S.failure_count held.entry.sink.now) (S.failure_count result.sink.now) result.answer }

@@ -32,8 +32,8 @@ impl<'a, D: Run> Promise<SequencerEnd<'a, D>> for SequencerOf<'a, D> {
 /// The sequencer's thread.
 pub type SequencerThread<'a, D> = PromisedHandle<SequencerEnd<'a, D>, SequencerOf<'a, D>>;
 
-/// Starts the sequencer's thread, unless it is refused.
-pub fn start_sequencer<'s, 'a: 's, E: 's, D: Run + Send + Sync + 's, R: Wait + Sync + 's>(
+// Starts the sequencer's thread, unless it is refused.
+fn start_sequencer<'s, 'a: 's, E: 's, D: Run + Send + Sync + 's, R: Wait + Sync + 's>(
     scope: &'s Scope<'s, E>,
     rt: &'s R,
     alloc: Global,
@@ -112,22 +112,15 @@ fn start_worker<'s, 'a: 's, E: 's, D: Run + Send + Sync + 's, G: Gate + 's, R: W
     }
 }
 
-/// The workers that were started, and the cutter's ends.
+// The workers that were started, and the cutter's ends.
 #[derive(Drop)]
-pub struct Crew<'a, D: Run> {
-    pub workers: Vec<WorkerThread<'a, D>>,
-    pub cutter: Cutting<'a, D>,
+struct Crew<'a, D: Run> {
+    workers: Vec<WorkerThread<'a, D>>,
+    cutter: Cutting<'a, D>,
 }
 
-/// Starts the workers' threads. Where one is refused all end.
-pub fn start_workers<
-    's,
-    'a: 's,
-    E: 's,
-    D: Run + Send + Sync + 's,
-    G: Gate + 's,
-    R: Wait + Sync + 's,
->(
+// Starts the workers' threads. Where one is refused all end.
+fn start_workers<'s, 'a: 's, E: 's, D: Run + Send + Sync + 's, G: Gate + 's, R: Wait + Sync + 's>(
     scope: &'s Scope<'s, E>,
     rt: &'s R,
     options: &'a Options,
@@ -168,8 +161,8 @@ impl<'a, D: Run> Promise<Cutting<'a, D>> for CutterOf<'a, D> {
 /// The cutter's thread.
 pub type CutterThread<'a, D> = PromisedHandle<Cutting<'a, D>, CutterOf<'a, D>>;
 
-/// Starts the cutter's thread. Where it is refused it is shut, and ends in this thread.
-pub fn start_cutter<'s, 'a: 's, E: 's, D: Run + Send + Sync + 's, R: Wait + Sync + 's>(
+// Starts the cutter's thread. Where it is refused it is shut, and ends in this thread.
+fn start_cutter<'s, 'a: 's, E: 's, D: Run + Send + Sync + 's, R: Wait + Sync + 's>(
     scope: &'s Scope<'s, E>,
     rt: &'s R,
     dump: &'a [u8],
@@ -201,6 +194,78 @@ pub fn start_cutter<'s, 'a: 's, E: 's, D: Run + Send + Sync + 's, R: Wait + Sync
             None
         }
     }
+}
+
+/// What a run works on: the dump, the options, and the gate that each worker passes.
+#[derive(Drop)]
+pub struct Task<'s, 'a, G> {
+    pub dump: &'a [u8],
+    pub options: &'a Options,
+    pub gate: &'s G,
+}
+
+/// What the threads but the writer are given, with room for the workers' threads, and the seat that shuts the cutter.
+#[derive(Drop)]
+pub struct ThreadEnds<'a, D: Run> {
+    pub sequencer: Sequencing<'a, D>,
+    pub workers: Vec<CheckerPort<'a, D>>,
+    pub cutter: Cutting<'a, D>,
+    pub shuts: StopSeat,
+    pub room: Vec<WorkerThread<'a, D>>,
+}
+
+/// The threads of a run, and the seat that would have shut the cutter.
+#[derive(Drop)]
+pub struct Started<'a, D: Run> {
+    pub sequencer: SequencerThread<'a, D>,
+    pub workers: Vec<WorkerThread<'a, D>>,
+    pub cutter: CutterThread<'a, D>,
+    pub shuts: StopSeat,
+}
+
+/// Starts all threads but the writer. Where one is refused all end.
+pub fn start<'s, 'a: 's, E: 's, D: Run + Send + Sync + 's, G: Gate + 's, R: Wait + Sync + 's>(
+    scope: &'s Scope<'s, E>,
+    rt: &'s R,
+    alloc: Global,
+    task: Task<'s, 'a, G>,
+    words: &'s Words,
+    ends: ThreadEnds<'a, D>,
+) -> Option<Started<'a, D>>
+    requires dump { task.dump.now ≡ D.dump }
+    requires options { task.options.now ≡ D.settings }
+    requires sequencer { IsFreshSequencer words.now ends.sequencer }
+    requires workers { All (λ p. IsFreshWorker p) ends.workers.items }
+    requires room { (length ends.room.items ≡ 0) × (length ends.workers.items ≤ vec_capacity ends.room) }
+    requires cutter { IsFreshCutter words.now ends.cutter }
+    requires shuts { ends.shuts.word ≡ words.now.shut }
+    ensures sequencer { IfSome result (λ started. started.sequencer.promise.ends.value ≡ ends.entry.sequencer) }
+    ensures pool { IfSome result (λ started. map (λ h. (worker_port h.promise.port.value).pool) started.workers.items ≡ map (λ p. (worker_port p).pool) ends.entry.workers.items) }
+    ensures index { IfSome result (λ started. map (λ h. (worker_port h.promise.port.value).index) started.workers.items ≡ map (λ p. (worker_port p).index) ends.entry.workers.items) }
+    ensures cutter { IfSome result (λ started. started.cutter.promise.ends.value ≡ ends.entry.cutter) }
+    ensures shuts { IfSome result (λ started. started.shuts ≡ ends.entry.shuts) }
+{
+    let ThreadEnds {
+        sequencer,
+        workers,
+        cutter,
+        mut shuts,
+        room,
+    } = ends;
+    let Task {
+        dump,
+        options,
+        gate,
+    } = task;
+    let sequencer = start_sequencer(scope, rt, alloc, options, words, sequencer)?;
+    let Crew { workers, cutter } = start_workers(scope, rt, options, gate, workers, room, cutter)?;
+    let cutter = start_cutter(scope, rt, dump, words, cutter, &mut shuts)?;
+    Some(Started {
+        sequencer,
+        workers,
+        cutter,
+        shuts,
+    })
 }
 
 // Joins a worker.
