@@ -28,30 +28,44 @@ const TAG_OF_3: &[u8] =
 const TAG_OF_1: &[u8] =
     b"Node-path: trunk/tag\nNode-kind: dir\nNode-action: add\nNode-copyfrom-rev: 1\nNode-copyfrom-path: trunk\n\n\n\n";
 
-// A revision's number, and the node in it.
-type Group = (&'static [u8], &'static [u8]);
-
 // The copy is of `trunk` as it was in revision 3, whose own node isn't under it.
-const DUMP: [Group; 5] = [
-    (b"0", b""),
-    (b"1", X),
-    (b"2", TRUNK),
-    (b"3", X_Y),
-    (b"4", TAG_OF_3),
+const DUMP: [&[u8]; 15] = [
+    VERSION,
+    b"Revision-number: 0",
+    PROPERTIES,
+    b"Revision-number: 1",
+    PROPERTIES,
+    X,
+    b"Revision-number: 2",
+    PROPERTIES,
+    TRUNK,
+    b"Revision-number: 3",
+    PROPERTIES,
+    X_Y,
+    b"Revision-number: 4",
+    PROPERTIES,
+    TAG_OF_3,
 ];
 
 // Revisions 1 and 3 are gone.
-const KEPT: [Group; 3] = [(b"0", b""), (b"1", TRUNK), (b"2", TAG_OF_1)];
+const KEPT: [&[u8]; 9] = [
+    VERSION,
+    b"Revision-number: 0",
+    PROPERTIES,
+    b"Revision-number: 1",
+    PROPERTIES,
+    TRUNK,
+    b"Revision-number: 2",
+    PROPERTIES,
+    TAG_OF_1,
+];
 
-fn of_groups(alloc: Global, groups: &[Group]) -> Result<Vec<u8>, AllocError> {
-    let mut dump = Vec::from_slice(alloc, VERSION)?;
-    for (number, node) in groups {
-        dump.extend_from_slice(b"Revision-number: ")?;
-        dump.extend_from_slice(number)?;
-        dump.extend_from_slice(PROPERTIES)?;
-        dump.extend_from_slice(node)?;
+fn joined(alloc: Global, parts: &[&[u8]]) -> Result<Vec<u8>, AllocError> {
+    let mut whole = Vec::with_capacity(alloc, 1200)?;
+    for part in parts {
+        whole.extend_from_slice(part)?;
     }
-    Ok(dump)
+    Ok(whole)
 }
 
 const COUNTS: Report = Report {
@@ -83,10 +97,10 @@ fn leaves_first_part<R: Threads + Wait + Sync>(
 // Run with each allocation and each start refused in turn.
 #[test]
 fn copies_are_renumbered_or_no_memory(rt: HostRuntime) -> Result<(), Fail> {
-    let Ok(dump) = of_groups(rt.alloc(), &DUMP) else {
+    let Ok(dump) = joined(rt.alloc(), &DUMP) else {
         return Ok(());
     };
-    let Ok(kept) = of_groups(rt.alloc(), &KEPT) else {
+    let Ok(kept) = joined(rt.alloc(), &KEPT) else {
         return Ok(());
     };
     for by in [None, Some((2, 4))] {
