@@ -86,22 +86,26 @@ fn include_trunk(alloc: Global) -> Result<Options, Fail> {
     Ok(options)
 }
 
+// Whether a record of the dump above has this place, and this verdict.
+fn is_done(alloc: Global, number: u64, place: usize, verdict: Verdict) -> Result<bool, Fail> {
+    let item = record(DUMP, number)?;
+    let options = include_trunk(alloc)?;
+    let done = Done::of(item, &options);
+    Ok(done.verdict() == verdict && (done.item().number(), done.item().place()) == (number, place))
+}
+
 #[test]
 fn a_done_keeps_its_record_and_verdict(rt: HostRuntime) -> Result<(), Fail> {
-    let options = include_trunk(rt.alloc())?;
-    let done = Done::of(record(DUMP, UUID)?, &options);
-    assert!(rt; done.verdict() == OK);
-    assert!(rt; (done.item().number(), done.item().place()) == (1, 31));
-    let done = Done::of(record(DUMP, REVISION)?, &options);
-    assert!(rt; done.verdict() == BAD_PROPERTIES);
-    assert!(rt; (done.item().number(), done.item().place()) == (2, 40));
+    assert!(rt; is_done(rt.alloc(), UUID, 31, OK)?);
+    assert!(rt; is_done(rt.alloc(), REVISION, 40, BAD_PROPERTIES)?);
     Ok(())
 }
 
-/// The verdict on the record of the dump above with this number.
-fn verdict_on_record(alloc: Global, number: u64) -> Result<Verdict, Fail> {
+/// The verdict on the record of a dump with this number.
+fn verdict_in(alloc: Global, dump: &[u8], number: u64) -> Result<Verdict, Fail> {
+    let item = record(dump, number)?;
     let options = include_trunk(alloc)?;
-    Ok(check(&record(DUMP, number)?, &options))
+    Ok(check(&item, &options))
 }
 
 #[test]
@@ -114,41 +118,60 @@ fn properties_of_revisions_and_of_kept_nodes_are_checked(rt: HostRuntime) -> Res
         (OTHER_BAD_NODE, OK),
     ] {
         assert!(rt;
-            verdict_on_record(rt.alloc(), number)? == verdict,
+            verdict_in(rt.alloc(), DUMP, number)? == verdict,
             "{number}"
         );
     }
     Ok(())
 }
 
+// Whether the record of the dump above with this number is a kept node.
+fn is_kept_node(alloc: Global, number: u64) -> Result<bool, Fail> {
+    let item = record(DUMP, number)?;
+    let options = include_trunk(alloc)?;
+    Ok(is_kept(&item, &options))
+}
+
 #[test]
 fn nodes_are_kept_by_their_paths(rt: HostRuntime) -> Result<(), Fail> {
-    let options = include_trunk(rt.alloc())?;
-    assert!(rt; is_kept(&record(DUMP, BAD_NODE)?, &options));
-    assert!(rt; !is_kept(&record(DUMP, OTHER_BAD_NODE)?, &options));
-    assert!(rt; !is_kept(&record(DUMP, REVISION)?, &options));
+    assert!(rt; is_kept_node(rt.alloc(), BAD_NODE)?);
+    assert!(rt; !is_kept_node(rt.alloc(), OTHER_BAD_NODE)?);
+    assert!(rt; !is_kept_node(rt.alloc(), REVISION)?);
     Ok(())
 }
 
+fn joined(alloc: Global, parts: &[&str]) -> Result<String, Fail> {
+    let mut text = String::new(alloc);
+    for part in parts {
+        text.push_str(part)?;
+    }
+    Ok(text)
+}
+
 // The verdict on the record that is alone in a dump of this version.
-fn verdict_under(alloc: Global, version: u64, text: &str) -> Result<Verdict, Fail> {
-    let options = include_trunk(alloc)?;
-    let dump = format!(in alloc; "SVN-fs-dump-format-version: {version}\n\n{text}")?;
-    Ok(check(&record(dump.as_bytes(), 1)?, &options))
+fn verdict_under(alloc: Global, version: &str, text: &str) -> Result<Verdict, Fail> {
+    let dump = joined(
+        alloc,
+        &["SVN-fs-dump-format-version: ", version, "\n\n", text],
+    )?;
+    verdict_in(alloc, dump.as_bytes(), 1)
 }
 
 // The verdict on the record that is alone in a dump of version 2.
 fn verdict_on(alloc: Global, text: &str) -> Result<Verdict, Fail> {
-    verdict_under(alloc, 2, text)
+    verdict_under(alloc, "2", text)
 }
 
 // A file with the text `abc` and these lines.
 fn abc_file(alloc: Global, path: &str, lines: &str) -> Result<String, Fail> {
-    let file = format!(in alloc;
-        "Node-path: {path}\nNode-kind: file\nNode-action: add\n\
-Text-content-length: 3\n{lines}Content-length: 3\n\nabc\n\n"
-    )?;
-    Ok(file)
+    let parts = [
+        "Node-path: ",
+        path,
+        "\nNode-kind: file\nNode-action: add\nText-content-length: 3\n",
+        lines,
+        "Content-length: 3\n\nabc\n\n",
+    ];
+    joined(alloc, &parts)
 }
 
 // The verdict on a file with the text `abc` and these digest lines.
@@ -229,56 +252,53 @@ fn both_digests_are_told(rt: HostRuntime) -> Result<(), Fail> {
     Ok(())
 }
 
+// The verdict on a file with the text `abc`, these digests and this line on deltas, under a version.
+fn verdict_on_delta(
+    alloc: Global,
+    version: &str,
+    delta: &str,
+    digests: &str,
+) -> Result<Verdict, Fail> {
+    let lines = joined(alloc, &[delta, digests])?;
+    let file = abc_file(alloc, "trunk/f", lines.as_str())?;
+    verdict_under(alloc, version, file.as_str())
+}
+
 #[test]
 fn deltas_are_not_digested(rt: HostRuntime) -> Result<(), Fail> {
-    let alloc = rt.alloc();
     let rows = [
-        (3, "Text-delta: true\n", OK, OK),
-        (3, "Text-delta: false\n", CHECKED, BAD_DIGESTS),
-        (3, "Prop-delta: true\n", CHECKED, BAD_DIGESTS),
-        (3, "", CHECKED, BAD_DIGESTS),
-        (2, "Text-delta: true\n", CHECKED, BAD_DIGESTS),
-        (2, "Text-delta: false\n", CHECKED, BAD_DIGESTS),
+        ("3", "Text-delta: true\n", OK, OK),
+        ("3", "Text-delta: false\n", CHECKED, BAD_DIGESTS),
+        ("3", "Prop-delta: true\n", CHECKED, BAD_DIGESTS),
+        ("3", "", CHECKED, BAD_DIGESTS),
+        ("2", "Text-delta: true\n", CHECKED, BAD_DIGESTS),
+        ("2", "Text-delta: false\n", CHECKED, BAD_DIGESTS),
     ];
     for (version, delta, right, wrong) in rows {
-        for (digests, verdict) in [(RIGHT_DIGESTS, right), (WRONG_DIGESTS, wrong)] {
-            let lines = format!(in alloc; "{delta}{digests}")?;
-            let file = abc_file(alloc, "trunk/f", lines.as_str())?;
-            let found = verdict_under(alloc, version, file.as_str())?;
-            assert!(rt; found == verdict, "{version} {lines}");
-        }
+        let found = verdict_on_delta(rt.alloc(), version, delta, RIGHT_DIGESTS)?;
+        assert!(rt; found == right, "{version} {delta}");
+        let found = verdict_on_delta(rt.alloc(), version, delta, WRONG_DIGESTS)?;
+        assert!(rt; found == wrong, "{version} {delta}");
     }
     Ok(())
 }
 
-// A delta with wrong digests.
-fn wrong_delta(alloc: Global) -> Result<String, Fail> {
-    let lines = format!(in alloc; "Text-delta: true\n{WRONG_DIGESTS}")?;
-    abc_file(alloc, "trunk/f", lines.as_str())
-}
-
-// A file under version 2, then 3, then 2 again.
-fn thrice(alloc: Global, file: &str) -> Result<String, Fail> {
-    let mut dump = String::new(alloc);
-    for version in ["2", "3", "2"] {
-        dump.push_str("SVN-fs-dump-format-version: ")?;
-        dump.push_str(version)?;
-        dump.push_str("\n\n")?;
-        dump.push_str(file)?;
-    }
-    Ok(dump)
+// A delta with wrong digests, under version 2, then 3, then 2 again.
+fn thrice(alloc: Global) -> Result<String, Fail> {
+    let lines = joined(alloc, &["Text-delta: true\n", WRONG_DIGESTS])?;
+    let file = abc_file(alloc, "trunk/f", lines.as_str())?;
+    let two = "SVN-fs-dump-format-version: 2\n\n";
+    let three = "SVN-fs-dump-format-version: 3\n\n";
+    let parts = [two, file.as_str(), three, file.as_str(), two, file.as_str()];
+    joined(alloc, &parts)
 }
 
 #[test]
 fn the_version_in_force_says_what_a_delta_is(rt: HostRuntime) -> Result<(), Fail> {
-    let file = wrong_delta(rt.alloc())?;
-    let dump = thrice(rt.alloc(), file.as_str())?;
-    let options = include_trunk(rt.alloc())?;
+    let dump = thrice(rt.alloc())?;
     for (number, verdict) in [(1, BAD_DIGESTS), (3, OK), (5, BAD_DIGESTS)] {
-        assert!(rt;
-            check(&record(dump.as_bytes(), number)?, &options) == verdict,
-            "{number}"
-        );
+        let found = verdict_in(rt.alloc(), dump.as_bytes(), number)?;
+        assert!(rt; found == verdict, "{number}");
     }
     Ok(())
 }
@@ -305,10 +325,12 @@ fn verdict_on_values(
     second: &str,
     end: &str,
 ) -> Result<Verdict, Fail> {
-    let text = format!(in alloc;
-        "{header}\nProp-content-length: 74\nContent-length: 74\n\n\
-K 13\nsvn:mergeinfo\nV 8\n{first}\nK 13\nsvn:mergeinfo\nV 8\n{second}\n{end}\n"
-    )?;
+    let name = "K 13\nsvn:mergeinfo\nV 8\n";
+    let lengths = "\nProp-content-length: 74\nContent-length: 74\n\n";
+    let parts = [
+        header, lengths, name, first, "\n", name, second, "\n", end, "\n",
+    ];
+    let text = joined(alloc, &parts)?;
     verdict_on(alloc, text.as_str())
 }
 
@@ -339,51 +361,83 @@ fn mergeinfo_of_kept_nodes_is_checked(rt: HostRuntime) -> Result<(), Fail> {
 // A record with a property block of these entries.
 fn record_with_entries(alloc: Global, header: &str, entries: &str) -> Result<String, Fail> {
     let length = format!(in alloc; "{}", entries.len().saturating_add(10))?;
-    let lines = [
+    let parts = [
+        header,
         "\nProp-content-length: ",
         length.as_str(),
         "\nContent-length: ",
         length.as_str(),
+        "\n\n",
+        entries,
+        "PROPS-END\n\n",
     ];
-    let mut text = String::from_str(alloc, header)?;
-    for part in lines {
-        text.push_str(part)?;
-    }
-    for part in ["\n\n", entries, "PROPS-END\n\n"] {
-        text.push_str(part)?;
-    }
-    Ok(text)
+    joined(alloc, &parts)
+}
+
+// The verdict on such a record under a version.
+fn verdict_on_entries(
+    alloc: Global,
+    version: &str,
+    header: &str,
+    entries: &str,
+) -> Result<Verdict, Fail> {
+    let item = record_with_entries(alloc, header, entries)?;
+    verdict_under(alloc, version, item.as_str())
 }
 
 #[test]
 fn nodes_under_version_three_may_delete_properties(rt: HostRuntime) -> Result<(), Fail> {
-    let alloc = rt.alloc();
     let kept = "Node-path: trunk";
     let rows = [
-        (3, kept, OK),
-        (3, "Node-path: trunk\nProp-delta: true", OK),
-        (3, "Revision-number: 1", BAD_PROPERTIES),
-        (3, "Node-path: tags", OK),
-        (2, kept, BAD_PROPERTIES),
-        (2, "Node-path: trunk\nProp-delta: true", BAD_PROPERTIES),
-        (2, "Revision-number: 1", BAD_PROPERTIES),
-        (2, "Node-path: tags", OK),
+        ("3", kept, OK),
+        ("3", "Node-path: trunk\nProp-delta: true", OK),
+        ("3", "Revision-number: 1", BAD_PROPERTIES),
+        ("3", "Node-path: tags", OK),
+        ("2", kept, BAD_PROPERTIES),
+        ("2", "Node-path: trunk\nProp-delta: true", BAD_PROPERTIES),
+        ("2", "Revision-number: 1", BAD_PROPERTIES),
+        ("2", "Node-path: tags", OK),
     ];
     for (version, header, verdict) in rows {
-        let deleting = record_with_entries(alloc, header, "K 1\na\nV 1\nb\nD 1\nc\n")?;
-        let found = verdict_under(alloc, version, deleting.as_str())?;
+        let deleting = "K 1\na\nV 1\nb\nD 1\nc\n";
+        let found = verdict_on_entries(rt.alloc(), version, header, deleting)?;
         assert!(rt; found == verdict, "{version} {header}");
-        let setting = record_with_entries(alloc, header, "K 1\na\nV 1\nb\n")?;
-        let found = verdict_under(alloc, version, setting.as_str())?;
+        let found = verdict_on_entries(rt.alloc(), version, header, "K 1\na\nV 1\nb\n")?;
         assert!(rt; found == OK, "{version} {header}");
     }
     Ok(())
 }
 
+// Whether the first property is mergeinfo, and whether some property is.
+fn has_mergeinfo(done: &Done<'_>, first: bool, some: bool) -> bool {
+    let Some(props) = done.props() else {
+        return false;
+    };
+    match props.entries().next() {
+        Some(entry) => is_mergeinfo(&entry) == first && done.has_mergeinfo() == some,
+        None => false,
+    }
+}
+
+// Whether a kept node under version 3 with these entries has this verdict, and mergeinfo so.
+fn is_deleting(
+    alloc: Global,
+    entries: &[&str],
+    first: bool,
+    some: bool,
+    verdict: Verdict,
+) -> Result<bool, Fail> {
+    let entries = joined(alloc, entries)?;
+    let node = record_with_entries(alloc, "Node-path: trunk", entries.as_str())?;
+    let dump = joined(alloc, &["SVN-fs-dump-format-version: 3\n\n", node.as_str()])?;
+    let item = record(dump.as_bytes(), 1)?;
+    let options = include_trunk(alloc)?;
+    let done = Done::of(item, &options);
+    Ok(done.verdict() == verdict && has_mergeinfo(&done, first, some))
+}
+
 #[test]
 fn deleted_mergeinfo_is_none(rt: HostRuntime) -> Result<(), Fail> {
-    let alloc = rt.alloc();
-    let options = include_trunk(alloc)?;
     let deleted = "D 13\nsvn:mergeinfo\n";
     let set = "K 13\nsvn:mergeinfo\nV 8\n/trunk:1\n";
     let bad = "K 13\nsvn:mergeinfo\nV 8\n/trunk:0\n";
@@ -395,15 +449,8 @@ fn deleted_mergeinfo_is_none(rt: HostRuntime) -> Result<(), Fail> {
         (deleted, bad, false, false, BAD_MERGEINFO),
     ];
     for (first, second, first_is, has, verdict) in rows {
-        let entries = format!(in alloc; "{first}{second}")?;
-        let node = record_with_entries(alloc, "Node-path: trunk", entries.as_str())?;
-        let dump = format!(in alloc; "SVN-fs-dump-format-version: 3\n\n{node}")?;
-        let done = Done::of(record(dump.as_bytes(), 1)?, &options);
-        assert!(rt; done.verdict() == verdict, "{entries}");
-        assert!(rt; done.has_mergeinfo() == has, "{entries}");
-        let props = done.props().ok_or("no properties")?;
-        let entry = props.entries().next().ok_or("no entry")?;
-        assert!(rt; is_mergeinfo(&entry) == first_is, "{entries}");
+        let told = is_deleting(rt.alloc(), &[first, second], first_is, has, verdict)?;
+        assert!(rt; told, "{first}{second}");
     }
     Ok(())
 }
@@ -422,26 +469,27 @@ fn is_read(done: &Done<'_>) -> bool {
         && done.merge_fault(2, 3) == range
 }
 
-fn assert_has_mergeinfo(rt: &impl Abort, done: &Done<'_>) -> Result<(), Fail> {
-    let props = done.props().ok_or("no properties")?;
-    assert!(rt; props.get(b"svn:mergeinfo") == Some(b"/trunk:2-4".as_slice()));
-    Ok(())
+fn has_copied_mergeinfo(done: &Done<'_>) -> bool {
+    match done.props() {
+        Some(props) => props.get(b"svn:mergeinfo") == Some(b"/trunk:2-4".as_slice()),
+        None => false,
+    }
 }
 
-fn assert_is_dropped(rt: &impl Abort, done: &Done<'_>) {
-    assert!(rt; !done.is_kept() && done.props().is_none());
+fn is_dropped(done: &Done<'_>) -> bool {
+    !done.is_kept() && done.props().is_none()
 }
 
 #[test]
 fn a_done_tells_what_its_check_read(rt: HostRuntime) -> Result<(), Fail> {
+    let version = "SVN-fs-dump-format-version: 2\n\n";
+    let dump = joined(rt.alloc(), &[version, COPY, "Node-path: tags\n\n\n"])?;
+    let kept = record(dump.as_bytes(), 1)?;
+    let other = record(dump.as_bytes(), 2)?;
     let (side, prefixes) = (Side::Include, [b"trunk".as_slice()]);
     let options = Options::new(rt.alloc(), side, &prefixes, Empty::Pad, true, false, false)?;
-    let dump = format!(in rt.alloc();
-        "SVN-fs-dump-format-version: 2\n\n{COPY}Node-path: tags\n\n\n"
-    )?;
-    let done = Done::of(record(dump.as_bytes(), 1)?, &options);
-    assert!(rt; is_read(&done));
-    assert_has_mergeinfo(&rt, &done)?;
-    assert_is_dropped(&rt, &Done::of(record(dump.as_bytes(), 2)?, &options));
+    let done = Done::of(kept, &options);
+    assert!(rt; is_read(&done) && has_copied_mergeinfo(&done));
+    assert!(rt; is_dropped(&Done::of(other, &options)));
     Ok(())
 }

@@ -16,8 +16,6 @@ use dump_rules::{Empty, Memory, Options, Side};
 use dump_text::FaultKind;
 use dump_writer::{Chunk, Piece};
 use std::alloc::{AllocError, Global};
-use std::process::Abort;
-use std::test::Fail;
 
 // What is asked of the filter.
 #[derive(Clone, Copy)]
@@ -57,14 +55,19 @@ struct Written {
     text: Vec<u8>,
     lengths: Vec<usize>,
     made: u64,
+    // Whether the filter expected each record, and stayed closed behind a fault.
+    sound: bool,
 }
 
 impl Written {
     fn new(alloc: Global) -> Result<Written, AllocError> {
+        let text = Vec::with_capacity(alloc, 1000)?;
+        let lengths = Vec::with_capacity(alloc, 12)?;
         Ok(Written {
-            text: Vec::with_capacity(alloc, 1000)?,
-            lengths: Vec::with_capacity(alloc, 12)?,
+            text,
+            lengths,
             made: 0,
+            sound: true,
         })
     }
 
@@ -77,6 +80,36 @@ impl Written {
         }
         self.lengths.push(self.text.len())?;
         Ok(())
+    }
+
+    fn note(&mut self, holds: bool) {
+        if !holds {
+            self.sound = false;
+        }
+    }
+
+    // Whether these parts were written, and nothing else.
+    fn is_of(&self, parts: &[&[u8]]) -> bool {
+        let mut text = self.text.as_slice();
+        for part in parts {
+            match text.strip_prefix(*part) {
+                Some(rest) => text = rest,
+                None => return false,
+            }
+        }
+        text.is_empty()
+    }
+
+    // Whether what was written is a front of these parts.
+    fn begins(&self, parts: &[&[u8]]) -> bool {
+        let mut text = self.text.as_slice();
+        for part in parts {
+            match text.strip_prefix(*part) {
+                Some(rest) => text = rest,
+                None => return part.starts_with(text),
+            }
+        }
+        text.is_empty()
     }
 }
 
@@ -141,7 +174,6 @@ fn report(counts: (u64, u64, u64, u64)) -> Report {
 // Takes the next record through the filter, and writes its piece. The error is `None` where no record is left, and else
 // the fault behind which the filter is closed.
 fn pass<'a>(
-    rt: &impl Abort,
     alloc: Global,
     cutter: &mut Cutter<'a>,
     filter: &mut Filter<'a, 'a>,
@@ -158,17 +190,18 @@ fn pass<'a>(
     let Cut::Item(record) = cutter.next() else {
         return Err(None);
     };
-    assert!(rt; filter.expected() == record.number());
+    out.note(filter.expected() == record.number());
     let done = Done::of(record, options);
     match filter.step(alloc, done) {
         Ok(piece) => {
-            assert!(rt; out.add(&piece) == Ok(()));
+            let added = out.add(&piece).is_ok();
+            out.note(added);
             Ok(())
         }
         Err(fault) => {
-            assert!(rt; filter.expected() == record.number());
+            out.note(filter.expected() == record.number());
             let again = filter.step(alloc, done).err();
-            assert!(rt; again == Some(StepFault::Closed));
+            out.note(again == Some(StepFault::Closed));
             Err(Some(fault))
         }
     }
@@ -176,7 +209,6 @@ fn pass<'a>(
 
 // Takes the first records through the filter, at most eleven.
 fn pass_all<'a>(
-    rt: &impl Abort,
     alloc: Global,
     dump: &'a [u8],
     filter: &mut Filter<'a, 'a>,
@@ -187,51 +219,64 @@ fn pass_all<'a>(
 {
     let mut cutter = Cutter::new(dump);
     for _ in 0..11u32 {
-        pass(rt, alloc, &mut cutter, filter, options, out)?;
+        pass(alloc, &mut cutter, filter, options, out)?;
     }
     Ok(())
 }
 
 // Takes a dump through a filter, to its end or its first fault.
 fn run<'a>(
-    rt: &impl Abort,
     alloc: Global,
     dump: &'a [u8],
     options: &'a Options,
     out: &mut Written,
 ) -> Result<Report, StepFault> {
     let mut filter = Filter::new(alloc, options);
-    if let Err(Some(fault)) = pass_all(rt, alloc, dump, &mut filter, options, out) {
+    if let Err(Some(fault)) = pass_all(alloc, dump, &mut filter, options, out) {
         let end = filter.finish(alloc).err();
-        assert!(rt; end == Some(StepFault::Closed));
+        out.note(end == Some(StepFault::Closed));
         return Err(fault);
     }
     let (piece, report) = filter.finish(alloc)?;
-    assert!(rt; out.add(&piece) == Ok(()));
+    let added = out.add(&piece).is_ok();
+    out.note(added);
     Ok(report)
 }
 
-fn assert_worked(rt: &impl Abort, alloc: Global, worked: &Worked<'_>) -> Result<(), Fail> {
-    let dump = joined(alloc, worked.dump)?;
-    let options = options(alloc, &worked.asked)?;
-    let mut out = Written::new(alloc)?;
-    let answer = run(rt, alloc, &dump, &options, &mut out);
-    let written = joined(alloc, worked.written)?;
-    assert!(rt; out.text.as_slice() == written.as_slice());
-    assert!(rt; answer == Ok(report(worked.counts)));
-    Ok(())
+// What the filter answers to a dump, and what it writes of it; none where memory is refused before it begins.
+fn outcome(
+    alloc: Global,
+    asked: &Asked<'_>,
+    dump: &[&[u8]],
+) -> Option<(Result<Report, StepFault>, Written)> {
+    let dump = joined(alloc, dump).ok()?;
+    let options = options(alloc, asked).ok()?;
+    let mut out = Written::new(alloc).ok()?;
+    let answer = run(alloc, &dump, &options, &mut out);
+    Some((answer, out))
 }
 
-fn assert_refused(rt: &impl Abort, alloc: Global, refused: &Refused<'_>) -> Result<(), Fail> {
-    let dump = joined(alloc, refused.dump)?;
-    let options = options(alloc, &refused.asked)?;
-    let mut out = Written::new(alloc)?;
-    let answer = run(rt, alloc, &dump, &options, &mut out);
-    let written = joined(alloc, refused.written)?;
-    assert!(rt; answer == Err(StepFault::Rule(refused.kind)));
-    assert!(rt; out.lengths.as_slice() == refused.lengths);
-    assert!(rt; out.text.as_slice() == written.as_slice());
-    Ok(())
+// Whether the filter brings a dump to its end so.
+fn is_worked(alloc: Global, worked: &Worked<'_>) -> bool {
+    match outcome(alloc, &worked.asked, worked.dump) {
+        Some((answer, out)) => {
+            answer == Ok(report(worked.counts)) && out.sound && out.is_of(worked.written)
+        }
+        None => false,
+    }
+}
+
+// Whether the filter refuses a record of a dump so.
+fn is_refused(alloc: Global, refused: &Refused<'_>) -> bool {
+    match outcome(alloc, &refused.asked, refused.dump) {
+        Some((answer, out)) => {
+            answer == Err(StepFault::Rule(refused.kind))
+                && out.sound
+                && out.lengths.as_slice() == refused.lengths
+                && out.is_of(refused.written)
+        }
+        None => false,
+    }
 }
 
 #[test]

@@ -22,6 +22,18 @@ fn is_kept(alloc: Global, side: Side, prefixes: &[&[u8]], path: &[u8]) -> Result
     Ok(keeps(&options(alloc, side, prefixes)?, path))
 }
 
+/// Whether these prefixes match a path so: then it is kept on the one side, and else on the other.
+fn is_matched(
+    alloc: Global,
+    prefixes: &[&[u8]],
+    path: &[u8],
+    matched: bool,
+) -> Result<bool, Memory> {
+    let included = is_kept(alloc, Side::Include, prefixes, path)?;
+    let left = is_kept(alloc, Side::Exclude, prefixes, path)?;
+    Ok(included == matched && left != matched)
+}
+
 #[test]
 fn prefixes_match_whole_names(rt: HostRuntime) -> Result<(), Fail> {
     let rows = [
@@ -43,12 +55,8 @@ fn prefixes_match_whole_names(rt: HostRuntime) -> Result<(), Fail> {
         (b"", b"", true),
     ];
     for (prefix, path, matched) in rows {
-        let included = is_kept(rt.alloc(), Side::Include, &[prefix], path)?;
-        let left = is_kept(rt.alloc(), Side::Exclude, &[prefix], path)?;
-        assert!(rt;
-            included == matched && left != matched,
-            "{prefix:?} {path:?}"
-        );
+        let right = is_matched(rt.alloc(), &[prefix], path, matched)?;
+        assert!(rt; right, "{prefix:?} {path:?}");
     }
     Ok(())
 }
@@ -60,12 +68,28 @@ fn no_prefix_matches_no_path(rt: HostRuntime) -> Result<(), Fail> {
     Ok(())
 }
 
-fn assert_handed_in(rt: &impl Abort, given: &Options, side: Side, empty: Empty, flags: [bool; 3]) {
-    assert!(rt; given.side() == side && given.empty() == empty);
-    assert!(rt; [given.renumber(), given.preserve(), given.skip_missing()] == flags);
-    assert!(rt; given.prefix(0) == Some(b"//trunk/".as_slice()));
-    assert!(rt; given.prefix(1) == Some(b"".as_slice()));
-    assert!(rt; given.prefix(2).is_none());
+/// Whether options have these two prefixes and no other.
+fn has_two_prefixes(given: &Options, first: &[u8], second: &[u8]) -> bool {
+    given.prefix(0) == Some(first) && given.prefix(1) == Some(second) && given.prefix(2).is_none()
+}
+
+/// Whether options with these two prefixes are as they were handed in.
+fn is_handed_in(
+    alloc: Global,
+    side: Side,
+    empty: Empty,
+    flags: [bool; 3],
+    prefixes: [&[u8]; 2],
+) -> Result<bool, Memory> {
+    let [renumber, preserve, skip] = flags;
+    let given = Options::new(alloc, side, &prefixes, empty, renumber, preserve, skip)?;
+    let [first, second] = prefixes;
+    Ok(
+        given.side() == side
+            && given.empty() == empty
+            && [given.renumber(), given.preserve(), given.skip_missing()] == flags
+            && has_two_prefixes(&given, first, second),
+    )
 }
 
 #[test]
@@ -76,47 +100,39 @@ fn options_are_as_handed_in(rt: HostRuntime) -> Result<(), Fail> {
         (Side::Exclude, Empty::DropEmptied, [false, true, false]),
         (Side::Include, Empty::DropAll, [false, false, true]),
     ] {
-        let [renumber, preserve, skip] = flags;
-        let given = Options::new(rt.alloc(), side, &prefixes, empty, renumber, preserve, skip)?;
-        assert_handed_in(&rt, &given, side, empty, flags);
+        assert!(rt; is_handed_in(rt.alloc(), side, empty, flags, prefixes)?);
     }
     Ok(())
-}
-
-fn assert_two_prefixes(rt: &impl Abort, given: &Options) {
-    assert!(rt; given.prefix(0) == Some(b"trunk".as_slice()));
-    assert!(rt; given.prefix(1) == Some(b"tags".as_slice()));
 }
 
 // Run with each allocation refused in turn: options are whole, or there are none.
 #[test]
 fn options_or_no_memory(rt: HostRuntime) {
-    match options(rt.alloc(), Side::Include, &[b"trunk", b"tags"]) {
-        Ok(given) => assert_two_prefixes(&rt, &given),
-        Err(refused) => assert!(rt; refused == Memory),
-    }
+    let answered = match options(rt.alloc(), Side::Include, &[b"trunk", b"tags"]) {
+        Ok(given) => has_two_prefixes(&given, b"trunk", b"tags"),
+        Err(refused) => refused == Memory,
+    };
+    assert!(rt; answered);
 }
 
-fn assert_images(rt: &impl Abort, reach: &Reach, rows: &[(u64, Option<u64>)]) {
+fn has_images(reach: &Reach, rows: &[(u64, Option<u64>)]) -> bool {
     for (revision, image) in rows {
-        assert!(rt; reach.reach(*revision) == *image, "{revision}");
+        if reach.reach(*revision) != *image {
+            return false;
+        }
     }
+    true
 }
 
 #[test]
 fn images_are_of_the_last_kept_revision(rt: HostRuntime) -> Result<(), Fail> {
     let mut reach = Reach::new(rt.alloc(), 5);
-    assert!(rt; reach.first() == 5 && reach.count() == 0);
-    assert_images(&rt, &reach, &[(100, None)]);
+    assert!(rt; reach.first() == 5 && reach.count() == 0 && has_images(&reach, &[(100, None)]));
     reach.push(6)?;
     reach.push(9)?;
-    assert!(rt; reach.count() == 2);
     let (fifth, sixth) = (Some(5), Some(6));
-    assert_images(
-        &rt,
-        &reach,
-        &[(5, None), (6, fifth), (8, fifth), (9, sixth), (100, sixth)],
-    );
+    let rows = [(5, None), (6, fifth), (8, fifth), (9, sixth), (100, sixth)];
+    assert!(rt; reach.count() == 2 && has_images(&reach, &rows));
     Ok(())
 }
 
@@ -129,8 +145,8 @@ fn push_or_no_memory(rt: HostRuntime) {
         let last = reach.reach(revision);
         let pushed = reach.push(revision).is_ok();
         let image = if pushed { kept.checked_add(5) } else { last };
-        assert!(rt; reach.count().checked_sub(kept) == Some(u64::from(pushed)));
-        assert_images(&rt, &reach, &[(revision, image)]);
+        let counted = reach.count().checked_sub(kept) == Some(u64::from(pushed));
+        assert!(rt; counted && has_images(&reach, &[(revision, image)]));
     }
 }
 
@@ -174,24 +190,44 @@ fn no_revision_stands_with_a_star_and_without(rt: HostRuntime) {
     }
 }
 
-/// A list of 200 single numbers that fall from 1000, of both kinds, with this behind it.
-fn long_list(alloc: Global, more: &str) -> Result<String, AllocError> {
-    let mut text = String::from_str(alloc, "/a:1000")?;
-    for n in 1..200u64 {
-        let lower = 1000 - n;
+/// So many single numbers that fall from the first one, every second with a star.
+fn falling(alloc: Global, first: u64, count: u64) -> Result<String, AllocError> {
+    let mut text = format!(in alloc; "{first}")?;
+    for n in 1..count {
+        let lower = first.saturating_sub(n);
         let star = if n % 2 == 0 { "" } else { "*" };
         text.push_str(&format!(in alloc; ",{lower}{star}")?)?;
     }
-    text.push_str(more)?;
     Ok(text)
+}
+
+/// Whether the text is mergeinfo between these.
+fn is_read_between(
+    alloc: Global,
+    before: &str,
+    text: &str,
+    behind: &str,
+) -> Result<bool, AllocError> {
+    let mut value = String::from_str(alloc, "/a:")?;
+    value.push_str(before)?;
+    value.push_str(text)?;
+    value.push_str(behind)?;
+    Ok(merge_reads(value.as_bytes()))
 }
 
 #[test]
 fn long_lists_of_both_kinds_in_any_order(rt: HostRuntime) -> Result<(), Fail> {
-    assert!(rt; merge_reads(long_list(rt.alloc(), "")?.as_bytes()));
-    for more in [",1000*", ",998-999", ",0", ",", ",7-6*"] {
-        let worse = long_list(rt.alloc(), more)?;
-        assert!(rt; !merge_reads(worse.as_bytes()), "{more}");
+    let list = falling(rt.alloc(), 1000, 200)?;
+    for (more, reads) in [
+        ("", true),
+        (",1000*", false),
+        (",998-999", false),
+        (",0", false),
+        (",", false),
+        (",7-6*", false),
+    ] {
+        let found = is_read_between(rt.alloc(), "", list.as_str(), more)?;
+        assert!(rt; found == reads, "{more}");
     }
     Ok(())
 }
@@ -234,35 +270,51 @@ fn is_rewritten(
     }
 }
 
+/// Whether each of these values is written as the one beside it.
+fn are_rewritten(
+    alloc: Global,
+    rows: &[(&[u8], &[u8])],
+    options: &Options,
+    reach: &Reach,
+    now: u64,
+) -> bool
+    requires { All (λ k. k ≤ now) reach.now.numbers }
+{
+    for (value, wanted) in rows {
+        if !is_rewritten(alloc, value, options, reach, now, Ok(wanted)) {
+            return false;
+        }
+    }
+    true
+}
+
 #[test]
 fn lines_of_kept_paths_are_written_as_runs(rt: HostRuntime) -> Result<(), Fail> {
     let reach = Reach::new(rt.alloc(), 0);
     let all = rules(rt.alloc(), b"/", false, false)?;
-    for (value, wanted) in [
+    let rows = [
         (b"/a:\n/b:1".as_slice(), b"/b:1".as_slice()),
         (b"/a:1-999999999999999999", b"/a:1-999999999999999999"),
         (b"/a:1\n/b:\n/a:2*", b"/a:1\n/a:2*"),
         (b"", b""),
-    ] {
-        assert!(rt;
-            is_rewritten(rt.alloc(), value, &all, &reach, 1, Ok(wanted)),
-            "{value:?}"
-        );
-    }
+    ];
+    assert!(rt; are_rewritten(rt.alloc(), &rows, &all, &reach, 1));
+    Ok(())
+}
+
+#[test]
+fn lines_under_a_prefix_are_written_as_runs(rt: HostRuntime) -> Result<(), Fail> {
+    let reach = Reach::new(rt.alloc(), 0);
     let trunk = rules(rt.alloc(), b"trunk", false, false)?;
-    for (value, wanted) in [
+    let rows = [
         (b"/trunk:4,1-3".as_slice(), b"/trunk:1-4".as_slice()),
         (b"/trunk:3,1-2*", b"/trunk:1-2*,3"),
         (b"/trunk:2,1\n", b"/trunk:1-2"),
         (b"/trunk:1*", b"/trunk:1*"),
         (b"/trunk:3-8,5,1-4", b"/trunk:1-8"),
         (b"/trunk:001,003", b"/trunk:1,3"),
-    ] {
-        assert!(rt;
-            is_rewritten(rt.alloc(), value, &trunk, &reach, 1, Ok(wanted)),
-            "{value:?}"
-        );
-    }
+    ];
+    assert!(rt; are_rewritten(rt.alloc(), &rows, &trunk, &reach, 1));
     Ok(())
 }
 
@@ -288,15 +340,11 @@ fn kept_revisions_get_new_numbers(rt: HostRuntime) -> Result<(), Fail> {
     reach.push(7)?;
     reach.push(8)?;
     let options = rules(rt.alloc(), b"trunk", true, false)?;
-    for (value, wanted) in [
+    let rows = [
         (b"/trunk:1-4,6*".as_slice(), b"/trunk:1-2".as_slice()),
         (b"/trunk:2-3", b""),
-    ] {
-        assert!(rt;
-            is_rewritten(rt.alloc(), value, &options, &reach, 8, Ok(wanted)),
-            "{value:?}"
-        );
-    }
+    ];
+    assert!(rt; are_rewritten(rt.alloc(), &rows, &options, &reach, 8));
     Ok(())
 }
 
@@ -307,17 +355,13 @@ fn long_ranges_cost_no_more_than_short_ones(rt: HostRuntime) -> Result<(), Fail>
     reach.push(500000000000000000)?;
     let options = rules(rt.alloc(), b"/", true, false)?;
     let now = 999999999999999999;
-    for (value, wanted) in [
+    let rows = [
         (b"/a:1-999999999999999999".as_slice(), b"/a:1-2".as_slice()),
         (b"/a:1,2-999999999999999999*", b"/a:1,2*"),
         (b"/a:2-499999999999999999", b""),
         (b"/a:500000000000000000*,1*", b"/a:1-2*"),
-    ] {
-        assert!(rt;
-            is_rewritten(rt.alloc(), value, &options, &reach, now, Ok(wanted)),
-            "{value:?}"
-        );
-    }
+    ];
+    assert!(rt; are_rewritten(rt.alloc(), &rows, &options, &reach, now));
     Ok(())
 }
 

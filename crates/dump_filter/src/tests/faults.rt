@@ -4,13 +4,13 @@ use crate::tests::blocks::{
     BROKEN_REVISION_1, REVISION_0, REVISION_1, REVISION_5, REVISION_6, TAG_OF_OTHER_0,
     TAG_OF_TRUNK_5, TRUNK, UUID, VERSION, X,
 };
-use crate::tests::{Asked, Refused, assert_refused, include, preserve, renumber};
+use crate::tests::{Asked, Refused, include, is_refused, preserve, renumber};
 use dump_rules::Empty;
 use dump_text::FaultKind;
-use std::test::Fail;
+use std::process::Abort;
 
 #[test]
-fn a_copy_of_a_dropped_revision_closes_the_filter(rt: HostRuntime) -> Result<(), Fail> {
+fn a_copy_of_a_dropped_revision_closes_the_filter(rt: HostRuntime) {
     let refused = Refused {
         asked: renumber(b"trunk"),
         dump: &[VERSION, REVISION_5, X, REVISION_6, TAG_OF_TRUNK_5],
@@ -18,11 +18,11 @@ fn a_copy_of_a_dropped_revision_closes_the_filter(rt: HostRuntime) -> Result<(),
         lengths: &[31, 31, 31, 31],
         written: &[VERSION],
     };
-    assert_refused(&rt, rt.alloc(), &refused)
+    assert!(rt; is_refused(rt.alloc(), &refused));
 }
 
 #[test]
-fn a_copy_of_a_dropped_path_closes_the_filter(rt: HostRuntime) -> Result<(), Fail> {
+fn a_copy_of_a_dropped_path_closes_the_filter(rt: HostRuntime) {
     let written = Refused {
         asked: include(b"trunk"),
         dump: &[VERSION, REVISION_0, REVISION_1, TRUNK, TAG_OF_OTHER_0],
@@ -30,18 +30,18 @@ fn a_copy_of_a_dropped_path_closes_the_filter(rt: HostRuntime) -> Result<(), Fai
         lengths: &[31, 31, 151, 376],
         written: &[VERSION, REVISION_0, REVISION_1, TRUNK],
     };
-    assert_refused(&rt, rt.alloc(), &written)?;
+    assert!(rt; is_refused(rt.alloc(), &written));
     let held = Refused {
         dump: &[VERSION, REVISION_0, REVISION_1, TAG_OF_OTHER_0],
         lengths: &[31, 31, 151],
         written: &[VERSION, REVISION_0],
         ..written
     };
-    assert_refused(&rt, rt.alloc(), &held)
+    assert!(rt; is_refused(rt.alloc(), &held));
 }
 
 #[test]
-fn broken_properties_close_the_filter(rt: HostRuntime) -> Result<(), Fail> {
+fn broken_properties_close_the_filter(rt: HostRuntime) {
     let refused = Refused {
         asked: Asked {
             empty: Empty::DropEmptied,
@@ -52,11 +52,11 @@ fn broken_properties_close_the_filter(rt: HostRuntime) -> Result<(), Fail> {
         lengths: &[31, 31],
         written: &[VERSION],
     };
-    assert_refused(&rt, rt.alloc(), &refused)
+    assert!(rt; is_refused(rt.alloc(), &refused));
 }
 
 #[test]
-fn a_record_out_of_order_closes_the_filter(rt: HostRuntime) -> Result<(), Fail> {
+fn a_record_out_of_order_closes_the_filter(rt: HostRuntime) {
     let node = Refused {
         asked: preserve(b"trunk"),
         dump: &[VERSION, TRUNK],
@@ -64,18 +64,18 @@ fn a_record_out_of_order_closes_the_filter(rt: HostRuntime) -> Result<(), Fail> 
         lengths: &[31],
         written: &[VERSION],
     };
-    assert_refused(&rt, rt.alloc(), &node)?;
+    assert!(rt; is_refused(rt.alloc(), &node));
     let parted = Refused {
         dump: &[VERSION, REVISION_0, UUID, TRUNK],
         lengths: &[31, 31, 195],
         written: &[VERSION, REVISION_0, UUID],
         ..node
     };
-    assert_refused(&rt, rt.alloc(), &parted)?;
+    assert!(rt; is_refused(rt.alloc(), &parted));
     let revision = Refused {
         dump: &[VERSION, REVISION_1, REVISION_1],
         lengths: &[31, 31],
         ..node
     };
-    assert_refused(&rt, rt.alloc(), &revision)
+    assert!(rt; is_refused(rt.alloc(), &revision));
 }

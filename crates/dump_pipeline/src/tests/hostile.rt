@@ -19,7 +19,8 @@ use std::thread::Threads;
 /// Workers and window; none: on one thread.
 const PLANS: [Option<(usize, usize)>; 3] = [None, Some((1, 1)), Some((4, 64))];
 
-fn run_by<R: Threads + Wait + Sync, S: Sink>(
+/// A run over so many workers and such a window; none: on one thread.
+pub fn run_by<R: Threads + Wait + Sync, S: Sink>(
     rt: &R,
     alloc: Global,
     dump: &[u8],

@@ -371,5 +371,6 @@ fn want_of_memory_leaves_a_first_part_over_threads(rt: HostRuntime) {
     };
     let mut sink = MemorySink::new(alloc, 1000, Trouble::Never);
     let answer = run(&rt, alloc, DUMP, &options, plan, &FreeGate, &mut sink);
-    assert!(rt; is_first_part(answer, sink.taken()));
+    let clean = (report(2, 1), &DUMP[..TRUNK2]);
+    assert!(rt; is_first_part(answer, sink.taken(), clean));
 }

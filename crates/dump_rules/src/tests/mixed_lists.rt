@@ -1,6 +1,6 @@
 //! Ranges of both kinds in no order, more than are held at a time.
+use super::{falling, is_read_between};
 use crate::merge_reads;
-use std::alloc::{AllocError, Global};
 use std::test::Fail;
 
 #[test]
@@ -26,19 +26,9 @@ fn ranges_reach_over_others_of_their_kind(rt: HostRuntime) {
 
 // The even numbers fall from 20000 to 2, the odd ones with stars between them. The lists are of as
 // many ranges of either kind, and of more of the one or the other.
-fn twenty_thousand(alloc: Global) -> Result<String, AllocError> {
-    let mut text = String::from_str(alloc, "20000")?;
-    for n in 1..20000u64 {
-        let lower = 20000 - n;
-        let star = if n % 2 == 0 { "" } else { "*" };
-        text.push_str(&format!(in alloc; ",{lower}{star}")?)?;
-    }
-    Ok(text)
-}
-
 #[test]
 fn twenty_thousand_ranges_of_both_kinds_in_falling_order(rt: HostRuntime) -> Result<(), Fail> {
-    let text = twenty_thousand(rt.alloc())?;
+    let text = falling(rt.alloc(), 20000, 20000)?;
     for (first, last, reads) in [
         ("", "", true),
         ("30000,30001,30002,", "", true),
@@ -55,8 +45,8 @@ fn twenty_thousand_ranges_of_both_kinds_in_falling_order(rt: HostRuntime) -> Res
         ("", ",0", false),
         ("", ",", false),
     ] {
-        let value = format!(in rt.alloc(); "/a:{first}{text}{last}")?;
-        assert!(rt; merge_reads(value.as_bytes()) == reads, "{first} {last}");
+        let found = is_read_between(rt.alloc(), first, text.as_str(), last)?;
+        assert!(rt; found == reads, "{first} {last}");
     }
     Ok(())
 }

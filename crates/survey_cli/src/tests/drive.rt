@@ -4,7 +4,6 @@ use crate::drive::drive;
 use std::alloc::Global;
 use std::io::{self, ErrorKind, Read, Write};
 use std::process::Abort;
-use std::test::Fail;
 
 // Revision 1 copies `trunk` to `tags/one`.
 const COPIED: &[u8] = b"SVN-fs-dump-format-version: 2\n\n\
@@ -42,57 +41,47 @@ impl Write for Broken {
     }
 }
 
-// Surveys, and compares the status and what stands on both streams.
-fn assert_survey(
-    rt: &impl Abort,
-    alloc: Global,
-    line: &str,
-    status: u8,
-    lines: &[u8],
-    told: &str,
-) -> Result<(), Fail> {
-    let words: Vec<&str> = line.split(' ').collect(alloc)?;
+// Whether a survey under these words has this status, and leaves these lines and this on the streams.
+fn is_survey<'a>(alloc: Global, words: &'a [&'a str], wanted: (u8, &[u8], &[u8])) -> bool {
     let mut reader = COPIED;
     let mut output = Vec::new(alloc);
     let mut errors = Vec::new(alloc);
-    let found = drive(
-        alloc,
-        words.as_slice(),
-        0,
-        &mut reader,
-        &mut output,
-        &mut errors,
-    );
-    assert_eq!(rt; found, status, "of {line}");
-    assert_eq!(rt; output.as_slice(), lines, "of {line}");
-    assert_eq!(rt; errors.as_slice(), told.as_bytes(), "of {line}");
-    Ok(())
+    let status = drive(alloc, words, 0, &mut reader, &mut output, &mut errors);
+    status == wanted.0 && output.as_slice() == wanted.1 && errors.as_slice() == wanted.2
 }
 
 #[test]
-fn the_status_says_whether_something_is_found(rt: HostRuntime) -> Result<(), Fail> {
-    let alloc = rt.alloc();
-    assert_survey(&rt, alloc, "svndumpsurvey include trunk tags", 0, b"", "")?;
-    assert_survey(&rt, alloc, "svndumpsurvey include tags", 1, KEEP_LINES, "")?;
-    let line = "svndumpsurvey exclude trunk";
-    assert_survey(&rt, alloc, line, 1, LEAVE_OUT_LINES, "")?;
-    let usage = "usage: svndumpsurvey include|exclude [OPTIONS] PREFIX...\n";
-    assert_survey(&rt, alloc, "svndumpsurvey include", 2, b"", usage)
+fn the_status_says_whether_something_is_found(rt: HostRuntime) {
+    let words = ["svndumpsurvey", "include", "trunk", "tags"];
+    assert!(rt; is_survey(rt.alloc(), &words, (0, b"", b"")));
+    let words = ["svndumpsurvey", "include", "tags"];
+    assert!(rt; is_survey(rt.alloc(), &words, (1, KEEP_LINES, b"")));
+    let words = ["svndumpsurvey", "exclude", "trunk"];
+    assert!(rt; is_survey(rt.alloc(), &words, (1, LEAVE_OUT_LINES, b"")));
+    let usage = b"usage: svndumpsurvey include|exclude [OPTIONS] PREFIX...\n".as_slice();
+    assert!(rt; is_survey(rt.alloc(), &["svndumpsurvey", "include"], (2, b"", usage)));
+}
+
+const TAGS: [&str; 3] = ["svndumpsurvey", "include", "tags"];
+
+fn is_unread(alloc: Global) -> bool {
+    let mut output = Vec::new(alloc);
+    let mut errors = Vec::new(alloc);
+    let status = drive(alloc, &TAGS, 0, &mut Broken, &mut output, &mut errors);
+    let line = b"svndumpsurvey: failure 24 Source after 0 bytes\n".as_slice();
+    status == 3 && errors.as_slice() == line && output.is_empty()
+}
+
+fn is_unwritten(alloc: Global) -> bool {
+    let mut reader = COPIED;
+    let mut errors = Vec::new(alloc);
+    let status = drive(alloc, &TAGS, 0, &mut reader, &mut Broken, &mut errors);
+    let line = b"svndumpsurvey: failure 20 Sink after 0 bytes\n".as_slice();
+    status == 3 && errors.as_slice() == line
 }
 
 #[test]
 fn broken_streams_are_failures(rt: HostRuntime) {
-    let alloc = rt.alloc();
-    let words = ["svndumpsurvey", "include", "tags"];
-    let mut output = Vec::new(alloc);
-    let mut errors = Vec::new(alloc);
-    let status = drive(alloc, &words, 0, &mut Broken, &mut output, &mut errors);
-    let line = b"svndumpsurvey: failure 24 Source after 0 bytes\n";
-    assert!(rt; status == 3 && errors.as_slice() == line.as_slice() && output.is_empty());
-
-    let mut reader = COPIED;
-    let mut errors = Vec::new(alloc);
-    let status = drive(alloc, &words, 0, &mut reader, &mut Broken, &mut errors);
-    let line = b"svndumpsurvey: failure 20 Sink after 0 bytes\n";
-    assert!(rt; status == 3 && errors.as_slice() == line.as_slice());
+    assert!(rt; is_unread(rt.alloc()));
+    assert!(rt; is_unwritten(rt.alloc()));
 }

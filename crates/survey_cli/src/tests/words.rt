@@ -43,34 +43,23 @@ fn has_prefixes(options: &Options, prefixes: &[&str]) -> bool {
     options.prefix(prefixes.len()).is_none()
 }
 
-// The words and the prefixes stand in one text each, with spaces between them.
-fn assert_options(
-    rt: &impl Abort,
-    alloc: Global,
-    line: &str,
-    prefixes: &str,
-    wanted: Wanted,
-) -> Result<(), Fail> {
+// Whether words give these options. The words and the prefixes stand in one text each, with spaces between them.
+fn is_read(alloc: Global, line: &str, prefixes: &str, wanted: Wanted) -> Result<bool, Fail> {
     let words: Vec<&str> = line.split(' ').collect(alloc)?;
     let prefixes: Vec<&str> = prefixes.split(' ').collect(alloc)?;
     let options = options_of(alloc, words.as_slice())?;
-    assert!(rt; found_in(&options) == wanted, "in {line}");
-    assert!(rt; has_prefixes(&options, prefixes.as_slice()), "in {line}");
-    Ok(())
+    Ok(found_in(&options) == wanted && has_prefixes(&options, prefixes.as_slice()))
 }
 
 #[test]
 fn sides_and_prefixes_are_read(rt: HostRuntime) -> Result<(), Fail> {
-    assert_options(&rt, rt.alloc(), "p include a", "a", PLAIN)?;
+    assert!(rt; is_read(rt.alloc(), "p include a", "a", PLAIN)?);
     let mut exclude = PLAIN;
     exclude.side = Side::Exclude;
-    assert_options(
-        &rt,
-        rt.alloc(),
-        "p exclude //trunk/  br\u{e4}nche include -",
-        "//trunk/  br\u{e4}nche include -",
-        exclude,
-    )
+    let line = "p exclude //trunk/  br\u{e4}nche include -";
+    let prefixes = "//trunk/  br\u{e4}nche include -";
+    assert!(rt; is_read(rt.alloc(), line, prefixes, exclude)?);
+    Ok(())
 }
 
 #[test]
@@ -81,7 +70,7 @@ fn drop_flags_are_read(rt: HostRuntime) -> Result<(), Fail> {
     ] {
         let mut wanted = PLAIN;
         wanted.empty = empty;
-        assert_options(&rt, rt.alloc(), line, "a", wanted)?;
+        assert!(rt; is_read(rt.alloc(), line, "a", wanted)?, "in {line}");
     }
     Ok(())
 }
@@ -90,15 +79,15 @@ fn drop_flags_are_read(rt: HostRuntime) -> Result<(), Fail> {
 fn each_switch_is_read(rt: HostRuntime) -> Result<(), Fail> {
     let mut wanted = PLAIN;
     wanted.renumber = true;
-    assert_options(&rt, rt.alloc(), "p include --renumber-revs a", "a", wanted)?;
+    assert!(rt; is_read(rt.alloc(), "p include --renumber-revs a", "a", wanted)?);
     wanted = PLAIN;
     wanted.preserve = true;
-    let line = "p include --preserve-revprops a";
-    assert_options(&rt, rt.alloc(), line, "a", wanted)?;
+    assert!(rt; is_read(rt.alloc(), "p include --preserve-revprops a", "a", wanted)?);
     wanted = PLAIN;
     wanted.skip_missing = true;
     let line = "p include --skip-missing-merge-sources a";
-    assert_options(&rt, rt.alloc(), line, "a", wanted)
+    assert!(rt; is_read(rt.alloc(), line, "a", wanted)?);
+    Ok(())
 }
 
 #[test]
@@ -112,54 +101,60 @@ fn flags_are_read_around_the_prefixes(rt: HostRuntime) -> Result<(), Fail> {
     };
     let line =
         "p include --drop-empty-revs --renumber-revs a --skip-missing-merge-sources b --preserve-revprops";
-    assert_options(&rt, rt.alloc(), line, "a b", wanted)?;
+    assert!(rt; is_read(rt.alloc(), line, "a b", wanted)?);
     let line = "p include -- --renumber-revs a";
-    assert_options(&rt, rt.alloc(), line, "--renumber-revs a", PLAIN)
+    assert!(rt; is_read(rt.alloc(), line, "--renumber-revs a", PLAIN)?);
+    Ok(())
 }
 
-fn assert_refused<'a>(rt: &impl Abort, alloc: Global, words: &'a [&'a str], usage: Usage) {
+fn is_refused<'a>(alloc: Global, words: &'a [&'a str], usage: Usage) -> bool {
     match options_of(alloc, words) {
-        Ok(_) => panic!(rt; "{words:?} give options"),
-        Err(found) => assert_eq!(rt; found, usage, "in {words:?}"),
+        Ok(_) => false,
+        Err(found) => found == usage,
     }
 }
 
-// Each line is words with spaces between them.
-fn assert_lines_refused(rt: &impl Abort, alloc: Global, lines: &str) -> Result<(), Fail> {
-    for line in lines.split('\n') {
-        let words: Vec<&str> = line.split(' ').collect(alloc)?;
-        assert_refused(rt, alloc, words.as_slice(), Usage::Words);
+// The same of words with spaces between them.
+fn is_line_refused(alloc: Global, line: &str) -> Result<bool, Fail> {
+    let words: Vec<&str> = line.split(' ').collect(alloc)?;
+    Ok(is_refused(alloc, words.as_slice(), Usage::Words))
+}
+
+#[test]
+fn other_words_are_refused(rt: HostRuntime) -> Result<(), Fail> {
+    assert!(rt; is_refused(rt.alloc(), &[], Usage::Words));
+    for line in [
+        "svndumpsurvey",
+        "svndumpsurvey include",
+        "svndumpsurvey survey a",
+        "svndumpsurvey Include a",
+        "svndumpsurvey inc a",
+        "svndumpsurvey -- include a",
+        "svndumpsurvey --drop-empty-revs include a",
+        "svndumpsurvey include --preserve-revprops",
+    ] {
+        assert!(rt; is_line_refused(rt.alloc(), line)?, "{line}");
     }
     Ok(())
 }
 
 #[test]
-fn other_words_are_refused(rt: HostRuntime) -> Result<(), Fail> {
-    assert_refused(&rt, rt.alloc(), &[], Usage::Words);
-    let lines = "svndumpsurvey\n\
-        svndumpsurvey include\n\
-        svndumpsurvey survey a\n\
-        svndumpsurvey Include a\n\
-        svndumpsurvey inc a\n\
-        svndumpsurvey -- include a\n\
-        svndumpsurvey --drop-empty-revs include a\n\
-        svndumpsurvey include --preserve-revprops";
-    assert_lines_refused(&rt, rt.alloc(), lines)
-}
-
-#[test]
 fn other_flags_are_refused(rt: HostRuntime) -> Result<(), Fail> {
-    let lines = "p include -x\n\
-        p include a -x\n\
-        p include --quiet a\n\
-        p include --workers 4 a\n\
-        p include --preserve a\n\
-        p include --preserve-revprops= a\n\
-        p include --help a\n\
-        p help include\n\
-        p include --preserve-revprops --preserve-revprops a\n\
-        p include --drop-all-empty-revs --drop-all-empty-revs a";
-    assert_lines_refused(&rt, rt.alloc(), lines)
+    for line in [
+        "p include -x",
+        "p include a -x",
+        "p include --quiet a",
+        "p include --workers 4 a",
+        "p include --preserve a",
+        "p include --preserve-revprops= a",
+        "p include --help a",
+        "p help include",
+        "p include --preserve-revprops --preserve-revprops a",
+        "p include --drop-all-empty-revs --drop-all-empty-revs a",
+    ] {
+        assert!(rt; is_line_refused(rt.alloc(), line)?, "{line}");
+    }
+    Ok(())
 }
 
 #[test]
@@ -171,21 +166,25 @@ fn both_drop_flags_are_refused_as_such(rt: HostRuntime) -> Result<(), Fail> {
         "--drop-empty-revs",
         "a",
     ];
-    assert_refused(&rt, rt.alloc(), &words, Usage::BothDrops);
-    let lines = "p exclude --drop-all-empty-revs --drop-empty-revs";
-    assert_lines_refused(&rt, rt.alloc(), lines)
+    assert!(rt; is_refused(rt.alloc(), &words, Usage::BothDrops));
+    let line = "p exclude --drop-all-empty-revs --drop-empty-revs";
+    assert!(rt; is_line_refused(rt.alloc(), line)?);
+    Ok(())
+}
+
+fn is_two_prefixes_renumbered(options: &Options) -> bool {
+    options.side() == Side::Exclude
+        && options.prefix(1) == Some(b"b".as_slice())
+        && options.renumber()
 }
 
 // Run with each allocation refused in turn: there are options, or no memory.
 #[test]
 fn options_or_no_memory(rt: HostRuntime) {
     let words = ["svndumpsurvey", "exclude", "--renumber-revs", "a", "b"];
-    match options_of(rt.alloc(), &words) {
-        Ok(options) => {
-            assert_eq!(rt; options.side(), Side::Exclude);
-            assert_eq!(rt; options.prefix(1), Some(b"b".as_slice()));
-            assert!(rt; options.renumber());
-        }
-        Err(usage) => assert_eq!(rt; usage, Usage::Memory),
-    }
+    let answered = match options_of(rt.alloc(), &words) {
+        Ok(options) => is_two_prefixes_renumbered(&options),
+        Err(usage) => usage == Usage::Memory,
+    };
+    assert!(rt; answered);
 }
