@@ -1,15 +1,15 @@
 //! The lines of what is found in prefixes.
 ghost use Rattle.std.specs.Prelude.{◌≡◌, ◌++◌, OnOk, map};
 ghost use Rattle.dump_survey.specs.PrefixFindings.{prefix_view};
-ghost use Rattle.dump_survey.specs.PrefixLines.{prefix_line, prefix_lines, prefix_words};
+ghost use Rattle.dump_survey.specs.PrefixLines.{prefix_line, prefix_lines, prefix_line_words};
 
 use crate::memory::Memory;
 use crate::prefix_findings::{PrefixFinding, ToldPrefix};
 use crate::survey_lines::push_shown;
 
 /// What the line of a prefix says behind it.
-fn prefix_words(finding: PrefixFinding) -> &'static [u8]
-    ensures { result.now ≡ prefix_words finding }
+fn prefix_line_words(finding: PrefixFinding) -> &'static [u8]
+    ensures { result.now ≡ prefix_line_words finding }
 {
     match finding {
         PrefixFinding::NotShort => {
@@ -28,7 +28,7 @@ fn push_prefix_line(lines: &mut Vec<u8>, told: &ToldPrefix<'_>) -> Result<(), Me
 {
     lines.extend_from_slice(b"prefix ")?;
     push_shown(lines, told.prefix)?;
-    Ok(lines.extend_from_slice(prefix_words(told.finding))?)
+    Ok(lines.extend_from_slice(prefix_line_words(told.finding))?)
 }
 
 /// Adds the lines of what is found in prefixes.
