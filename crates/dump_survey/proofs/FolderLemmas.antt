@@ -22,7 +22,7 @@ swapped true true c = refl
 swapped true false c = refl
 swapped false b c = refl
 
-any_inserted : {V : Type 0} (items : V → List ℕ) (p : List ℕ → Bool) (k : V) (ks : List V)
+pub any_inserted : {V : Type 0} (items : V → List ℕ) (p : List ℕ → Bool) (k : V) (ks : List V)
     → list_any p (map items (insert_key (λ x y. slice_cmp nat_cmp (items x) (items y)) ks k))
     ≡ (p (items k) || list_any p (map items ks))
 any_inserted items p k [] = refl

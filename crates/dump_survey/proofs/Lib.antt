@@ -1,6 +1,8 @@
 pub mod FolderLemmas
 pub mod GivenLemmas
 pub mod GrowthLemmas
+pub mod IdleLemmas
+pub mod LeavingLemmas
 pub mod LineLemmas
 pub mod LossLemmas
 pub mod NameLemmas

@@ -1,6 +1,6 @@
 -- What a node's parts that may be missing say of it.
-use Rattle.std.proofs.Common.{◌≡◌, true, List, ℕ, Option, Some, None, is_some, Bor, option_copied, if◌then◌else◌, refl, ap, ◌∙◌}
-use Rattle.dump_text.specs.Names.{copy_path_name}
+use Rattle.std.proofs.Common.{◌≡◌, true, List, ℕ, Option, Some, None, is_some, Bor, option_copied, if◌then◌else◌, refl, sym, ap, ◌∙◌}
+use Rattle.dump_text.specs.Names.{copy_path_name, path_name}
 use Rattle.dump_text.specs.HeaderLine.{header_value}
 use Rattle.dump_text.proofs.BlockLemmas.{has_value}
 use Rattle.dump_records.specs.RecordText.{DumpRecord}
@@ -10,6 +10,12 @@ use Rattle.dump_digest.specs.RecordParts.{is_node, is_copy}
 copied_there : (found : Option (Bor (List ℕ))) → is_some found ≡ is_some (option_copied found)
 copied_there None = refl
 copied_there (Some path) = refl
+
+-- a record is a node where a path is told
+pub node_there : (r : DumpRecord) (found : Option (Bor (List ℕ))) → is_some found ≡ true
+    → option_copied found ≡ header_value path_name r.headers → is_node r ≡ true
+node_there r None some is = cc
+node_there r (Some path) some is = sym (has_value path_name r.headers) ∙ ap is_some (sym is)
 
 -- a node is a copy where a copy path is told
 pub copy_there : (r : DumpRecord) (found : Option (Bor (List ℕ))) → is_node r ≡ true

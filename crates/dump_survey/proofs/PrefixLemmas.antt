@@ -152,15 +152,30 @@ pub none_cut : (settings : Settings) (path other : List ℕ) → settings.side �
 none_cut settings path other included =
     ap (λ side. not (cuts_alike side settings (path_of path) (path_of other))) (sym included)
 
+-- the prefix at this place, and where there is none
+next_prefix : (all : List (List ℕ)) (n : ℕ) (prefix : List ℕ) → slice_get all n ≡ Some prefix
+    → drop n all ≡ prefix ∷ drop (n + 1) all
+next_prefix all n prefix at = drop_more all n [] (slice_get_within all n prefix at)
+    ∙ ap (λ p. p ∷ drop (n + 1) all) (get_or_from_slice_get all n prefix [] at)
+
+no_prefix : (all : List (List ℕ)) (n : ℕ) → slice_get all n ≡ None → drop n all ≡ []
+no_prefix all n past = by_case (nat_lt n (length all)) refl
+  where
+    by_case : (b : Bool) → nat_lt n (length all) ≡ b → drop n all ≡ []
+    by_case true low =
+        let within = ltb-true n (length all) low in
+        absurd (none-some (get_or all n []) (sym past ∙ slice_get-get_or all n [] within))
+    by_case false high =
+        let over = ltb-false n (length all) high in
+        drop_all n all (omega arith)
+
 -- one more prefix
 pub bare_more : (all : List (List ℕ)) (items : List (Bor (List ℕ))) (n : ℕ) (prefix : List ℕ) (item : Bor (List ℕ))
     → slice_get all n ≡ Some prefix → item.now ≡ bare_prefix prefix
     → map bare_prefix all ≡ map (λ item. item.now) items ++ map bare_prefix (drop n all)
     → map bare_prefix all ≡ map (λ item. item.now) (items ++ item ∷ []) ++ map bare_prefix (drop (n + 1) all)
 bare_more all items n prefix item at same is =
-    let low = slice_get_within all n prefix at in
-    let next : drop n all ≡ prefix ∷ drop (n + 1) all = drop_more all n [] low
-    ∙ ap (λ p. p ∷ drop (n + 1) all) (get_or_from_slice_get all n prefix [] at) in
+    let next = next_prefix all n prefix at in
     let more = map bare_prefix (drop (n + 1) all) in
     let old = map (λ (item : Bor (List ℕ)). item.now) items in
     is ∙ (ap (λ l. old ++ map bare_prefix l) next
@@ -172,13 +187,22 @@ bare_more all items n prefix item at same is =
 pub bare_all : (all : List (List ℕ)) (items : List (Bor (List ℕ))) (n : ℕ) → slice_get all n ≡ None
     → map bare_prefix all ≡ map (λ item. item.now) items ++ map bare_prefix (drop n all)
     → map (λ item. item.now) items ≡ map bare_prefix all
-bare_all all items n past is = by_case (nat_lt n (length all)) refl
-  where
-    by_case : (b : Bool) → nat_lt n (length all) ≡ b → map (λ item. item.now) items ≡ map bare_prefix all
-    by_case true low =
-        let within = ltb-true n (length all) low in
-        absurd (none-some (get_or all n []) (sym past ∙ slice_get-get_or all n [] within))
-    by_case false high =
-        let over = ltb-false n (length all) high in
-        sym (is ∙ (ap (λ l. map (λ (item : Bor (List ℕ)). item.now) items ++ map bare_prefix l) (drop_all n all (omega arith))
-        ∙ append-nil (map (λ (item : Bor (List ℕ)). item.now) items)))
+bare_all all items n past is =
+    sym (is ∙ (ap (λ l. map (λ (item : Bor (List ℕ)). item.now) items ++ map bare_prefix l) (no_prefix all n past)
+    ∙ append-nil (map (λ (item : Bor (List ℕ)). item.now) items)))
+
+-- so as they were given
+pub given_more : (all : List (List ℕ)) (items : List (Bor (List ℕ))) (n : ℕ) (item : Bor (List ℕ))
+    → slice_get all n ≡ Some item.now → all ≡ map (λ item. item.now) items ++ drop n all
+    → all ≡ map (λ item. item.now) (items ++ item ∷ []) ++ drop (n + 1) all
+given_more all items n item at is =
+    let old = map (λ (item : Bor (List ℕ)). item.now) items in
+    is ∙ (ap (λ l. old ++ l) (next_prefix all n item.now at)
+    ∙ (sym (append_assoc old (item.now ∷ []) (drop (n + 1) all))
+    ∙ ap (λ l. l ++ drop (n + 1) all) (sym (map-append (λ (item : Bor (List ℕ)). item.now) items (item ∷ [])))))
+
+pub given_all : (all : List (List ℕ)) (items : List (Bor (List ℕ))) (n : ℕ) → slice_get all n ≡ None
+    → all ≡ map (λ item. item.now) items ++ drop n all → map (λ item. item.now) items ≡ all
+given_all all items n past is =
+    let old = map (λ (item : Bor (List ℕ)). item.now) items in
+    sym (is ∙ (ap (λ l. old ++ l) (no_prefix all n past) ∙ append-nil old))

@@ -12,9 +12,10 @@ use Rattle.dump_survey.specs.declared.surveyor.SurveyEnd.{SurveyEnd}
 use Rattle.dump_survey.specs.DumpFindings.{listed_findings}
 use Rattle.dump_survey.specs.Told.{NodeTold, present_after, IsToldOf, AreTold}
 use Rattle.dump_survey.specs.steps.Surveyed.{told_of_node}
+use Rattle.dump_survey.specs.PrefixFindings.{PrefixTold, told_prefixes}
 use Rattle.dump_survey.specs.SurveyEnds.{survey_ending}
 use Rattle.dump_survey.specs.steps.Surveying.{Surveying}
-use Rattle.dump_survey.specs.steps.Steps.{ComesNext, open_behind, SurveyStep}
+use Rattle.dump_survey.specs.steps.Steps.{ComesNext, open_behind, SurveyStep, ArePrefixesTold}
 
 -- the surveyor is at a place of this dump, and this was told of the records before it
 pub record HaveTold (settings : Settings) (dump : List ℕ) (state : Surveying) (so_far : List NodeTold) : Type 0 where
@@ -100,6 +101,15 @@ module _ (settings : Settings) (dump : List ℕ) (state after : Surveying) (told
 
   pub other_nearer : SurveyStep state Other after → (after.number ≡ state.number + 1) × (after.number ≤ length dump)
   other_nearer (before, r, next, is) = nearer before r next
+
+  -- where they end the prefixes are told by those that were told
+  pub prefixes_told : (end : SurveyEnd) (told : List PrefixTold) → SurveyStep state (Finished end) after
+      → ArePrefixesTold after told → told ≡ told_prefixes so_far.before settings.prefixes
+  prefixes_told end told (all, has, all_count, found, same) are =
+      let (records, begins, count, is) = subst (λ s. ArePrefixesTold s told) same are in
+      is ∙ ap₂ (λ (s : Settings) (rs : List DumpRecord). told_prefixes rs s.prefixes) so_far.settings_is
+      (begins_once dump records so_far.before (count ∙ sym so_far.count)
+      (subst (λ d. BeginsWithRecords d records) so_far.dump_is begins) so_far.begins)
 
   -- where the records end all are told
   pub all_told : (end : SurveyEnd) → SurveyStep state (Finished end) after

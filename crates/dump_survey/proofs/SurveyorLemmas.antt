@@ -30,8 +30,12 @@ use Rattle.dump_survey.specs.Told.{NodeTold, IsToldOf, told_in}
 use Rattle.dump_survey.specs.steps.Found.{listed}
 use Rattle.dump_survey.specs.steps.Surveyed.{told_of_node}
 use Rattle.dump_survey.specs.SurveyEnds.{survey_ending}
+use Rattle.dump_survey.specs.steps.Folders.{HaveSame}
+use Rattle.dump_survey.specs.PrefixFindings.{PrefixTold}
+use Rattle.dump_survey.specs.steps.IdlePrefixes.{AreWithout, is_begun_by, prefixes_by}
 use Rattle.dump_survey.specs.steps.Surveying.{Surveying, Surveys}
-use Rattle.dump_survey.specs.steps.Steps.{IsStepOf, TellsEnd, ComesNext, open_behind, SurveyStep}
+use Rattle.dump_survey.specs.steps.Steps.{IsStepOf, TellsEnd, ComesNext, open_behind, SurveyStep, ArePrefixesTold}
+use Rattle.dump_survey.proofs.IdleLemmas.{all_idle, idle_more, told_by_idle}
 use Rattle.dump_survey.proofs.TallyLemmas.{is_single, filter_same, tally_more, count_within, present_number, present_is, tally_tells}
 
 -- a lawful record is no node that is a revision too
@@ -69,14 +73,15 @@ begins_with_none dump =
     begins_prefix dump [] records (has.0, has.1, has.2)
 
 -- before the first record
-pub at_first : (dump : List ℕ) (settings : Settings) (prefixes : List (List ℕ)) (tally : Tally) (cutter : CutterState)
-    → cutter ≡ record { dump = dump; number = 0 } → prefixes ≡ map bare_prefix settings.prefixes → tally ≡ no_tally
-    → Surveys settings prefixes tally cutter
-at_first dump settings prefixes tally cutter is same none = record {
+pub at_first : (dump : List ℕ) (settings : Settings) (prefixes idle : List (List ℕ)) (tally : Tally)
+    (cutter : CutterState) → cutter ≡ record { dump = dump; number = 0 } → prefixes ≡ map bare_prefix settings.prefixes
+    → HaveSame idle (map bare_prefix settings.prefixes) → tally ≡ no_tally → Surveys settings prefixes idle tally cutter
+at_first dump settings prefixes idle tally cutter is same all none = record {
   prefixes_are = same;
   before = [];
   begins = begins_with_none cutter.dump;
   count = sym (ap (λ (c : CutterState). c.number) is);
+  idle_are = all_idle settings.prefixes idle all;
   tallied = none;
 }
 
@@ -96,8 +101,8 @@ told_of settings number revision r found told node are is =
     ((fs : List Finding) × AreFindingsOf settings r fs × (told ≡ map (told_in number revision r) fs)) (told ≡ []))
     (sym node) (found, are, is)
 
-module _ (settings : Settings) (prefixes : List (List ℕ)) (tally : Tally) (cutter after : CutterState)
-    (knows : Surveys settings prefixes tally cutter) where
+module _ (settings : Settings) (prefixes idle : List (List ℕ)) (tally : Tally) (cutter after : CutterState)
+    (knows : Surveys settings prefixes idle tally cutter) where
   -- the surveyor as callers see it
   abbrev seen : CutterState → Surveying
   seen c = record { dump = c.dump; settings = settings; number = c.number }
@@ -135,15 +140,16 @@ module _ (settings : Settings) (prefixes : List (List ℕ)) (tally : Tally) (cut
         omega arith
 
     -- and goes on with the record
-    pub goes_on : (next : Tally) → next ≡ next_tally settings tally (record_item item)
-        → Surveys settings prefixes next after
-    goes_on next is = record {
+    pub goes_on : (left : List (List ℕ)) (next : Tally) → AreWithout (is_begun_by (record_item item)) idle left
+        → next ≡ next_tally settings tally (record_item item) → Surveys settings prefixes left next after
+    goes_on left next without is = record {
       prefixes_are = knows.prefixes_are;
       before = knows.before ++ record_item item ∷ [];
       begins = subst (λ (c : CutterState). BeginsWithRecords c.dump (knows.before ++ record_item item ∷ []))
           (sym step.3) next_begins;
       count = length-append knows.before (record_item item ∷ [])
           ∙ (ap (λ n. n + 1) knows.count ∙ sym (ap (λ (c : CutterState). c.number) step.3));
+      idle_are = idle_more knows.before (record_item item) settings.prefixes idle left knows.idle_are without;
       tallied = is ∙ (ap (λ t. next_tally settings t (record_item item)) knows.tallied
           ∙ sym (tally_more settings no_tally knows.before (record_item item)));
     }
@@ -199,3 +205,18 @@ module _ (settings : Settings) (prefixes : List (List ℕ)) (tally : Tally) (cut
         → IfOk result (λ told. SurveyStep (seen cutter) told (seen after))
     stepped_ok (Ok told) is = stepped told is
     stepped_ok (Err e) is = tt
+
+-- what is told of the prefixes, where there was memory
+pub told_so_far : (settings : Settings) (prefixes idle : List (List ℕ)) (tally : Tally) (cutter : CutterState)
+    → Surveys settings prefixes idle tally cutter → (given : List (List ℕ)) → given ≡ settings.prefixes
+    → {V : Type 0} (view : V → List PrefixTold) (result : Result V Memory)
+    → IfOk result (λ told. view told ≡ prefixes_by idle given)
+    → IfOk result (λ told. ArePrefixesTold (record { dump = cutter.dump; settings = settings; number = cutter.number })
+    (view told))
+told_so_far settings prefixes idle tally cutter knows given same view (Err e) is = tt
+told_so_far settings prefixes idle tally cutter knows given same view (Ok told) is = (
+  knows.before,
+  knows.begins,
+  knows.count,
+  is ∙ (ap (prefixes_by idle) same ∙ told_by_idle knows.before settings.prefixes idle knows.idle_are),
+)

@@ -14,6 +14,8 @@ use Rattle.dump_survey.specs.declared.surveyor.SurveyEnd.{SurveyEnd}
 use Rattle.dump_survey.specs.declared.told.SurveyedNode.{SurveyedNode}
 use Rattle.dump_survey.specs.DumpFindings.{listed_findings}
 use Rattle.dump_survey.specs.Lines.{node_line, dump_line, ending_line}
+use Rattle.dump_survey.specs.PrefixFindings.{PrefixTold, told_prefixes}
+use Rattle.dump_survey.specs.PrefixLines.{prefix_lines}
 use Rattle.dump_survey.specs.SurveyEnds.{survey_ending}
 use Rattle.dump_survey.specs.SurveyText.{IsSurveyText, BreaksOffSurvey}
 use Rattle.dump_survey.specs.Told.{NodeTold}
@@ -145,9 +147,10 @@ module _ (settings : Settings) (dump : List ℕ) (state after : Surveying) (old 
       broken_in (flat_map node_line (told_of_node node)) text all is
       (subst (λ l. IsPrefixOf l text) (flat_map-append node_line so_far.told (told_of_node node)) begins) takes
 
-  module _ (end : SurveyEnd) (step : SurveyStep state (Finished end) after) (lines : List ℕ)
-      (lines_are : lines
-      ≡ flat_map dump_line (listed_findings end.dump) ++ ending_line count (survey_ending end.end)) where
+  module _ (end : SurveyEnd) (step : SurveyStep state (Finished end) after) (prefixes : List PrefixTold)
+      (prefixes_are : prefixes ≡ told_prefixes so_far.have.before settings.prefixes) (lines : List ℕ)
+      (lines_are : lines ≡ flat_map dump_line (listed_findings end.dump)
+      ++ (prefix_lines prefixes ++ ending_line count (survey_ending end.end))) where
     -- with the lines of its end the text is whole
     text_whole : IsSurveyText settings dump (flat_map node_line so_far.told ++ lines)
         (has_some (flat_map node_line so_far.told ++ lines))
@@ -159,8 +162,10 @@ module _ (settings : Settings) (dump : List ℕ) (state after : Surveying) (old 
           told = so_far.told;
           are_told = so_far.have.told;
           text_is = ap (λ l. flat_map node_line so_far.told ++ l)
-              (lines_are ∙ ap₂ (λ fs n. flat_map dump_line fs ++ ending_line n (survey_ending end.end)) all.1
-              (so_far.counted ∙ sym so_far.have.count));
+              (lines_are ∙ (ap (λ ps. flat_map dump_line (listed_findings end.dump)
+              ++ (prefix_lines ps ++ ending_line count (survey_ending end.end))) prefixes_are
+              ∙ ap₂ (λ fs n. flat_map dump_line fs ++ (prefix_lines (told_prefixes so_far.have.before settings.prefixes)
+              ++ ending_line n (survey_ending end.end))) all.1 (so_far.counted ∙ sym so_far.have.count)));
           found_is = refl;
         }
 

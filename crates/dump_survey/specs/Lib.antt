@@ -5,6 +5,8 @@ pub mod KeepAsWell
 pub mod Lines
 pub mod LinesBehind
 pub mod Meaning
+pub mod PrefixFindings
+pub mod PrefixLines
 pub mod SurveyEnds
 pub mod SurveyText
 pub mod SurveyTies

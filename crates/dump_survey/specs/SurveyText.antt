@@ -8,11 +8,15 @@ use Rattle.dump_writer.specs.SinkWords.{IsPrefixOf}
 use Rattle.dump_history.specs.Findings.{dump_findings}
 use Rattle.dump_survey.specs.Told.{NodeTold, AreTold}
 use Rattle.dump_survey.specs.Lines.{node_line, dump_line, ending_line}
+use Rattle.dump_survey.specs.PrefixFindings.{told_prefixes}
+use Rattle.dump_survey.specs.PrefixLines.{prefix_lines}
 
--- the lines of what is told of nodes, of the findings of the whole dump, and of what ends its list of records
+-- the lines of what is told of nodes, of the findings of the whole dump, of what is told of prefixes, and of what ends
+-- the list of records
 abbrev pub survey_lines : Settings → List NodeTold → List DumpRecord → Ending → List ℕ
 survey_lines settings told records ending = flat_map node_line told
-    ++ (flat_map dump_line (dump_findings settings records) ++ ending_line (length records) ending)
+    ++ (flat_map dump_line (dump_findings settings records)
+    ++ (prefix_lines (told_prefixes records settings.prefixes) ++ ending_line (length records) ending))
 
 -- this is the text of the survey of a dump, and whether something is found
 pub record IsSurveyText (settings : Settings) (dump text : List ℕ) (found : Bool) : Type 0 where

@@ -1,4 +1,5 @@
--- The survey of a dump: what is found in its nodes and in the dump as a whole, up to where its list of records ends.
+-- The survey of a dump: what is found in its nodes, in the dump as a whole and in the prefixes, up to where its list of
+-- records ends.
 use Rattle.std.specs.Prelude.{◌≡◌, ℕ, List, map, None}
 use Rattle.dump_records.specs.RecordText.{DumpRecord}
 use Rattle.dump_records.specs.DumpText.{HasRecords}
@@ -6,6 +7,7 @@ use Rattle.dump_rules.specs.Settings.{Settings}
 use Rattle.dump_history.specs.Findings.{dump_findings}
 use Rattle.dump_survey.specs.declared.survey.Survey.{Survey}
 use Rattle.dump_survey.specs.DumpFindings.{listed_findings}
+use Rattle.dump_survey.specs.PrefixFindings.{prefix_view, told_prefixes}
 use Rattle.dump_survey.specs.SurveyEnds.{survey_ending}
 use Rattle.dump_survey.specs.Told.{told_view, AreTold}
 
@@ -15,3 +17,4 @@ pub record IsSurveyOf (settings : Settings) (dump : List ℕ) (survey : Survey) 
   pub has : HasRecords dump records (survey_ending survey.end.end)
   pub told : AreTold settings 0 None records (map told_view survey.told.items)
   pub found : listed_findings survey.end.dump ≡ dump_findings settings records
+  pub prefixes : map prefix_view survey.prefixes.items ≡ told_prefixes records settings.prefixes

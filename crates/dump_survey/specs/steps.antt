@@ -1,5 +1,6 @@
 pub mod Folders
 pub mod Found
+pub mod IdlePrefixes
 pub mod Losses
 pub mod Names
 pub mod Needs

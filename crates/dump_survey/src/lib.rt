@@ -4,10 +4,11 @@
 //! A [`Surveyor`] reads a dump record by record, cut as the filter cuts it, and [`Surveyor::next`] gives what is found
 //! in each: of a node of a revision the [`Found`], which [`SurveyedNode::tell`] turns into one [`Told`] for each
 //! [`NodeFinding`], with the record's number and place, the revision and the path. Where the records end it gives
-//! what is found in the dump as a whole, [`DumpFindings`], and whether they end with the dump. [`survey_dump`] keeps all
-//! this in a [`Survey`]; [`write_survey`] writes a line for each finding as it is found, and keeps nothing.
-//! [`folders_to_make`] tells which folders the load wants, [`keep_as_well`] which prefixes more let the filter stop at no
-//! copy, and [`write_behind`] writes a line for each.
+//! what is found in the dump as a whole, [`DumpFindings`], and whether they end with the dump; then
+//! [`Surveyor::told_prefixes`] tells the prefixes by which the filter does nothing, each with its [`PrefixFinding`].
+//! [`survey_dump`] keeps all this in a [`Survey`]; [`write_survey`] writes a line for each finding as it is found, and
+//! keeps nothing. [`folders_to_make`] tells which folders the load wants, [`keep_as_well`] which prefixes more let the
+//! filter stop at no copy, and [`write_behind`] writes a line for each.
 //!
 //! ```
 //! let survey = survey_dump(rt.alloc(), dump.as_slice(), &options)?;
@@ -19,14 +20,15 @@
 //!
 //! `tests::nodes::assert_found` runs this.
 //!
-//! What is found are the findings that `dump_history` defines, and [`laws`] says so: no others, none is missing, in the
-//! dump's order. They are told from header lines, properties and prefixes alone. No text of a file is read and no tree is
+//! What is found in nodes and in the dump are the findings that `dump_history` defines, and [`laws`] says so: no others,
+//! none is missing, in the dump's order. They are told from header lines, properties and prefixes alone. No text of a file is read and no tree is
 //! built, so what is found may do no harm, where nothing stands below a path that is told. A node outside of any
 //! revision, which the filter refuses, is passed over.
 //!
-//! `Surveyor::new` takes memory for the list of the prefixes, and `next` where a prefix is excluded that lies below a
-//! copy or its source. No more is kept of a record when the next one comes. A copy asks each prefix once, so a survey
-//! takes time by the number of copies times that of prefixes.
+//! `Surveyor::new` takes memory for the list of the prefixes and for a set of them, `next` where a prefix is excluded
+//! that lies below a copy or its source, and `told_prefixes` for its list. No more is kept of a record when the next one
+//! comes. A copy asks each prefix once, so a survey takes time by the number of copies times that of prefixes; a node
+//! looks the parts of its path up among the prefixes that none before it has matched.
 #![tactic(auto)]
 
 mod as_well;
@@ -39,6 +41,8 @@ mod needs;
 mod node;
 mod node_headers;
 mod plain;
+mod prefix_findings;
+mod prefix_lines;
 mod prefix_set;
 mod prefixes;
 mod short_paths;
@@ -54,6 +58,7 @@ pub use as_well::keep_as_well;
 pub use finding::{EVERY_FINDING, Found, NodeFinding};
 pub use folders::folders_to_make;
 pub use memory::Memory;
+pub use prefix_findings::{PrefixFinding, ToldPrefix};
 pub use survey::{Survey, survey_dump};
 pub use survey_text::{SurveyFailure, write_behind, write_survey};
 pub use surveyor::{End, Step, SurveyEnd, Surveyor};

@@ -1,8 +1,10 @@
 //! Prefixes that are looked up, and to which more can be added.
-ghost use Rattle.std.specs.Prelude.{◌≡◌, ◌++◌, ◌∷◌, [], OnErr, OnOk, bytes_eq};
+ghost use Rattle.std.specs.Prelude.{◌≡◌, ◌++◌, ◌∷◌, ◌≤◌, ◌<◌, [], List, ℕ, IfOk, OnErr, OnOk, bytes_eq, length, map, true};
 ghost use Rattle.std.specs.List.{list_any};
 ghost use Rattle.dump_rules.specs.Prefix.{bare_prefix, begins_path};
 ghost use Rattle.dump_rules.specs.steps.PrefixSearch.{BeginSame};
+ghost use Rattle.dump_survey.specs.steps.Folders.{HaveSame};
+ghost use Rattle.dump_survey.specs.steps.IdlePrefixes.{AreWithout, is_among};
 
 use crate::memory::Memory;
 use crate::slashes::bare_prefix;
@@ -39,9 +41,23 @@ impl PrefixSet {
         }
     }
 
+    /// The prefixes.
+    pub(crate) fn of(alloc: Global, prefixes: &[&[u8]]) -> Result<PrefixSet, Memory>
+        ensures { IfOk result (λ set. HaveSame set (map bare_prefix (map (λ prefix. prefix.now) prefixes.now))) }
+    {
+        let mut set = PrefixSet::new(alloc);
+        let mut left = prefixes;
+        while let [prefix, others @ ..] = left {
+            set.add(alloc, prefix)?;
+            left = others;
+        }
+        Ok(set)
+    }
+
     /// Adds a prefix. Where memory runs out, nothing is added.
     pub(crate) fn add(&mut self, alloc: Global, prefix: &[u8]) -> Result<(), Memory>
         ensures added { OnOk result (BeginSame self.new (self.old ++ bare_prefix prefix.now ∷ [])) }
+        ensures has { OnOk result (HaveSame self.new (self.old ++ bare_prefix prefix.now ∷ [])) }
         ensures refused { OnErr result (self.new ≡ self.old) }
     {
         let bare = bare_prefix(prefix);
@@ -52,7 +68,7 @@ impl PrefixSet {
     }
 
     /// Whether the text is one of them.
-    fn has(&self, text: &[u8]) -> bool
+    pub(crate) fn has(&self, text: &[u8]) -> bool
         ensures { result ≡ list_any (λ prefix. bytes_eq text.now prefix) self.now }
     {
         self.bare.contains(text)
@@ -73,5 +89,38 @@ impl PrefixSet {
             }
         }
         false
+    }
+
+    /// Behind how many bytes of the path no part of it is one of them: the longest ends before.
+    fn near(&self, path: &[u8]) -> usize
+        ensures within { result ≤ length path.now }
+        ensures reach { (text : List ℕ) (n : ℕ) → is_among text self.now ≡ true → n ≤ length text
+            → n < length path.now → n < result }
+    {
+        self.longest.saturating_add(1).min(path.len())
+    }
+
+    /// Takes the text out, if it is one of them.
+    fn remove(&mut self, text: &[u8])
+        ensures { AreWithout (λ other. bytes_eq other text.now) self.old self.new }
+    {
+        self.bare.remove(text);
+    }
+
+    /// Takes out those that begin the path.
+    pub(crate) fn leave(&mut self, path: &[u8])
+        ensures { AreWithout (λ text. begins_path text path.now) self.old self.new }
+    {
+        if self.bare.is_empty() {
+            return;
+        }
+        let near = self.near(path);
+        self.remove(b"");
+        self.remove(path);
+        for (place, byte) in path[..near].iter().enumerate() {
+            if *byte == b'/' {
+                self.remove(&path[..place]);
+            }
+        }
     }
 }

@@ -27,6 +27,20 @@ impl<'o> Model for Prefixes<'o> {
     ghost view = { λ p. map (λ prefix. prefix.now) p.bare.items };
 }
 
+/// The options' prefixes, in their order, as they were given.
+pub(crate) fn given_prefixes<'o>(
+    alloc: Global,
+    options: &'o Options,
+) -> Result<Vec<&'o [u8]>, Memory>
+    ensures { IfOk result (λ given. map (λ prefix. prefix.now) given.items ≡ options.now.prefixes) }
+{
+    let mut given = Vec::new(alloc);
+    while let Some(prefix) = options.prefix(given.len()) {
+        given.push(prefix)?;
+    }
+    Ok(given)
+}
+
 /// What stands in the text behind this front and a slash, if it begins so.
 pub(crate) fn behind<'t>(front: &[u8], text: &'t [u8]) -> Option<&'t [u8]>
     ensures { option_copied result ≡ behind_slash front.now text.now }

@@ -3,6 +3,7 @@ ghost use Rattle.std.specs.Prelude.{IfOk};
 ghost use Rattle.dump_survey.specs.Surveys.{IsSurveyOf};
 
 use crate::memory::Memory;
+use crate::prefix_findings::ToldPrefix;
 use crate::surveyor::{Step, SurveyEnd, Surveyor};
 use crate::told::Told;
 use dump_rules::Options;
@@ -10,19 +11,21 @@ use std::alloc::Global;
 
 /// All that is found in a dump.
 #[derive(Drop)]
-pub struct Survey<'a> {
+pub struct Survey<'o, 'a> {
     /// What is found in its nodes, in their order.
     pub told: Vec<Told<'a>>,
+    /// What is found in the prefixes, in their order.
+    pub prefixes: Vec<ToldPrefix<'o>>,
     pub end: SurveyEnd,
 }
 
 /// Surveys a dump for the filter under these options. Its findings are kept in memory; who writes each as it is found
 /// asks a `Surveyor`.
-pub fn survey_dump<'a>(
+pub fn survey_dump<'o, 'a>(
     alloc: Global,
     dump: &'a [u8],
-    options: &Options,
-) -> Result<Survey<'a>, Memory>
+    options: &'o Options,
+) -> Result<Survey<'o, 'a>, Memory>
     ensures { IfOk result (λ survey. IsSurveyOf options.now dump.now survey) }
 {
     let mut surveyor = Surveyor::new(alloc, dump, options)?;
@@ -31,7 +34,14 @@ pub fn survey_dump<'a>(
         match surveyor.next(alloc)? {
             Step::Node(node) => node.tell(&mut told)?,
             Step::Other => {}
-            Step::Finished(end) => return Ok(Survey { told, end }),
+            Step::Finished(end) => {
+                let prefixes = surveyor.told_prefixes(alloc)?;
+                return Ok(Survey {
+                    told,
+                    prefixes,
+                    end,
+                });
+            }
         }
     }
 }

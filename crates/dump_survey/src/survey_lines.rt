@@ -7,14 +7,18 @@ ghost use Rattle.dump_survey.specs.DumpFindings.{listed_findings};
 ghost use Rattle.dump_survey.specs.LinesBehind.{folder_line, folder_lines};
 ghost use Rattle.dump_survey.specs.Lines.{dump_line, ending_line, finding_words, node_line, place_text, shown_byte, shown_path, small_digit, source_text, tells_source};
 ghost use Rattle.dump_survey.specs.Meaning.{meaning};
+ghost use Rattle.dump_survey.specs.PrefixFindings.{prefix_view};
+ghost use Rattle.dump_survey.specs.PrefixLines.{prefix_lines};
 ghost use Rattle.dump_survey.specs.SurveyEnds.{survey_ending};
 ghost use Rattle.dump_survey.specs.Told.{told_view};
 ghost use Rattle.dump_survey.specs.steps.Surveyed.{told_of_node};
 
 use crate::finding::{EVERY_FINDING, NodeFinding};
 use crate::memory::Memory;
+use crate::prefix_findings::ToldPrefix;
+use crate::prefix_lines::push_prefix_lines;
 use crate::slashes::bare_path;
-use crate::surveyor::End;
+use crate::surveyor::{End, SurveyEnd};
 use crate::tally::DumpFindings;
 use crate::told::{SurveyedNode, Told};
 use dump_rules::Side;
@@ -48,7 +52,7 @@ fn push_byte(line: &mut Vec<u8>, byte: u8) -> Result<(), Memory>
 }
 
 /// Adds a text as it is shown.
-fn push_shown(line: &mut Vec<u8>, text: &[u8]) -> Result<(), Memory>
+pub(crate) fn push_shown(line: &mut Vec<u8>, text: &[u8]) -> Result<(), Memory>
     ensures { OnOk result (line.new.items ≡ line.old.items ++ flat_map shown_byte text.now) }
 {
     let mut rest = text;
@@ -213,15 +217,16 @@ fn push_ending_line(lines: &mut Vec<u8>, count: u64, end: End) -> Result<(), Mem
 pub(crate) fn end_lines(
     alloc: Global,
     count: u64,
-    found: &DumpFindings,
-    end: End,
+    end: &SurveyEnd,
+    prefixes: &[ToldPrefix<'_>],
 ) -> Result<Vec<u8>, Memory>
-    ensures { IfOk result (λ lines. lines.items
-        ≡ flat_map dump_line (listed_findings found.now) ++ ending_line count (survey_ending end)) }
+    ensures { IfOk result (λ lines. lines.items ≡ flat_map dump_line (listed_findings end.now.dump)
+        ++ (prefix_lines (map prefix_view prefixes.now) ++ ending_line count (survey_ending end.now.end))) }
 {
     let mut lines = Vec::new(alloc);
-    push_dump_lines(&mut lines, found)?;
-    push_ending_line(&mut lines, count, end)?;
+    push_dump_lines(&mut lines, &end.dump)?;
+    push_prefix_lines(&mut lines, prefixes)?;
+    push_ending_line(&mut lines, count, end.end)?;
     Ok(lines)
 }
 

@@ -87,7 +87,8 @@ pub fn write_survey<S: Sink>(
             }
             Step::Other => count += 1,
             Step::Finished(end) => {
-                let lines = end_lines(alloc, count, &end.dump, end.end)?;
+                let prefixes = surveyor.told_prefixes(alloc)?;
+                let lines = end_lines(alloc, count, &end, &prefixes)?;
                 found |= write_lines(alloc, sink, lines)?;
                 return Ok(found);
             }

@@ -2,11 +2,14 @@
 ghost use Rattle.std.specs.Prelude.{◌≡◌, ◌+◌, ◌<◌, ◌^◌, IfOk, map};
 ghost use Rattle.dump_records.specs.steps.RecordViews.{record_item};
 ghost use Rattle.dump_rules.specs.Prefix.{bare_prefix};
+ghost use Rattle.dump_survey.specs.PrefixFindings.{prefix_view};
 ghost use Rattle.dump_survey.specs.steps.Steps.{IsStepOf, TellsEnd};
 
 use crate::memory::Memory;
 use crate::node::find;
-use crate::prefixes::Prefixes;
+use crate::prefix_findings::{ToldPrefix, leave_matched, told_prefixes};
+use crate::prefix_set::PrefixSet;
+use crate::prefixes::{Prefixes, given_prefixes};
 use crate::tally::{DumpFindings, Tally};
 use crate::told::SurveyedNode;
 use dump_records::{Cut, Cutter, Record};
@@ -49,6 +52,8 @@ pub struct Surveyor<'o, 'a> {
     cutter: Cutter<'a>,
     options: &'o Options,
     prefixes: Prefixes<'o>,
+    /// Those that no node has matched so far.
+    idle: PrefixSet,
     tally: Tally,
 }
 
@@ -59,7 +64,7 @@ impl<'o, 'a> Model for Surveyor<'o, 'a> {
 
     ghost view = { λ s. record { dump = s.cutter.dump; settings = s.options.now; number = s.cutter.number } };
 
-    ghost invariant = { λ s. Surveys s.options.now s.prefixes s.tally s.cutter };
+    ghost invariant = { λ s. Surveys s.options.now s.prefixes s.idle s.tally s.cutter };
 }
 
 /// What is found in the next record, behind those of this tally.
@@ -98,7 +103,7 @@ fn finished<'a>(options: &Options, tally: &Tally, end: End) -> Step<'a>
 }
 
 impl<'o, 'a> Surveyor<'o, 'a> {
-    ghost use Rattle.dump_survey.specs.steps.Steps.{SurveyStep};
+    ghost use Rattle.dump_survey.specs.steps.Steps.{ArePrefixesTold, SurveyStep};
 
     /// A surveyor at the front of the dump, for the filter under these options.
     pub fn new(
@@ -109,10 +114,13 @@ impl<'o, 'a> Surveyor<'o, 'a> {
         ensures { IfOk result (λ s. s ≡ record { dump = dump.now; settings = options.now; number = 0 }) }
     {
         let prefixes = Prefixes::of(alloc, options)?;
+        let given = given_prefixes(alloc, options)?;
+        let idle = PrefixSet::of(alloc, &given)?;
         Ok(Surveyor {
             cutter: Cutter::new(dump),
             options,
             prefixes,
+            idle,
             tally: Tally::new(),
         })
     }
@@ -129,8 +137,17 @@ impl<'o, 'a> Surveyor<'o, 'a> {
                 return Ok(finished(self.options, &self.tally, End::Broken { kind, place }));
             }
         };
+        leave_matched(&mut self.idle, &item);
         let before = self.tally;
         self.tally = before.with(&item, self.options);
         step_of(alloc, item, self.options, &self.prefixes, &before)
+    }
+
+    /// What is found in the options' prefixes, in their order, by the records that were given so far.
+    pub fn told_prefixes(&self, alloc: Global) -> Result<Vec<ToldPrefix<'o>>, Memory>
+        ensures { IfOk result (λ told. ArePrefixesTold self.now (map prefix_view told.items)) }
+    {
+        let given = given_prefixes(alloc, self.options)?;
+        told_prefixes(alloc, &given, &self.idle)
     }
 }

@@ -9,6 +9,7 @@ use std::test::Fail;
 mod as_well;
 mod folders;
 mod nodes;
+mod prefixes;
 mod text;
 
 fn rules(alloc: Global, side: Side, prefix: &str) -> Result<Options, Fail> {
@@ -25,7 +26,7 @@ const NOTHING: DumpFindings = DumpFindings {
 };
 
 // Whether the survey finds this in the dump as a whole, and the records end so.
-fn ends_with(survey: &Survey<'_>, dump: DumpFindings, end: End) -> bool {
+fn ends_with(survey: &Survey<'_, '_>, dump: DumpFindings, end: End) -> bool {
     survey.end.dump == dump && survey.end.end == end
 }
 
@@ -143,6 +144,7 @@ fn a_survey_or_no_memory(rt: HostRuntime) -> Result<(), Fail> {
     match survey_dump(rt.alloc(), COPIED, &options) {
         Ok(survey) => {
             assert_eq!(rt; survey.told.len(), 1);
+            assert_eq!(rt; survey.prefixes.len(), 1);
             assert!(rt; ends_with(&survey, NOTHING, End::Whole));
         }
         Err(refused) => assert_eq!(rt; refused, Memory),

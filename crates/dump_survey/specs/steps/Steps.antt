@@ -14,6 +14,7 @@ use Rattle.dump_survey.specs.declared.surveyor.Step.{Step}
 use Rattle.dump_survey.specs.declared.surveyor.Step.TheVariants.{Node, Other, Finished}
 use Rattle.dump_survey.specs.DumpFindings.{listed_findings}
 use Rattle.dump_survey.specs.steps.Found.{IsFoundIn}
+use Rattle.dump_survey.specs.PrefixFindings.{PrefixTold, told_prefixes}
 use Rattle.dump_survey.specs.Told.{present_after, IsToldOf}
 use Rattle.dump_survey.specs.steps.Surveyed.{told_of_node}
 use Rattle.dump_survey.specs.SurveyEnds.{survey_ending}
@@ -57,3 +58,8 @@ SurveyStep old (Finished end) new = (records : List DumpRecord) × HasRecords ol
     × (length records ≡ old.number)
     × (listed_findings end.dump ≡ dump_findings old.settings records)
     × (new ≡ old)
+
+-- this is told of the prefixes by the records that the surveyor has given
+abbrev pub ArePrefixesTold : Surveying → List PrefixTold → Type 0
+ArePrefixesTold state told = (before : List DumpRecord) × BeginsWithRecords state.dump before
+    × (length before ≡ state.number) × (told ≡ told_prefixes before state.settings.prefixes)

@@ -6,6 +6,7 @@ use Rattle.dump_records.specs.steps.CutterState.{CutterState}
 use Rattle.dump_rules.specs.Settings.{Settings}
 use Rattle.dump_rules.specs.Prefix.{bare_prefix}
 use Rattle.dump_survey.specs.declared.tally.Tally.{Tally}
+use Rattle.dump_survey.specs.steps.IdlePrefixes.{AreIdle}
 use Rattle.dump_survey.specs.steps.Tally.{no_tally, tally_behind}
 
 -- a surveyor: its dump, the filter's options, and how many records it has given
@@ -14,11 +15,12 @@ pub record Surveying : Type 0 where
   pub settings : Settings
   pub number : ℕ
 
--- it holds the options' prefixes, and the tally of the records that the cutter has given
-pub record Surveys (settings : Settings) (prefixes : List (List ℕ)) (tally : Tally) (cutter : CutterState)
+-- it holds the options' prefixes, those of them that the records that the cutter has given leave idle, and their tally
+pub record Surveys (settings : Settings) (prefixes idle : List (List ℕ)) (tally : Tally) (cutter : CutterState)
     : Type 0 where
   pub prefixes_are : prefixes ≡ map bare_prefix settings.prefixes
   pub before : List DumpRecord
   pub begins : BeginsWithRecords cutter.dump before
   pub count : length before ≡ cutter.number
+  pub idle_are : AreIdle before settings.prefixes idle
   pub tallied : tally ≡ tally_behind settings no_tally before

@@ -51,9 +51,10 @@ fn a_text_or_no_memory(rt: HostRuntime) -> Result<(), Fail> {
     match write_survey(rt.alloc(), COPIED, &options, &mut sink) {
         Ok(found) => {
             assert!(rt; found);
-            let line =
-                b"record 3, byte 71, r1: /b is copied from /t at r0, and may lose what is left out there and not here\n";
-            assert_eq!(rt; sink.taken(), line.as_slice());
+            let lines =
+                b"record 3, byte 71, r1: /b is copied from /t at r0, and may lose what is left out there and not here\n\
+                prefix t/f: no node has a path at or below it, and none is copied from there\n";
+            assert_eq!(rt; sink.taken(), lines.as_slice());
         }
         Err(failure) => assert!(rt;
             failure == SurveyFailure::Memory || failure == SurveyFailure::Sink

@@ -1,8 +1,9 @@
 use Rattle.std.proofs.Common.{map, subst, sym, arith}
 use Rattle.dump_survey.specs.declared.surveyor.Step.{Step}
+use Rattle.dump_survey.specs.PrefixFindings.{prefix_view}
 use Rattle.dump_survey.specs.Told.{told_view}
 use Rattle.dump_survey.specs.steps.Steps.{SurveyStep}
-use Rattle.dump_survey.proofs.SurveyLemmas.{HaveTold, node_told, nothing_told, node_nearer, other_nearer, all_told}
+use Rattle.dump_survey.proofs.SurveyLemmas.{HaveTold, node_told, nothing_told, node_nearer, other_nearer, all_told, prefixes_told}
 use Rattle.dump_survey.proofs.survey.survey_dump.Goals as goal
 
 pub loop-told-smaller-in-Continue-branch-4 : goal.loop-told-smaller-in-Continue-branch-4
@@ -42,4 +43,7 @@ returns-in-Finished c =
       has = all.0;
       told = c.loop-told.invariant.told;
       found = all.1;
+      prefixes = prefixes_told c.args.options.now c.args.dump.now c.loop-told.surveyor c.next.new.self
+          (map told_view c.loop-told.told.items) c.loop-told.invariant c.in-Finished.end
+          (map prefix_view c.in_ok-prefixes-in-Finished.prefixes.items) step c.in_ok-prefixes-in-Finished.ensures;
     }

@@ -1,10 +1,12 @@
-use Rattle.std.proofs.Common.{◌∙◌, false, not, ◌==◌, List, ℕ, length, refl, subst, ap, arith}
+use Rattle.std.proofs.Common.{◌∙◌, false, not, ◌==◌, List, ℕ, length, map, refl, subst, ap, arith, rules}
 use Rattle.std.specs.Io.KnownBytes.{Appends}
+use Rattle.dump_writer.specs.SinkWords.{HasFailedSince}
 use Rattle.dump_survey.specs.declared.surveyor.Step.{Step}
+use Rattle.dump_survey.specs.PrefixFindings.{prefix_view}
 use Rattle.dump_survey.specs.steps.Steps.{SurveyStep}
 use Rattle.dump_survey.specs.steps.Surveying.{Surveying}
 use Rattle.dump_survey.specs.LinesBehind.{TakesSome}
-use Rattle.dump_survey.proofs.SurveyLemmas.{node_nearer, other_nearer}
+use Rattle.dump_survey.proofs.SurveyLemmas.{node_nearer, other_nearer, prefixes_told}
 use Rattle.dump_survey.proofs.WritingLemmas.{at_err, no_error, broken_in_end, broken_in_node, broken_off, node_written, nothing_written, other_written, whole_written}
 use Rattle.dump_survey.proofs.survey_text.write_survey.Goals as goal
 
@@ -45,6 +47,11 @@ returns-in_err-found-in-Node-clause-part g c =
     c.loop-surveyor.invariant.written c.in-Node.node step
     (subst (TakesSome (g.S.Sink.taken c.loop-surveyor.sink) (g.S.Sink.taken c.write_lines.new.sink))
     c.in_ok-lines-in-Node.ensures c.in_err-found-in-Node.ensures.part))
+
+pub returns-in_err-found-in-Node-clause-failed : goal.returns-in_err-found-in-Node-clause-failed
+returns-in_err-found-in-Node-clause-failed g c = λ is.
+    subst (λ (n : ℕ). HasFailedSince n (g.S.Sink.failure_count c.write_lines.new.sink))
+    c.loop-surveyor.invariant.failures (c.in_err-found-in-Node.ensures.failed (search rules))
 
 pub loop-surveyor-smaller-in-Node : goal.loop-surveyor-smaller-in-Node
 loop-surveyor-smaller-in-Node g c =
@@ -95,6 +102,13 @@ loop-surveyor-preserved g c =
       through = c.loop-surveyor.invariant.through;
     }
 
+pub returns-in_err-prefixes-in-Finished-clause-part : goal.returns-in_err-prefixes-in-Finished-clause-part
+returns-in_err-prefixes-in-Finished-clause-part g c =
+    at_err c.from_residual-in_err-prefixes-in-Finished.result (broken_off c.args.options.now c.args.dump.now
+    c.loop-surveyor.surveyor c.loop-surveyor.surveyor (g.S.Sink.taken c.args.sink.now)
+    (g.S.Sink.taken c.loop-surveyor.sink) (g.S.Sink.taken c.loop-surveyor.sink) c.loop-surveyor.found
+    c.loop-surveyor.count c.loop-surveyor.invariant.written)
+
 pub returns-in_err-lines-in-Finished-clause-part : goal.returns-in_err-lines-in-Finished-clause-part
 returns-in_err-lines-in-Finished-clause-part g c =
     at_err c.from_residual-in_err-lines-in-Finished.result (broken_off c.args.options.now c.args.dump.now
@@ -109,7 +123,12 @@ returns-in_err-found-in-Finished-clause-part g c =
     at_err c.from_residual-in_err-found-in-Finished.result (broken_in_end c.args.options.now c.args.dump.now
     c.loop-surveyor.surveyor c.next.new.self (g.S.Sink.taken c.args.sink.now) (g.S.Sink.taken c.loop-surveyor.sink)
     (g.S.Sink.taken c.write_lines-in-Finished.new.sink) c.loop-surveyor.found c.loop-surveyor.count
-    c.loop-surveyor.invariant.written c.in-Finished.end step c.in_ok-lines-in-Finished.lines.items
+    c.loop-surveyor.invariant.written c.in-Finished.end step (map prefix_view c.deref.result.now)
+    (ap (map prefix_view) c.deref.ensures.value
+    ∙ prefixes_told c.args.options.now c.args.dump.now c.loop-surveyor.surveyor c.next.new.self
+    c.loop-surveyor.invariant.written.told c.loop-surveyor.invariant.written.have c.in-Finished.end
+    (map prefix_view c.in_ok-prefixes-in-Finished.prefixes.items) step c.in_ok-prefixes-in-Finished.ensures)
+    c.in_ok-lines-in-Finished.lines.items
     c.in_ok-lines-in-Finished.ensures c.in_err-found-in-Finished.ensures.part)
 
 pub returns-in-Finished-clause-whole : goal.returns-in-Finished-clause-whole
@@ -119,6 +138,11 @@ returns-in-Finished-clause-whole g c =
     whole_written c.args.options.now c.args.dump.now c.loop-surveyor.surveyor c.next.new.self
     (g.S.Sink.taken c.args.sink.now) (g.S.Sink.taken c.loop-surveyor.sink)
     (g.S.Sink.taken c.write_lines-in-Finished.new.sink) c.loop-surveyor.found c.loop-surveyor.count
-    c.loop-surveyor.invariant.written c.in-Finished.end step c.in_ok-lines-in-Finished.lines.items
+    c.loop-surveyor.invariant.written c.in-Finished.end step (map prefix_view c.deref.result.now)
+    (ap (map prefix_view) c.deref.ensures.value
+    ∙ prefixes_told c.args.options.now c.args.dump.now c.loop-surveyor.surveyor c.next.new.self
+    c.loop-surveyor.invariant.written.told c.loop-surveyor.invariant.written.have c.in-Finished.end
+    (map prefix_view c.in_ok-prefixes-in-Finished.prefixes.items) step c.in_ok-prefixes-in-Finished.ensures)
+    c.in_ok-lines-in-Finished.lines.items
     c.in_ok-lines-in-Finished.ensures c.in_ok-found-in-Finished.field-0 c.in_ok-found-in-Finished.ensures.whole
     c.in_ok-found-in-Finished.ensures.some

@@ -1,7 +1,8 @@
-use Rattle.std.proofs.Common.{◌≡◌, ◌++◌, ◌∷◌, [], ℕ, List, length, ap, ◌∙◌, arith}
+use Rattle.std.proofs.Common.{◌≡◌, ◌||◌, ◌++◌, ◌∷◌, [], ℕ, List, length, bytes_eq, sym, ap, ◌∙◌, arith}
 use Rattle.std.specs.List.{list_any}
 use Rattle.dump_rules.specs.Prefix.{bare_prefix, begins_path}
 use Rattle.dump_rules.proofs.BarePrefixLemmas.{begin_more, within_more}
+use Rattle.dump_survey.proofs.FolderLemmas.{any_inserted, any_pushed}
 use Rattle.dump_survey.proofs.prefix_set.PrefixSet.add.Goals as goal
 
 pub invariant_of-self : goal.invariant_of-self
@@ -20,3 +21,13 @@ returns-clause-added c =
     begin_more (λ prefix. prefix.items) c.self.inside.bare.keys c.in_ok-copy.copy c.args.self.now
     (λ other. ap (list_any (λ (prefix : List ℕ). begins_path prefix other)) c.self.view_is) path
     ∙ ap (λ (text : List ℕ). list_any (λ (prefix : List ℕ). begins_path prefix path) (c.args.self.now ++ text ∷ [])) bare)
+
+pub returns-clause-has : goal.returns-clause-has
+returns-clause-has c =
+    let bare : c.in_ok-copy.copy.items ≡ bare_prefix c.args.prefix.now = c.in_ok-copy.ensures.items ∙ c.bare_prefix-bare.ensures in
+    rw c.in_ok-insert.ensures.keys (λ text.
+    let is = λ (other : List ℕ). bytes_eq text other in
+    any_inserted (λ prefix. prefix.items) is c.in_ok-copy.copy c.self.inside.bare.keys
+    ∙ (ap (λ (texts : List (List ℕ)). is c.in_ok-copy.copy.items || list_any is texts) c.self.view_is
+    ∙ (sym (any_pushed is c.args.self.now c.in_ok-copy.copy.items)
+    ∙ ap (λ (t : List ℕ). list_any is (c.args.self.now ++ t ∷ [])) bare)))

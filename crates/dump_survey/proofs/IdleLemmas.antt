@@ -1,0 +1,142 @@
+-- The bare prefixes that no node has matched go on to one more record, and say what is told of the prefixes.
+use Rattle.std.proofs.Common.{◌≡◌, ℕ, Bool, true, false, not, ◌&&◌, ◌||◌, List, [], ◌∷◌, ◌++◌, map, Option, Some, None, option_map, bytes_eq, refl, sym, ap, ap₂, ◌∙◌, append_assoc, if◌then◌else◌}
+use Rattle.std.specs.List.{list_any, cons_option}
+use Rattle.std.proofs.lemmas.Bool.{or_left, or_right}
+use Rattle.std.proofs.lemmas.List.{map-append}
+use Rattle.std.proofs.lemmas.List.Folds.{list_any-append}
+use Rattle.std.proofs.lemmas.Slice.Eq.{bytes_eq-Decides}
+use Rattle.dump_records.specs.RecordText.{DumpRecord}
+use Rattle.dump_rules.specs.Prefix.{bare_prefix, bare_path, begins_path}
+use Rattle.dump_digest.specs.RecordParts.{is_node, is_copy, node_path}
+use Rattle.dump_history.specs.RecordChanges.{copy_path}
+use Rattle.dump_survey.specs.declared.prefix_findings.PrefixFinding.{PrefixFinding}
+use Rattle.dump_survey.specs.declared.prefix_findings.PrefixFinding.TheVariants.{NotShort, Idle}
+use Rattle.dump_survey.specs.declared.prefix_findings.ToldPrefix.{ToldPrefix}
+use Rattle.dump_survey.specs.PrefixFindings.{PrefixTold, is_short_prefix, prefix_view, told_of_prefix, told_prefixes}
+use Rattle.dump_survey.specs.steps.Folders.{HaveSame}
+use Rattle.dump_survey.specs.steps.IdlePrefixes.{is_among, AreWithout, is_begun_by, AreIdle, told_by, prefixes_by}
+use Rattle.dump_survey.proofs.LeavingLemmas.{and_true}
+
+or_false : (b : Bool) → (b || false) ≡ b
+or_false true = refl
+or_false false = refl
+
+-- a set of texts, text by text
+
+-- one more text in the set, and one fewer that is to be put in
+pub set_more : (all set new : List (List ℕ)) (first : List ℕ) (left : List (List ℕ))
+    → ((text : List ℕ) → is_among text all ≡ (is_among text set || is_among text (first ∷ left)))
+    → HaveSame new (set ++ first ∷ [])
+    → (text : List ℕ) → is_among text all ≡ (is_among text new || is_among text left)
+set_more all set new first left so_far more text =
+    so_far text
+    ∙ (joined (is_among text set) (bytes_eq text first) (is_among text left)
+    ∙ ap (λ b. b || is_among text left)
+    (sym (more text ∙ list_any-append (λ other. bytes_eq text other) set (first ∷ []))))
+  where
+    joined : (a b c : Bool) → (a || (b || c)) ≡ ((a || (b || false)) || c)
+    joined true b c = refl
+    joined false true c = refl
+    joined false false c = refl
+
+-- those that begin a node's paths are taken out
+
+both_without : (f g : List ℕ → Bool) (old mid new : List (List ℕ)) → AreWithout f old mid → AreWithout g mid new
+    → AreWithout (λ text. f text || g text) old new
+both_without f g old mid new first second text =
+    second text ∙ (ap (λ b. b && not (g text)) (first text) ∙ joined (is_among text old) (f text) (g text))
+  where
+    joined : (a b c : Bool) → ((a && not b) && not c) ≡ (a && not (b || c))
+    joined true true c = refl
+    joined true false c = refl
+    joined false b c = refl
+
+same_without : (f g : List ℕ → Bool) (old new : List (List ℕ)) → ((text : List ℕ) → f text ≡ g text)
+    → AreWithout f old new → AreWithout g old new
+same_without f g old new same without text = without text ∙ ap (λ b. is_among text old && not b) (same text)
+
+-- of a record that is no node none is taken out
+pub no_node_leaves : (r : DumpRecord) (old : List (List ℕ)) → is_node r ≡ false → AreWithout (is_begun_by r) old old
+no_node_leaves r old other text =
+    sym (ap (λ n. is_among text old && not (n && (begins_path text (bare_path (node_path r))
+    || (is_copy r && begins_path text (bare_path (copy_path r)))))) other ∙ and_true (is_among text old))
+
+module _ (r : DumpRecord) (old mid : List (List ℕ)) (node : is_node r ≡ true)
+    (first : AreWithout (λ text. begins_path text (bare_path (node_path r))) old mid) where
+  pub path_leaves : is_copy r ≡ false → AreWithout (is_begun_by r) old mid
+  path_leaves plain = same_without (λ text. begins_path text (bare_path (node_path r))) (is_begun_by r) old mid
+      (λ text. sym (ap₂ (λ n c. n && (begins_path text (bare_path (node_path r))
+      || (c && begins_path text (bare_path (copy_path r))))) node plain
+      ∙ or_false (begins_path text (bare_path (node_path r))))) first
+
+  pub both_leave : (new : List (List ℕ)) → is_copy r ≡ true
+      → AreWithout (λ text. begins_path text (bare_path (copy_path r))) mid new → AreWithout (is_begun_by r) old new
+  both_leave new copy second = same_without
+      (λ text. begins_path text (bare_path (node_path r)) || begins_path text (bare_path (copy_path r)))
+      (is_begun_by r) old new
+      (λ text. sym (ap₂ (λ n c. n && (begins_path text (bare_path (node_path r))
+      || (c && begins_path text (bare_path (copy_path r))))) node copy))
+      (both_without (λ text. begins_path text (bare_path (node_path r)))
+      (λ text. begins_path text (bare_path (copy_path r))) old mid new first second)
+
+-- record by record
+
+pub all_idle : (prefixes set : List (List ℕ)) → HaveSame set (map bare_prefix prefixes) → AreIdle [] prefixes set
+all_idle prefixes set same text = same text ∙ sym (and_true (is_among text (map bare_prefix prefixes)))
+
+pub idle_more : (records : List DumpRecord) (r : DumpRecord) (prefixes idle new : List (List ℕ))
+    → AreIdle records prefixes idle → AreWithout (is_begun_by r) idle new → AreIdle (records ++ r ∷ []) prefixes new
+idle_more records r prefixes idle new so_far without =
+    same_without (λ bare. list_any (λ x. is_begun_by x bare) records || is_begun_by r bare)
+    (λ bare. list_any (λ x. is_begun_by x bare) (records ++ r ∷ [])) (map bare_prefix prefixes) new
+    (λ bare. sym (list_any-append (λ x. is_begun_by x bare) records (r ∷ [])
+    ∙ ap (λ b. list_any (λ x. is_begun_by x bare) records || b) (or_false (is_begun_by r bare))))
+    (both_without (λ bare. list_any (λ x. is_begun_by x bare) records) (is_begun_by r) (map bare_prefix prefixes) idle new
+    so_far without)
+
+-- what is told of the prefixes
+
+module _ (records : List DumpRecord) (prefixes idle : List (List ℕ)) (are : AreIdle records prefixes idle) where
+  -- a prefix of the list is idle where its bare form is left
+  told_of_each : (prefix : List ℕ) → is_among (bare_prefix prefix) (map bare_prefix prefixes) ≡ true
+      → told_by idle prefix ≡ told_of_prefix records prefix
+  told_of_each prefix here =
+      ap (λ b. option_map (λ (f : PrefixFinding). told f)
+      (if is_short_prefix prefix then (if b then Some Idle else None) else Some NotShort))
+      (are (bare_prefix prefix) ∙ ap (λ b. b && not (list_any (λ r. is_begun_by r (bare_prefix prefix)) records)) here)
+    where
+      told : PrefixFinding → PrefixTold
+      told f = record { prefix = prefix; finding = f }
+
+  told_of_rest : (front rest : List (List ℕ)) → prefixes ≡ front ++ rest
+      → prefixes_by idle rest ≡ told_prefixes records rest
+  told_of_rest front [] all = refl
+  told_of_rest front (prefix ∷ rest) all =
+      ap₂ (λ (t : Option PrefixTold) (ts : List PrefixTold). cons_option t ts) (told_of_each prefix here)
+      (told_of_rest (front ++ prefix ∷ []) rest (all ∙ sym (append_assoc front (prefix ∷ []) rest)))
+    where
+      here : is_among (bare_prefix prefix) (map bare_prefix prefixes) ≡ true
+      here =
+          ap (λ l. is_among (bare_prefix prefix) (map bare_prefix l)) all
+          ∙ (ap (is_among (bare_prefix prefix)) (map-append bare_prefix front (prefix ∷ rest))
+          ∙ (list_any-append (λ other. bytes_eq (bare_prefix prefix) other) (map bare_prefix front)
+          (map bare_prefix (prefix ∷ rest))
+          ∙ or_right _ _ (or_left _ _ ((bytes_eq-Decides (bare_prefix prefix) (bare_prefix prefix)).1 refl))))
+
+  pub told_by_idle : prefixes_by idle prefixes ≡ told_prefixes records prefixes
+  told_by_idle = told_of_rest [] prefixes refl
+
+-- what is told of the first of those that are left is told next
+
+module _ (idle : List (List ℕ)) (items : List ToldPrefix) (prefix : List ℕ) (left : List (List ℕ)) where
+  pub told_next : (told : ToldPrefix) → told_by idle prefix ≡ Some (prefix_view told)
+      → map prefix_view items ++ prefixes_by idle (prefix ∷ left)
+      ≡ map prefix_view (items ++ told ∷ []) ++ prefixes_by idle left
+  told_next told is =
+      ap (λ (t : Option PrefixTold). map prefix_view items ++ cons_option t (prefixes_by idle left)) is
+      ∙ (sym (append_assoc (map prefix_view items) (prefix_view told ∷ []) (prefixes_by idle left))
+      ∙ ap (λ l. l ++ prefixes_by idle left) (sym (map-append prefix_view items (told ∷ []))))
+
+  pub none_next : told_by idle prefix ≡ None
+      → map prefix_view items ++ prefixes_by idle (prefix ∷ left) ≡ map prefix_view items ++ prefixes_by idle left
+  none_next is = ap (λ (t : Option PrefixTold). map prefix_view items ++ cons_option t (prefixes_by idle left)) is

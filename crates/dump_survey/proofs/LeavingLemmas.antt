@@ -1,0 +1,204 @@
+-- Texts that are taken out of a set: those that begin a path are its parts before a slash, the path, and the empty one.
+use Rattle.std.proofs.Common.{◌≡◌, ◌≢◌, ℕ, ◌+◌, ◌<◌, ◌≤◌, Bool, true, false, not, ◌&&◌, ◌||◌, List, [], ◌∷◌, take, length, get_or, map, nat_lt, bytes_eq, cond, refl, sym, ap, ◌∙◌, inl, inr, arith}
+use Rattle.std.specs.List.{list_any}
+use Rattle.std.specs.BTreeMap.{is_at}
+use Rattle.std.specs.Set.{remove_key}
+use Rattle.std.specs.Cmp.Lexicographic.{slice_cmp}
+use Rattle.std.specs.Ordering.{nat_cmp}
+use Rattle.std.proofs.lemmas.Bool.{or_cases, or_parts, both_ways, false_from_ne_true}
+use Rattle.std.proofs.lemmas.Bool.Decides.{nat_tests}
+use Rattle.std.proofs.lemmas.Map.Text.{is_eq-slice_cmp}
+use Rattle.std.proofs.lemmas.Slice.Eq.{bytes_eq-Decides}
+use borrow.Author.Count.{below_more}
+use Rattle.dump_text.proofs.BoolLemmas.{first_true}
+use Rattle.dump_rules.specs.Prefix.{begins_path}
+use Rattle.dump_rules.specs.steps.PrefixSearch.{AreWithin}
+use Rattle.dump_rules.proofs.BarePrefixLemmas.{any_found, cut_begins, none_begins, whole_begins}
+use Rattle.dump_survey.specs.steps.IdlePrefixes.{is_among, AreWithout}
+
+and_false : (b : Bool) → (b && false) ≡ false
+and_false true = refl
+and_false false = refl
+
+pub and_true : (b : Bool) → (b && true) ≡ b
+and_true true = refl
+and_true false = refl
+
+or_false : (b : Bool) → (b || false) ≡ b
+or_false true = refl
+or_false false = refl
+
+-- a text that is removed from the keys of a set
+
+others_stay : {V : Type 0} (items : V → List ℕ) (text other : List ℕ) (ks : List V) → bytes_eq other text ≡ false
+    → is_among other (map items (remove_key (is_at (λ k. slice_cmp nat_cmp text (items k))) ks))
+    ≡ is_among other (map items ks)
+others_stay items text other [] apart = refl
+others_stay {V} items text other (x ∷ xs) apart =
+    by (others_stay items text other xs apart) (is_at (λ k. slice_cmp nat_cmp text (items k)) x) refl
+  where
+    rest : List V
+    rest = remove_key (is_at (λ k. slice_cmp nat_cmp text (items k))) xs
+
+    by : is_among other (map items (remove_key (is_at (λ k. slice_cmp nat_cmp text (items k))) xs))
+        ≡ is_among other (map items xs)
+        → (b : Bool) → is_at (λ k. slice_cmp nat_cmp text (items k)) x ≡ b
+        → is_among other (map items (cond b xs
+        (x ∷ remove_key (is_at (λ k. slice_cmp nat_cmp text (items k))) xs)))
+        ≡ (bytes_eq other (items x) || is_among other (map items xs))
+    by more true is =
+        let same : text ≡ items x = (bytes_eq-Decides text (items x)).0 (sym (is_eq-slice_cmp text (items x)) ∙ is) in
+        ap (λ b. b || is_among other (map items xs)) (sym apart ∙ ap (bytes_eq other) same)
+    by more false is = ap (λ b. bytes_eq other (items x) || b) more
+
+-- where the text is gone, and the keys are the others
+pub text_removed : {V : Type 0} (items : V → List ℕ) (text : List ℕ) (ks keys : List V)
+    → keys ≡ remove_key (is_at (λ k. slice_cmp nat_cmp text (items k))) ks
+    → list_any (is_at (λ k. slice_cmp nat_cmp text (items k))) keys ≡ false
+    → AreWithout (λ other. bytes_eq other text) (map items ks) (map items keys)
+text_removed {V} items text ks keys are gone other = by (bytes_eq other text) refl
+  where
+    by : (b : Bool) → bytes_eq other text ≡ b
+        → is_among other (map items keys) ≡ (is_among other (map items ks) && not b)
+    by true same =
+        ap (λ t. is_among t (map items keys)) ((bytes_eq-Decides other text).0 same)
+        ∙ (sym (any_found items text keys) ∙ (gone ∙ sym (and_false (is_among other (map items ks)))))
+    by false apart =
+        ap (λ (l : List V). is_among other (map items l)) are
+        ∙ (others_stay items text other ks apart ∙ sym (and_true (is_among other (map items ks))))
+
+-- those that stay are no longer
+pub within_less : {V : Type 0} (items : V → List ℕ) (test : V → Bool) (longest : ℕ) (ks : List V)
+    → AreWithin longest (map items ks) → AreWithin longest (map items (remove_key test ks))
+within_less items test longest [] within = refl
+within_less {V} items test longest (x ∷ xs) within =
+    by (within_less items test longest xs (or_parts _ _ within).1) (test x)
+  where
+    by : AreWithin longest (map items (remove_key test xs)) → (b : Bool)
+        → AreWithin longest (map items (cond b xs (x ∷ remove_key test xs)))
+    by more true = (or_parts _ _ within).1
+    by more false =
+        ap (λ b. b || list_any (λ text. nat_lt longest (length text)) (map items (remove_key test xs)))
+        (or_parts (nat_lt longest (length (items x))) _ within).0 ∙ more
+
+-- a text of the list is no longer than this
+pub among_within : (longest : ℕ) (texts : List (List ℕ)) (text : List ℕ) → AreWithin longest texts
+    → is_among text texts ≡ true → length text ≤ longest
+among_within longest [] text within is = absurd (let bad : false ≡ true = is in cc)
+among_within longest (t ∷ texts) text within is =
+    elim (or_cases (bytes_eq text t) (is_among text texts) is) [
+      | inl here ↦ short t ((bytes_eq-Decides text t).0 here) (or_parts (nat_lt longest (length t)) _ within).0
+      | inr there ↦ among_within longest texts text (or_parts (nat_lt longest (length t)) _ within).1 there
+    ]
+  where
+    short : (other : List ℕ) → text ≡ other → nat_lt longest (length other) ≡ false → length text ≤ longest
+    short other same low =
+        let size : length text ≡ length other = ap length same in
+        let fits : length other ≤ longest = grind (arith, nat_tests) in
+        omega arith
+
+-- what the texts without some say of each
+
+module _ (test : List ℕ → Bool) (old new : List (List ℕ)) (without : AreWithout test old new) (text : List ℕ) where
+  was_among : is_among text new ≡ true → is_among text old ≡ true
+  was_among is = first_true (is_among text old) (not (test text)) (sym (without text) ∙ is)
+
+  is_gone : test text ≡ true → is_among text new ≡ false
+  is_gone is = without text ∙ (ap (λ b. is_among text old && not b) is ∙ and_false (is_among text old))
+
+  has_stayed : test text ≡ false → is_among text new ≡ is_among text old
+  has_stayed not_is = without text ∙ (ap (λ b. is_among text old && not b) not_is ∙ and_true (is_among text old))
+
+  was_none : is_among text old ≡ false → is_among text new ≡ false
+  was_none none = without text ∙ ap (λ b. b && not (test text)) none
+
+itself : (text : List ℕ) → bytes_eq text text ≡ true
+itself text = (bytes_eq-Decides text text).1 refl
+
+-- a part of the path before a slash begins it, and so does the path
+front_begins : (path : List ℕ) (n : ℕ) → n < length path → get_or path n 0 ≡ 47 → begins_path (take n path) path ≡ true
+front_begins path n low slash =
+    sym (or_false (begins_path (take n path) path))
+    ∙ cut_begins path n low slash (take n path ∷ []) (ap (λ b. b || false) (itself (take n path)))
+
+path_begins : (path : List ℕ) → begins_path path path ≡ true
+path_begins path = sym (or_false (begins_path path path))
+    ∙ whole_begins path (path ∷ []) (ap (λ b. b || false) (itself path))
+
+-- what begins the path isn't what doesn't
+not_same : (path text other : List ℕ) → begins_path text path ≡ false → begins_path other path ≡ true
+    → bytes_eq text other ≡ false
+not_same path text other none begins = false_from_ne_true _
+    (λ same. both_ways _ none (ap (λ t. begins_path t path) ((bytes_eq-Decides text other).0 same) ∙ begins))
+
+-- of those that begin the path the empty one, the path and its parts before the slashes up to a place are taken out
+pub record HaveLeft (old : List (List ℕ)) (path : List ℕ) (place : ℕ) (new : List (List ℕ)) : Type 0 where
+  pub fewer : (text : List ℕ) → is_among text new ≡ true → is_among text old ≡ true
+  pub stay : (text : List ℕ) → begins_path text path ≡ false → is_among text new ≡ is_among text old
+  pub no_empty : is_among [] new ≡ false
+  pub no_whole : is_among path new ≡ false
+  pub no_front : (k : ℕ) → k < place → get_or path k 0 ≡ 47 → is_among (take k path) new ≡ false
+
+module _ (old : List (List ℕ)) (path : List ℕ) where
+  pub both_left : (mid new : List (List ℕ)) → AreWithout (λ other. bytes_eq other []) old mid
+      → AreWithout (λ other. bytes_eq other path) mid new → HaveLeft old path 0 new
+  both_left mid new first second = record {
+    fewer = λ text is. was_among _ old mid first text (was_among _ mid new second text is);
+    stay = λ text none. has_stayed _ mid new second text (not_same path text path none (path_begins path))
+        ∙ has_stayed _ old mid first text (not_same path text [] none refl);
+    no_empty = was_none _ mid new second [] (is_gone _ old mid first [] refl);
+    no_whole = is_gone _ mid new second path (itself path);
+    no_front = λ k low. absurd (omega arith);
+  }
+
+  module _ (place : ℕ) (mid : List (List ℕ)) (left : HaveLeft old path place mid) where
+    pub front_left : (new : List (List ℕ)) → place < length path → get_or path place 0 ≡ 47
+        → AreWithout (λ other. bytes_eq other (take place path)) mid new → HaveLeft old path (place + 1) new
+    front_left new low slash without = record {
+      fewer = λ text is. left.fewer text (was_among _ mid new without text is);
+      stay = λ text none. has_stayed _ mid new without text
+          (not_same path text (take place path) none (front_begins path place low slash)) ∙ left.stay text none;
+      no_empty = was_none _ mid new without [] left.no_empty;
+      no_whole = was_none _ mid new without path left.no_whole;
+      no_front = below_more (λ k. get_or path k 0 ≡ 47 → is_among (take k path) new ≡ false) place
+          (λ k below is. was_none _ mid new without (take k path) (left.no_front k below is))
+          (λ is. is_gone _ mid new without (take place path) (itself (take place path)));
+    }
+
+    pub none_left : get_or path place 0 ≢ 47 → HaveLeft old path (place + 1) mid
+    none_left other = record {
+      fewer = left.fewer;
+      stay = left.stay;
+      no_empty = left.no_empty;
+      no_whole = left.no_whole;
+      no_front = below_more (λ k. get_or path k 0 ≡ 47 → is_among (take k path) mid ≡ false) place left.no_front
+          (λ is. absurd (other is));
+    }
+
+    apart : (text other : List ℕ) → is_among text mid ≡ true → is_among other mid ≡ false → bytes_eq other text ≡ false
+    apart text other is out = false_from_ne_true _
+        (λ same. both_ways _ out (ap (λ t. is_among t mid) ((bytes_eq-Decides other text).0 same) ∙ is))
+
+    -- so all that begin it are, where no text reaches beyond the place
+    pub all_left : ((text : List ℕ) (n : ℕ) → is_among text old ≡ true → n ≤ length text → n < length path → n < place)
+        → AreWithout (λ text. begins_path text path) old mid
+    all_left reach text = by (begins_path text path) refl
+      where
+        -- a text that is left begins nothing
+        begins_none : is_among text mid ≡ true → begins_path text path ≡ false
+        begins_none is =
+            (or_parts (begins_path text path) false (none_begins path place (length text)
+            (λ n fits low. reach text n (left.fewer text is) fits low) (text ∷ [])
+            (or_false (nat_lt (length text) (length text)) ∙ same_size (length text))
+            (or_false (bytes_eq [] text) ∙ apart text [] is left.no_empty)
+            (or_false (bytes_eq path text) ∙ apart text path is left.no_whole)
+            (λ k low slash. or_false (bytes_eq (take k path) text) ∙ apart text (take k path) is
+            (left.no_front k low slash)))).0
+          where
+            same_size : (n : ℕ) → nat_lt n n ≡ false
+            same_size n = grind (arith, nat_tests)
+
+        by : (b : Bool) → begins_path text path ≡ b → is_among text mid ≡ (is_among text old && not b)
+        by true begins = false_from_ne_true _ (λ is. both_ways _ (begins_none is) begins)
+            ∙ sym (and_false (is_among text old))
+        by false none = left.stay text none ∙ sym (and_true (is_among text old))

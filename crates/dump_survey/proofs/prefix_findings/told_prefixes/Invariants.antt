@@ -1,0 +1,11 @@
+use Rattle.std.proofs.Common.{◌≡◌, ◌++◌, length, map}
+use Rattle.dump_survey.specs.PrefixFindings.{prefix_view}
+use Rattle.dump_survey.specs.steps.IdlePrefixes.{prefixes_by}
+use Rattle.dump_survey.proofs.prefix_findings.told_prefixes.Given as goal
+
+abbrev pub invariant-loop-left : goal.invariant-loop-left
+invariant-loop-left l = prefixes_by l.idle (map (λ prefix. prefix.now) l.prefixes)
+    ≡ map prefix_view l.told.items ++ prefixes_by l.idle (map (λ prefix. prefix.now) l.left)
+
+abbrev pub decreases-loop-left : goal.decreases-loop-left
+decreases-loop-left l = length l.left

@@ -1,0 +1,11 @@
+use Rattle.std.proofs.Common.{◌≡◌, ◌++◌, length, map}
+use Rattle.dump_survey.specs.PrefixFindings.{prefix_view}
+use Rattle.dump_survey.specs.PrefixLines.{prefix_lines}
+use Rattle.dump_survey.proofs.prefix_lines.push_prefix_lines.Given as goal
+
+abbrev pub invariant-loop-left : goal.invariant-loop-left
+invariant-loop-left l = l.initial.lines.items ++ prefix_lines (map prefix_view l.told)
+    ≡ l.lines.items ++ prefix_lines (map prefix_view l.left)
+
+abbrev pub decreases-loop-left : goal.decreases-loop-left
+decreases-loop-left l = length l.left

@@ -1,0 +1,48 @@
+-- What is found in the prefixes of a call: those by which the filter does nothing, or not what is meant.
+use Rattle.std.specs.Prelude.{ℕ, Bool, not, ◌&&◌, ◌||◌, List, Option, Some, None, option_map, if◌then◌else◌}
+use Rattle.std.specs.List.{list_any, filter_map}
+use Rattle.dump_records.specs.RecordText.{DumpRecord}
+use Rattle.dump_rules.specs.Prefix.{bare_prefix, matches_path}
+use Rattle.dump_digest.specs.RecordParts.{is_node, is_copy, node_path}
+use Rattle.dump_trees.specs.Paths.{is_short}
+use Rattle.dump_history.specs.RecordChanges.{copy_path}
+use Rattle.dump_survey.specs.declared.prefix_findings.PrefixFinding.{PrefixFinding}
+use Rattle.dump_survey.specs.declared.prefix_findings.PrefixFinding.TheVariants.{NotShort, Idle}
+use Rattle.dump_survey.specs.declared.prefix_findings.ToldPrefix.{ToldPrefix}
+
+-- whether the prefix is in its short form, as the load makes paths: the slashes at its ends don't count, and no name
+-- between them is empty or a dot
+abbrev pub is_short_prefix : List ℕ → Bool
+is_short_prefix prefix = is_short (bare_prefix prefix)
+
+-- whether the record is a node that has a path at or below the prefix, or is copied from one
+abbrev pub is_matched_by : List ℕ → DumpRecord → Bool
+is_matched_by prefix r =
+    is_node r && (matches_path prefix (node_path r) || (is_copy r && matches_path prefix (copy_path r)))
+
+-- whether no record is such a node
+abbrev pub is_idle : List DumpRecord → List ℕ → Bool
+is_idle records prefix = not (list_any (is_matched_by prefix) records)
+
+-- what is found in the prefix, if something; of one that isn't in its short form no more is told
+abbrev pub prefix_finding : List DumpRecord → List ℕ → Option PrefixFinding
+prefix_finding records prefix =
+    if is_short_prefix prefix then (if is_idle records prefix then Some Idle else None) else Some NotShort
+
+-- a prefix as it was given, and what is found in it
+pub record PrefixTold : Type 0 where
+  pub prefix : List ℕ
+  pub finding : PrefixFinding
+
+-- the same as the program has it
+abbrev pub prefix_view : ToldPrefix → PrefixTold
+prefix_view t = record { prefix = t.prefix.now; finding = t.finding }
+
+-- what is told of the prefix, if something
+abbrev pub told_of_prefix : List DumpRecord → List ℕ → Option PrefixTold
+told_of_prefix records prefix =
+    option_map (λ finding. record { prefix = prefix; finding = finding }) (prefix_finding records prefix)
+
+-- what is told of the prefixes, in their order
+abbrev pub told_prefixes : List DumpRecord → List (List ℕ) → List PrefixTold
+told_prefixes records prefixes = filter_map (told_of_prefix records) prefixes

@@ -1,0 +1,20 @@
+-- The lines of what is found in prefixes, word for word.
+use Rattle.std.specs.Prelude.{ℕ, List, [], ◌∷◌, flat_map, codes}
+use Rattle.std.specs.List.{concat}
+use Rattle.dump_survey.specs.declared.prefix_findings.PrefixFinding.{PrefixFinding}
+use Rattle.dump_survey.specs.declared.prefix_findings.PrefixFinding.TheVariants.{NotShort, Idle}
+use Rattle.dump_survey.specs.Lines.{shown_byte}
+use Rattle.dump_survey.specs.PrefixFindings.{PrefixTold}
+
+-- what such a line says behind the prefix
+abbrev pub prefix_line_words : PrefixFinding → List ℕ
+prefix_line_words NotShort = codes ": not in its short form, so no path of the loaded repository is at or below it\n"
+prefix_line_words Idle = codes ": no node has a path at or below it, and none is copied from there\n"
+
+-- the line of a prefix, which is shown as it was given, with its own slashes alone
+unfoldable pub prefix_line : PrefixTold → List ℕ
+prefix_line t = concat (codes "prefix " ∷ flat_map shown_byte t.prefix ∷ prefix_line_words t.finding ∷ [])
+
+-- one line for each of them
+abbrev pub prefix_lines : List PrefixTold → List ℕ
+prefix_lines told = flat_map prefix_line told

@@ -1,0 +1,41 @@
+-- The bare prefixes that no node has matched so far, as the surveyor has them.
+use Rattle.std.specs.Prelude.{◌≡◌, ℕ, Bool, not, ◌&&◌, ◌||◌, List, Option, Some, None, map, option_map, bytes_eq, if◌then◌else◌}
+use Rattle.std.specs.List.{list_any, filter_map}
+use Rattle.dump_records.specs.RecordText.{DumpRecord}
+use Rattle.dump_rules.specs.Prefix.{bare_prefix, bare_path, begins_path}
+use Rattle.dump_digest.specs.RecordParts.{is_node, is_copy, node_path}
+use Rattle.dump_history.specs.RecordChanges.{copy_path}
+use Rattle.dump_survey.specs.declared.prefix_findings.PrefixFinding.{PrefixFinding}
+use Rattle.dump_survey.specs.declared.prefix_findings.PrefixFinding.TheVariants.{NotShort, Idle}
+use Rattle.dump_survey.specs.PrefixFindings.{PrefixTold, is_short_prefix}
+
+-- whether the text is one of them
+abbrev pub is_among : List ℕ → List (List ℕ) → Bool
+is_among text texts = list_any (λ other. bytes_eq text other) texts
+
+-- the new texts are the old ones without those that pass the test
+abbrev pub AreWithout : (List ℕ → Bool) → List (List ℕ) → List (List ℕ) → Type 0
+AreWithout test old new = (text : List ℕ) → is_among text new ≡ (is_among text old && not (test text))
+
+-- whether the record is a node that has a path at or below the bare prefix, or is copied from one
+abbrev pub is_begun_by : DumpRecord → List ℕ → Bool
+is_begun_by r bare = is_node r
+    && (begins_path bare (bare_path (node_path r)) || (is_copy r && begins_path bare (bare_path (copy_path r))))
+
+-- these are the bare forms of the prefixes that none of the records matches
+abbrev pub AreIdle : List DumpRecord → List (List ℕ) → List (List ℕ) → Type 0
+AreIdle records prefixes idle =
+    AreWithout (λ bare. list_any (λ r. is_begun_by r bare) records) (map bare_prefix prefixes) idle
+
+-- what is found in the prefix where these are idle
+abbrev pub finding_by : List (List ℕ) → List ℕ → Option PrefixFinding
+finding_by idle prefix =
+    if is_short_prefix prefix then (if is_among (bare_prefix prefix) idle then Some Idle else None) else Some NotShort
+
+-- what is told of the prefix then
+abbrev pub told_by : List (List ℕ) → List ℕ → Option PrefixTold
+told_by idle prefix = option_map (λ finding. record { prefix = prefix; finding = finding }) (finding_by idle prefix)
+
+-- and of prefixes
+abbrev pub prefixes_by : List (List ℕ) → List (List ℕ) → List PrefixTold
+prefixes_by idle prefixes = filter_map (told_by idle) prefixes

@@ -1,0 +1,77 @@
+//! What is found in the prefixes of a call.
+ghost use Rattle.std.specs.Prelude.{◌≡◌, IfOk, map};
+ghost use Rattle.dump_records.specs.steps.RecordViews.{record_item};
+ghost use Rattle.dump_survey.specs.PrefixFindings.{prefix_view};
+ghost use Rattle.dump_survey.specs.steps.IdlePrefixes.{AreWithout, finding_by, is_begun_by, prefixes_by};
+
+use crate::memory::Memory;
+use crate::node::{copy_path_of, is_copy, path_of};
+use crate::prefix_set::PrefixSet;
+use crate::short_paths::is_short;
+use crate::slashes::{bare_path, bare_prefix};
+use dump_records::Record;
+use std::alloc::Global;
+
+/// What can be found in a prefix.
+#[derive(Clone, Copy, Debug, PartialEq, Eq)]
+pub enum PrefixFinding {
+    /// It isn't in its short form, so no path of the loaded repository is at or below it.
+    NotShort,
+    /// No node has a path at or below it, and none is copied from there.
+    Idle,
+}
+
+/// A prefix in which something is found.
+#[derive(Clone, Copy, Debug, PartialEq, Eq)]
+pub struct ToldPrefix<'o> {
+    /// The prefix, as it was given.
+    pub prefix: &'o [u8],
+    pub finding: PrefixFinding,
+}
+
+/// Takes out the bare prefixes that match the node's path, or the path that it is copied from.
+pub(crate) fn leave_matched(idle: &mut PrefixSet, item: &Record<'_>)
+    ensures { AreWithout (is_begun_by (record_item item.now)) idle.old idle.new }
+{
+    if item.path().is_none() {
+        return;
+    }
+    idle.leave(bare_path(path_of(item)));
+    if is_copy(item) {
+        idle.leave(bare_path(copy_path_of(item)));
+    }
+}
+
+/// What is found in the prefix, where these are idle.
+fn finding_in(idle: &PrefixSet, prefix: &[u8]) -> Option<PrefixFinding>
+    ensures { result ≡ finding_by idle.now prefix.now }
+{
+    let bare = bare_prefix(prefix);
+    if !is_short(bare) {
+        return Some(PrefixFinding::NotShort);
+    }
+    if idle.has(bare) {
+        return Some(PrefixFinding::Idle);
+    }
+    None
+}
+
+/// What is told of the prefixes, in their order, where these are idle.
+pub(crate) fn told_prefixes<'o>(
+    alloc: Global,
+    prefixes: &[&'o [u8]],
+    idle: &PrefixSet,
+) -> Result<Vec<ToldPrefix<'o>>, Memory>
+    ensures { IfOk result (λ told. map prefix_view told.items
+        ≡ prefixes_by idle.now (map (λ prefix. prefix.now) prefixes.now)) }
+{
+    let mut told = Vec::new(alloc);
+    let mut left = prefixes;
+    while let [prefix, others @ ..] = left {
+        if let Some(finding) = finding_in(idle, prefix) {
+            told.push(ToldPrefix { prefix, finding })?;
+        }
+        left = others;
+    }
+    Ok(told)
+}
