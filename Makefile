@@ -36,7 +36,7 @@ toolchain:
 	$(if $(shell command -v rt),@:,$(error the Rattle toolchain (rt) isn't on the PATH))
 
 $(PROGRAM): $(SOURCES) | toolchain
-	@echo "make: proving and building $@; from nothing this takes some 30 minutes of processor time"
+	@echo "make: proving and building $@; from nothing this takes some 36 minutes of processor time"
 	@tools/build
 	@echo "make: $@ is built"
 

@@ -8,6 +8,7 @@ use crate::messages::{write_failure, write_fault, write_report, write_unread, wr
 use dump_filter::Report;
 use dump_pipeline::Failure;
 use dump_text::FaultKind;
+use std::alloc::Global;
 use std::io::{self, ErrorKind, Read, Write};
 use std::test::Fail;
 
@@ -37,18 +38,18 @@ impl Read for Dripping<'_> {
     }
 }
 
+// Whether all is read where it is thought to be of this size.
+fn is_read_whole(alloc: Global, bytes: &[u8], size: u64) -> Result<bool, Fail> {
+    let mut reader = bytes;
+    let input = read_all(alloc, &mut reader, size)?;
+    Ok(input.as_slice() == bytes && reader.is_empty())
+}
+
 #[test]
 fn input_is_read_whole(rt: HostRuntime) -> Result<(), Fail> {
-    let alloc = rt.alloc();
-    let long = vec![in alloc; 7; 200_000]?;
+    let long = vec![in rt.alloc(); 7; 200_000]?;
     for size in [0, 3, 200_000, 1 << 62, u64::MAX] {
-        let mut reader = long.as_slice();
-        let input = read_all(alloc, &mut reader, size)?;
-        assert!(rt;
-            input.as_slice() == long.as_slice(),
-            "where it was thought to be {size}"
-        );
-        assert!(rt; reader.is_empty());
+        assert!(rt; is_read_whole(rt.alloc(), &long, size)?, "{size}");
     }
     Ok(())
 }

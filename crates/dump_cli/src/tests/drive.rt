@@ -67,81 +67,84 @@ fn run<'a, R: Threads + Wait + Sync, W: Write>(
     (status, errors)
 }
 
-// Runs, and compares the status and the lines.
-fn assert_run<'a, R: Threads + Wait + Sync + Abort, W: Write>(
+// Whether a run has this status and tells these lines.
+fn is_run<'a, R: Threads + Wait + Sync, W: Write>(
     rt: &R,
     alloc: Global,
     words: &'a [&'a str],
     dump: &[u8],
     output: &mut W,
-    status: u8,
-    lines: &[u8],
-) {
-    let (found, errors) = run(rt, alloc, words, dump, output);
-    assert!(rt; found == status, "of {words:?}");
-    assert!(rt; errors.as_slice() == lines, "of {words:?}");
+    wanted: (u8, &[u8]),
+) -> bool {
+    let (status, errors) = run(rt, alloc, words, dump, output);
+    status == wanted.0 && errors.as_slice() == wanted.1
+}
+
+// Whether the dump is filtered under these words, and this line is told.
+fn is_filtered<'a, R: Threads + Wait + Sync>(
+    rt: &R,
+    alloc: Global,
+    words: &'a [&'a str],
+    line: &[u8],
+) -> Result<bool, Fail> {
+    let dump = dump(alloc)?;
+    let mut output = Vec::new(alloc);
+    let ran = is_run(rt, alloc, words, &dump, &mut output, (0, line));
+    Ok(ran && output.as_slice() == KEPT)
 }
 
 #[test]
 fn a_dump_is_filtered(rt: HostRuntime) -> Result<(), Fail> {
-    let alloc = rt.alloc();
-    let dump = dump(alloc)?;
-    let mut output = Vec::new(alloc);
-    let line = "revisions kept 1, dropped 0; nodes kept 1, dropped 1; texts checked 0\n";
-    assert_run(&rt, alloc, &ORDER, &dump, &mut output, 0, line.as_bytes());
-    assert!(rt; output.as_slice() == KEPT);
+    let line = b"revisions kept 1, dropped 0; nodes kept 1, dropped 1; texts checked 0\n";
+    assert!(rt; is_filtered(&rt, rt.alloc(), &ORDER, line.as_slice())?);
     Ok(())
 }
 
 #[test]
 fn a_quiet_run_says_nothing(rt: HostRuntime) -> Result<(), Fail> {
-    let alloc = rt.alloc();
-    let dump = dump(alloc)?;
-    let mut output = Vec::new(alloc);
     let words = ["svndumpfilter", "include", "a", "--quiet"];
-    assert_run(&rt, alloc, &words, &dump, &mut output, 0, b"");
-    assert!(rt; output.as_slice() == KEPT);
+    assert!(rt; is_filtered(&rt, rt.alloc(), &words, b"")?);
     Ok(())
 }
 
-fn assert_usage<'a, R: Threads + Wait + Sync + Abort>(rt: &R, alloc: Global, words: &'a [&'a str]) {
+// Whether a run writes nothing, has this status and tells this line.
+fn is_silent<'a, R: Threads + Wait + Sync>(
+    rt: &R,
+    alloc: Global,
+    words: &'a [&'a str],
+    dump: &[u8],
+    wanted: (u8, &[u8]),
+) -> bool {
     let mut output = Vec::new(alloc);
-    let line = "usage: svndumpfilter include|exclude [OPTIONS] PREFIX...\n";
-    assert_run(rt, alloc, words, KEPT, &mut output, 2, line.as_bytes());
-    assert!(rt; output.is_empty(), "of {words:?}");
+    is_run(rt, alloc, words, dump, &mut output, wanted) && output.is_empty()
+}
+
+const USAGE: &[u8] = b"usage: svndumpfilter include|exclude [OPTIONS] PREFIX...\n";
+
+// Whether words with spaces between them are no order.
+fn is_usage<R: Threads + Wait + Sync>(rt: &R, alloc: Global, line: &str) -> Result<bool, Fail> {
+    let words: Vec<&str> = line.split(' ').collect(alloc)?;
+    Ok(is_silent(rt, alloc, words.as_slice(), KEPT, (2, USAGE)))
 }
 
 #[test]
 fn words_that_are_no_order_write_nothing(rt: HostRuntime) -> Result<(), Fail> {
-    let alloc = rt.alloc();
-    assert_usage(&rt, alloc, &[]);
+    assert!(rt; is_silent(&rt, rt.alloc(), &[], KEPT, (2, USAGE)));
     for line in [
         "svndumpfilter",
         "svndumpfilter include",
         "svndumpfilter include --window 0 trunk",
         "svndumpfilter include --drop-empty-revs --drop-all-empty-revs /",
     ] {
-        let words: Vec<&str> = line.split(' ').collect(alloc)?;
-        assert_usage(&rt, alloc, words.as_slice());
+        assert!(rt; is_usage(&rt, rt.alloc(), line)?, "of {line}");
     }
     Ok(())
 }
 
 #[test]
 fn a_fault_is_told_with_its_record_and_place(rt: HostRuntime) {
-    let alloc = rt.alloc();
-    let mut output = Vec::new(alloc);
-    let line = "svndumpfilter: fault 4 Version in record 0 at byte 0\n";
-    assert_run(
-        &rt,
-        alloc,
-        &ORDER,
-        LEFT_OUT,
-        &mut output,
-        1,
-        line.as_bytes(),
-    );
-    assert!(rt; output.is_empty());
+    let line = b"svndumpfilter: fault 4 Version in record 0 at byte 0\n".as_slice();
+    assert!(rt; is_silent(&rt, rt.alloc(), &ORDER, LEFT_OUT, (1, line)));
 }
 
 // The line of a sink that failed behind so many bytes.
@@ -154,34 +157,42 @@ fn sink_line(alloc: Global, written: usize) -> Result<Vec<u8>, Fail> {
     Ok(line)
 }
 
+// Whether a disk with this room for the dump, or one that loses it, is told with the count.
+fn is_full<R: Threads + Wait + Sync>(
+    rt: &R,
+    alloc: Global,
+    dump: &[u8],
+    mut disk: Disk,
+    count: usize,
+) -> Result<bool, Fail> {
+    let line = sink_line(alloc, count)?;
+    let ran = is_run(rt, alloc, &ORDER, dump, &mut disk, (1, &line));
+    Ok(ran && Some(disk.held.as_slice()) == KEPT.get(..count))
+}
+
 #[test]
 fn a_full_disk_is_told_with_the_count(rt: HostRuntime) -> Result<(), Fail> {
-    let alloc = rt.alloc();
-    let dump = dump(alloc)?;
+    let dump = dump(rt.alloc())?;
     for room in 0..KEPT.len() {
-        let mut disk = Disk {
-            held: Vec::new(alloc),
+        let disk = Disk {
+            held: Vec::new(rt.alloc()),
             room,
             loses: false,
         };
-        let line = sink_line(alloc, room)?;
-        assert_run(&rt, alloc, &ORDER, &dump, &mut disk, 1, &line);
-        assert!(rt; disk.held.as_slice() == &KEPT[..room]);
+        assert!(rt; is_full(&rt, rt.alloc(), &dump, disk, room)?);
     }
     Ok(())
 }
 
 #[test]
 fn a_failed_flush_is_a_failure(rt: HostRuntime) -> Result<(), Fail> {
-    let alloc = rt.alloc();
-    let dump = dump(alloc)?;
-    let mut disk = Disk {
-        held: Vec::new(alloc),
+    let dump = dump(rt.alloc())?;
+    let disk = Disk {
+        held: Vec::new(rt.alloc()),
         room: 1000,
         loses: true,
     };
-    let line = sink_line(alloc, KEPT.len())?;
-    assert_run(&rt, alloc, &ORDER, &dump, &mut disk, 1, &line);
+    assert!(rt; is_full(&rt, rt.alloc(), &dump, disk, KEPT.len())?);
     Ok(())
 }
 
@@ -207,32 +218,44 @@ impl Write for Hiccup {
     }
 }
 
-#[test]
-fn nothing_is_tried_behind_a_failure(rt: HostRuntime) -> Result<(), Fail> {
-    let alloc = rt.alloc();
+// What is kept, and then a file with a long text.
+fn long_dump(alloc: Global) -> Result<Vec<u8>, Fail> {
     let mut dump = Vec::from_slice(alloc, KEPT)?;
     let head = b"Node-path: a/f\nText-content-length: 100000\nContent-length: 100000\n\n";
     dump.extend_from_slice(head)?;
     dump.extend_from_slice(&vec![in alloc; 7; 100_000]?)?;
+    Ok(dump)
+}
+
+// Whether a writer that fails once is given nothing behind that.
+fn is_given_up<R: Threads + Wait + Sync>(rt: &R, alloc: Global, dump: &[u8]) -> bool {
     let mut output = Hiccup {
         held: Vec::new(alloc),
         failed: false,
     };
-    let line = "svndumpfilter: failure 20 Sink after 0 bytes\n";
-    assert_run(&rt, alloc, &ORDER, &dump, &mut output, 1, line.as_bytes());
-    assert!(rt; output.held.is_empty());
+    let line = b"svndumpfilter: failure 20 Sink after 0 bytes\n".as_slice();
+    is_run(rt, alloc, &ORDER, dump, &mut output, (1, line)) && output.held.is_empty()
+}
+
+#[test]
+fn nothing_is_tried_behind_a_failure(rt: HostRuntime) -> Result<(), Fail> {
+    let dump = long_dump(rt.alloc())?;
+    assert!(rt; is_given_up(&rt, rt.alloc(), &dump));
     Ok(())
+}
+
+// Whether a run writes a first part of what is kept, and all of it only where it ends well.
+fn leaves_first_part<R: Threads + Wait + Sync>(rt: &R, alloc: Global, dump: &[u8]) -> bool {
+    let mut output = Vec::new(alloc);
+    let (status, _) = run(rt, alloc, &ORDER, dump, &mut output);
+    KEPT.starts_with(output.as_slice()) && (status == 0) == (output.as_slice() == KEPT)
 }
 
 // Run with each allocation refused in turn.
 #[test]
 fn want_of_memory_leaves_a_first_part(rt: HostRuntime) {
-    let alloc = rt.alloc();
-    let Ok(dump) = dump(alloc) else {
+    let Ok(dump) = dump(rt.alloc()) else {
         return;
     };
-    let mut output = Vec::new(alloc);
-    let (status, _) = run(&rt, alloc, &ORDER, &dump, &mut output);
-    assert!(rt; KEPT.starts_with(output.as_slice()));
-    assert!(rt; (status == 0) == (output.as_slice() == KEPT));
+    assert!(rt; leaves_first_part(&rt, rt.alloc(), &dump));
 }

@@ -52,36 +52,27 @@ fn has_prefixes(options: &Options, prefixes: &[&str]) -> bool {
     options.prefix(prefixes.len()).is_none()
 }
 
-fn assert_order<'a>(
-    rt: &impl Abort,
+// Whether words give this order.
+fn is_order<'a>(
     alloc: Global,
     words: &'a [&'a str],
     prefixes: &[&str],
     wanted: Wanted,
-) -> Result<(), Fail> {
+) -> Result<bool, Fail> {
     let order = options_of(alloc, words)?;
-    assert!(rt; found_in(&order) == wanted, "in {words:?}");
-    assert!(rt; has_prefixes(&order.options, prefixes), "in {words:?}");
-    Ok(())
+    Ok(found_in(&order) == wanted && has_prefixes(&order.options, prefixes))
 }
 
 // The same of words and prefixes in one text each, with spaces between them.
-fn assert_line(
-    rt: &impl Abort,
-    alloc: Global,
-    line: &str,
-    prefixes: &str,
-    wanted: Wanted,
-) -> Result<(), Fail> {
+fn is_read(alloc: Global, line: &str, prefixes: &str, wanted: Wanted) -> Result<bool, Fail> {
     let words: Vec<&str> = line.split(' ').collect(alloc)?;
     let prefixes: Vec<&str> = prefixes.split(' ').collect(alloc)?;
-    assert_order(rt, alloc, words.as_slice(), prefixes.as_slice(), wanted)
+    is_order(alloc, words.as_slice(), prefixes.as_slice(), wanted)
 }
 
 #[test]
 fn sides_and_prefixes_are_read(rt: HostRuntime) -> Result<(), Fail> {
-    let alloc = rt.alloc();
-    assert_line(&rt, alloc, "svndumpfilter include a", "a", PLAIN)?;
+    assert!(rt; is_read(rt.alloc(), "svndumpfilter include a", "a", PLAIN)?);
     let mut exclude = PLAIN;
     exclude.side = Side::Exclude;
     let words = [
@@ -94,7 +85,8 @@ fn sides_and_prefixes_are_read(rt: HostRuntime) -> Result<(), Fail> {
         "include",
         "-",
     ];
-    assert_order(&rt, alloc, &words, &words[2..], exclude)
+    assert!(rt; is_order(rt.alloc(), &words, &words[2..], exclude)?);
+    Ok(())
 }
 
 #[test]
@@ -105,7 +97,7 @@ fn drop_flags_are_read(rt: HostRuntime) -> Result<(), Fail> {
     ] {
         let mut wanted = PLAIN;
         wanted.empty = empty;
-        assert_line(&rt, rt.alloc(), line, "a", wanted)?;
+        assert!(rt; is_read(rt.alloc(), line, "a", wanted)?, "in {line}");
     }
     Ok(())
 }
@@ -114,32 +106,23 @@ fn drop_flags_are_read(rt: HostRuntime) -> Result<(), Fail> {
 fn switches_of_revisions_are_read(rt: HostRuntime) -> Result<(), Fail> {
     let mut wanted = PLAIN;
     wanted.renumber = true;
-    assert_line(&rt, rt.alloc(), "p include --renumber-revs a", "a", wanted)?;
+    assert!(rt; is_read(rt.alloc(), "p include --renumber-revs a", "a", wanted)?);
     wanted = PLAIN;
     wanted.preserve = true;
-    assert_line(
-        &rt,
-        rt.alloc(),
-        "p include --preserve-revprops a",
-        "a",
-        wanted,
-    )
+    assert!(rt; is_read(rt.alloc(), "p include --preserve-revprops a", "a", wanted)?);
+    Ok(())
 }
 
 #[test]
 fn other_switches_are_read(rt: HostRuntime) -> Result<(), Fail> {
     let mut wanted = PLAIN;
     wanted.skip_missing = true;
-    assert_line(
-        &rt,
-        rt.alloc(),
-        "p include --skip-missing-merge-sources a",
-        "a",
-        wanted,
-    )?;
+    let line = "p include --skip-missing-merge-sources a";
+    assert!(rt; is_read(rt.alloc(), line, "a", wanted)?);
     wanted = PLAIN;
     wanted.quiet = true;
-    assert_line(&rt, rt.alloc(), "p include --quiet a", "a", wanted)
+    assert!(rt; is_read(rt.alloc(), "p include --quiet a", "a", wanted)?);
+    Ok(())
 }
 
 #[test]
@@ -151,10 +134,11 @@ fn flags_are_read_in_any_order(rt: HostRuntime) -> Result<(), Fail> {
     wanted.skip_missing = true;
     let before =
         "p include --preserve-revprops --skip-missing-merge-sources --renumber-revs --drop-empty-revs a b";
-    assert_line(&rt, rt.alloc(), before, "a b", wanted)?;
+    assert!(rt; is_read(rt.alloc(), before, "a b", wanted)?);
     let around =
         "p include --drop-empty-revs --renumber-revs a --skip-missing-merge-sources b --preserve-revprops";
-    assert_line(&rt, rt.alloc(), around, "a b", wanted)
+    assert!(rt; is_read(rt.alloc(), around, "a b", wanted)?);
+    Ok(())
 }
 
 #[test]
@@ -162,22 +146,19 @@ fn a_plan_is_read(rt: HostRuntime) -> Result<(), Fail> {
     let mut wanted = PLAIN;
     wanted.workers = 64;
     wanted.window = 4096;
-    assert_line(
-        &rt,
-        rt.alloc(),
-        "p include --workers 64 --window 4096 a",
-        "a",
-        wanted,
-    )?;
+    let line = "p include --workers 64 --window 4096 a";
+    assert!(rt; is_read(rt.alloc(), line, "a", wanted)?);
     wanted.workers = 1;
     wanted.window = 1;
-    assert_line(
-        &rt,
-        rt.alloc(),
-        "p include a --window=1 --workers=1",
-        "a",
-        wanted,
-    )
+    assert!(rt;
+        is_read(
+            rt.alloc(),
+            "p include a --window=1 --workers=1",
+            "a",
+            wanted
+        )?
+    );
+    Ok(())
 }
 
 #[test]
@@ -186,89 +167,93 @@ fn a_plan_is_read_beside_a_switch(rt: HostRuntime) -> Result<(), Fail> {
     quiet.side = Side::Exclude;
     quiet.workers = 2;
     quiet.quiet = true;
-    assert_line(
-        &rt,
-        rt.alloc(),
-        "svndumpfilter exclude --workers 2 --quiet a b",
-        "a b",
-        quiet,
-    )
+    let line = "svndumpfilter exclude --workers 2 --quiet a b";
+    assert!(rt; is_read(rt.alloc(), line, "a b", quiet)?);
+    Ok(())
 }
 
 #[test]
 fn behind_two_minus_signs_stand_prefixes(rt: HostRuntime) -> Result<(), Fail> {
-    assert_line(
-        &rt,
-        rt.alloc(),
-        "p include -- --quiet a",
-        "--quiet a",
-        PLAIN,
-    )
+    assert!(rt; is_read(rt.alloc(), "p include -- --quiet a", "--quiet a", PLAIN)?);
+    Ok(())
 }
 
-fn assert_refused<'a>(rt: &impl Abort, alloc: Global, words: &'a [&'a str], usage: Usage) {
+fn is_refused<'a>(alloc: Global, words: &'a [&'a str], usage: Usage) -> bool {
     match options_of(alloc, words) {
-        Ok(_) => panic!(rt; "{words:?} is an order"),
-        Err(found) => assert!(rt; found == usage, "in {words:?}"),
+        Ok(_) => false,
+        Err(found) => found == usage,
     }
 }
 
-// Each line is words with spaces between them.
-fn assert_lines_refused(rt: &impl Abort, alloc: Global, lines: &str) -> Result<(), Fail> {
-    for line in lines.split('\n') {
-        let words: Vec<&str> = line.split(' ').collect(alloc)?;
-        assert_refused(rt, alloc, words.as_slice(), Usage::Words);
+// The same of words with spaces between them.
+fn is_line_refused(alloc: Global, line: &str) -> Result<bool, Fail> {
+    let words: Vec<&str> = line.split(' ').collect(alloc)?;
+    Ok(is_refused(alloc, words.as_slice(), Usage::Words))
+}
+
+#[test]
+fn no_words_are_refused(rt: HostRuntime) {
+    assert!(rt; is_refused(rt.alloc(), &[], Usage::Words));
+}
+
+#[test]
+fn other_words_are_refused(rt: HostRuntime) -> Result<(), Fail> {
+    for line in [
+        "svndumpfilter",
+        "svndumpfilter include",
+        "svndumpfilter filter a",
+        "svndumpfilter Include a",
+        "svndumpfilter --drop-empty-revs include a",
+        "svndumpfilter include --preserve-revprops",
+        "svndumpfilter include -x",
+        "svndumpfilter include a -x",
+    ] {
+        assert!(rt; is_line_refused(rt.alloc(), line)?, "{line}");
     }
     Ok(())
 }
 
 #[test]
-fn no_words_are_refused(rt: HostRuntime) {
-    assert_refused(&rt, rt.alloc(), &[], Usage::Words);
-}
-
-#[test]
-fn other_words_are_refused(rt: HostRuntime) -> Result<(), Fail> {
-    let lines = "svndumpfilter\n\
-        svndumpfilter include\n\
-        svndumpfilter filter a\n\
-        svndumpfilter Include a\n\
-        svndumpfilter --drop-empty-revs include a\n\
-        svndumpfilter include --preserve-revprops\n\
-        svndumpfilter include -x\n\
-        svndumpfilter include a -x";
-    assert_lines_refused(&rt, rt.alloc(), lines)
-}
-
-#[test]
 fn other_flags_are_refused(rt: HostRuntime) -> Result<(), Fail> {
-    let lines = "p include --preserve a\n\
-        p include --preserve-revprops= a\n\
-        p include --renumber a\n\
-        p include --help a\n\
-        p help include";
-    assert_lines_refused(&rt, rt.alloc(), lines)
+    for line in [
+        "p include --preserve a",
+        "p include --preserve-revprops= a",
+        "p include --renumber a",
+        "p include --help a",
+        "p help include",
+    ] {
+        assert!(rt; is_line_refused(rt.alloc(), line)?, "{line}");
+    }
+    Ok(())
 }
 
 #[test]
 fn a_flag_twice_is_refused(rt: HostRuntime) -> Result<(), Fail> {
-    let lines = "p include --preserve-revprops --preserve-revprops a\n\
-        p include --renumber-revs --renumber-revs a\n\
-        p include --workers 2 --workers 3 a\n\
-        p include --drop-empty-revs --drop-empty-revs a\n\
-        p include --drop-all-empty-revs --drop-all-empty-revs a";
-    assert_lines_refused(&rt, rt.alloc(), lines)
+    for line in [
+        "p include --preserve-revprops --preserve-revprops a",
+        "p include --renumber-revs --renumber-revs a",
+        "p include --workers 2 --workers 3 a",
+        "p include --drop-empty-revs --drop-empty-revs a",
+        "p include --drop-all-empty-revs --drop-all-empty-revs a",
+    ] {
+        assert!(rt; is_line_refused(rt.alloc(), line)?, "{line}");
+    }
+    Ok(())
 }
 
 #[test]
 fn plans_out_of_range_are_refused(rt: HostRuntime) -> Result<(), Fail> {
-    let lines = "p include --workers 65 a\n\
-        p include --workers 0 a\n\
-        p include --window 4097 a\n\
-        p include --window 0 trunk\n\
-        p include --window many a\n\
-        p include a --window";
-    assert_lines_refused(&rt, rt.alloc(), lines)
+    for line in [
+        "p include --workers 65 a",
+        "p include --workers 0 a",
+        "p include --window 4097 a",
+        "p include --window 0 trunk",
+        "p include --window many a",
+        "p include a --window",
+    ] {
+        assert!(rt; is_line_refused(rt.alloc(), line)?, "{line}");
+    }
+    Ok(())
 }
 
 #[test]
@@ -280,12 +265,16 @@ fn both_drop_flags_are_refused_as_such(rt: HostRuntime) -> Result<(), Fail> {
         "--drop-empty-revs",
         "a",
     ];
-    assert_refused(&rt, rt.alloc(), &words, Usage::BothDrops);
-    assert_lines_refused(
-        &rt,
-        rt.alloc(),
-        "p exclude --drop-all-empty-revs --drop-empty-revs",
-    )
+    assert!(rt; is_refused(rt.alloc(), &words, Usage::BothDrops));
+    let line = "p exclude --drop-all-empty-revs --drop-empty-revs";
+    assert!(rt; is_line_refused(rt.alloc(), line)?);
+    Ok(())
+}
+
+fn is_quiet_by_two(order: &Order) -> bool {
+    order.options.side() == Side::Exclude
+        && order.options.prefix(1) == Some(b"b".as_slice())
+        && (order.plan.workers(), order.plan.window(), order.quiet) == (2, 64, true)
 }
 
 // Run with each allocation refused in turn: there is an order, or no memory.
@@ -300,12 +289,9 @@ fn an_order_or_no_memory(rt: HostRuntime) {
         "a",
         "b",
     ];
-    match options_of(rt.alloc(), &words) {
-        Ok(order) => {
-            assert!(rt; order.options.side() == Side::Exclude);
-            assert!(rt; order.options.prefix(1) == Some(b"b".as_slice()));
-            assert!(rt; (order.plan.workers(), order.plan.window(), order.quiet) == (2, 64, true));
-        }
-        Err(usage) => assert!(rt; usage == Usage::Memory),
-    }
+    let answered = match options_of(rt.alloc(), &words) {
+        Ok(order) => is_quiet_by_two(&order),
+        Err(usage) => usage == Usage::Memory,
+    };
+    assert!(rt; answered);
 }
