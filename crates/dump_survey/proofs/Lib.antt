@@ -10,6 +10,7 @@ pub mod NeedLemmas
 pub mod NodeLemmas
 pub mod PlainLemmas
 pub mod PrefixLemmas
+mod PrefixValues
 pub mod SilentLemmas
 pub mod SurveyLemmas
 pub mod SurveyTextLemmas
