@@ -9,17 +9,14 @@ use Rattle.dump_records.specs.RecordText.{DumpRecord}
 use Rattle.dump_rules.specs.Prefix.{bare_prefix, bare_path, begins_path}
 use Rattle.dump_digest.specs.RecordParts.{is_node, is_copy, node_path}
 use Rattle.dump_history.specs.RecordChanges.{copy_path}
+use Rattle.dump_history.specs.Findings.{makes_copy}
 use Rattle.dump_survey.specs.declared.prefix_findings.PrefixFinding.{PrefixFinding}
 use Rattle.dump_survey.specs.declared.prefix_findings.PrefixFinding.TheVariants.{NotShort, Idle}
 use Rattle.dump_survey.specs.declared.prefix_findings.ToldPrefix.{ToldPrefix}
 use Rattle.dump_survey.specs.PrefixFindings.{PrefixTold, is_short_prefix, prefix_view, told_of_prefix, told_prefixes}
 use Rattle.dump_survey.specs.steps.Folders.{HaveSame}
-use Rattle.dump_survey.specs.steps.IdlePrefixes.{is_among, AreWithout, is_begun_by, AreIdle, told_by, prefixes_by}
-use Rattle.dump_survey.proofs.LeavingLemmas.{and_true}
-
-or_false : (b : Bool) → (b || false) ≡ b
-or_false true = refl
-or_false false = refl
+use Rattle.dump_survey.specs.steps.IdlePrefixes.{is_among, AreWithout, is_begun_by, is_below_copy, is_touched_by, AreIdle, told_by, prefixes_by}
+use Rattle.dump_survey.proofs.LeavingLemmas.{and_true, or_false}
 
 -- a set of texts, text by text
 
@@ -41,7 +38,7 @@ set_more all set new first left so_far more text =
 
 -- those that begin a node's paths are taken out
 
-both_without : (f g : List ℕ → Bool) (old mid new : List (List ℕ)) → AreWithout f old mid → AreWithout g mid new
+pub both_without : (f g : List ℕ → Bool) (old mid new : List (List ℕ)) → AreWithout f old mid → AreWithout g mid new
     → AreWithout (λ text. f text || g text) old new
 both_without f g old mid new first second text =
     second text ∙ (ap (λ b. b && not (g text)) (first text) ∙ joined (is_among text old) (f text) (g text))
@@ -79,19 +76,38 @@ module _ (r : DumpRecord) (old mid : List (List ℕ)) (node : is_node r ≡ true
       (both_without (λ text. begins_path text (bare_path (node_path r)))
       (λ text. begins_path text (bare_path (copy_path r))) old mid new first second)
 
+-- those at or below a copy are taken out
+
+-- of a record that is no node none is taken out
+pub no_node_copies : (r : DumpRecord) (old : List (List ℕ)) → is_node r ≡ false → AreWithout (is_below_copy r) old old
+no_node_copies r old other text =
+    sym (ap (λ n. is_among text old && not (n && (makes_copy r && begins_path (bare_path (node_path r)) text))) other
+    ∙ and_true (is_among text old))
+
+module _ (r : DumpRecord) (old : List (List ℕ)) (node : is_node r ≡ true) where
+  pub no_copy_leaves : makes_copy r ≡ false → AreWithout (is_below_copy r) old old
+  no_copy_leaves plain text =
+      sym (ap₂ (λ n c. is_among text old && not (n && (c && begins_path (bare_path (node_path r)) text))) node plain
+      ∙ and_true (is_among text old))
+
+  pub copy_leaves : (new : List (List ℕ)) → makes_copy r ≡ true
+      → AreWithout (λ text. begins_path (bare_path (node_path r)) text) old new → AreWithout (is_below_copy r) old new
+  copy_leaves new copy = same_without (λ text. begins_path (bare_path (node_path r)) text) (is_below_copy r) old new
+      (λ text. sym (ap₂ (λ n c. n && (c && begins_path (bare_path (node_path r)) text)) node copy))
+
 -- record by record
 
 pub all_idle : (prefixes set : List (List ℕ)) → HaveSame set (map bare_prefix prefixes) → AreIdle [] prefixes set
 all_idle prefixes set same text = same text ∙ sym (and_true (is_among text (map bare_prefix prefixes)))
 
 pub idle_more : (records : List DumpRecord) (r : DumpRecord) (prefixes idle new : List (List ℕ))
-    → AreIdle records prefixes idle → AreWithout (is_begun_by r) idle new → AreIdle (records ++ r ∷ []) prefixes new
+    → AreIdle records prefixes idle → AreWithout (is_touched_by r) idle new → AreIdle (records ++ r ∷ []) prefixes new
 idle_more records r prefixes idle new so_far without =
-    same_without (λ bare. list_any (λ x. is_begun_by x bare) records || is_begun_by r bare)
-    (λ bare. list_any (λ x. is_begun_by x bare) (records ++ r ∷ [])) (map bare_prefix prefixes) new
-    (λ bare. sym (list_any-append (λ x. is_begun_by x bare) records (r ∷ [])
-    ∙ ap (λ b. list_any (λ x. is_begun_by x bare) records || b) (or_false (is_begun_by r bare))))
-    (both_without (λ bare. list_any (λ x. is_begun_by x bare) records) (is_begun_by r) (map bare_prefix prefixes) idle new
+    same_without (λ bare. list_any (λ x. is_touched_by x bare) records || is_touched_by r bare)
+    (λ bare. list_any (λ x. is_touched_by x bare) (records ++ r ∷ [])) (map bare_prefix prefixes) new
+    (λ bare. sym (list_any-append (λ x. is_touched_by x bare) records (r ∷ [])
+    ∙ ap (λ b. list_any (λ x. is_touched_by x bare) records || b) (or_false (is_touched_by r bare))))
+    (both_without (λ bare. list_any (λ x. is_touched_by x bare) records) (is_touched_by r) (map bare_prefix prefixes) idle new
     so_far without)
 
 -- what is told of the prefixes
@@ -103,7 +119,7 @@ module _ (records : List DumpRecord) (prefixes idle : List (List ℕ)) (are : Ar
   told_of_each prefix here =
       ap (λ b. option_map (λ (f : PrefixFinding). told f)
       (if is_short_prefix prefix then (if b then Some Idle else None) else Some NotShort))
-      (are (bare_prefix prefix) ∙ ap (λ b. b && not (list_any (λ r. is_begun_by r (bare_prefix prefix)) records)) here)
+      (are (bare_prefix prefix) ∙ ap (λ b. b && not (list_any (λ r. is_touched_by r (bare_prefix prefix)) records)) here)
     where
       told : PrefixFinding → PrefixTold
       told f = record { prefix = prefix; finding = f }

@@ -1,5 +1,5 @@
 -- Texts that are taken out of a set: those that begin a path are its parts before a slash, the path, and the empty one.
-use Rattle.std.proofs.Common.{◌≡◌, ◌≢◌, ℕ, ◌+◌, ◌<◌, ◌≤◌, Bool, true, false, not, ◌&&◌, ◌||◌, List, [], ◌∷◌, take, length, get_or, map, nat_lt, bytes_eq, cond, refl, sym, ap, ◌∙◌, inl, inr, arith}
+use Rattle.std.proofs.Common.{◌≡◌, ◌≢◌, ℕ, ◌+◌, ◌<◌, ◌≤◌, Bool, true, false, not, ◌&&◌, ◌||◌, List, [], ◌∷◌, take, length, get_or, map, nat_lt, bytes_eq, cond, filter, refl, sym, ap, ap₂, ◌∙◌, inl, inr, arith}
 use Rattle.std.specs.List.{list_any}
 use Rattle.std.specs.BTreeMap.{is_at}
 use Rattle.std.specs.Set.{remove_key}
@@ -24,7 +24,7 @@ pub and_true : (b : Bool) → (b && true) ≡ b
 and_true true = refl
 and_true false = refl
 
-or_false : (b : Bool) → (b || false) ≡ b
+pub or_false : (b : Bool) → (b || false) ≡ b
 or_false true = refl
 or_false false = refl
 
@@ -80,6 +80,52 @@ within_less {V} items test longest (x ∷ xs) within =
     by more false =
         ap (λ b. b || list_any (λ text. nat_lt longest (length text)) (map items (remove_key test xs)))
         (or_parts (nat_lt longest (length (items x))) _ within).0 ∙ more
+
+-- of the keys of a set those whose texts fail the test are left
+
+module _ {V : Type 0} (items : V → List ℕ) (test : List ℕ → Bool) where
+  pub texts_filtered : (ks : List V)
+      → AreWithout test (map items ks) (map items (filter (λ k. not (test (items k))) ks))
+  texts_filtered [] text = refl
+  texts_filtered (x ∷ xs) text = by (texts_filtered xs text) (test (items x)) refl (bytes_eq text (items x)) refl
+    where
+      rest : List V
+      rest = filter (λ k. not (test (items k))) xs
+
+      by : is_among text (map items rest) ≡ (is_among text (map items xs) && not (test text))
+          → (t : Bool) → test (items x) ≡ t → (b : Bool) → bytes_eq text (items x) ≡ b
+          → is_among text (map items (cond (not t) (x ∷ rest) rest))
+          ≡ ((bytes_eq text (items x) || is_among text (map items xs)) && not (test text))
+      by more true passes true same =
+          let fails : test text ≡ true = ap test ((bytes_eq-Decides text (items x)).0 same) ∙ passes in
+          more ∙ (ap (λ c. is_among text (map items xs) && not c) fails ∙ (and_false (is_among text (map items xs))
+          ∙ (sym (and_false (bytes_eq text (items x) || is_among text (map items xs)))
+          ∙ ap (λ c. (bytes_eq text (items x) || is_among text (map items xs)) && not c) (sym fails))))
+      by more true passes false apart =
+          more ∙ ap (λ b. (b || is_among text (map items xs)) && not (test text)) (sym apart)
+      by more false fails true same =
+          let stays : test text ≡ false = ap test ((bytes_eq-Decides text (items x)).0 same) ∙ fails in
+          ap (λ b. b || is_among text (map items rest)) same
+          ∙ sym (ap₂ (λ b c. (b || is_among text (map items xs)) && not c) same stays)
+      by more false fails false apart =
+          ap (λ b. b || is_among text (map items rest)) apart
+          ∙ (more ∙ ap (λ b. (b || is_among text (map items xs)) && not (test text)) (sym apart))
+
+  pub within_filtered : (longest : ℕ) (ks : List V) → AreWithin longest (map items ks)
+      → AreWithin longest (map items (filter (λ k. not (test (items k))) ks))
+  within_filtered longest [] within = refl
+  within_filtered longest (x ∷ xs) within =
+      by (within_filtered longest xs (or_parts _ _ within).1) (test (items x))
+    where
+      rest : List V
+      rest = filter (λ k. not (test (items k))) xs
+
+      by : AreWithin longest (map items rest) → (t : Bool)
+          → AreWithin longest (map items (cond (not t) (x ∷ rest) rest))
+      by more true = more
+      by more false =
+          ap (λ b. b || list_any (λ text. nat_lt longest (length text)) (map items rest))
+          (or_parts (nat_lt longest (length (items x))) _ within).0 ∙ more
 
 -- a text of the list is no longer than this
 pub among_within : (longest : ℕ) (texts : List (List ℕ)) (text : List ℕ) → AreWithin longest texts

@@ -2,6 +2,7 @@ pub mod FolderLemmas
 pub mod GivenLemmas
 pub mod GrowthLemmas
 pub mod IdleLemmas
+pub mod KindLemmas
 pub mod LeavingLemmas
 pub mod LineLemmas
 pub mod LossLemmas
@@ -11,6 +12,8 @@ pub mod NodeLemmas
 pub mod PlainLemmas
 pub mod PrefixLemmas
 mod PrefixValues
+pub mod RevisionMapLemmas
+mod RevisionMapValues
 pub mod SilentLemmas
 pub mod SurveyLemmas
 pub mod SurveyTextLemmas

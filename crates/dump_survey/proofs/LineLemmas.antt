@@ -5,7 +5,6 @@ use Rattle.std.specs.Result.{OnOk}
 use Rattle.dump_history.specs.Findings.{DumpFinding, every_dump_finding}
 use Rattle.dump_survey.specs.declared.tally.DumpFindings.{DumpFindings}
 use Rattle.dump_survey.specs.DumpFindings.{has_dump_finding, listed_findings}
-use Rattle.dump_survey.specs.Lines.{dump_line}
 
 -- the lines of those that pass the test, each where it passes
 lines_of_those : {F : Type 0} (test : F → Bool) (line : F → List ℕ) (fs : List F)
@@ -19,19 +18,16 @@ lines_of_those test line (f ∷ fs) = by (test f) (lines_of_those test line fs)
     by true more = ap (λ l. line f ++ l) more
     by false more = more
 
--- the line of a finding of the whole dump, if it is found
-abbrev pub line_if : Bool → DumpFinding → List ℕ
-line_if found finding = cond found (dump_line finding) []
-
 -- what is found in the whole dump, line by line
-abbrev pub lines_if : DumpFindings → List (List ℕ)
-lines_if found = line_if found.no_revision DumpFinding.NoRevision
-    ∷ line_if found.other_numbers DumpFinding.OtherNumbers
-    ∷ line_if found.node_in_first DumpFinding.NodeInFirst
-    ∷ line_if found.numbers_left DumpFinding.NumbersLeft ∷ []
+abbrev pub lines_if : (DumpFinding → List ℕ) → DumpFindings → List (List ℕ)
+lines_if line found = cond found.no_revision (line DumpFinding.NoRevision) []
+    ∷ cond found.other_numbers (line DumpFinding.OtherNumbers) []
+    ∷ cond found.node_in_first (line DumpFinding.NodeInFirst) []
+    ∷ cond found.numbers_left (line DumpFinding.NumbersLeft) [] ∷ []
 
-pub dump_lines : (found : DumpFindings) → flat_map dump_line (listed_findings found) ≡ concat (lines_if found)
-dump_lines found = lines_of_those (λ f. has_dump_finding found f) dump_line every_dump_finding
+pub dump_lines : (line : DumpFinding → List ℕ) (found : DumpFindings)
+    → flat_map line (listed_findings found) ≡ concat (lines_if line found)
+dump_lines line found = lines_of_those (λ f. has_dump_finding found f) line every_dump_finding
 
 -- the parts are added one behind the other
 abbrev pub AreAdded : List ℕ → List (List ℕ) → List ℕ → Type 0

@@ -17,7 +17,6 @@ use Rattle.dump_records.specs.DumpText.{Ending, BeginsWithRecords, HasRecords}
 use Rattle.dump_records.specs.steps.CutterState.{CutterState}
 use Rattle.dump_records.specs.steps.CutRecords.{EndsAfter}
 use Rattle.dump_records.specs.steps.RecordViews.{record_item, CutStep}
-use Rattle.dump_records.proofs.CutLemmas.{count_fits}
 use Rattle.dump_records.proofs.Prefixes.{whole_list}
 use Rattle.dump_rules.specs.Prefix.{bare_prefix, bare_path, begins_path, matches_path}
 use Rattle.dump_rules.specs.steps.PrefixSearch.{BeginSame}
@@ -32,7 +31,7 @@ use Rattle.dump_survey.specs.declared.needs.Need.{Need}
 use Rattle.dump_survey.specs.KeepAsWell.{with_prefixes, stops_at, wanted_path, matches_itself, is_wanted, AreWanted, covers, uncovered, are_apart, stops_somewhere, AreKeptAsWell, AreKeptAsWellIn}
 use Rattle.dump_survey.specs.steps.Needs.{PathNeed, need_view, need_of, needs_of, can_not_stand, copy_need, is_matched, is_unmet, AreNeeded, each_matches_itself}
 use Rattle.dump_survey.proofs.GrowthLemmas.{any_both, needs_path, uncovered_same, uncovered_apart}
-use Rattle.dump_survey.proofs.SurveyorLemmas.{begins_with_none, comes_next}
+use Rattle.dump_survey.proofs.SurveyorLemmas.{begins_next, begins_with_none, nearer_by_one}
 
 -- record by record
 
@@ -58,19 +57,11 @@ module _ (side : Side) (dump : List ℕ) (cutter after : CutterState) (needs : L
     (so_far : NeedsSoFar side dump cutter needs) where
   module _ (item : Record) (step : CutStep cutter (cuts.Item item) after) where
     next_begins : BeginsWithRecords dump (so_far.before ++ record_item item ∷ [])
-    next_begins = subst (λ d. BeginsWithRecords d (so_far.before ++ record_item item ∷ [])) so_far.dump_is
-        (comes_next cutter.dump so_far.before cutter.number (record_item item)
-        (subst (λ d. BeginsWithRecords d so_far.before) (sym so_far.dump_is) so_far.begins) so_far.count step.2)
+    next_begins = begins_next dump cutter after so_far.before so_far.dump_is so_far.begins so_far.count item step
 
     -- the cutter is nearer to the end
     pub cutter_nearer : (after.number ≡ cutter.number + 1) × (after.number ≤ length dump)
-    cutter_nearer =
-        let begins = next_begins in
-        let fits = count_fits 0 0 dump begins.0 (so_far.before ++ record_item item ∷ []) begins.1 in
-        let size = length-append so_far.before (record_item item ∷ []) in
-        let count = so_far.count in
-        let number = ap (λ (c : CutterState). c.number) step.3 in
-        (number, omega arith)
+    cutter_nearer = nearer_by_one dump cutter after so_far.before so_far.dump_is so_far.begins so_far.count item step
 
     more_needs : (need : Option PathNeed) → need ≡ need_of side (record_item item) → (all : List PathNeed)
         → all ≡ filter_map (λ (n : Option PathNeed). n) (need ∷ []) → needs ++ all ≡ needs_of side (so_far.before ++ record_item item ∷ [])

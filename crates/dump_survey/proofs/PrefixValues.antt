@@ -1,31 +1,30 @@
 -- Worked values of what is found in prefixes, computed and proved by the kernel.
-use Rattle.std.proofs.Common.{◌≡◌, ℕ, List, [], ◌∷◌, ◌++◌, Some, None, refl, codes}
+use Rattle.std.proofs.Common.{◌≡◌, ℕ, List, [], ◌∷◌, Some, None, refl, codes}
 use Rattle.dump_records.specs.RecordText.{DumpRecord}
 use Rattle.dump_survey.specs.declared.prefix_findings.PrefixFinding.TheVariants.{NotShort, Idle}
 use Rattle.dump_survey.specs.PrefixFindings.{prefix_finding, told_prefixes}
 use Rattle.dump_history.proofs.values.WorkedDump.{line, record_at, records, version, zero, one}
 
--- a folder that is copied from a path of which no node of the dump is
-abbrev tag : DumpRecord
-tag = record_at 71 (line (codes "Node-path") (codes "tag")
+-- a dump with one node, a folder of this path and action, that is copied from a path of which no node is
+abbrev copied_to : (path action : List ℕ) → List DumpRecord
+copied_to path action = version ∷ zero ∷ one ∷ record_at 71 (line (codes "Node-path") path
     ∷ line (codes "Node-kind") (codes "dir")
-    ∷ line (codes "Node-action") (codes "add")
+    ∷ line (codes "Node-action") action
     ∷ line (codes "Node-copyfrom-rev") (codes "0")
-    ∷ line (codes "Node-copyfrom-path") (codes "old") ∷ [])
+    ∷ line (codes "Node-copyfrom-path") (codes "old") ∷ []) ∷ []
 
--- a dump that has it alone
 abbrev copied : List DumpRecord
-copied = version ∷ zero ∷ one ∷ tag ∷ []
+copied = copied_to (codes "tag") (codes "add")
 
 -- a path, and what stands below it
 
 own_path : prefix_finding records (codes "trunk") ≡ None
 own_path = refl
 
-path_below : prefix_finding copied (codes "tag/x") ≡ Some Idle
+path_below : prefix_finding (copied_to (codes "tags/one") (codes "add")) (codes "tags") ≡ None
 path_below = refl
 
-path_above : prefix_finding records (codes "trunk/b/c") ≡ Some Idle
+path_above : prefix_finding records (codes "trunk/c") ≡ Some Idle
 path_above = refl
 
 -- whole names are matched
@@ -42,6 +41,44 @@ copy_source = refl
 
 below_the_source : prefix_finding copied (codes "old/x") ≡ Some Idle
 below_the_source = refl
+
+-- what may come with a copy counts, where one is made
+
+below_a_copy : prefix_finding copied (codes "tag/x/y") ≡ None
+below_a_copy = refl
+
+below_a_later_copy : prefix_finding records (codes "trunk/b/c") ≡ None
+below_a_later_copy = refl
+
+below_a_replacing_copy : prefix_finding (copied_to (codes "tag") (codes "replace")) (codes "tag/x") ≡ None
+below_a_replacing_copy = refl
+
+below_a_deletion : prefix_finding (copied_to (codes "tag") (codes "delete")) (codes "tag/x") ≡ Some Idle
+below_a_deletion = refl
+
+below_a_change : prefix_finding (copied_to (codes "tag") (codes "change")) (codes "tag/x") ≡ Some Idle
+below_a_change = refl
+
+beside_a_copy : prefix_finding (copied_to (codes "tags/one") (codes "add")) (codes "tags/two") ≡ Some Idle
+beside_a_copy = refl
+
+part_of_its_name : prefix_finding copied (codes "ta") ≡ Some Idle
+part_of_its_name = refl
+
+its_name_and_more : prefix_finding copied (codes "tagged/x") ≡ Some Idle
+its_name_and_more = refl
+
+copy_with_a_slash : prefix_finding (copied_to (codes "/tag") (codes "add")) (codes "/tag/x/") ≡ None
+copy_with_a_slash = refl
+
+copy_of_the_root_path : prefix_finding (copied_to [] (codes "add")) (codes "x") ≡ None
+copy_of_the_root_path = refl
+
+copy_of_a_slash : prefix_finding (copied_to (codes "/") (codes "add")) (codes "x") ≡ None
+copy_of_a_slash = refl
+
+in_no_short_form : prefix_finding copied (codes "tag//x") ≡ Some NotShort
+in_no_short_form = refl
 
 -- slashes at the ends don't count, and the root is above each node
 

@@ -11,6 +11,7 @@ use Rattle.dump_writer.specs.SinkWords.{IsPrefixOf}
 use Rattle.dump_history.specs.Findings.{Finding, AreFindingsOf, dump_findings}
 use Rattle.dump_history.proofs.survey.FindingLemmas.{findings_once}
 use Rattle.dump_survey.specs.Told.{NodeTold, told_in, present_after, IsToldOf, AreTold}
+use Rattle.dump_survey.specs.Kinds.{kind_lines, times_told}
 use Rattle.dump_survey.specs.Lines.{node_line, dump_line, ending_line}
 use Rattle.dump_survey.specs.PrefixFindings.{told_prefixes}
 use Rattle.dump_survey.specs.PrefixLines.{prefix_lines}
@@ -70,7 +71,8 @@ begins_text settings dump before told begins are =
     (subst (λ l. AreTold settings 0 None l all) (sym whole) all_are) in
     let same : told ≡ first = told_once settings before first told first_are are in
     let end : List ℕ = flat_map dump_line (dump_findings settings records)
-    ++ (prefix_lines (told_prefixes records settings.prefixes) ++ ending_line (length records) ending) in (
+    ++ (prefix_lines (told_prefixes records settings.prefixes) ++ (ending_line (length records) ending
+    ++ kind_lines (times_told all) (dump_findings settings records) (told_prefixes records settings.prefixes) ending)) in (
       survey_lines settings all records ending,
       not (length (survey_lines settings all records ending) == 0),
       record {

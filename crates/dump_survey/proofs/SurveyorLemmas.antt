@@ -1,5 +1,5 @@
 -- What a surveyor knows goes on to one more record, and tells what is found where the records end.
-use Rattle.std.proofs.Common.{◌≡◌, ℕ, ◌+◌, ◌^◌, ◌<◌, Bool, true, false, not, ◌&&◌, List, [], ◌∷◌, ◌++◌, length, length-append, map, Option, Some, None, refl, sym, ap, ◌∙◌, subst, arith, inl, inr, Result, Ok, Err, MatchBool}
+use Rattle.std.proofs.Common.{◌≡◌, ℕ, ◌+◌, ◌^◌, ◌<◌, ◌≤◌, Bool, true, false, not, ◌&&◌, List, [], ◌∷◌, ◌++◌, length, length-append, map, Option, Some, None, refl, sym, ap, ◌∙◌, subst, arith, inl, inr, Result, Ok, Err, MatchBool}
 use Rattle.std.specs.Result.{IfOk}
 use Rattle.std.specs.List.{list_all}
 use Rattle.std.proofs.lemmas.Bool.{and_from}
@@ -10,6 +10,7 @@ use Rattle.dump_records.specs.DumpText.{IsCutInto, BeginsWithRecords, HasRecords
 use Rattle.dump_records.specs.steps.CutterState.{CutterState}
 use Rattle.dump_records.specs.steps.CutRecords.{EndsAfter, IsRecordOf}
 use Rattle.dump_records.specs.steps.RecordViews.{record_item, record_number, CutStep}
+use Rattle.dump_records.proofs.CutLemmas.{count_fits}
 use Rattle.dump_records.proofs.ListLaw.{each_dump_has_one_list}
 use Rattle.dump_records.proofs.Prefixes.{begins_prefix, one_more, whole_list}
 use Rattle.dump_rules.specs.Settings.{Settings}
@@ -32,7 +33,7 @@ use Rattle.dump_survey.specs.steps.Surveyed.{told_of_node}
 use Rattle.dump_survey.specs.SurveyEnds.{survey_ending}
 use Rattle.dump_survey.specs.steps.Folders.{HaveSame}
 use Rattle.dump_survey.specs.PrefixFindings.{PrefixTold}
-use Rattle.dump_survey.specs.steps.IdlePrefixes.{AreWithout, is_begun_by, prefixes_by}
+use Rattle.dump_survey.specs.steps.IdlePrefixes.{AreWithout, is_touched_by, prefixes_by}
 use Rattle.dump_survey.specs.steps.Surveying.{Surveying, Surveys}
 use Rattle.dump_survey.specs.steps.Steps.{IsStepOf, TellsEnd, ComesNext, open_behind, SurveyStep, ArePrefixesTold}
 use Rattle.dump_survey.proofs.IdleLemmas.{all_idle, idle_more, told_by_idle}
@@ -65,6 +66,24 @@ pub comes_next : (dump : List ℕ) (before : List DumpRecord) (number : ℕ) (r 
     → BeginsWithRecords dump (before ++ r ∷ [])
 comes_next dump before number r begins count next =
     one_more dump before r begins ∣ subst (λ n. IsRecordOf dump n r) (sym count) next ∣₁
+
+module _ (dump : List ℕ) (cutter after : CutterState) (before : List DumpRecord) (dump_is : cutter.dump ≡ dump)
+    (begins : BeginsWithRecords dump before) (count : length before ≡ cutter.number) (item : Record)
+    (step : CutStep cutter (cuts.Item item) after) where
+  -- so does that which a cutter gives
+  pub begins_next : BeginsWithRecords dump (before ++ record_item item ∷ [])
+  begins_next = subst (λ d. BeginsWithRecords d (before ++ record_item item ∷ [])) dump_is
+      (comes_next cutter.dump before cutter.number (record_item item)
+      (subst (λ d. BeginsWithRecords d before) (sym dump_is) begins) count step.2)
+
+  -- and the cutter is nearer to the end
+  pub nearer_by_one : (after.number ≡ cutter.number + 1) × (after.number ≤ length dump)
+  nearer_by_one =
+      let more = begins_next in
+      let fits = count_fits 0 0 dump more.0 (before ++ record_item item ∷ []) more.1 in
+      let size = length-append before (record_item item ∷ []) in
+      let number = ap (λ (c : CutterState). c.number) step.3 in
+      (number, omega (arith, count))
 
 -- a dump begins with no records
 pub begins_with_none : (dump : List ℕ) → BeginsWithRecords dump []
@@ -140,7 +159,7 @@ module _ (settings : Settings) (prefixes idle : List (List ℕ)) (tally : Tally)
         omega arith
 
     -- and goes on with the record
-    pub goes_on : (left : List (List ℕ)) (next : Tally) → AreWithout (is_begun_by (record_item item)) idle left
+    pub goes_on : (left : List (List ℕ)) (next : Tally) → AreWithout (is_touched_by (record_item item)) idle left
         → next ≡ next_tally settings tally (record_item item) → Surveys settings prefixes left next after
     goes_on left next without is = record {
       prefixes_are = knows.prefixes_are;

@@ -129,7 +129,7 @@ abbrev pub is_single : DumpRecord → Bool
 is_single r = not (is_node r && is_revision_record r)
 
 -- whether the present revision is kept, where these nodes follow
-abbrev closes : Settings → Option Present → List DumpRecord → Bool
+abbrev pub closes : Settings → Option Present → List DumpRecord → Bool
 closes settings None ns = true
 closes settings (Some p) ns =
     p.number == 0 || (p.kept || list_any (is_kept_node settings) ns)
@@ -139,16 +139,16 @@ or_false : (a : Bool) → (a || false) ≡ a
 or_false true = refl
 or_false false = refl
 
-or_assoc : (a b c : Bool) → ((a || b) || c) ≡ (a || (b || c))
+pub or_assoc : (a b c : Bool) → ((a || b) || c) ≡ (a || (b || c))
 or_assoc true b c = refl
 or_assoc false b c = refl
 
-closes_none : (settings : Settings) (p : Option Present) → closes settings p [] ≡ keeps_open settings p
+pub closes_none : (settings : Settings) (p : Option Present) → closes settings p [] ≡ keeps_open settings p
 closes_none settings None = refl
 closes_none settings (Some p) =
     ap₂ (λ k b. p.number == 0 || k || keeps_empty settings.empty b) (or_false p.kept) (and_true p.bare)
 
-some_left : (n : ℕ) (b : Bool) → (b && (suc n == 0)) ≡ false
+pub some_left : (n : ℕ) (b : Bool) → (b && (suc n == 0)) ≡ false
 some_left n true = grind arith
 some_left n false = refl
 

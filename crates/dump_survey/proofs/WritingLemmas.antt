@@ -1,30 +1,43 @@
 -- What a sink took of a survey so far, and what it takes next.
-use Rattle.std.proofs.Common.{◌≡◌, ℕ, ◌+◌, Bool, true, false, not, ◌||◌, ◌==◌, List, [], ◌∷◌, ◌++◌, length, flat_map, Option, refl, sym, ap, ap₂, ◌∙◌, subst, append_assoc, append-nil, arith, Result, Ok, Err}
+use Rattle.std.proofs.Common.{◌≡◌, ◌≤◌, ℕ, ◌+◌, Bool, true, false, not, ◌||◌, ◌==◌, List, [], ◌∷◌, ◌++◌, length, flat_map, Option, refl, sym, ap, ap₂, ◌∙◌, subst, append_assoc, append-nil, arith, Result, Ok, Err}
 use Rattle.std.specs.Result.{OnErr}
 use Rattle.std.proofs.lemmas.Bool.{ne_eqb}
 use Rattle.std.specs.Io.KnownBytes.{Appends}
 use Rattle.std.proofs.KnownBytes.{Appends-nil, Appends-trans}
 use Rattle.std.proofs.lemmas.Grind.{flat_map-append}
+use Rattle.dump_records.specs.DumpText.{Ending}
 use Rattle.dump_rules.specs.Settings.{Settings}
+use Rattle.dump_history.specs.Findings.{Finding, every_finding, DumpFinding, dump_findings}
 use Rattle.dump_records.proofs.ListLaw.{each_dump_has_one_list}
 use Rattle.dump_records.proofs.Prefixes.{begins_prefix}
 use Rattle.dump_writer.specs.SinkWords.{IsPrefixOf}
+use Rattle.dump_survey.specs.declared.counts.Counts.{Counts}
+use Rattle.dump_survey.specs.declared.prefix_findings.PrefixFinding.TheVariants.{NotShort, Idle}
 use Rattle.dump_survey.specs.declared.surveyor.Step.TheVariants.{Node, Other, Finished}
 use Rattle.dump_survey.specs.declared.surveyor.SurveyEnd.{SurveyEnd}
 use Rattle.dump_survey.specs.declared.told.SurveyedNode.{SurveyedNode}
 use Rattle.dump_survey.specs.DumpFindings.{listed_findings}
+use Rattle.dump_survey.specs.Kinds.{dump_kind_line, ending_kind_line, finding_kind, kind_line, kind_lines, prefix_kind, times_in_prefixes, times_told}
 use Rattle.dump_survey.specs.Lines.{node_line, dump_line, ending_line}
 use Rattle.dump_survey.specs.PrefixFindings.{PrefixTold, told_prefixes}
 use Rattle.dump_survey.specs.PrefixLines.{prefix_lines}
 use Rattle.dump_survey.specs.SurveyEnds.{survey_ending}
 use Rattle.dump_survey.specs.SurveyText.{IsSurveyText, BreaksOffSurvey}
 use Rattle.dump_survey.specs.Told.{NodeTold}
+use Rattle.dump_survey.specs.steps.Counts.{AreWithNode, count_in, no_counts}
 use Rattle.dump_survey.specs.steps.Steps.{SurveyStep}
 use Rattle.dump_survey.specs.steps.Surveyed.{told_of_node}
 use Rattle.dump_survey.specs.steps.Surveying.{Surveying}
 use Rattle.dump_survey.specs.LinesBehind.{TakesSome}
+use Rattle.dump_survey.proofs.KindLemmas.{counts_with_node, low_with_node, none_counted, same_lines}
 use Rattle.dump_survey.proofs.SurveyLemmas.{HaveTold, node_told, nothing_told, node_nearer, other_nearer, all_told}
 use Rattle.dump_survey.proofs.SurveyTextLemmas.{begins_text}
+
+-- the lines of all kinds but those of nodes
+abbrev kinds_behind : List DumpFinding → List PrefixTold → Ending → List ℕ
+kinds_behind found prefixes ending = flat_map dump_kind_line found
+    ++ (kind_line (times_in_prefixes prefixes NotShort) (prefix_kind NotShort)
+    ++ (kind_line (times_in_prefixes prefixes Idle) (prefix_kind Idle) ++ ending_kind_line ending))
 
 -- whether there are bytes
 abbrev pub has_some : List ℕ → Bool
@@ -32,12 +45,14 @@ has_some bytes = not (length bytes == 0)
 
 -- the surveyor is at a place of this dump, and the sink took the lines of what was told of the records before it
 pub record HasWritten (settings : Settings) (dump : List ℕ) (state : Surveying) (old new : Option (List ℕ))
-    (found : Bool) (count : ℕ) : Type 0 where
+    (found : Bool) (count : ℕ) (counts : Counts) : Type 0 where
   pub told : List NodeTold
   pub have : HaveTold settings dump state told
   pub appended : Appends old new (flat_map node_line told)
   pub found_is : found ≡ has_some (flat_map node_line told)
   pub counted : count ≡ state.number
+  pub counts_are : (f : Finding) → count_in counts f ≡ times_told told f
+  pub low : (f : Finding) → count_in counts f ≤ count
 
 some_of_both : (xs ys : List ℕ) → has_some (xs ++ ys) ≡ (has_some xs || has_some ys)
 some_of_both [] ys = refl
@@ -58,7 +73,7 @@ no_error is = cc
 -- before the first record nothing was written
 pub nothing_written : (settings : Settings) (dump : List ℕ) (state : Surveying) (taken : Option (List ℕ))
     → state ≡ record { dump = dump; settings = settings; number = 0 }
-    → HasWritten settings dump state taken taken false 0
+    → HasWritten settings dump state taken taken false 0 no_counts
 nothing_written settings dump state taken is = record {
   told = [];
   have = record {
@@ -73,16 +88,19 @@ nothing_written settings dump state taken is = record {
   appended = Appends-nil taken;
   found_is = refl;
   counted = sym (ap (λ (s : Surveying). s.number) is);
+  counts_are = none_counted;
+  low = λ f. let none = none_counted f in omega (arith, none);
 }
 
 module _ (settings : Settings) (dump : List ℕ) (state after : Surveying) (old new newer : Option (List ℕ)) (found : Bool)
-    (count : ℕ) (so_far : HasWritten settings dump state old new found count) where
+    (count : ℕ) (counts : Counts) (so_far : HasWritten settings dump state old new found count counts) where
   -- the lines of a node's findings were written
-  pub node_written : (node : SurveyedNode) (some : Bool) → SurveyStep state (Node node) after
+  pub node_written : (node : SurveyedNode) (some : Bool) (more : Counts) → SurveyStep state (Node node) after
       → Appends new newer (flat_map node_line (told_of_node node))
       → some ≡ has_some (flat_map node_line (told_of_node node))
-      → HasWritten settings dump after old newer (found || some) (count + 1)
-  node_written node some step appends some_is =
+      → AreWithNode counts node.found more
+      → HasWritten settings dump after old newer (found || some) (count + 1) more
+  node_written node some more step appends some_is with_node =
       let all = flat_map-append node_line so_far.told (told_of_node node) in record {
         told = so_far.told ++ told_of_node node;
         have = node_told settings dump state after so_far.told so_far.have node step;
@@ -92,10 +110,12 @@ module _ (settings : Settings) (dump : List ℕ) (state after : Surveying) (old 
             ∙ ap has_some (sym all));
         counted = ap (λ n. n + 1) so_far.counted
             ∙ sym (node_nearer settings dump state after so_far.told so_far.have node step).0;
+        counts_are = counts_with_node counts more so_far.told node so_far.counts_are with_node;
+        low = low_with_node counts more node count so_far.low with_node;
       }
 
   -- nothing is written of another record
-  pub other_written : SurveyStep state Other after → HasWritten settings dump after old new found (count + 1)
+  pub other_written : SurveyStep state Other after → HasWritten settings dump after old new found (count + 1) counts
   other_written step = record {
     told = so_far.told;
     have = nothing_told settings dump state after so_far.told so_far.have step;
@@ -103,6 +123,8 @@ module _ (settings : Settings) (dump : List ℕ) (state after : Surveying) (old 
     found_is = so_far.found_is;
     counted = ap (λ n. n + 1) so_far.counted
         ∙ sym (other_nearer settings dump state after so_far.told so_far.have step).0;
+    counts_are = so_far.counts_are;
+    low = λ f. let below = so_far.low f in omega (arith, below);
   }
 
   -- what the sink took is a first part of the text
@@ -150,7 +172,8 @@ module _ (settings : Settings) (dump : List ℕ) (state after : Surveying) (old 
   module _ (end : SurveyEnd) (step : SurveyStep state (Finished end) after) (prefixes : List PrefixTold)
       (prefixes_are : prefixes ≡ told_prefixes so_far.have.before settings.prefixes) (lines : List ℕ)
       (lines_are : lines ≡ flat_map dump_line (listed_findings end.dump)
-      ++ (prefix_lines prefixes ++ ending_line count (survey_ending end.end))) where
+      ++ (prefix_lines prefixes ++ (ending_line count (survey_ending end.end)
+      ++ kind_lines (count_in counts) (listed_findings end.dump) prefixes (survey_ending end.end)))) where
     -- with the lines of its end the text is whole
     text_whole : IsSurveyText settings dump (flat_map node_line so_far.told ++ lines)
         (has_some (flat_map node_line so_far.told ++ lines))
@@ -163,9 +186,19 @@ module _ (settings : Settings) (dump : List ℕ) (state after : Surveying) (old 
           are_told = so_far.have.told;
           text_is = ap (λ l. flat_map node_line so_far.told ++ l)
               (lines_are ∙ (ap (λ ps. flat_map dump_line (listed_findings end.dump)
-              ++ (prefix_lines ps ++ ending_line count (survey_ending end.end))) prefixes_are
-              ∙ ap₂ (λ fs n. flat_map dump_line fs ++ (prefix_lines (told_prefixes so_far.have.before settings.prefixes)
-              ++ ending_line n (survey_ending end.end))) all.1 (so_far.counted ∙ sym so_far.have.count)));
+              ++ (prefix_lines ps ++ (ending_line count (survey_ending end.end)
+              ++ kind_lines (count_in counts) (listed_findings end.dump) ps (survey_ending end.end)))) prefixes_are
+              ∙ (ap₂ (λ fs n. flat_map dump_line fs ++ (prefix_lines (told_prefixes so_far.have.before settings.prefixes)
+              ++ (ending_line n (survey_ending end.end) ++ kind_lines (count_in counts) fs
+              (told_prefixes so_far.have.before settings.prefixes) (survey_ending end.end)))) all.1
+              (so_far.counted ∙ sym so_far.have.count)
+              ∙ ap (λ ks. flat_map dump_line (dump_findings settings so_far.have.before)
+              ++ (prefix_lines (told_prefixes so_far.have.before settings.prefixes)
+              ++ (ending_line (length so_far.have.before) (survey_ending end.end) ++ (ks
+              ++ kinds_behind (dump_findings settings so_far.have.before)
+              (told_prefixes so_far.have.before settings.prefixes) (survey_ending end.end)))))
+              (same_lines (λ n f. kind_line n (finding_kind f)) (count_in counts) (times_told so_far.told)
+              so_far.counts_are every_finding))));
           found_is = refl;
         }
 

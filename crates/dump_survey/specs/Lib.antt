@@ -2,11 +2,13 @@ pub mod AsWellLines
 pub mod DumpFindings
 pub mod Folders
 pub mod KeepAsWell
+pub mod Kinds
 pub mod Lines
 pub mod LinesBehind
 pub mod Meaning
 pub mod PrefixFindings
 pub mod PrefixLines
+pub mod RevisionMap
 pub mod SurveyEnds
 pub mod SurveyText
 pub mod SurveyTies

@@ -2,10 +2,11 @@
 use Rattle.std.specs.Prelude.{ℕ, Bool, not, ◌&&◌, ◌||◌, List, Option, Some, None, option_map, if◌then◌else◌}
 use Rattle.std.specs.List.{list_any, filter_map}
 use Rattle.dump_records.specs.RecordText.{DumpRecord}
-use Rattle.dump_rules.specs.Prefix.{bare_prefix, matches_path}
+use Rattle.dump_rules.specs.Prefix.{bare_prefix, bare_path, begins_path, matches_path}
 use Rattle.dump_digest.specs.RecordParts.{is_node, is_copy, node_path}
 use Rattle.dump_trees.specs.Paths.{is_short}
 use Rattle.dump_history.specs.RecordChanges.{copy_path}
+use Rattle.dump_history.specs.Findings.{makes_copy}
 use Rattle.dump_survey.specs.declared.prefix_findings.PrefixFinding.{PrefixFinding}
 use Rattle.dump_survey.specs.declared.prefix_findings.PrefixFinding.TheVariants.{NotShort, Idle}
 use Rattle.dump_survey.specs.declared.prefix_findings.ToldPrefix.{ToldPrefix}
@@ -20,9 +21,14 @@ abbrev pub is_matched_by : List ℕ → DumpRecord → Bool
 is_matched_by prefix r =
     is_node r && (matches_path prefix (node_path r) || (is_copy r && matches_path prefix (copy_path r)))
 
+-- whether the record is a node that makes a copy at the prefix or above it, with which may come what the prefix names
+abbrev pub is_in_copy : List ℕ → DumpRecord → Bool
+is_in_copy prefix r =
+    is_node r && (makes_copy r && begins_path (bare_path (node_path r)) (bare_prefix prefix))
+
 -- whether no record is such a node
 abbrev pub is_idle : List DumpRecord → List ℕ → Bool
-is_idle records prefix = not (list_any (is_matched_by prefix) records)
+is_idle records prefix = not (list_any (λ r. is_matched_by prefix r || is_in_copy prefix r) records)
 
 -- what is found in the prefix, if something; of one that isn't in its short form no more is told
 abbrev pub prefix_finding : List DumpRecord → List ℕ → Option PrefixFinding

@@ -1,4 +1,4 @@
--- What a survey writes: one line for each finding, in the dump's order.
+-- What a survey writes: one line for each finding, in the dump's order, and behind them one for each kind.
 use Rattle.std.specs.Prelude.{◌≡◌, ℕ, Bool, not, ◌==◌, List, ◌++◌, flat_map, length, Option, None}
 use Rattle.std.specs.Io.KnownBytes.{Appends}
 use Rattle.dump_records.specs.RecordText.{DumpRecord}
@@ -7,16 +7,18 @@ use Rattle.dump_rules.specs.Settings.{Settings}
 use Rattle.dump_writer.specs.SinkWords.{IsPrefixOf}
 use Rattle.dump_history.specs.Findings.{dump_findings}
 use Rattle.dump_survey.specs.Told.{NodeTold, AreTold}
+use Rattle.dump_survey.specs.Kinds.{kind_lines, times_told}
 use Rattle.dump_survey.specs.Lines.{node_line, dump_line, ending_line}
 use Rattle.dump_survey.specs.PrefixFindings.{told_prefixes}
 use Rattle.dump_survey.specs.PrefixLines.{prefix_lines}
 
--- the lines of what is told of nodes, of the findings of the whole dump, of what is told of prefixes, and of what ends
--- the list of records
+-- the lines of what is told of nodes, of the findings of the whole dump, of what is told of prefixes, of what ends the
+-- list of records, and of the kinds of all these
 abbrev pub survey_lines : Settings → List NodeTold → List DumpRecord → Ending → List ℕ
 survey_lines settings told records ending = flat_map node_line told
     ++ (flat_map dump_line (dump_findings settings records)
-    ++ (prefix_lines (told_prefixes records settings.prefixes) ++ ending_line (length records) ending))
+    ++ (prefix_lines (told_prefixes records settings.prefixes) ++ (ending_line (length records) ending
+    ++ kind_lines (times_told told) (dump_findings settings records) (told_prefixes records settings.prefixes) ending)))
 
 -- this is the text of the survey of a dump, and whether something is found
 pub record IsSurveyText (settings : Settings) (dump text : List ℕ) (found : Bool) : Type 0 where

@@ -1,6 +1,8 @@
+pub mod Counts
 pub mod Folders
 pub mod Found
 pub mod IdlePrefixes
+pub mod KeptNumbers
 pub mod Losses
 pub mod Names
 pub mod Needs

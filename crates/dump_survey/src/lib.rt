@@ -8,7 +8,8 @@
 //! [`Surveyor::told_prefixes`] tells the prefixes by which the filter does nothing, each with its [`PrefixFinding`].
 //! [`survey_dump`] keeps all this in a [`Survey`]; [`write_survey`] writes a line for each finding as it is found, and
 //! keeps nothing. [`folders_to_make`] tells which folders the load wants, [`keep_as_well`] which prefixes more let the
-//! filter stop at no copy, and [`write_behind`] writes a line for each.
+//! filter stop at no copy, and [`write_behind`] writes a line for each. [`write_map`] writes the old and the new number of
+//! each revision that the filter keeps.
 //!
 //! ```
 //! let survey = survey_dump(rt.alloc(), dump.as_slice(), &options)?;
@@ -32,10 +33,13 @@
 #![tactic(auto)]
 
 mod as_well;
+mod counts;
 mod finding;
 mod folders;
 mod growth;
+mod kind_lines;
 pub mod laws;
+mod map;
 mod memory;
 mod needs;
 mod node;
@@ -57,6 +61,7 @@ mod told;
 pub use as_well::keep_as_well;
 pub use finding::{EVERY_FINDING, Found, NodeFinding};
 pub use folders::folders_to_make;
+pub use map::write_map;
 pub use memory::Memory;
 pub use prefix_findings::{PrefixFinding, ToldPrefix};
 pub use survey::{Survey, survey_dump};

@@ -8,7 +8,7 @@ ghost use Rattle.dump_survey.specs.steps.Needs.{can_not_stand, need_of, need_vie
 
 use crate::memory::Memory;
 use crate::node::{copy_path_of, is_copy, is_whole_file, path_of};
-use crate::prefixes::behind;
+use crate::prefixes::begins_path;
 use crate::slashes::{bare_path, bare_prefix};
 use dump_records::{Cut, Cutter, Record};
 use dump_rules::Side;
@@ -25,12 +25,7 @@ pub(crate) struct Need<'a> {
 fn matches_itself(path: &[u8]) -> bool
     ensures { result ≡ matches_itself path.now }
 {
-    let bare = bare_prefix(path);
-    let text = bare_path(path);
-    if bare.is_empty() || text == bare {
-        return true;
-    }
-    behind(bare, text).is_some()
+    begins_path(bare_prefix(path), bare_path(path))
 }
 
 /// Whether the record is a copy that can't stand without its source.

@@ -120,7 +120,7 @@ pub(crate) fn is_whole_file(item: &Record<'_>) -> bool
 }
 
 /// Whether the node makes a copy.
-fn makes_copy(item: &Record<'_>) -> bool
+pub(crate) fn makes_copy(item: &Record<'_>) -> bool
     requires { IsTrue (is_node (record_item item.now)) }
     ensures { result ≡ makes_copy (record_item item.now) }
 {

@@ -2,10 +2,10 @@
 ghost use Rattle.std.specs.Prelude.{◌≡◌, IfOk, map};
 ghost use Rattle.dump_records.specs.steps.RecordViews.{record_item};
 ghost use Rattle.dump_survey.specs.PrefixFindings.{prefix_view};
-ghost use Rattle.dump_survey.specs.steps.IdlePrefixes.{AreWithout, finding_by, is_begun_by, prefixes_by};
+ghost use Rattle.dump_survey.specs.steps.IdlePrefixes.{AreWithout, finding_by, is_begun_by, is_below_copy, is_touched_by, prefixes_by};
 
 use crate::memory::Memory;
-use crate::node::{copy_path_of, is_copy, path_of};
+use crate::node::{copy_path_of, is_copy, makes_copy, path_of};
 use crate::prefix_set::PrefixSet;
 use crate::short_paths::is_short;
 use crate::slashes::{bare_path, bare_prefix};
@@ -17,7 +17,7 @@ use std::alloc::Global;
 pub enum PrefixFinding {
     /// It isn't in its short form, so no path of the loaded repository is at or below it.
     NotShort,
-    /// No node has a path at or below it, and none is copied from there.
+    /// No node has a path at or below it, and none is copied from there or to a path above it.
     Idle,
 }
 
@@ -30,7 +30,7 @@ pub struct ToldPrefix<'o> {
 }
 
 /// Takes out the bare prefixes that match the node's path, or the path that it is copied from.
-pub(crate) fn leave_matched(idle: &mut PrefixSet, item: &Record<'_>)
+fn leave_matched(idle: &mut PrefixSet, item: &Record<'_>)
     ensures { AreWithout (is_begun_by (record_item item.now)) idle.old idle.new }
 {
     if item.path().is_none() {
@@ -40,6 +40,26 @@ pub(crate) fn leave_matched(idle: &mut PrefixSet, item: &Record<'_>)
     if is_copy(item) {
         idle.leave(bare_path(copy_path_of(item)));
     }
+}
+
+/// Takes out the bare prefixes at or below the node's path, if it makes a copy.
+fn leave_copied(idle: &mut PrefixSet, item: &Record<'_>)
+    ensures { AreWithout (is_below_copy (record_item item.now)) idle.old idle.new }
+{
+    if item.path().is_none() {
+        return;
+    }
+    if makes_copy(item) {
+        idle.leave_below(bare_path(path_of(item)));
+    }
+}
+
+/// Takes out the bare prefixes that aren't idle where this record is there.
+pub(crate) fn leave_touched(idle: &mut PrefixSet, item: &Record<'_>)
+    ensures { AreWithout (is_touched_by (record_item item.now)) idle.old idle.new }
+{
+    leave_matched(idle, item);
+    leave_copied(idle, item);
 }
 
 /// What is found in the prefix, where these are idle.

@@ -16,7 +16,7 @@ fn prefix_line_words(finding: PrefixFinding) -> &'static [u8]
             b": not in its short form, so no path of the loaded repository is at or below it\n"
         }
         PrefixFinding::Idle => {
-            b": no node has a path at or below it, and none is copied from there\n"
+            b": no node has a path at or below it, and none is copied from there or to a path above it\n"
         }
     }
 }

@@ -7,6 +7,7 @@ ghost use Rattle.dump_survey.specs.steps.Folders.{HaveSame};
 ghost use Rattle.dump_survey.specs.steps.IdlePrefixes.{AreWithout, is_among};
 
 use crate::memory::Memory;
+use crate::prefixes::begins_path;
 use crate::slashes::bare_prefix;
 use std::alloc::Global;
 use std::collections::BTreeSet;
@@ -122,5 +123,12 @@ impl PrefixSet {
                 self.remove(&path[..place]);
             }
         }
+    }
+
+    /// Takes out those that the path begins.
+    pub(crate) fn leave_below(&mut self, path: &[u8])
+        ensures { AreWithout (λ text. begins_path path.now text) self.old self.new }
+    {
+        self.bare.retain(|text| !begins_path(path, text));
     }
 }

@@ -1,7 +1,7 @@
 //! The prefixes below a path, and what they cut there.
 ghost use Rattle.std.specs.Prelude.{◌≡◌, ◌++◌, IfOk, OnOk, MatchOption, false, map, option_copied};
 ghost use Rattle.std.specs.List.{list_any};
-ghost use Rattle.dump_rules.specs.Prefix.{bare_prefix};
+ghost use Rattle.dump_rules.specs.Prefix.{bare_prefix, begins_path};
 ghost use Rattle.dump_trees.specs.Paths.{path_of, path_text};
 ghost use Rattle.dump_trees.specs.Restriction.{is_above_some};
 ghost use Rattle.dump_history.specs.Findings.{cuts};
@@ -61,6 +61,16 @@ pub(crate) fn behind<'t>(front: &[u8], text: &'t [u8]) -> Option<&'t [u8]>
         [b'/', rest @ ..] => Some(rest),
         _ => None,
     }
+}
+
+/// Whether the path is the bare prefix, or lies below it; the empty one begins each path.
+pub(crate) fn begins_path(bare: &[u8], path: &[u8]) -> bool
+    ensures { result ≡ begins_path bare.now path.now }
+{
+    if bare.is_empty() || path == bare {
+        return true;
+    }
+    behind(bare, path).is_some()
 }
 
 /// The rest of a bare prefix below the path, if it lies there. An empty prefix counts as below the root.

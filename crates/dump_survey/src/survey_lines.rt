@@ -4,6 +4,7 @@ ghost use Rattle.dump_records.specs.steps.RecordViews.{record_item};
 ghost use Rattle.dump_digest.specs.RecordParts.{is_node};
 ghost use Rattle.dump_survey.specs.AsWellLines.{as_well_line, as_well_lines, as_well_words};
 ghost use Rattle.dump_survey.specs.DumpFindings.{listed_findings};
+ghost use Rattle.dump_survey.specs.Kinds.{kind_lines};
 ghost use Rattle.dump_survey.specs.LinesBehind.{folder_line, folder_lines};
 ghost use Rattle.dump_survey.specs.Lines.{dump_line, ending_line, finding_words, node_line, place_text, shown_byte, shown_path, small_digit, source_text, tells_source};
 ghost use Rattle.dump_survey.specs.Meaning.{meaning};
@@ -11,9 +12,12 @@ ghost use Rattle.dump_survey.specs.PrefixFindings.{prefix_view};
 ghost use Rattle.dump_survey.specs.PrefixLines.{prefix_lines};
 ghost use Rattle.dump_survey.specs.SurveyEnds.{survey_ending};
 ghost use Rattle.dump_survey.specs.Told.{told_view};
+ghost use Rattle.dump_survey.specs.steps.Counts.{count_in};
 ghost use Rattle.dump_survey.specs.steps.Surveyed.{told_of_node};
 
+use crate::counts::Counts;
 use crate::finding::{EVERY_FINDING, NodeFinding};
+use crate::kind_lines::push_kind_lines;
 use crate::memory::Memory;
 use crate::prefix_findings::ToldPrefix;
 use crate::prefix_lines::push_prefix_lines;
@@ -73,7 +77,7 @@ fn push_path(line: &mut Vec<u8>, path: &[u8]) -> Result<(), Memory>
 }
 
 /// Adds a number, in decimal digits.
-fn push_number(line: &mut Vec<u8>, number: u64) -> Result<(), Memory>
+pub(crate) fn push_number(line: &mut Vec<u8>, number: u64) -> Result<(), Memory>
     ensures { OnOk result (line.new.items ≡ line.old.items ++ decimal number) }
 {
     Ok(line.extend_from_slice(spell(number).bytes())?)
@@ -165,7 +169,7 @@ pub(crate) fn push_node_line(lines: &mut Vec<u8>, told: &Told<'_>) -> Result<(),
 }
 
 /// Adds the line, if this is found.
-fn push_if(lines: &mut Vec<u8>, found: bool, line: &[u8]) -> Result<(), Memory>
+pub(crate) fn push_if(lines: &mut Vec<u8>, found: bool, line: &[u8]) -> Result<(), Memory>
     ensures { OnOk result (lines.new.items ≡ lines.old.items ++ (if found then line.now else [])) }
 {
     if found {
@@ -213,20 +217,24 @@ fn push_ending_line(lines: &mut Vec<u8>, count: u64, end: End) -> Result<(), Mem
     Ok(lines.extend_from_slice(b", what follows is not read\n")?)
 }
 
-/// The lines of what is known where so many records end.
+/// The lines of what is known where so many records end, and behind them one for each kind of what was found.
 pub(crate) fn end_lines(
     alloc: Global,
     count: u64,
     end: &SurveyEnd,
     prefixes: &[ToldPrefix<'_>],
+    counts: &Counts,
 ) -> Result<Vec<u8>, Memory>
     ensures { IfOk result (λ lines. lines.items ≡ flat_map dump_line (listed_findings end.now.dump)
-        ++ (prefix_lines (map prefix_view prefixes.now) ++ ending_line count (survey_ending end.now.end))) }
+        ++ (prefix_lines (map prefix_view prefixes.now) ++ (ending_line count (survey_ending end.now.end)
+        ++ kind_lines (count_in counts.now) (listed_findings end.now.dump) (map prefix_view prefixes.now)
+        (survey_ending end.now.end)))) }
 {
     let mut lines = Vec::new(alloc);
     push_dump_lines(&mut lines, &end.dump)?;
     push_prefix_lines(&mut lines, prefixes)?;
     push_ending_line(&mut lines, count, end.end)?;
+    push_kind_lines(&mut lines, counts, end, prefixes)?;
     Ok(lines)
 }
 

@@ -7,6 +7,7 @@ ghost use Rattle.dump_survey.specs.SurveyText.{IsSurveyText, BreaksOffSurvey};
 ghost use Rattle.dump_survey.specs.LinesBehind.{AreLinesBehind, TakesSome, TakesSomeBehind};
 
 use crate::as_well::keep_as_well;
+use crate::counts::Counts;
 use crate::folders::folders_to_make;
 use crate::memory::Memory;
 use crate::survey_lines::{as_well_lines, end_lines, folder_lines, node_lines};
@@ -41,7 +42,11 @@ impl From<dump_writer::Memory> for SurveyFailure {
 }
 
 /// Writes lines, and tells whether there are any.
-fn write_lines<S: Sink>(alloc: Global, sink: &mut S, lines: Vec<u8>) -> Result<bool, SurveyFailure>
+pub(crate) fn write_lines<S: Sink>(
+    alloc: Global,
+    sink: &mut S,
+    lines: Vec<u8>,
+) -> Result<bool, SurveyFailure>
     ensures whole { IfOk result (λ _. Appends (S.taken sink.old) (S.taken sink.new) lines.items) }
     ensures some { IfOk result (λ some. some ≡ not (length lines.items == 0)) }
     ensures part { OnErr result (TakesSome (S.taken sink.old) (S.taken sink.new) lines.items) }
@@ -59,8 +64,8 @@ fn write_lines<S: Sink>(alloc: Global, sink: &mut S, lines: Vec<u8>) -> Result<b
     }
 }
 
-/// Writes the survey of a dump for the filter under these options, each line as it is found, and tells whether
-/// something was found.
+/// Writes the survey of a dump for the filter under these options, each line as it is found and last one for each kind,
+/// and tells whether something was found.
 pub fn write_survey<S: Sink>(
     alloc: Global,
     dump: &[u8],
@@ -78,17 +83,19 @@ pub fn write_survey<S: Sink>(
     let mut surveyor = Surveyor::new(alloc, dump, options)?;
     let mut found = false;
     let mut count = 0u64;
+    let mut counts = Counts::new();
     loop {
         match surveyor.next(alloc)? {
             Step::Node(node) => {
                 let lines = node_lines(alloc, &node)?;
                 found |= write_lines(alloc, sink, lines)?;
                 count += 1;
+                counts = counts.with(&node.found);
             }
             Step::Other => count += 1,
             Step::Finished(end) => {
                 let prefixes = surveyor.told_prefixes(alloc)?;
-                let lines = end_lines(alloc, count, &end, &prefixes)?;
+                let lines = end_lines(alloc, count, &end, &prefixes, &counts)?;
                 found |= write_lines(alloc, sink, lines)?;
                 return Ok(found);
             }

@@ -7,7 +7,7 @@ ghost use Rattle.dump_survey.specs.steps.Steps.{IsStepOf, TellsEnd};
 
 use crate::memory::Memory;
 use crate::node::find;
-use crate::prefix_findings::{ToldPrefix, leave_matched, told_prefixes};
+use crate::prefix_findings::{ToldPrefix, leave_touched, told_prefixes};
 use crate::prefix_set::PrefixSet;
 use crate::prefixes::{Prefixes, given_prefixes};
 use crate::tally::{DumpFindings, Tally};
@@ -137,7 +137,7 @@ impl<'o, 'a> Surveyor<'o, 'a> {
                 return Ok(finished(self.options, &self.tally, End::Broken { kind, place }));
             }
         };
-        leave_matched(&mut self.idle, &item);
+        leave_touched(&mut self.idle, &item);
         let before = self.tally;
         self.tally = before.with(&item, self.options);
         step_of(alloc, item, self.options, &self.prefixes, &before)

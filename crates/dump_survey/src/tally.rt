@@ -1,7 +1,7 @@
 //! What is known of the revisions of a dump, behind the records that came.
-ghost use Rattle.std.specs.Prelude.{◌≡◌, ◌+◌, ◌<◌, ◌^◌};
+ghost use Rattle.std.specs.Prelude.{◌≡◌, ◌+◌, ◌<◌, ◌^◌, Some};
 ghost use Rattle.dump_records.specs.steps.RecordViews.{record_item};
-ghost use Rattle.dump_survey.specs.steps.Tally.{no_tally, keeps_present, node_tally, next_tally, tally_findings};
+ghost use Rattle.dump_survey.specs.steps.Tally.{no_tally, keeps_open, keeps_present, node_tally, next_tally, tally_findings};
 ghost use Rattle.dump_survey.specs.DumpFindings.{listed_findings};
 
 use dump_digest::is_kept;
@@ -29,6 +29,20 @@ pub(crate) struct Present {
     bare: bool,
     /// Whether one of its nodes is kept.
     kept: bool,
+}
+
+impl Present {
+    /// Whether it is kept, where it has no more nodes.
+    pub(crate) fn stays(&self, options: &Options) -> bool
+        ensures { result ≡ keeps_open options.now (Some self.now) }
+    {
+        let empty_stays = match options.empty() {
+            Empty::Pad => true,
+            Empty::DropEmptied => self.bare,
+            Empty::DropAll => false,
+        };
+        self.number == 0 || self.kept || empty_stays
+    }
 }
 
 /// What the records up to one say of the dump's revisions.
@@ -63,15 +77,10 @@ impl Tally {
     fn keeps_all(&self, options: &Options) -> bool
         ensures { result ≡ keeps_present options.now self.now }
     {
-        let Some(present) = self.present else {
-            return self.all_kept;
-        };
-        let stays = match options.empty() {
-            Empty::Pad => true,
-            Empty::DropEmptied => present.bare,
-            Empty::DropAll => false,
-        };
-        self.all_kept && (present.number == 0 || present.kept || stays)
+        match self.present {
+            Some(present) => self.all_kept && present.stays(options),
+            None => self.all_kept,
+        }
     }
 
     /// That of one more record.

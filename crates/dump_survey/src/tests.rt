@@ -8,6 +8,7 @@ use std::test::Fail;
 
 mod as_well;
 mod folders;
+mod map;
 mod nodes;
 mod prefixes;
 mod text;

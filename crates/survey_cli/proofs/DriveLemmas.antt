@@ -1,17 +1,21 @@
 -- A survey whose last bytes are handed on.
-use Rattle.std.proofs.Common.{◌≡◌, ℕ, Bool, List, [], ◌++◌, Option, None, Some, Result, Ok, Err, IfOk, IfErr, IfSome, OnErr, inl, inr, refl, sym, ap, subst, ◌∙◌, append_assoc}
+use Rattle.std.proofs.Common.{◌≡◌, ℕ, Bool, List, [], ◌++◌, Option, None, Some, Result, Ok, Err, IfOk, IfErr, IfSome, OnErr, MatchBool, true, false, inl, inr, refl, sym, ap, subst, ◌∙◌, append_assoc}
 use Rattle.std.proofs.lemmas.List.{append_cancel_left, append-nil}
 use Rattle.std.specs.Io.KnownBytes.{Appends, Keeps, GrowsBy, append_known}
 use Rattle.std.proofs.KnownBytes.{Appends-kept, Appends-trans}
+use Rattle.dump_records.proofs.ListLaw.{each_dump_has_one_list}
 use Rattle.dump_rules.specs.Settings.{Settings}
+use Rattle.dump_filter.specs.Groups.{kept_revisions}
 use Rattle.dump_writer.specs.steps.SinkStates.{LentState, lent_taken}
 use Rattle.dump_writer.specs.SinkWords.{IsPrefixOf}
 use Rattle.dump_survey.specs.SurveyText.{IsSurveyText, BreaksOffSurvey}
+use Rattle.dump_survey.specs.RevisionMap.{IsRevisionMap, map_lines}
 use Rattle.dump_survey.specs.LinesBehind.{AreLinesBehind, TakesSomeBehind}
 use Rattle.dump_survey.specs.declared.survey_text.SurveyFailure.{SurveyFailure}
-use Rattle.survey_cli.specs.Drive.{IsWholeText, SurveysDump, SurveysInput, TakesFirst}
+use Rattle.survey_cli.specs.Drive.{IsCallText, IsMapAskedFor, IsWholeText, SurveysDump, SurveysInput, TakesFirst}
 use Rattle.survey_cli.specs.declared.drive.BrokenOff.{BrokenOff}
-use Rattle.survey_cli.specs.steps.Answered.{Arrives, SurveyBreaksOff, told_status}
+use Rattle.survey_cli.specs.declared.words.Call.{Call}
+use Rattle.survey_cli.specs.steps.Answered.{Arrives, FrontBreaksOff, MapBreaksOff, SurveyBreaksOff, told_status}
 
 -- where nothing waits the known bytes are those of the writer
 from_none : (a b : Option (List ℕ)) (bytes : List ℕ) → Appends (append_known a []) b bytes → Appends a b bytes
@@ -69,7 +73,7 @@ at_err (Err e) is = is
 
 -- a survey that broke off
 pub survey_broke_off : (settings : Settings) (dump : List ℕ) (old new : Option (List ℕ))
-    → BreaksOffSurvey settings dump old new → SurveyBreaksOff settings dump old new
+    → BreaksOffSurvey settings dump old new → FrontBreaksOff settings dump old new
 survey_broke_off settings dump old new off = (off.text, off.found, inl off.is, (off.part, off.begins, off.appended))
 
 module _ (settings : Settings) (dump : List ℕ) (old mid new : Option (List ℕ)) (found : Bool)
@@ -91,7 +95,7 @@ module _ (settings : Settings) (dump : List ℕ) (old mid new : Option (List ℕ
       (survey.0 ++ lines, whole_with lines are, Appends-trans old mid new survey.0 lines survey.2 appends)
 
   -- a survey behind which the lines broke off
-  pub lines_broke_off : TakesSomeBehind settings dump mid new → SurveyBreaksOff settings dump old new
+  pub lines_broke_off : TakesSomeBehind settings dump mid new → FrontBreaksOff settings dump old new
   lines_broke_off (inl none) = (
     survey.0,
     found,
@@ -113,31 +117,104 @@ module _ (settings : Settings) (dump : List ℕ) (old mid new : Option (List ℕ
     ),
   )
 
+-- a dump has a map of its revisions
+a_map : (settings : Settings) (dump : List ℕ) → (text : List ℕ) × IsRevisionMap settings dump text
+a_map settings dump =
+    let (records, ending, has, once) = each_dump_has_one_list dump in (
+      map_lines settings (kept_revisions settings records),
+      record { records = records; ending = ending; has = has; text_is = refl },
+    )
+
+-- and there is one text of it that is asked for
+asked_map : (call : Call) (dump : List ℕ) → (text : List ℕ) × IsMapAskedFor call dump text
+asked_map call dump = by call.map
+  where
+    by : (b : Bool) → (text : List ℕ) × MatchBool b (IsRevisionMap call.options dump text) (text ≡ [])
+    by true = a_map call.options dump
+    by false = ([], refl)
+
+module _ (call : Call) (dump : List ℕ) where
+  -- the text with the map behind it
+  with_map : (front revisions : List ℕ) (found : Bool) → IsWholeText call.options dump front found
+      → IsMapAskedFor call dump revisions → IsCallText call dump (front ++ revisions) found
+  with_map front revisions found is are = record {
+    front = front;
+    is_front = is;
+    revisions = revisions;
+    is_map = are;
+    all_is = refl;
+  }
+
+  -- where the text before the map broke off
+  pub front_broke_off : (old new : Option (List ℕ)) → FrontBreaksOff call.options dump old new
+      → SurveyBreaksOff call dump old new
+  front_broke_off old new (text, found, inl is, took) = (text, found, inl is, took)
+  front_broke_off old new (text, found, inr is, took) =
+      let more = asked_map call dump in (
+        text ++ more.0,
+        found,
+        inr (with_map text more.0 found is more.1),
+        longer old new text (text ++ more.0) (more.0, refl) took,
+      )
+
+  module _ (old mid new : Option (List ℕ)) (found : Bool)
+      (front : (text : List ℕ) × IsWholeText call.options dump text found × Appends old mid text) where
+    pub text_written : (text : List ℕ) × IsMapAskedFor call dump text × Appends mid new text
+        → (text : List ℕ) × IsCallText call dump text found × Appends old new text
+    text_written (revisions, are, appends) = (
+      front.0 ++ revisions,
+      with_map front.0 revisions found front.1 are,
+      Appends-trans old mid new front.0 revisions front.2 appends,
+    )
+
+    -- where the map broke off
+    pub map_broke_off : MapBreaksOff call dump mid new → SurveyBreaksOff call dump old new
+    map_broke_off (inl none) = front_broke_off old new (
+      front.0,
+      found,
+      inr front.1,
+      (
+        front.0 ++ [],
+        ([], sym (append-nil (front.0 ++ []) ∙ append-nil front.0)),
+        Appends-trans old mid new front.0 [] front.2 none,
+      ),
+    )
+    map_broke_off (inr (revisions, are, (part, (rest, begins), appends))) = (
+      front.0 ++ revisions,
+      found,
+      inr (with_map front.0 revisions found front.1 are),
+      (
+        front.0 ++ part,
+        (rest, ap (λ l. front.0 ++ l) begins ∙ sym (append_assoc front.0 part rest)),
+        Appends-trans old mid new front.0 part front.2 appends,
+      ),
+    )
+
 -- a text that was written whole, or broke off
-pub written_of : (settings : Settings) (dump : List ℕ) (old new : Option (List ℕ)) (answer : Result Bool SurveyFailure)
-    → IfOk answer (λ found. (text : List ℕ) × IsWholeText settings dump text found × Appends old new text)
-    → OnErr answer (SurveyBreaksOff settings dump old new) → Arrives settings dump old new answer
-written_of settings dump old new (Ok found) whole part = whole
-written_of settings dump old new (Err failure) whole part = part
+pub written_of : (call : Call) (dump : List ℕ) (old new : Option (List ℕ)) (answer : Result Bool SurveyFailure)
+    → IfOk answer (λ found. (text : List ℕ) × IsCallText call dump text found × Appends old new text)
+    → OnErr answer (SurveyBreaksOff call dump old new) → Arrives call dump old new answer
+written_of call dump old new (Ok found) whole part = whole
+written_of call dump old new (Err failure) whole part = part
 
 -- a text with what is told behind it
-pub arrives_behind : (settings : Settings) (dump : List ℕ) (answer : Result Bool SurveyFailure)
+pub arrives_behind : (call : Call) (dump : List ℕ) (answer : Result Bool SurveyFailure)
     (told : Result Bool BrokenOff) (a b : Option (List ℕ)) (sink : LentState)
-    → Arrives settings dump (append_known a []) b answer → Keeps b (lent_taken sink) → sink.out.start ≡ a
+    → Arrives call dump (append_known a []) b answer → Keeps b (lent_taken sink) → sink.out.start ≡ a
     → IfOk told (λ found. (answer ≡ Ok found) × (sink.waiting ≡ []))
     → IfErr told (λ broken. GrowsBy sink.out.start sink.out.taken broken.written)
-    → Arrives settings dump a sink.out.taken told
-arrives_behind settings dump answer (Ok found) a b sink written kept start all broken =
-    let whole : (text : List ℕ) × IsWholeText settings dump text found × Appends (append_known a []) b text =
-    subst (Arrives settings dump (append_known a []) b) all.0 written in
+    → Arrives call dump a sink.out.taken told
+arrives_behind call dump answer (Ok found) a b sink written kept start all broken =
+    let whole : (text : List ℕ) × IsCallText call dump text found × Appends (append_known a []) b text =
+    subst (Arrives call dump (append_known a []) b) all.0 written in
     (whole.0, whole.1, handed_on a b sink whole.0 whole.2 kept all.1)
-arrives_behind settings dump answer (Err off) a b sink written kept start all broken = go answer written
+arrives_behind call dump answer (Err off) a b sink written kept start all broken = go answer written
   where
     grown : GrowsBy a sink.out.taken off.written
     grown = subst (λ s. GrowsBy s sink.out.taken off.written) start broken
 
-    go : (r : Result Bool SurveyFailure) → Arrives settings dump (append_known a []) b r
-        → SurveyBreaksOff settings dump a sink.out.taken
+    go : (r : Result Bool SurveyFailure) → Arrives call dump (append_known a []) b r
+        → SurveyBreaksOff call dump a sink.out.taken
     go (Ok found) all = (
       all.0,
       found,
@@ -148,16 +225,16 @@ arrives_behind settings dump answer (Err off) a b sink written kept start all br
         (text, found, is, broke_off a b sink.out.taken sink.waiting part text off.written appended kept grown begins)
 
 -- the status says how the text arrived
-surveys_so : (settings : Settings) (dump : List ℕ) (old new : Option (List ℕ)) (answer : Result Bool BrokenOff)
-    → Arrives settings dump old new answer → SurveysDump settings dump old new (told_status answer)
-surveys_so settings dump old new (Ok found) (text, is, all) = (text, found, inl (is, all, refl))
-surveys_so settings dump old new (Err off) (text, found, is, part) = (text, found, inr (is, part, refl))
+surveys_so : (call : Call) (dump : List ℕ) (old new : Option (List ℕ)) (answer : Result Bool BrokenOff)
+    → Arrives call dump old new answer → SurveysDump call dump old new (told_status answer)
+surveys_so call dump old new (Ok found) (text, is, all) = (text, found, inl (is, all, refl))
+surveys_so call dump old new (Err off) (text, found, is, part) = (text, found, inr (is, part, refl))
 
 -- so it is of the whole input
-pub surveys_input : (settings : Settings) (input : Option (List ℕ)) (dump : List ℕ) (old new : Option (List ℕ))
+pub surveys_input : (call : Call) (input : Option (List ℕ)) (dump : List ℕ) (old new : Option (List ℕ))
     (answer : Result Bool BrokenOff) (status : ℕ) → IfSome input (λ left. dump ≡ left)
-    → Arrives settings dump old new answer → status ≡ told_status answer → SurveysInput settings input old new status
-surveys_input settings None dump old new answer status whole arrives is = inl tt
-surveys_input settings (Some left) dump old new answer status whole arrives is =
-    inl (subst (λ text. SurveysDump settings text old new status) whole
-    (subst (λ n. SurveysDump settings dump old new n) (sym is) (surveys_so settings dump old new answer arrives)))
+    → Arrives call dump old new answer → status ≡ told_status answer → SurveysInput call input old new status
+surveys_input call None dump old new answer status whole arrives is = inl tt
+surveys_input call (Some left) dump old new answer status whole arrives is =
+    inl (subst (λ text. SurveysDump call text old new status) whole
+    (subst (λ n. SurveysDump call dump old new n) (sym is) (surveys_so call dump old new answer arrives)))

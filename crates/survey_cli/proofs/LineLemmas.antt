@@ -7,10 +7,10 @@ use Rattle.clap.specs.Words.{Row, Text, fault_of, is_simple, is_simple_and_free,
 use Rattle.clap.specs.declared.error.Error.{Error}
 use Rattle.clap.specs.declared.error.kind.ErrorKind.TheVariants.{OutOfMemory}
 use Rattle.clap.proofs.OnLiterals.{clap_on_literals}
-use Rattle.dump_rules.specs.Settings.{Settings}
 use Rattle.dump_rules.specs.declared.options.Side.{Side}
 use Rattle.survey_cli.specs.CommandLine.{flags}
-use Rattle.survey_cli.specs.Words.{TellsSettings, settings_of_line, settings_of_side, settings_by, side_in}
+use Rattle.survey_cli.specs.Words.{TellsCall, call_of_line, call_of_side, call_by, side_in}
+use Rattle.survey_cli.specs.declared.words.Call.{Call}
 use Rattle.survey_cli.specs.declared.words.Usage.{Usage}
 use Rattle.survey_cli.specs.declared.words.Usage.TheVariants.{Words, Memory}
 
@@ -34,35 +34,35 @@ is_filled : {X : Type 0} (x : X) (xs : List X) → is_empty (x ∷ xs) ≡ false
 is_filled x xs = ne_eqb _ _ (λ e. omega (arith, e))
 
 -- what the rows of a line that is taken give is what the line means
-pub taken_answers : (line : List Text) (side : Side) (rows : List Row) (r : Result Settings Usage)
+pub taken_answers : (line : List Text) (side : Side) (rows : List Row) (r : Result Call Usage)
     → side_in line ≡ Some side → fault_of flags line ≡ [] → rows ≡ matches_of flags line
-    → TellsSettings (settings_of_side side rows) r → TellsSettings (settings_of_line line) r
-taken_answers line side rows r named none same answers = subst (λ m. TellsSettings m r) (sym means) answers
+    → TellsCall (call_of_side side rows) r → TellsCall (call_of_line line) r
+taken_answers line side rows r named none same answers = subst (λ m. TellsCall m r) (sym means) answers
   where
-    means : settings_of_line line ≡ settings_of_side side rows
-    means = ap (λ o. settings_by o (is_empty (fault_of flags line)) (matches_of flags line)) named
-        ∙ ap (λ (k : Kinds). settings_by (Some side) (is_empty k) (matches_of flags line)) none
-        ∙ ap (settings_of_side side) (sym same)
+    means : call_of_line line ≡ call_of_side side rows
+    means = ap (λ o. call_by o (is_empty (fault_of flags line)) (matches_of flags line)) named
+        ∙ ap (λ (k : Kinds). call_by (Some side) (is_empty k) (matches_of flags line)) none
+        ∙ ap (call_of_side side) (sym same)
 
 -- other words behind a side than clap takes mean nothing
 refused : (line : List Text) (side : Side) (kinds : Kinds) → side_in line ≡ Some side → fault_of flags line ≡ kinds
     → is_empty kinds ≡ false
-    → settings_of_line line ≡ Err Words
+    → call_of_line line ≡ Err Words
 refused line side kinds named is some =
-    ap (λ o. settings_by o (is_empty (fault_of flags line)) (matches_of flags line)) named
-    ∙ ap (λ (k : Kinds). settings_by (Some side) (is_empty k) (matches_of flags line)) is
-    ∙ ap (λ b. settings_by (Some side) b (matches_of flags line)) some
+    ap (λ o. call_by o (is_empty (fault_of flags line)) (matches_of flags line)) named
+    ∙ ap (λ (k : Kinds). call_by (Some side) (is_empty k) (matches_of flags line)) is
+    ∙ ap (λ b. call_by (Some side) b (matches_of flags line)) some
 
 -- a refusal as other words or as out of memory is an answer to a line with such a fault
 pub refusal_answers : (line : List Text) (side : Side) (e : Error) (u : Usage) → side_in line ≡ Some side
     → HasKind (fault_of flags line) e → (kind_of e ≡ OutOfMemory → u ≡ Memory) → ((u ≡ Words) ⊎ (u ≡ Memory))
-    → TellsSettings (settings_of_line line) (Err u)
+    → TellsCall (call_of_line line) (Err u)
 refusal_answers line side e u named has memory (inr is) =
-    subst (λ (x : Usage). TellsSettings (settings_of_line line) (Err x)) (sym is) tt
+    subst (λ (x : Usage). TellsCall (call_of_line line) (Err x)) (sym is) tt
 refusal_answers line side e u named has memory (inl is) =
-    subst (λ (x : Usage). TellsSettings (settings_of_line line) (Err x)) (sym is) (go (fault_of flags line) refl has)
+    subst (λ (x : Usage). TellsCall (call_of_line line) (Err x)) (sym is) (go (fault_of flags line) refl has)
   where
-    go : (kinds : Kinds) → fault_of flags line ≡ kinds → HasKind kinds e → settings_of_line line ≡ Err Words
+    go : (kinds : Kinds) → fault_of flags line ≡ kinds → HasKind kinds e → call_of_line line ≡ Err Words
     go kinds same (inl m) =
         let bad : Words ≡ Memory = sym is ∙ memory m in
         cc

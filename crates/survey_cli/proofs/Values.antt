@@ -5,7 +5,7 @@ use Rattle.dump_rules.specs.declared.options.Side.TheVariants.{Include, Exclude}
 use Rattle.dump_rules.specs.declared.options.Empty.TheVariants.{Pad, DropAll}
 use Rattle.survey_cli.specs.CommandLine.{flags, prefix_words, plain_flag}
 use Rattle.survey_cli.specs.steps.LawfulLines.{is_survey_call}
-use Rattle.survey_cli.specs.Words.{TellsSettings, empty_by_drops, settings_of_words, side_in, named_side}
+use Rattle.survey_cli.specs.Words.{TellsCall, empty_by_drops, call_of_words, side_in, named_side}
 use Rattle.survey_cli.specs.declared.words.Usage.TheVariants.{Words, BothDrops}
 use Rattle.clap.proofs.OnLiterals.{clap_on_literals}
 
@@ -17,9 +17,9 @@ spelled_flag = refl
 wanted_prefixes : prefix_words.required ≡ true
 wanted_prefixes = refl
 
--- five flags, and the prefixes
-six_rules : length flags.top.rules ≡ 6
-six_rules = refl
+-- six flags, and the prefixes
+seven_rules : length flags.top.rules ≡ 7
+seven_rules = refl
 
 no_sides : flags.subs ≡ []
 no_sides = refl
@@ -45,39 +45,57 @@ abbrev flagged : List Text → List Text
 flagged words = codes "p" ∷ codes "include" ∷ words
 
 -- a flag behind a prefix is read, and one behind the two minus signs is a prefix
-around : settings_of_words (flagged (codes "a" ∷ codes "--drop-all-empty-revs" ∷ codes "--" ∷ codes "--x" ∷ []))
+around : call_of_words (flagged (codes "a" ∷ codes "--drop-all-empty-revs" ∷ codes "--" ∷ codes "--x" ∷ []))
     ≡ Ok (record {
-      side = Include;
-      prefixes = codes "a" ∷ codes "--x" ∷ [];
-      empty = DropAll;
-      renumber = false;
-      preserve = false;
-      skip_missing = false;
+      options = record {
+        side = Include;
+        prefixes = codes "a" ∷ codes "--x" ∷ [];
+        empty = DropAll;
+        renumber = false;
+        preserve = false;
+        skip_missing = false;
+      };
+      map = false;
     })
 unfolding clap_on_literals
 around = refl
 
-nothing : settings_of_words (codes "p" ∷ []) ≡ Err Words
+asks_for_the_map : call_of_words (flagged (codes "--map" ∷ codes "a" ∷ []))
+    ≡ Ok (record {
+      options = record {
+        side = Include;
+        prefixes = codes "a" ∷ [];
+        empty = Pad;
+        renumber = false;
+        preserve = false;
+        skip_missing = false;
+      };
+      map = true;
+    })
+unfolding clap_on_literals
+asks_for_the_map = refl
+
+nothing : call_of_words (codes "p" ∷ []) ≡ Err Words
 nothing = refl
 
-no_prefix : settings_of_words (flagged []) ≡ Err Words
+no_prefix : call_of_words (flagged []) ≡ Err Words
 unfolding clap_on_literals
 no_prefix = refl
 
-flag_before : settings_of_words (codes "p" ∷ codes "--renumber-revs" ∷ codes "include" ∷ codes "a" ∷ []) ≡ Err Words
+flag_before : call_of_words (codes "p" ∷ codes "--renumber-revs" ∷ codes "include" ∷ codes "a" ∷ []) ≡ Err Words
 flag_before = refl
 
 lawful : is_survey_call (flagged (codes "a" ∷ [])) ≡ true
 unfolding clap_on_literals
 lawful = refl
 
-both_drops : settings_of_words (flagged (codes "--drop-empty-revs" ∷ codes "--drop-all-empty-revs" ∷ codes "a" ∷ []))
+both_drops : call_of_words (flagged (codes "--drop-empty-revs" ∷ codes "--drop-all-empty-revs" ∷ codes "a" ∷ []))
     ≡ Err BothDrops
 unfolding clap_on_literals
 both_drops = refl
 
-refused_for_its_words : TellsSettings (Err Words) (Err Words)
+refused_for_its_words : TellsCall (Err Words) (Err Words)
 refused_for_its_words = refl
 
-refused_for_others : ¬ TellsSettings (Err BothDrops) (Err Words)
+refused_for_others : ¬ TellsCall (Err BothDrops) (Err Words)
 refused_for_others e = cc

@@ -27,4 +27,6 @@ flags =
     (plain_flag (codes "drop-all-empty-revs")) in
     let numbers = with_rule (with_rule drops (plain_flag (codes "renumber-revs")))
     (plain_flag (codes "preserve-revprops")) in
-    with_rule (with_rule numbers (plain_flag (codes "skip-missing-merge-sources"))) prefix_words
+    let others = with_rule (with_rule numbers (plain_flag (codes "skip-missing-merge-sources")))
+    (plain_flag (codes "map")) in
+    with_rule others prefix_words

@@ -1,11 +1,13 @@
 -- What the program does with its words and its input.
-use Rattle.std.specs.Prelude.{◌≡◌, ℕ, Bool, true, false, ◌⊎◌, List, ◌++◌, Option, Result, Ok, Err, IfSome}
+use Rattle.std.specs.Prelude.{◌≡◌, ℕ, Bool, true, false, ◌⊎◌, List, [], ◌++◌, Option, Result, Ok, Err, IfSome, MatchBool}
 use Rattle.std.specs.Io.KnownBytes.{Keeps, Appends}
 use Rattle.dump_rules.specs.Settings.{Settings}
 use Rattle.dump_writer.specs.SinkWords.{IsPrefixOf}
 use Rattle.dump_survey.specs.LinesBehind.{AreLinesBehind}
+use Rattle.dump_survey.specs.RevisionMap.{IsRevisionMap}
 use Rattle.dump_survey.specs.SurveyText.{IsSurveyText}
-use Rattle.survey_cli.specs.Words.{TellsSettings}
+use Rattle.survey_cli.specs.Words.{TellsCall}
+use Rattle.survey_cli.specs.declared.words.Call.{Call}
 use Rattle.survey_cli.specs.declared.words.Usage.{Usage}
 use Rattle.survey_cli.specs.declared.words.Usage.TheVariants.{Words, BothDrops, Memory}
 
@@ -26,21 +28,33 @@ pub record IsWholeText (settings : Settings) (dump text : List ℕ) (found : Boo
   pub are_behind : AreLinesBehind settings dump behind
   pub text_is : text ≡ survey ++ behind
 
--- this is the text of a survey, with or without the lines behind its findings
-abbrev pub IsText : Settings → List ℕ → List ℕ → Bool → Type 0
-IsText settings dump text found = IsSurveyText settings dump text found ⊎ IsWholeText settings dump text found
+-- this is the map of revisions where it is asked for, and nothing where it isn't
+abbrev pub IsMapAskedFor : Call → List ℕ → List ℕ → Type 0
+IsMapAskedFor call dump text = MatchBool call.map (IsRevisionMap call.options dump text) (text ≡ [])
+
+-- this is all that the call asks for: the map of revisions, where it is, stands behind all other lines
+pub record IsCallText (call : Call) (dump text : List ℕ) (found : Bool) : Type 0 where
+  pub front : List ℕ
+  pub is_front : IsWholeText call.options dump front found
+  pub revisions : List ℕ
+  pub is_map : IsMapAskedFor call dump revisions
+  pub all_is : text ≡ front ++ revisions
+
+-- this is the text of a survey, alone or with all that stands behind its findings
+abbrev pub IsText : Call → List ℕ → List ℕ → Bool → Type 0
+IsText call dump text found = IsSurveyText call.options dump text found ⊎ IsCallText call dump text found
 
 -- the writer took the whole text, and the status is the survey's own; or it took a first part of such a text, and the
 -- status is that of a failure
-abbrev pub SurveysDump : Settings → List ℕ → Option (List ℕ) → Option (List ℕ) → ℕ → Type 0
-SurveysDump settings dump old new status = (text : List ℕ) × (found : Bool)
-    × ((IsWholeText settings dump text found × Appends old new text × (status ≡ finding_status found))
-    ⊎ (IsText settings dump text found × TakesFirst old new text × (status ≡ 3)))
+abbrev pub SurveysDump : Call → List ℕ → Option (List ℕ) → Option (List ℕ) → ℕ → Type 0
+SurveysDump call dump old new status = (text : List ℕ) × (found : Bool)
+    × ((IsCallText call dump text found × Appends old new text × (status ≡ finding_status found))
+    ⊎ (IsText call dump text found × TakesFirst old new text × (status ≡ 3)))
 
 -- the whole input is surveyed, or nothing is written, out of memory or without input
-abbrev pub SurveysInput : Settings → Option (List ℕ) → Option (List ℕ) → Option (List ℕ) → ℕ → Type 0
-SurveysInput settings input old new status =
-    IfSome input (λ dump. SurveysDump settings dump old new status) ⊎ (Keeps old new × (status ≡ 3))
+abbrev pub SurveysInput : Call → Option (List ℕ) → Option (List ℕ) → Option (List ℕ) → ℕ → Type 0
+SurveysInput call input old new status =
+    IfSome input (λ dump. SurveysDump call dump old new status) ⊎ (Keeps old new × (status ≡ 3))
 
 -- other words are refused by 2, and where reading them is out of memory by 3
 abbrev pub usage_status : Usage → ℕ
@@ -49,11 +63,11 @@ usage_status BothDrops = 2
 usage_status Memory = 3
 
 -- words that were refused write nothing, and others are obeyed on the input
-abbrev pub SurveysOrRefuses : Result Settings Usage → Option (List ℕ) → Option (List ℕ) → Option (List ℕ) → ℕ → Type 0
+abbrev pub SurveysOrRefuses : Result Call Usage → Option (List ℕ) → Option (List ℕ) → Option (List ℕ) → ℕ → Type 0
 SurveysOrRefuses (Err usage) input old new status = Keeps old new × (status ≡ usage_status usage)
-SurveysOrRefuses (Ok settings) input old new status = SurveysInput settings input old new status
+SurveysOrRefuses (Ok call) input old new status = SurveysInput call input old new status
 
 -- words of this meaning have an answer, and it is obeyed
-abbrev pub DrivesSurvey : Result Settings Usage → Option (List ℕ) → Option (List ℕ) → Option (List ℕ) → ℕ → Type 0
-DrivesSurvey meaning input old new status = (answer : Result Settings Usage) × TellsSettings meaning answer
+abbrev pub DrivesSurvey : Result Call Usage → Option (List ℕ) → Option (List ℕ) → Option (List ℕ) → ℕ → Type 0
+DrivesSurvey meaning input old new status = (answer : Result Call Usage) × TellsCall meaning answer
     × SurveysOrRefuses answer input old new status

@@ -4,12 +4,12 @@ use Rattle.std.specs.Option.{option_and_then, option_map_or}
 use Rattle.std.specs.Str.{bytes_eq}
 use Rattle.clap.specs.Walk.{is_empty}
 use Rattle.clap.specs.Words.{Row, Text, all_of, fault_of, matches_of, one_of}
-use Rattle.dump_rules.specs.Settings.{Settings}
 use Rattle.dump_rules.specs.declared.options.Side.{Side}
 use Rattle.dump_rules.specs.declared.options.Side.TheVariants.{Include, Exclude}
 use Rattle.dump_rules.specs.declared.options.Empty.{Empty}
 use Rattle.dump_rules.specs.declared.options.Empty.TheVariants.{Pad, DropEmptied, DropAll}
 use Rattle.survey_cli.specs.CommandLine.{flags}
+use Rattle.survey_cli.specs.declared.words.Call.{Call}
 use Rattle.survey_cli.specs.declared.words.Usage.{Usage}
 use Rattle.survey_cli.specs.declared.words.Usage.TheVariants.{Words, BothDrops, Memory}
 
@@ -38,38 +38,41 @@ abbrev pub empty_by_rows : List Row → Option Empty
 empty_by_rows rows =
     empty_by_drops (is_flag_set (codes "drop-empty-revs") rows) (is_flag_set (codes "drop-all-empty-revs") rows)
 
--- the settings of a side and its rows, where it is known what becomes of empty revisions
-abbrev pub settings_with : Option Empty → Side → List Row → Result Settings Usage
-settings_with None side rows = Err BothDrops
-settings_with (Some empty) side rows = Ok (record {
-  side = side;
-  prefixes = unwrap_or (all_of (codes "PREFIX") rows) [];
-  empty = empty;
-  renumber = is_flag_set (codes "renumber-revs") rows;
-  preserve = is_flag_set (codes "preserve-revprops") rows;
-  skip_missing = is_flag_set (codes "skip-missing-merge-sources") rows;
+-- what a side and its rows ask for, where it is known what becomes of empty revisions
+abbrev pub call_with : Option Empty → Side → List Row → Result Call Usage
+call_with None side rows = Err BothDrops
+call_with (Some empty) side rows = Ok (record {
+  options = record {
+    side = side;
+    prefixes = unwrap_or (all_of (codes "PREFIX") rows) [];
+    empty = empty;
+    renumber = is_flag_set (codes "renumber-revs") rows;
+    preserve = is_flag_set (codes "preserve-revprops") rows;
+    skip_missing = is_flag_set (codes "skip-missing-merge-sources") rows;
+  };
+  map = is_flag_set (codes "map") rows;
 })
 
--- the settings that a side and its rows give
-abbrev pub settings_of_side : Side → List Row → Result Settings Usage
-settings_of_side side rows = settings_with (empty_by_rows rows) side rows
+-- what a side and its rows ask for
+abbrev pub call_of_side : Side → List Row → Result Call Usage
+call_of_side side rows = call_with (empty_by_rows rows) side rows
 
--- the settings by the side that a line begins with, by whether clap takes the line, and by the rows that it finds
-abbrev pub settings_by : Option Side → Bool → List Row → Result Settings Usage
-settings_by None is_taken rows = Err Words
-settings_by (Some side) is_taken rows = if is_taken then settings_of_side side rows else Err Words
+-- the same, by the side that a line begins with, by whether clap takes the line, and by the rows that it finds
+abbrev pub call_by : Option Side → Bool → List Row → Result Call Usage
+call_by None is_taken rows = Err Words
+call_by (Some side) is_taken rows = if is_taken then call_of_side side rows else Err Words
 
--- the settings that a line gives; clap passes over its first word, which is the side
-abbrev pub settings_of_line : List Text → Result Settings Usage
-settings_of_line line = settings_by (side_in line) (is_empty (fault_of flags line)) (matches_of flags line)
+-- what a line asks for; clap passes over its first word, which is the side
+abbrev pub call_of_line : List Text → Result Call Usage
+call_of_line line = call_by (side_in line) (is_empty (fault_of flags line)) (matches_of flags line)
 
--- the settings that the words give: only a lawful line gives some, unless it asks for both ways to drop revisions
-abbrev pub settings_of_words : List Text → Result Settings Usage
-settings_of_words words = settings_of_line (drop 1 words)
+-- what the words ask for: only a lawful line asks for something, unless it asks for both ways to drop revisions
+abbrev pub call_of_words : List Text → Result Call Usage
+call_of_words words = call_of_line (drop 1 words)
 
 -- the answer to words of this meaning: out of memory may hide it, and nothing else
-abbrev pub TellsSettings : Result Settings Usage → Result Settings Usage → Type 0
-TellsSettings meaning (Ok settings) = meaning ≡ Ok settings
-TellsSettings meaning (Err Words) = meaning ≡ Err Words
-TellsSettings meaning (Err BothDrops) = meaning ≡ Err BothDrops
-TellsSettings meaning (Err Memory) = ⊤
+abbrev pub TellsCall : Result Call Usage → Result Call Usage → Type 0
+TellsCall meaning (Ok call) = meaning ≡ Ok call
+TellsCall meaning (Err Words) = meaning ≡ Err Words
+TellsCall meaning (Err BothDrops) = meaning ≡ Err BothDrops
+TellsCall meaning (Err Memory) = ⊤

@@ -32,5 +32,6 @@ pub fn flags<'a>(alloc: Global) -> Result<Command<'a>, AllocError>
         .arg(plain_flag(alloc, "renumber-revs"))?
         .arg(plain_flag(alloc, "preserve-revprops"))?
         .arg(plain_flag(alloc, "skip-missing-merge-sources"))?
+        .arg(plain_flag(alloc, "map"))?
         .arg(prefix_words(alloc))
 }

@@ -1,16 +1,16 @@
 //! The whole program, over any reader and writers.
-ghost use Rattle.std.specs.Prelude.{◌≡◌, [], List, ℕ, map, Ok, IfErr, IfOk, OnErr};
+ghost use Rattle.std.specs.Prelude.{◌≡◌, [], List, ℕ, map, Ok, IfErr, IfOk, OnErr, OnOk};
 ghost use Rattle.std.specs.Io.KnownBytes.{Appends, GrowsBy, Keeps};
 ghost use Rattle.dump_writer.specs.steps.SinkStates.{lent_taken, loan_of};
-ghost use Rattle.survey_cli.specs.Words.{settings_of_words};
-ghost use Rattle.survey_cli.specs.Drive.{IsWholeText, SurveysInput, DrivesSurvey, usage_status};
-ghost use Rattle.survey_cli.specs.steps.Answered.{Arrives, SurveyBreaksOff, told_status};
+ghost use Rattle.survey_cli.specs.Words.{call_of_words};
+ghost use Rattle.survey_cli.specs.Drive.{IsCallText, IsMapAskedFor, IsWholeText, SurveysInput, DrivesSurvey, usage_status};
+ghost use Rattle.survey_cli.specs.steps.Answered.{Arrives, FrontBreaksOff, MapBreaksOff, SurveyBreaksOff, told_status};
 
 use crate::input::{Unread, read_all};
 use crate::messages::{write_failure, write_unread, write_usage};
-use crate::words::{Usage, options_of};
+use crate::words::{Call, Usage, call_of};
 use dump_rules::Options;
-use dump_survey::{SurveyFailure, write_behind, write_survey};
+use dump_survey::{SurveyFailure, write_behind, write_map, write_survey};
 use dump_writer::{OutMut, SinkDown};
 use std::alloc::Global;
 use std::io::{Read, Write};
@@ -36,10 +36,10 @@ pub fn drive<'a, R: Read, W: Write, E: Write>(
     writer: &mut W,
     errors: &mut E,
 ) -> u8
-    ensures { DrivesSurvey (settings_of_words (map (λ word. word.now) words.now)) (R.remaining reader.old) (W.contents writer.old) (W.contents writer.new) result }
+    ensures { DrivesSurvey (call_of_words (map (λ word. word.now) words.now)) (R.remaining reader.old) (W.contents writer.old) (W.contents writer.new) result }
 {
-    match options_of(alloc, words) {
-        Ok(options) => survey_input(alloc, &options, size, reader, writer, errors),
+    match call_of(alloc, words) {
+        Ok(call) => survey_input(alloc, &call, size, reader, writer, errors),
         Err(usage) => refuse(errors, usage),
     }
 }
@@ -57,16 +57,16 @@ pub fn refuse<E: Write>(errors: &mut E, usage: Usage) -> u8
     }
 }
 
-// Surveys the whole input under these options.
+// Surveys the whole input, as the call asks for.
 fn survey_input<R: Read, W: Write, E: Write>(
     alloc: Global,
-    options: &Options,
+    call: &Call,
     size: u64,
     reader: &mut R,
     writer: &mut W,
     errors: &mut E,
 ) -> u8
-    ensures { SurveysInput options.now (R.remaining reader.old) (W.contents writer.old) (W.contents writer.new) result }
+    ensures { SurveysInput call.now (R.remaining reader.old) (W.contents writer.old) (W.contents writer.new) result }
 {
     let input = match read_all(alloc, reader, size) {
         Ok(input) => input,
@@ -80,29 +80,46 @@ fn survey_input<R: Read, W: Write, E: Write>(
         return tell_out_of_memory(errors);
     };
     let mut sink = OutMut::new(writer, buffer);
-    let answer = survey_and_flush(alloc, input.as_slice(), options, &mut sink);
+    let answer = survey_and_flush(alloc, input.as_slice(), call, &mut sink);
     let _ = sink.into_inner();
     tell(errors, answer)
 }
 
-// Writes the survey and behind it the folders to make and what to keep as well, and hands on all that waits.
+// Writes the survey with all that stands behind it, and hands on all that waits.
 fn survey_and_flush<W: Write>(
     alloc: Global,
     dump: &[u8],
-    options: &Options,
+    call: &Call,
     sink: &mut OutMut<'_, W>,
 ) -> Result<bool, BrokenOff>
     requires waiting { sink.old.waiting ≡ [] }
     requires start { sink.old.out.start ≡ sink.old.out.taken }
-    ensures arrives { Arrives options.now dump.now sink.old.out.taken sink.new.out.taken result }
+    ensures arrives { Arrives call.now dump.now sink.old.out.taken sink.new.out.taken result }
     ensures loan { loan_of sink.new ≡ loan_of sink.old }
 {
-    let answer = write_text(alloc, dump, options, sink);
+    let answer = write_text(alloc, dump, call, sink);
     flush_behind(sink, answer)
 }
 
-// Writes the survey, and behind it the folders to make and what to keep as well.
+// Writes all that the call asks for.
 fn write_text<W: Write>(
+    alloc: Global,
+    dump: &[u8],
+    call: &Call,
+    sink: &mut OutMut<'_, W>,
+) -> Result<bool, SurveyFailure>
+    ensures whole { IfOk result (λ found. (text : List ℕ) × IsCallText call.now dump.now text found
+        × Appends (lent_taken sink.old) (lent_taken sink.new) text) }
+    ensures part { OnErr result (SurveyBreaksOff call.now dump.now (lent_taken sink.old) (lent_taken sink.new)) }
+    ensures loan { loan_of sink.new ≡ loan_of sink.old }
+{
+    let found = write_front(alloc, dump, &call.options, sink)?;
+    write_asked_map(alloc, dump, call, sink)?;
+    Ok(found)
+}
+
+// Writes the survey, and behind it the folders to make and what to keep as well.
+fn write_front<W: Write>(
     alloc: Global,
     dump: &[u8],
     options: &Options,
@@ -110,12 +127,30 @@ fn write_text<W: Write>(
 ) -> Result<bool, SurveyFailure>
     ensures whole { IfOk result (λ found. (text : List ℕ) × IsWholeText options.now dump.now text found
         × Appends (lent_taken sink.old) (lent_taken sink.new) text) }
-    ensures part { OnErr result (SurveyBreaksOff options.now dump.now (lent_taken sink.old) (lent_taken sink.new)) }
+    ensures part { OnErr result (FrontBreaksOff options.now dump.now (lent_taken sink.old) (lent_taken sink.new)) }
     ensures loan { loan_of sink.new ≡ loan_of sink.old }
 {
     let found = write_survey(alloc, dump, options, sink)?;
     write_behind(alloc, dump, options, sink)?;
     Ok(found)
+}
+
+// Writes the map of revisions, where the call asks for it.
+fn write_asked_map<W: Write>(
+    alloc: Global,
+    dump: &[u8],
+    call: &Call,
+    sink: &mut OutMut<'_, W>,
+) -> Result<(), SurveyFailure>
+    ensures whole { OnOk result ((text : List ℕ) × IsMapAskedFor call.now dump.now text
+        × Appends (lent_taken sink.old) (lent_taken sink.new) text) }
+    ensures part { OnErr result (MapBreaksOff call.now dump.now (lent_taken sink.old) (lent_taken sink.new)) }
+    ensures loan { loan_of sink.new ≡ loan_of sink.old }
+{
+    if call.map {
+        write_map(alloc, dump, &call.options, sink)?;
+    }
+    Ok(())
 }
 
 // Hands on all that waits behind a text, unless its sink failed: then no more is tried.

@@ -1,8 +1,7 @@
 //! The words on the command line.
 ghost use Rattle.std.specs.Prelude.{◌≡◌, ◌≢◌, ◌⊎◌, [], IfOk, Err, map, true, codes, drop, unwrap_or};
 ghost use Rattle.clap.specs.Words.{all_of, found_of, kind_of, rows_of};
-ghost use Rattle.dump_rules.specs.Settings.{Settings};
-ghost use Rattle.survey_cli.specs.Words.{TellsSettings, empty_by_rows, is_flag_set, settings_of_words, settings_of_line, settings_of_side, named_side, side_in};
+ghost use Rattle.survey_cli.specs.Words.{TellsCall, empty_by_rows, is_flag_set, call_of_words, call_of_line, call_of_side, named_side, side_in};
 ghost use Rattle.survey_cli.specs.steps.LawfulLines.{is_survey_call, is_taken_call};
 
 use crate::command::flags;
@@ -25,9 +24,18 @@ pub enum Usage {
     Memory,
 }
 
-/// The options of the filter whose dump is surveyed. `words[0]` is the program's name.
-pub fn options_of<'a>(alloc: Global, words: &'a [&'a str]) -> Result<Options, Usage>
-    ensures meaning { TellsSettings (settings_of_words (map (λ word. word.now) words.now)) result }
+/// What a call asks for.
+#[derive(Drop)]
+pub struct Call {
+    /// The options of the filter whose dump is surveyed.
+    pub options: Options,
+    /// Whether the map of revisions is wanted.
+    pub map: bool,
+}
+
+/// What the words ask for. `words[0]` is the program's name.
+pub fn call_of<'a>(alloc: Global, words: &'a [&'a str]) -> Result<Call, Usage>
+    ensures meaning { TellsCall (call_of_words (map (λ word. word.now) words.now)) result }
 
     // No lawful line is refused as other words.
     ensures lawful { is_survey_call (map (λ word. word.now) words.now) ≡ true → result ≢ Err Usage.Words }
@@ -43,7 +51,7 @@ pub fn options_of<'a>(alloc: Global, words: &'a [&'a str]) -> Result<Options, Us
         return Err(Usage::Memory);
     };
     match command.try_get_matches_from(line) {
-        Ok(matches) => read_options(alloc, side, &matches),
+        Ok(matches) => read_call(alloc, side, &matches),
         Err(error) => Err(refusal(&error)),
     }
 }
@@ -80,9 +88,9 @@ fn refusal(error: &Error) -> Usage
     }
 }
 
-// The options that a side and what stands behind it give.
-fn read_options(alloc: Global, side: Side, matches: &ArgMatches<'_>) -> Result<Options, Usage>
-    ensures { TellsSettings (settings_of_side side (rows_of (found_of matches.now))) result }
+// What a side and what stands behind it ask for.
+fn read_call(alloc: Global, side: Side, matches: &ArgMatches<'_>) -> Result<Call, Usage>
+    ensures { TellsCall (call_of_side side (rows_of (found_of matches.now))) result }
 {
     let Some(empty) = read_empty(matches) else {
         return Err(Usage::BothDrops);
@@ -100,7 +108,10 @@ fn read_options(alloc: Global, side: Side, matches: &ArgMatches<'_>) -> Result<O
         is_flag_set(matches, "skip-missing-merge-sources"),
     );
     match options {
-        Ok(options) => Ok(options),
+        Ok(options) => Ok(Call {
+            options,
+            map: is_flag_set(matches, "map"),
+        }),
         Err(_) => Err(Usage::Memory),
     }
 }

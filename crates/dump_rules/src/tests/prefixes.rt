@@ -1,8 +1,106 @@
-//! Many prefixes at once.
-use super::{is_kept, is_matched, options};
-use crate::{Options, Side, keeps};
+//! Which paths prefixes keep, and options as they were handed in.
+use super::options;
+use crate::{Empty, Memory, Options, Side, keeps};
 use std::alloc::Global;
 use std::test::Fail;
+
+/// Whether these prefixes on this side keep a path.
+fn is_kept(alloc: Global, side: Side, prefixes: &[&[u8]], path: &[u8]) -> Result<bool, Memory> {
+    Ok(keeps(&options(alloc, side, prefixes)?, path))
+}
+
+/// Whether these prefixes match a path so: then it is kept on the one side, and else on the other.
+fn is_matched(
+    alloc: Global,
+    prefixes: &[&[u8]],
+    path: &[u8],
+    matched: bool,
+) -> Result<bool, Memory> {
+    let included = is_kept(alloc, Side::Include, prefixes, path)?;
+    let left = is_kept(alloc, Side::Exclude, prefixes, path)?;
+    Ok(included == matched && left != matched)
+}
+
+#[test]
+fn prefixes_match_whole_names(rt: HostRuntime) -> Result<(), Fail> {
+    let rows = [
+        (b"trunk".as_slice(), b"trunk".as_slice(), true),
+        (b"trunk", b"trunk/a", true),
+        (b"trunk", b"/trunk/a", true),
+        (b"trunk", b"trunk2", false),
+        (b"trunk", b"trunk2/a", false),
+        (b"trunk", b"a/trunk", false),
+        (b"trunk", b"", false),
+        (b"//trunk/", b"trunk", true),
+        (b"//trunk/", b"trunk/a", true),
+        (b"//trunk/", b"/trunk/a", true),
+        (b"//trunk/", b"trunk2", false),
+        (b"//trunk/", b"", false),
+        (b"/", b"trunk2", true),
+        (b"/", b"", true),
+        (b"", b"trunk2", true),
+        (b"", b"", true),
+    ];
+    for (prefix, path, matched) in rows {
+        let right = is_matched(rt.alloc(), &[prefix], path, matched)?;
+        assert!(rt; right, "{prefix:?} {path:?}");
+    }
+    Ok(())
+}
+
+#[test]
+fn no_prefix_matches_no_path(rt: HostRuntime) -> Result<(), Fail> {
+    assert!(rt; !is_kept(rt.alloc(), Side::Include, &[], b"a")?);
+    assert!(rt; is_kept(rt.alloc(), Side::Exclude, &[], b"a")?);
+    Ok(())
+}
+
+/// Whether options have these two prefixes and no other.
+fn has_two_prefixes(given: &Options, first: &[u8], second: &[u8]) -> bool {
+    given.prefix(0) == Some(first) && given.prefix(1) == Some(second) && given.prefix(2).is_none()
+}
+
+/// Whether options with these two prefixes are as they were handed in.
+fn is_handed_in(
+    alloc: Global,
+    side: Side,
+    empty: Empty,
+    flags: [bool; 3],
+    prefixes: [&[u8]; 2],
+) -> Result<bool, Memory> {
+    let [renumber, preserve, skip] = flags;
+    let given = Options::new(alloc, side, &prefixes, empty, renumber, preserve, skip)?;
+    let [first, second] = prefixes;
+    Ok(
+        given.side() == side
+            && given.empty() == empty
+            && [given.renumber(), given.preserve(), given.skip_missing()] == flags
+            && has_two_prefixes(&given, first, second),
+    )
+}
+
+#[test]
+fn options_are_as_handed_in(rt: HostRuntime) -> Result<(), Fail> {
+    let prefixes = [b"//trunk/".as_slice(), b""];
+    for (side, empty, flags) in [
+        (Side::Include, Empty::Pad, [true, false, false]),
+        (Side::Exclude, Empty::DropEmptied, [false, true, false]),
+        (Side::Include, Empty::DropAll, [false, false, true]),
+    ] {
+        assert!(rt; is_handed_in(rt.alloc(), side, empty, flags, prefixes)?);
+    }
+    Ok(())
+}
+
+// Run with each allocation refused in turn: options are whole, or there are none.
+#[test]
+fn options_or_no_memory(rt: HostRuntime) {
+    let answered = match options(rt.alloc(), Side::Include, &[b"trunk", b"tags"]) {
+        Ok(given) => has_two_prefixes(&given, b"trunk", b"tags"),
+        Err(refused) => refused == Memory,
+    };
+    assert!(rt; answered);
+}
 
 #[test]
 fn one_of_many_prefixes_matches(rt: HostRuntime) -> Result<(), Fail> {

@@ -1,10 +1,11 @@
--- The bare prefixes that no node has matched so far, as the surveyor has them.
+-- The bare prefixes that no node has touched so far, as the surveyor has them.
 use Rattle.std.specs.Prelude.{◌≡◌, ℕ, Bool, not, ◌&&◌, ◌||◌, List, Option, Some, None, map, option_map, bytes_eq, if◌then◌else◌}
 use Rattle.std.specs.List.{list_any, filter_map}
 use Rattle.dump_records.specs.RecordText.{DumpRecord}
 use Rattle.dump_rules.specs.Prefix.{bare_prefix, bare_path, begins_path}
 use Rattle.dump_digest.specs.RecordParts.{is_node, is_copy, node_path}
 use Rattle.dump_history.specs.RecordChanges.{copy_path}
+use Rattle.dump_history.specs.Findings.{makes_copy}
 use Rattle.dump_survey.specs.declared.prefix_findings.PrefixFinding.{PrefixFinding}
 use Rattle.dump_survey.specs.declared.prefix_findings.PrefixFinding.TheVariants.{NotShort, Idle}
 use Rattle.dump_survey.specs.PrefixFindings.{PrefixTold, is_short_prefix}
@@ -22,10 +23,18 @@ abbrev pub is_begun_by : DumpRecord → List ℕ → Bool
 is_begun_by r bare = is_node r
     && (begins_path bare (bare_path (node_path r)) || (is_copy r && begins_path bare (bare_path (copy_path r))))
 
--- these are the bare forms of the prefixes that none of the records matches
+-- whether the record is a node that makes a copy at the bare prefix or above it
+abbrev pub is_below_copy : DumpRecord → List ℕ → Bool
+is_below_copy r bare = is_node r && (makes_copy r && begins_path (bare_path (node_path r)) bare)
+
+-- whether it is one of these
+abbrev pub is_touched_by : DumpRecord → List ℕ → Bool
+is_touched_by r bare = is_begun_by r bare || is_below_copy r bare
+
+-- these are the bare forms of the prefixes that none of the records touches
 abbrev pub AreIdle : List DumpRecord → List (List ℕ) → List (List ℕ) → Type 0
 AreIdle records prefixes idle =
-    AreWithout (λ bare. list_any (λ r. is_begun_by r bare) records) (map bare_prefix prefixes) idle
+    AreWithout (λ bare. list_any (λ r. is_touched_by r bare) records) (map bare_prefix prefixes) idle
 
 -- what is found in the prefix where these are idle
 abbrev pub finding_by : List (List ℕ) → List ℕ → Option PrefixFinding

@@ -33,10 +33,10 @@ fn words_of(
 #[test]
 fn prefixes_are_told_in_their_order(rt: HostRuntime) -> Result<(), Fail> {
     let rows = [
-        ("t /t/ / b/f g", "", ""),
+        ("t /t/ / b/f g b/ff /b/x/y/ g/x", "", ""),
         ("T ./t t", "./t ", "T "),
         ("t//f . // t/.", "t//f . t/. ", ""),
-        ("z .. b/ff gg t z/", "", "z .. b/ff gg z/ "),
+        ("z .. bb/f gg t t/x z/", "", "z .. bb/f gg t/x z/ "),
     ];
     for (words, not_short, idle) in rows {
         let mut prefixes = Vec::new(rt.alloc());

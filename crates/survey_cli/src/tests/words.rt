@@ -1,6 +1,6 @@
 //! Worked words.
 
-use crate::words::{Usage, options_of};
+use crate::words::{Call, Usage, call_of};
 use dump_rules::{Empty, Options, Side};
 use std::alloc::Global;
 use std::process::Abort;
@@ -13,6 +13,7 @@ struct Wanted {
     renumber: bool,
     preserve: bool,
     skip_missing: bool,
+    map: bool,
 }
 
 // `include` with no flag.
@@ -22,15 +23,18 @@ const PLAIN: Wanted = Wanted {
     renumber: false,
     preserve: false,
     skip_missing: false,
+    map: false,
 };
 
-fn found_in(options: &Options) -> Wanted {
+fn found_in(call: &Call) -> Wanted {
+    let options = &call.options;
     Wanted {
         side: options.side(),
         empty: options.empty(),
         renumber: options.renumber(),
         preserve: options.preserve(),
         skip_missing: options.skip_missing(),
+        map: call.map,
     }
 }
 
@@ -47,8 +51,8 @@ fn has_prefixes(options: &Options, prefixes: &[&str]) -> bool {
 fn is_read(alloc: Global, line: &str, prefixes: &str, wanted: Wanted) -> Result<bool, Fail> {
     let words: Vec<&str> = line.split(' ').collect(alloc)?;
     let prefixes: Vec<&str> = prefixes.split(' ').collect(alloc)?;
-    let options = options_of(alloc, words.as_slice())?;
-    Ok(found_in(&options) == wanted && has_prefixes(&options, prefixes.as_slice()))
+    let call = call_of(alloc, words.as_slice())?;
+    Ok(found_in(&call) == wanted && has_prefixes(&call.options, prefixes.as_slice()))
 }
 
 #[test]
@@ -98,9 +102,10 @@ fn flags_are_read_around_the_prefixes(rt: HostRuntime) -> Result<(), Fail> {
         renumber: true,
         preserve: true,
         skip_missing: true,
+        map: true,
     };
     let line =
-        "p include --drop-empty-revs --renumber-revs a --skip-missing-merge-sources b --preserve-revprops";
+        "p include --drop-empty-revs --renumber-revs a --skip-missing-merge-sources b --map --preserve-revprops";
     assert!(rt; is_read(rt.alloc(), line, "a b", wanted)?);
     let line = "p include -- --renumber-revs a";
     assert!(rt; is_read(rt.alloc(), line, "--renumber-revs a", PLAIN)?);
@@ -108,7 +113,7 @@ fn flags_are_read_around_the_prefixes(rt: HostRuntime) -> Result<(), Fail> {
 }
 
 fn is_refused<'a>(alloc: Global, words: &'a [&'a str], usage: Usage) -> bool {
-    match options_of(alloc, words) {
+    match call_of(alloc, words) {
         Ok(_) => false,
         Err(found) => found == usage,
     }
@@ -182,8 +187,8 @@ fn is_two_prefixes_renumbered(options: &Options) -> bool {
 #[test]
 fn options_or_no_memory(rt: HostRuntime) {
     let words = ["svndumpsurvey", "exclude", "--renumber-revs", "a", "b"];
-    let answered = match options_of(rt.alloc(), &words) {
-        Ok(options) => is_two_prefixes_renumbered(&options),
+    let answered = match call_of(rt.alloc(), &words) {
+        Ok(call) => is_two_prefixes_renumbered(&call.options),
         Err(usage) => usage == Usage::Memory,
     };
     assert!(rt; answered);

@@ -1,13 +1,14 @@
-use Rattle.std.proofs.Common.{◌∙◌, false, not, ◌==◌, List, ℕ, length, map, refl, subst, ap, arith, rules}
+use Rattle.std.proofs.Common.{◌∙◌, false, not, ◌==◌, List, ℕ, length, map, refl, subst, sym, ap, arith, rules}
 use Rattle.std.specs.Io.KnownBytes.{Appends}
 use Rattle.dump_writer.specs.SinkWords.{HasFailedSince}
 use Rattle.dump_survey.specs.declared.surveyor.Step.{Step}
 use Rattle.dump_survey.specs.PrefixFindings.{prefix_view}
+use Rattle.dump_survey.specs.steps.Counts.{no_counts}
 use Rattle.dump_survey.specs.steps.Steps.{SurveyStep}
 use Rattle.dump_survey.specs.steps.Surveying.{Surveying}
 use Rattle.dump_survey.specs.LinesBehind.{TakesSome}
 use Rattle.dump_survey.proofs.SurveyLemmas.{node_nearer, other_nearer, prefixes_told}
-use Rattle.dump_survey.proofs.WritingLemmas.{at_err, no_error, broken_in_end, broken_in_node, broken_off, node_written, nothing_written, other_written, whole_written}
+use Rattle.dump_survey.proofs.WritingLemmas.{HasWritten, at_err, no_error, broken_in_end, broken_in_node, broken_off, node_written, nothing_written, other_written, whole_written}
 use Rattle.dump_survey.proofs.survey_text.write_survey.Goals as goal
 
 pub returns-in_err-surveyor-clause-part : goal.returns-in_err-surveyor-clause-part
@@ -15,12 +16,14 @@ returns-in_err-surveyor-clause-part g c =
     let taken = g.S.Sink.taken c.args.sink.now in
     let start : Surveying = record { dump = c.args.dump.now; settings = c.args.options.now; number = 0 } in
     at_err c.from_residual.result (broken_off c.args.options.now c.args.dump.now start start taken taken
-    taken false 0 (nothing_written c.args.options.now c.args.dump.now start taken refl))
+    taken false 0 no_counts (nothing_written c.args.options.now c.args.dump.now start taken refl))
 
 pub loop-surveyor-init : goal.loop-surveyor-init
 loop-surveyor-init g c = record {
-  written = nothing_written c.args.options.now c.args.dump.now c.in_ok-surveyor.surveyor
-      (g.S.Sink.taken c.args.sink.now) c.in_ok-surveyor.ensures;
+  written = subst (HasWritten c.args.options.now c.args.dump.now c.in_ok-surveyor.surveyor
+      (g.S.Sink.taken c.args.sink.now) (g.S.Sink.taken c.args.sink.now) false 0) (sym c.new-counts.ensures)
+      (nothing_written c.args.options.now c.args.dump.now c.in_ok-surveyor.surveyor
+      (g.S.Sink.taken c.args.sink.now) c.in_ok-surveyor.ensures);
   failures = refl;
   through = refl;
 }
@@ -29,21 +32,21 @@ pub returns-in_err-node-clause-part : goal.returns-in_err-node-clause-part
 returns-in_err-node-clause-part g c =
     at_err c.from_residual-in_err-node.result (broken_off c.args.options.now c.args.dump.now c.loop-surveyor.surveyor
     c.loop-surveyor.surveyor (g.S.Sink.taken c.args.sink.now) (g.S.Sink.taken c.loop-surveyor.sink)
-    (g.S.Sink.taken c.loop-surveyor.sink) c.loop-surveyor.found c.loop-surveyor.count c.loop-surveyor.invariant.written)
+    (g.S.Sink.taken c.loop-surveyor.sink) c.loop-surveyor.found c.loop-surveyor.count c.loop-surveyor.counts c.loop-surveyor.invariant.written)
 
 pub returns-in_err-lines-in-Node-clause-part : goal.returns-in_err-lines-in-Node-clause-part
 returns-in_err-lines-in-Node-clause-part g c =
     at_err c.from_residual-in_err-lines-in-Node.result (broken_off c.args.options.now c.args.dump.now
     c.loop-surveyor.surveyor c.loop-surveyor.surveyor (g.S.Sink.taken c.args.sink.now)
     (g.S.Sink.taken c.loop-surveyor.sink) (g.S.Sink.taken c.loop-surveyor.sink) c.loop-surveyor.found
-    c.loop-surveyor.count c.loop-surveyor.invariant.written)
+    c.loop-surveyor.count c.loop-surveyor.counts c.loop-surveyor.invariant.written)
 
 pub returns-in_err-found-in-Node-clause-part : goal.returns-in_err-found-in-Node-clause-part
 returns-in_err-found-in-Node-clause-part g c =
     let step = subst (λ (s : Step). SurveyStep c.loop-surveyor.surveyor s c.next.new.self) c.in-Node.is c.in_ok-node.ensures in
     at_err c.from_residual-in_err-found-in-Node.result (broken_in_node c.args.options.now c.args.dump.now
     c.loop-surveyor.surveyor c.next.new.self (g.S.Sink.taken c.args.sink.now) (g.S.Sink.taken c.loop-surveyor.sink)
-    (g.S.Sink.taken c.write_lines.new.sink) c.loop-surveyor.found c.loop-surveyor.count
+    (g.S.Sink.taken c.write_lines.new.sink) c.loop-surveyor.found c.loop-surveyor.count c.loop-surveyor.counts
     c.loop-surveyor.invariant.written c.in-Node.node step
     (subst (TakesSome (g.S.Sink.taken c.loop-surveyor.sink) (g.S.Sink.taken c.write_lines.new.sink))
     c.in_ok-lines-in-Node.ensures c.in_err-found-in-Node.ensures.part))
@@ -66,11 +69,12 @@ loop-surveyor-preserved-in-Node g c =
     let step = subst (λ (s : Step). SurveyStep c.loop-surveyor.surveyor s c.next.new.self) c.in-Node.is c.in_ok-node.ensures in record {
       written = node_written c.args.options.now c.args.dump.now c.loop-surveyor.surveyor c.next.new.self
           (g.S.Sink.taken c.args.sink.now) (g.S.Sink.taken c.loop-surveyor.sink) (g.S.Sink.taken c.write_lines.new.sink)
-          c.loop-surveyor.found c.loop-surveyor.count c.loop-surveyor.invariant.written c.in-Node.node
-          c.in_ok-found-in-Node.field-0 step
+          c.loop-surveyor.found c.loop-surveyor.count c.loop-surveyor.counts c.loop-surveyor.invariant.written c.in-Node.node
+          c.in_ok-found-in-Node.field-0 c.with-counts.result step
           (subst (Appends (g.S.Sink.taken c.loop-surveyor.sink) (g.S.Sink.taken c.write_lines.new.sink))
           c.in_ok-lines-in-Node.ensures c.in_ok-found-in-Node.ensures.whole)
-          (c.in_ok-found-in-Node.ensures.some ∙ ap (λ (l : List ℕ). not (length l == 0)) c.in_ok-lines-in-Node.ensures);
+          (c.in_ok-found-in-Node.ensures.some ∙ ap (λ (l : List ℕ). not (length l == 0)) c.in_ok-lines-in-Node.ensures)
+          c.with-counts.ensures;
       failures = c.in_ok-found-in-Node.ensures.no_failure no_error
           ∙ c.loop-surveyor.invariant.failures;
       through = c.write_lines.ensures.through ∙ c.loop-surveyor.invariant.through;
@@ -97,7 +101,7 @@ loop-surveyor-preserved g c =
     let step = subst (λ (s : Step). SurveyStep c.loop-surveyor.surveyor s c.next.new.self) c.in-Other.is c.in_ok-node.ensures in record {
       written = other_written c.args.options.now c.args.dump.now c.loop-surveyor.surveyor c.next.new.self
           (g.S.Sink.taken c.args.sink.now) (g.S.Sink.taken c.loop-surveyor.sink) (g.S.Sink.taken c.loop-surveyor.sink)
-          c.loop-surveyor.found c.loop-surveyor.count c.loop-surveyor.invariant.written step;
+          c.loop-surveyor.found c.loop-surveyor.count c.loop-surveyor.counts c.loop-surveyor.invariant.written step;
       failures = c.loop-surveyor.invariant.failures;
       through = c.loop-surveyor.invariant.through;
     }
@@ -107,14 +111,14 @@ returns-in_err-prefixes-in-Finished-clause-part g c =
     at_err c.from_residual-in_err-prefixes-in-Finished.result (broken_off c.args.options.now c.args.dump.now
     c.loop-surveyor.surveyor c.loop-surveyor.surveyor (g.S.Sink.taken c.args.sink.now)
     (g.S.Sink.taken c.loop-surveyor.sink) (g.S.Sink.taken c.loop-surveyor.sink) c.loop-surveyor.found
-    c.loop-surveyor.count c.loop-surveyor.invariant.written)
+    c.loop-surveyor.count c.loop-surveyor.counts c.loop-surveyor.invariant.written)
 
 pub returns-in_err-lines-in-Finished-clause-part : goal.returns-in_err-lines-in-Finished-clause-part
 returns-in_err-lines-in-Finished-clause-part g c =
     at_err c.from_residual-in_err-lines-in-Finished.result (broken_off c.args.options.now c.args.dump.now
     c.loop-surveyor.surveyor c.loop-surveyor.surveyor (g.S.Sink.taken c.args.sink.now)
     (g.S.Sink.taken c.loop-surveyor.sink) (g.S.Sink.taken c.loop-surveyor.sink) c.loop-surveyor.found
-    c.loop-surveyor.count c.loop-surveyor.invariant.written)
+    c.loop-surveyor.count c.loop-surveyor.counts c.loop-surveyor.invariant.written)
 
 pub returns-in_err-found-in-Finished-clause-part : goal.returns-in_err-found-in-Finished-clause-part
 returns-in_err-found-in-Finished-clause-part g c =
@@ -122,7 +126,7 @@ returns-in_err-found-in-Finished-clause-part g c =
     (λ (s : Step). SurveyStep c.loop-surveyor.surveyor s c.next.new.self) c.in-Finished.is c.in_ok-node.ensures in
     at_err c.from_residual-in_err-found-in-Finished.result (broken_in_end c.args.options.now c.args.dump.now
     c.loop-surveyor.surveyor c.next.new.self (g.S.Sink.taken c.args.sink.now) (g.S.Sink.taken c.loop-surveyor.sink)
-    (g.S.Sink.taken c.write_lines-in-Finished.new.sink) c.loop-surveyor.found c.loop-surveyor.count
+    (g.S.Sink.taken c.write_lines-in-Finished.new.sink) c.loop-surveyor.found c.loop-surveyor.count c.loop-surveyor.counts
     c.loop-surveyor.invariant.written c.in-Finished.end step (map prefix_view c.deref.result.now)
     (ap (map prefix_view) c.deref.ensures.value
     ∙ prefixes_told c.args.options.now c.args.dump.now c.loop-surveyor.surveyor c.next.new.self
@@ -137,7 +141,7 @@ returns-in-Finished-clause-whole g c =
     (λ (s : Step). SurveyStep c.loop-surveyor.surveyor s c.next.new.self) c.in-Finished.is c.in_ok-node.ensures in
     whole_written c.args.options.now c.args.dump.now c.loop-surveyor.surveyor c.next.new.self
     (g.S.Sink.taken c.args.sink.now) (g.S.Sink.taken c.loop-surveyor.sink)
-    (g.S.Sink.taken c.write_lines-in-Finished.new.sink) c.loop-surveyor.found c.loop-surveyor.count
+    (g.S.Sink.taken c.write_lines-in-Finished.new.sink) c.loop-surveyor.found c.loop-surveyor.count c.loop-surveyor.counts
     c.loop-surveyor.invariant.written c.in-Finished.end step (map prefix_view c.deref.result.now)
     (ap (map prefix_view) c.deref.ensures.value
     ∙ prefixes_told c.args.options.now c.args.dump.now c.loop-surveyor.surveyor c.next.new.self

@@ -4,7 +4,7 @@ use Rattle.dump_survey.proofs.survey_text.write_survey.Given as goal
 
 abbrev pub invariant-loop-surveyor : goal.invariant-loop-surveyor
 invariant-loop-surveyor g l = record {
-  written : HasWritten l.options l.dump l.surveyor (g.S.Sink.taken l.initial.sink) (g.S.Sink.taken l.sink) l.found l.count;
+  written : HasWritten l.options l.dump l.surveyor (g.S.Sink.taken l.initial.sink) (g.S.Sink.taken l.sink) l.found l.count l.counts;
   failures : g.S.Sink.failure_count l.sink ≡ g.S.Sink.failure_count l.initial.sink;
   through : g.S.Sink.through l.sink ≡ g.S.Sink.through l.initial.sink;
 }

@@ -13,5 +13,6 @@ returns c =
     let e3 = one_more _ _ _ _ _ c.in_ok-arg-3.ensures c.plain_flag-3.ensures.local e2 c.plain_flag-3.ensures.rule in
     let e4 = one_more _ _ _ _ _ c.in_ok-arg-4.ensures c.plain_flag-4.ensures.local e3 c.plain_flag-4.ensures.rule in
     let e5 = one_more _ _ _ _ _ c.in_ok-arg-5.ensures c.plain_flag-5.ensures.local e4 c.plain_flag-5.ensures.rule in
-    IfOk-weaker c.arg-6.result _ _
-    (λ r adds. one_more _ _ _ _ _ adds c.prefix_words.ensures.local e5 c.prefix_words.ensures.rule) c.arg-6.ensures
+    let e6 = one_more _ _ _ _ _ c.in_ok-arg-6.ensures c.plain_flag-6.ensures.local e5 c.plain_flag-6.ensures.rule in
+    IfOk-weaker c.arg-7.result _ _
+    (λ r adds. one_more _ _ _ _ _ adds c.prefix_words.ensures.local e6 c.prefix_words.ensures.rule) c.arg-7.ensures

@@ -31,7 +31,7 @@ pub invariant_of-self-2 : goal.invariant_of-self-2
 invariant_of-self-2 c =
     let step = subst (λ (x : Cut). CutStep c.self.inside.cutter x c.next.new.self) c.in-Item.is c.next.ensures in
     goes_on c.self.inside.options.now c.self.inside.prefixes c.self.inside.idle c.self.inside.tally c.self.inside.cutter c.next.new.self
-    c.self.invariant c.in-Item.item step c.leave_matched.new.idle c.with-self-inside.result c.leave_matched.ensures
+    c.self.invariant c.in-Item.item step c.leave_touched.new.idle c.with-self-inside.result c.leave_touched.ensures
     c.with-self-inside.ensures
 
 pub returns : goal.returns

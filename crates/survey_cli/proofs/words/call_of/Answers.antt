@@ -4,9 +4,9 @@ use Rattle.clap.specs.Kinds.{HasKind}
 use Rattle.clap.specs.Walk.{is_empty}
 use Rattle.clap.specs.Words.{takes, Text, fault_of, found_of, is_simple, is_simple_and_free, matches_of, rows_of}
 use Rattle.survey_cli.specs.CommandLine.{flags}
-use Rattle.survey_cli.specs.Words.{TellsSettings, settings_of_line, side_in}
+use Rattle.survey_cli.specs.Words.{TellsCall, call_of_line, side_in}
 use Rattle.survey_cli.proofs.LineLemmas.{free, refusal_answers, refusal_unlawful, second_holds, simple, taken_answers}
-use Rattle.survey_cli.proofs.words.options_of.Goals as goal
+use Rattle.survey_cli.proofs.words.call_of.Goals as goal
 
 pub returns-in-Ok-try_get_matches_from-clause-meaning : goal.returns-in-Ok-try_get_matches_from-clause-meaning
 returns-in-Ok-try_get_matches_from-clause-meaning c =
@@ -19,8 +19,8 @@ returns-in-Ok-try_get_matches_from-clause-meaning c =
     let same : rows_of (found_of c.in-Ok-try_get_matches_from.matches) ≡ matches_of flags line =
     (c.in-Ok-try_get_matches_from.ensures.matches (ap is_simple c.in-Ok.ensures ∙ simple)).0
     ∙ ap (λ a. matches_of a line) c.in-Ok.ensures in
-    subst (λ l. TellsSettings (settings_of_line l) c.read_options.result) (sym behind)
-    (taken_answers line c.in-Some-side_in.side _ c.read_options.result named none same c.read_options.ensures)
+    subst (λ l. TellsCall (call_of_line l) c.read_call.result) (sym behind)
+    (taken_answers line c.in-Some-side_in.side _ c.read_call.result named none same c.read_call.ensures)
 
 pub returns-in-Err-clause-meaning : goal.returns-in-Err-clause-meaning
 returns-in-Err-clause-meaning c =
@@ -31,7 +31,7 @@ returns-in-Err-clause-meaning c =
     let has : HasKind (fault_of flags line) c.in-Err.error = subst
     (λ a. HasKind (fault_of a line) c.in-Err.error) c.in-Ok.ensures
     (c.in-Err.ensures.kinds (ap is_simple_and_free c.in-Ok.ensures ∙ free)) in
-    subst (λ l. TellsSettings (settings_of_line l) (Err c.refusal.result)) (sym behind)
+    subst (λ l. TellsCall (call_of_line l) (Err c.refusal.result)) (sym behind)
     (refusal_answers line c.in-Some-side_in.side c.in-Err.error c.refusal.result named has c.refusal.ensures.memory
     c.refusal.ensures.either)
 

@@ -1,0 +1,147 @@
+-- How often each kind is told of nodes, node by node.
+use Rattle.std.proofs.Common.{◌≡◌, ◌≤◌, ℕ, ◌+◌, ◌==◌, Bool, true, false, List, [], ◌∷◌, ◌++◌, length, get_or, map, flat_map, filter, cond, refl, sym, ap, ap₂, ◌∙◌, arith, if◌then◌else◌}
+use Rattle.std.proofs.lemmas.Bool.{eqb-true}
+use Rattle.dump_history.specs.Findings.{Finding, every_finding}
+use Rattle.dump_survey.specs.declared.counts.Counts.{Counts}
+use Rattle.dump_survey.specs.declared.told.SurveyedNode.{SurveyedNode}
+use Rattle.dump_survey.specs.Kinds.{finding_place, times_told}
+use Rattle.dump_survey.specs.Told.{NodeTold}
+use Rattle.dump_survey.specs.steps.Counts.{AreWithNode, count_in, no_counts}
+use Rattle.dump_survey.specs.steps.Found.{has_found}
+use Rattle.dump_survey.specs.steps.Surveyed.{told_of_node}
+
+-- a finding is known by its place
+at_place : (f : Finding) → get_or every_finding (finding_place f) Finding.UnreadBlock ≡ f
+at_place Finding.UnreadBlock = refl
+at_place Finding.Delta = refl
+at_place Finding.UnknownAction = refl
+at_place Finding.OddText = refl
+at_place Finding.NoWholeFile = refl
+at_place Finding.PropertiesLost = refl
+at_place Finding.CopyLoses = refl
+at_place Finding.CopyLetsIn = refl
+at_place Finding.FolderTakes = refl
+at_place Finding.FolderBrings = refl
+at_place Finding.TextComesIn = refl
+
+same_place : (f g : Finding) → (finding_place g == finding_place f) ≡ true → g ≡ f
+same_place f g is = sym (at_place g)
+    ∙ (ap (λ n. get_or every_finding n Finding.UnreadBlock) (eqb-true (finding_place g) (finding_place f) is)
+    ∙ at_place f)
+
+-- each stands once among all
+once : (f : Finding) → length (filter (λ g. finding_place g == finding_place f) every_finding) ≡ 1
+once Finding.UnreadBlock = refl
+once Finding.Delta = refl
+once Finding.UnknownAction = refl
+once Finding.OddText = refl
+once Finding.NoWholeFile = refl
+once Finding.PropertiesLost = refl
+once Finding.CopyLoses = refl
+once Finding.CopyLetsIn = refl
+once Finding.FolderTakes = refl
+once Finding.FolderBrings = refl
+once Finding.TextComesIn = refl
+
+-- one that is put before them where a test passes
+counted : {X : Type 0} (b : Bool) (x : X) (xs : List X) → length (cond b (x ∷ xs) xs) ≡ cond b (length xs + 1) (length xs)
+counted true x xs = omega arith
+counted false x xs = refl
+
+module _ (f : Finding) where
+  abbrev is_it : Finding → Bool
+  is_it g = finding_place g == finding_place f
+
+  -- among those that pass a test it stands as often as before, or not at all
+  among_those : (test : Finding → Bool) (gs : List Finding)
+      → length (filter is_it (filter test gs)) ≡ cond (test f) (length (filter is_it gs)) 0
+  among_those test [] = none (test f) 0
+    where
+      none : (b : Bool) (n : ℕ) → n ≡ cond b n n
+      none true n = refl
+      none false n = refl
+  among_those test (g ∷ gs) = by (is_it g) refl (test g) refl (among_those test gs)
+    where
+      by : (same : Bool) → is_it g ≡ same → (passes : Bool) → test g ≡ passes
+          → length (filter is_it (filter test gs)) ≡ cond (test f) (length (filter is_it gs)) 0
+          → length (filter is_it (cond passes (g ∷ filter test gs) (filter test gs)))
+          ≡ cond (test f) (length (cond same (g ∷ filter is_it gs) (filter is_it gs))) 0
+      by true is true passes more =
+          let here : test f ≡ true = ap test (sym (same_place f g is)) ∙ passes in
+          let same = more ∙ ap (λ b. cond b (length (filter is_it gs)) 0) here in
+          let size : length (g ∷ filter is_it (filter test gs)) ≡ length (g ∷ filter is_it gs) = omega (arith, same) in
+          ap (λ b. length (cond b (g ∷ filter is_it (filter test gs)) (filter is_it (filter test gs)))) is
+          ∙ (size ∙ sym (ap (λ b. cond b (length (g ∷ filter is_it gs)) 0) here))
+      by true is false passes more =
+          let here : test f ≡ false = ap test (sym (same_place f g is)) ∙ passes in
+          more ∙ (ap (λ b. cond b (length (filter is_it gs)) 0) here
+          ∙ sym (ap (λ b. cond b (length (g ∷ filter is_it gs)) 0) here))
+      by false is true passes more =
+          ap (λ b. length (cond b (g ∷ filter is_it (filter test gs)) (filter is_it (filter test gs)))) is ∙ more
+      by false is false passes more = more
+
+  -- told in a node it is the same
+  told_each : (tell : Finding → NodeTold) → ((g : Finding) → (tell g).finding ≡ g) → (gs : List Finding)
+      → times_told (map tell gs) f ≡ length (filter is_it gs)
+  told_each tell same [] = refl
+  told_each tell same (g ∷ gs) =
+      counted (is_it (tell g).finding) (tell g) (filter (λ (t : NodeTold). is_it t.finding) (map tell gs))
+      ∙ (ap₂ (λ (b : Bool) n. cond b (n + 1) n) (ap is_it (same g)) (told_each tell same gs)
+      ∙ sym (counted (is_it g) g (filter is_it gs)))
+
+  times_both : (xs ys : List NodeTold) → times_told (xs ++ ys) f ≡ times_told xs f + times_told ys f
+  times_both [] ys = omega arith
+  times_both (x ∷ xs) ys = by (is_it x.finding) (times_both xs ys)
+    where
+      here : NodeTold → Bool
+      here t = finding_place t.finding == finding_place f
+
+      by : (b : Bool) → times_told (xs ++ ys) f ≡ times_told xs f + times_told ys f
+          → length (cond b (x ∷ filter here (xs ++ ys)) (filter here (xs ++ ys)))
+          ≡ length (cond b (x ∷ filter here xs) (filter here xs)) + length (filter here ys)
+      by true more = omega (arith, more)
+      by false more = more
+
+-- nothing is counted first
+pub none_counted : (f : Finding) → count_in no_counts f ≡ 0
+none_counted Finding.UnreadBlock = refl
+none_counted Finding.Delta = refl
+none_counted Finding.UnknownAction = refl
+none_counted Finding.OddText = refl
+none_counted Finding.NoWholeFile = refl
+none_counted Finding.PropertiesLost = refl
+none_counted Finding.CopyLoses = refl
+none_counted Finding.CopyLetsIn = refl
+none_counted Finding.FolderTakes = refl
+none_counted Finding.FolderBrings = refl
+none_counted Finding.TextComesIn = refl
+
+-- no count is above that of the records
+pub low_with_node : (old new : Counts) (node : SurveyedNode) (count : ℕ) → ((f : Finding) → count_in old f ≤ count)
+    → AreWithNode old node.found new → (f : Finding) → count_in new f ≤ count + 1
+low_with_node old new node count low more f = by (has_found node.found f) (more f)
+  where
+    by : (b : Bool) → count_in new f ≡ cond b (count_in old f + 1) (count_in old f) → count_in new f ≤ count + 1
+    by true is = let below = low f in omega (arith, is, below)
+    by false is = let below = low f in omega (arith, is, below)
+
+-- the counts go on to one more node
+pub counts_with_node : (old new : Counts) (told : List NodeTold) (node : SurveyedNode)
+    → ((f : Finding) → count_in old f ≡ times_told told f) → AreWithNode old node.found new
+    → (f : Finding) → count_in new f ≡ times_told (told ++ told_of_node node) f
+counts_with_node old new told node so_far more f =
+    more f ∙ (by (has_found node.found f) ∙ sym (times_both f told (told_of_node node)
+    ∙ ap (λ n. times_told told f + n) (told_each f _ (λ g. refl) (filter (λ g. has_found node.found g) every_finding)
+    ∙ (among_those f (λ g. has_found node.found g) every_finding
+    ∙ ap (λ n. cond (has_found node.found f) n 0) (once f)))))
+  where
+    by : (b : Bool) → cond b (count_in old f + 1) (count_in old f) ≡ times_told told f + cond b 1 0
+    by true = ap (λ n. n + 1) (so_far f)
+    by false = let here = so_far f in omega (arith, here)
+
+-- counts that are the same give the same lines
+pub same_lines : (line : ℕ → Finding → List ℕ) (first second : Finding → ℕ) → ((f : Finding) → first f ≡ second f)
+    → (fs : List Finding) → flat_map (λ f. line (first f) f) fs ≡ flat_map (λ f. line (second f) f) fs
+same_lines line first second same [] = refl
+same_lines line first second same (f ∷ fs) =
+    ap₂ (λ xs ys. xs ++ ys) (ap (λ n. line n f) (same f)) (same_lines line first second same fs)

@@ -1,0 +1,290 @@
+-- The kept revisions, record by record, are those of the groups.
+use Rattle.std.proofs.Common.{◌≡◌, ℕ, ◌+◌, ◌-◌, ◌≤◌, ◌<◌, ◌^◌, ◌==◌, Bool, true, false, not, ◌&&◌, ◌||◌, List, [], ◌∷◌, ◌++◌, length, length-append, map, filter, Option, Some, None, unwrap_or, if◌then◌else◌, cond, refl, sym, ap, ap₂, ◌∙◌, subst, arith, Result, Ok, Err, append-nil, append_assoc, codes, decimal, nat_lt}
+use Rattle.std.specs.Result.{IfOk}
+use Rattle.std.specs.List.{concat, list_all, list_any}
+use Rattle.std.specs.List.Sorted.{IsPermutation}
+use Rattle.std.proofs.lemmas.List.Sorted.{sum_by-IsPermutation}
+use Rattle.std.proofs.lemmas.Bool.{and_parts}
+use Rattle.dump_text.specs.Names.{revision_name}
+use Rattle.dump_records.specs.declared.record.Record.{Record}
+use Rattle.dump_records.specs.declared.cutter.Cut.TheVariants as cuts
+use Rattle.dump_records.specs.HeaderRules.{header_number}
+use Rattle.dump_records.specs.RecordText.{DumpRecord}
+use Rattle.dump_records.specs.DumpText.{Ending, BeginsWithRecords, HasRecords}
+use Rattle.dump_records.specs.steps.CutterState.{CutterState}
+use Rattle.dump_records.specs.steps.CutRecords.{EndsAfter}
+use Rattle.dump_records.specs.steps.RecordViews.{record_item, CutStep}
+use Rattle.dump_records.proofs.Prefixes.{whole_list}
+use Rattle.dump_rules.specs.Renumbering.{KeptRevisions}
+use Rattle.dump_rules.specs.Settings.{Settings}
+use Rattle.dump_digest.specs.RecordParts.{is_revision_record, is_node, is_kept_node}
+use Rattle.dump_filter.specs.Groups.{Group, group_of, groups, group_number, revision_number, revision_numbers, first_number, keeps_group, keeps_empty, kept_revisions}
+use Rattle.dump_filter.specs.NewHeaders.{written_number}
+use Rattle.dump_filter.proofs.again.Output.{header_small}
+use Rattle.dump_survey.specs.RevisionMap.{map_line}
+use Rattle.dump_survey.specs.declared.map.KeptNumbers.{KeptNumbers}
+use Rattle.dump_survey.specs.declared.memory.Memory.{Memory}
+use Rattle.dump_survey.specs.declared.tally.Present.{Present}
+use Rattle.dump_survey.specs.declared.tally.Tally.{Tally}
+use Rattle.dump_survey.specs.steps.Tally.{no_tally, keeps_open, revision_tally, node_tally, other_tally, next_tally, tally_behind}
+use Rattle.dump_survey.specs.steps.KeptNumbers.{AreKeptIn, ended_numbers, first_with, kept_view, numbers_before}
+use Rattle.dump_survey.proofs.SurveyorLemmas.{begins_next, begins_with_none, begun_single, nearer_by_one}
+use Rattle.dump_survey.proofs.TallyLemmas.{closes, closes_none, count_within, is_single, nodes, nodes_more, nodes_none, or_assoc, some_left, tally_more}
+
+-- the numbers that are added behind a tally, up to the end of these records
+abbrev pub kept_by : Settings → Tally → List DumpRecord → List ℕ
+kept_by settings t [] = ended_numbers settings t.present
+kept_by settings t (r ∷ records) =
+    numbers_before settings t.present r ++ kept_by settings (next_tally settings t r) records
+
+-- the present revision, if it is kept, where these nodes follow
+abbrev closing : Settings → Option Present → List DumpRecord → List ℕ
+closing settings None ns = []
+closing settings (Some p) ns = cond (closes settings (Some p) ns) (p.number ∷ []) []
+
+-- the kept ones of the groups
+abbrev kept_of : Settings → List Group → List ℕ
+kept_of settings gs = map group_number (filter (keeps_group settings) gs)
+
+ended_is : (settings : Settings) (p : Option Present) → ended_numbers settings p ≡ closing settings p []
+ended_is settings None = refl
+ended_is settings (Some p) = ap (λ b. cond b (p.number ∷ []) []) (sym (closes_none settings (Some p)))
+
+module _ (settings : Settings) (t : Tally) (r : DumpRecord) (records : List DumpRecord)
+    (more : (u : Tally) → kept_by settings u records
+    ≡ closing settings u.present (nodes records) ++ kept_of settings (groups records)) where
+  -- behind a record that is no node the present revision has its nodes
+  ends_before : is_node r ≡ false → ended_numbers settings t.present ≡ closing settings t.present (nodes (r ∷ records))
+  ends_before other = ended_is settings t.present ∙ ap (closing settings t.present) (sym (nodes_none r records other))
+
+  one_group : (b : Bool) → cond b (revision_number r ∷ []) [] ++ kept_of settings (groups records)
+      ≡ map group_number (cond b (group_of r records ∷ filter (keeps_group settings) (groups records))
+      (filter (keeps_group settings) (groups records)))
+  one_group true = refl
+  one_group false = refl
+
+  numbers_revision : is_node r ≡ false
+      → ended_numbers settings t.present ++ kept_by settings (revision_tally settings t r) records
+      ≡ closing settings t.present (nodes (r ∷ records)) ++ kept_of settings (group_of r records ∷ groups records)
+  numbers_revision other =
+      ap₂ (λ xs ys. xs ++ ys) (ends_before other)
+      (more (revision_tally settings t r) ∙ one_group (keeps_group settings (group_of r records)))
+
+  numbers_other : is_node r ≡ false
+      → ended_numbers settings t.present ++ kept_by settings (other_tally settings t) records
+      ≡ closing settings t.present (nodes (r ∷ records)) ++ kept_of settings (groups records)
+  numbers_other other = ap₂ (λ xs ys. xs ++ ys) (ends_before other) (more (other_tally settings t))
+
+  node_closing : (p : Option Present) → is_node r ≡ true → t.present ≡ p
+      → closing settings (node_tally t (is_kept_node settings r) p).present (nodes records)
+      ≡ closing settings p (nodes (r ∷ records))
+  node_closing None node is = ap (λ q. closing settings q (nodes records)) is
+  node_closing (Some p) node is =
+      ap₂ (λ k b. cond (p.number == 0 || k || keeps_empty settings.empty b) (p.number ∷ []) [])
+      (or_assoc p.kept (is_kept_node settings r) (list_any (is_kept_node settings) (nodes records)))
+      (sym (some_left (length (nodes records)) p.bare))
+      ∙ ap (λ ns. closing settings (Some p) ns) (sym (nodes_more r records node))
+
+  numbers_node : is_node r ≡ true
+      → kept_by settings (node_tally t (is_kept_node settings r) t.present) records
+      ≡ closing settings t.present (nodes (r ∷ records)) ++ kept_of settings (groups records)
+  numbers_node node = more (node_tally t (is_kept_node settings r) t.present)
+      ∙ ap (λ xs. xs ++ kept_of settings (groups records)) (node_closing t.present node refl)
+
+  numbers_step : (v n : Bool) → is_node r ≡ n → not (n && v) ≡ true
+      → (if n then [] else ended_numbers settings t.present) ++ kept_by settings (if v then revision_tally settings t r
+      else if n then node_tally t (is_kept_node settings r) t.present else other_tally settings t) records
+      ≡ closing settings t.present (nodes (r ∷ records))
+      ++ kept_of settings (if v then group_of r records ∷ groups records else groups records)
+  numbers_step true true node single = cc
+  numbers_step true false other single = numbers_revision other
+  numbers_step false true node single = numbers_node node
+  numbers_step false false other single = numbers_other other
+
+-- the numbers that are added are those of the present revision and of the groups
+numbers_are : (settings : Settings) (t : Tally) (records : List DumpRecord) → list_all is_single records ≡ true
+    → kept_by settings t records ≡ closing settings t.present (nodes records) ++ kept_of settings (groups records)
+numbers_are settings t [] single = ended_is settings t.present ∙ sym (append-nil (closing settings t.present []))
+numbers_are settings t (r ∷ records) single =
+    let parts = and_parts (is_single r) (list_all is_single records) single in
+    numbers_step settings t r records (λ u. numbers_are settings u records parts.1) (is_revision_record r) (is_node r)
+    refl parts.0
+
+revision_below : (r : DumpRecord) → revision_number r < 10 ^ 18
+revision_below r = by_number (header_number revision_name r.headers) refl
+  where
+    by_number : (o : Option ℕ) → header_number revision_name r.headers ≡ o → unwrap_or o 0 < 10 ^ 18
+    by_number None is = omega arith
+    by_number (Some n) is = header_small revision_name r.headers n is
+
+-- what is known of the first revision: which it is, where one came, and none is present where none came
+pub record KnowsFirst (tally : Tally) (first : Option ℕ) (before : List DumpRecord) : Type 0 where
+  pub is : (rest : List DumpRecord) → first_number (revision_numbers (before ++ rest))
+      ≡ unwrap_or first (first_number (revision_numbers rest))
+  pub opens : first ≡ None → tally.present ≡ None
+  pub small : unwrap_or first 0 < 10 ^ 18
+
+-- what is known behind the records that the cutter has given
+pub record KeptSoFar (settings : Settings) (dump : List ℕ) (cutter : CutterState) (tally : Tally) (first : Option ℕ)
+    (numbers : List ℕ) : Type 0 where
+  pub dump_is : cutter.dump ≡ dump
+  pub before : List DumpRecord
+  pub begins : BeginsWithRecords dump before
+  pub count : length before ≡ cutter.number
+  pub tallied : tally ≡ tally_behind settings no_tally before
+  pub kept : (rest : List DumpRecord)
+      → kept_by settings no_tally (before ++ rest) ≡ numbers ++ kept_by settings tally rest
+  pub first_known : KnowsFirst tally first before
+
+pub none_kept : (settings : Settings) (dump : List ℕ) (cutter : CutterState) (tally : Tally) (numbers : List ℕ)
+    → cutter ≡ record { dump = dump; number = 0 } → tally ≡ no_tally → numbers ≡ []
+    → KeptSoFar settings dump cutter tally None numbers
+none_kept settings dump cutter tally numbers is none empty = record {
+  dump_is = ap (λ (c : CutterState). c.dump) is;
+  before = [];
+  begins = begins_with_none dump;
+  count = sym (ap (λ (c : CutterState). c.number) is);
+  tallied = none;
+  kept = λ rest. ap₂ (λ (t : Tally) (ns : List ℕ). ns ++ kept_by settings t rest) (sym none) (sym empty);
+  first_known = record {
+    is = λ rest. refl;
+    opens = λ same. ap (λ (t : Tally). t.present) none;
+    small = omega arith;
+  };
+}
+
+-- one more record
+module _ (settings : Settings) (tally : Tally) (before : List DumpRecord) (r : DumpRecord) where
+  assoc : {A : Type 0} (f : List DumpRecord → A) (rest : List DumpRecord)
+      → f ((before ++ r ∷ []) ++ rest) ≡ f (before ++ r ∷ rest)
+  assoc f rest = ap f (append_assoc before (r ∷ []) rest)
+
+  first_more : (first : Option ℕ) → KnowsFirst tally first before
+      → KnowsFirst (next_tally settings tally r) (first_with first (next_tally settings tally r).present) (before ++ r ∷ [])
+  first_more (Some n) knows = record {
+    is = λ rest. assoc (λ rs. first_number (revision_numbers rs)) rest ∙ knows.is (r ∷ rest);
+    opens = λ same. cc;
+    small = knows.small;
+  }
+  first_more None knows = by (is_revision_record r) (is_node r) refl
+    where
+      by : (v n : Bool) → is_revision_record r ≡ v
+          → KnowsFirst (if v then revision_tally settings tally r
+          else if n then node_tally tally (is_kept_node settings r) tally.present else other_tally settings tally)
+          (first_with None (if v then revision_tally settings tally r
+          else if n then node_tally tally (is_kept_node settings r) tally.present else other_tally settings tally).present)
+          (before ++ r ∷ [])
+      by true n rev = record {
+        is = λ rest. assoc (λ rs. first_number (revision_numbers rs)) rest ∙ knows.is (r ∷ rest)
+            ∙ ap (λ b. first_number (map group_number (if b then group_of r rest ∷ groups rest else groups rest))) rev;
+        opens = λ same. cc;
+        small = revision_below r;
+      }
+      by false true rev = of_node tally.present refl (knows.opens refl)
+        where
+          of_node : (p : Option Present) → tally.present ≡ p → p ≡ None
+              → KnowsFirst (node_tally tally (is_kept_node settings r) p)
+              (first_with None (node_tally tally (is_kept_node settings r) p).present) (before ++ r ∷ [])
+          of_node (Some p) same none = cc
+          of_node None same none = subst (λ p. KnowsFirst tally (first_with None p) (before ++ r ∷ [])) (sym same) (record {
+            is = λ rest. assoc (λ rs. first_number (revision_numbers rs)) rest ∙ knows.is (r ∷ rest)
+                ∙ ap (λ b. first_number (map group_number (if b then group_of r rest ∷ groups rest else groups rest))) rev;
+            opens = λ is. same;
+            small = omega arith;
+          })
+      by false false rev = record {
+        is = λ rest. assoc (λ rs. first_number (revision_numbers rs)) rest ∙ knows.is (r ∷ rest)
+            ∙ ap (λ b. first_number (map group_number (if b then group_of r rest ∷ groups rest else groups rest))) rev;
+        opens = λ same. refl;
+        small = omega arith;
+      }
+
+module _ (settings : Settings) (dump : List ℕ) (cutter after : CutterState) (tally : Tally) (first : Option ℕ)
+    (numbers : List ℕ) (so_far : KeptSoFar settings dump cutter tally first numbers) where
+  module _ (item : Record) (step : CutStep cutter (cuts.Item item) after) where
+    begins_more : BeginsWithRecords dump (so_far.before ++ record_item item ∷ [])
+    begins_more = begins_next dump cutter after so_far.before so_far.dump_is so_far.begins so_far.count item step
+
+    -- the cutter is nearer to the end
+    pub cutter_closer : (after.number ≡ cutter.number + 1) × (after.number ≤ length dump)
+    cutter_closer = nearer_by_one dump cutter after so_far.before so_far.dump_is so_far.begins so_far.count item step
+
+    -- the tally has room for one more revision
+    pub tally_room : tally.count + 1 < 2 ^ 64
+    tally_room =
+        let within = count_within settings no_tally so_far.before in
+        let same = ap (λ (t : Tally). t.count) so_far.tallied in
+        let count = so_far.count in
+        let number = step.1 in
+        let fits = item.counted in
+        omega arith
+
+    pub kept_more : (all : List ℕ) (next : Tally) (found : Option ℕ)
+        → all ≡ numbers ++ numbers_before settings tally.present (record_item item)
+        → next ≡ next_tally settings tally (record_item item) → found ≡ first_with first next.present
+        → KeptSoFar settings dump after next found all
+    kept_more all next found are is first_is = record {
+      dump_is = ap (λ (c : CutterState). c.dump) step.3 ∙ so_far.dump_is;
+      before = so_far.before ++ record_item item ∷ [];
+      begins = begins_more;
+      count = length-append so_far.before (record_item item ∷ [])
+          ∙ (ap (λ n. n + 1) so_far.count ∙ sym (ap (λ (c : CutterState). c.number) step.3));
+      tallied = is ∙ ap (λ t. next_tally settings t (record_item item)) so_far.tallied
+          ∙ sym (tally_more settings no_tally so_far.before (record_item item));
+      kept = λ rest. ap (kept_by settings no_tally) (append_assoc so_far.before (record_item item ∷ []) rest)
+          ∙ so_far.kept (record_item item ∷ rest)
+          ∙ sym (append_assoc numbers (numbers_before settings tally.present (record_item item))
+          (kept_by settings (next_tally settings tally (record_item item)) rest))
+          ∙ ap₂ (λ (ns : List ℕ) (t : Tally). ns ++ kept_by settings t rest) (sym are) (sym is);
+      first_known = subst (λ o. KnowsFirst next o (so_far.before ++ record_item item ∷ [])) (sym first_is)
+          (subst (λ (t : Tally). KnowsFirst t (first_with first t.present) (so_far.before ++ record_item item ∷ [])) (sym is)
+          (first_more settings tally so_far.before (record_item item) first so_far.first_known));
+    }
+
+  -- where the records end
+  pub all_kept_in : (ending : Ending) → EndsAfter cutter.dump cutter.number ending → (kept : KeptRevisions)
+      → kept.first ≡ unwrap_or first 0 → kept.numbers ≡ numbers ++ ended_numbers settings tally.present
+      → AreKeptIn settings dump kept
+  all_kept_in ending ends kept first_is are = record {
+    records = so_far.before;
+    ending = ending;
+    has = whole_list dump so_far.before ending so_far.begins
+        (subst (λ d. EndsAfter d (length so_far.before) ending) so_far.dump_is
+        (subst (λ n. EndsAfter cutter.dump n ending) (sym so_far.count) ends));
+    kept_are = same_kept kept (kept_revisions settings so_far.before)
+        (first_is ∙ sym (ap (λ rs. first_number (revision_numbers rs)) (sym (append-nil so_far.before))
+        ∙ so_far.first_known.is []))
+        (are ∙ sym (so_far.kept []) ∙ ap (kept_by settings no_tally) (append-nil so_far.before)
+        ∙ numbers_are settings no_tally so_far.before (begun_single dump so_far.before so_far.begins));
+    small = subst (λ n. n < 10 ^ 18) (sym first_is) so_far.first_known.small;
+  }
+    where
+      same_kept : (a b : KeptRevisions) → a.first ≡ b.first → a.numbers ≡ b.numbers → a ≡ b
+      same_kept a b first_same numbers_same =
+          ap₂ (λ f ns. record { first = f; numbers = ns }) first_same numbers_same
+
+  pub all_kept_ok : (ending : Ending) → EndsAfter cutter.dump cutter.number ending → (r : Result KeptNumbers Memory)
+      → IfOk r (λ kept. kept.first ≡ unwrap_or first 0)
+      → IfOk r (λ kept. kept.numbers.items ≡ numbers ++ ended_numbers settings tally.present)
+      → IfOk r (λ kept. AreKeptIn settings dump (kept_view kept))
+  all_kept_ok ending ends (Ok kept) first_is are = all_kept_in ending ends (kept_view kept) first_is are
+  all_kept_ok ending ends (Err none) first_is are = tt
+
+-- the order of the kept numbers makes no difference to a new one
+written_sorted : (settings : Settings) (first number : ℕ) (numbers sorted : List ℕ) → IsPermutation numbers sorted
+    → written_number settings (record { first = first; numbers = sorted }) number
+    ≡ written_number settings (record { first = first; numbers = numbers }) number
+written_sorted settings first number numbers sorted same =
+    ap (λ c. if settings.renumber then first + c else number)
+    (sum_by-IsPermutation (λ k. cond (nat_lt k number) 1 0) numbers sorted same)
+
+-- the line of a kept revision, by the number that is found for it
+pub line_pushed : (settings : Settings) (kept : KeptRevisions) (sorted : List ℕ) (number written : ℕ)
+    (old new : List ℕ) → IsPermutation kept.numbers sorted
+    → written ≡ written_number settings (record { first = kept.first; numbers = sorted }) number
+    → new ≡ old ++ concat (codes "r" ∷ decimal number ∷ codes " becomes r" ∷ decimal written ∷ codes "\n" ∷ [])
+    → new ≡ old ++ map_line settings kept number
+unfolding map_line
+line_pushed settings kept sorted number written old new same is pushed = pushed
+    ∙ ap (λ n. old ++ concat (codes "r" ∷ decimal number ∷ codes " becomes r" ∷ decimal n ∷ codes "\n" ∷ []))
+    (is ∙ written_sorted settings kept.first number kept.numbers sorted same)

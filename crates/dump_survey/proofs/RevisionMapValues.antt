@@ -1,0 +1,54 @@
+-- Worked values of the map of revisions, computed and proved by the kernel.
+use Rattle.std.proofs.Common.{◌≡◌, Bool, true, false, List, [], ◌∷◌, refl, codes}
+use Rattle.std.specs.Fmt.{digits}
+use Rattle.dump_records.specs.RecordText.{DumpRecord}
+use Rattle.dump_rules.specs.declared.options.Side.TheVariants.{Include}
+use Rattle.dump_rules.specs.declared.options.Empty.{Empty}
+use Rattle.dump_rules.specs.declared.options.Empty.TheVariants.{Pad, DropEmptied, DropAll}
+use Rattle.dump_rules.specs.Settings.{Settings}
+use Rattle.dump_filter.specs.Groups.{kept_revisions}
+use Rattle.dump_filter.specs.NewHeaders.{written_number}
+use Rattle.dump_history.proofs.values.WorkedDump.{line, record_at, version, zero, one, trunk, two, other, three}
+use Rattle.dump_survey.specs.RevisionMap.{map_line}
+
+-- revision 0 has no node, 1 a kept one, 2 a dropped one, and 3 none
+abbrev worked : List DumpRecord
+worked = version ∷ zero ∷ one ∷ trunk ∷ two ∷ other ∷ three ∷ []
+
+abbrev trunk_alone : Empty → Bool → Settings
+trunk_alone empty renumber = record {
+  side = Include;
+  prefixes = codes "trunk" ∷ [];
+  empty = empty;
+  renumber = renumber;
+  preserve = false;
+  skip_missing = false;
+}
+
+-- padded revisions are kept
+padded_kept : (kept_revisions (trunk_alone Pad true) worked).numbers ≡ 0 ∷ 1 ∷ 2 ∷ 3 ∷ []
+padded_kept = refl
+
+emptied_left_out : (kept_revisions (trunk_alone DropEmptied true) worked).numbers ≡ 0 ∷ 1 ∷ 3 ∷ []
+emptied_left_out = refl
+
+all_empty_left_out : (kept_revisions (trunk_alone DropAll true) worked).numbers ≡ 0 ∷ 1 ∷ []
+all_empty_left_out = refl
+
+renumbered : written_number (trunk_alone DropEmptied true) (kept_revisions (trunk_alone DropEmptied true) worked) 3 ≡ 2
+renumbered = refl
+
+number_stays : written_number (trunk_alone DropEmptied false) (kept_revisions (trunk_alone DropEmptied false) worked) 3 ≡ 3
+number_stays = refl
+
+-- a line
+lowered : map_line (trunk_alone DropEmptied true) (record { first = 0; numbers = 0 ∷ 1 ∷ 3 ∷ [] }) 3
+    ≡ codes "r3 becomes r2\n"
+unfolding map_line digits
+lowered = refl
+
+-- a part of a history counts from its first revision, which may be left out
+from_the_first : map_line (trunk_alone DropAll true) (record { first = 7; numbers = 9 ∷ 12 ∷ [] }) 12
+    ≡ codes "r12 becomes r8\n"
+unfolding map_line digits
+from_the_first = refl

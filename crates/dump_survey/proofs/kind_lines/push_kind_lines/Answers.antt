@@ -1,0 +1,42 @@
+use Rattle.std.proofs.Common.{◌≡◌, ℕ, List, [], ◌∷◌, ◌++◌, flat_map, map, refl, ap, ◌∙◌, append-nil}
+use Rattle.dump_history.specs.Findings.{every_finding}
+use Rattle.dump_survey.specs.declared.finding.NodeFinding.{NodeFinding}
+use Rattle.dump_survey.specs.declared.prefix_findings.PrefixFinding.TheVariants.{NotShort, Idle}
+use Rattle.dump_survey.specs.DumpFindings.{listed_findings}
+use Rattle.dump_survey.specs.Kinds.{dump_kind_line, ending_kind_line, finding_kind, kind_line, prefix_kind, times_in_prefixes}
+use Rattle.dump_survey.specs.Meaning.{meaning}
+use Rattle.dump_survey.specs.PrefixFindings.{prefix_view}
+use Rattle.dump_survey.specs.SurveyEnds.{survey_ending}
+use Rattle.dump_survey.specs.steps.Counts.{count_in}
+use Rattle.dump_survey.proofs.LineLemmas.{all_added, map_ok}
+use Rattle.dump_survey.proofs.kind_lines.push_kind_lines.Goals as goal
+
+pub returns : goal.returns
+returns c =
+    let counts = c.args.counts.now in
+    let old = c.args.lines.now.items in
+    let told = map prefix_view c.args.prefixes.now in
+    let node = flat_map (λ f. kind_line (count_in counts f) (finding_kind f)) every_finding in
+    let dump = flat_map dump_kind_line (listed_findings c.args.end.now.dump) in
+    let not_short = kind_line (times_in_prefixes told NotShort) (prefix_kind NotShort) in
+    let idle = kind_line (times_in_prefixes told Idle) (prefix_kind Idle) in
+    let ending = ending_kind_line (survey_ending c.args.end.now.end) in
+    map_ok c.push_ending_kind.result (λ is. all_added old c.push_ending_kind.new.lines.items
+    (node ∷ dump ∷ not_short ∷ idle ∷ ending ∷ []) (
+      c.push_node_kinds.new.lines.items,
+      c.in_ok-push_node_kinds.ensures ∙ ap (λ (fs : List NodeFinding). old
+          ++ flat_map (λ f. kind_line (count_in counts f) (finding_kind f)) (map meaning fs)) c.as_slice.ensures,
+      (
+        c.push_dump_kinds.new.lines.items,
+        c.in_ok-push_dump_kinds.ensures,
+        (
+          c.push_prefix_kind.new.lines.items,
+          c.in_ok-push_prefix_kind.ensures,
+          (
+            c.push_prefix_kind-2.new.lines.items,
+            c.in_ok-push_prefix_kind-2.ensures,
+            (c.push_ending_kind.new.lines.items, is, refl),
+          ),
+        ),
+      ),
+    ) ∙ ap (λ e. old ++ (node ++ (dump ++ (not_short ++ (idle ++ e))))) (append-nil ending)) c.push_ending_kind.ensures

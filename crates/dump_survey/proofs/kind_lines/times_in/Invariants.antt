@@ -1,0 +1,13 @@
+use Rattle.std.proofs.Common.{◌≡◌, ◌+◌, ◌≤◌, length, map}
+use Rattle.dump_survey.specs.Kinds.{times_in_prefixes}
+use Rattle.dump_survey.specs.PrefixFindings.{prefix_view}
+use Rattle.dump_survey.proofs.kind_lines.times_in.Given as goal
+
+abbrev pub invariant-loop-left : goal.invariant-loop-left
+invariant-loop-left l = record {
+  counted : times_in_prefixes (map prefix_view l.told) l.finding ≡ l.times + times_in_prefixes (map prefix_view l.left) l.finding;
+  low : l.times + length l.left ≤ length l.told;
+}
+
+abbrev pub decreases-loop-left : goal.decreases-loop-left
+decreases-loop-left l = length l.left

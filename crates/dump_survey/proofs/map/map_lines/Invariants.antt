@@ -1,0 +1,11 @@
+use Rattle.std.proofs.Common.{◌≡◌, ◌++◌, flat_map, length}
+use Rattle.dump_survey.specs.RevisionMap.{map_line, map_lines}
+use Rattle.dump_survey.specs.steps.KeptNumbers.{kept_view}
+use Rattle.dump_survey.proofs.map.map_lines.Given as goal
+
+abbrev pub invariant-loop-left : goal.invariant-loop-left
+invariant-loop-left l = map_lines l.options (kept_view l.kept)
+    ≡ l.lines.items ++ flat_map (map_line l.options (kept_view l.kept)) l.left
+
+abbrev pub decreases-loop-left : goal.decreases-loop-left
+decreases-loop-left l = length l.left

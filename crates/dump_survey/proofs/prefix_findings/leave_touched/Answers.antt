@@ -1,0 +1,10 @@
+use Rattle.dump_records.specs.steps.RecordViews.{record_item}
+use Rattle.dump_survey.specs.steps.IdlePrefixes.{is_begun_by, is_below_copy}
+use Rattle.dump_survey.proofs.IdleLemmas.{both_without}
+use Rattle.dump_survey.proofs.prefix_findings.leave_touched.Goals as goal
+
+pub returns : goal.returns
+returns c =
+    let r = record_item c.args.item.now in
+    both_without (is_begun_by r) (is_below_copy r) c.args.idle.now c.leave_matched.new.idle c.leave_copied.new.idle
+    c.leave_matched.ensures c.leave_copied.ensures

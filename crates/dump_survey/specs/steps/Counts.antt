@@ -1,0 +1,41 @@
+-- How often each kind of finding was told, as the survey counts it.
+use Rattle.std.specs.Prelude.{◌≡◌, ℕ, ◌+◌, if◌then◌else◌}
+use Rattle.dump_history.specs.Findings.{Finding}
+use Rattle.dump_survey.specs.declared.counts.Counts.{Counts}
+use Rattle.dump_survey.specs.declared.finding.Found.{Found}
+use Rattle.dump_survey.specs.steps.Found.{has_found}
+
+-- before the first node
+abbrev pub no_counts : Counts
+no_counts = record {
+  unread_block = 0;
+  delta = 0;
+  unknown_action = 0;
+  odd_text = 0;
+  no_whole_file = 0;
+  properties_lost = 0;
+  copy_loses = 0;
+  copy_lets_in = 0;
+  folder_takes = 0;
+  folder_brings = 0;
+  text_comes_in = 0;
+}
+
+-- how often this was told
+abbrev pub count_in : Counts → Finding → ℕ
+count_in counts Finding.UnreadBlock = counts.unread_block
+count_in counts Finding.Delta = counts.delta
+count_in counts Finding.UnknownAction = counts.unknown_action
+count_in counts Finding.OddText = counts.odd_text
+count_in counts Finding.NoWholeFile = counts.no_whole_file
+count_in counts Finding.PropertiesLost = counts.properties_lost
+count_in counts Finding.CopyLoses = counts.copy_loses
+count_in counts Finding.CopyLetsIn = counts.copy_lets_in
+count_in counts Finding.FolderTakes = counts.folder_takes
+count_in counts Finding.FolderBrings = counts.folder_brings
+count_in counts Finding.TextComesIn = counts.text_comes_in
+
+-- the new counts are the old ones, with those of one more node
+abbrev pub AreWithNode : Counts → Found → Counts → Type 0
+AreWithNode old found new = (f : Finding) →
+    count_in new f ≡ (if has_found found f then count_in old f + 1 else count_in old f)

@@ -1,0 +1,38 @@
+-- The revisions that the filter keeps, record by record.
+use Rattle.std.specs.Prelude.{◌≡◌, ◌<◌, ◌^◌, ℕ, List, [], ◌∷◌, ◌++◌, Option, Some, None, if◌then◌else◌}
+use Rattle.dump_records.specs.RecordText.{DumpRecord}
+use Rattle.dump_records.specs.DumpText.{Ending, HasRecords}
+use Rattle.dump_rules.specs.Renumbering.{KeptRevisions}
+use Rattle.dump_rules.specs.Settings.{Settings}
+use Rattle.dump_digest.specs.RecordParts.{is_node}
+use Rattle.dump_filter.specs.Groups.{kept_revisions}
+use Rattle.dump_survey.specs.declared.map.KeptNumbers.{KeptNumbers}
+use Rattle.dump_survey.specs.declared.tally.Present.{Present}
+use Rattle.dump_survey.specs.steps.Tally.{keeps_open}
+
+-- the present revision, if it is kept, where it has no more nodes
+abbrev pub ended_numbers : Settings → Option Present → List ℕ
+ended_numbers settings None = []
+ended_numbers settings (Some p) = if keeps_open settings (Some p) then p.number ∷ [] else []
+
+-- the same, where this record comes next
+abbrev pub numbers_before : Settings → Option Present → DumpRecord → List ℕ
+numbers_before settings p r = if is_node r then [] else ended_numbers settings p
+
+-- the number of the first revision, where this one is known and that one is present
+abbrev pub first_with : Option ℕ → Option Present → Option ℕ
+first_with (Some n) p = Some n
+first_with None None = None
+first_with None (Some p) = Some p.number
+
+-- the kept revisions as the program has them
+abbrev pub kept_view : KeptNumbers → KeptRevisions
+kept_view k = record { first = k.first; numbers = k.numbers.items }
+
+-- these are the dump's kept revisions, up to where its list of records ends
+pub record AreKeptIn (settings : Settings) (dump : List ℕ) (kept : KeptRevisions) : Type 0 where
+  pub records : List DumpRecord
+  pub ending : Ending
+  pub has : HasRecords dump records ending
+  pub kept_are : kept ≡ kept_revisions settings records
+  pub small : kept.first < 10 ^ 18

@@ -1,0 +1,15 @@
+use Rattle.dump_writer.specs.steps.SinkStates.{lent_taken}
+use Rattle.survey_cli.proofs.DriveLemmas.{at_err, lines_broke_off, whole_written}
+use Rattle.survey_cli.proofs.drive.write_front.Goals as goal
+
+pub returns-in_err-write_behind-clause-part : goal.returns-in_err-write_behind-clause-part
+returns-in_err-write_behind-clause-part g c =
+    at_err c.from_residual-in_err-write_behind.result (lines_broke_off c.args.options.now c.args.dump.now
+    (lent_taken c.args.sink.now) (lent_taken c.write_survey.new.sink) (lent_taken c.write_behind.new.sink)
+    c.in_ok-found.found c.in_ok-found.ensures.whole c.in_err-write_behind.ensures.part)
+
+pub returns-clause-whole : goal.returns-clause-whole
+returns-clause-whole g c =
+    whole_written c.args.options.now c.args.dump.now (lent_taken c.args.sink.now) (lent_taken c.write_survey.new.sink)
+    (lent_taken c.write_behind.new.sink) c.in_ok-found.found c.in_ok-found.ensures.whole
+    c.in_ok-write_behind.ensures.whole
