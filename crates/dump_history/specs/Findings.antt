@@ -1,7 +1,8 @@
 -- What a survey finds in a dump before it is filtered: where the loaded repository may not be the one that is meant. A
 -- program can tell all of it in one pass, node by node, by header lines, properties and prefixes alone; no text of a
 -- file and no tree is asked for, so what is found may do no harm: nothing may stand where a prefix points.
-use Rattle.std.specs.Prelude.{◌≡◌, ℕ, Bool, true, false, not, ◌&&◌, ◌==◌, List, [], ◌∷◌, length, filter, Option, Some, None, unwrap_or, is_none}
+use Rattle.std.specs.Prelude.{◌≡◌, ◌↔◌, ℕ, Bool, true, false, not, ◌&&◌, ◌==◌, List, [], ◌∷◌, length, filter, Option, Some, None, unwrap_or, is_none, IsTrue}
+use Rattle.dump_text.specs.declared.fault.FaultKind.TheVariants.{MergeInfo, MergeSource}
 use Rattle.dump_text.specs.Names.{property_length_name}
 use Rattle.dump_text.specs.HeaderLine.{has_header}
 use Rattle.dump_text.specs.PropertyList.{Property}
@@ -12,11 +13,12 @@ use Rattle.dump_rules.specs.Settings.{Settings, keeps_path}
 use Rattle.dump_digest.specs.RecordParts.{is_copy, node_path, has_lost_source, HasPropertyList, HasPropertyBlock}
 use Rattle.dump_filter.specs.Groups.{Group, groups, revision_numbers, is_bare}
 use Rattle.dump_filter.specs.NewHeaders.{is_whole_file, becomes_plain}
+use Rattle.dump_filter.specs.RecordFaults.{HoldsOfRecord}
 use Rattle.dump_trees.specs.Paths.{path_of}
 use Rattle.dump_trees.specs.Restriction.{is_above_some}
 use Rattle.dump_trees.specs.Quiet.{cuts_alike}
 use Rattle.dump_history.specs.RecordChanges.{copy_path, deletes, makes, has_known_action, has_odd_delta, has_plain_texts}
-use Rattle.dump_history.specs.DumpChanges.{counts_from}
+use Rattle.dump_history.specs.DumpChanges.{counts_from, has_ordered_nodes}
 use Rattle.dump_history.specs.DumpLaws.{keeps_numbering}
 
 -- what can be found in a node
@@ -31,6 +33,10 @@ pub data Finding : Type 0 where
   OddText : Finding
   -- the filter stops: it is a kept copy without its source, and no whole file
   NoWholeFile : Finding
+  -- the filter stops: it is kept, and its mergeinfo can't be read
+  UnreadMergeinfo : Finding
+  -- the filter stops: it is kept, and its mergeinfo names a path that isn't kept
+  MissingMergeSource : Finding
   -- a kept copy without its source sets no properties, so those of the source may be lost
   PropertiesLost : Finding
   -- a kept copy of a kept path, below which something is left out that is kept below the copy: it may lack that
@@ -47,12 +53,16 @@ pub data Finding : Type 0 where
 -- each of them, in order
 abbrev pub every_finding : List Finding
 every_finding = Finding.UnreadBlock ∷ Finding.Delta ∷ Finding.UnknownAction ∷ Finding.OddText
-    ∷ Finding.NoWholeFile ∷ Finding.PropertiesLost ∷ Finding.CopyLoses ∷ Finding.CopyLetsIn ∷ Finding.FolderTakes
-    ∷ Finding.FolderBrings ∷ Finding.TextComesIn ∷ []
+    ∷ Finding.NoWholeFile ∷ Finding.UnreadMergeinfo ∷ Finding.MissingMergeSource ∷ Finding.PropertiesLost
+    ∷ Finding.CopyLoses ∷ Finding.CopyLetsIn ∷ Finding.FolderTakes ∷ Finding.FolderBrings ∷ Finding.TextComesIn ∷ []
 
 -- whether the node's path is kept
 abbrev pub has_kept_path : Settings → DumpRecord → Bool
 has_kept_path settings r = keeps_path settings (node_path r)
+
+-- whether the filter stops at the node for want of its copy source: it is a kept copy without it, and no whole file
+abbrev pub lacks_source : Settings → DumpRecord → Bool
+lacks_source settings r = has_kept_path settings r && has_lost_source settings r && not (is_whole_file r)
 
 -- whether the path that the node is copied from is kept
 abbrev pub has_kept_source : Settings → DumpRecord → Bool
@@ -75,31 +85,43 @@ abbrev pub is_exclude : Side → Bool
 is_exclude Include = false
 is_exclude Exclude = true
 
--- whether this is found in the node; the properties are those of its block, none where that can't be read
-abbrev pub is_found : Settings → DumpRecord → Option (List Property) → Finding → Bool
-is_found settings r ps Finding.UnreadBlock = is_none ps
-is_found settings r ps Finding.Delta = has_odd_delta r
-is_found settings r ps Finding.UnknownAction = not (has_known_action r)
-is_found settings r ps Finding.OddText = not (has_plain_texts r (unwrap_or ps []))
-is_found settings r ps Finding.NoWholeFile =
-    has_kept_path settings r && has_lost_source settings r && not (is_whole_file r)
-is_found settings r ps Finding.PropertiesLost =
+-- whether the filter has a fault for a value of the node's mergeinfo: it can't be read, or it names a path that isn't kept
+pub record MergeFaults : Type 0 where
+  pub unread : Bool
+  pub missing : Bool
+
+-- these are the faults of the node's mergeinfo, as the filter tells them; no record before it counts
+pub record AreMergeFaultsOf (settings : Settings) (r : DumpRecord) (m : MergeFaults) : Type 0 where
+  pub unread : IsTrue m.unread ↔ HoldsOfRecord settings [] r MergeInfo
+  pub missing : IsTrue m.missing ↔ HoldsOfRecord settings [] r MergeSource
+
+-- whether this is found in the node; the properties are those of its block, none where that can't be read, and the
+-- faults those of its mergeinfo
+abbrev pub is_found : Settings → DumpRecord → Option (List Property) → MergeFaults → Finding → Bool
+is_found settings r ps m Finding.UnreadBlock = is_none ps
+is_found settings r ps m Finding.Delta = has_odd_delta r
+is_found settings r ps m Finding.UnknownAction = not (has_known_action r)
+is_found settings r ps m Finding.OddText = not (has_plain_texts r (unwrap_or ps []))
+is_found settings r ps m Finding.NoWholeFile = lacks_source settings r
+is_found settings r ps m Finding.UnreadMergeinfo = m.unread
+is_found settings r ps m Finding.MissingMergeSource = m.missing
+is_found settings r ps m Finding.PropertiesLost =
     has_kept_path settings r && makes_copy r && not (has_kept_source settings r)
     && not (has_header property_length_name r.headers)
-is_found settings r ps Finding.CopyLoses =
+is_found settings r ps m Finding.CopyLoses =
     has_kept_path settings r && makes_copy r && has_kept_source settings r && cuts settings (copy_path r) (node_path r)
-is_found settings r ps Finding.CopyLetsIn =
+is_found settings r ps m Finding.CopyLetsIn =
     has_kept_path settings r && makes_copy r && has_kept_source settings r && cuts settings (node_path r) (copy_path r)
-is_found settings r ps Finding.FolderTakes =
+is_found settings r ps m Finding.FolderTakes =
     not (has_kept_path settings r) && deletes r && is_above_prefix settings r
-is_found settings r ps Finding.FolderBrings =
+is_found settings r ps m Finding.FolderBrings =
     not (has_kept_path settings r) && makes_copy r && is_above_prefix settings r
-is_found settings r ps Finding.TextComesIn =
+is_found settings r ps m Finding.TextComesIn =
     is_exclude settings.side && has_kept_path settings r && makes r && becomes_plain settings r
 
 -- what is found in the node, in order
-abbrev pub findings_of : Settings → DumpRecord → Option (List Property) → List Finding
-findings_of settings r ps = filter (λ f. is_found settings r ps f) every_finding
+abbrev pub findings_of : Settings → DumpRecord → Option (List Property) → MergeFaults → List Finding
+findings_of settings r ps m = filter (λ f. is_found settings r ps m f) every_finding
 
 -- these are the node's properties; none is said where its block can't be read
 abbrev pub IsReadBlock : DumpRecord → Option (List Property) → Type 0
@@ -108,7 +130,8 @@ IsReadBlock r (Some ps) = HasPropertyList r ps
 
 -- this is what is found in the node
 abbrev pub AreFindingsOf : Settings → DumpRecord → List Finding → Type 0
-AreFindingsOf settings r found = (ps : Option (List Property)) × IsReadBlock r ps × (found ≡ findings_of settings r ps)
+AreFindingsOf settings r found = (ps : Option (List Property)) × (m : MergeFaults)
+    × IsReadBlock r ps × AreMergeFaultsOf settings r m × (found ≡ findings_of settings r ps m)
 
 -- whether a node with the finding makes no change that the definitions tell
 abbrev pub is_obstacle : Finding → Bool
@@ -135,13 +158,16 @@ pub data DumpFinding : Type 0 where
   OtherNumbers : DumpFinding
   -- its first revision has a node
   NodeInFirst : DumpFinding
+  -- a node stands outside of any revision, at which the filter stops
+  NodeOutside : DumpFinding
   -- a revision is dropped, and the others aren't renumbered, be there copies behind it or not
   NumbersLeft : DumpFinding
 
 -- each of them, in order
 abbrev pub every_dump_finding : List DumpFinding
 every_dump_finding =
-    DumpFinding.NoRevision ∷ DumpFinding.OtherNumbers ∷ DumpFinding.NodeInFirst ∷ DumpFinding.NumbersLeft ∷ []
+    DumpFinding.NoRevision ∷ DumpFinding.OtherNumbers ∷ DumpFinding.NodeInFirst ∷ DumpFinding.NodeOutside
+    ∷ DumpFinding.NumbersLeft ∷ []
 
 -- whether the first group, if there is one, has a node
 abbrev pub first_has_node : List Group → Bool
@@ -153,6 +179,7 @@ abbrev pub is_found_in_dump : Settings → List DumpRecord → DumpFinding → B
 is_found_in_dump settings records DumpFinding.NoRevision = length (groups records) == 0
 is_found_in_dump settings records DumpFinding.OtherNumbers = not (counts_from 0 (revision_numbers records))
 is_found_in_dump settings records DumpFinding.NodeInFirst = first_has_node (groups records)
+is_found_in_dump settings records DumpFinding.NodeOutside = not (has_ordered_nodes Bool.false records)
 is_found_in_dump settings records DumpFinding.NumbersLeft = not (keeps_numbering settings records)
 
 -- what is found in the dump, in order

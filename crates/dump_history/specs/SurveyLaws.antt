@@ -14,7 +14,7 @@ use Rattle.dump_trees.specs.Revisions.{loaded_over}
 use Rattle.dump_history.specs.RecordChanges.{Patching, MakesChange}
 use Rattle.dump_history.specs.DumpChanges.{MakeRevisions}
 use Rattle.dump_history.specs.DumpLaws.{LoadsRestricted, FrontLoadsRestricted}
-use Rattle.dump_history.specs.Findings.{Finding, findings_of, IsReadBlock, AreFindingsOf, is_obstacle, is_alarm, dump_findings}
+use Rattle.dump_history.specs.Findings.{Finding, MergeFaults, findings_of, IsReadBlock, AreFindingsOf, is_obstacle, is_alarm, dump_findings}
 
 -- each node has one list of findings
 abbrev pub FindingsAreOnce : Type 0
@@ -25,15 +25,15 @@ FindingsAreOnce = (settings : Settings) (r : DumpRecord) →
 -- a node in which no obstacle is found makes a change, and no other node does
 abbrev pub ObstaclesAreExact : Type 0
 ObstaclesAreExact = (patched : Patching) (settings : Settings) (r : DumpRecord) (ps : Option (List Property))
-    → IsReadBlock r ps
-    → (IsFalse (list_any is_obstacle (findings_of settings r ps)) → (c : Change) × MakesChange patched r c)
-    × ((c : Change) → MakesChange patched r c → IsFalse (list_any is_obstacle (findings_of settings r ps)))
+    (m : MergeFaults) → IsReadBlock r ps
+    → (IsFalse (list_any is_obstacle (findings_of settings r ps m)) → (c : Change) × MakesChange patched r c)
+    × ((c : Change) → MakesChange patched r c → IsFalse (list_any is_obstacle (findings_of settings r ps m)))
 
 -- a node's change is quiet exactly where no alarm is found in the node
 abbrev pub AlarmsAreExact : Type 0
 AlarmsAreExact = (patched : Patching) (settings : Settings) (r : DumpRecord) (ps : Option (List Property))
-    (c : Change) → IsReadBlock r ps
-    → MakesChange patched r c → is_quiet settings c ≡ not (list_any is_alarm (findings_of settings r ps))
+    (m : MergeFaults) (c : Change) → IsReadBlock r ps
+    → MakesChange patched r c → is_quiet settings c ≡ not (list_any is_alarm (findings_of settings r ps m))
 
 -- this is what is found in the dump's nodes, group by group
 abbrev pub HaveFindings : Settings → List DumpRecord → List (List (List Finding)) → Type 0

@@ -1,5 +1,6 @@
 -- The bare prefixes that no node has matched go on to one more record, and say what is told of the prefixes.
 use Rattle.std.proofs.Common.{◌≡◌, ℕ, Bool, true, false, not, ◌&&◌, ◌||◌, List, [], ◌∷◌, ◌++◌, map, Option, Some, None, option_map, bytes_eq, refl, sym, ap, ap₂, ◌∙◌, append_assoc, if◌then◌else◌}
+use Rattle.std.proofs.Math.Bool.{and-true, or-false}
 use Rattle.std.specs.List.{list_any, cons_option}
 use Rattle.std.proofs.lemmas.Bool.{or_left, or_right}
 use Rattle.std.proofs.lemmas.List.{map-append}
@@ -16,7 +17,6 @@ use Rattle.dump_survey.specs.declared.prefix_findings.ToldPrefix.{ToldPrefix}
 use Rattle.dump_survey.specs.PrefixFindings.{PrefixTold, is_short_prefix, prefix_view, told_of_prefix, told_prefixes}
 use Rattle.dump_survey.specs.steps.Folders.{HaveSame}
 use Rattle.dump_survey.specs.steps.IdlePrefixes.{is_among, AreWithout, is_begun_by, is_below_copy, is_touched_by, AreIdle, told_by, prefixes_by}
-use Rattle.dump_survey.proofs.LeavingLemmas.{and_true, or_false}
 
 -- a set of texts, text by text
 
@@ -56,7 +56,7 @@ same_without f g old new same without text = without text ∙ ap (λ b. is_among
 pub no_node_leaves : (r : DumpRecord) (old : List (List ℕ)) → is_node r ≡ false → AreWithout (is_begun_by r) old old
 no_node_leaves r old other text =
     sym (ap (λ n. is_among text old && not (n && (begins_path text (bare_path (node_path r))
-    || (is_copy r && begins_path text (bare_path (copy_path r)))))) other ∙ and_true (is_among text old))
+    || (is_copy r && begins_path text (bare_path (copy_path r)))))) other ∙ and-true (is_among text old))
 
 module _ (r : DumpRecord) (old mid : List (List ℕ)) (node : is_node r ≡ true)
     (first : AreWithout (λ text. begins_path text (bare_path (node_path r))) old mid) where
@@ -64,7 +64,7 @@ module _ (r : DumpRecord) (old mid : List (List ℕ)) (node : is_node r ≡ true
   path_leaves plain = same_without (λ text. begins_path text (bare_path (node_path r))) (is_begun_by r) old mid
       (λ text. sym (ap₂ (λ n c. n && (begins_path text (bare_path (node_path r))
       || (c && begins_path text (bare_path (copy_path r))))) node plain
-      ∙ or_false (begins_path text (bare_path (node_path r))))) first
+      ∙ or-false (begins_path text (bare_path (node_path r))))) first
 
   pub both_leave : (new : List (List ℕ)) → is_copy r ≡ true
       → AreWithout (λ text. begins_path text (bare_path (copy_path r))) mid new → AreWithout (is_begun_by r) old new
@@ -82,13 +82,13 @@ module _ (r : DumpRecord) (old mid : List (List ℕ)) (node : is_node r ≡ true
 pub no_node_copies : (r : DumpRecord) (old : List (List ℕ)) → is_node r ≡ false → AreWithout (is_below_copy r) old old
 no_node_copies r old other text =
     sym (ap (λ n. is_among text old && not (n && (makes_copy r && begins_path (bare_path (node_path r)) text))) other
-    ∙ and_true (is_among text old))
+    ∙ and-true (is_among text old))
 
 module _ (r : DumpRecord) (old : List (List ℕ)) (node : is_node r ≡ true) where
   pub no_copy_leaves : makes_copy r ≡ false → AreWithout (is_below_copy r) old old
   no_copy_leaves plain text =
       sym (ap₂ (λ n c. is_among text old && not (n && (c && begins_path (bare_path (node_path r)) text))) node plain
-      ∙ and_true (is_among text old))
+      ∙ and-true (is_among text old))
 
   pub copy_leaves : (new : List (List ℕ)) → makes_copy r ≡ true
       → AreWithout (λ text. begins_path (bare_path (node_path r)) text) old new → AreWithout (is_below_copy r) old new
@@ -98,7 +98,7 @@ module _ (r : DumpRecord) (old : List (List ℕ)) (node : is_node r ≡ true) wh
 -- record by record
 
 pub all_idle : (prefixes set : List (List ℕ)) → HaveSame set (map bare_prefix prefixes) → AreIdle [] prefixes set
-all_idle prefixes set same text = same text ∙ sym (and_true (is_among text (map bare_prefix prefixes)))
+all_idle prefixes set same text = same text ∙ sym (and-true (is_among text (map bare_prefix prefixes)))
 
 pub idle_more : (records : List DumpRecord) (r : DumpRecord) (prefixes idle new : List (List ℕ))
     → AreIdle records prefixes idle → AreWithout (is_touched_by r) idle new → AreIdle (records ++ r ∷ []) prefixes new
@@ -106,7 +106,7 @@ idle_more records r prefixes idle new so_far without =
     same_without (λ bare. list_any (λ x. is_touched_by x bare) records || is_touched_by r bare)
     (λ bare. list_any (λ x. is_touched_by x bare) (records ++ r ∷ [])) (map bare_prefix prefixes) new
     (λ bare. sym (list_any-append (λ x. is_touched_by x bare) records (r ∷ [])
-    ∙ ap (λ b. list_any (λ x. is_touched_by x bare) records || b) (or_false (is_touched_by r bare))))
+    ∙ ap (λ b. list_any (λ x. is_touched_by x bare) records || b) (or-false (is_touched_by r bare))))
     (both_without (λ bare. list_any (λ x. is_touched_by x bare) records) (is_touched_by r) (map bare_prefix prefixes) idle new
     so_far without)
 

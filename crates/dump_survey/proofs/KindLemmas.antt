@@ -1,5 +1,5 @@
 -- How often each kind is told of nodes, node by node.
-use Rattle.std.proofs.Common.{◌≡◌, ◌≤◌, ℕ, ◌+◌, ◌==◌, Bool, true, false, List, [], ◌∷◌, ◌++◌, length, get_or, map, flat_map, filter, cond, refl, sym, ap, ap₂, ◌∙◌, arith, if◌then◌else◌}
+use Rattle.std.proofs.Common.{◌≡◌, ◌≤◌, ℕ, ◌+◌, ◌==◌, Bool, true, false, List, [], ◌∷◌, ◌++◌, length, get_or, map, flat_map, filter, cond, refl, sym, ap, ap₂, ◌∙◌, arith}
 use Rattle.std.proofs.lemmas.Bool.{eqb-true}
 use Rattle.dump_history.specs.Findings.{Finding, every_finding}
 use Rattle.dump_survey.specs.declared.counts.Counts.{Counts}
@@ -17,6 +17,8 @@ at_place Finding.Delta = refl
 at_place Finding.UnknownAction = refl
 at_place Finding.OddText = refl
 at_place Finding.NoWholeFile = refl
+at_place Finding.UnreadMergeinfo = refl
+at_place Finding.MissingMergeSource = refl
 at_place Finding.PropertiesLost = refl
 at_place Finding.CopyLoses = refl
 at_place Finding.CopyLetsIn = refl
@@ -36,6 +38,8 @@ once Finding.Delta = refl
 once Finding.UnknownAction = refl
 once Finding.OddText = refl
 once Finding.NoWholeFile = refl
+once Finding.UnreadMergeinfo = refl
+once Finding.MissingMergeSource = refl
 once Finding.PropertiesLost = refl
 once Finding.CopyLoses = refl
 once Finding.CopyLetsIn = refl
@@ -109,6 +113,8 @@ none_counted Finding.Delta = refl
 none_counted Finding.UnknownAction = refl
 none_counted Finding.OddText = refl
 none_counted Finding.NoWholeFile = refl
+none_counted Finding.UnreadMergeinfo = refl
+none_counted Finding.MissingMergeSource = refl
 none_counted Finding.PropertiesLost = refl
 none_counted Finding.CopyLoses = refl
 none_counted Finding.CopyLetsIn = refl

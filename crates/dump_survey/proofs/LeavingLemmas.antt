@@ -1,5 +1,6 @@
 -- Texts that are taken out of a set: those that begin a path are its parts before a slash, the path, and the empty one.
 use Rattle.std.proofs.Common.{◌≡◌, ◌≢◌, ℕ, ◌+◌, ◌<◌, ◌≤◌, Bool, true, false, not, ◌&&◌, ◌||◌, List, [], ◌∷◌, take, length, get_or, map, nat_lt, bytes_eq, cond, filter, refl, sym, ap, ap₂, ◌∙◌, inl, inr, arith}
+use Rattle.std.proofs.Math.Bool.{and-false, and-true, or-false}
 use Rattle.std.specs.List.{list_any}
 use Rattle.std.specs.BTreeMap.{is_at}
 use Rattle.std.specs.Set.{remove_key}
@@ -15,18 +16,6 @@ use Rattle.dump_rules.specs.Prefix.{begins_path}
 use Rattle.dump_rules.specs.steps.PrefixSearch.{AreWithin}
 use Rattle.dump_rules.proofs.BarePrefixLemmas.{any_found, cut_begins, none_begins, whole_begins}
 use Rattle.dump_survey.specs.steps.IdlePrefixes.{is_among, AreWithout}
-
-and_false : (b : Bool) → (b && false) ≡ false
-and_false true = refl
-and_false false = refl
-
-pub and_true : (b : Bool) → (b && true) ≡ b
-and_true true = refl
-and_true false = refl
-
-pub or_false : (b : Bool) → (b || false) ≡ b
-or_false true = refl
-or_false false = refl
 
 -- a text that is removed from the keys of a set
 
@@ -62,10 +51,10 @@ text_removed {V} items text ks keys are gone other = by (bytes_eq other text) re
         → is_among other (map items keys) ≡ (is_among other (map items ks) && not b)
     by true same =
         ap (λ t. is_among t (map items keys)) ((bytes_eq-Decides other text).0 same)
-        ∙ (sym (any_found items text keys) ∙ (gone ∙ sym (and_false (is_among other (map items ks)))))
+        ∙ (sym (any_found items text keys) ∙ (gone ∙ sym (and-false (is_among other (map items ks)))))
     by false apart =
         ap (λ (l : List V). is_among other (map items l)) are
-        ∙ (others_stay items text other ks apart ∙ sym (and_true (is_among other (map items ks))))
+        ∙ (others_stay items text other ks apart ∙ sym (and-true (is_among other (map items ks))))
 
 -- those that stay are no longer
 pub within_less : {V : Type 0} (items : V → List ℕ) (test : V → Bool) (longest : ℕ) (ks : List V)
@@ -98,8 +87,8 @@ module _ {V : Type 0} (items : V → List ℕ) (test : List ℕ → Bool) where
           ≡ ((bytes_eq text (items x) || is_among text (map items xs)) && not (test text))
       by more true passes true same =
           let fails : test text ≡ true = ap test ((bytes_eq-Decides text (items x)).0 same) ∙ passes in
-          more ∙ (ap (λ c. is_among text (map items xs) && not c) fails ∙ (and_false (is_among text (map items xs))
-          ∙ (sym (and_false (bytes_eq text (items x) || is_among text (map items xs)))
+          more ∙ (ap (λ c. is_among text (map items xs) && not c) fails ∙ (and-false (is_among text (map items xs))
+          ∙ (sym (and-false (bytes_eq text (items x) || is_among text (map items xs)))
           ∙ ap (λ c. (bytes_eq text (items x) || is_among text (map items xs)) && not c) (sym fails))))
       by more true passes false apart =
           more ∙ ap (λ b. (b || is_among text (map items xs)) && not (test text)) (sym apart)
@@ -150,10 +139,10 @@ module _ (test : List ℕ → Bool) (old new : List (List ℕ)) (without : AreWi
   was_among is = first_true (is_among text old) (not (test text)) (sym (without text) ∙ is)
 
   is_gone : test text ≡ true → is_among text new ≡ false
-  is_gone is = without text ∙ (ap (λ b. is_among text old && not b) is ∙ and_false (is_among text old))
+  is_gone is = without text ∙ (ap (λ b. is_among text old && not b) is ∙ and-false (is_among text old))
 
   has_stayed : test text ≡ false → is_among text new ≡ is_among text old
-  has_stayed not_is = without text ∙ (ap (λ b. is_among text old && not b) not_is ∙ and_true (is_among text old))
+  has_stayed not_is = without text ∙ (ap (λ b. is_among text old && not b) not_is ∙ and-true (is_among text old))
 
   was_none : is_among text old ≡ false → is_among text new ≡ false
   was_none none = without text ∙ ap (λ b. b && not (test text)) none
@@ -164,11 +153,11 @@ itself text = (bytes_eq-Decides text text).1 refl
 -- a part of the path before a slash begins it, and so does the path
 front_begins : (path : List ℕ) (n : ℕ) → n < length path → get_or path n 0 ≡ 47 → begins_path (take n path) path ≡ true
 front_begins path n low slash =
-    sym (or_false (begins_path (take n path) path))
+    sym (or-false (begins_path (take n path) path))
     ∙ cut_begins path n low slash (take n path ∷ []) (ap (λ b. b || false) (itself (take n path)))
 
 path_begins : (path : List ℕ) → begins_path path path ≡ true
-path_begins path = sym (or_false (begins_path path path))
+path_begins path = sym (or-false (begins_path path path))
     ∙ whole_begins path (path ∷ []) (ap (λ b. b || false) (itself path))
 
 -- what begins the path isn't what doesn't
@@ -235,10 +224,10 @@ module _ (old : List (List ℕ)) (path : List ℕ) where
         begins_none is =
             (or_parts (begins_path text path) false (none_begins path place (length text)
             (λ n fits low. reach text n (left.fewer text is) fits low) (text ∷ [])
-            (or_false (nat_lt (length text) (length text)) ∙ same_size (length text))
-            (or_false (bytes_eq [] text) ∙ apart text [] is left.no_empty)
-            (or_false (bytes_eq path text) ∙ apart text path is left.no_whole)
-            (λ k low slash. or_false (bytes_eq (take k path) text) ∙ apart text (take k path) is
+            (or-false (nat_lt (length text) (length text)) ∙ same_size (length text))
+            (or-false (bytes_eq [] text) ∙ apart text [] is left.no_empty)
+            (or-false (bytes_eq path text) ∙ apart text path is left.no_whole)
+            (λ k low slash. or-false (bytes_eq (take k path) text) ∙ apart text (take k path) is
             (left.no_front k low slash)))).0
           where
             same_size : (n : ℕ) → nat_lt n n ≡ false
@@ -246,5 +235,5 @@ module _ (old : List (List ℕ)) (path : List ℕ) where
 
         by : (b : Bool) → begins_path text path ≡ b → is_among text mid ≡ (is_among text old && not b)
         by true begins = false_from_ne_true _ (λ is. both_ways _ (begins_none is) begins)
-            ∙ sym (and_false (is_among text old))
-        by false none = left.stay text none ∙ sym (and_true (is_among text old))
+            ∙ sym (and-false (is_among text old))
+        by false none = left.stay text none ∙ sym (and-true (is_among text old))

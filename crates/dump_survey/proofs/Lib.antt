@@ -6,6 +6,7 @@ pub mod KindLemmas
 pub mod LeavingLemmas
 pub mod LineLemmas
 pub mod LossLemmas
+pub mod MergeinfoLemmas
 pub mod NameLemmas
 pub mod NeedLemmas
 pub mod NodeLemmas

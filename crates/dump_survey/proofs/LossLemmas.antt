@@ -1,5 +1,6 @@
 -- What the filter's cut does to a node, by what the node is.
-use Rattle.std.proofs.Common.{◌≡◌, Bool, true, false, not, ◌&&◌, refl}
+use Rattle.std.proofs.Common.{◌≡◌, true, false, not, ◌&&◌, refl}
+use Rattle.std.proofs.Math.Bool.{and-false, and-true}
 use Rattle.dump_text.specs.Names.{property_length_name}
 use Rattle.dump_text.specs.HeaderLine.{has_header}
 use Rattle.dump_records.specs.RecordText.{DumpRecord}
@@ -23,25 +24,17 @@ no_losses = record {
   text_comes_in = false;
 }
 
-dead : (b : Bool) → (b && false) ≡ false
-dead true = refl
-dead false = refl
-
-and_true : (b : Bool) → (b && true) ≡ b
-and_true true = refl
-and_true false = refl
-
 module _ (settings : Settings) (r : DumpRecord) (kept : has_kept_path settings r ≡ true) where
   -- a kept node that is no copy
   pub plain_losses : is_copy r ≡ false → AreLossesOf settings r no_losses
   plain_losses copy = record {
     no_whole_file = rw (kept, copy) refl;
-    properties_lost = rw (kept, copy, dead (makes r)) refl;
-    copy_loses = rw (kept, copy, dead (makes r)) refl;
-    copy_lets_in = rw (kept, copy, dead (makes r)) refl;
+    properties_lost = rw (kept, copy, and-false (makes r)) refl;
+    copy_loses = rw (kept, copy, and-false (makes r)) refl;
+    copy_lets_in = rw (kept, copy, and-false (makes r)) refl;
     folder_takes = rw kept refl;
     folder_brings = rw kept refl;
-    text_comes_in = rw (kept, copy, dead (is_exclude settings.side && true && makes r)) refl;
+    text_comes_in = rw (kept, copy, and-false (is_exclude settings.side && true && makes r)) refl;
   }
 
   -- a kept copy of a path that isn't kept
@@ -56,10 +49,10 @@ module _ (settings : Settings) (r : DumpRecord) (kept : has_kept_path settings r
   })
   lost_losses copy lost = record {
     no_whole_file = rw (kept, copy, lost) refl;
-    properties_lost = rw (kept, copy, lost, and_true (makes r), and_true (makes r)) refl;
-    copy_loses = rw (kept, copy, lost, and_true (makes r), dead (makes r)) refl;
-    copy_lets_in = rw (kept, copy, lost, and_true (makes r), dead (makes r)) refl;
+    properties_lost = rw (kept, copy, lost, and-true (makes r), and-true (makes r)) refl;
+    copy_loses = rw (kept, copy, lost, and-true (makes r), and-false (makes r)) refl;
+    copy_lets_in = rw (kept, copy, lost, and-true (makes r), and-false (makes r)) refl;
     folder_takes = rw kept refl;
     folder_brings = rw kept refl;
-    text_comes_in = rw (kept, copy, lost, and_true (is_exclude settings.side)) refl;
+    text_comes_in = rw (kept, copy, lost, and-true (is_exclude settings.side)) refl;
   }

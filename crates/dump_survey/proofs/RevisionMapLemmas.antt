@@ -1,5 +1,6 @@
 -- The kept revisions, record by record, are those of the groups.
-use Rattle.std.proofs.Common.{◌≡◌, ℕ, ◌+◌, ◌-◌, ◌≤◌, ◌<◌, ◌^◌, ◌==◌, Bool, true, false, not, ◌&&◌, ◌||◌, List, [], ◌∷◌, ◌++◌, length, length-append, map, filter, Option, Some, None, unwrap_or, if◌then◌else◌, cond, refl, sym, ap, ap₂, ◌∙◌, subst, arith, Result, Ok, Err, append-nil, append_assoc, codes, decimal, nat_lt}
+use Rattle.std.proofs.Common.{◌≡◌, ℕ, ◌+◌, ◌≤◌, ◌<◌, ◌^◌, ◌==◌, Bool, true, false, not, ◌&&◌, ◌||◌, List, [], ◌∷◌, ◌++◌, length, length-append, map, filter, Option, Some, None, unwrap_or, if◌then◌else◌, cond, refl, sym, ap, ap₂, ◌∙◌, subst, arith, Result, Ok, Err, append-nil, append_assoc, codes, decimal, nat_lt}
+use Rattle.std.proofs.Math.Bool.{or_assoc}
 use Rattle.std.specs.Result.{IfOk}
 use Rattle.std.specs.List.{concat, list_all, list_any}
 use Rattle.std.specs.List.Sorted.{IsPermutation}
@@ -10,7 +11,7 @@ use Rattle.dump_records.specs.declared.record.Record.{Record}
 use Rattle.dump_records.specs.declared.cutter.Cut.TheVariants as cuts
 use Rattle.dump_records.specs.HeaderRules.{header_number}
 use Rattle.dump_records.specs.RecordText.{DumpRecord}
-use Rattle.dump_records.specs.DumpText.{Ending, BeginsWithRecords, HasRecords}
+use Rattle.dump_records.specs.DumpText.{Ending, BeginsWithRecords}
 use Rattle.dump_records.specs.steps.CutterState.{CutterState}
 use Rattle.dump_records.specs.steps.CutRecords.{EndsAfter}
 use Rattle.dump_records.specs.steps.RecordViews.{record_item, CutStep}
@@ -26,10 +27,10 @@ use Rattle.dump_survey.specs.declared.map.KeptNumbers.{KeptNumbers}
 use Rattle.dump_survey.specs.declared.memory.Memory.{Memory}
 use Rattle.dump_survey.specs.declared.tally.Present.{Present}
 use Rattle.dump_survey.specs.declared.tally.Tally.{Tally}
-use Rattle.dump_survey.specs.steps.Tally.{no_tally, keeps_open, revision_tally, node_tally, other_tally, next_tally, tally_behind}
+use Rattle.dump_survey.specs.steps.Tally.{no_tally, revision_tally, node_tally, other_tally, next_tally, tally_behind}
 use Rattle.dump_survey.specs.steps.KeptNumbers.{AreKeptIn, ended_numbers, first_with, kept_view, numbers_before}
 use Rattle.dump_survey.proofs.SurveyorLemmas.{begins_next, begins_with_none, begun_single, nearer_by_one}
-use Rattle.dump_survey.proofs.TallyLemmas.{closes, closes_none, count_within, is_single, nodes, nodes_more, nodes_none, or_assoc, some_left, tally_more}
+use Rattle.dump_survey.proofs.TallyLemmas.{closes, closes_none, count_within, is_single, nodes, nodes_more, nodes_none, some_left, tally_more}
 
 -- the numbers that are added behind a tally, up to the end of these records
 abbrev pub kept_by : Settings → Tally → List DumpRecord → List ℕ
@@ -186,12 +187,13 @@ module _ (settings : Settings) (tally : Tally) (before : List DumpRecord) (r : D
               → KnowsFirst (node_tally tally (is_kept_node settings r) p)
               (first_with None (node_tally tally (is_kept_node settings r) p).present) (before ++ r ∷ [])
           of_node (Some p) same none = cc
-          of_node None same none = subst (λ p. KnowsFirst tally (first_with None p) (before ++ r ∷ [])) (sym same) (record {
-            is = λ rest. assoc (λ rs. first_number (revision_numbers rs)) rest ∙ knows.is (r ∷ rest)
-                ∙ ap (λ b. first_number (map group_number (if b then group_of r rest ∷ groups rest else groups rest))) rev;
-            opens = λ is. same;
-            small = omega arith;
-          })
+          of_node None same none = subst (λ p. KnowsFirst (node_tally tally (is_kept_node settings r) None)
+              (first_with None p) (before ++ r ∷ [])) (sym same) (record {
+                is = λ rest. assoc (λ rs. first_number (revision_numbers rs)) rest ∙ knows.is (r ∷ rest)
+                    ∙ ap (λ b. first_number (map group_number (if b then group_of r rest ∷ groups rest else groups rest))) rev;
+                opens = λ is. same;
+                small = omega arith;
+              })
       by false false rev = record {
         is = λ rest. assoc (λ rs. first_number (revision_numbers rs)) rest ∙ knows.is (r ∷ rest)
             ∙ ap (λ b. first_number (map group_number (if b then group_of r rest ∷ groups rest else groups rest))) rev;

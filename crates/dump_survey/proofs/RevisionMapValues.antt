@@ -8,7 +8,7 @@ use Rattle.dump_rules.specs.declared.options.Empty.TheVariants.{Pad, DropEmptied
 use Rattle.dump_rules.specs.Settings.{Settings}
 use Rattle.dump_filter.specs.Groups.{kept_revisions}
 use Rattle.dump_filter.specs.NewHeaders.{written_number}
-use Rattle.dump_history.proofs.values.WorkedDump.{line, record_at, version, zero, one, trunk, two, other, three}
+use Rattle.dump_history.proofs.values.WorkedDump.{version, zero, one, trunk, two, other, three}
 use Rattle.dump_survey.specs.RevisionMap.{map_line}
 
 -- revision 0 has no node, 1 a kept one, 2 a dropped one, and 3 none

@@ -95,6 +95,7 @@ no_dump_lines [] none = refl
 no_dump_lines (DumpFinding.NoRevision ∷ found) none = cc
 no_dump_lines (DumpFinding.OtherNumbers ∷ found) none = cc
 no_dump_lines (DumpFinding.NodeInFirst ∷ found) none = cc
+no_dump_lines (DumpFinding.NodeOutside ∷ found) none = cc
 no_dump_lines (DumpFinding.NumbersLeft ∷ found) none = cc
 
 -- where no line is written nothing is told, and so nothing that matters

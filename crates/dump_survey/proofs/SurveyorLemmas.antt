@@ -26,7 +26,7 @@ use Rattle.dump_survey.specs.declared.surveyor.End.{End}
 use Rattle.dump_survey.specs.declared.surveyor.Step.{Step}
 use Rattle.dump_survey.specs.declared.surveyor.Step.TheVariants.{Node, Other, Finished}
 use Rattle.dump_survey.specs.declared.memory.Memory.{Memory}
-use Rattle.dump_survey.specs.steps.Found.{has_found, IsFoundIn}
+use Rattle.dump_survey.specs.steps.Found.{has_found, merge_faults, IsFoundIn}
 use Rattle.dump_survey.specs.Told.{NodeTold, IsToldOf, told_in}
 use Rattle.dump_survey.specs.steps.Found.{listed}
 use Rattle.dump_survey.specs.steps.Surveyed.{told_of_node}
@@ -107,9 +107,15 @@ at_first dump settings prefixes idle tally cutter is same all none = record {
 -- what is found is what is found in the node
 found_is : (settings : Settings) (r : DumpRecord) (found : Found) → IsFoundIn settings r found
     → AreFindingsOf settings r (listed found)
-found_is settings r found exact =
-    let (fs, (ps, read, is), once) = findings_once settings r in
-    (ps, read, filter_same (λ f. has_found found f) (λ f. is_found settings r ps f) (exact ps read) every_finding)
+found_is settings r found (faults, exact) =
+    let (fs, (ps, m, read, of, is), once) = findings_once settings r in (
+      ps,
+      merge_faults found.mergeinfo,
+      read,
+      faults,
+      filter_same (λ f. has_found found f) (λ f. is_found settings r ps (merge_faults found.mergeinfo) f)
+          (exact ps read) every_finding,
+    )
 
 -- what is found in a node of a revision is told of it
 told_of : (settings : Settings) (number revision : ℕ) (r : DumpRecord) (found : List Finding) (told : List NodeTold)

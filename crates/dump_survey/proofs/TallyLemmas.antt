@@ -1,5 +1,6 @@
 -- The tally of a dump's revisions, record by record, tells what is found in the dump as a whole.
-use Rattle.std.proofs.Common.{◌≡◌, ℕ, zero, suc, ◌+◌, ◌≤◌, ◌==◌, Bool, true, false, not, ◌&&◌, ◌||◌, List, [], ◌∷◌, ◌++◌, length, filter, map, take_while, Option, Some, None, option_map, if◌then◌else◌, cond, refl, sym, ap, ap₂, ◌∙◌, arith}
+use Rattle.std.proofs.Common.{◌≡◌, ℕ, zero, suc, ◌+◌, ◌≤◌, ◌==◌, Bool, true, false, not, ◌&&◌, ◌||◌, List, [], ◌∷◌, ◌++◌, length, filter, map, take_while, Option, Some, None, is_some, option_map, if◌then◌else◌, cond, refl, sym, ap, ap₂, ◌∙◌, arith}
+use Rattle.std.proofs.Math.Bool.{and-true, and_assoc, or-false, or-true, or_assoc}
 use Rattle.std.specs.List.{list_all, list_any}
 use Rattle.std.proofs.lemmas.Bool.{and_parts}
 use Rattle.std.proofs.lemmas.List.Sums.{take_while-cons}
@@ -7,7 +8,7 @@ use Rattle.dump_records.specs.RecordText.{DumpRecord}
 use Rattle.dump_rules.specs.Settings.{Settings}
 use Rattle.dump_digest.specs.RecordParts.{is_revision_record, is_node, is_kept_node}
 use Rattle.dump_filter.specs.Groups.{group_of, groups, group_number, revision_number, revision_numbers, keeps_group, keeps_empty}
-use Rattle.dump_history.specs.DumpChanges.{counts_from}
+use Rattle.dump_history.specs.DumpChanges.{counts_from, has_ordered_nodes}
 use Rattle.dump_history.specs.Findings.{DumpFinding, every_dump_finding, is_found_in_dump, first_has_node, dump_findings}
 use Rattle.dump_survey.specs.declared.tally.Present.{Present}
 use Rattle.dump_survey.specs.declared.tally.Tally.{Tally}
@@ -79,14 +80,6 @@ present_is settings t (r ∷ records) =
     by false true = of_node t.present refl
     by false false = refl
 
-and_assoc : (a b c : Bool) → ((a && b) && c) ≡ (a && (b && c))
-and_assoc true b c = refl
-and_assoc false b c = refl
-
-and_true : (a : Bool) → (a && true) ≡ a
-and_true true = refl
-and_true false = refl
-
 node_numbered : (t : Tally) (kept : Bool) (p : Option Present) → (node_tally t kept p).numbered ≡ t.numbered
 node_numbered t kept None = refl
 node_numbered t kept (Some p) = refl
@@ -94,7 +87,7 @@ node_numbered t kept (Some p) = refl
 -- whether they are numbered 0, 1, 2 and so on
 numbered_is : (settings : Settings) (t : Tally) (records : List DumpRecord)
     → (tally_behind settings t records).numbered ≡ (t.numbered && counts_from t.count (revision_numbers records))
-numbered_is settings t [] = sym (and_true t.numbered)
+numbered_is settings t [] = sym (and-true t.numbered)
 numbered_is settings t (r ∷ records) = by (λ u. numbered_is settings u records) (is_revision_record r) (is_node r)
   where
     next : t.count + 1 ≡ suc t.count
@@ -135,18 +128,10 @@ closes settings (Some p) ns =
     p.number == 0 || (p.kept || list_any (is_kept_node settings) ns)
     || keeps_empty settings.empty (p.bare && length ns == 0)
 
-or_false : (a : Bool) → (a || false) ≡ a
-or_false true = refl
-or_false false = refl
-
-pub or_assoc : (a b c : Bool) → ((a || b) || c) ≡ (a || (b || c))
-or_assoc true b c = refl
-or_assoc false b c = refl
-
 pub closes_none : (settings : Settings) (p : Option Present) → closes settings p [] ≡ keeps_open settings p
 closes_none settings None = refl
 closes_none settings (Some p) =
-    ap₂ (λ k b. p.number == 0 || k || keeps_empty settings.empty b) (or_false p.kept) (and_true p.bare)
+    ap₂ (λ k b. p.number == 0 || k || keeps_empty settings.empty b) (or-false p.kept) (and-true p.bare)
 
 pub some_left : (n : ℕ) (b : Bool) → (b && (suc n == 0)) ≡ false
 some_left n true = grind arith
@@ -216,7 +201,7 @@ module _ (settings : Settings) (t : Tally) (r : DumpRecord) (records : List Dump
 kept_is : (settings : Settings) (t : Tally) (records : List DumpRecord) → list_all is_single records ≡ true
     → keeps_present settings (tally_behind settings t records) ≡ keeps_all settings t records
 kept_is settings t [] single =
-    ap (λ b. t.all_kept && b) (sym (closes_none settings t.present) ∙ sym (and_true (closes settings t.present [])))
+    ap (λ b. t.all_kept && b) (sym (closes_none settings t.present) ∙ sym (and-true (closes settings t.present [])))
 kept_is settings t (r ∷ records) single =
     let parts = and_parts (is_single r) (list_all is_single records) single in
     kept_step settings t r records (λ u. kept_is settings u records parts.1) (is_revision_record r) (is_node r)
@@ -275,7 +260,7 @@ module _ (settings : Settings) (t : Tally) (r : DumpRecord) (records : List Dump
       (sym rev)
   node_first zero (Some p) count is node rev =
       ap (λ b. b || first_has_node (groups records))
-      (ap (λ c. t.node_in_first || c == 1) count ∙ or_false t.node_in_first)
+      (ap (λ c. t.node_in_first || c == 1) count ∙ or-false t.node_in_first)
       ∙ ap (λ b. t.node_in_first || first_has_node (if b then group_of r records ∷ groups records else groups records))
       (sym rev)
   node_first (suc zero) None count is node rev =
@@ -289,7 +274,7 @@ module _ (settings : Settings) (t : Tally) (r : DumpRecord) (records : List Dump
   node_first (suc (suc n)) (Some p) count is node rev =
       ap (λ b. b || false)
       (ap (λ c. t.node_in_first || c == 1) count ∙ ap (λ b. t.node_in_first || b) (not_one n)
-      ∙ or_false t.node_in_first)
+      ∙ or-false t.node_in_first)
 
   first_node : (n : ℕ) → t.count ≡ n → is_node r ≡ true → is_revision_record r ≡ false
       → (tally_behind settings (node_tally t (is_kept_node settings r) t.present) records).node_in_first
@@ -312,7 +297,7 @@ module _ (settings : Settings) (t : Tally) (r : DumpRecord) (records : List Dump
 first_is : (settings : Settings) (t : Tally) (records : List DumpRecord) → list_all is_single records ≡ true
     → (n : ℕ) → t.count ≡ n
     → (tally_behind settings t records).node_in_first ≡ (t.node_in_first || first_has n t.present records)
-first_is settings t [] single n count = sym (ap (λ b. t.node_in_first || b) (nothing n t.present) ∙ or_false t.node_in_first)
+first_is settings t [] single n count = sym (ap (λ b. t.node_in_first || b) (nothing n t.present) ∙ or-false t.node_in_first)
   where
     nothing : (n : ℕ) (p : Option Present) → first_has n p [] ≡ false
     nothing zero p = refl
@@ -323,6 +308,34 @@ first_is settings t (r ∷ records) single n count =
     let parts = and_parts (is_single r) (list_all is_single records) single in
     first_step settings t r records (λ u m is. first_is settings u records parts.1 m is) n count (is_revision_record r)
     (is_node r) refl refl parts.0
+
+-- whether a node stands outside of any revision, by the tally and by the records
+outside_is : (settings : Settings) (t : Tally) (records : List DumpRecord) → list_all is_single records ≡ true
+    → (tally_behind settings t records).node_outside
+    ≡ (t.node_outside || not (has_ordered_nodes (is_some t.present) records))
+outside_is settings t [] single = sym (or-false t.node_outside)
+outside_is settings t (r ∷ records) single =
+    let parts = and_parts (is_single r) (list_all is_single records) single in
+    by (λ u. outside_is settings u records parts.1) (is_revision_record r) (is_node r) parts.0
+  where
+    More : Type 0
+    More = (u : Tally) → (tally_behind settings u records).node_outside
+        ≡ (u.node_outside || not (has_ordered_nodes (is_some u.present) records))
+
+    of_node : More → (p : Option Present)
+        → (tally_behind settings (node_tally t (is_kept_node settings r) p) records).node_outside
+        ≡ (t.node_outside || not (is_some p && has_ordered_nodes true records))
+    of_node more None = more (node_tally t (is_kept_node settings r) None) ∙ sym (or-true t.node_outside)
+    of_node more (Some p) = more (node_tally t (is_kept_node settings r) (Some p))
+
+    by : More → (v n : Bool) → not (n && v) ≡ true
+        → (tally_behind settings (if v then revision_tally settings t r
+        else if n then node_tally t (is_kept_node settings r) t.present else other_tally settings t) records).node_outside
+        ≡ (t.node_outside || not ((not n || is_some t.present) && has_ordered_nodes (v || n) records))
+    by more true true single = cc
+    by more true false single = more (revision_tally settings t r)
+    by more false true single = of_node more t.present
+    by more false false single = more (other_tally settings t)
 
 zero_more : (n : ℕ) → 0 + n ≡ n
 zero_more n = omega arith
@@ -339,6 +352,7 @@ each_tallied settings records single DumpFinding.NoRevision =
     ap (λ c. c == 0) (count_is settings no_tally records ∙ zero_more (length (groups records)))
 each_tallied settings records single DumpFinding.OtherNumbers = ap not (numbered_is settings no_tally records)
 each_tallied settings records single DumpFinding.NodeInFirst = first_is settings no_tally records single 0 refl
+each_tallied settings records single DumpFinding.NodeOutside = outside_is settings no_tally records single
 each_tallied settings records single DumpFinding.NumbersLeft =
     ap (λ b. not settings.renumber && not b) (kept_is settings no_tally records single)
     ∙ or_not settings.renumber (list_all (keeps_group settings) (groups records))

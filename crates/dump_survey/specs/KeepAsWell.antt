@@ -1,6 +1,6 @@
 -- What to keep as well, so that the filter stops at no copy: under include the sources of copies, which are to be included
 -- too; under exclude copies, which are to be excluded too.
-use Rattle.std.specs.Prelude.{◌≡◌, ℕ, Bool, true, not, ◌&&◌, List, [], ◌∷◌, ◌++◌, None, bytes_eq, if◌then◌else◌, IsTrue, IsFalse, ⊤}
+use Rattle.std.specs.Prelude.{◌≡◌, ℕ, Bool, true, not, ◌&&◌, List, [], ◌∷◌, ◌++◌, bytes_eq, if◌then◌else◌, IsTrue, IsFalse, ⊤}
 use Rattle.std.specs.List.{list_any}
 use Rattle.dump_records.specs.RecordText.{DumpRecord}
 use Rattle.dump_records.specs.DumpText.{Ending, HasRecords}
@@ -10,7 +10,7 @@ use Rattle.dump_rules.specs.Prefix.{bare_prefix, begins_path, matches_path}
 use Rattle.dump_rules.specs.Settings.{Settings}
 use Rattle.dump_digest.specs.RecordParts.{is_node, node_path}
 use Rattle.dump_history.specs.RecordChanges.{copy_path}
-use Rattle.dump_history.specs.Findings.{Finding, is_found}
+use Rattle.dump_history.specs.Findings.{lacks_source}
 
 -- the options with more prefixes
 abbrev pub with_prefixes : Settings → List (List ℕ) → Settings
@@ -18,7 +18,7 @@ with_prefixes settings paths = record settings { prefixes = settings.prefixes ++
 
 -- whether the filter stops at the record for want of its copy source
 abbrev pub stops_at : Settings → DumpRecord → Bool
-stops_at settings r = is_node r && is_found settings r None Finding.NoWholeFile
+stops_at settings r = is_node r && lacks_source settings r
 
 -- the path of a copy that, as a prefix, lets the filter go on: under include its source, under exclude its own
 abbrev pub wanted_path : Side → DumpRecord → List ℕ

@@ -15,12 +15,14 @@ finding_place Finding.Delta = 1
 finding_place Finding.UnknownAction = 2
 finding_place Finding.OddText = 3
 finding_place Finding.NoWholeFile = 4
-finding_place Finding.PropertiesLost = 5
-finding_place Finding.CopyLoses = 6
-finding_place Finding.CopyLetsIn = 7
-finding_place Finding.FolderTakes = 8
-finding_place Finding.FolderBrings = 9
-finding_place Finding.TextComesIn = 10
+finding_place Finding.UnreadMergeinfo = 5
+finding_place Finding.MissingMergeSource = 6
+finding_place Finding.PropertiesLost = 7
+finding_place Finding.CopyLoses = 8
+finding_place Finding.CopyLetsIn = 9
+finding_place Finding.FolderTakes = 10
+finding_place Finding.FolderBrings = 11
+finding_place Finding.TextComesIn = 12
 
 -- how often the finding is told
 abbrev pub times_told : List NodeTold → Finding → ℕ
@@ -46,6 +48,10 @@ finding_kind Finding.Delta = codes ": deltas under format version 2. Dump with -
 finding_kind Finding.UnknownAction = codes ": no action, or an unknown one. Have the dump made again\n"
 finding_kind Finding.OddText = codes ": texts that the load reads otherwise. Mend the dump: no prefix may match what the load makes of them\n"
 finding_kind Finding.NoWholeFile = codes ": fault 12, copies of what is not kept. Include the source too, or leave the copy out too\n"
+finding_kind Finding.UnreadMergeinfo =
+    codes ": fault 14, mergeinfo that can't be read. Mend the property, and dump again; or leave the path out\n"
+finding_kind Finding.MissingMergeSource =
+    codes ": fault 15, mergeinfo of paths that are not kept. Give --skip-missing-merge-sources, or keep these paths too\n"
 finding_kind Finding.PropertiesLost = codes ": properties that may be lost with their source. Include the source too\n"
 finding_kind Finding.CopyLoses =
     codes ": copies that may lose a part. Leave the same path out below the copy, or keep it below the source too\n"
@@ -64,6 +70,7 @@ dump_kind_line DumpFinding.OtherNumbers =
     codes "in all 1: other numbers than 0, 1, 2 and so on. Filter a part of a history without drop options and --renumber-revs\n"
 dump_kind_line DumpFinding.NodeInFirst =
     codes "in all 1: a node in the first revision. Load a part of a history behind the revisions before it\n"
+dump_kind_line DumpFinding.NodeOutside = codes "in all 1: fault 8, nodes in no revision. Have the dump made again\n"
 dump_kind_line DumpFinding.NumbersLeft = codes "in all 1: numbers with a gap. Give --renumber-revs\n"
 
 -- what the line of a kind that is found in prefixes says behind the number

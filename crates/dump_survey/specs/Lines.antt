@@ -47,6 +47,8 @@ finding_words Finding.Delta = codes " tells of a delta, which format version 2 d
 finding_words Finding.UnknownAction = codes " has no action, or an unknown one"
 finding_words Finding.OddText = codes " has a path, a copy source or another text that the load reads otherwise"
 finding_words Finding.NoWholeFile = codes ", which is not kept: fault 12"
+finding_words Finding.UnreadMergeinfo = codes " has mergeinfo that can't be read: fault 14"
+finding_words Finding.MissingMergeSource = codes " has mergeinfo of a path that is not kept: fault 15"
 finding_words Finding.PropertiesLost = codes ", which is not kept, and may lose its properties"
 finding_words Finding.CopyLoses = codes ", and may lose what is left out there and not here"
 finding_words Finding.CopyLetsIn = codes ", and may let in what is left out here and not there"
@@ -66,6 +68,7 @@ unfoldable pub dump_line : DumpFinding → List ℕ
 dump_line DumpFinding.NoRevision = codes "the dump has no revision\n"
 dump_line DumpFinding.OtherNumbers = codes "the revisions of the dump are not numbered 0, 1, 2 and so on\n"
 dump_line DumpFinding.NodeInFirst = codes "the first revision of the dump has a node\n"
+dump_line DumpFinding.NodeOutside = codes "a node of the dump stands in no revision: fault 8\n"
 dump_line DumpFinding.NumbersLeft =
     codes "a revision is left out, and those behind it keep their numbers: give --renumber-revs\n"
 

@@ -3,6 +3,8 @@ ghost use Rattle.std.specs.Prelude.{◌≡◌};
 ghost use Rattle.dump_survey.specs.Meaning.{meaning};
 ghost use Rattle.dump_survey.specs.steps.Found.{has_found};
 
+use crate::refused_mergeinfo::MergeinfoFaults;
+
 /// What can be found in a node.
 #[derive(Clone, Copy, Debug, PartialEq, Eq)]
 pub enum NodeFinding {
@@ -16,6 +18,10 @@ pub enum NodeFinding {
     OddText,
     /// The filter stops at it with fault 12.
     NoWholeFile,
+    /// The filter stops at it with fault 14: its mergeinfo can't be read.
+    UnreadMergeinfo,
+    /// The filter stops at it with fault 15: its mergeinfo names a path that isn't kept.
+    MissingMergeSource,
     /// The properties of its left-out source may be lost.
     PropertiesLost,
     /// A copy of a kept path may lack what is left out below that path.
@@ -31,12 +37,14 @@ pub enum NodeFinding {
 }
 
 /// Each of them, in the order in which they are told.
-pub const EVERY_FINDING: [NodeFinding; 11] = [
+pub const EVERY_FINDING: [NodeFinding; 13] = [
     NodeFinding::UnreadBlock,
     NodeFinding::Delta,
     NodeFinding::UnknownAction,
     NodeFinding::OddText,
     NodeFinding::NoWholeFile,
+    NodeFinding::UnreadMergeinfo,
+    NodeFinding::MissingMergeSource,
     NodeFinding::PropertiesLost,
     NodeFinding::CopyLoses,
     NodeFinding::CopyLetsIn,
@@ -83,6 +91,7 @@ impl Losses {
 #[derive(Clone, Copy, Debug, PartialEq, Eq)]
 pub struct Found {
     pub(crate) obstacles: Obstacles,
+    pub(crate) mergeinfo: MergeinfoFaults,
     pub(crate) losses: Losses,
 }
 
@@ -97,6 +106,8 @@ impl Found {
             NodeFinding::UnknownAction => self.obstacles.unknown_action,
             NodeFinding::OddText => self.obstacles.odd_text,
             NodeFinding::NoWholeFile => self.losses.no_whole_file,
+            NodeFinding::UnreadMergeinfo => self.mergeinfo.unread,
+            NodeFinding::MissingMergeSource => self.mergeinfo.missing,
             NodeFinding::PropertiesLost => self.losses.properties_lost,
             NodeFinding::CopyLoses => self.losses.copy_loses,
             NodeFinding::CopyLetsIn => self.losses.copy_lets_in,

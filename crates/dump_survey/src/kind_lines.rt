@@ -32,6 +32,12 @@ fn finding_kind(finding: NodeFinding) -> &'static [u8]
         NodeFinding::NoWholeFile => {
             b": fault 12, copies of what is not kept. Include the source too, or leave the copy out too\n"
         }
+        NodeFinding::UnreadMergeinfo => {
+            b": fault 14, mergeinfo that can't be read. Mend the property, and dump again; or leave the path out\n"
+        }
+        NodeFinding::MissingMergeSource => {
+            b": fault 15, mergeinfo of paths that are not kept. Give --skip-missing-merge-sources, or keep these paths too\n"
+        }
         NodeFinding::PropertiesLost => {
             b": properties that may be lost with their source. Include the source too\n"
         }
@@ -117,6 +123,11 @@ fn push_dump_kinds(lines: &mut Vec<u8>, found: &DumpFindings) -> Result<(), Memo
         lines,
         found.node_in_first,
         b"in all 1: a node in the first revision. Load a part of a history behind the revisions before it\n",
+    )?;
+    push_if(
+        lines,
+        found.node_outside,
+        b"in all 1: fault 8, nodes in no revision. Have the dump made again\n",
     )?;
     push_if(
         lines,

@@ -24,7 +24,7 @@
 //! What is found in nodes and in the dump are the findings that `dump_history` defines, and [`laws`] says so: no others,
 //! none is missing, in the dump's order. They are told from header lines, properties and prefixes alone. No text of a file is read and no tree is
 //! built, so what is found may do no harm, where nothing stands below a path that is told. A node outside of any
-//! revision, which the filter refuses, is passed over.
+//! revision, which the filter refuses, is passed over, and that there is one is told of the whole dump.
 //!
 //! `Surveyor::new` takes memory for the list of the prefixes and for a set of them, `next` where a prefix is excluded
 //! that lies below a copy or its source, and `told_prefixes` for its list. No more is kept of a record when the next one
@@ -49,6 +49,7 @@ mod prefix_findings;
 mod prefix_lines;
 mod prefix_set;
 mod prefixes;
+mod refused_mergeinfo;
 mod short_paths;
 mod slashes;
 mod survey;

@@ -20,6 +20,7 @@ use crate::memory::Memory;
 use crate::node_headers::{ADD, DELETE, REPLACE, action_of, has_odd_delta, is_known_action};
 use crate::plain::{are_lines_plain, are_names_plain, properties_of};
 use crate::prefixes::Prefixes;
+use crate::refused_mergeinfo::{MergeinfoFaults, mergeinfo_faults};
 use crate::short_paths::is_short;
 use dump_records::Record;
 use dump_rules::{Options, Side, keeps};
@@ -81,18 +82,18 @@ fn has_plain_texts(item: &Record<'_>, props: &Option<Props<'_>>) -> bool
     are_lines_plain(item) & are_names & is_short(path_of(item)) & is_short(copy_path_of(item))
 }
 
-/// What keeps a node from making a change that can be told.
-fn obstacles_of(item: &Record<'_>) -> Obstacles
-    requires { IsTrue (is_node (record_item item.now)) }
+/// What keeps a node with these properties from making a change that can be told.
+fn obstacles_of(item: &Record<'_>, props: &Option<Props<'_>>) -> Obstacles
+    requires node { IsTrue (is_node (record_item item.now)) }
+    requires props { ArePropertiesOf (record_item item.now) props.now }
     ensures { (ps : Option (List Property)) → IsReadBlock (record_item item.now) ps
         → AreObstaclesOf (record_item item.now) ps result }
 {
-    let props = properties_of(item);
     Obstacles {
         unread_block: props.is_none(),
         delta: has_odd_delta(item),
         unknown_action: !is_known_action(action_of(item)),
-        odd_text: !has_plain_texts(item, &props),
+        odd_text: !has_plain_texts(item, props),
     }
 }
 
@@ -242,11 +243,20 @@ pub(crate) fn find(
     requires prefixes { prefixes.now ≡ map bare_prefix options.now.prefixes }
     ensures { IfOk result (λ found. IsFoundIn options.now (record_item item.now) found) }
 {
-    let obstacles = obstacles_of(item);
+    let props = properties_of(item);
+    let obstacles = obstacles_of(item, &props);
     if !keeps(options, path_of(item)) {
-        let losses = losses_of_left(item, options, prefixes);
-        return Ok(Found { obstacles, losses });
+        return Ok(Found {
+            obstacles,
+            mergeinfo: MergeinfoFaults::NONE,
+            losses: losses_of_left(item, options, prefixes),
+        });
     }
+    let mergeinfo = mergeinfo_faults(item, &props, options);
     let losses = losses_of_kept(alloc, item, options, prefixes)?;
-    Ok(Found { obstacles, losses })
+    Ok(Found {
+        obstacles,
+        mergeinfo,
+        losses,
+    })
 }

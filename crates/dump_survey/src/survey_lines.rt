@@ -144,6 +144,8 @@ fn words(finding: NodeFinding) -> &'static [u8]
             b" has a path, a copy source or another text that the load reads otherwise"
         }
         NodeFinding::NoWholeFile => b", which is not kept: fault 12",
+        NodeFinding::UnreadMergeinfo => b" has mergeinfo that can't be read: fault 14",
+        NodeFinding::MissingMergeSource => b" has mergeinfo of a path that is not kept: fault 15",
         NodeFinding::PropertiesLost => b", which is not kept, and may lose its properties",
         NodeFinding::CopyLoses => b", and may lose what is left out there and not here",
         NodeFinding::CopyLetsIn => b", and may let in what is left out here and not there",
@@ -192,6 +194,11 @@ fn push_dump_lines(lines: &mut Vec<u8>, found: &DumpFindings) -> Result<(), Memo
         lines,
         found.node_in_first,
         b"the first revision of the dump has a node\n",
+    )?;
+    push_if(
+        lines,
+        found.node_outside,
+        b"a node of the dump stands in no revision: fault 8\n",
     )?;
     push_if(
         lines,

@@ -17,6 +17,8 @@ pub struct DumpFindings {
     pub other_numbers: bool,
     /// Its first revision has a node.
     pub node_in_first: bool,
+    /// A node stands outside of any revision.
+    pub node_outside: bool,
     /// A revision is dropped, and the others aren't renumbered.
     pub numbers_left: bool,
 }
@@ -54,6 +56,8 @@ pub(crate) struct Tally {
     numbered: bool,
     /// Whether the first one has a node.
     node_in_first: bool,
+    /// Whether a node stands outside of any revision.
+    node_outside: bool,
     /// Whether each revision before the present one is kept.
     all_kept: bool,
     pub(crate) present: Option<Present>,
@@ -68,6 +72,7 @@ impl Tally {
             count: 0,
             numbered: true,
             node_in_first: false,
+            node_outside: false,
             all_kept: true,
             present: None,
         }
@@ -116,7 +121,10 @@ impl Tally {
         ensures { result ≡ node_tally self.now kept self.now.present }
     {
         let Some(present) = self.present else {
-            return *self;
+            return Tally {
+                node_outside: true,
+                ..*self
+            };
         };
         Tally {
             node_in_first: self.node_in_first || self.count == 1,
@@ -137,6 +145,7 @@ impl Tally {
             no_revision: self.count == 0,
             other_numbers: !self.numbered,
             node_in_first: self.node_in_first,
+            node_outside: self.node_outside,
             numbers_left: !options.renumber() && !self.keeps_all(options),
         }
     }

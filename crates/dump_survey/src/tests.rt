@@ -23,6 +23,7 @@ const NOTHING: DumpFindings = DumpFindings {
     no_revision: false,
     other_numbers: false,
     node_in_first: false,
+    node_outside: false,
     numbers_left: false,
 };
 
@@ -62,36 +63,38 @@ fn what_is_found_in_a_dump_is_told_at_its_end(rt: HostRuntime) -> Result<(), Fai
         kind: FaultKind::HeaderCut,
         place: 31,
     };
+    let none = DumpFindings {
+        no_revision: true,
+        ..NOTHING
+    };
+    let other = DumpFindings {
+        other_numbers: true,
+        ..NOTHING
+    };
+    let first = DumpFindings {
+        node_in_first: true,
+        ..NOTHING
+    };
+    let outside = DumpFindings {
+        node_outside: true,
+        ..NOTHING
+    };
     let rows = [
-        ("", true, false, false, End::Whole),
-        ("Revision-number: 0", true, false, false, broken),
-        ("Revision-number: 0\n\n", false, false, false, End::Whole),
-        ("Revision-number: 1\n\n", false, true, false, End::Whole),
-        (
-            "Revision-number: 0\n\nNode-path: a\n\n",
-            false,
-            false,
-            true,
-            End::Whole,
-        ),
+        ("", none, End::Whole),
+        ("Revision-number: 0", none, broken),
+        ("Revision-number: 0\n\n", NOTHING, End::Whole),
+        ("Revision-number: 1\n\n", other, End::Whole),
+        ("Revision-number: 0\n\nNode-path: a\n\n", first, End::Whole),
         (
             "Revision-number: 0\n\nUUID: a\n\nNode-path: a\n\n",
-            false,
-            false,
-            false,
+            outside,
             End::Whole,
         ),
     ];
     let options = rules(rt.alloc(), Side::Include, "trunk")?;
-    for (records, no_revision, other_numbers, node_in_first, end) in rows {
+    for (records, found, end) in rows {
         let dump = format!(in rt.alloc(); "SVN-fs-dump-format-version: 2\n\n{records}")?;
         let survey = survey_dump(rt.alloc(), dump.as_bytes(), &options)?;
-        let found = DumpFindings {
-            no_revision,
-            other_numbers,
-            node_in_first,
-            numbers_left: false,
-        };
         assert!(rt; ends_with(&survey, found, end), "{records}");
     }
     Ok(())

@@ -1,5 +1,6 @@
 -- The records that are read again are in order: their nodes stand in revisions.
 use Rattle.std.proofs.Common.{◌≡◌, ℕ, Bool, true, false, not, ◌||◌, List, [], ◌∷◌, refl, sym, ap, ◌∙◌, subst}
+use Rattle.std.proofs.Math.Bool.{or-true}
 use Rattle.dump_text.proofs.BoolLemmas.{first_true, second_true, both_true, absurd_bool}
 use Rattle.dump_records.specs.RecordText.{DumpRecord}
 use Rattle.dump_rules.specs.Settings.{Settings}
@@ -10,10 +11,6 @@ use Rattle.dump_filter.proofs.knowing.Answered.{AllLawful}
 use Rattle.dump_filter.proofs.again.ReadAgain.{AreReadAgain}
 use Rattle.dump_history.specs.DumpChanges.{has_ordered_nodes}
 use Rattle.dump_history.proofs.again.GroupsAgain.{Reads, keeps_first, keeps_first-node, dropped_behind, node_written}
-
-or_true : (b : Bool) → (b || true) ≡ true
-or_true true = refl
-or_true false = refl
 
 module _ (settings : Settings) (kept : KeptRevisions) where
   -- where no node may follow, none of those that stand first is kept: there are none
@@ -60,10 +57,10 @@ module _ (settings : Settings) (kept : KeptRevisions) where
           ∙ ap (λ b. b || keeps_first settings kept after) keep) in
           ap (has_ordered_nodes may_again) same
           ∙ both_true (not (is_node s) || may_again) (has_ordered_nodes (is_revision_record s || is_node s) more)
-          (ap (λ b. not (is_node s) || b) allowed ∙ or_true (not (is_node s)))
+          (ap (λ b. not (is_node s) || b) allowed ∙ or-true (not (is_node s)))
           (later (is_revision_record s || is_node s) more
           (λ first. ap (λ b. is_revision_record s || b) (read.node ∙ node)
-          ∙ or_true (is_revision_record s)) reads)
+          ∙ or-true (is_revision_record s)) reads)
       by_node true node false dropped (empty, reads) later =
           let drop = sym (node_written settings kept r after lawful.0.0 lawful.0.1 node) ∙ dropped in
           later may_again again

@@ -27,12 +27,12 @@ module _ (patched : Patching) (settings : Settings) where
   node_change_is : (r : DumpRecord) (found : List Finding) → AreFindingsOf settings r found
       → not (list_any is_obstacle found) ≡ true
       → (c : Change) × MakesChange patched r c × (not (list_any is_alarm found) ≡ true → is_quiet settings c ≡ true)
-  node_change_is r found (ps, read, same) none =
+  node_change_is r found (ps, m, read, faults, same) none =
       let no_obstacle = ap (λ fs. list_any is_obstacle fs) (sym same) ∙ not_true (list_any is_obstacle found) none in
-      let made = (obstacles_exact patched settings r ps read).0 no_obstacle in (
+      let made = (obstacles_exact patched settings r ps m read).0 no_obstacle in (
         made.0,
         made.1,
-        λ quiet. alarms_exact patched settings r ps made.0 read made.1
+        λ quiet. alarms_exact patched settings r ps m made.0 read made.1
             ∙ (ap (λ fs. not (list_any is_alarm fs)) (sym same) ∙ quiet),
       )
 
@@ -144,7 +144,8 @@ module _ (settings : Settings) (all : List DumpRecord) (free : AreFaultFree sett
 -- nothing is found in the dump as a whole
 module _ (settings : Settings) (records : List DumpRecord) (none : dump_findings settings records ≡ []) where
   each_none : (length (groups records) == 0 || (not (counts_from 0 (revision_numbers records))
-      || (first_has_node (groups records) || (not (keeps_numbering settings records) || false)))) ≡ false
+      || (first_has_node (groups records) || (not (has_ordered_nodes false records)
+      || (not (keeps_numbering settings records) || false))))) ≡ false
   each_none = none_passes (λ f. is_found_in_dump settings records f) every_dump_finding none
 
   denied : (b : Bool) → not b ≡ false → b ≡ true
@@ -159,7 +160,8 @@ module _ (settings : Settings) (records : List DumpRecord) (none : dump_findings
       (first_false (not (counts_from 0 (revision_numbers records))) _
       (second_false (length (groups records) == 0) _ each_none))
 
-  behind_numbers : (first_has_node (groups records) || (not (keeps_numbering settings records) || false)) ≡ false
+  behind_numbers : (first_has_node (groups records) || (not (has_ordered_nodes false records)
+      || (not (keeps_numbering settings records) || false))) ≡ false
   behind_numbers = second_false (not (counts_from 0 (revision_numbers records))) _
       (second_false (length (groups records) == 0) _ each_none)
 
@@ -169,7 +171,8 @@ module _ (settings : Settings) (records : List DumpRecord) (none : dump_findings
   keeps_numbers : keeps_numbering settings records ≡ true
   keeps_numbers = denied (keeps_numbering settings records)
       (first_false (not (keeps_numbering settings records)) false
-      (second_false (first_has_node (groups records)) _ behind_numbers))
+      (second_false (not (has_ordered_nodes false records)) _
+      (second_false (first_has_node (groups records)) _ behind_numbers)))
 
 -- the changes of a group without nodes are none
 no_changes : (patched : Patching) (g : Group) (changes : List Change) → not (is_bare g) ≡ false

@@ -9,6 +9,7 @@ use Rattle.dump_history.specs.DumpChanges.{has_ordered_nodes}
 use Rattle.dump_history.specs.Findings.{Finding, findings_of, DumpFinding, dump_findings}
 use Rattle.dump_history.proofs.values.WorkedDump.{line, record_at, records, version, zero, one, two, trunk}
 use Rattle.dump_history.proofs.values.WorkedDump.{settings as worked_settings}
+use Rattle.dump_history.specs.steps.MergeReading.{no_merge_faults}
 use Rattle.dump_history.proofs.values.FindingParts.{cut_by, include_a, exclude_a, node, from, whole_from, in_node}
 
 -- a property length
@@ -28,7 +29,7 @@ deleted_kept = refl
 
 -- what makes no change that is told
 
-unread : findings_of include_a (node (codes "p/a") (codes "change") []) None ≡ Finding.UnreadBlock ∷ []
+unread : findings_of include_a (node (codes "p/a") (codes "change") []) None no_merge_faults ≡ Finding.UnreadBlock ∷ []
 unread = refl
 
 -- under version 3 nothing is found in deltas, nor in a deleted property
@@ -40,7 +41,8 @@ delta_node = record (node (codes "p/a") (codes "change") (line (codes "Text-delt
 deltas_of_version_3 : in_node include_a delta_node ≡ []
 deltas_of_version_3 = refl
 
-deleted_property : findings_of include_a delta_node (Some (record { name = codes "k"; value = None } ∷ [])) ≡ []
+deleted_property : findings_of include_a delta_node (Some (record { name = codes "k"; value = None } ∷ []))
+    no_merge_faults ≡ []
 deleted_property = refl
 
 -- under version 2 a delta is found
@@ -62,6 +64,16 @@ odd_action = refl
 no_action : in_node include_a (record_at 0 (line (codes "Node-path") (codes "p/a") ∷ [])) ≡ Finding.UnknownAction ∷ []
 no_action = refl
 
+-- mergeinfo at which the filter stops
+
+unread_mergeinfo : findings_of include_a (node (codes "p/a") (codes "change") []) (Some [])
+    (record { unread = true; missing = false }) ≡ Finding.UnreadMergeinfo ∷ []
+unread_mergeinfo = refl
+
+missing_merge_source : findings_of include_a (node (codes "p/a") (codes "change") []) (Some [])
+    (record { unread = false; missing = true }) ≡ Finding.MissingMergeSource ∷ []
+missing_merge_source = refl
+
 -- texts that the load reads otherwise
 
 dot_in_path : in_node include_a (node (codes "p/a/./f") (codes "add") []) ≡ Finding.OddText ∷ []
@@ -75,7 +87,7 @@ zero_in_line : in_node include_a (node (codes "p/a/g" ++ 0 ∷ []) (codes "add")
 zero_in_line = refl
 
 zero_in_name : findings_of include_a (node (codes "p/a") (codes "change") (block ∷ []))
-    (Some (record { name = codes "k" ++ 0 ∷ []; value = Some [] } ∷ [])) ≡ Finding.OddText ∷ []
+    (Some (record { name = codes "k" ++ 0 ∷ []; value = Some [] } ∷ [])) no_merge_faults ≡ Finding.OddText ∷ []
 zero_in_name = refl
 
 leading_slash : in_node include_a (node (codes "/p/a/g") (codes "add") (from (codes "/p/a/f"))) ≡ []
@@ -198,6 +210,13 @@ number_left_out = refl
 
 node_in_first : dump_findings padded (version ∷ zero ∷ trunk ∷ []) ≡ DumpFinding.NodeInFirst ∷ []
 node_in_first = refl
+
+-- a node before any revision, and one behind a record that is none
+node_outside : dump_findings padded (version ∷ trunk ∷ zero ∷ []) ≡ DumpFinding.NodeOutside ∷ []
+node_outside = refl
+
+node_behind_another : dump_findings padded (zero ∷ one ∷ version ∷ trunk ∷ []) ≡ DumpFinding.NodeOutside ∷ []
+node_behind_another = refl
 
 -- where nodes may stand
 

@@ -9,6 +9,8 @@ use Rattle.dump_history.specs.DumpLaws.{LoadsRestricted}
 use Rattle.dump_history.specs.Findings.{Finding, AreFindingsOf}
 use Rattle.dump_history.specs.SurveyLaws.{HaveFindings}
 use Rattle.dump_history.proofs.restricted.LoadsOnce.{later_once}
+use Rattle.dump_history.specs.steps.MergeReading.{no_merge_faults}
+use Rattle.dump_history.proofs.survey.FindingLemmas.{faults_of_kept, faults_of_left}
 use Rattle.dump_history.proofs.survey.SurveyLemmas.{surveyed_dump}
 use Rattle.dump_history.proofs.values.WorkedDump.{records, dump, settings, trunk, other, copy, none_of, revisions, trees, loads}
 use Rattle.dump_history.proofs.values.WorkedFilter.{text, clean, lengths}
@@ -19,15 +21,15 @@ nothing = [] ∷ ([] ∷ []) ∷ ([] ∷ []) ∷ ([] ∷ []) ∷ []
 
 -- nothing is found in the kept folder
 pub in_trunk : AreFindingsOf settings trunk []
-in_trunk = (Some [], none_of trunk refl, refl)
+in_trunk = (Some [], no_merge_faults, none_of trunk refl, faults_of_kept settings trunk refl [] (none_of trunk refl), refl)
 
 -- nothing is found in the dropped folder
 pub in_other : AreFindingsOf settings other []
-in_other = (Some [], none_of other refl, refl)
+in_other = (Some [], no_merge_faults, none_of other refl, faults_of_left settings other refl, refl)
 
 -- nothing is found in the copy
 pub in_copy : AreFindingsOf settings copy []
-in_copy = (Some [], none_of copy refl, refl)
+in_copy = (Some [], no_merge_faults, none_of copy refl, faults_of_kept settings copy refl [] (none_of copy refl), refl)
 
 none_found : HaveFindings settings records nothing
 none_found = (tt, ((in_trunk, tt), ((in_other, tt), ((in_copy, tt), tt))))

@@ -3,8 +3,9 @@ use Rattle.std.specs.Prelude.{◌≡◌, Bool, List, Option, filter}
 use Rattle.dump_text.specs.PropertyList.{Property}
 use Rattle.dump_records.specs.RecordText.{DumpRecord}
 use Rattle.dump_rules.specs.Settings.{Settings}
-use Rattle.dump_history.specs.Findings.{Finding, every_finding, is_found, IsReadBlock}
+use Rattle.dump_history.specs.Findings.{Finding, every_finding, MergeFaults, AreMergeFaultsOf, is_found, IsReadBlock}
 use Rattle.dump_survey.specs.declared.finding.Found.{Found}
+use Rattle.dump_survey.specs.declared.refused_mergeinfo.MergeinfoFaults.{MergeinfoFaults}
 
 -- whether this is among what is found
 abbrev pub has_found : Found → Finding → Bool
@@ -13,6 +14,8 @@ has_found found Finding.Delta = found.obstacles.delta
 has_found found Finding.UnknownAction = found.obstacles.unknown_action
 has_found found Finding.OddText = found.obstacles.odd_text
 has_found found Finding.NoWholeFile = found.losses.no_whole_file
+has_found found Finding.UnreadMergeinfo = found.mergeinfo.unread
+has_found found Finding.MissingMergeSource = found.mergeinfo.missing
 has_found found Finding.PropertiesLost = found.losses.properties_lost
 has_found found Finding.CopyLoses = found.losses.copy_loses
 has_found found Finding.CopyLetsIn = found.losses.copy_lets_in
@@ -20,10 +23,15 @@ has_found found Finding.FolderTakes = found.losses.folder_takes
 has_found found Finding.FolderBrings = found.losses.folder_brings
 has_found found Finding.TextComesIn = found.losses.text_comes_in
 
+-- the faults of a node's mergeinfo
+abbrev pub merge_faults : MergeinfoFaults → MergeFaults
+merge_faults f = record { unread = f.unread; missing = f.missing }
+
 -- what is found is exactly what is found in the node
 abbrev pub IsFoundIn : Settings → DumpRecord → Found → Type 0
-IsFoundIn settings r found = (ps : Option (List Property)) → IsReadBlock r ps
-    → (finding : Finding) → has_found found finding ≡ is_found settings r ps finding
+IsFoundIn settings r found = AreMergeFaultsOf settings r (merge_faults found.mergeinfo)
+    × ((ps : Option (List Property)) → IsReadBlock r ps → (finding : Finding)
+    → has_found found finding ≡ is_found settings r ps (merge_faults found.mergeinfo) finding)
 
 -- what is found, in order
 abbrev pub listed : Found → List Finding

@@ -10,7 +10,14 @@ use Rattle.dump_survey.specs.declared.tally.Tally.{Tally}
 
 -- before the first record
 abbrev pub no_tally : Tally
-no_tally = record { count = 0; numbered = true; node_in_first = false; all_kept = true; present = None }
+no_tally = record {
+  count = 0;
+  numbered = true;
+  node_in_first = false;
+  node_outside = false;
+  all_kept = true;
+  present = None;
+}
 
 -- whether the present revision is kept, where it has no more nodes
 abbrev pub keeps_open : Settings → Option Present → Bool
@@ -27,13 +34,14 @@ revision_tally settings t r = record {
   count = t.count + 1;
   numbered = t.numbered && revision_number r == t.count;
   node_in_first = t.node_in_first;
+  node_outside = t.node_outside;
   all_kept = keeps_present settings t;
   present = Some (record { number = revision_number r; bare = true; kept = false });
 }
 
--- behind a node, which is kept or not
+-- behind a node, which is kept or not, and stands outside of any revision where none is present
 abbrev pub node_tally : Tally → Bool → Option Present → Tally
-node_tally t kept None = t
+node_tally t kept None = record t { node_outside = true }
 node_tally t kept (Some p) = record t {
   node_in_first = t.node_in_first || t.count == 1;
   present = Some (record { number = p.number; bare = false; kept = p.kept || kept });
@@ -60,6 +68,7 @@ abbrev pub is_tallied : Settings → Tally → DumpFinding → Bool
 is_tallied settings t DumpFinding.NoRevision = t.count == 0
 is_tallied settings t DumpFinding.OtherNumbers = not t.numbered
 is_tallied settings t DumpFinding.NodeInFirst = t.node_in_first
+is_tallied settings t DumpFinding.NodeOutside = t.node_outside
 is_tallied settings t DumpFinding.NumbersLeft = not settings.renumber && not (keeps_present settings t)
 
 -- what is found in the dump, where it ends here

@@ -138,6 +138,41 @@ fn copies_that_lose_their_source_are_found(rt: HostRuntime) -> Result<(), Fail> 
     )
 }
 
+// A node with mergeinfo of this path, and of no revision where there is no colon.
+const MERGED_FROM_TRUNK: &str =
+    "Node-path: trunk\nNode-action: change\nProp-content-length: 42\nContent-length: 42\n\n\
+    K 13\nsvn:mergeinfo\nV 8\n/trunk:1\nPROPS-END\n";
+
+const MERGED_FROM_O: &str =
+    "Node-path: trunk\nNode-action: change\nProp-content-length: 38\nContent-length: 38\n\n\
+    K 13\nsvn:mergeinfo\nV 4\n/o:1\nPROPS-END\n";
+
+const MERGED_WITHOUT_COLON: &str =
+    "Node-path: trunk\nNode-action: change\nProp-content-length: 40\nContent-length: 40\n\n\
+    K 13\nsvn:mergeinfo\nV 6\n/trunk\nPROPS-END\n";
+
+#[test]
+fn mergeinfo_at_which_the_filter_stops_is_found(rt: HostRuntime) -> Result<(), Fail> {
+    let rows = [
+        ("trunk", MERGED_FROM_TRUNK, [].as_slice()),
+        (
+            "trunk",
+            MERGED_FROM_O,
+            [NodeFinding::MissingMergeSource].as_slice(),
+        ),
+        (
+            "trunk",
+            MERGED_WITHOUT_COLON,
+            [NodeFinding::UnreadMergeinfo].as_slice(),
+        ),
+        ("o", MERGED_WITHOUT_COLON, [].as_slice()),
+    ];
+    for (prefix, node, wanted) in rows {
+        assert_found(&rt, rt.alloc(), Side::Include, prefix, node, wanted)?;
+    }
+    Ok(())
+}
+
 #[test]
 fn copies_that_are_cut_otherwise_are_found(rt: HostRuntime) -> Result<(), Fail> {
     let copy =

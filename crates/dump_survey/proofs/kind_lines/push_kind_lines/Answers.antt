@@ -1,4 +1,4 @@
-use Rattle.std.proofs.Common.{◌≡◌, ℕ, List, [], ◌∷◌, ◌++◌, flat_map, map, refl, ap, ◌∙◌, append-nil}
+use Rattle.std.proofs.Common.{List, [], ◌∷◌, ◌++◌, flat_map, map, refl, ap, ◌∙◌, append-nil}
 use Rattle.dump_history.specs.Findings.{every_finding}
 use Rattle.dump_survey.specs.declared.finding.NodeFinding.{NodeFinding}
 use Rattle.dump_survey.specs.declared.prefix_findings.PrefixFinding.TheVariants.{NotShort, Idle}

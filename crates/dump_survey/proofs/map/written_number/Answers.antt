@@ -1,4 +1,4 @@
-use Rattle.std.proofs.Common.{rules, ap, ◌+◌, ◌∙◌, nat_lt}
+use Rattle.std.proofs.Common.{rules, nat_lt}
 use Rattle.std.proofs.lemmas.List.Sorted.{IsPartitionPoint-from_clause, IsPartitionedBy-ltb}
 use Rattle.dump_rules.proofs.ReachLemmas.{count_at_point}
 use Rattle.dump_survey.proofs.map.written_number.Goals as goal
