@@ -1,0 +1,65 @@
+"""What the scripts ask of the repository's crates, and copies of them in which the toolchain can work."""
+import os
+import re
+import shutil
+
+TOP = os.path.realpath(os.path.join(os.path.dirname(os.path.abspath(__file__)), ".."))
+# what a check may take at the most
+BYTES = 4_000_000_000
+PARTS = ("src", "specs", "proofs")
+
+
+def path(*names):
+    return os.path.join(TOP, *names)
+
+
+def libraries():
+    """The libraries of each crate, as crates.txt has them."""
+    with open(path("crates.txt"), encoding="utf-8") as it:
+        lines = [line.partition("#")[0].strip() for line in it]
+    return {line.partition(":")[0]: line.partition(":")[2].split() for line in lines if line}
+
+
+def below(crate, known):
+    """The repository's crates that a crate stands on."""
+    found = set()
+    for name in known[crate]:
+        if name in known:
+            found |= {name} | below(name, known)
+    return found
+
+
+def lanes():
+    """How many checks may run beside each other: one a processor, as far as memory allows."""
+    with open("/proc/meminfo", encoding="ascii") as it:
+        free = 1024 * int(re.search(r"MemAvailable:\s+(\d+)", it.read())[1])
+    return max(1, min(len(os.sched_getaffinity(0)), free // BYTES))
+
+
+def linked(one, other):
+    """Gives a file a second name, or copies it: the toolchain makes a library's files anew, and writes into none."""
+    try:
+        os.link(one, other)
+    except OSError:
+        shutil.copyfile(one, other)
+
+
+def copied(name, folder, parts, copy=shutil.copy2):
+    """Copies parts of a crate, those that are there, into a folder."""
+    for part in parts:
+        if os.path.isdir(path("crates", name, part)):
+            shutil.copytree(path("crates", name, part), os.path.join(folder, "crates", name, part), copy_function=copy)
+
+
+def room(crate, known, folder):
+    """Copies a crate and what it stands on into a folder, a repository of its own with the libraries as they were built,
+    and gives the crate's folder there. The toolchain works in a crate and those below it in one run at a time; so it can
+    work in the copy beside others."""
+    for name in ("crates.txt", "HANDLES"):
+        shutil.copy(path(name), folder)
+    os.mkdir(os.path.join(folder, ".git"))
+    for name in known:
+        copied(name, folder, PARTS)
+    for name in below(crate, known):
+        copied(name, folder, ["out/rlib"], linked)
+    return os.path.join(folder, "crates", crate)
