@@ -4,3 +4,6 @@ pub mod FrontSize
 pub mod FilteredLaw
 pub mod RaisedLemmas
 pub mod FolderLaw
+pub mod PartNumbers
+pub mod PartChanges
+pub mod PartLaw

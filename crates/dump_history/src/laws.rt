@@ -1,5 +1,6 @@
 //! Laws of dumps and the repositories that they make, each the contract of a function that does nothing.
 ghost use Rattle.dump_history.specs.DumpLaws.{DumpLoadsOnce, DumpLoadsTheSameBehindOthers, FilteredDumpRestricts, PlainRevisionsStay, FilteredDumpFrontRestricts, QuietDumpRestricts, QuietDumpRestrictsBehindFolders, QuietDumpFrontRestricts};
+ghost use Rattle.dump_history.specs.PartLaws.{FilteredPartRestricts, QuietPartRestricts};
 ghost use Rattle.dump_history.specs.SurveyLaws.{AlarmsAreExact, FindingsAreOnce, ObstaclesAreExact, SurveyedDumpRestricts, SurveyedDumpFrontRestricts};
 
 /// What the filter writes of a dump without a fault, loaded over the given folders, has the trees that the whole dump
@@ -23,6 +24,12 @@ pub fn each_filtered_front_restricts()
 /// has the restricted trees, each one revision later, and the numbers in mergeinfo are higher by one.
 pub fn each_dump_restricts_behind_folders()
     ensures { QuietDumpRestrictsBehindFolders }
+{}
+
+/// A part of a history, which begins above revision 0, has the law too: loaded over the given folders, or behind them.
+pub fn each_part_restricts()
+    ensures separated { FilteredPartRestricts }
+    ensures quiet { QuietPartRestricts }
 {}
 
 /// A dump has one list of records, revisions and trees.

@@ -89,7 +89,8 @@ module _ (patched : Patching) (settings : Settings) where
       let numbers = numbers_are (groups records) revisions (groups_are records).1 numbered make in
       λ i. record { first = first i; numbers = numbers i }
 
-  all_later : (n : ℕ) (gs : List Group) (revisions : List (List Change)) → AllHaveNodes gs
+  -- all groups above 0 are kept where their revisions are
+  pub all_later : (n : ℕ) (gs : List Group) (revisions : List (List Change)) → AllHaveNodes gs
       → AreNumberedFrom (suc n) gs → GroupsMake patched gs revisions
       → list_all (keeps_group settings) gs ≡ list_all (keeps_revision settings (empty_rule settings)) revisions
   all_later n [] [] are numbered make = refl

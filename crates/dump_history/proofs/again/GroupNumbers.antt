@@ -67,20 +67,21 @@ module _ (settings : Settings) where
         → group_number h ≡ written_number settings kept (group_number g)
     number_again g h rev read = read.revision.number rev
 
-    -- with renumbering: the groups that are read again are numbered on from the count of the kept ones before them
-    pub renumbered_again : settings.renumber ≡ true → kept.first ≡ 0 → (n : ℕ) (earlier : List ℕ)
+    -- with renumbering: the groups that are read again are numbered on from the dump's first number, and the count of
+    -- the kept ones before them
+    pub renumbered_again : settings.renumber ≡ true → (first : ℕ) → kept.first ≡ first → (n : ℕ) (earlier : List ℕ)
         (gs again : List Group)
         → kept.numbers ≡ earlier ++ kept_numbers gs → AreBelow n earlier → AllRevisions gs → AreNumberedFrom n gs
-        → AreGroupsAgain settings kept gs again → AreNumberedFrom (length earlier) again
-    renumbered_again renumber zero_first n earlier [] again at below revs numbered none =
-        subst (AreNumberedFrom (length earlier)) (sym none) tt
-    renumbered_again renumber zero_first n earlier (g ∷ gs) again at below revs numbered this =
+        → AreGroupsAgain settings kept gs again → AreNumberedFrom (first + length earlier) again
+    renumbered_again renumber first first_is n earlier [] again at below revs numbered none =
+        subst (AreNumberedFrom (first + length earlier)) (sym none) tt
+    renumbered_again renumber first first_is n earlier (g ∷ gs) again at below revs numbered this =
         by_kept (keeps_group settings g) refl this
-        (λ more now later reads. renumbered_again renumber zero_first (suc n) more gs later now.0 now.1 revs.1
+        (λ more now later reads. renumbered_again renumber first first_is (suc n) more gs later now.0 now.1 revs.1
         numbered.1 reads)
       where
         counted : (h : Group) → keeps_group settings g ≡ true → IsGroupAgain settings kept g h
-            → group_number h ≡ length earlier
+            → group_number h ≡ first + length earlier
         counted h keep read =
             let list : kept.numbers ≡ earlier ++ n ∷ kept_numbers gs =
             at ∙ ap (λ ks. earlier ++ ks) (kept_first g gs true keep
@@ -89,8 +90,11 @@ module _ (settings : Settings) where
             number_again g h revs.0 read
             ∙ ap (λ b. if b then new_number kept (group_number g) else group_number g) renumber
             ∙ ap (new_number kept) numbered.0
-            ∙ ap₂ (λ f ks. f + count_by (λ k. nat_lt k n) ks) zero_first list
-            ∙ ap (λ c. 0 + c) (all_counted n earlier (kept_numbers gs) below high) ∙ omega arith
+            ∙ ap₂ (λ f ks. f + count_by (λ k. nat_lt k n) ks) first_is list
+            ∙ ap (λ c. first + c) (all_counted n earlier (kept_numbers gs) below high)
+
+        one_more : first + length (earlier ++ n ∷ []) ≡ suc (first + length earlier)
+        one_more = ap (λ l. first + l) (length_push earlier n) ∙ omega arith
 
         by_kept : (b : Bool) → keeps_group settings g ≡ b
             → MatchBool b
@@ -98,14 +102,15 @@ module _ (settings : Settings) where
             × AreGroupsAgain settings kept gs rest)
             (AreGroupsAgain settings kept gs again)
             → ((more : List ℕ) → (kept.numbers ≡ more ++ kept_numbers gs) × AreBelow (suc n) more
-            → (later : List Group) → AreGroupsAgain settings kept gs later → AreNumberedFrom (length more) later)
-            → AreNumberedFrom (length earlier) again
+            → (later : List Group) → AreGroupsAgain settings kept gs later
+            → AreNumberedFrom (first + length more) later)
+            → AreNumberedFrom (first + length earlier) again
         by_kept true keep (h, rest, same, read, reads) later =
             let list = at ∙ ap (λ ks. earlier ++ ks) (kept_first g gs true keep
             ∙ ap (λ k. k ∷ kept_numbers gs) numbered.0) ∙ sym (append_assoc earlier (n ∷ []) (kept_numbers gs)) in
             let more = later (earlier ++ n ∷ []) (list, below_pushed n earlier below) rest reads in
-            subst (AreNumberedFrom (length earlier)) (sym same)
-            (counted h keep read, subst (λ (m : ℕ). AreNumberedFrom m rest) (length_push earlier n) more)
+            subst (AreNumberedFrom (first + length earlier)) (sym same)
+            (counted h keep read, subst (λ (m : ℕ). AreNumberedFrom m rest) one_more more)
         by_kept false drop reads later =
             later earlier (at ∙ ap (λ ks. earlier ++ ks) (kept_first g gs false drop), below_next n earlier below)
             again reads

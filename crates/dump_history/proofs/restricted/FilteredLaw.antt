@@ -62,7 +62,7 @@ module _ (patched : Patching) (settings : Settings) (dump text : List ℕ) (reco
   numbers_again again reads = cases settings.renumber refl
     where
       cases : (b : Bool) → settings.renumber ≡ b → AreNumberedFrom 0 again
-      cases true renumber = renumbered_again settings kept renumber (ap (λ (k : KeptRevisions). k.first) same_kept)
+      cases true renumber = renumbered_again settings kept renumber 0 (ap (λ (k : KeptRevisions). k.first) same_kept)
           0 [] (groups records) again refl refl (groups_are records).0 numbered reads
       cases false stays = same_again settings kept stays 0 (groups records) again
           (sym (ap (λ b. b || list_all (keeps_group settings) (groups records)) stays) ∙ keeps)

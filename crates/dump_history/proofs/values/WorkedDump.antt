@@ -113,10 +113,10 @@ revisions = (folder (codes "trunk") (Some Made.NewFolder) ∷ [])
 pub none_of : (r : DumpRecord) → r.props ≡ [] → HasPropertyList r []
 none_of r empty = (inl (empty, refl), λ deletes. cc)
 
-makes_trunk : (patched : Patching) → MakesChange patched trunk (folder (codes "trunk") (Some Made.NewFolder))
+pub makes_trunk : (patched : Patching) → MakesChange patched trunk (folder (codes "trunk") (Some Made.NewFolder))
 makes_trunk patched = ([], none_of trunk refl, refl, refl)
 
-makes_other : (patched : Patching) → MakesChange patched other (folder (codes "other") (Some Made.NewFolder))
+pub makes_other : (patched : Patching) → MakesChange patched other (folder (codes "other") (Some Made.NewFolder))
 makes_other patched = ([], none_of other refl, refl, refl)
 
 makes_copy : (patched : Patching) → MakesChange patched copy

@@ -1,0 +1,242 @@
+-- The law of a part of a history.
+use Rattle.std.proofs.Common.{◌≡◌, ℕ, suc, ◌+◌, Bool, true, false, not, ◌&&◌, ◌||◌, ◌==◌, ◌⊎◌, List, [], ◌∷◌, Option, Some, None, IsSome, is_some, length, map, filter, bytes_eq, MatchBool, refl, sym, ap, ◌∙◌, subst, inl, inr, arith}
+use Rattle.std.specs.List.{list_all}
+use Rattle.std.proofs.lemmas.List.{length-map}
+use Rattle.dump_text.specs.PropertyList.{Property}
+use Rattle.dump_records.specs.DumpText.{Ending, HasRecords, IsCutInto}
+use Rattle.dump_records.specs.RecordText.{DumpRecord}
+use Rattle.dump_rules.specs.Settings.{Settings}
+use Rattle.dump_rules.specs.Renumbering.{KeptRevisions, image}
+use Rattle.dump_digest.specs.RecordParts.{is_mergeinfo, mergeinfo_name}
+use Rattle.dump_filter.specs.FilterLaws.{LengthsFit}
+use Rattle.dump_filter.specs.Groups.{Group, groups, group_number, keeps_group, first_number, kept_revisions}
+use Rattle.dump_filter.specs.NewContent.{IsNewProperty}
+use Rattle.dump_filter.specs.NewHeaders.{IsWrittenCopyNumber}
+use Rattle.dump_filter.specs.WholeText.{IsCleanText}
+use Rattle.dump_filter.proofs.knowing.Answered.{AllLawful, all_lawful}
+use Rattle.dump_filter.proofs.again.ReadAgain.{AreReadAgain}
+use Rattle.dump_filter.proofs.again.OwnTextLaw.{reads_again}
+use Rattle.dump_trees.specs.Trees.{Tree, root_alone}
+use Rattle.dump_trees.specs.Changes.{Change}
+use Rattle.dump_trees.specs.Restriction.{given, NewProperty, KeepsEntries}
+use Rattle.dump_trees.specs.HistoryLaws.{ImagesRestrict}
+use Rattle.dump_trees.specs.MovedLaws.{revisions_behind}
+use Rattle.dump_trees.specs.Revisions.{loaded_over, keeps_revision, AreNewRevisions, kept_from, kept_of, IsWrittenNumber}
+use Rattle.dump_trees.proofs.paths.GivenFolders.{given_folders}
+use Rattle.dump_trees.proofs.histories.AlikeLemmas.{loads_alike, given_alike, both_restrict}
+use Rattle.dump_trees.proofs.histories.HistoryLemmas.{history}
+use Rattle.dump_trees.proofs.histories.KeptNumbers.{AreAbove, kept_above}
+use Rattle.dump_trees.proofs.quiet.QuietLemmas.{all_quiet}
+use Rattle.dump_history.specs.RecordChanges.{Patching}
+use Rattle.dump_history.specs.RaisedMergeinfo.{IsRaised}
+use Rattle.dump_history.specs.DumpLaws.{keeps_numbering, RevisionsKeepProperties}
+use Rattle.dump_history.specs.PartLaws.{MakePartRevisions, IsLoadedProperty, IsLoadedBehindOne, kept_as_loaded, PartLoadsBehind, FilteredPartRestricts, QuietPartRestricts}
+use Rattle.dump_history.proofs.again.NodeChanges.{entries_kept}
+use Rattle.dump_history.proofs.again.GroupsAgain.{keeps_first, AreGroupsAgain, groups_again}
+use Rattle.dump_history.proofs.again.GroupChanges.{GroupsMake, empty_rule, AreNumberedFrom, groups_change}
+use Rattle.dump_history.proofs.again.GroupNumbers.{renumbered_again, same_again, kept_numbers_are, properties_again}
+use Rattle.dump_history.proofs.again.OrderAgain.{none_behind, order_again}
+use Rattle.dump_history.proofs.again.DumpAgain.{groups_are, numbered_from, counted_from, all_later}
+use Rattle.dump_history.proofs.restricted.RaisedLemmas.{raised_entries}
+use Rattle.dump_history.proofs.restricted.PartNumbers.{raised_image, kept_raised, kept_from_raised, all_raised, kept_loaded}
+use Rattle.dump_history.proofs.restricted.PartChanges.{revisions_lowered}
+use Rattle.dump_text.proofs.BoolLemmas.{absurd_bool, first_true, second_true}
+
+-- the first number of groups that are numbered on from a number, if there are some
+first_is : (n : ℕ) (gs : List Group) → AreNumberedFrom n gs → (first_number (map group_number gs) ≡ n) ⊎ (gs ≡ [])
+first_is n [] numbered = inr refl
+first_is n (g ∷ gs) numbered = inl numbered.0
+
+-- the clean text that the filter writes of a part that makes these revisions
+module _ (patched : Patching) (before : ℕ) (settings : Settings) (dump text : List ℕ) (records : List DumpRecord)
+    (revisions : List (List Change))
+    (clean : IsCleanText settings dump records text) (fit : LengthsFit settings records)
+    (keeps : keeps_numbering settings records ≡ true) (makes : MakePartRevisions patched before records revisions) where
+  abbrev kept : KeptRevisions
+  kept = kept_revisions settings records
+
+  -- the kept revisions, numbered as the load numbers them
+  abbrev loaded_kept : KeptRevisions
+  loaded_kept = kept_of settings (empty_rule settings) revisions
+
+  abbrev loaded_numbers : List ℕ
+  loaded_numbers = kept_from settings (empty_rule settings) 1 revisions
+
+  lawful : AllLawful records
+  lawful = all_lawful 0 0 dump [] records
+      (subst (λ (rest : List ℕ). IsCutInto 0 0 dump records rest) clean.whole.3.0 clean.whole.1)
+
+  numbered : AreNumberedFrom (suc before) (groups records)
+  numbered = numbered_from (suc before) (groups records) makes.numbered
+
+  pub numbers_are : kept.numbers ≡ map (λ k. before + k) loaded_numbers
+  numbers_are =
+      kept_numbers_are settings patched before (groups records) (revisions_behind before revisions)
+      (groups_are records).1 numbered makes.changes
+      ∙ ap (λ n. kept_from settings (empty_rule settings) n (revisions_behind before revisions))
+      (let same : suc before ≡ before + 1 = omega arith in same)
+      ∙ kept_from_raised settings before 1 revisions
+
+  above : AreAbove 0 loaded_numbers
+  above = kept_above settings (empty_rule settings) 0 1 revisions (omega arith)
+
+  -- revisions are renumbered, or none is dropped
+  pub keeps_changes : (settings.renumber || list_all (keeps_revision settings (empty_rule settings)) revisions) ≡ true
+  keeps_changes = ap (λ b. settings.renumber || b)
+      (sym (all_later patched settings before (groups records) (revisions_behind before revisions)
+      (groups_are records).1 numbered makes.changes ∙ all_raised settings before revisions)) ∙ keeps
+
+  -- the number of a copy is written so that the load finds the right one
+  written_number : (n new : ℕ) → IsWrittenCopyNumber settings kept (before + n) new
+      → (low : ℕ) × (new ≡ before + low) × IsWrittenNumber settings loaded_kept n low
+  written_number n new is = cases settings.renumber is
+    where
+      no_image : groups records ≡ [] → image kept (before + n) ≡ None
+      no_image none = ap (λ (gs : List Group). image (kept_of_groups gs) (before + n)) none
+        where
+          kept_of_groups : List Group → KeptRevisions
+          kept_of_groups gs = record {
+            first = first_number (map group_number gs);
+            numbers = map group_number (filter (keeps_group settings) gs);
+          }
+
+      cases : (b : Bool) → MatchBool b (image kept (before + n) ≡ Some new) (new ≡ before + n)
+          → (low : ℕ) × (new ≡ before + low) × MatchBool b (image loaded_kept n ≡ Some low) (low ≡ n)
+      cases true at =
+          elim (first_is (suc before) (groups records) numbered) [
+            | inl first ↦ raised_image before n new kept loaded_numbers above first numbers_are at
+            | inr none ↦ absurd (let bad : None ≡ Some new = sym (no_image none) ∙ at in cc)
+          ]
+      cases false same = (n, same, refl)
+
+  numbers_again : (again : List Group) → AreGroupsAgain settings kept (groups records) again
+      → AreNumberedFrom (suc before) again
+  numbers_again again reads = cases settings.renumber refl
+    where
+      cases : (b : Bool) → settings.renumber ≡ b → AreNumberedFrom (suc before) again
+      cases true renumber =
+          elim (first_is (suc before) (groups records) numbered) [
+            | inl first ↦ subst (λ n. AreNumberedFrom n again)
+                (let same : suc before + length {A = ℕ} [] ≡ suc before = omega arith in same)
+                (renumbered_again settings kept renumber (suc before) first (suc before) [] (groups records) again refl
+                refl (groups_are records).0 numbered reads)
+            | inr none ↦ subst (AreNumberedFrom (suc before))
+                (sym (subst (λ gs. AreGroupsAgain settings kept gs again) none reads)) tt
+          ]
+      cases false stays = same_again settings kept stays (suc before) (groups records) again
+          (sym (ap (λ b. b || list_all (keeps_group settings) (groups records)) stays) ∙ keeps)
+          (groups_are records).0 numbered reads
+
+  -- the text is a part that makes what the filter leaves of the revisions
+  pub record IsPartLeft : Type 0 where
+    pub again : List DumpRecord
+    pub has : HasRecords text again Ending.Whole
+    pub written : List (List Change)
+    pub makes_again : MakePartRevisions patched before again written
+    pub new : AreNewRevisions settings (IsNewProperty settings (kept_revisions settings records))
+        (IsWrittenNumber settings (kept_of settings (empty_rule settings) revisions)) (empty_rule settings)
+        revisions written
+    pub properties : RevisionsKeepProperties settings records again
+
+  pub part_left : IsPartLeft
+  part_left =
+      let (again, has, reads) = reads_again settings dump text records clean fit in
+      let read_groups = groups_again settings kept records text again lawful reads in
+      let (raised, make, new) = groups_change patched settings kept before (groups records) (groups again)
+      (revisions_behind before revisions) (groups_are records).1 numbered read_groups makes.changes in
+      let (written, raised_is, are_new) = revisions_lowered settings (IsNewProperty settings kept) before
+      (IsWrittenCopyNumber settings kept) (IsWrittenNumber settings loaded_kept) written_number (empty_rule settings)
+      (kept_raised settings before) revisions raised new in
+      record {
+        again = again;
+        has = has;
+        written = written;
+        makes_again = record {
+          numbered = counted_from (suc before) (groups again) (numbers_again (groups again) read_groups);
+          ordered = order_again settings kept false false records text again lawful makes.ordered
+              (λ first. absurd (absurd_bool (keeps_first settings kept records) first
+              (none_behind settings kept records makes.ordered))) reads;
+          changes = subst (GroupsMake patched (groups again)) raised_is make;
+        };
+        new = are_new;
+        properties = properties_again settings kept (groups records) (groups again) (groups_are records).0 read_groups;
+      }
+
+-- properties that are loaded keep their names, and have a value where they had one
+
+loaded_entries : (before : ℕ) → KeepsEntries (IsLoadedProperty before)
+loaded_entries before old new (name, value) = (name, cases (is_mergeinfo old && not (before == 0)) refl value)
+  where
+    cases : (b : Bool) → (is_mergeinfo old && not (before == 0)) ≡ b
+        → MatchBool b (IsSome new.value) (new.value ≡ old.value) → is_some new.value ≡ is_some old.value
+    cases true is some =
+        let merges = first_true (is_mergeinfo old) (not (before == 0)) is in
+        some ∙ sym (second_true (bytes_eq old.name mergeinfo_name) (is_some old.value) merges)
+    cases false is same = ap (λ v. is_some v) same
+
+loaded_behind_one : (before : ℕ) → KeepsEntries (IsLoadedBehindOne before)
+loaded_behind_one before old new = cases (before == 0)
+  where
+    cases : (b : Bool) → MatchBool b (IsRaised 1 old new) (IsLoadedProperty before old new)
+        → (new.name ≡ old.name) × (is_some new.value ≡ is_some old.value)
+    cases true raised = raised_entries 1 old new raised
+    cases false loaded = loaded_entries before old new loaded
+
+-- what has the restricted trees in a new repository has them with the properties that a load makes, and behind others
+part_behind : (IsLoaded : NewProperty) → KeepsEntries IsLoaded → (older : List Tree) (before : ℕ) (settings : Settings)
+    (records : List DumpRecord) (trees others : List Tree) (written : List (List Change))
+    → loaded_over (given settings) written ≡ Some others
+    → length others ≡ suc (length (kept_revisions settings records).numbers)
+    → ImagesRestrict settings (IsNewProperty settings (kept_revisions settings records))
+    (image (kept_as_loaded before (kept_revisions settings records))) trees others
+    → PartLoadsBehind IsLoaded older before settings records trees written
+part_behind IsLoaded entries older before settings records trees others written loads size images moved behind =
+    let (later, loaded_are, same_size, alike) = loads_alike IsLoaded entries older (given settings) written moved others
+    (given_folders settings) (given_alike settings IsLoaded) behind loads in (
+      later,
+      loaded_are,
+      same_size ∙ size,
+      λ number tree at.
+          let (new, middle, image_is, stands, restricted) = images number tree at in
+          let (other, there, same) = alike new middle stands in (
+            new,
+            other,
+            image_is,
+            there,
+            both_restrict (IsNewProperty settings (kept_revisions settings records)) IsLoaded settings tree middle other
+                restricted same,
+          ),
+    )
+
+-- a part that loads, and whose changes are separated: what is written of it loads, and has the restricted trees
+pub filtered_part_restricts : FilteredPartRestricts
+filtered_part_restricts patched before settings dump text records revisions trees clean fit keeps loads apart =
+    let left = part_left patched before settings dump text records revisions clean fit keeps loads.makes in
+    let (others, loaded, size, images) = history settings
+    (IsNewProperty settings (kept_revisions settings records))
+    (entries_kept settings (kept_revisions settings records)) (empty_rule settings) revisions left.written trees
+    (keeps_changes patched before settings dump text records revisions clean fit keeps loads.makes) loads.loads apart
+    left.new in
+    let numbers = numbers_are patched before settings dump text records revisions clean fit keeps loads.makes in
+    let same_size = size ∙ ap suc (sym (ap length numbers
+    ∙ length-map (kept_from settings (empty_rule settings) 1 revisions) (λ k. before + k))) in
+    let same_images = subst (λ (k : KeptRevisions). ImagesRestrict settings
+    (IsNewProperty settings (kept_revisions settings records)) (image k) trees others)
+    (sym (kept_loaded before (kept_revisions settings records)
+    (kept_from settings (empty_rule settings) 1 revisions) numbers)) images in (
+      left.again,
+      left.written,
+      left.has,
+      left.makes_again,
+      part_behind (IsLoadedProperty before) (loaded_entries before) [] before settings records trees others left.written
+          loaded same_size same_images,
+      part_behind (IsLoadedBehindOne before) (loaded_behind_one before) (root_alone ∷ []) before settings records trees
+          others left.written loaded same_size same_images,
+      left.properties,
+    )
+
+-- the same of a part of quiet changes
+pub quiet_part_restricts : QuietPartRestricts
+quiet_part_restricts patched before settings dump text records revisions trees clean fit keeps loads quiet over =
+    filtered_part_restricts patched before settings dump text records revisions trees clean fit keeps loads
+    (all_quiet settings (root_alone ∷ []) root_alone revisions quiet over)
