@@ -1,3 +1,4 @@
 -- What a survey finds is exact, and where it finds nothing the law has its premise.
 pub mod FindingLemmas
+pub mod PartLemmas
 pub mod SurveyLemmas

@@ -1,7 +1,8 @@
 -- What a survey finds in a dump before it is filtered: where the loaded repository may not be the one that is meant. A
 -- program can tell all of it in one pass, node by node, by header lines, properties and prefixes alone; no text of a
 -- file and no tree is asked for, so what is found may do no harm: nothing may stand where a prefix points.
-use Rattle.std.specs.Prelude.{◌≡◌, ◌↔◌, ℕ, Bool, true, false, not, ◌&&◌, ◌==◌, List, [], ◌∷◌, length, filter, Option, Some, None, unwrap_or, is_none, IsTrue}
+use Rattle.std.specs.Prelude.{◌≡◌, ◌↔◌, ℕ, Bool, true, false, not, ◌&&◌, ◌==◌, List, [], ◌∷◌, length, filter, nat_lt, Option, Some, None, unwrap_or, is_none, IsTrue}
+use Rattle.std.specs.List.{list_any}
 use Rattle.dump_text.specs.declared.fault.FaultKind.TheVariants.{MergeInfo, MergeSource}
 use Rattle.dump_text.specs.Names.{property_length_name}
 use Rattle.dump_text.specs.HeaderLine.{has_header}
@@ -11,13 +12,13 @@ use Rattle.dump_rules.specs.declared.options.Side.{Side}
 use Rattle.dump_rules.specs.declared.options.Side.TheVariants.{Include, Exclude}
 use Rattle.dump_rules.specs.Settings.{Settings, keeps_path}
 use Rattle.dump_digest.specs.RecordParts.{is_copy, node_path, has_lost_source, HasPropertyList, HasPropertyBlock}
-use Rattle.dump_filter.specs.Groups.{Group, groups, revision_numbers, is_bare}
+use Rattle.dump_filter.specs.Groups.{Group, groups, revision_numbers, first_number, is_bare}
 use Rattle.dump_filter.specs.NewHeaders.{is_whole_file, becomes_plain}
 use Rattle.dump_filter.specs.RecordFaults.{HoldsOfRecord}
 use Rattle.dump_trees.specs.Paths.{path_of}
 use Rattle.dump_trees.specs.Restriction.{is_above_some}
 use Rattle.dump_trees.specs.Quiet.{cuts_alike}
-use Rattle.dump_history.specs.RecordChanges.{copy_path, deletes, makes, has_known_action, has_odd_delta, has_plain_texts}
+use Rattle.dump_history.specs.RecordChanges.{copy_path, copy_revision, deletes, makes, has_known_action, has_odd_delta, has_plain_texts}
 use Rattle.dump_history.specs.DumpChanges.{counts_from, has_ordered_nodes}
 use Rattle.dump_history.specs.DumpLaws.{keeps_numbering}
 
@@ -154,10 +155,12 @@ is_alarm _ = false
 pub data DumpFinding : Type 0 where
   -- it has no revision
   NoRevision : DumpFinding
-  -- its revisions aren't numbered 0, 1, 2 and so on
+  -- its revisions aren't numbered on, one by one, from the number of the first one
   OtherNumbers : DumpFinding
-  -- its first revision has a node
+  -- its first revision is revision 0, and has a node
   NodeInFirst : DumpFinding
+  -- a node of a revision is a copy from one before the first revision
+  SourceBefore : DumpFinding
   -- a node stands outside of any revision, at which the filter stops
   NodeOutside : DumpFinding
   -- a revision is dropped, and the others aren't renumbered, be there copies behind it or not
@@ -166,19 +169,33 @@ pub data DumpFinding : Type 0 where
 -- each of them, in order
 abbrev pub every_dump_finding : List DumpFinding
 every_dump_finding =
-    DumpFinding.NoRevision ∷ DumpFinding.OtherNumbers ∷ DumpFinding.NodeInFirst ∷ DumpFinding.NodeOutside
-    ∷ DumpFinding.NumbersLeft ∷ []
+    DumpFinding.NoRevision ∷ DumpFinding.OtherNumbers ∷ DumpFinding.NodeInFirst ∷ DumpFinding.SourceBefore
+    ∷ DumpFinding.NodeOutside ∷ DumpFinding.NumbersLeft ∷ []
 
 -- whether the first group, if there is one, has a node
 abbrev pub first_has_node : List Group → Bool
 first_has_node [] = false
 first_has_node (g ∷ gs) = not (is_bare g)
 
+-- the number of the dump's first revision, or 0 where there is none
+abbrev pub begins_at : List DumpRecord → ℕ
+begins_at records = first_number (revision_numbers records)
+
+-- whether the node makes a copy from a revision before this one
+abbrev pub copies_from_before : ℕ → DumpRecord → Bool
+copies_from_before first r = makes_copy r && nat_lt (copy_revision r) first
+
+-- whether a node of these groups does
+abbrev pub has_source_before : ℕ → List Group → Bool
+has_source_before first gs = list_any (λ (g : Group). list_any (copies_from_before first) g.nodes) gs
+
 -- whether this is found in the dump
 abbrev pub is_found_in_dump : Settings → List DumpRecord → DumpFinding → Bool
 is_found_in_dump settings records DumpFinding.NoRevision = length (groups records) == 0
-is_found_in_dump settings records DumpFinding.OtherNumbers = not (counts_from 0 (revision_numbers records))
-is_found_in_dump settings records DumpFinding.NodeInFirst = first_has_node (groups records)
+is_found_in_dump settings records DumpFinding.OtherNumbers =
+    not (counts_from (begins_at records) (revision_numbers records))
+is_found_in_dump settings records DumpFinding.NodeInFirst = begins_at records == 0 && first_has_node (groups records)
+is_found_in_dump settings records DumpFinding.SourceBefore = has_source_before (begins_at records) (groups records)
 is_found_in_dump settings records DumpFinding.NodeOutside = not (has_ordered_nodes Bool.false records)
 is_found_in_dump settings records DumpFinding.NumbersLeft = not (keeps_numbering settings records)
 

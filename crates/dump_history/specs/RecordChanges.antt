@@ -48,9 +48,13 @@ made_by_kind r =
 abbrev pub copy_path : DumpRecord → List ℕ
 copy_path r = unwrap_or (header_value copy_path_name r.headers) []
 
+-- the number of the revision that the node is copied from
+abbrev pub copy_revision : DumpRecord → ℕ
+copy_revision r = unwrap_or (header_number copy_revision_name r.headers) 0
+
 -- the copy that the node's copy source tells
 abbrev pub copied_from : DumpRecord → Made
-copied_from r = Made.Copied (unwrap_or (header_number copy_revision_name r.headers) 0) (path_of (copy_path r))
+copied_from r = Made.Copied (copy_revision r) (path_of (copy_path r))
 
 -- what the node makes; a copy's kind isn't asked, and a copy source counts where something is made
 abbrev pub made_of : DumpRecord → Option Made

@@ -1,5 +1,5 @@
 -- The laws of the survey: where nothing is found, the law of filtered dumps has its premise.
-use Rattle.std.specs.Prelude.{◌≡◌, ℕ, Bool, not, List, [], ◌∷◌, ◌++◌, length, Option, Some, IsTrue, IsFalse}
+use Rattle.std.specs.Prelude.{◌≡◌, ℕ, zero, suc, Bool, not, List, [], ◌∷◌, ◌++◌, length, Option, Some, IsTrue, IsFalse}
 use Rattle.std.specs.List.{AllZip, list_all, list_any}
 use Rattle.dump_text.specs.PropertyList.{Property}
 use Rattle.dump_records.specs.RecordText.{DumpRecord}
@@ -14,7 +14,8 @@ use Rattle.dump_trees.specs.Revisions.{loaded_over}
 use Rattle.dump_history.specs.RecordChanges.{Patching, MakesChange}
 use Rattle.dump_history.specs.DumpChanges.{MakeRevisions}
 use Rattle.dump_history.specs.DumpLaws.{LoadsRestricted, FrontLoadsRestricted}
-use Rattle.dump_history.specs.Findings.{Finding, MergeFaults, findings_of, IsReadBlock, AreFindingsOf, is_obstacle, is_alarm, dump_findings}
+use Rattle.dump_history.specs.PartLaws.{MakePartRevisions, PartLoadsRestricted}
+use Rattle.dump_history.specs.Findings.{begins_at, Finding, MergeFaults, findings_of, IsReadBlock, AreFindingsOf, is_obstacle, is_alarm, dump_findings}
 
 -- each node has one list of findings
 abbrev pub FindingsAreOnce : Type 0
@@ -44,27 +45,42 @@ HaveFindings settings records found =
 abbrev pub none_is : (Finding → Bool) → List (List (List Finding)) → Bool
 none_is test found = list_all (λ fs. list_all (λ node. not (list_any test node)) fs) found
 
+-- the dump, which begins at this number, makes revisions; and if it loads and makes no copy that loses its source over
+-- something, what is written of it has the restricted trees
+abbrev pub RestrictsFrom : Patching → Settings → List DumpRecord → List ℕ → ℕ → Type 0
+RestrictsFrom patched settings records text zero =
+    (revisions : List (List Change)) × MakeRevisions patched records revisions
+    × ((trees : List Tree) → loaded_over root_alone revisions ≡ Some trees
+    → IsTrue (nowhere_is_over settings (root_alone ∷ []) root_alone revisions)
+    → LoadsRestricted patched settings records trees text)
+RestrictsFrom patched settings records text (suc before) =
+    (revisions : List (List Change)) × MakePartRevisions patched before records revisions
+    × ((trees : List Tree) → loaded_over root_alone revisions ≡ Some trees
+    → IsTrue (nowhere_is_over settings (root_alone ∷ []) root_alone revisions)
+    → PartLoadsRestricted patched before settings records trees text)
+
+-- so does the dump from its own first number on
+abbrev pub DumpRestricts : Patching → Settings → List DumpRecord → List ℕ → Type 0
+DumpRestricts patched settings records text = RestrictsFrom patched settings records text (begins_at records)
+
 -- where the filter's answer is clean, and the survey finds nothing in the dump, and no obstacle and no alarm in its
--- nodes: the dump makes revisions, and if it loads and makes no copy that loses its source over something, what is
--- written of it has the restricted trees
+-- nodes, the dump is restricted, be it a whole one or a part of a history
 abbrev pub SurveyedDumpRestricts : Type 0
 SurveyedDumpRestricts = (patched : Patching) (settings : Settings) (dump text : List ℕ) (records : List DumpRecord)
     (found : List (List (List Finding))) →
     IsCleanText settings dump records text → LengthsFit settings records
     → dump_findings settings records ≡ [] → HaveFindings settings records found
     → IsTrue (none_is is_obstacle found) → IsTrue (none_is is_alarm found)
-    → (revisions : List (List Change)) × MakeRevisions patched records revisions
-    × ((trees : List Tree) → loaded_over root_alone revisions ≡ Some trees
-    → IsTrue (nowhere_is_over settings (root_alone ∷ []) root_alone revisions)
-    → LoadsRestricted patched settings records trees text)
+    → DumpRestricts patched settings records text
 
--- the same of the first revisions where only behind them alarms are found; the first list is what is found in
--- revision 0
+-- the same of the first revisions of a dump that begins at revision 0 where only behind them alarms are found; the
+-- first list is what is found in revision 0
 abbrev pub SurveyedDumpFrontRestricts : Type 0
 SurveyedDumpFrontRestricts = (patched : Patching) (settings : Settings) (dump text : List ℕ) (records : List DumpRecord)
     (first : List (List Finding)) (found behind : List (List (List Finding))) →
     IsCleanText settings dump records text → LengthsFit settings records
-    → dump_findings settings records ≡ [] → HaveFindings settings records (first ∷ found ++ behind)
+    → begins_at records ≡ 0 → dump_findings settings records ≡ []
+    → HaveFindings settings records (first ∷ found ++ behind)
     → IsTrue (none_is is_obstacle (found ++ behind)) → IsTrue (none_is is_alarm found)
     → (front rest : List (List Change)) × MakeRevisions patched records (front ++ rest) × (length front ≡ length found)
     × ((trees : List Tree) → loaded_over root_alone front ≡ Some trees

@@ -1,5 +1,5 @@
 -- Where a survey finds nothing, the law of filtered dumps has its premise.
-use Rattle.std.proofs.Common.{◌≡◌, suc, Bool, true, false, not, ◌&&◌, ◌||◌, ◌==◌, List, [], ◌∷◌, ◌++◌, length, filter, cond, Option, Some, None, refl, sym, ap, ◌∙◌, subst, inl, append_assoc}
+use Rattle.std.proofs.Common.{◌≡◌, ℕ, zero, suc, Bool, true, false, not, ◌&&◌, ◌||◌, ◌==◌, List, [], ◌∷◌, ◌++◌, length, filter, cond, Option, Some, None, refl, sym, ap, ◌∙◌, subst, inl, append_assoc}
 use Rattle.std.specs.List.{AllZip, list_all, list_any, last_or}
 use Rattle.std.proofs.lemmas.Bool.{eqb-true}
 use Rattle.std.proofs.lemmas.List.{nil_from_length}
@@ -15,10 +15,13 @@ use Rattle.dump_trees.specs.Quiet.{is_quiet, are_quiet}
 use Rattle.dump_history.specs.RecordChanges.{Patching, MakesChange}
 use Rattle.dump_history.specs.DumpChanges.{counts_from, has_ordered_nodes, MakeChanges, MakeRevisions}
 use Rattle.dump_history.specs.DumpLaws.{keeps_numbering}
-use Rattle.dump_history.specs.Findings.{Finding, AreFindingsOf, is_obstacle, is_alarm, every_dump_finding, first_has_node, is_found_in_dump, dump_findings}
-use Rattle.dump_history.specs.SurveyLaws.{none_is, SurveyedDumpRestricts, SurveyedDumpFrontRestricts}
+use Rattle.dump_history.specs.PartLaws.{MakePartRevisions}
+use Rattle.dump_history.specs.Findings.{Finding, begins_at, has_source_before, AreFindingsOf, is_obstacle, is_alarm, every_dump_finding, first_has_node, is_found_in_dump, dump_findings}
+use Rattle.dump_history.specs.SurveyLaws.{none_is, RestrictsFrom, SurveyedDumpRestricts, SurveyedDumpFrontRestricts}
 use Rattle.dump_history.proofs.survey.FindingLemmas.{obstacles_exact, alarms_exact}
+use Rattle.dump_history.proofs.survey.PartLemmas.{groups_lowered, lowered_quiet}
 use Rattle.dump_history.proofs.restricted.FilteredLaw.{quiet_dump_restricts, quiet_front_restricts}
+use Rattle.dump_history.proofs.restricted.PartLaw.{quiet_part_restricts}
 
 -- what is found in the nodes
 
@@ -143,9 +146,10 @@ module _ (settings : Settings) (all : List DumpRecord) (free : AreFaultFree sett
 
 -- nothing is found in the dump as a whole
 module _ (settings : Settings) (records : List DumpRecord) (none : dump_findings settings records ≡ []) where
-  each_none : (length (groups records) == 0 || (not (counts_from 0 (revision_numbers records))
-      || (first_has_node (groups records) || (not (has_ordered_nodes false records)
-      || (not (keeps_numbering settings records) || false))))) ≡ false
+  each_none : (length (groups records) == 0 || (not (counts_from (begins_at records) (revision_numbers records))
+      || ((begins_at records == 0 && first_has_node (groups records))
+      || (has_source_before (begins_at records) (groups records) || (not (has_ordered_nodes false records)
+      || (not (keeps_numbering settings records) || false)))))) ≡ false
   each_none = none_passes (λ f. is_found_in_dump settings records f) every_dump_finding none
 
   denied : (b : Bool) → not b ≡ false → b ≡ true
@@ -155,24 +159,33 @@ module _ (settings : Settings) (records : List DumpRecord) (none : dump_findings
   some_group : (length (groups records) == 0) ≡ false
   some_group = first_false (length (groups records) == 0) _ each_none
 
-  is_numbered : counts_from 0 (revision_numbers records) ≡ true
-  is_numbered = denied (counts_from 0 (revision_numbers records))
-      (first_false (not (counts_from 0 (revision_numbers records))) _
+  is_numbered : counts_from (begins_at records) (revision_numbers records) ≡ true
+  is_numbered = denied (counts_from (begins_at records) (revision_numbers records))
+      (first_false (not (counts_from (begins_at records) (revision_numbers records))) _
       (second_false (length (groups records) == 0) _ each_none))
 
-  behind_numbers : (first_has_node (groups records) || (not (has_ordered_nodes false records)
-      || (not (keeps_numbering settings records) || false))) ≡ false
-  behind_numbers = second_false (not (counts_from 0 (revision_numbers records))) _
+  behind_numbers : ((begins_at records == 0 && first_has_node (groups records))
+      || (has_source_before (begins_at records) (groups records) || (not (has_ordered_nodes false records)
+      || (not (keeps_numbering settings records) || false)))) ≡ false
+  behind_numbers = second_false (not (counts_from (begins_at records) (revision_numbers records))) _
       (second_false (length (groups records) == 0) _ each_none)
 
-  is_first_bare : first_has_node (groups records) ≡ false
-  is_first_bare = first_false (first_has_node (groups records)) _ behind_numbers
+  is_first_bare : begins_at records ≡ 0 → first_has_node (groups records) ≡ false
+  is_first_bare zero_first = sym (ap (λ n. n == 0 && first_has_node (groups records)) zero_first)
+      ∙ first_false (begins_at records == 0 && first_has_node (groups records)) _ behind_numbers
+
+  behind_first : (has_source_before (begins_at records) (groups records) || (not (has_ordered_nodes false records)
+      || (not (keeps_numbering settings records) || false))) ≡ false
+  behind_first = second_false (begins_at records == 0 && first_has_node (groups records)) _ behind_numbers
+
+  no_source_before : has_source_before (begins_at records) (groups records) ≡ false
+  no_source_before = first_false (has_source_before (begins_at records) (groups records)) _ behind_first
 
   keeps_numbers : keeps_numbering settings records ≡ true
   keeps_numbers = denied (keeps_numbering settings records)
       (first_false (not (keeps_numbering settings records)) false
       (second_false (not (has_ordered_nodes false records)) _
-      (second_false (first_has_node (groups records)) _ behind_numbers)))
+      (second_false (has_source_before (begins_at records) (groups records)) _ behind_first)))
 
 -- the changes of a group without nodes are none
 no_changes : (patched : Patching) (g : Group) (changes : List Change) → not (is_bare g) ≡ false
@@ -224,29 +237,64 @@ front_behind patched settings (g ∷ gs) first found behind some bare all none =
 -- where nothing is found the law of filtered dumps holds
 pub surveyed_dump : SurveyedDumpRestricts
 surveyed_dump patched settings dump text records found clean fit nothing have no_obstacle no_alarm =
-    let whole = groups_change patched settings (groups records) found have no_obstacle in
-    let bare = first_is_bare patched (groups records) whole.0 (some_group settings records nothing)
-    (is_first_bare settings records nothing) whole.1 in
-    let makes : MakeRevisions patched records bare.0 = record {
-      numbered = is_numbered settings records nothing;
-      ordered = order_of settings records clean.fault_free;
-      changes = subst (λ rs. AllZip (MakeChanges patched) (groups records) rs) bare.1 whole.1;
-    } in
-    let quiet : are_quiet settings bare.0 ≡ true =
-    ap (are_quiet settings) (sym bare.1) ∙ whole.2 no_alarm in (
-      bare.0,
-      makes,
-      λ trees loads over. quiet_dump_restricts patched settings dump text records bare.0 trees clean fit
-          (keeps_numbers settings records nothing) (record { makes = makes; loads = loads }) quiet over,
-    )
+    by_first (begins_at records) refl
+  where
+    Made : Type 0
+    Made = (revisions : List (List Change)) × AllZip (MakeChanges patched) (groups records) revisions
+        × (none_is is_alarm found ≡ true → are_quiet settings revisions ≡ true)
+
+    from_zero : Made → begins_at records ≡ 0 → RestrictsFrom patched settings records text 0
+    from_zero whole first_is =
+        let bare = first_is_bare patched (groups records) whole.0 (some_group settings records nothing)
+        (is_first_bare settings records nothing first_is) whole.1 in
+        let makes : MakeRevisions patched records bare.0 = record {
+          numbered = subst (λ n. counts_from n (revision_numbers records) ≡ true) first_is
+              (is_numbered settings records nothing);
+          ordered = order_of settings records clean.fault_free;
+          changes = subst (λ rs. AllZip (MakeChanges patched) (groups records) rs) bare.1 whole.1;
+        } in
+        let quiet : are_quiet settings bare.0 ≡ true =
+        ap (are_quiet settings) (sym bare.1) ∙ whole.2 no_alarm in (
+          bare.0,
+          makes,
+          λ trees loads over. quiet_dump_restricts patched settings dump text records bare.0 trees clean fit
+              (keeps_numbers settings records nothing) (record { makes = makes; loads = loads }) quiet over,
+        )
+
+    from_later : Made → (before : ℕ) → begins_at records ≡ suc before
+        → RestrictsFrom patched settings records text (suc before)
+    from_later whole before first_is =
+        let low = groups_lowered patched before (groups records) whole.0
+        (subst (λ n. has_source_before n (groups records) ≡ false) first_is
+        (no_source_before settings records nothing)) whole.1 in
+        let makes : MakePartRevisions patched before records low.0 = record {
+          numbered = subst (λ n. counts_from n (revision_numbers records) ≡ true) first_is
+              (is_numbered settings records nothing);
+          ordered = order_of settings records clean.fault_free;
+          changes = subst (λ rs. AllZip (MakeChanges patched) (groups records) rs) low.1 whole.1;
+        } in
+        let quiet : are_quiet settings low.0 ≡ true =
+        sym (lowered_quiet settings before low.0) ∙ ap (are_quiet settings) (sym low.1) ∙ whole.2 no_alarm in (
+          low.0,
+          makes,
+          λ trees loads over. quiet_part_restricts patched before settings dump text records low.0 trees clean fit
+              (keeps_numbers settings records nothing) (record { makes = makes; loads = loads }) quiet over,
+        )
+
+    by_first : (n : ℕ) → begins_at records ≡ n → RestrictsFrom patched settings records text n
+    by_first zero is = from_zero (groups_change patched settings (groups records) found have no_obstacle) is
+    by_first (suc before) is =
+        from_later (groups_change patched settings (groups records) found have no_obstacle) before is
 
 -- so it does of the first revisions where alarms are found behind them alone
 pub surveyed_front : SurveyedDumpFrontRestricts
-surveyed_front patched settings dump text records first found behind clean fit nothing have no_obstacle no_alarm =
+surveyed_front patched settings dump text records first found behind clean fit first_is nothing have no_obstacle
+    no_alarm =
     let parts = front_behind patched settings (groups records) first found behind (some_group settings records nothing)
-    (is_first_bare settings records nothing) have no_obstacle in
+    (is_first_bare settings records nothing first_is) have no_obstacle in
     let makes : MakeRevisions patched records (parts.0 ++ parts.1) = record {
-      numbered = is_numbered settings records nothing;
+      numbered = subst (λ n. counts_from n (revision_numbers records) ≡ true) first_is
+          (is_numbered settings records nothing);
       ordered = order_of settings records clean.fault_free;
       changes = parts.2;
     } in (

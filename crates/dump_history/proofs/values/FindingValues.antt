@@ -7,7 +7,7 @@ use Rattle.dump_rules.specs.declared.options.Empty.TheVariants.{Pad}
 use Rattle.dump_rules.specs.Settings.{Settings}
 use Rattle.dump_history.specs.DumpChanges.{has_ordered_nodes}
 use Rattle.dump_history.specs.Findings.{Finding, findings_of, DumpFinding, dump_findings}
-use Rattle.dump_history.proofs.values.WorkedDump.{line, record_at, records, version, zero, one, two, trunk}
+use Rattle.dump_history.proofs.values.WorkedDump.{line, record_at, records, version, zero, one, two, three, trunk}
 use Rattle.dump_history.proofs.values.WorkedDump.{settings as worked_settings}
 use Rattle.dump_history.specs.steps.MergeReading.{no_merge_faults}
 use Rattle.dump_history.proofs.values.FindingParts.{cut_by, include_a, exclude_a, node, from, whole_from, in_node}
@@ -202,7 +202,8 @@ none_dropped = refl
 no_revision : dump_findings padded (version ∷ []) ≡ DumpFinding.NoRevision ∷ []
 no_revision = refl
 
-numbers_from_two : dump_findings padded (version ∷ two ∷ []) ≡ DumpFinding.OtherNumbers ∷ []
+-- a part of a history begins at a higher number, and has a node in its first revision; but revision 0 has none
+numbers_from_two : dump_findings padded (version ∷ two ∷ trunk ∷ three ∷ []) ≡ []
 numbers_from_two = refl
 
 number_left_out : dump_findings padded (version ∷ zero ∷ two ∷ []) ≡ DumpFinding.OtherNumbers ∷ []

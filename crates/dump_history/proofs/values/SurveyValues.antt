@@ -1,17 +1,30 @@
 -- More worked values of what a survey finds: each tells a definition from one that lacks a part of it.
 use Rattle.std.proofs.Common.{◌≡◌, true, false, [], ◌∷◌, filter, None, refl, codes}
+use Rattle.dump_records.specs.RecordText.{DumpRecord}
 use Rattle.dump_rules.specs.declared.options.Side.TheVariants.{Include, Exclude}
 use Rattle.dump_rules.specs.declared.options.Empty.TheVariants.{DropAll}
 use Rattle.dump_rules.specs.Settings.{Settings}
 use Rattle.dump_history.specs.Findings.{Finding, every_finding, findings_of, is_obstacle, is_alarm, DumpFinding, every_dump_finding, dump_findings}
 use Rattle.dump_history.specs.SurveyLaws.{none_is}
-use Rattle.dump_history.proofs.values.WorkedDump.{line, version, zero, one, two, trunk}
+use Rattle.dump_history.proofs.values.WorkedDump.{line, record_at, version, zero, one, two, trunk, three, copy}
 use Rattle.dump_history.specs.steps.MergeReading.{no_merge_faults}
 use Rattle.dump_history.proofs.values.FindingParts.{cut_by, include_a, exclude_a, node, from, whole_from, in_node}
 
 -- a folder and what lies below it, both included
 abbrev include_both : Settings
 include_both = cut_by Include (codes "p" ∷ codes "p/a" ∷ [])
+
+abbrev include_trunk : Settings
+include_trunk = cut_by Include (codes "trunk" ∷ [])
+
+-- revision 4
+abbrev four : DumpRecord
+four = record_at 0 (line (codes "Revision-number") (codes "4") ∷ [])
+
+-- a change with a copy source
+abbrev changed : DumpRecord
+changed = node (codes "trunk") (codes "change")
+    (line (codes "Node-copyfrom-rev") (codes "1") ∷ line (codes "Node-copyfrom-path") (codes "trunk") ∷ [])
 
 -- what can be found
 
@@ -99,7 +112,7 @@ root_of_prefix = refl
 -- of a dump
 
 all_dump_findings : every_dump_finding ≡ DumpFinding.NoRevision ∷ DumpFinding.OtherNumbers ∷ DumpFinding.NodeInFirst
-    ∷ DumpFinding.NodeOutside ∷ DumpFinding.NumbersLeft ∷ []
+    ∷ DumpFinding.SourceBefore ∷ DumpFinding.NodeOutside ∷ DumpFinding.NumbersLeft ∷ []
 all_dump_findings = refl
 
 -- a number that comes twice
@@ -110,11 +123,31 @@ number_again = refl
 node_in_second : dump_findings include_a (version ∷ zero ∷ one ∷ trunk ∷ two ∷ []) ≡ []
 node_in_second = refl
 
--- three of them in one dump: a node in its first revision, 1, and a dropped one behind it
+-- three of them in one dump: a node in revision 0, and behind it revision 2, which is dropped
 three_in_dump : dump_findings (record (cut_by Include (codes "trunk" ∷ [])) { empty = DropAll })
-    (version ∷ one ∷ trunk ∷ two ∷ [])
+    (version ∷ zero ∷ trunk ∷ two ∷ [])
     ≡ DumpFinding.OtherNumbers ∷ DumpFinding.NodeInFirst ∷ DumpFinding.NumbersLeft ∷ []
 three_in_dump = refl
+
+-- a copy of revision 2 is from before a dump that begins at revision 3, and isn't in one that begins at 2
+
+copied_from_before : dump_findings include_trunk (version ∷ three ∷ copy ∷ []) ≡ DumpFinding.SourceBefore ∷ []
+copied_from_before = refl
+
+copied_from_first : dump_findings include_trunk (version ∷ two ∷ three ∷ copy ∷ []) ≡ []
+copied_from_first = refl
+
+-- a copy that isn't kept is told too, and one behind the first revision; under a change a copy source doesn't count
+
+dropped_from_before : dump_findings include_a (version ∷ three ∷ copy ∷ []) ≡ DumpFinding.SourceBefore ∷ []
+dropped_from_before = refl
+
+later_from_before : dump_findings include_trunk (version ∷ three ∷ trunk ∷ four ∷ copy ∷ [])
+    ≡ DumpFinding.SourceBefore ∷ []
+later_from_before = refl
+
+changed_from_before : dump_findings include_trunk (version ∷ three ∷ changed ∷ []) ≡ []
+changed_from_before = refl
 
 -- none of the findings of a dump's nodes
 

@@ -44,7 +44,7 @@ first_trees = root_alone ∷ first_tree ∷ second_tree ∷ []
 restricts : (patched : Patching) → FrontLoadsRestricted patched settings records first_trees text
 restricts patched =
     let (front, rest, makes, two, law) =
-    surveyed_front patched settings dump text records [] before behind clean lengths refl found refl refl in
+    surveyed_front patched settings dump text records [] before behind clean lengths refl refl found refl refl in
     let same : front ++ rest ≡ revisions =
     later_once patched (groups records) [] (front ++ rest) revisions makes.changes (loads patched).makes.changes in
     let is : front ≡ _ = two_of_three front rest _ _ _ same two in
