@@ -23,6 +23,7 @@ abbrev pub lines_if : (DumpFinding → List ℕ) → DumpFindings → List (List
 lines_if line found = cond found.no_revision (line DumpFinding.NoRevision) []
     ∷ cond found.other_numbers (line DumpFinding.OtherNumbers) []
     ∷ cond found.node_in_first (line DumpFinding.NodeInFirst) []
+    ∷ cond found.source_before (line DumpFinding.SourceBefore) []
     ∷ cond found.node_outside (line DumpFinding.NodeOutside) []
     ∷ cond found.numbers_left (line DumpFinding.NumbersLeft) [] ∷ []
 

@@ -22,15 +22,16 @@ use Rattle.dump_digest.specs.RecordParts.{is_revision_record, is_node, is_kept_n
 use Rattle.dump_filter.specs.Groups.{Group, group_of, groups, group_number, revision_number, revision_numbers, first_number, keeps_group, keeps_empty, kept_revisions}
 use Rattle.dump_filter.specs.NewHeaders.{written_number}
 use Rattle.dump_filter.proofs.again.Output.{header_small}
+use Rattle.dump_history.specs.Findings.{copies_from_before}
 use Rattle.dump_survey.specs.RevisionMap.{map_line}
 use Rattle.dump_survey.specs.declared.map.KeptNumbers.{KeptNumbers}
 use Rattle.dump_survey.specs.declared.memory.Memory.{Memory}
 use Rattle.dump_survey.specs.declared.tally.Present.{Present}
 use Rattle.dump_survey.specs.declared.tally.Tally.{Tally}
 use Rattle.dump_survey.specs.steps.Tally.{no_tally, revision_tally, node_tally, other_tally, next_tally, tally_behind}
-use Rattle.dump_survey.specs.steps.KeptNumbers.{AreKeptIn, ended_numbers, first_with, kept_view, numbers_before}
+use Rattle.dump_survey.specs.steps.KeptNumbers.{AreKeptIn, ended_numbers, kept_view, numbers_before}
 use Rattle.dump_survey.proofs.SurveyorLemmas.{begins_next, begins_with_none, begun_single, nearer_by_one}
-use Rattle.dump_survey.proofs.TallyLemmas.{closes, closes_none, count_within, is_single, nodes, nodes_more, nodes_none, some_left, tally_more}
+use Rattle.dump_survey.proofs.TallyLemmas.{begins_at_is, closes, closes_none, count_within, is_single, nodes, nodes_more, nodes_none, some_left, tally_more}
 
 -- the numbers that are added behind a tally, up to the end of these records
 abbrev pub kept_by : Settings → Tally → List DumpRecord → List ℕ
@@ -77,7 +78,7 @@ module _ (settings : Settings) (t : Tally) (r : DumpRecord) (records : List Dump
   numbers_other other = ap₂ (λ xs ys. xs ++ ys) (ends_before other) (more (other_tally settings t))
 
   node_closing : (p : Option Present) → is_node r ≡ true → t.present ≡ p
-      → closing settings (node_tally t (is_kept_node settings r) p).present (nodes records)
+      → closing settings (node_tally t (is_kept_node settings r) (copies_from_before t.first r) p).present (nodes records)
       ≡ closing settings p (nodes (r ∷ records))
   node_closing None node is = ap (λ q. closing settings q (nodes records)) is
   node_closing (Some p) node is =
@@ -87,14 +88,14 @@ module _ (settings : Settings) (t : Tally) (r : DumpRecord) (records : List Dump
       ∙ ap (λ ns. closing settings (Some p) ns) (sym (nodes_more r records node))
 
   numbers_node : is_node r ≡ true
-      → kept_by settings (node_tally t (is_kept_node settings r) t.present) records
+      → kept_by settings (node_tally t (is_kept_node settings r) (copies_from_before t.first r) t.present) records
       ≡ closing settings t.present (nodes (r ∷ records)) ++ kept_of settings (groups records)
-  numbers_node node = more (node_tally t (is_kept_node settings r) t.present)
+  numbers_node node = more (node_tally t (is_kept_node settings r) (copies_from_before t.first r) t.present)
       ∙ ap (λ xs. xs ++ kept_of settings (groups records)) (node_closing t.present node refl)
 
   numbers_step : (v n : Bool) → is_node r ≡ n → not (n && v) ≡ true
       → (if n then [] else ended_numbers settings t.present) ++ kept_by settings (if v then revision_tally settings t r
-      else if n then node_tally t (is_kept_node settings r) t.present else other_tally settings t) records
+      else if n then node_tally t (is_kept_node settings r) (copies_from_before t.first r) t.present else other_tally settings t) records
       ≡ closing settings t.present (nodes (r ∷ records))
       ++ kept_of settings (if v then group_of r records ∷ groups records else groups records)
   numbers_step true true node single = cc
@@ -118,16 +119,18 @@ revision_below r = by_number (header_number revision_name r.headers) refl
     by_number None is = omega arith
     by_number (Some n) is = header_small revision_name r.headers n is
 
--- what is known of the first revision: which it is, where one came, and none is present where none came
-pub record KnowsFirst (tally : Tally) (first : Option ℕ) (before : List DumpRecord) : Type 0 where
-  pub is : (rest : List DumpRecord) → first_number (revision_numbers (before ++ rest))
-      ≡ unwrap_or first (first_number (revision_numbers rest))
-  pub opens : first ≡ None → tally.present ≡ None
-  pub small : unwrap_or first 0 < 10 ^ 18
+first_below : (records : List DumpRecord) → first_number (revision_numbers records) < 10 ^ 18
+first_below [] = omega arith
+first_below (r ∷ records) = by (is_revision_record r) (first_below records)
+  where
+    by : (b : Bool) → first_number (revision_numbers records) < 10 ^ 18
+        → first_number (map group_number (if b then group_of r records ∷ groups records else groups records)) < 10 ^ 18
+    by true more = revision_below r
+    by false more = more
 
 -- what is known behind the records that the cutter has given
-pub record KeptSoFar (settings : Settings) (dump : List ℕ) (cutter : CutterState) (tally : Tally) (first : Option ℕ)
-    (numbers : List ℕ) : Type 0 where
+pub record KeptSoFar (settings : Settings) (dump : List ℕ) (cutter : CutterState) (tally : Tally) (numbers : List ℕ)
+    : Type 0 where
   pub dump_is : cutter.dump ≡ dump
   pub before : List DumpRecord
   pub begins : BeginsWithRecords dump before
@@ -135,11 +138,10 @@ pub record KeptSoFar (settings : Settings) (dump : List ℕ) (cutter : CutterSta
   pub tallied : tally ≡ tally_behind settings no_tally before
   pub kept : (rest : List DumpRecord)
       → kept_by settings no_tally (before ++ rest) ≡ numbers ++ kept_by settings tally rest
-  pub first_known : KnowsFirst tally first before
 
 pub none_kept : (settings : Settings) (dump : List ℕ) (cutter : CutterState) (tally : Tally) (numbers : List ℕ)
     → cutter ≡ record { dump = dump; number = 0 } → tally ≡ no_tally → numbers ≡ []
-    → KeptSoFar settings dump cutter tally None numbers
+    → KeptSoFar settings dump cutter tally numbers
 none_kept settings dump cutter tally numbers is none empty = record {
   dump_is = ap (λ (c : CutterState). c.dump) is;
   before = [];
@@ -147,62 +149,11 @@ none_kept settings dump cutter tally numbers is none empty = record {
   count = sym (ap (λ (c : CutterState). c.number) is);
   tallied = none;
   kept = λ rest. ap₂ (λ (t : Tally) (ns : List ℕ). ns ++ kept_by settings t rest) (sym none) (sym empty);
-  first_known = record {
-    is = λ rest. refl;
-    opens = λ same. ap (λ (t : Tally). t.present) none;
-    small = omega arith;
-  };
 }
 
 -- one more record
-module _ (settings : Settings) (tally : Tally) (before : List DumpRecord) (r : DumpRecord) where
-  assoc : {A : Type 0} (f : List DumpRecord → A) (rest : List DumpRecord)
-      → f ((before ++ r ∷ []) ++ rest) ≡ f (before ++ r ∷ rest)
-  assoc f rest = ap f (append_assoc before (r ∷ []) rest)
-
-  first_more : (first : Option ℕ) → KnowsFirst tally first before
-      → KnowsFirst (next_tally settings tally r) (first_with first (next_tally settings tally r).present) (before ++ r ∷ [])
-  first_more (Some n) knows = record {
-    is = λ rest. assoc (λ rs. first_number (revision_numbers rs)) rest ∙ knows.is (r ∷ rest);
-    opens = λ same. cc;
-    small = knows.small;
-  }
-  first_more None knows = by (is_revision_record r) (is_node r) refl
-    where
-      by : (v n : Bool) → is_revision_record r ≡ v
-          → KnowsFirst (if v then revision_tally settings tally r
-          else if n then node_tally tally (is_kept_node settings r) tally.present else other_tally settings tally)
-          (first_with None (if v then revision_tally settings tally r
-          else if n then node_tally tally (is_kept_node settings r) tally.present else other_tally settings tally).present)
-          (before ++ r ∷ [])
-      by true n rev = record {
-        is = λ rest. assoc (λ rs. first_number (revision_numbers rs)) rest ∙ knows.is (r ∷ rest)
-            ∙ ap (λ b. first_number (map group_number (if b then group_of r rest ∷ groups rest else groups rest))) rev;
-        opens = λ same. cc;
-        small = revision_below r;
-      }
-      by false true rev = of_node tally.present refl (knows.opens refl)
-        where
-          of_node : (p : Option Present) → tally.present ≡ p → p ≡ None
-              → KnowsFirst (node_tally tally (is_kept_node settings r) p)
-              (first_with None (node_tally tally (is_kept_node settings r) p).present) (before ++ r ∷ [])
-          of_node (Some p) same none = cc
-          of_node None same none = subst (λ p. KnowsFirst (node_tally tally (is_kept_node settings r) None)
-              (first_with None p) (before ++ r ∷ [])) (sym same) (record {
-                is = λ rest. assoc (λ rs. first_number (revision_numbers rs)) rest ∙ knows.is (r ∷ rest)
-                    ∙ ap (λ b. first_number (map group_number (if b then group_of r rest ∷ groups rest else groups rest))) rev;
-                opens = λ is. same;
-                small = omega arith;
-              })
-      by false false rev = record {
-        is = λ rest. assoc (λ rs. first_number (revision_numbers rs)) rest ∙ knows.is (r ∷ rest)
-            ∙ ap (λ b. first_number (map group_number (if b then group_of r rest ∷ groups rest else groups rest))) rev;
-        opens = λ same. refl;
-        small = omega arith;
-      }
-
-module _ (settings : Settings) (dump : List ℕ) (cutter after : CutterState) (tally : Tally) (first : Option ℕ)
-    (numbers : List ℕ) (so_far : KeptSoFar settings dump cutter tally first numbers) where
+module _ (settings : Settings) (dump : List ℕ) (cutter after : CutterState) (tally : Tally) (numbers : List ℕ)
+    (so_far : KeptSoFar settings dump cutter tally numbers) where
   module _ (item : Record) (step : CutStep cutter (cuts.Item item) after) where
     begins_more : BeginsWithRecords dump (so_far.before ++ record_item item ∷ [])
     begins_more = begins_next dump cutter after so_far.before so_far.dump_is so_far.begins so_far.count item step
@@ -221,11 +172,10 @@ module _ (settings : Settings) (dump : List ℕ) (cutter after : CutterState) (t
         let fits = item.counted in
         omega arith
 
-    pub kept_more : (all : List ℕ) (next : Tally) (found : Option ℕ)
+    pub kept_more : (all : List ℕ) (next : Tally)
         → all ≡ numbers ++ numbers_before settings tally.present (record_item item)
-        → next ≡ next_tally settings tally (record_item item) → found ≡ first_with first next.present
-        → KeptSoFar settings dump after next found all
-    kept_more all next found are is first_is = record {
+        → next ≡ next_tally settings tally (record_item item) → KeptSoFar settings dump after next all
+    kept_more all next are is = record {
       dump_is = ap (λ (c : CutterState). c.dump) step.3 ∙ so_far.dump_is;
       before = so_far.before ++ record_item item ∷ [];
       begins = begins_more;
@@ -238,14 +188,11 @@ module _ (settings : Settings) (dump : List ℕ) (cutter after : CutterState) (t
           ∙ sym (append_assoc numbers (numbers_before settings tally.present (record_item item))
           (kept_by settings (next_tally settings tally (record_item item)) rest))
           ∙ ap₂ (λ (ns : List ℕ) (t : Tally). ns ++ kept_by settings t rest) (sym are) (sym is);
-      first_known = subst (λ o. KnowsFirst next o (so_far.before ++ record_item item ∷ [])) (sym first_is)
-          (subst (λ (t : Tally). KnowsFirst t (first_with first t.present) (so_far.before ++ record_item item ∷ [])) (sym is)
-          (first_more settings tally so_far.before (record_item item) first so_far.first_known));
     }
 
   -- where the records end
   pub all_kept_in : (ending : Ending) → EndsAfter cutter.dump cutter.number ending → (kept : KeptRevisions)
-      → kept.first ≡ unwrap_or first 0 → kept.numbers ≡ numbers ++ ended_numbers settings tally.present
+      → kept.first ≡ tally.first → kept.numbers ≡ numbers ++ ended_numbers settings tally.present
       → AreKeptIn settings dump kept
   all_kept_in ending ends kept first_is are = record {
     records = so_far.before;
@@ -254,19 +201,21 @@ module _ (settings : Settings) (dump : List ℕ) (cutter after : CutterState) (t
         (subst (λ d. EndsAfter d (length so_far.before) ending) so_far.dump_is
         (subst (λ n. EndsAfter cutter.dump n ending) (sym so_far.count) ends));
     kept_are = same_kept kept (kept_revisions settings so_far.before)
-        (first_is ∙ sym (ap (λ rs. first_number (revision_numbers rs)) (sym (append-nil so_far.before))
-        ∙ so_far.first_known.is []))
+        begins
         (are ∙ sym (so_far.kept []) ∙ ap (kept_by settings no_tally) (append-nil so_far.before)
         ∙ numbers_are settings no_tally so_far.before (begun_single dump so_far.before so_far.begins));
-    small = subst (λ n. n < 10 ^ 18) (sym first_is) so_far.first_known.small;
+    small = subst (λ n. n < 10 ^ 18) (sym begins) (first_below so_far.before);
   }
     where
+      begins : kept.first ≡ first_number (revision_numbers so_far.before)
+      begins = first_is ∙ ap (λ (t : Tally). t.first) so_far.tallied ∙ begins_at_is settings so_far.before
+
       same_kept : (a b : KeptRevisions) → a.first ≡ b.first → a.numbers ≡ b.numbers → a ≡ b
       same_kept a b first_same numbers_same =
           ap₂ (λ f ns. record { first = f; numbers = ns }) first_same numbers_same
 
   pub all_kept_ok : (ending : Ending) → EndsAfter cutter.dump cutter.number ending → (r : Result KeptNumbers Memory)
-      → IfOk r (λ kept. kept.first ≡ unwrap_or first 0)
+      → IfOk r (λ kept. kept.first ≡ tally.first)
       → IfOk r (λ kept. kept.numbers.items ≡ numbers ++ ended_numbers settings tally.present)
       → IfOk r (λ kept. AreKeptIn settings dump (kept_view kept))
   all_kept_ok ending ends (Ok kept) first_is are = all_kept_in ending ends (kept_view kept) first_is are

@@ -11,12 +11,12 @@ use Rattle.dump_filter.specs.FilterLaws.{LengthsFit}
 use Rattle.dump_filter.specs.WholeText.{IsCleanText}
 use Rattle.dump_history.specs.RecordChanges.{Patching}
 use Rattle.dump_history.specs.Findings.{Finding, DumpFinding, dump_findings, is_obstacle, is_alarm}
-use Rattle.dump_history.specs.SurveyLaws.{none_is}
+use Rattle.dump_history.specs.SurveyLaws.{none_is, DumpRestricts}
 use Rattle.dump_history.proofs.survey.SurveyLemmas.{surveyed_dump}
 use Rattle.dump_survey.specs.Lines.{node_line, dump_line, place_text}
 use Rattle.dump_survey.specs.Told.{NodeTold, told_view, AreTold}
 use Rattle.dump_survey.specs.SurveyEnds.{survey_ending}
-use Rattle.dump_survey.specs.SurveyTies.{all_findings, none_told, DumpRestricts, SilentSurveyRestricts, SilentTextRestricts}
+use Rattle.dump_survey.specs.SurveyTies.{all_findings, none_told, SilentSurveyRestricts, SilentTextRestricts}
 use Rattle.dump_survey.proofs.TieLemmas.{told_are_findings}
 
 any_both : (test : Finding → Bool) (xs ys : List Finding)
@@ -95,6 +95,7 @@ no_dump_lines [] none = refl
 no_dump_lines (DumpFinding.NoRevision ∷ found) none = cc
 no_dump_lines (DumpFinding.OtherNumbers ∷ found) none = cc
 no_dump_lines (DumpFinding.NodeInFirst ∷ found) none = cc
+no_dump_lines (DumpFinding.SourceBefore ∷ found) none = cc
 no_dump_lines (DumpFinding.NodeOutside ∷ found) none = cc
 no_dump_lines (DumpFinding.NumbersLeft ∷ found) none = cc
 

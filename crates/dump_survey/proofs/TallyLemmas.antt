@@ -2,18 +2,18 @@
 use Rattle.std.proofs.Common.{◌≡◌, ℕ, zero, suc, ◌+◌, ◌≤◌, ◌==◌, Bool, true, false, not, ◌&&◌, ◌||◌, List, [], ◌∷◌, ◌++◌, length, filter, map, take_while, Option, Some, None, is_some, option_map, if◌then◌else◌, cond, refl, sym, ap, ap₂, ◌∙◌, arith}
 use Rattle.std.proofs.Math.Bool.{and-true, and_assoc, or-false, or-true, or_assoc}
 use Rattle.std.specs.List.{list_all, list_any}
-use Rattle.std.proofs.lemmas.Bool.{and_parts}
+use Rattle.std.proofs.lemmas.Bool.{and_parts, eqb-true}
 use Rattle.std.proofs.lemmas.List.Sums.{take_while-cons}
 use Rattle.dump_records.specs.RecordText.{DumpRecord}
 use Rattle.dump_rules.specs.Settings.{Settings}
 use Rattle.dump_digest.specs.RecordParts.{is_revision_record, is_node, is_kept_node}
-use Rattle.dump_filter.specs.Groups.{group_of, groups, group_number, revision_number, revision_numbers, keeps_group, keeps_empty}
+use Rattle.dump_filter.specs.Groups.{group_of, groups, group_number, first_number, revision_number, revision_numbers, keeps_group, keeps_empty}
 use Rattle.dump_history.specs.DumpChanges.{counts_from, has_ordered_nodes}
-use Rattle.dump_history.specs.Findings.{DumpFinding, every_dump_finding, is_found_in_dump, first_has_node, dump_findings}
+use Rattle.dump_history.specs.Findings.{DumpFinding, every_dump_finding, begins_at, copies_from_before, has_source_before, is_found_in_dump, first_has_node, dump_findings}
 use Rattle.dump_survey.specs.declared.tally.Present.{Present}
 use Rattle.dump_survey.specs.declared.tally.Tally.{Tally}
 use Rattle.dump_survey.specs.steps.Steps.{open_behind}
-use Rattle.dump_survey.specs.steps.Tally.{no_tally, keeps_open, keeps_present, revision_tally, node_tally, other_tally, next_tally, tally_behind, is_tallied, tally_findings}
+use Rattle.dump_survey.specs.steps.Tally.{no_tally, keeps_open, keeps_present, first_with, revision_tally, node_tally, other_tally, next_tally, tally_behind, is_tallied, tally_findings}
 
 -- one more record
 pub tally_more : (settings : Settings) (t : Tally) (records : List DumpRecord) (r : DumpRecord)
@@ -21,9 +21,9 @@ pub tally_more : (settings : Settings) (t : Tally) (records : List DumpRecord) (
 tally_more settings t [] r = refl
 tally_more settings t (x ∷ records) r = tally_more settings (next_tally settings t x) records r
 
-node_count : (t : Tally) (kept : Bool) (p : Option Present) → (node_tally t kept p).count ≡ t.count
-node_count t kept None = refl
-node_count t kept (Some p) = refl
+node_count : (t : Tally) (kept early : Bool) (p : Option Present) → (node_tally t kept early p).count ≡ t.count
+node_count t kept early None = refl
+node_count t kept early (Some p) = refl
 
 -- how many revisions there are
 count_is : (settings : Settings) (t : Tally) (records : List DumpRecord)
@@ -33,11 +33,11 @@ count_is settings t (r ∷ records) = by (λ u. count_is settings u records) (is
   where
     by : ((u : Tally) → (tally_behind settings u records).count ≡ u.count + length (groups records)) → (v n : Bool)
         → (tally_behind settings (if v then revision_tally settings t r
-        else if n then node_tally t (is_kept_node settings r) t.present else other_tally settings t) records).count
+        else if n then node_tally t (is_kept_node settings r) (copies_from_before t.first r) t.present else other_tally settings t) records).count
         ≡ t.count + length (if v then group_of r records ∷ groups records else groups records)
     by more true n = more (revision_tally settings t r) ∙ omega arith
-    by more false true = more (node_tally t (is_kept_node settings r) t.present)
-        ∙ ap (λ c. c + length (groups records)) (node_count t (is_kept_node settings r) t.present)
+    by more false true = more (node_tally t (is_kept_node settings r) (copies_from_before t.first r) t.present)
+        ∙ ap (λ c. c + length (groups records)) (node_count t (is_kept_node settings r) (copies_from_before t.first r) t.present)
     by more false false = more (other_tally settings t)
 
 -- there are at most as many as records
@@ -48,12 +48,12 @@ count_within settings t (r ∷ records) = by (λ u. count_within settings u reco
   where
     by : ((u : Tally) → (tally_behind settings u records).count ≤ u.count + length records) → (v n : Bool)
         → (tally_behind settings (if v then revision_tally settings t r
-        else if n then node_tally t (is_kept_node settings r) t.present else other_tally settings t) records).count
+        else if n then node_tally t (is_kept_node settings r) (copies_from_before t.first r) t.present else other_tally settings t) records).count
         ≤ t.count + length (r ∷ records)
     by more true n = let h = more (revision_tally settings t r) in omega arith
     by more false true =
-        let h = more (node_tally t (is_kept_node settings r) t.present) in
-        let same = node_count t (is_kept_node settings r) t.present in omega arith
+        let h = more (node_tally t (is_kept_node settings r) (copies_from_before t.first r) t.present) in
+        let same = node_count t (is_kept_node settings r) (copies_from_before t.first r) t.present in omega arith
     by more false false = let h = more (other_tally settings t) in omega arith
 
 -- the number of the present revision
@@ -69,42 +69,111 @@ present_is settings t (r ∷ records) =
     ∙ ap (λ p. open_behind p records) (by (is_revision_record r) (is_node r))
   where
     of_node : (p : Option Present) → t.present ≡ p
-        → present_number (node_tally t (is_kept_node settings r) p).present ≡ present_number p
+        → present_number (node_tally t (is_kept_node settings r) (copies_from_before t.first r) p).present ≡ present_number p
     of_node None is = ap present_number is
     of_node (Some p) is = refl
 
     by : (v n : Bool) → present_number (if v then revision_tally settings t r
-        else if n then node_tally t (is_kept_node settings r) t.present else other_tally settings t).present
+        else if n then node_tally t (is_kept_node settings r) (copies_from_before t.first r) t.present else other_tally settings t).present
         ≡ (if v then Some (revision_number r) else if n then present_number t.present else None)
     by true n = refl
     by false true = of_node t.present refl
     by false false = refl
 
-node_numbered : (t : Tally) (kept : Bool) (p : Option Present) → (node_tally t kept p).numbered ≡ t.numbered
-node_numbered t kept None = refl
-node_numbered t kept (Some p) = refl
+node_numbered : (t : Tally) (kept early : Bool) (p : Option Present)
+    → (node_tally t kept early p).numbered ≡ t.numbered
+node_numbered t kept early None = refl
+node_numbered t kept early (Some p) = refl
 
--- whether they are numbered 0, 1, 2 and so on
+node_begins : (t : Tally) (kept early : Bool) (p : Option Present) → (node_tally t kept early p).first ≡ t.first
+node_begins t kept early None = refl
+node_begins t kept early (Some p) = refl
+
+-- the number of the first revision, where so many came, the first of them with this number, and then those of these
+-- numbers
+abbrev first_of : ℕ → ℕ → List ℕ → ℕ
+first_of count first numbers = if count == 0 then first_number numbers else first
+
+one_more : (n : ℕ) → (n + 1 == 0) ≡ false
+one_more n = grind arith
+
+-- behind one more revision that number is known
+first_known : (t : Tally) (number : ℕ) (numbers : List ℕ)
+    → first_of (t.count + 1) (first_with t number) numbers ≡ first_of t.count t.first (number ∷ numbers)
+first_known t number numbers =
+    ap (λ b. if b then first_number numbers else first_with t number) (one_more t.count)
+
+-- the number of the first revision
+begins_is : (settings : Settings) (t : Tally) (records : List DumpRecord) → (t.count ≡ 0 → t.first ≡ 0)
+    → (tally_behind settings t records).first ≡ first_of t.count t.first (revision_numbers records)
+begins_is settings t [] none = by (t.count == 0) refl
+  where
+    by : (b : Bool) → (t.count == 0) ≡ b → t.first ≡ (if b then 0 else t.first)
+    by true is = none (eqb-true t.count 0 is)
+    by false is = refl
+begins_is settings t (r ∷ records) none =
+    by (λ u known. begins_is settings u records known) (is_revision_record r) (is_node r)
+  where
+    by : ((u : Tally) → (u.count ≡ 0 → u.first ≡ 0)
+        → (tally_behind settings u records).first ≡ first_of u.count u.first (revision_numbers records)) → (v n : Bool)
+        → (tally_behind settings (if v then revision_tally settings t r
+        else if n then node_tally t (is_kept_node settings r) (copies_from_before t.first r) t.present
+        else other_tally settings t) records).first
+        ≡ first_of t.count t.first (map group_number
+        (if v then group_of r records ∷ groups records else groups records))
+    by more true n = more (revision_tally settings t r)
+        (λ bad. absurd (let worse : t.count + 1 ≡ 0 = bad in omega (arith, worse)))
+        ∙ first_known t (revision_number r) (revision_numbers records)
+    by more false true =
+        let count = node_count t (is_kept_node settings r) (copies_from_before t.first r) t.present in
+        let first = node_begins t (is_kept_node settings r) (copies_from_before t.first r) t.present in
+        more (node_tally t (is_kept_node settings r) (copies_from_before t.first r) t.present)
+        (λ is. first ∙ none (sym count ∙ is))
+        ∙ ap₂ (λ c f. first_of c f (revision_numbers records)) count first
+    by more false false = more (other_tally settings t) none
+
+-- so of all records
+pub begins_at_is : (settings : Settings) (records : List DumpRecord)
+    → (tally_behind settings no_tally records).first ≡ begins_at records
+begins_at_is settings records = begins_is settings no_tally records (λ is. refl)
+
+-- whether they are numbered on from the first one
 numbered_is : (settings : Settings) (t : Tally) (records : List DumpRecord)
-    → (tally_behind settings t records).numbered ≡ (t.numbered && counts_from t.count (revision_numbers records))
+    → (tally_behind settings t records).numbered
+    ≡ (t.numbered
+    && counts_from (first_of t.count t.first (revision_numbers records) + t.count) (revision_numbers records))
 numbered_is settings t [] = sym (and-true t.numbered)
 numbered_is settings t (r ∷ records) = by (λ u. numbered_is settings u records) (is_revision_record r) (is_node r)
   where
-    next : t.count + 1 ≡ suc t.count
-    next = omega arith
-
     by : ((u : Tally) → (tally_behind settings u records).numbered
-        ≡ (u.numbered && counts_from u.count (revision_numbers records))) → (v n : Bool)
+        ≡ (u.numbered
+        && counts_from (first_of u.count u.first (revision_numbers records) + u.count) (revision_numbers records)))
+        → (v n : Bool)
         → (tally_behind settings (if v then revision_tally settings t r
-        else if n then node_tally t (is_kept_node settings r) t.present else other_tally settings t) records).numbered
-        ≡ (t.numbered && counts_from t.count (map group_number
+        else if n then node_tally t (is_kept_node settings r) (copies_from_before t.first r) t.present
+        else other_tally settings t) records).numbered
+        ≡ (t.numbered && counts_from (first_of t.count t.first (map group_number
+        (if v then group_of r records ∷ groups records else groups records)) + t.count) (map group_number
         (if v then group_of r records ∷ groups records else groups records)))
-    by more true n = more (revision_tally settings t r)
-        ∙ (and_assoc t.numbered (revision_number r == t.count) (counts_from (t.count + 1) (revision_numbers records))
-        ∙ ap (λ c. t.numbered && ((revision_number r == t.count) && counts_from c (revision_numbers records))) next)
-    by more false true = more (node_tally t (is_kept_node settings r) t.present)
+    by more true n =
+        let first = first_with t (revision_number r) in
+        let next : first_of (t.count + 1) first (revision_numbers records) + (t.count + 1)
+            ≡ suc (first + t.count)
+            = ap (λ f. f + (t.count + 1)) (first_known t (revision_number r) (revision_numbers records))
+            ∙ omega arith in
+        more (revision_tally settings t r)
+        ∙ (and_assoc t.numbered (revision_number r == first + t.count)
+        (counts_from (first_of (t.count + 1) first (revision_numbers records) + (t.count + 1))
+        (revision_numbers records))
+        ∙ ap (λ c. t.numbered && ((revision_number r == first + t.count)
+        && counts_from c (revision_numbers records))) next)
+    by more false true =
+        let count = node_count t (is_kept_node settings r) (copies_from_before t.first r) t.present in
+        let first = node_begins t (is_kept_node settings r) (copies_from_before t.first r) t.present in
+        more (node_tally t (is_kept_node settings r) (copies_from_before t.first r) t.present)
         ∙ ap₂ (λ b c. b && counts_from c (revision_numbers records))
-        (node_numbered t (is_kept_node settings r) t.present) (node_count t (is_kept_node settings r) t.present)
+        (node_numbered t (is_kept_node settings r) (copies_from_before t.first r) t.present)
+        (ap₂ (λ c f. first_of c f (revision_numbers records) + c) count first)
     by more false false = more (other_tally settings t)
 
 -- the nodes that follow
@@ -168,7 +237,7 @@ module _ (settings : Settings) (t : Tally) (r : DumpRecord) (records : List Dump
       ∙ ends_here (list_all (keeps_group settings) (groups records)) other
 
   node_closes : (p : Option Present) → is_node r ≡ true → t.present ≡ p
-      → keeps_all settings (node_tally t (is_kept_node settings r) p) records
+      → keeps_all settings (node_tally t (is_kept_node settings r) (copies_from_before t.first r) p) records
       ≡ (t.all_kept && (closes settings p (nodes (r ∷ records))
       && list_all (keeps_group settings) (groups records)))
   node_closes None node is =
@@ -182,14 +251,14 @@ module _ (settings : Settings) (t : Tally) (r : DumpRecord) (records : List Dump
       (sym (nodes_more r records node))
 
   kept_node : is_node r ≡ true
-      → keeps_present settings (tally_behind settings (node_tally t (is_kept_node settings r) t.present) records)
+      → keeps_present settings (tally_behind settings (node_tally t (is_kept_node settings r) (copies_from_before t.first r) t.present) records)
       ≡ (t.all_kept && (closes settings t.present (nodes (r ∷ records))
       && list_all (keeps_group settings) (groups records)))
-  kept_node node = more (node_tally t (is_kept_node settings r) t.present) ∙ node_closes t.present node refl
+  kept_node node = more (node_tally t (is_kept_node settings r) (copies_from_before t.first r) t.present) ∙ node_closes t.present node refl
 
   kept_step : (v n : Bool) → is_revision_record r ≡ v → is_node r ≡ n → not (n && v) ≡ true
       → keeps_present settings (tally_behind settings (if v then revision_tally settings t r
-      else if n then node_tally t (is_kept_node settings r) t.present else other_tally settings t) records)
+      else if n then node_tally t (is_kept_node settings r) (copies_from_before t.first r) t.present else other_tally settings t) records)
       ≡ (t.all_kept && (closes settings t.present (nodes (r ∷ records))
       && list_all (keeps_group settings) (if v then group_of r records ∷ groups records else groups records)))
   kept_step true true rev node single = cc
@@ -252,8 +321,8 @@ module _ (settings : Settings) (t : Tally) (r : DumpRecord) (records : List Dump
       closed (suc n) = refl
 
   node_first : (n : ℕ) (p : Option Present) → t.count ≡ n → t.present ≡ p → is_node r ≡ true
-      → is_revision_record r ≡ false → ((node_tally t (is_kept_node settings r) p).node_in_first
-      || first_has n (node_tally t (is_kept_node settings r) p).present records)
+      → is_revision_record r ≡ false → ((node_tally t (is_kept_node settings r) (copies_from_before t.first r) p).node_in_first
+      || first_has n (node_tally t (is_kept_node settings r) (copies_from_before t.first r) p).present records)
       ≡ (t.node_in_first || first_has n p (r ∷ records))
   node_first zero None count is node rev =
       ap (λ b. t.node_in_first || first_has_node (if b then group_of r records ∷ groups records else groups records))
@@ -277,16 +346,16 @@ module _ (settings : Settings) (t : Tally) (r : DumpRecord) (records : List Dump
       ∙ or-false t.node_in_first)
 
   first_node : (n : ℕ) → t.count ≡ n → is_node r ≡ true → is_revision_record r ≡ false
-      → (tally_behind settings (node_tally t (is_kept_node settings r) t.present) records).node_in_first
+      → (tally_behind settings (node_tally t (is_kept_node settings r) (copies_from_before t.first r) t.present) records).node_in_first
       ≡ (t.node_in_first || first_has n t.present (r ∷ records))
   first_node n count node rev =
-      more (node_tally t (is_kept_node settings r) t.present) n
-      (node_count t (is_kept_node settings r) t.present ∙ count)
+      more (node_tally t (is_kept_node settings r) (copies_from_before t.first r) t.present) n
+      (node_count t (is_kept_node settings r) (copies_from_before t.first r) t.present ∙ count)
       ∙ node_first n t.present count refl node rev
 
   first_step : (n : ℕ) → t.count ≡ n → (v m : Bool) → is_revision_record r ≡ v → is_node r ≡ m → not (m && v) ≡ true
       → (tally_behind settings (if v then revision_tally settings t r
-      else if m then node_tally t (is_kept_node settings r) t.present else other_tally settings t) records).node_in_first
+      else if m then node_tally t (is_kept_node settings r) (copies_from_before t.first r) t.present else other_tally settings t) records).node_in_first
       ≡ (t.node_in_first || first_has n t.present (r ∷ records))
   first_step n count true true rev node single = cc
   first_step n count true false rev other single = first_revision n count other rev
@@ -323,19 +392,103 @@ outside_is settings t (r ∷ records) single =
         ≡ (u.node_outside || not (has_ordered_nodes (is_some u.present) records))
 
     of_node : More → (p : Option Present)
-        → (tally_behind settings (node_tally t (is_kept_node settings r) p) records).node_outside
+        → (tally_behind settings (node_tally t (is_kept_node settings r) (copies_from_before t.first r) p) records).node_outside
         ≡ (t.node_outside || not (is_some p && has_ordered_nodes true records))
-    of_node more None = more (node_tally t (is_kept_node settings r) None) ∙ sym (or-true t.node_outside)
-    of_node more (Some p) = more (node_tally t (is_kept_node settings r) (Some p))
+    of_node more None = more (node_tally t (is_kept_node settings r) (copies_from_before t.first r) None) ∙ sym (or-true t.node_outside)
+    of_node more (Some p) = more (node_tally t (is_kept_node settings r) (copies_from_before t.first r) (Some p))
 
     by : More → (v n : Bool) → not (n && v) ≡ true
         → (tally_behind settings (if v then revision_tally settings t r
-        else if n then node_tally t (is_kept_node settings r) t.present else other_tally settings t) records).node_outside
+        else if n then node_tally t (is_kept_node settings r) (copies_from_before t.first r) t.present else other_tally settings t) records).node_outside
         ≡ (t.node_outside || not ((not n || is_some t.present) && has_ordered_nodes (v || n) records))
     by more true true single = cc
     by more true false single = more (revision_tally settings t r)
     by more false true single = of_node more t.present
     by more false false single = more (other_tally settings t)
+
+-- whether one of the nodes that follow in the present revision is a copy from before this number
+abbrev own_before : ℕ → Option Present → List DumpRecord → Bool
+own_before first None ns = false
+own_before first (Some p) ns = list_any (copies_from_before first) ns
+
+-- whether a node of the present revision, or of one behind it, is a copy from before the first revision
+abbrev later_before : Tally → List DumpRecord → Bool
+later_before t records = own_before t.first t.present (nodes records)
+    || has_source_before (first_of t.count t.first (revision_numbers records)) (groups records)
+
+module _ (settings : Settings) (t : Tally) (r : DumpRecord) (records : List DumpRecord)
+    (more : (u : Tally) → (tally_behind settings u records).source_before
+    ≡ (u.source_before || later_before u records)) where
+  -- behind a record that is no node the present revision has its nodes
+  none_before : (first : ℕ) (p : Option Present) → is_node r ≡ false → own_before first p (nodes (r ∷ records)) ≡ false
+  none_before first None other = refl
+  none_before first (Some p) other = ap (list_any (copies_from_before first)) (nodes_none r records other)
+
+  before_revision : is_node r ≡ false
+      → (tally_behind settings (revision_tally settings t r) records).source_before
+      ≡ (t.source_before || (own_before t.first t.present (nodes (r ∷ records))
+      || has_source_before (first_of t.count t.first (revision_number r ∷ revision_numbers records))
+      (group_of r records ∷ groups records)))
+  before_revision other = more (revision_tally settings t r)
+      ∙ ap (λ f. t.source_before || (list_any (copies_from_before (first_with t (revision_number r))) (nodes records)
+      || has_source_before f (groups records))) (first_known t (revision_number r) (revision_numbers records))
+      ∙ ap (λ b. t.source_before || (b
+      || has_source_before (first_with t (revision_number r)) (group_of r records ∷ groups records)))
+      (sym (none_before t.first t.present other))
+
+  before_other : is_node r ≡ false
+      → (tally_behind settings (other_tally settings t) records).source_before
+      ≡ (t.source_before || (own_before t.first t.present (nodes (r ∷ records))
+      || has_source_before (first_of t.count t.first (revision_numbers records)) (groups records)))
+  before_other other = more (other_tally settings t)
+      ∙ ap (λ b. t.source_before
+      || (b || has_source_before (first_of t.count t.first (revision_numbers records)) (groups records)))
+      (sym (none_before t.first t.present other))
+
+  node_before : (p : Option Present) → is_node r ≡ true → t.present ≡ p
+      → ((node_tally t (is_kept_node settings r) (copies_from_before t.first r) p).source_before
+      || later_before (node_tally t (is_kept_node settings r) (copies_from_before t.first r) p) records)
+      ≡ (t.source_before || (own_before t.first p (nodes (r ∷ records))
+      || has_source_before (first_of t.count t.first (revision_numbers records)) (groups records)))
+  node_before None node is =
+      ap (λ q. t.source_before || (own_before t.first q (nodes records)
+      || has_source_before (first_of t.count t.first (revision_numbers records)) (groups records))) is
+  node_before (Some p) node is =
+      or_assoc t.source_before (copies_from_before t.first r) _
+      ∙ ap (λ b. t.source_before || b) (sym (or_assoc (copies_from_before t.first r)
+      (list_any (copies_from_before t.first) (nodes records))
+      (has_source_before (first_of t.count t.first (revision_numbers records)) (groups records))))
+      ∙ ap (λ ns. t.source_before || (list_any (copies_from_before t.first) ns
+      || has_source_before (first_of t.count t.first (revision_numbers records)) (groups records)))
+      (sym (nodes_more r records node))
+
+  before_step : (v n : Bool) → is_node r ≡ n → not (n && v) ≡ true
+      → (tally_behind settings (if v then revision_tally settings t r
+      else if n then node_tally t (is_kept_node settings r) (copies_from_before t.first r) t.present
+      else other_tally settings t) records).source_before
+      ≡ (t.source_before || (own_before t.first t.present (nodes (r ∷ records))
+      || has_source_before (first_of t.count t.first (map group_number
+      (if v then group_of r records ∷ groups records else groups records)))
+      (if v then group_of r records ∷ groups records else groups records)))
+  before_step true true node single = cc
+  before_step true false other single = before_revision other
+  before_step false true node single =
+      more (node_tally t (is_kept_node settings r) (copies_from_before t.first r) t.present)
+      ∙ node_before t.present node refl
+  before_step false false other single = before_other other
+
+-- whether a node is a copy from before the first revision, by the tally and by the groups
+source_is : (settings : Settings) (t : Tally) (records : List DumpRecord) → list_all is_single records ≡ true
+    → (tally_behind settings t records).source_before ≡ (t.source_before || later_before t records)
+source_is settings t [] single = sym (ap (λ b. t.source_before || (b || false)) (none t.present) ∙ or-false t.source_before)
+  where
+    none : (p : Option Present) → own_before t.first p [] ≡ false
+    none None = refl
+    none (Some p) = refl
+source_is settings t (r ∷ records) single =
+    let parts = and_parts (is_single r) (list_all is_single records) single in
+    before_step settings t r records (λ u. source_is settings u records parts.1) (is_revision_record r) (is_node r) refl
+    parts.0
 
 zero_more : (n : ℕ) → 0 + n ≡ n
 zero_more n = omega arith
@@ -350,8 +503,13 @@ each_tallied : (settings : Settings) (records : List DumpRecord) → list_all is
     → is_tallied settings (tally_behind settings no_tally records) f ≡ is_found_in_dump settings records f
 each_tallied settings records single DumpFinding.NoRevision =
     ap (λ c. c == 0) (count_is settings no_tally records ∙ zero_more (length (groups records)))
-each_tallied settings records single DumpFinding.OtherNumbers = ap not (numbered_is settings no_tally records)
-each_tallied settings records single DumpFinding.NodeInFirst = first_is settings no_tally records single 0 refl
+each_tallied settings records single DumpFinding.OtherNumbers = ap not (numbered_is settings no_tally records
+    ∙ ap (λ n. counts_from n (revision_numbers records))
+    (let same : begins_at records + 0 ≡ begins_at records = omega arith in same))
+each_tallied settings records single DumpFinding.NodeInFirst =
+    ap₂ (λ f b. f == 0 && b) (begins_at_is settings records)
+    (first_is settings no_tally records single 0 refl)
+each_tallied settings records single DumpFinding.SourceBefore = source_is settings no_tally records single
 each_tallied settings records single DumpFinding.NodeOutside = outside_is settings no_tally records single
 each_tallied settings records single DumpFinding.NumbersLeft =
     ap (λ b. not settings.renumber && not b) (kept_is settings no_tally records single)

@@ -8,6 +8,7 @@ abbrev pub has_dump_finding : DumpFindings → DumpFinding → Bool
 has_dump_finding found DumpFinding.NoRevision = found.no_revision
 has_dump_finding found DumpFinding.OtherNumbers = found.other_numbers
 has_dump_finding found DumpFinding.NodeInFirst = found.node_in_first
+has_dump_finding found DumpFinding.SourceBefore = found.source_before
 has_dump_finding found DumpFinding.NodeOutside = found.node_outside
 has_dump_finding found DumpFinding.NumbersLeft = found.numbers_left
 

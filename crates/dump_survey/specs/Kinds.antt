@@ -67,9 +67,10 @@ finding_kind Finding.TextComesIn =
 unfoldable pub dump_kind_line : DumpFinding → List ℕ
 dump_kind_line DumpFinding.NoRevision = codes "in all 1: a dump without a revision. There is nothing to load\n"
 dump_kind_line DumpFinding.OtherNumbers =
-    codes "in all 1: other numbers than 0, 1, 2 and so on. Filter a part of a history without drop options and --renumber-revs\n"
-dump_kind_line DumpFinding.NodeInFirst =
-    codes "in all 1: a node in the first revision. Load a part of a history behind the revisions before it\n"
+    codes "in all 1: numbers that do not rise by one. Filter such a dump without drop options and --renumber-revs\n"
+dump_kind_line DumpFinding.NodeInFirst = codes "in all 1: a node in revision 0. Have the dump made again\n"
+dump_kind_line DumpFinding.SourceBefore =
+    codes "in all 1: copies from before the first revision. Dump from an earlier revision on\n"
 dump_kind_line DumpFinding.NodeOutside = codes "in all 1: fault 8, nodes in no revision. Have the dump made again\n"
 dump_kind_line DumpFinding.NumbersLeft = codes "in all 1: numbers with a gap. Give --renumber-revs\n"
 

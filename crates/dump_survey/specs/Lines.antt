@@ -66,8 +66,9 @@ node_line t = concat (place_text t.number t.place ∷ codes ", r" ∷ decimal t.
 -- the line of a finding in the dump as a whole
 unfoldable pub dump_line : DumpFinding → List ℕ
 dump_line DumpFinding.NoRevision = codes "the dump has no revision\n"
-dump_line DumpFinding.OtherNumbers = codes "the revisions of the dump are not numbered 0, 1, 2 and so on\n"
-dump_line DumpFinding.NodeInFirst = codes "the first revision of the dump has a node\n"
+dump_line DumpFinding.OtherNumbers = codes "the revisions of the dump are not numbered one by one\n"
+dump_line DumpFinding.NodeInFirst = codes "revision 0 of the dump has a node\n"
+dump_line DumpFinding.SourceBefore = codes "a node of the dump is copied from before its first revision\n"
 dump_line DumpFinding.NodeOutside = codes "a node of the dump stands in no revision: fault 8\n"
 dump_line DumpFinding.NumbersLeft =
     codes "a revision is left out, and those behind it keep their numbers: give --renumber-revs\n"

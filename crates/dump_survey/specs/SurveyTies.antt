@@ -6,15 +6,9 @@ use Rattle.dump_records.specs.DumpText.{Ending, HasRecords}
 use Rattle.dump_rules.specs.Settings.{Settings}
 use Rattle.dump_filter.specs.FilterLaws.{LengthsFit}
 use Rattle.dump_filter.specs.WholeText.{IsCleanText}
-use Rattle.dump_trees.specs.Trees.{Tree, root_alone}
-use Rattle.dump_trees.specs.Changes.{Change}
-use Rattle.dump_trees.specs.Quiet.{nowhere_is_over}
-use Rattle.dump_trees.specs.Revisions.{loaded_over}
 use Rattle.dump_history.specs.RecordChanges.{Patching}
-use Rattle.dump_history.specs.DumpChanges.{MakeRevisions}
-use Rattle.dump_history.specs.DumpLaws.{LoadsRestricted}
 use Rattle.dump_history.specs.Findings.{Finding, is_obstacle, is_alarm}
-use Rattle.dump_history.specs.SurveyLaws.{HaveFindings}
+use Rattle.dump_history.specs.SurveyLaws.{HaveFindings, DumpRestricts}
 use Rattle.dump_survey.specs.declared.survey.Survey.{Survey}
 use Rattle.dump_survey.specs.DumpFindings.{listed_findings}
 use Rattle.dump_survey.specs.Told.{NodeTold, told_view, AreTold}
@@ -40,14 +34,6 @@ ToldOnce = (settings : Settings) (records : List DumpRecord) (told others : List
 -- whether none of the findings that are told is of this kind
 abbrev pub none_told : (Finding → Bool) → List NodeTold → Bool
 none_told test told = not (list_any test (map (λ (t : NodeTold). t.finding) told))
-
--- the dump makes revisions, and if it loads and makes no copy that loses its source over something, what is written of
--- it has the restricted trees
-abbrev pub DumpRestricts : Patching → Settings → List DumpRecord → List ℕ → Type 0
-DumpRestricts patched settings records text = (revisions : List (List Change)) × MakeRevisions patched records revisions
-    × ((trees : List Tree) → loaded_over root_alone revisions ≡ Some trees
-    → IsTrue (nowhere_is_over settings (root_alone ∷ []) root_alone revisions)
-    → LoadsRestricted patched settings records trees text)
 
 -- where the filter's answer is clean, and a survey of the dump tells nothing of the whole, and no obstacle and no alarm
 -- of its nodes, the dump is restricted

@@ -1,12 +1,10 @@
 -- What a survey tells of a dump: each finding in a node of a revision, in order, and where it is.
-use Rattle.std.specs.Prelude.{◌≡◌, ℕ, ◌+◌, List, [], ◌∷◌, ◌++◌, map, Option, Some, None, unwrap_or, if◌then◌else◌, MatchBool}
-use Rattle.dump_text.specs.Names.{copy_revision_name}
-use Rattle.dump_records.specs.HeaderRules.{header_number}
+use Rattle.std.specs.Prelude.{◌≡◌, ℕ, ◌+◌, List, [], ◌∷◌, ◌++◌, map, Option, Some, None, if◌then◌else◌, MatchBool}
 use Rattle.dump_records.specs.RecordText.{DumpRecord}
 use Rattle.dump_rules.specs.Settings.{Settings}
 use Rattle.dump_digest.specs.RecordParts.{is_revision_record, is_node, node_path}
 use Rattle.dump_filter.specs.Groups.{revision_number}
-use Rattle.dump_history.specs.RecordChanges.{copy_path}
+use Rattle.dump_history.specs.RecordChanges.{copy_path, copy_revision}
 use Rattle.dump_history.specs.Findings.{Finding, AreFindingsOf}
 use Rattle.dump_survey.specs.Meaning.{meaning}
 use Rattle.dump_survey.specs.declared.told.Told.{Told}
@@ -33,10 +31,6 @@ told_view t = record {
   copy_path = t.copy_path.now;
   copy_revision = t.copy_revision;
 }
-
--- the number of the revision that the node is copied from
-abbrev pub copy_revision : DumpRecord → ℕ
-copy_revision r = unwrap_or (header_number copy_revision_name r.headers) 0
 
 -- a finding in the node with this number, in this revision
 abbrev pub told_in : ℕ → ℕ → DumpRecord → Finding → NodeTold

@@ -117,12 +117,17 @@ fn push_dump_kinds(lines: &mut Vec<u8>, found: &DumpFindings) -> Result<(), Memo
     push_if(
         lines,
         found.other_numbers,
-        b"in all 1: other numbers than 0, 1, 2 and so on. Filter a part of a history without drop options and --renumber-revs\n",
+        b"in all 1: numbers that do not rise by one. Filter such a dump without drop options and --renumber-revs\n",
     )?;
     push_if(
         lines,
         found.node_in_first,
-        b"in all 1: a node in the first revision. Load a part of a history behind the revisions before it\n",
+        b"in all 1: a node in revision 0. Have the dump made again\n",
+    )?;
+    push_if(
+        lines,
+        found.source_before,
+        b"in all 1: copies from before the first revision. Dump from an earlier revision on\n",
     )?;
     push_if(
         lines,

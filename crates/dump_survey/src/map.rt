@@ -1,5 +1,5 @@
 //! The map of revisions: the old and the new number of each one that the filter keeps.
-ghost use Rattle.std.specs.Prelude.{◌≡◌, ◌≢◌, ◌<◌, ◌++◌, ◌^◌, [], ◌∷◌, Err, IfOk, List, OnErr, OnOk, codes, decimal, unwrap_or, ℕ};
+ghost use Rattle.std.specs.Prelude.{◌≡◌, ◌≢◌, ◌<◌, ◌++◌, ◌^◌, [], ◌∷◌, Err, IfOk, List, OnErr, OnOk, codes, decimal, ℕ};
 ghost use Rattle.std.specs.List.{concat};
 ghost use Rattle.std.specs.Io.KnownBytes.{Appends};
 ghost use Rattle.std.specs.List.Sorted.{IsNonDecreasing, IsPermutation};
@@ -7,7 +7,7 @@ ghost use Rattle.dump_records.specs.steps.RecordViews.{record_item};
 ghost use Rattle.dump_filter.specs.NewHeaders.{written_number};
 ghost use Rattle.dump_writer.specs.SinkWords.{HasFailedSince};
 ghost use Rattle.dump_survey.specs.RevisionMap.{IsRevisionMap, TakesSomeOfMap, map_line, map_lines};
-ghost use Rattle.dump_survey.specs.steps.KeptNumbers.{AreKeptIn, ended_numbers, first_with, kept_view, numbers_before};
+ghost use Rattle.dump_survey.specs.steps.KeptNumbers.{AreKeptIn, ended_numbers, kept_view, numbers_before};
 
 use crate::memory::Memory;
 use crate::survey_lines::push_number;
@@ -53,33 +53,15 @@ fn push_before(
     Ok(())
 }
 
-/// The number of the first revision, if there is one so far.
-fn first_with(first: Option<u64>, tally: &Tally) -> Option<u64>
-    ensures { result ≡ first_with first tally.now.present }
-{
-    if let Some(number) = first {
-        return Some(number);
-    }
-    match tally.present {
-        Some(present) => Some(present.number),
-        None => None,
-    }
-}
-
 /// The kept revisions, where the records end.
-fn ended(
-    mut numbers: Vec<u64>,
-    first: Option<u64>,
-    tally: &Tally,
-    options: &Options,
-) -> Result<KeptNumbers, Memory>
-    ensures first { IfOk result (λ kept. kept.first ≡ unwrap_or first 0) }
+fn ended(mut numbers: Vec<u64>, tally: &Tally, options: &Options) -> Result<KeptNumbers, Memory>
+    ensures first { IfOk result (λ kept. kept.first ≡ tally.now.first) }
     ensures numbers { IfOk result (λ kept.
         kept.numbers.items ≡ numbers.items ++ ended_numbers options.now tally.now.present) }
 {
     push_ended(&mut numbers, tally, options)?;
     Ok(KeptNumbers {
-        first: first.unwrap_or(0),
+        first: tally.first,
         numbers,
     })
 }
@@ -90,17 +72,15 @@ fn kept_in(alloc: Global, dump: &[u8], options: &Options) -> Result<KeptNumbers,
 {
     let mut cutter = Cutter::new(dump);
     let mut tally = Tally::new();
-    let mut first = None;
     let mut numbers = Vec::new(alloc);
     loop {
         match cutter.next() {
             Cut::Item(item) => {
                 push_before(&mut numbers, &tally, &item, options)?;
                 tally = tally.with(&item, options);
-                first = first_with(first, &tally);
             }
-            Cut::Finished => return ended(numbers, first, &tally, options),
-            Cut::Fault { .. } => return ended(numbers, first, &tally, options),
+            Cut::Finished => return ended(numbers, &tally, options),
+            Cut::Fault { .. } => return ended(numbers, &tally, options),
         }
     }
 }

@@ -188,12 +188,17 @@ fn push_dump_lines(lines: &mut Vec<u8>, found: &DumpFindings) -> Result<(), Memo
     push_if(
         lines,
         found.other_numbers,
-        b"the revisions of the dump are not numbered 0, 1, 2 and so on\n",
+        b"the revisions of the dump are not numbered one by one\n",
     )?;
     push_if(
         lines,
         found.node_in_first,
-        b"the first revision of the dump has a node\n",
+        b"revision 0 of the dump has a node\n",
+    )?;
+    push_if(
+        lines,
+        found.source_before,
+        b"a node of the dump is copied from before its first revision\n",
     )?;
     push_if(
         lines,

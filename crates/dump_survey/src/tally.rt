@@ -1,9 +1,12 @@
 //! What is known of the revisions of a dump, behind the records that came.
-ghost use Rattle.std.specs.Prelude.{◌≡◌, ◌+◌, ◌<◌, ◌^◌, Some};
+ghost use Rattle.std.specs.Prelude.{◌≡◌, ◌+◌, ◌<◌, ◌==◌, ◌^◌, IsTrue, Some};
 ghost use Rattle.dump_records.specs.steps.RecordViews.{record_item};
-ghost use Rattle.dump_survey.specs.steps.Tally.{no_tally, keeps_open, keeps_present, node_tally, next_tally, tally_findings};
+ghost use Rattle.dump_digest.specs.RecordParts.{is_kept_node, is_node};
+ghost use Rattle.dump_history.specs.Findings.{copies_from_before};
+ghost use Rattle.dump_survey.specs.steps.Tally.{first_with, no_tally, keeps_open, keeps_present, node_tally, next_tally, tally_findings};
 ghost use Rattle.dump_survey.specs.DumpFindings.{listed_findings};
 
+use crate::node::{copy_revision_of, makes_copy};
 use dump_digest::is_kept;
 use dump_records::Record;
 use dump_rules::{Empty, Options};
@@ -13,10 +16,12 @@ use dump_rules::{Empty, Options};
 pub struct DumpFindings {
     /// It has no revision.
     pub no_revision: bool,
-    /// Its revisions aren't numbered 0, 1, 2 and so on.
+    /// Its revisions aren't numbered on, one by one, from the number of the first one.
     pub other_numbers: bool,
-    /// Its first revision has a node.
+    /// Its first revision is revision 0, and has a node.
     pub node_in_first: bool,
+    /// A node of a revision is a copy from one before the first revision.
+    pub source_before: bool,
     /// A node stands outside of any revision.
     pub node_outside: bool,
     /// A revision is dropped, and the others aren't renumbered.
@@ -47,15 +52,34 @@ impl Present {
     }
 }
 
+/// Whether the number is the first one and so much more.
+fn is_above(first: u64, count: u64, number: u64) -> bool
+    ensures { result ≡ (number == first + count) }
+{
+    number >= first && number - first == count
+}
+
+/// Whether a node makes a copy from a revision before this one.
+fn copies_from_before(item: &Record<'_>, first: u64) -> bool
+    requires { IsTrue (is_node (record_item item.now)) }
+    ensures { result ≡ copies_from_before first (record_item item.now) }
+{
+    makes_copy(item) && copy_revision_of(item) < first
+}
+
 /// What the records up to one say of the dump's revisions.
 #[derive(Clone, Copy)]
 pub(crate) struct Tally {
     /// How many revisions there are.
     count: u64,
-    /// Whether they are numbered 0, 1, 2 and so on.
+    /// The number of the first one; 0 where there is none.
+    pub(crate) first: u64,
+    /// Whether they are numbered on from that, one by one.
     numbered: bool,
     /// Whether the first one has a node.
     node_in_first: bool,
+    /// Whether a node of one of them is a copy from before the first one.
+    source_before: bool,
     /// Whether a node stands outside of any revision.
     node_outside: bool,
     /// Whether each revision before the present one is kept.
@@ -70,8 +94,10 @@ impl Tally {
     {
         Tally {
             count: 0,
+            first: 0,
             numbered: true,
             node_in_first: false,
+            source_before: false,
             node_outside: false,
             all_kept: true,
             present: None,
@@ -88,15 +114,24 @@ impl Tally {
         }
     }
 
+    /// The number of the first revision, where one of this number comes.
+    fn first_with(&self, number: u64) -> u64
+        ensures { result ≡ first_with self.now number }
+    {
+        if self.count == 0 { number } else { self.first }
+    }
+
     /// That of one more record.
     pub(crate) fn with(&self, item: &Record<'_>, options: &Options) -> Tally
         requires { self.now.count + 1 < 2 ^ 64 }
         ensures { result ≡ next_tally options.now self.now (record_item item.now) }
     {
         if let Some(number) = item.revision() {
+            let first = self.first_with(number);
             Tally {
                 count: self.count + 1,
-                numbered: self.numbered && number == self.count,
+                first,
+                numbered: self.numbered && is_above(first, self.count, number),
                 all_kept: self.keeps_all(options),
                 present: Some(Present {
                     number,
@@ -106,7 +141,7 @@ impl Tally {
                 ..*self
             }
         } else if item.path().is_some() {
-            self.with_node(is_kept(item, options))
+            self.with_node(item, options)
         } else {
             Tally {
                 all_kept: self.keeps_all(options),
@@ -116,10 +151,14 @@ impl Tally {
         }
     }
 
-    /// That of one more node, which is kept or not.
-    fn with_node(&self, kept: bool) -> Tally
-        ensures { result ≡ node_tally self.now kept self.now.present }
+    /// That of one more node.
+    fn with_node(&self, item: &Record<'_>, options: &Options) -> Tally
+        requires { IsTrue (is_node (record_item item.now)) }
+        ensures { result ≡ node_tally self.now (is_kept_node options.now (record_item item.now))
+            (copies_from_before self.now.first (record_item item.now)) self.now.present }
     {
+        let kept = is_kept(item, options);
+        let early = copies_from_before(item, self.first);
         let Some(present) = self.present else {
             return Tally {
                 node_outside: true,
@@ -128,6 +167,7 @@ impl Tally {
         };
         Tally {
             node_in_first: self.node_in_first || self.count == 1,
+            source_before: self.source_before || early,
             present: Some(Present {
                 number: present.number,
                 bare: false,
@@ -144,7 +184,8 @@ impl Tally {
         DumpFindings {
             no_revision: self.count == 0,
             other_numbers: !self.numbered,
-            node_in_first: self.node_in_first,
+            node_in_first: self.first == 0 && self.node_in_first,
+            source_before: self.source_before,
             node_outside: self.node_outside,
             numbers_left: !options.renumber() && !self.keeps_all(options),
         }

@@ -19,12 +19,6 @@ ended_numbers settings (Some p) = if keeps_open settings (Some p) then p.number 
 abbrev pub numbers_before : Settings → Option Present → DumpRecord → List ℕ
 numbers_before settings p r = if is_node r then [] else ended_numbers settings p
 
--- the number of the first revision, where this one is known and that one is present
-abbrev pub first_with : Option ℕ → Option Present → Option ℕ
-first_with (Some n) p = Some n
-first_with None None = None
-first_with None (Some p) = Some p.number
-
 -- the kept revisions as the program has them
 abbrev pub kept_view : KeptNumbers → KeptRevisions
 kept_view k = record { first = k.first; numbers = k.numbers.items }

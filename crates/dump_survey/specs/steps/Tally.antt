@@ -1,10 +1,10 @@
 -- What is known of the revisions of a dump, record by record.
-use Rattle.std.specs.Prelude.{◌+◌, ◌==◌, Bool, true, false, not, ◌&&◌, ◌||◌, List, [], ◌∷◌, filter, Option, Some, None, if◌then◌else◌}
+use Rattle.std.specs.Prelude.{ℕ, ◌+◌, ◌==◌, Bool, true, false, not, ◌&&◌, ◌||◌, List, [], ◌∷◌, filter, Option, Some, None, if◌then◌else◌}
 use Rattle.dump_records.specs.RecordText.{DumpRecord}
 use Rattle.dump_rules.specs.Settings.{Settings}
 use Rattle.dump_digest.specs.RecordParts.{is_revision_record, is_node, is_kept_node}
 use Rattle.dump_filter.specs.Groups.{revision_number, keeps_empty}
-use Rattle.dump_history.specs.Findings.{DumpFinding, every_dump_finding}
+use Rattle.dump_history.specs.Findings.{DumpFinding, every_dump_finding, copies_from_before}
 use Rattle.dump_survey.specs.declared.tally.Present.{Present}
 use Rattle.dump_survey.specs.declared.tally.Tally.{Tally}
 
@@ -12,8 +12,10 @@ use Rattle.dump_survey.specs.declared.tally.Tally.{Tally}
 abbrev pub no_tally : Tally
 no_tally = record {
   count = 0;
+  first = 0;
   numbered = true;
   node_in_first = false;
+  source_before = false;
   node_outside = false;
   all_kept = true;
   present = None;
@@ -28,22 +30,30 @@ keeps_open settings (Some p) = p.number == 0 || p.kept || keeps_empty settings.e
 abbrev pub keeps_present : Settings → Tally → Bool
 keeps_present settings t = t.all_kept && keeps_open settings t.present
 
+-- the number of the first revision, where one of this number comes
+abbrev pub first_with : Tally → ℕ → ℕ
+first_with t number = if t.count == 0 then number else t.first
+
 -- behind a revision
 abbrev pub revision_tally : Settings → Tally → DumpRecord → Tally
 revision_tally settings t r = record {
   count = t.count + 1;
-  numbered = t.numbered && revision_number r == t.count;
+  first = first_with t (revision_number r);
+  numbered = t.numbered && revision_number r == first_with t (revision_number r) + t.count;
   node_in_first = t.node_in_first;
+  source_before = t.source_before;
   node_outside = t.node_outside;
   all_kept = keeps_present settings t;
   present = Some (record { number = revision_number r; bare = true; kept = false });
 }
 
--- behind a node, which is kept or not, and stands outside of any revision where none is present
-abbrev pub node_tally : Tally → Bool → Option Present → Tally
-node_tally t kept None = record t { node_outside = true }
-node_tally t kept (Some p) = record t {
+-- behind a node, which is kept or not, is a copy from before the first revision or not, and stands outside of any
+-- revision where none is present
+abbrev pub node_tally : Tally → Bool → Bool → Option Present → Tally
+node_tally t kept early None = record t { node_outside = true }
+node_tally t kept early (Some p) = record t {
   node_in_first = t.node_in_first || t.count == 1;
+  source_before = t.source_before || early;
   present = Some (record { number = p.number; bare = false; kept = p.kept || kept });
 }
 
@@ -55,7 +65,7 @@ other_tally settings t = record t { all_kept = keeps_present settings t; present
 abbrev pub next_tally : Settings → Tally → DumpRecord → Tally
 next_tally settings t r =
     if is_revision_record r then revision_tally settings t r
-    else if is_node r then node_tally t (is_kept_node settings r) t.present
+    else if is_node r then node_tally t (is_kept_node settings r) (copies_from_before t.first r) t.present
     else other_tally settings t
 
 -- behind these records
@@ -67,7 +77,8 @@ tally_behind settings t (r ∷ records) = tally_behind settings (next_tally sett
 abbrev pub is_tallied : Settings → Tally → DumpFinding → Bool
 is_tallied settings t DumpFinding.NoRevision = t.count == 0
 is_tallied settings t DumpFinding.OtherNumbers = not t.numbered
-is_tallied settings t DumpFinding.NodeInFirst = t.node_in_first
+is_tallied settings t DumpFinding.NodeInFirst = t.first == 0 && t.node_in_first
+is_tallied settings t DumpFinding.SourceBefore = t.source_before
 is_tallied settings t DumpFinding.NodeOutside = t.node_outside
 is_tallied settings t DumpFinding.NumbersLeft = not settings.renumber && not (keeps_present settings t)
 
