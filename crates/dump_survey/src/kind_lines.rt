@@ -117,7 +117,7 @@ fn push_dump_kinds(lines: &mut Vec<u8>, found: &DumpFindings) -> Result<(), Memo
     push_if(
         lines,
         found.other_numbers,
-        b"in all 1: numbers that do not rise by one. Filter such a dump without drop options and --renumber-revs\n",
+        b"in all 1: numbers that do not rise by one. Renumber the dump first: svndumpfilter include --renumber-revs /\n",
     )?;
     push_if(
         lines,

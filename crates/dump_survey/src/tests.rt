@@ -23,6 +23,7 @@ const NOTHING: DumpFindings = DumpFindings {
     no_revision: false,
     other_numbers: false,
     node_in_first: false,
+    source_before: false,
     node_outside: false,
     numbers_left: false,
 };
@@ -67,10 +68,6 @@ fn what_is_found_in_a_dump_is_told_at_its_end(rt: HostRuntime) -> Result<(), Fai
         no_revision: true,
         ..NOTHING
     };
-    let other = DumpFindings {
-        other_numbers: true,
-        ..NOTHING
-    };
     let first = DumpFindings {
         node_in_first: true,
         ..NOTHING
@@ -83,7 +80,6 @@ fn what_is_found_in_a_dump_is_told_at_its_end(rt: HostRuntime) -> Result<(), Fai
         ("", none, End::Whole),
         ("Revision-number: 0", none, broken),
         ("Revision-number: 0\n\n", NOTHING, End::Whole),
-        ("Revision-number: 1\n\n", other, End::Whole),
         ("Revision-number: 0\n\nNode-path: a\n\n", first, End::Whole),
         (
             "Revision-number: 0\n\nUUID: a\n\nNode-path: a\n\n",
@@ -96,6 +92,32 @@ fn what_is_found_in_a_dump_is_told_at_its_end(rt: HostRuntime) -> Result<(), Fai
         let dump = format!(in rt.alloc(); "SVN-fs-dump-format-version: 2\n\n{records}")?;
         let survey = survey_dump(rt.alloc(), dump.as_bytes(), &options)?;
         assert!(rt; ends_with(&survey, found, end), "{records}");
+    }
+    Ok(())
+}
+
+#[test]
+fn a_part_of_a_history_is_told_where_its_load_goes_wrong(rt: HostRuntime) -> Result<(), Fail> {
+    let gap = DumpFindings {
+        other_numbers: true,
+        ..NOTHING
+    };
+    let early = DumpFindings {
+        source_before: true,
+        ..NOTHING
+    };
+    let rows = [
+        ("Node-path: a\n\n", NOTHING),
+        ("Node-path: a\n\nRevision-number: 7\n\n", gap),
+        ("Node-path: a\nNode-action: add\nNode-copyfrom-path: b\nNode-copyfrom-rev: 5\n\n", NOTHING),
+        ("Node-path: a\nNode-action: add\nNode-copyfrom-path: b\nNode-copyfrom-rev: 4\n\n", early),
+    ];
+    let options = rules(rt.alloc(), Side::Include, "trunk")?;
+    for (records, found) in rows {
+        let dump = format!(in rt.alloc();
+            "SVN-fs-dump-format-version: 2\n\nRevision-number: 5\n\n{records}")?;
+        let survey = survey_dump(rt.alloc(), dump.as_bytes(), &options)?;
+        assert!(rt; ends_with(&survey, found, End::Whole), "{records}");
     }
     Ok(())
 }
