@@ -1,3 +1,5 @@
+pub mod CutLemmas
+mod CutValues
 pub mod FolderLemmas
 pub mod GivenLemmas
 pub mod GrowthLemmas
@@ -8,6 +10,7 @@ pub mod LineLemmas
 pub mod LossLemmas
 pub mod MergeinfoLemmas
 pub mod NameLemmas
+pub mod NamedLemmas
 pub mod NeedLemmas
 pub mod NodeLemmas
 pub mod PlainLemmas

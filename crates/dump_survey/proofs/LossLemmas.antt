@@ -1,5 +1,5 @@
 -- What the filter's cut does to a node, by what the node is.
-use Rattle.std.proofs.Common.{◌≡◌, true, false, not, ◌&&◌, refl}
+use Rattle.std.proofs.Common.{◌≡◌, true, false, not, ◌&&◌, None, refl}
 use Rattle.std.proofs.Math.Bool.{and-false, and-true}
 use Rattle.dump_text.specs.Names.{property_length_name}
 use Rattle.dump_text.specs.HeaderLine.{has_header}
@@ -17,8 +17,8 @@ abbrev pub no_losses : Losses
 no_losses = record {
   no_whole_file = false;
   properties_lost = false;
-  copy_loses = false;
-  copy_lets_in = false;
+  copy_loses = None;
+  copy_lets_in = None;
   folder_takes = false;
   folder_brings = false;
   text_comes_in = false;
@@ -31,7 +31,9 @@ module _ (settings : Settings) (r : DumpRecord) (kept : has_kept_path settings r
     no_whole_file = rw (kept, copy) refl;
     properties_lost = rw (kept, copy, and-false (makes r)) refl;
     copy_loses = rw (kept, copy, and-false (makes r)) refl;
+    loses_by = λ none. cc;
     copy_lets_in = rw (kept, copy, and-false (makes r)) refl;
+    lets_in_by = λ none. cc;
     folder_takes = rw kept refl;
     folder_brings = rw kept refl;
     text_comes_in = rw (kept, copy, and-false (is_exclude settings.side && true && makes r)) refl;
@@ -41,8 +43,8 @@ module _ (settings : Settings) (r : DumpRecord) (kept : has_kept_path settings r
   pub lost_losses : is_copy r ≡ true → has_kept_source settings r ≡ false → AreLossesOf settings r (record {
     no_whole_file = not (is_whole_file r);
     properties_lost = makes r && not (has_header property_length_name r.headers);
-    copy_loses = false;
-    copy_lets_in = false;
+    copy_loses = None;
+    copy_lets_in = None;
     folder_takes = false;
     folder_brings = false;
     text_comes_in = is_exclude settings.side && makes r && is_whole_file r;
@@ -51,7 +53,9 @@ module _ (settings : Settings) (r : DumpRecord) (kept : has_kept_path settings r
     no_whole_file = rw (kept, copy, lost) refl;
     properties_lost = rw (kept, copy, lost, and-true (makes r), and-true (makes r)) refl;
     copy_loses = rw (kept, copy, lost, and-true (makes r), and-false (makes r)) refl;
+    loses_by = λ none. cc;
     copy_lets_in = rw (kept, copy, lost, and-true (makes r), and-false (makes r)) refl;
+    lets_in_by = λ none. cc;
     folder_takes = rw kept refl;
     folder_brings = rw kept refl;
     text_comes_in = rw (kept, copy, lost, and-true (is_exclude settings.side)) refl;

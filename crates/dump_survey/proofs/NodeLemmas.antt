@@ -7,7 +7,7 @@ use Rattle.dump_records.specs.RecordText.{DumpRecord}
 use Rattle.dump_records.specs.steps.RecordViews.{part_of_node}
 use Rattle.dump_digest.specs.RecordParts.{is_node, is_copy}
 
-copied_there : (found : Option (Bor (List ℕ))) → is_some found ≡ is_some (option_copied found)
+pub copied_there : (found : Option (Bor (List ℕ))) → is_some found ≡ is_some (option_copied found)
 copied_there None = refl
 copied_there (Some path) = refl
 

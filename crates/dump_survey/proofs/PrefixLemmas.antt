@@ -6,14 +6,12 @@ use Rattle.std.proofs.lemmas.Bool.{or_from, or_right}
 use borrow.Author.Tests.{ltb-true, ltb-false}
 use Rattle.std.specs.List.{starts_with, list_any, list_all, slice_get}
 use Rattle.dump_rules.specs.Prefix.{bare_path, bare_prefix, begins_path}
-use Rattle.dump_rules.specs.declared.options.Side.TheVariants.{Include, Exclude}
+use Rattle.dump_rules.specs.declared.options.Side.TheVariants.{Include}
 use Rattle.dump_rules.specs.Settings.{Settings}
 use Rattle.dump_trees.specs.Restriction.{is_above_some}
-use Rattle.dump_trees.specs.Quiet.{cuts_alike}
-use Rattle.dump_history.specs.Findings.{cuts}
 use Rattle.dump_trees.specs.Paths.{path_of, path_text, names_of}
 use Rattle.dump_trees.proofs.paths.PathNames.{split_text}
-use Rattle.dump_survey.specs.steps.Prefixes.{behind_slash, is_below, IsRestBelow, cuts_below}
+use Rattle.dump_survey.specs.steps.Prefixes.{behind_slash, is_below, IsRestBelow}
 
 eq_sym : (a b : ℕ) → nat_eq a b ≡ nat_eq b a
 eq_sym a b = grind arith
@@ -122,7 +120,7 @@ some_bare : (test : List ℕ → Bool) (items : List (Bor (List ℕ))) (prefixes
     → list_any (λ item. test item.now) items ≡ list_any (λ prefix. test (bare_prefix prefix)) prefixes
 some_bare test items prefixes same = any_lent test items ∙ (ap (list_any test) same ∙ any_bare test prefixes)
 
-not_all : (test : List ℕ → Bool) (xs : List (List ℕ))
+pub not_all : (test : List ℕ → Bool) (xs : List (List ℕ))
     → list_any test xs ≡ not (list_all (λ x. not (test x)) xs)
 not_all test [] = refl
 not_all test (x ∷ xs) = cases (not_all test xs) (test x)
@@ -139,21 +137,8 @@ some_above settings path items same included =
     some_bare (is_below path) items settings.prefixes same
     ∙ ap (λ side. is_above_some side settings.prefixes (path_of path)) (sym included)
 
--- or cuts below it what is kept below another one
-pub some_cut : (settings : Settings) (path other : List ℕ) (items : List (Bor (List ℕ)))
-    → map (λ item. item.now) items ≡ map bare_prefix settings.prefixes → settings.side ≡ Exclude
-    → list_any (λ item. cuts_below settings path other item.now) items ≡ cuts settings path other
-some_cut settings path other items same excluded =
-    some_bare (cuts_below settings path other) items settings.prefixes same
-    ∙ (not_all (λ prefix. cuts_below settings path other (bare_prefix prefix)) settings.prefixes
-    ∙ ap (λ side. not (cuts_alike side settings (path_of path) (path_of other))) (sym excluded))
-
-pub none_cut : (settings : Settings) (path other : List ℕ) → settings.side ≡ Include → false ≡ cuts settings path other
-none_cut settings path other included =
-    ap (λ side. not (cuts_alike side settings (path_of path) (path_of other))) (sym included)
-
 -- the prefix at this place, and where there is none
-next_prefix : (all : List (List ℕ)) (n : ℕ) (prefix : List ℕ) → slice_get all n ≡ Some prefix
+pub next_prefix : (all : List (List ℕ)) (n : ℕ) (prefix : List ℕ) → slice_get all n ≡ Some prefix
     → drop n all ≡ prefix ∷ drop (n + 1) all
 next_prefix all n prefix at = drop_more all n [] (slice_get_within all n prefix at)
     ∙ ap (λ p. p ∷ drop (n + 1) all) (get_or_from_slice_get all n prefix [] at)

@@ -25,11 +25,11 @@ told_of_record settings number None r = ([], refl)
 told_of_record settings number (Some revision) r = by (is_node r)
   where
     by : (b : Bool) → (told : List NodeTold) × MatchBool b
-        ((found : List Finding) × AreFindingsOf settings r found × (told ≡ map (told_in number revision r) found))
+        ((found : List Finding) × AreFindingsOf settings r found × (told ≡ map (told_in settings number revision r) found))
         (told ≡ [])
     by true =
         let (found, are, once) = findings_once settings r in
-        (map (told_in number revision r) found, (found, are, refl))
+        (map (told_in settings number revision r) found, (found, are, refl))
     by false = ([], refl)
 
 -- and of any records

@@ -1,5 +1,5 @@
 -- What a surveyor knows goes on to one more record, and tells what is found where the records end.
-use Rattle.std.proofs.Common.{◌≡◌, ℕ, ◌+◌, ◌^◌, ◌<◌, ◌≤◌, Bool, true, false, not, ◌&&◌, List, [], ◌∷◌, ◌++◌, length, length-append, map, Option, Some, None, refl, sym, ap, ◌∙◌, subst, arith, inl, inr, Result, Ok, Err, MatchBool}
+use Rattle.std.proofs.Common.{◌≡◌, ℕ, ◌+◌, ◌^◌, ◌<◌, ◌≤◌, Bool, true, false, not, ◌&&◌, List, [], ◌∷◌, ◌++◌, length, length-append, map, filter, cond, Option, Some, None, refl, sym, ap, ap₂, ◌∙◌, subst, arith, inl, inr, Result, Ok, Err, MatchBool}
 use Rattle.std.specs.Result.{IfOk}
 use Rattle.std.specs.List.{list_all}
 use Rattle.std.proofs.lemmas.Bool.{and_from}
@@ -27,9 +27,10 @@ use Rattle.dump_survey.specs.declared.surveyor.Step.{Step}
 use Rattle.dump_survey.specs.declared.surveyor.Step.TheVariants.{Node, Other, Finished}
 use Rattle.dump_survey.specs.declared.memory.Memory.{Memory}
 use Rattle.dump_survey.specs.steps.Found.{has_found, merge_faults, IsFoundIn}
-use Rattle.dump_survey.specs.Told.{NodeTold, IsToldOf, told_in}
+use Rattle.dump_survey.specs.declared.told.SurveyedNode.{SurveyedNode}
+use Rattle.dump_survey.specs.Told.{NodeTold, IsToldOf, told_in, told_naming}
 use Rattle.dump_survey.specs.steps.Found.{listed}
-use Rattle.dump_survey.specs.steps.Surveyed.{told_of_node}
+use Rattle.dump_survey.specs.steps.Surveyed.{told_of_finding, told_of_node}
 use Rattle.dump_survey.specs.SurveyEnds.{survey_ending}
 use Rattle.dump_survey.specs.steps.Folders.{HaveSame}
 use Rattle.dump_survey.specs.PrefixFindings.{PrefixTold}
@@ -107,7 +108,7 @@ at_first dump settings prefixes idle tally cutter is same all none = record {
 -- what is found is what is found in the node
 found_is : (settings : Settings) (r : DumpRecord) (found : Found) → IsFoundIn settings r found
     → AreFindingsOf settings r (listed found)
-found_is settings r found (faults, exact) =
+found_is settings r found (faults, exact, named) =
     let (fs, (ps, m, read, of, is), once) = findings_once settings r in (
       ps,
       merge_faults found.mergeinfo,
@@ -117,13 +118,39 @@ found_is settings r found (faults, exact) =
           (exact ps read) every_finding,
     )
 
+-- each finding of a node is told with the prefix that cuts
+told_as : (settings : Settings) (node : SurveyedNode) → IsFoundIn settings (record_item node.item) node.found
+    → told_of_node node
+    ≡ map (told_in settings (record_number node.item) node.revision (record_item node.item)) (listed node.found)
+told_as settings node (faults, exact, named) =
+    same_of_those (has_found node.found) (told_of_finding node) (told_in settings number node.revision r)
+    (λ f has. ap (λ p. told_naming p number node.revision r f) (named f has)) every_finding
+  where
+    r : DumpRecord
+    r = record_item node.item
+
+    number : ℕ
+    number = record_number node.item
+
+    same_of_those : (test : Finding → Bool) (one other : Finding → NodeTold)
+        → ((f : Finding) → test f ≡ true → one f ≡ other f) → (fs : List Finding)
+        → map one (filter test fs) ≡ map other (filter test fs)
+    same_of_those test one other same [] = refl
+    same_of_those test one other same (f ∷ fs) = by (test f) refl (same_of_those test one other same fs)
+      where
+        by : (b : Bool) → test f ≡ b → map one (filter test fs) ≡ map other (filter test fs)
+            → map one (cond b (f ∷ filter test fs) (filter test fs))
+            ≡ map other (cond b (f ∷ filter test fs) (filter test fs))
+        by true is more = ap₂ (λ t ts. t ∷ ts) (same f is) more
+        by false is more = more
+
 -- what is found in a node of a revision is told of it
 told_of : (settings : Settings) (number revision : ℕ) (r : DumpRecord) (found : List Finding) (told : List NodeTold)
-    → is_node r ≡ true → AreFindingsOf settings r found → told ≡ map (told_in number revision r) found
+    → is_node r ≡ true → AreFindingsOf settings r found → told ≡ map (told_in settings number revision r) found
     → IsToldOf settings number (Some revision) r told
 told_of settings number revision r found told node are is =
     subst (λ (b : Bool). MatchBool b
-    ((fs : List Finding) × AreFindingsOf settings r fs × (told ≡ map (told_in number revision r) fs)) (told ≡ []))
+    ((fs : List Finding) × AreFindingsOf settings r fs × (told ≡ map (told_in settings number revision r) fs)) (told ≡ []))
     (sym node) (found, are, is)
 
 module _ (settings : Settings) (prefixes idle : List (List ℕ)) (tally : Tally) (cutter after : CutterState)
@@ -211,9 +238,9 @@ module _ (settings : Settings) (prefixes idle : List (List ℕ)) (tally : Tally)
       node_is,
       subst (λ (p : Option ℕ). IsToldOf settings cutter.number p r (told_of_node node)) (sym revision ∙ present)
           (told_of settings cutter.number node.revision r (listed node.found) (told_of_node node) node_is
-          (found_is settings r node.found
-          (subst (λ (i : Record). IsFoundIn settings (record_item i) node.found) (sym same) found))
-          (ap (λ n. map (told_in n node.revision r) (listed node.found)) number)),
+          (found_is settings r node.found finds)
+          (told_as settings node finds
+          ∙ ap (λ n. map (told_in settings n node.revision r) (listed node.found)) number)),
     )
       where
         r : DumpRecord
@@ -224,6 +251,9 @@ module _ (settings : Settings) (prefixes idle : List (List ℕ)) (tally : Tally)
 
         node_is : is_node r ≡ true
         node_is = ap (λ (i : Record). is_node (record_item i)) same ∙ is
+
+        finds : IsFoundIn settings r node.found
+        finds = subst (λ (i : Record). IsFoundIn settings (record_item i) node.found) (sym same) found
 
     -- so where there was memory
     pub stepped_ok : (result : Result Step Memory) → IfOk result (IsStepOf settings item tally.present)

@@ -35,10 +35,10 @@ abbrev own_nodes : Option ℕ → List DumpRecord → List DumpRecord
 own_nodes None records = []
 own_nodes (Some revision) records = nodes records
 
-told_findings : (number revision : ℕ) (r : DumpRecord) (found : List Finding)
-    → findings (map (told_in number revision r) found) ≡ found
-told_findings number revision r [] = refl
-told_findings number revision r (f ∷ found) = ap (λ fs. f ∷ fs) (told_findings number revision r found)
+told_findings : (settings : Settings) (number revision : ℕ) (r : DumpRecord) (found : List Finding)
+    → findings (map (told_in settings number revision r) found) ≡ found
+told_findings settings number revision r [] = refl
+told_findings settings number revision r (f ∷ found) = ap (λ fs. f ∷ fs) (told_findings settings number revision r found)
 
 module _ (settings : Settings) (number : ℕ) (r : DumpRecord) (records : List DumpRecord) where
   -- of a record that is no node nothing is told
@@ -46,7 +46,7 @@ module _ (settings : Settings) (number : ℕ) (r : DumpRecord) (records : List D
       → IsToldOf settings number present r this → this ≡ []
   none_told None this other is = is
   none_told (Some revision) this other is = subst (λ (b : Bool). MatchBool b
-      ((found : List Finding) × AreFindingsOf settings r found × (this ≡ map (told_in number revision r) found))
+      ((found : List Finding) × AreFindingsOf settings r found × (this ≡ map (told_in settings number revision r) found))
       (this ≡ [])) other is
 
   no_nodes : (present : Option ℕ) → is_node r ≡ false → own_nodes present (r ∷ records) ≡ []
@@ -90,7 +90,7 @@ module _ (settings : Settings) (number : ℕ) (r : DumpRecord) (records : List D
   }
   covers_node (Some revision) this others node is rest =
       let (fs, are, this_is) = subst (λ (b : Bool). MatchBool b
-      ((found : List Finding) × AreFindingsOf settings r found × (this ≡ map (told_in number revision r) found))
+      ((found : List Finding) × AreFindingsOf settings r found × (this ≡ map (told_in settings number revision r) found))
       (this ≡ [])) node is in record {
         first = fs ∷ rest.first;
         found = rest.found;
@@ -98,7 +98,7 @@ module _ (settings : Settings) (number : ℕ) (r : DumpRecord) (records : List D
             (sym (nodes_more r records node)) (are, rest.of_nodes);
         of_groups = rest.of_groups;
         same = map-append (λ (t : NodeTold). t.finding) this others
-            ∙ (ap₂ (λ l m. l ++ m) (ap findings this_is ∙ told_findings number revision r fs) rest.same
+            ∙ (ap₂ (λ l m. l ++ m) (ap findings this_is ∙ told_findings settings number revision r fs) rest.same
             ∙ sym (append_assoc fs (node_findings rest.first) (all_findings rest.found)));
       }
 
@@ -144,12 +144,12 @@ one_told settings number None r x y is too = too ∙ sym is
 one_told settings number (Some revision) r x y is too = by (is_node r) is too
   where
     by : (b : Bool) → MatchBool b
-        ((fs : List Finding) × AreFindingsOf settings r fs × (x ≡ map (told_in number revision r) fs)) (x ≡ [])
+        ((fs : List Finding) × AreFindingsOf settings r fs × (x ≡ map (told_in settings number revision r) fs)) (x ≡ [])
         → MatchBool b
-        ((fs : List Finding) × AreFindingsOf settings r fs × (y ≡ map (told_in number revision r) fs)) (y ≡ []) → y ≡ x
+        ((fs : List Finding) × AreFindingsOf settings r fs × (y ≡ map (told_in settings number revision r) fs)) (y ≡ []) → y ≡ x
     by true (fs, are, is) (gs, are_too, is_too) =
         let (all, has, once) = findings_once settings r in
-        is_too ∙ (ap (map (told_in number revision r)) (once gs are_too ∙ sym (once fs are)) ∙ sym is)
+        is_too ∙ (ap (map (told_in settings number revision r)) (once gs are_too ∙ sym (once fs are)) ∙ sym is)
     by false is too = too ∙ sym is
 
 told_once_from : (settings : Settings) (number : ℕ) (present : Option ℕ) (records : List DumpRecord)

@@ -1,4 +1,5 @@
 pub mod AsWellLines
+pub mod CuttingPrefix
 pub mod DumpFindings
 pub mod Folders
 pub mod KeepAsWell

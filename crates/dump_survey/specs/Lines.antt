@@ -1,5 +1,5 @@
 -- The lines of a survey, word for word.
-use Rattle.std.specs.Prelude.{ℕ, ◌+◌, ◌/◌, ◌%◌, Bool, true, false, ◌||◌, ◌==◌, List, [], ◌∷◌, flat_map, nat_lt, codes, decimal, if◌then◌else◌}
+use Rattle.std.specs.Prelude.{ℕ, ◌+◌, ◌/◌, ◌%◌, Bool, true, false, ◌||◌, ◌==◌, List, [], ◌∷◌, Option, Some, None, flat_map, nat_lt, codes, decimal, if◌then◌else◌}
 use Rattle.std.specs.List.{concat}
 use Rattle.dump_text.specs.FaultTable.{fault_code}
 use Rattle.dump_text.specs.FaultNames.{fault_name}
@@ -56,12 +56,17 @@ finding_words Finding.FolderTakes = codes " is not kept, and is deleted: what is
 finding_words Finding.FolderBrings = codes ", and is not kept: what is kept below it may be missing"
 finding_words Finding.TextComesIn = codes ", which is not kept, and has a text from there"
 
+-- what the line says of the prefix that cuts, which is shown as it was given, with its own slashes alone
+unfoldable pub cut_words : Option (List ℕ) → List ℕ
+cut_words None = []
+cut_words (Some prefix) = concat (codes ": prefix " ∷ flat_map shown_byte prefix ∷ [])
+
 -- the line of a finding in a node
 unfoldable pub node_line : NodeTold → List ℕ
 node_line t = concat (place_text t.number t.place ∷ codes ", r" ∷ decimal t.revision ∷ codes ": "
     ∷ shown_path t.path
     ∷ (if tells_source t.finding then source_text t else [])
-    ∷ finding_words t.finding ∷ codes "\n" ∷ [])
+    ∷ finding_words t.finding ∷ cut_words t.prefix ∷ codes "\n" ∷ [])
 
 -- the line of a finding in the dump as a whole
 unfoldable pub dump_line : DumpFinding → List ℕ

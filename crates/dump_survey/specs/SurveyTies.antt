@@ -1,5 +1,5 @@
 -- What a survey tells is what is found in the dump's nodes, group by group; and what follows where it tells nothing.
-use Rattle.std.specs.Prelude.{◌≡◌, ℕ, Bool, false, not, List, [], ◌∷◌, map, flat_map, Some, None, IsTrue}
+use Rattle.std.specs.Prelude.{◌≡◌, ℕ, Bool, true, false, not, List, [], ◌∷◌, map, flat_map, Some, None, is_some, IsTrue}
 use Rattle.std.specs.List.{list_any}
 use Rattle.dump_records.specs.RecordText.{DumpRecord}
 use Rattle.dump_records.specs.DumpText.{Ending, HasRecords}
@@ -30,6 +30,18 @@ ToldAreFindings = (settings : Settings) (dump : List ℕ) (records : List DumpRe
 abbrev pub ToldOnce : Type 0
 ToldOnce = (settings : Settings) (records : List DumpRecord) (told others : List NodeTold) →
     AreTold settings 0 None records told → AreTold settings 0 None records others → others ≡ told
+
+-- whether the finding is that a copy is cut otherwise than its source
+abbrev pub tells_cut : Finding → Bool
+tells_cut Finding.CopyLoses = true
+tells_cut Finding.CopyLetsIn = true
+tells_cut _ = false
+
+-- with each of these a prefix is told that cuts, and with no other finding
+abbrev pub EachCutNamesPrefix : Type 0
+EachCutNamesPrefix = (settings : Settings) (records : List DumpRecord) (told : List NodeTold) →
+    AreTold settings 0 None records told
+    → map (λ (t : NodeTold). is_some t.prefix) told ≡ map (λ (t : NodeTold). tells_cut t.finding) told
 
 -- whether none of the findings that are told is of this kind
 abbrev pub none_told : (Finding → Bool) → List NodeTold → Bool

@@ -1,16 +1,17 @@
 -- What a survey tells of a dump: each finding in a node of a revision, in order, and where it is.
-use Rattle.std.specs.Prelude.{◌≡◌, ℕ, ◌+◌, List, [], ◌∷◌, ◌++◌, map, Option, Some, None, if◌then◌else◌, MatchBool}
+use Rattle.std.specs.Prelude.{◌≡◌, ℕ, ◌+◌, List, [], ◌∷◌, ◌++◌, map, Option, Some, None, option_copied, if◌then◌else◌, MatchBool}
 use Rattle.dump_records.specs.RecordText.{DumpRecord}
 use Rattle.dump_rules.specs.Settings.{Settings}
 use Rattle.dump_digest.specs.RecordParts.{is_revision_record, is_node, node_path}
 use Rattle.dump_filter.specs.Groups.{revision_number}
 use Rattle.dump_history.specs.RecordChanges.{copy_path, copy_revision}
 use Rattle.dump_history.specs.Findings.{Finding, AreFindingsOf}
+use Rattle.dump_survey.specs.CuttingPrefix.{cutting_prefix}
 use Rattle.dump_survey.specs.Meaning.{meaning}
 use Rattle.dump_survey.specs.declared.told.Told.{Told}
 
--- a finding in a node: the record's number and place, the number of the revision that it belongs to, its path, and what
--- it is copied from, no bytes and 0 where it is no copy
+-- a finding in a node: the record's number and place, the number of the revision that it belongs to, its path, what it is
+-- copied from, no bytes and 0 where it is no copy, and the first prefix by which the copy is cut otherwise than its source
 pub record NodeTold : Type 0 where
   pub finding : Finding
   pub number : ℕ
@@ -19,6 +20,7 @@ pub record NodeTold : Type 0 where
   pub path : List ℕ
   pub copy_path : List ℕ
   pub copy_revision : ℕ
+  pub prefix : Option (List ℕ)
 
 -- a finding as the program has it
 abbrev pub told_view : Told → NodeTold
@@ -30,11 +32,12 @@ told_view t = record {
   path = t.path.now;
   copy_path = t.copy_path.now;
   copy_revision = t.copy_revision;
+  prefix = option_copied t.prefix;
 }
 
--- a finding in the node with this number, in this revision
-abbrev pub told_in : ℕ → ℕ → DumpRecord → Finding → NodeTold
-told_in number revision r finding = record {
+-- a finding in the node with this number, in this revision, that names this prefix
+abbrev pub told_naming : Option (List ℕ) → ℕ → ℕ → DumpRecord → Finding → NodeTold
+told_naming prefix number revision r finding = record {
   finding = finding;
   number = number;
   place = r.place;
@@ -42,7 +45,13 @@ told_in number revision r finding = record {
   path = node_path r;
   copy_path = copy_path r;
   copy_revision = copy_revision r;
+  prefix = prefix;
 }
+
+-- a finding in the node with this number, in this revision
+abbrev pub told_in : Settings → ℕ → ℕ → DumpRecord → Finding → NodeTold
+told_in settings number revision r finding =
+    told_naming (cutting_prefix settings r finding) number revision r finding
 
 -- the revision that a node belongs to which comes next, if there is one: behind a revision it is that one, and behind a
 -- node that node's
@@ -53,7 +62,7 @@ present_after present r = if is_revision_record r then Some (revision_number r) 
 abbrev pub IsToldOf : Settings → ℕ → Option ℕ → DumpRecord → List NodeTold → Type 0
 IsToldOf settings number None r told = told ≡ []
 IsToldOf settings number (Some revision) r told = MatchBool (is_node r)
-    ((found : List Finding) × AreFindingsOf settings r found × (told ≡ map (told_in number revision r) found))
+    ((found : List Finding) × AreFindingsOf settings r found × (told ≡ map (told_in settings number revision r) found))
     (told ≡ [])
 
 -- this is told of the records, the first of which has this number

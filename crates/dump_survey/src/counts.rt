@@ -76,7 +76,7 @@ impl Counts {
     }
 
     /// Those with what is found in one more node.
-    pub(crate) fn with(&self, found: &Found) -> Counts
+    pub(crate) fn with(&self, found: &Found<'_>) -> Counts
         requires { (f : Finding) → count_in self.now f + 1 < 2 ^ 64 }
         ensures { AreWithNode self.now found.now result }
     {
@@ -90,8 +90,8 @@ impl Counts {
             unread_mergeinfo: with_one(self.unread_mergeinfo, mergeinfo.unread),
             missing_merge_source: with_one(self.missing_merge_source, mergeinfo.missing),
             properties_lost: with_one(self.properties_lost, losses.properties_lost),
-            copy_loses: with_one(self.copy_loses, losses.copy_loses),
-            copy_lets_in: with_one(self.copy_lets_in, losses.copy_lets_in),
+            copy_loses: with_one(self.copy_loses, losses.copy_loses.is_some()),
+            copy_lets_in: with_one(self.copy_lets_in, losses.copy_lets_in.is_some()),
             folder_takes: with_one(self.folder_takes, losses.folder_takes),
             folder_brings: with_one(self.folder_brings, losses.folder_brings),
             text_comes_in: with_one(self.text_comes_in, losses.text_comes_in),

@@ -1,7 +1,7 @@
 //! What can be found in a node.
-ghost use Rattle.std.specs.Prelude.{◌≡◌};
+ghost use Rattle.std.specs.Prelude.{◌≡◌, option_copied};
 ghost use Rattle.dump_survey.specs.Meaning.{meaning};
-ghost use Rattle.dump_survey.specs.steps.Found.{has_found};
+ghost use Rattle.dump_survey.specs.steps.Found.{found_prefix, has_found};
 
 use crate::refused_mergeinfo::MergeinfoFaults;
 
@@ -64,23 +64,25 @@ pub(crate) struct Obstacles {
 
 /// What the filter's cut does to a node.
 #[derive(Clone, Copy, Debug, PartialEq, Eq)]
-pub(crate) struct Losses {
+pub(crate) struct Losses<'o> {
     pub(crate) no_whole_file: bool,
     pub(crate) properties_lost: bool,
-    pub(crate) copy_loses: bool,
-    pub(crate) copy_lets_in: bool,
+    /// The first prefix by which a copy lacks something.
+    pub(crate) copy_loses: Option<&'o [u8]>,
+    /// The first prefix by which a copy lets something in.
+    pub(crate) copy_lets_in: Option<&'o [u8]>,
     pub(crate) folder_takes: bool,
     pub(crate) folder_brings: bool,
     pub(crate) text_comes_in: bool,
 }
 
-impl Losses {
+impl Losses<'static> {
     /// Nothing is found.
-    pub(crate) const NONE: Losses = Losses {
+    pub(crate) const NONE: Losses<'static> = Losses {
         no_whole_file: false,
         properties_lost: false,
-        copy_loses: false,
-        copy_lets_in: false,
+        copy_loses: None,
+        copy_lets_in: None,
         folder_takes: false,
         folder_brings: false,
         text_comes_in: false,
@@ -89,13 +91,13 @@ impl Losses {
 
 /// What is found in a node.
 #[derive(Clone, Copy, Debug, PartialEq, Eq)]
-pub struct Found {
+pub struct Found<'o> {
     pub(crate) obstacles: Obstacles,
     pub(crate) mergeinfo: MergeinfoFaults,
-    pub(crate) losses: Losses,
+    pub(crate) losses: Losses<'o>,
 }
 
-impl Found {
+impl<'o> Found<'o> {
     /// Whether this is among it.
     pub fn has(&self, finding: NodeFinding) -> bool
         ensures { result ≡ has_found self.now (meaning finding) }
@@ -109,11 +111,22 @@ impl Found {
             NodeFinding::UnreadMergeinfo => self.mergeinfo.unread,
             NodeFinding::MissingMergeSource => self.mergeinfo.missing,
             NodeFinding::PropertiesLost => self.losses.properties_lost,
-            NodeFinding::CopyLoses => self.losses.copy_loses,
-            NodeFinding::CopyLetsIn => self.losses.copy_lets_in,
+            NodeFinding::CopyLoses => self.losses.copy_loses.is_some(),
+            NodeFinding::CopyLetsIn => self.losses.copy_lets_in.is_some(),
             NodeFinding::FolderTakes => self.losses.folder_takes,
             NodeFinding::FolderBrings => self.losses.folder_brings,
             NodeFinding::TextComesIn => self.losses.text_comes_in,
+        }
+    }
+
+    /// The prefix that is told with this, if one is.
+    pub(crate) fn prefix(&self, finding: NodeFinding) -> Option<&'o [u8]>
+        ensures { option_copied result ≡ found_prefix self.now (meaning finding) }
+    {
+        match finding {
+            NodeFinding::CopyLoses => self.losses.copy_loses,
+            NodeFinding::CopyLetsIn => self.losses.copy_lets_in,
+            _ => None,
         }
     }
 }

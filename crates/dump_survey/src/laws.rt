@@ -1,10 +1,12 @@
 //! Laws of surveys, each the contract of a function that does nothing.
-ghost use Rattle.dump_survey.specs.SurveyTies.{SilentSurveyRestricts, SilentTextRestricts, ToldAreFindings, ToldOnce};
+ghost use Rattle.dump_survey.specs.SurveyTies.{EachCutNamesPrefix, SilentSurveyRestricts, SilentTextRestricts, ToldAreFindings, ToldOnce};
 
-/// What is told of a dump's nodes is one list, and it is what is found in them, in order.
+/// What is told of a dump's nodes is one list, and it is what is found in them, in order. With a copy that is cut
+/// otherwise than its source it tells a prefix that cuts.
 pub fn each_told_is_found()
     ensures found { ToldAreFindings }
     ensures once { ToldOnce }
+    ensures prefixes { EachCutNamesPrefix }
 {}
 
 /// Where a survey tells nothing that matters, or its text says that nothing is found, a dump makes revisions, and the law

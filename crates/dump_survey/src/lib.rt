@@ -3,8 +3,9 @@
 //!
 //! A [`Surveyor`] reads a dump record by record, cut as the filter cuts it, and [`Surveyor::next`] gives what is found
 //! in each: of a node of a revision the [`Found`], which [`SurveyedNode::tell`] turns into one [`Told`] for each
-//! [`NodeFinding`], with the record's number and place, the revision and the path. Where the records end it gives
-//! what is found in the dump as a whole, [`DumpFindings`], and whether they end with the dump; then
+//! [`NodeFinding`], with the record's number and place, the revision and the path, and of a copy that is cut otherwise
+//! than its source the first prefix that cuts. Where the records end it gives what is found in the dump as a whole,
+//! [`DumpFindings`], and whether they end with the dump; then
 //! [`Surveyor::told_prefixes`] tells the prefixes by which the filter does nothing, each with its [`PrefixFinding`].
 //! [`survey_dump`] keeps all this in a [`Survey`]; [`write_survey`] writes a line for each finding as it is found, and
 //! keeps nothing. [`folders_to_make`] tells which folders the load wants, [`keep_as_well`] which prefixes more let the

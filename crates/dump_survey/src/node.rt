@@ -147,7 +147,7 @@ fn is_exclude(options: &Options) -> bool
 }
 
 /// What the cut does to a kept copy of a path that isn't kept.
-fn losses_of_lost(item: &Record<'_>, options: &Options) -> Losses
+fn losses_of_lost<'o>(item: &Record<'_>, options: &Options) -> Losses<'o>
     requires kept { IsTrue (has_kept_path options.now (record_item item.now)) }
     requires copy { IsTrue (is_copy (record_item item.now)) }
     requires lost { IsFalse (has_kept_source options.now (record_item item.now)) }
@@ -164,12 +164,12 @@ fn losses_of_lost(item: &Record<'_>, options: &Options) -> Losses
 }
 
 /// What the cut does to a kept copy of a path that is kept too.
-fn losses_of_copy(
+fn losses_of_copy<'o>(
     alloc: Global,
     item: &Record<'_>,
-    options: &Options,
-    prefixes: &Prefixes<'_>,
-) -> Result<Losses, Memory>
+    options: &'o Options,
+    prefixes: &Prefixes<'o>,
+) -> Result<Losses<'o>, Memory>
     requires node { IsTrue (is_node (record_item item.now)) }
     requires kept { IsTrue (has_kept_path options.now (record_item item.now)) }
     requires copy { IsTrue (is_copy (record_item item.now)) }
@@ -192,12 +192,12 @@ fn losses_of_copy(
 }
 
 /// What the cut does to a node whose path is kept.
-fn losses_of_kept(
+fn losses_of_kept<'o>(
     alloc: Global,
     item: &Record<'_>,
-    options: &Options,
-    prefixes: &Prefixes<'_>,
-) -> Result<Losses, Memory>
+    options: &'o Options,
+    prefixes: &Prefixes<'o>,
+) -> Result<Losses<'o>, Memory>
     requires node { IsTrue (is_node (record_item item.now)) }
     requires kept { IsTrue (has_kept_path options.now (record_item item.now)) }
     requires prefixes { prefixes.now ≡ map bare_prefix options.now.prefixes }
@@ -213,7 +213,7 @@ fn losses_of_kept(
 }
 
 /// What the cut does to a node whose path isn't kept.
-fn losses_of_left(item: &Record<'_>, options: &Options, prefixes: &Prefixes<'_>) -> Losses
+fn losses_of_left<'o>(item: &Record<'_>, options: &Options, prefixes: &Prefixes<'_>) -> Losses<'o>
     requires node { IsTrue (is_node (record_item item.now)) }
     requires left { IsFalse (has_kept_path options.now (record_item item.now)) }
     requires prefixes { prefixes.now ≡ map bare_prefix options.now.prefixes }
@@ -233,12 +233,12 @@ fn losses_of_left(item: &Record<'_>, options: &Options, prefixes: &Prefixes<'_>)
 }
 
 /// What is found in a node.
-pub(crate) fn find(
+pub(crate) fn find<'o>(
     alloc: Global,
     item: &Record<'_>,
-    options: &Options,
-    prefixes: &Prefixes<'_>,
-) -> Result<Found, Memory>
+    options: &'o Options,
+    prefixes: &Prefixes<'o>,
+) -> Result<Found<'o>, Memory>
     requires node { IsTrue (is_node (record_item item.now)) }
     requires prefixes { prefixes.now ≡ map bare_prefix options.now.prefixes }
     ensures { IfOk result (λ found. IsFoundIn options.now (record_item item.now) found) }

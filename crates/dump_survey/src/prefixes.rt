@@ -1,10 +1,11 @@
 //! The prefixes below a path, and what they cut there.
-ghost use Rattle.std.specs.Prelude.{◌≡◌, ◌++◌, IfOk, OnOk, MatchOption, false, map, option_copied};
+ghost use Rattle.std.specs.Prelude.{◌≡◌, ◌++◌, IfOk, OnOk, MatchOption, false, filter, is_some, map, option_copied, slice_get};
 ghost use Rattle.std.specs.List.{list_any};
 ghost use Rattle.dump_rules.specs.Prefix.{bare_prefix, begins_path};
 ghost use Rattle.dump_trees.specs.Paths.{path_of, path_text};
 ghost use Rattle.dump_trees.specs.Restriction.{is_above_some};
 ghost use Rattle.dump_history.specs.Findings.{cuts};
+ghost use Rattle.dump_survey.specs.CuttingPrefix.{first_cut};
 ghost use Rattle.dump_survey.specs.steps.Prefixes.{behind_slash, is_below, IsRestBelow, cuts_below};
 
 use crate::memory::Memory;
@@ -131,25 +132,24 @@ fn has_some_below(bare: &[&[u8]], path: &[u8]) -> bool
     false
 }
 
-/// Whether one of the bare prefixes cuts below the one path what is kept below the other.
-fn has_some_cut(
+/// The first of the options' prefixes that cuts below the one path what is kept below the other, as it was given.
+fn first_cut<'o>(
     alloc: Global,
-    options: &Options,
+    options: &'o Options,
     bare: &[&[u8]],
     path: &[u8],
     other: &[u8],
-) -> Result<bool, Memory>
-    ensures { IfOk result (λ found. found
-        ≡ list_any (λ prefix. cuts_below options.now path.now other.now prefix.now) bare.now) }
+) -> Result<Option<&'o [u8]>, Memory>
+    requires { map (λ prefix. prefix.now) bare.now ≡ map bare_prefix options.now.prefixes }
+    ensures { IfOk result (λ found. option_copied found ≡ slice_get
+        (filter (λ prefix. cuts_below options.now path.now other.now (bare_prefix prefix)) options.now.prefixes) 0) }
 {
-    let mut left = bare;
-    while let [prefix, others @ ..] = left {
+    for (place, prefix) in bare.iter().enumerate() {
         if cuts_below(alloc, options, prefix, path, other)? {
-            return Ok(true);
+            return Ok(options.prefix(place));
         }
-        left = others;
     }
-    Ok(false)
+    Ok(None)
 }
 
 impl<'o> Prefixes<'o> {
@@ -175,20 +175,22 @@ impl<'o> Prefixes<'o> {
         }
     }
 
-    /// Whether one cuts below the one path what is kept below the other.
+    /// The first that cuts below the one path what is kept below the other, as it was given.
     pub(crate) fn cut(
         &self,
         alloc: Global,
-        options: &Options,
+        options: &'o Options,
         path: &[u8],
         other: &[u8],
-    ) -> Result<bool, Memory>
+    ) -> Result<Option<&'o [u8]>, Memory>
         requires { self.now ≡ map bare_prefix options.now.prefixes }
-        ensures { IfOk result (λ found. found ≡ cuts options.now path.now other.now) }
+        ensures first { IfOk result (λ found. option_copied found
+            ≡ first_cut options.now.side options.now path.now other.now) }
+        ensures some { IfOk result (λ found. is_some found ≡ cuts options.now path.now other.now) }
     {
         match options.side() {
-            Side::Include => Ok(false),
-            Side::Exclude => has_some_cut(alloc, options, &self.bare, path, other),
+            Side::Include => Ok(None),
+            Side::Exclude => first_cut(alloc, options, &self.bare, path, other),
         }
     }
 }

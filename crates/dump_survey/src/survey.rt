@@ -13,7 +13,7 @@ use std::alloc::Global;
 #[derive(Drop)]
 pub struct Survey<'o, 'a> {
     /// What is found in its nodes, in their order.
-    pub told: Vec<Told<'a>>,
+    pub told: Vec<Told<'o, 'a>>,
     /// What is found in the prefixes, in their order.
     pub prefixes: Vec<ToldPrefix<'o>>,
     pub end: SurveyEnd,

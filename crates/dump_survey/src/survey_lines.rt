@@ -1,12 +1,12 @@
 //! The lines of a survey.
-ghost use Rattle.std.specs.Prelude.{◌≡◌, ◌++◌, ◌<◌, [], if◌then◌else◌, IfOk, OnOk, IsTrue, flat_map, decimal, map};
+ghost use Rattle.std.specs.Prelude.{◌≡◌, ◌++◌, ◌<◌, [], if◌then◌else◌, IfOk, OnOk, IsTrue, flat_map, decimal, map, option_copied};
 ghost use Rattle.dump_records.specs.steps.RecordViews.{record_item};
 ghost use Rattle.dump_digest.specs.RecordParts.{is_node};
 ghost use Rattle.dump_survey.specs.AsWellLines.{as_well_line, as_well_lines, as_well_words};
 ghost use Rattle.dump_survey.specs.DumpFindings.{listed_findings};
 ghost use Rattle.dump_survey.specs.Kinds.{kind_lines};
 ghost use Rattle.dump_survey.specs.LinesBehind.{folder_line, folder_lines};
-ghost use Rattle.dump_survey.specs.Lines.{dump_line, ending_line, finding_words, node_line, place_text, shown_byte, shown_path, small_digit, source_text, tells_source};
+ghost use Rattle.dump_survey.specs.Lines.{cut_words, dump_line, ending_line, finding_words, node_line, place_text, shown_byte, shown_path, small_digit, source_text, tells_source};
 ghost use Rattle.dump_survey.specs.Meaning.{meaning};
 ghost use Rattle.dump_survey.specs.PrefixFindings.{prefix_view};
 ghost use Rattle.dump_survey.specs.PrefixLines.{prefix_lines};
@@ -96,7 +96,7 @@ fn push_place(line: &mut Vec<u8>, number: u64, place: usize) -> Result<(), Memor
 
 /// Adds what a node is copied from.
 #[tactic(auto, unfolding(crate::specs::Lines::source_text))]
-fn push_source(line: &mut Vec<u8>, told: &Told<'_>) -> Result<(), Memory>
+fn push_source(line: &mut Vec<u8>, told: &Told<'_, '_>) -> Result<(), Memory>
     ensures { OnOk result (line.new.items ≡ line.old.items ++ source_text (told_view told.now)) }
 {
     line.extend_from_slice(b" is copied from ")?;
@@ -121,7 +121,7 @@ fn tells_source(finding: NodeFinding) -> bool
 }
 
 /// Adds what the node is copied from, where the finding's line tells it.
-fn push_told_source(line: &mut Vec<u8>, told: &Told<'_>) -> Result<(), Memory>
+fn push_told_source(line: &mut Vec<u8>, told: &Told<'_, '_>) -> Result<(), Memory>
     ensures { OnOk result (line.new.items ≡ line.old.items
         ++ (if tells_source (meaning told.now.finding) then source_text (told_view told.now) else [])) }
 {
@@ -155,9 +155,21 @@ fn words(finding: NodeFinding) -> &'static [u8]
     }
 }
 
+/// Adds the prefix that cuts, if one is told.
+#[tactic(auto, unfolding(crate::specs::Lines::cut_words))]
+fn push_cut(line: &mut Vec<u8>, prefix: Option<&[u8]>) -> Result<(), Memory>
+    ensures { OnOk result (line.new.items ≡ line.old.items ++ cut_words (option_copied prefix.entry)) }
+{
+    let Some(prefix) = prefix else {
+        return Ok(());
+    };
+    line.extend_from_slice(b": prefix ")?;
+    push_shown(line, prefix)
+}
+
 /// Adds the line of a finding in a node.
 #[tactic(auto, unfolding(crate::specs::Lines::node_line))]
-pub(crate) fn push_node_line(lines: &mut Vec<u8>, told: &Told<'_>) -> Result<(), Memory>
+pub(crate) fn push_node_line(lines: &mut Vec<u8>, told: &Told<'_, '_>) -> Result<(), Memory>
     ensures { OnOk result (lines.new.items ≡ lines.old.items ++ node_line (told_view told.now)) }
 {
     push_place(lines, told.number, told.place)?;
@@ -167,6 +179,7 @@ pub(crate) fn push_node_line(lines: &mut Vec<u8>, told: &Told<'_>) -> Result<(),
     push_path(lines, told.path)?;
     push_told_source(lines, told)?;
     lines.extend_from_slice(words(told.finding))?;
+    push_cut(lines, told.prefix)?;
     Ok(lines.push(b'\n')?)
 }
 
@@ -251,7 +264,7 @@ pub(crate) fn end_lines(
 }
 
 /// The lines of what is found in a node.
-pub(crate) fn node_lines(alloc: Global, node: &SurveyedNode<'_>) -> Result<Vec<u8>, Memory>
+pub(crate) fn node_lines(alloc: Global, node: &SurveyedNode<'_, '_>) -> Result<Vec<u8>, Memory>
     requires { IsTrue (is_node (record_item node.now.item)) }
     ensures { IfOk result (λ lines. lines.items ≡ flat_map node_line (told_of_node node.now)) }
 {

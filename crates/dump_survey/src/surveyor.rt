@@ -37,9 +37,9 @@ pub struct SurveyEnd {
 
 /// What a surveyor gives.
 #[derive(Clone, Copy)]
-pub enum Step<'a> {
+pub enum Step<'o, 'a> {
     /// The next record is a node of a revision.
-    Node(SurveyedNode<'a>),
+    Node(SurveyedNode<'o, 'a>),
     /// The next record is another one, of which nothing is told.
     Other,
     /// There is no further record.
@@ -68,13 +68,13 @@ impl<'o, 'a> Model for Surveyor<'o, 'a> {
 }
 
 /// What is found in the next record, behind those of this tally.
-fn step_of<'a>(
+fn step_of<'o, 'a>(
     alloc: Global,
     item: Record<'a>,
-    options: &Options,
-    prefixes: &Prefixes<'_>,
+    options: &'o Options,
+    prefixes: &Prefixes<'o>,
     tally: &Tally,
-) -> Result<Step<'a>, Memory>
+) -> Result<Step<'o, 'a>, Memory>
     requires { prefixes.now ≡ map bare_prefix options.now.prefixes }
     ensures { IfOk result (λ step. IsStepOf options.now item.entry tally.now.present step) }
 {
@@ -93,7 +93,7 @@ fn step_of<'a>(
 }
 
 /// What is known behind the records of this tally, which end so.
-fn finished<'a>(options: &Options, tally: &Tally, end: End) -> Step<'a>
+fn finished<'o, 'a>(options: &'o Options, tally: &Tally, end: End) -> Step<'o, 'a>
     ensures { TellsEnd options.now tally.now end result }
 {
     Step::Finished(SurveyEnd {
@@ -127,7 +127,7 @@ impl<'o, 'a> Surveyor<'o, 'a> {
 
     /// What is found in the next record, or what is known where there is none; then it is told again. Where memory runs
     /// out, the next call goes on behind the record.
-    pub fn next(&mut self, alloc: Global) -> Result<Step<'a>, Memory>
+    pub fn next(&mut self, alloc: Global) -> Result<Step<'o, 'a>, Memory>
         ensures { IfOk result (λ step. SurveyStep self.old step self.new) }
     {
         let item = match self.cutter.next() {

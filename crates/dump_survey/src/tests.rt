@@ -7,6 +7,7 @@ use std::alloc::Global;
 use std::test::Fail;
 
 mod as_well;
+mod cuts;
 mod folders;
 mod map;
 mod nodes;
@@ -50,6 +51,7 @@ fn a_finding_is_told_with_its_place(rt: HostRuntime) -> Result<(), Fail> {
     assert_eq!(rt; told.finding, NodeFinding::OddText);
     assert_eq!(rt; (told.number, told.place, told.revision), (3, 71, 7));
     assert_eq!(rt; told.path, b"trunk//a".as_slice());
+    assert!(rt; told.prefix.is_none());
     let found = DumpFindings {
         other_numbers: true,
         ..NOTHING

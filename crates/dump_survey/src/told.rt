@@ -1,10 +1,10 @@
 //! What a survey tells of the nodes of a dump.
 ghost use Rattle.std.specs.Prelude.{◌≡◌, ◌++◌, IsTrue, OnOk, map};
-ghost use Rattle.dump_records.specs.steps.RecordViews.{record_item, record_number};
+ghost use Rattle.dump_records.specs.steps.RecordViews.{record_item};
 ghost use Rattle.dump_digest.specs.RecordParts.{is_node};
 ghost use Rattle.dump_survey.specs.Meaning.{meaning};
-ghost use Rattle.dump_survey.specs.Told.{told_view, told_in};
-ghost use Rattle.dump_survey.specs.steps.Surveyed.{told_of_node};
+ghost use Rattle.dump_survey.specs.Told.{told_view};
+ghost use Rattle.dump_survey.specs.steps.Surveyed.{told_of_finding, told_of_node};
 
 use crate::finding::{EVERY_FINDING, Found, NodeFinding};
 use crate::memory::Memory;
@@ -13,7 +13,7 @@ use dump_records::Record;
 
 /// A finding in a node, and where that is.
 #[derive(Clone, Copy, Debug, PartialEq, Eq)]
-pub struct Told<'a> {
+pub struct Told<'o, 'a> {
     pub finding: NodeFinding,
     /// The number of the node's record in the dump, from 0.
     pub number: u64,
@@ -27,23 +27,24 @@ pub struct Told<'a> {
     pub copy_path: &'a [u8],
     /// The number of the revision that the node is copied from; 0 where it is no copy.
     pub copy_revision: u64,
+    /// The first prefix, as it was given, by which a copy is cut otherwise than its source, where that is found.
+    pub prefix: Option<&'o [u8]>,
 }
 
 /// A node of a revision, and what is found in it.
 #[derive(Clone, Copy)]
-pub struct SurveyedNode<'a> {
+pub struct SurveyedNode<'o, 'a> {
     pub item: Record<'a>,
     /// The number of the revision that it belongs to.
     pub revision: u64,
-    pub found: Found,
+    pub found: Found<'o>,
 }
 
-impl<'a> SurveyedNode<'a> {
+impl<'o, 'a> SurveyedNode<'o, 'a> {
     /// A finding as it is told of the node.
-    pub(crate) fn told(&self, finding: NodeFinding) -> Told<'a>
+    pub(crate) fn told(&self, finding: NodeFinding) -> Told<'o, 'a>
         requires { IsTrue (is_node (record_item self.now.item)) }
-        ensures { told_view result ≡ told_in (record_number self.now.item) self.now.revision (record_item self.now.item)
-            (meaning finding) }
+        ensures { told_view result ≡ told_of_finding self.now (meaning finding) }
     {
         Told {
             finding,
@@ -53,11 +54,12 @@ impl<'a> SurveyedNode<'a> {
             path: path_of(&self.item),
             copy_path: copy_path_of(&self.item),
             copy_revision: copy_revision_of(&self.item),
+            prefix: self.found.prefix(finding),
         }
     }
 
     /// Adds what is found in the node to what is told already.
-    pub fn tell(&self, told: &mut Vec<Told<'a>>) -> Result<(), Memory>
+    pub fn tell(&self, told: &mut Vec<Told<'o, 'a>>) -> Result<(), Memory>
         requires { IsTrue (is_node (record_item self.now.item)) }
         ensures { OnOk result (map told_view told.new.items ≡ map told_view told.old.items ++ told_of_node self.now) }
     {

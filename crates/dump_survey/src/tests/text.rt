@@ -54,7 +54,7 @@ fn a_text_or_no_memory(rt: HostRuntime) -> Result<(), Fail> {
         Ok(found) => {
             assert!(rt; found);
             let lines =
-                b"record 3, byte 71, r1: /b is copied from /t at r0, and may lose what is left out there and not here\n\
+                b"record 3, byte 71, r1: /b is copied from /t at r0, and may lose what is left out there and not here: prefix t/f\n\
                 prefix t/f: no node has a path at or below it, and none is copied from there or to a path above it\n\
                 in all 1: copies that may lose a part. Leave the same path out below the copy, or keep it below the source too\n\
                 in all 1: prefixes by which nothing is done. Look whether they are spelled as in the dump\n";

@@ -1,8 +1,7 @@
 use Rattle.std.proofs.Common.{◌≡◌, ℕ, ◌<◌, List, [], ◌∷◌, ◌++◌, flat_map, length, sym, ap, ◌∙◌, append-nil, refl, arith}
-use Rattle.dump_records.specs.steps.RecordViews.{record_item, record_number}
 use Rattle.dump_survey.specs.declared.finding.NodeFinding.{NodeFinding}
 use Rattle.dump_survey.specs.Lines.{node_line}
-use Rattle.dump_survey.specs.Told.{told_in}
+use Rattle.dump_survey.specs.steps.Surveyed.{told_of_finding}
 use Rattle.dump_survey.proofs.ToldLemmas.{told_left}
 use Rattle.dump_survey.proofs.survey_lines.node_lines.Goals as goal
 
@@ -10,7 +9,7 @@ pub loop-left-init : goal.loop-left-init
 loop-left-init c =
     let node = c.args.node.now in
     let lines = λ (left : List NodeFinding). flat_map node_line
-    (told_left (told_in (record_number node.item) node.revision (record_item node.item)) node.found left) in
+    (told_left (told_of_finding node) node.found left) in
     ap lines (sym c.as_slice-left.ensures) ∙ ap (λ (front : List ℕ). front ++ lines c.as_slice-left.result.now)
     (sym c.new-lines.ensures.items)
 
@@ -18,7 +17,7 @@ pub returns : goal.returns
 returns c =
     let node = c.args.node.now in
     let lines = λ (left : List NodeFinding). flat_map node_line
-    (told_left (told_in (record_number node.item) node.revision (record_item node.item)) node.found left) in
+    (told_left (told_of_finding node) node.found left) in
     sym (c.loop-left.invariant ∙ (ap (λ left. c.loop-left.lines.items ++ lines left)
     (none c.loop-left.left.now c.in_default.len_below) ∙ append-nil c.loop-left.lines.items))
   where

@@ -1,5 +1,5 @@
 use Rattle.std.proofs.Common.{[], ◌∷◌, ◌++◌, ◌∙◌, refl, ap, codes, decimal, if◌then◌else◌}
-use Rattle.dump_survey.specs.Lines.{finding_words, node_line, place_text, shown_path, source_text, tells_source}
+use Rattle.dump_survey.specs.Lines.{cut_words, finding_words, node_line, place_text, shown_path, source_text, tells_source}
 use Rattle.dump_survey.specs.Told.{told_view}
 use Rattle.dump_survey.proofs.LineLemmas.{all_added}
 use Rattle.dump_survey.proofs.survey_lines.push_node_line.Goals as goal
@@ -12,7 +12,7 @@ returns c =
     ∙ ap (λ w. c.push_told_source.new.line.items ++ w) c.words.ensures in
     all_added c.args.lines.now.items c.push.new.self.items
     (place_text t.number t.place ∷ codes ", r" ∷ decimal t.revision ∷ codes ": " ∷ shown_path t.path
-    ∷ (if tells_source t.finding then source_text t else []) ∷ finding_words t.finding ∷ codes "\n" ∷ []) (
+    ∷ (if tells_source t.finding then source_text t else []) ∷ finding_words t.finding ∷ cut_words t.prefix ∷ codes "\n" ∷ []) (
       c.push_place.new.line.items,
       c.in_ok-push_place.ensures,
       (
@@ -33,7 +33,11 @@ returns c =
                 (
                   c.extend_from_slice-3.new.self.items,
                   words,
-                  (c.push.new.self.items, c.in_ok-push.ensures.items, refl),
+                  (
+                    c.push_cut.new.line.items,
+                    c.in_ok-push_cut.ensures,
+                    (c.push.new.self.items, c.in_ok-push.ensures.items, refl),
+                  ),
                 ),
               ),
             ),

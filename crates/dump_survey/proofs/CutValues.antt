@@ -1,0 +1,75 @@
+-- Worked values of the prefix that is told with a copy, computed and proved by the kernel.
+use Rattle.std.proofs.Common.{◌≡◌, ℕ, false, List, [], ◌∷◌, Some, None, refl, codes}
+use Rattle.dump_records.specs.RecordText.{DumpRecord}
+use Rattle.dump_rules.specs.declared.options.Side.{Side}
+use Rattle.dump_rules.specs.declared.options.Side.TheVariants.{Include, Exclude}
+use Rattle.dump_rules.specs.declared.options.Empty.TheVariants.{Pad}
+use Rattle.dump_rules.specs.Settings.{Settings}
+use Rattle.dump_history.specs.Findings.{Finding}
+use Rattle.dump_history.proofs.values.WorkedDump.{line, record_at}
+use Rattle.dump_survey.specs.CuttingPrefix.{cutting_prefix}
+use Rattle.dump_survey.specs.Lines.{cut_words, shown_byte}
+
+-- a folder b that is copied from t
+abbrev copy : DumpRecord
+copy = record_at 71 (line (codes "Node-path") (codes "b")
+    ∷ line (codes "Node-kind") (codes "dir")
+    ∷ line (codes "Node-action") (codes "add")
+    ∷ line (codes "Node-copyfrom-rev") (codes "0")
+    ∷ line (codes "Node-copyfrom-path") (codes "t") ∷ [])
+
+abbrev call : Side → List (List ℕ) → Settings
+call side prefixes = record {
+  side = side;
+  prefixes = prefixes;
+  empty = Pad;
+  renumber = false;
+  preserve = false;
+  skip_missing = false;
+}
+
+-- the first in the order of the call, be the second the lower one or not
+first_of_two : cutting_prefix (call Exclude (codes "t/g" ∷ codes "t/f" ∷ [])) copy Finding.CopyLoses
+    ≡ Some (codes "t/g")
+first_of_two = refl
+
+-- not the first of the call, where that doesn't cut
+behind_another : cutting_prefix (call Exclude (codes "o" ∷ codes "tt/f" ∷ codes "t/f" ∷ [])) copy Finding.CopyLoses
+    ≡ Some (codes "t/f")
+behind_another = refl
+
+-- one that is left out below the copy too doesn't cut
+left_out_on_both_sides : cutting_prefix (call Exclude (codes "t/f" ∷ codes "b/f" ∷ codes "t/g" ∷ [])) copy
+    Finding.CopyLoses ≡ Some (codes "t/g")
+left_out_on_both_sides = refl
+
+-- each side has its own
+of_the_copy : cutting_prefix (call Exclude (codes "t/f" ∷ codes "b/g" ∷ [])) copy Finding.CopyLetsIn
+    ≡ Some (codes "b/g")
+of_the_copy = refl
+
+of_no_side : cutting_prefix (call Exclude (codes "o" ∷ [])) copy Finding.CopyLetsIn ≡ None
+of_no_side = refl
+
+-- it is told as it was given
+with_its_slashes : cutting_prefix (call Exclude (codes "/t/f//" ∷ [])) copy Finding.CopyLoses
+    ≡ Some (codes "/t/f//")
+with_its_slashes = refl
+
+-- included prefixes cut nothing, and other findings name none
+
+included : cutting_prefix (call Include (codes "t/f" ∷ [])) copy Finding.CopyLoses ≡ None
+included = refl
+
+another_finding : cutting_prefix (call Exclude (codes "t/f" ∷ [])) copy Finding.OddText ≡ None
+another_finding = refl
+
+-- the line shows it byte by byte, where there is one
+
+shown : cut_words (Some (116 ∷ 47 ∷ 27 ∷ 102 ∷ [])) ≡ codes ": prefix t/\\x1bf"
+unfolding cut_words shown_byte
+shown = refl
+
+nothing_to_show : cut_words None ≡ []
+unfolding cut_words
+nothing_to_show = refl
