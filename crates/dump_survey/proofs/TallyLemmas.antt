@@ -158,9 +158,9 @@ numbered_is settings t (r ∷ records) = by (λ u. numbered_is settings u record
     by more true n =
         let first = first_with t (revision_number r) in
         let next : first_of (t.count + 1) first (revision_numbers records) + (t.count + 1)
-            ≡ suc (first + t.count)
-            = ap (λ f. f + (t.count + 1)) (first_known t (revision_number r) (revision_numbers records))
-            ∙ omega arith in
+        ≡ suc (first + t.count)
+        = ap (λ f. f + (t.count + 1)) (first_known t (revision_number r) (revision_numbers records))
+        ∙ omega arith in
         more (revision_tally settings t r)
         ∙ (and_assoc t.numbered (revision_number r == first + t.count)
         (counts_from (first_of (t.count + 1) first (revision_numbers records) + (t.count + 1))

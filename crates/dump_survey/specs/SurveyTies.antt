@@ -1,5 +1,5 @@
 -- What a survey tells is what is found in the dump's nodes, group by group; and what follows where it tells nothing.
-use Rattle.std.specs.Prelude.{◌≡◌, ℕ, Bool, true, false, not, List, [], ◌∷◌, map, flat_map, Some, None, is_some, IsTrue}
+use Rattle.std.specs.Prelude.{◌≡◌, ℕ, Bool, true, false, not, List, [], map, flat_map, None, is_some, IsTrue}
 use Rattle.std.specs.List.{list_any}
 use Rattle.dump_records.specs.RecordText.{DumpRecord}
 use Rattle.dump_records.specs.DumpText.{Ending, HasRecords}

@@ -111,13 +111,20 @@ fn a_part_of_a_history_is_told_where_its_load_goes_wrong(rt: HostRuntime) -> Res
     let rows = [
         ("Node-path: a\n\n", NOTHING),
         ("Node-path: a\n\nRevision-number: 7\n\n", gap),
-        ("Node-path: a\nNode-action: add\nNode-copyfrom-path: b\nNode-copyfrom-rev: 5\n\n", NOTHING),
-        ("Node-path: a\nNode-action: add\nNode-copyfrom-path: b\nNode-copyfrom-rev: 4\n\n", early),
+        (
+            "Node-path: a\nNode-action: add\nNode-copyfrom-path: b\nNode-copyfrom-rev: 5\n\n",
+            NOTHING,
+        ),
+        (
+            "Node-path: a\nNode-action: add\nNode-copyfrom-path: b\nNode-copyfrom-rev: 4\n\n",
+            early,
+        ),
     ];
     let options = rules(rt.alloc(), Side::Include, "trunk")?;
     for (records, found) in rows {
         let dump = format!(in rt.alloc();
-            "SVN-fs-dump-format-version: 2\n\nRevision-number: 5\n\n{records}")?;
+            "SVN-fs-dump-format-version: 2\n\nRevision-number: 5\n\n{records}"
+        )?;
         let survey = survey_dump(rt.alloc(), dump.as_bytes(), &options)?;
         assert!(rt; ends_with(&survey, found, End::Whole), "{records}");
     }

@@ -1,8 +1,7 @@
 -- The law of a part of a history.
-use Rattle.std.proofs.Common.{◌≡◌, ℕ, suc, ◌+◌, Bool, true, false, not, ◌&&◌, ◌||◌, ◌==◌, ◌⊎◌, List, [], ◌∷◌, Option, Some, None, IsSome, is_some, length, map, filter, bytes_eq, MatchBool, refl, sym, ap, ◌∙◌, subst, inl, inr, arith}
+use Rattle.std.proofs.Common.{◌≡◌, ℕ, suc, ◌+◌, Bool, true, false, not, ◌&&◌, ◌||◌, ◌==◌, ◌⊎◌, List, [], ◌∷◌, Some, None, IsSome, is_some, length, map, filter, bytes_eq, MatchBool, refl, sym, ap, ◌∙◌, subst, inl, inr, arith}
 use Rattle.std.specs.List.{list_all}
 use Rattle.std.proofs.lemmas.List.{length-map}
-use Rattle.dump_text.specs.PropertyList.{Property}
 use Rattle.dump_records.specs.DumpText.{Ending, HasRecords, IsCutInto}
 use Rattle.dump_records.specs.RecordText.{DumpRecord}
 use Rattle.dump_rules.specs.Settings.{Settings}
@@ -14,7 +13,6 @@ use Rattle.dump_filter.specs.NewContent.{IsNewProperty}
 use Rattle.dump_filter.specs.NewHeaders.{IsWrittenCopyNumber}
 use Rattle.dump_filter.specs.WholeText.{IsCleanText}
 use Rattle.dump_filter.proofs.knowing.Answered.{AllLawful, all_lawful}
-use Rattle.dump_filter.proofs.again.ReadAgain.{AreReadAgain}
 use Rattle.dump_filter.proofs.again.OwnTextLaw.{reads_again}
 use Rattle.dump_trees.specs.Trees.{Tree, root_alone}
 use Rattle.dump_trees.specs.Changes.{Change}
