@@ -51,6 +51,11 @@ loads patched = record { makes = makes patched; loads = refl }
 numbered_otherwise : (patched : Patching) (changes : List (List Change)) → ¬ MakePartRevisions patched 5 records changes
 numbered_otherwise patched changes other = let bad : false ≡ true = other.numbered in cc
 
+-- a node that stands before its first revision makes no part
+node_outside : (patched : Patching) (changes : List (List Change))
+    → ¬ MakePartRevisions patched 6 (trunk ∷ revision (codes "7") ∷ []) changes
+node_outside patched changes other = let bad : false ≡ true = other.ordered in cc
+
 -- a copy of a revision that the load would give a number below 0 makes no part
 copies_before : (patched : Patching) (changes : List (List Change))
     → ¬ MakePartRevisions patched 9 (revision (codes "10") ∷ copy ∷ []) changes
@@ -108,3 +113,6 @@ same_merge (name, value) = let bad : Some (codes_of 2) ≡ Some (codes_of 8) = v
 
 same_ignore : ¬ IsLoadedProperty 6 (ignores (codes_of 8)) (ignores (codes_of 2))
 same_ignore (name, value) = let bad : Some (codes_of 2) ≡ Some (codes_of 8) = value in cc
+
+another_name : ¬ IsLoadedProperty 6 (ignores (codes_of 8)) (merges (codes_of 8))
+another_name (name, value) = let bad : codes "svn:mergeinfo" ≡ codes "svn:ignore" = name in cc

@@ -149,6 +149,10 @@ later_from_before = refl
 changed_from_before : dump_findings include_trunk (version ∷ three ∷ changed ∷ []) ≡ []
 changed_from_before = refl
 
+-- a copy behind another node of its revision is told too
+second_from_before : dump_findings include_trunk (version ∷ three ∷ trunk ∷ copy ∷ []) ≡ DumpFinding.SourceBefore ∷ []
+second_from_before = refl
+
 -- none of the findings of a dump's nodes
 
 none_of_none : none_is is_alarm ([] ∷ ([] ∷ []) ∷ []) ≡ true
