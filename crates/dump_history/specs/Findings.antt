@@ -3,7 +3,7 @@
 -- file and no tree is asked for, so what is found may do no harm: nothing may stand where a prefix points.
 use Rattle.std.specs.Prelude.{◌≡◌, ◌↔◌, ℕ, Bool, true, false, not, ◌&&◌, ◌==◌, List, [], ◌∷◌, length, filter, nat_lt, Option, Some, None, unwrap_or, is_none, IsTrue}
 use Rattle.std.specs.List.{list_any}
-use Rattle.dump_text.specs.declared.fault.FaultKind.TheVariants.{MergeInfo, MergeSource}
+use Rattle.dump_text.specs.declared.fault.FaultKind.TheVariants.{CopyRevision, MergeInfo, MergeSource, MergeRange}
 use Rattle.dump_text.specs.Names.{property_length_name}
 use Rattle.dump_text.specs.HeaderLine.{has_header}
 use Rattle.dump_text.specs.PropertyList.{Property}
@@ -34,10 +34,14 @@ pub data Finding : Type 0 where
   OddText : Finding
   -- the filter stops: it is a kept copy without its source, and no whole file
   NoWholeFile : Finding
+  -- the filter stops: it is a kept copy, and has no new number for the revision that it is copied from
+  MissingCopyRevision : Finding
   -- the filter stops: it is kept, and its mergeinfo can't be read
   UnreadMergeinfo : Finding
   -- the filter stops: it is kept, and its mergeinfo names a path that isn't kept
   MissingMergeSource : Finding
+  -- the filter stops: it is kept, and its mergeinfo names a revision that isn't in the dump up to it
+  MissingMergeRevision : Finding
   -- a kept copy without its source sets no properties, so those of the source may be lost
   PropertiesLost : Finding
   -- a kept copy of a kept path, below which something is left out that is kept below the copy: it may lack that
@@ -54,8 +58,9 @@ pub data Finding : Type 0 where
 -- each of them, in order
 abbrev pub every_finding : List Finding
 every_finding = Finding.UnreadBlock ∷ Finding.Delta ∷ Finding.UnknownAction ∷ Finding.OddText
-    ∷ Finding.NoWholeFile ∷ Finding.UnreadMergeinfo ∷ Finding.MissingMergeSource ∷ Finding.PropertiesLost
-    ∷ Finding.CopyLoses ∷ Finding.CopyLetsIn ∷ Finding.FolderTakes ∷ Finding.FolderBrings ∷ Finding.TextComesIn ∷ []
+    ∷ Finding.NoWholeFile ∷ Finding.MissingCopyRevision ∷ Finding.UnreadMergeinfo ∷ Finding.MissingMergeSource
+    ∷ Finding.MissingMergeRevision ∷ Finding.PropertiesLost ∷ Finding.CopyLoses ∷ Finding.CopyLetsIn
+    ∷ Finding.FolderTakes ∷ Finding.FolderBrings ∷ Finding.TextComesIn ∷ []
 
 -- whether the node's path is kept
 abbrev pub has_kept_path : Settings → DumpRecord → Bool
@@ -86,26 +91,34 @@ abbrev pub is_exclude : Side → Bool
 is_exclude Include = false
 is_exclude Exclude = true
 
--- whether the filter has a fault for a value of the node's mergeinfo: it can't be read, or it names a path that isn't kept
-pub record MergeFaults : Type 0 where
+-- which of these faults the filter has for the node: its copy's revision has no new number; and of its mergeinfo a value
+-- can't be read, or names a path that isn't kept, or a revision outside of the dump
+pub record NodeFaults : Type 0 where
+  pub copy_revision : Bool
   pub unread : Bool
   pub missing : Bool
+  pub outside : Bool
 
--- these are the faults of the node's mergeinfo, as the filter tells them; no record before it counts
-pub record AreMergeFaultsOf (settings : Settings) (r : DumpRecord) (m : MergeFaults) : Type 0 where
-  pub unread : IsTrue m.unread ↔ HoldsOfRecord settings [] r MergeInfo
-  pub missing : IsTrue m.missing ↔ HoldsOfRecord settings [] r MergeSource
+-- these are the node's faults, as the filter tells them of a record that these stand before
+pub record AreNodeFaultsOf (settings : Settings) (before : List DumpRecord) (r : DumpRecord) (m : NodeFaults)
+    : Type 0 where
+  pub copy_revision : IsTrue m.copy_revision ↔ HoldsOfRecord settings before r CopyRevision
+  pub unread : IsTrue m.unread ↔ HoldsOfRecord settings before r MergeInfo
+  pub missing : IsTrue m.missing ↔ HoldsOfRecord settings before r MergeSource
+  pub outside : IsTrue m.outside ↔ HoldsOfRecord settings before r MergeRange
 
 -- whether this is found in the node; the properties are those of its block, none where that can't be read, and the
--- faults those of its mergeinfo
-abbrev pub is_found : Settings → DumpRecord → Option (List Property) → MergeFaults → Finding → Bool
+-- faults those of the node
+abbrev pub is_found : Settings → DumpRecord → Option (List Property) → NodeFaults → Finding → Bool
 is_found settings r ps m Finding.UnreadBlock = is_none ps
 is_found settings r ps m Finding.Delta = has_odd_delta r
 is_found settings r ps m Finding.UnknownAction = not (has_known_action r)
 is_found settings r ps m Finding.OddText = not (has_plain_texts r (unwrap_or ps []))
 is_found settings r ps m Finding.NoWholeFile = lacks_source settings r
+is_found settings r ps m Finding.MissingCopyRevision = m.copy_revision
 is_found settings r ps m Finding.UnreadMergeinfo = m.unread
 is_found settings r ps m Finding.MissingMergeSource = m.missing
+is_found settings r ps m Finding.MissingMergeRevision = m.outside
 is_found settings r ps m Finding.PropertiesLost =
     has_kept_path settings r && makes_copy r && not (has_kept_source settings r)
     && not (has_header property_length_name r.headers)
@@ -121,7 +134,7 @@ is_found settings r ps m Finding.TextComesIn =
     is_exclude settings.side && has_kept_path settings r && makes r && becomes_plain settings r
 
 -- what is found in the node, in order
-abbrev pub findings_of : Settings → DumpRecord → Option (List Property) → MergeFaults → List Finding
+abbrev pub findings_of : Settings → DumpRecord → Option (List Property) → NodeFaults → List Finding
 findings_of settings r ps m = filter (λ f. is_found settings r ps m f) every_finding
 
 -- these are the node's properties; none is said where its block can't be read
@@ -129,10 +142,10 @@ abbrev pub IsReadBlock : DumpRecord → Option (List Property) → Type 0
 IsReadBlock r None = ¬ HasPropertyBlock r
 IsReadBlock r (Some ps) = HasPropertyList r ps
 
--- this is what is found in the node
-abbrev pub AreFindingsOf : Settings → DumpRecord → List Finding → Type 0
-AreFindingsOf settings r found = (ps : Option (List Property)) × (m : MergeFaults)
-    × IsReadBlock r ps × AreMergeFaultsOf settings r m × (found ≡ findings_of settings r ps m)
+-- this is what is found in the node that these records stand before
+abbrev pub AreFindingsOf : Settings → List DumpRecord → DumpRecord → List Finding → Type 0
+AreFindingsOf settings before r found = (ps : Option (List Property)) × (m : NodeFaults)
+    × IsReadBlock r ps × AreNodeFaultsOf settings before r m × (found ≡ findings_of settings r ps m)
 
 -- whether a node with the finding makes no change that the definitions tell
 abbrev pub is_obstacle : Finding → Bool

@@ -1,11 +1,11 @@
 -- The laws of the survey: where nothing is found, the law of filtered dumps has its premise.
-use Rattle.std.specs.Prelude.{◌≡◌, ℕ, zero, suc, Bool, not, List, [], ◌∷◌, ◌++◌, length, Option, Some, IsTrue, IsFalse}
-use Rattle.std.specs.List.{AllZip, list_all, list_any}
+use Rattle.std.specs.Prelude.{◌≡◌, ℕ, zero, suc, Bool, not, List, [], ◌∷◌, ◌++◌, length, take_while, Option, Some, IsTrue, IsFalse, MatchBool}
+use Rattle.std.specs.List.{list_all, list_any}
 use Rattle.dump_text.specs.PropertyList.{Property}
 use Rattle.dump_records.specs.RecordText.{DumpRecord}
 use Rattle.dump_rules.specs.Settings.{Settings}
 use Rattle.dump_filter.specs.FilterLaws.{LengthsFit}
-use Rattle.dump_filter.specs.Groups.{Group, groups}
+use Rattle.dump_digest.specs.RecordParts.{is_node, is_revision_record}
 use Rattle.dump_filter.specs.WholeText.{IsCleanText}
 use Rattle.dump_trees.specs.Trees.{Tree, root_alone}
 use Rattle.dump_trees.specs.Changes.{Change}
@@ -15,31 +15,46 @@ use Rattle.dump_history.specs.RecordChanges.{Patching, MakesChange}
 use Rattle.dump_history.specs.DumpChanges.{MakeRevisions}
 use Rattle.dump_history.specs.DumpLaws.{LoadsRestricted, FrontLoadsRestricted}
 use Rattle.dump_history.specs.PartLaws.{MakePartRevisions, PartLoadsRestricted}
-use Rattle.dump_history.specs.Findings.{begins_at, Finding, MergeFaults, findings_of, IsReadBlock, AreFindingsOf, is_obstacle, is_alarm, dump_findings}
+use Rattle.dump_history.specs.Findings.{begins_at, Finding, NodeFaults, findings_of, IsReadBlock, AreFindingsOf, is_obstacle, is_alarm, dump_findings}
 
 -- each node has one list of findings
 abbrev pub FindingsAreOnce : Type 0
-FindingsAreOnce = (settings : Settings) (r : DumpRecord) →
-    (found : List Finding) × AreFindingsOf settings r found
-    × ((others : List Finding) → AreFindingsOf settings r others → others ≡ found)
+FindingsAreOnce = (settings : Settings) (before : List DumpRecord) (r : DumpRecord) →
+    (found : List Finding) × AreFindingsOf settings before r found
+    × ((others : List Finding) → AreFindingsOf settings before r others → others ≡ found)
 
 -- a node in which no obstacle is found makes a change, and no other node does
 abbrev pub ObstaclesAreExact : Type 0
 ObstaclesAreExact = (patched : Patching) (settings : Settings) (r : DumpRecord) (ps : Option (List Property))
-    (m : MergeFaults) → IsReadBlock r ps
+    (m : NodeFaults) → IsReadBlock r ps
     → (IsFalse (list_any is_obstacle (findings_of settings r ps m)) → (c : Change) × MakesChange patched r c)
     × ((c : Change) → MakesChange patched r c → IsFalse (list_any is_obstacle (findings_of settings r ps m)))
 
 -- a node's change is quiet exactly where no alarm is found in the node
 abbrev pub AlarmsAreExact : Type 0
 AlarmsAreExact = (patched : Patching) (settings : Settings) (r : DumpRecord) (ps : Option (List Property))
-    (m : MergeFaults) (c : Change) → IsReadBlock r ps
+    (m : NodeFaults) (c : Change) → IsReadBlock r ps
     → MakesChange patched r c → is_quiet settings c ≡ not (list_any is_alarm (findings_of settings r ps m))
+
+-- this is what is found in these nodes, one by one, behind these records
+abbrev pub AreFindingsBehind : Settings → List DumpRecord → List DumpRecord → List (List Finding) → Type 0
+AreFindingsBehind settings before [] found = found ≡ []
+AreFindingsBehind settings before (r ∷ nodes) found =
+    (first : List Finding) × (others : List (List Finding)) × (found ≡ first ∷ others)
+    × AreFindingsOf settings before r first × AreFindingsBehind settings (before ++ r ∷ []) nodes others
+
+-- this is what is found in the nodes of these records' revisions, group by group, behind the records before
+abbrev pub HaveFindingsBehind : Settings → List DumpRecord → List DumpRecord → List (List (List Finding)) → Type 0
+HaveFindingsBehind settings before [] found = found ≡ []
+HaveFindingsBehind settings before (r ∷ records) found = MatchBool (is_revision_record r)
+    ((first : List (List Finding)) × (others : List (List (List Finding))) × (found ≡ first ∷ others)
+    × AreFindingsBehind settings (before ++ r ∷ []) (take_while is_node records) first
+    × HaveFindingsBehind settings (before ++ r ∷ []) records others)
+    (HaveFindingsBehind settings (before ++ r ∷ []) records found)
 
 -- this is what is found in the dump's nodes, group by group
 abbrev pub HaveFindings : Settings → List DumpRecord → List (List (List Finding)) → Type 0
-HaveFindings settings records found =
-    AllZip (λ (g : Group) fs. AllZip (AreFindingsOf settings) g.nodes fs) (groups records) found
+HaveFindings settings records found = HaveFindingsBehind settings [] records found
 
 -- whether none of the findings is of this kind
 abbrev pub none_is : (Finding → Bool) → List (List (List Finding)) → Bool

@@ -1,1 +1,1 @@
-pub mod MergeReading
+pub mod NodeReading

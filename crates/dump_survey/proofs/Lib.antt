@@ -8,14 +8,15 @@ pub mod KindLemmas
 pub mod LeavingLemmas
 pub mod LineLemmas
 pub mod LossLemmas
-pub mod MergeinfoLemmas
 pub mod NameLemmas
 pub mod NamedLemmas
 pub mod NeedLemmas
 pub mod NodeLemmas
+pub mod NumberLemmas
 pub mod PlainLemmas
 pub mod PrefixLemmas
 mod PrefixValues
+pub mod RefusedLemmas
 pub mod RevisionMapLemmas
 mod RevisionMapValues
 pub mod SilentLemmas

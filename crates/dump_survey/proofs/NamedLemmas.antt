@@ -1,15 +1,15 @@
 -- With each copy that is told to be cut otherwise than its source a prefix is told, and with nothing else.
-use Rattle.std.proofs.Common.{◌≡◌, ℕ, ◌+◌, Bool, true, false, ◌&&◌, List, [], ◌∷◌, ◌++◌, map, filter, cond, Option, Some, None, is_some, MatchBool, refl, sym, ap, ap₂, ◌∙◌}
+use Rattle.std.proofs.Common.{◌≡◌, ℕ, Bool, true, false, ◌&&◌, List, [], ◌∷◌, ◌++◌, length, map, filter, cond, Option, Some, None, is_some, MatchBool, refl, sym, ap, ap₂, ◌∙◌}
 use Rattle.std.proofs.lemmas.List.{map-append}
 use Rattle.dump_text.specs.PropertyList.{Property}
 use Rattle.dump_records.specs.RecordText.{DumpRecord}
 use Rattle.dump_rules.specs.Settings.{Settings}
 use Rattle.dump_digest.specs.RecordParts.{is_node, node_path}
 use Rattle.dump_history.specs.RecordChanges.{copy_path}
-use Rattle.dump_history.specs.Findings.{Finding, MergeFaults, AreFindingsOf, cuts, every_finding, has_kept_path, has_kept_source, is_found, makes_copy}
+use Rattle.dump_history.specs.Findings.{Finding, NodeFaults, cuts, every_finding, has_kept_path, has_kept_source, is_found, makes_copy}
 use Rattle.dump_survey.specs.CuttingPrefix.{cutting_prefix}
 use Rattle.dump_survey.specs.SurveyTies.{tells_cut, EachCutNamesPrefix}
-use Rattle.dump_survey.specs.Told.{NodeTold, told_in, present_after, IsToldOf, AreTold}
+use Rattle.dump_survey.specs.Told.{NodeTold, told_in, present_after, IsToldOfNode, IsToldOf, AreTold}
 use Rattle.dump_survey.proofs.CutLemmas.{cut_there}
 
 -- for each whether a prefix is told, and whether the finding wants one
@@ -25,15 +25,17 @@ last_holds true true false d is = cc
 last_holds true false c d is = cc
 last_holds false b c d is = cc
 
-module _ (settings : Settings) (r : DumpRecord) (ps : Option (List Property)) (m : MergeFaults) where
+module _ (settings : Settings) (r : DumpRecord) (ps : Option (List Property)) (m : NodeFaults) where
   found_named : (f : Finding) → is_found settings r ps m f ≡ true → is_some (cutting_prefix settings r f) ≡ tells_cut f
   found_named Finding.UnreadBlock is = refl
   found_named Finding.Delta is = refl
   found_named Finding.UnknownAction is = refl
   found_named Finding.OddText is = refl
   found_named Finding.NoWholeFile is = refl
+  found_named Finding.MissingCopyRevision is = refl
   found_named Finding.UnreadMergeinfo is = refl
   found_named Finding.MissingMergeSource is = refl
+  found_named Finding.MissingMergeRevision is = refl
   found_named Finding.PropertiesLost is = refl
   found_named Finding.CopyLoses is = cut_there settings (copy_path r) (node_path r)
       ∙ last_holds (has_kept_path settings r) (makes_copy r) (has_kept_source settings r)
@@ -61,28 +63,26 @@ module _ (settings : Settings) (r : DumpRecord) (ps : Option (List Property)) (m
       by true is more = ap₂ (λ b bs. b ∷ bs) (found_named f is) more
       by false is more = more
 
-named_of_record : (settings : Settings) (number : ℕ) (present : Option ℕ) (r : DumpRecord) (told : List NodeTold)
-    → IsToldOf settings number present r told → named told ≡ wanted told
-named_of_record settings number None r told is = ap named is ∙ sym (ap wanted is)
-named_of_record settings number (Some revision) r told is = by (is_node r) is
+named_of_record : (settings : Settings) (before : List DumpRecord) (present : Option ℕ) (r : DumpRecord)
+    (told : List NodeTold) → IsToldOf settings before present r told → named told ≡ wanted told
+named_of_record settings before None r told is = ap named is ∙ sym (ap wanted is)
+named_of_record settings before (Some revision) r told is = by (is_node r) is
   where
-    by : (b : Bool) → MatchBool b
-        ((fs : List Finding) × AreFindingsOf settings r fs × (told ≡ map (told_in settings number revision r) fs))
-        (told ≡ []) → named told ≡ wanted told
+    by : (b : Bool) → MatchBool b (IsToldOfNode settings before revision r told) (told ≡ []) → named told ≡ wanted told
     by true (fs, (ps, m, read, of, found), is) =
-        let all = is ∙ ap (map (told_in settings number revision r)) found in
-        ap named all ∙ (all_named settings r ps m number revision every_finding ∙ sym (ap wanted all))
+        let all = is ∙ ap (map (told_in settings (length before) revision r)) found in
+        ap named all ∙ (all_named settings r ps m (length before) revision every_finding ∙ sym (ap wanted all))
     by false is = ap named is ∙ sym (ap wanted is)
 
-named_of_records : (settings : Settings) (number : ℕ) (present : Option ℕ) (records : List DumpRecord)
-    (told : List NodeTold) → AreTold settings number present records told → named told ≡ wanted told
-named_of_records settings number present [] told is = ap named is ∙ sym (ap wanted is)
-named_of_records settings number present (r ∷ records) told (this, others, is, one, more) =
+named_of_records : (settings : Settings) (before : List DumpRecord) (present : Option ℕ) (records : List DumpRecord)
+    (told : List NodeTold) → AreTold settings before present records told → named told ≡ wanted told
+named_of_records settings before present [] told is = ap named is ∙ sym (ap wanted is)
+named_of_records settings before present (r ∷ records) told (this, others, is, one, more) =
     ap named is
     ∙ (map-append (λ (t : NodeTold). is_some t.prefix) this others
-    ∙ (ap₂ (λ l m. l ++ m) (named_of_record settings number present r this one)
-    (named_of_records settings (number + 1) (present_after present r) records others more)
+    ∙ (ap₂ (λ l m. l ++ m) (named_of_record settings before present r this one)
+    (named_of_records settings (before ++ r ∷ []) (present_after present r) records others more)
     ∙ (sym (map-append (λ (t : NodeTold). tells_cut t.finding) this others) ∙ sym (ap wanted is))))
 
 pub each_cut_names_prefix : EachCutNamesPrefix
-each_cut_names_prefix settings records told is = named_of_records settings 0 None records told is
+each_cut_names_prefix settings records told is = named_of_records settings [] None records told is

@@ -52,12 +52,12 @@ module _ (patched : Patching) (settings : Settings) (dump text : List ℕ) (reco
     (clean : IsCleanText settings dump records text) (fit : LengthsFit settings records) where
   -- where nothing that matters is told of the dump, the law has its premise
   silent : (theirs : List DumpRecord) (ending : Ending) (told : List NodeTold) → HasRecords dump theirs ending
-      → AreTold settings 0 None theirs told → dump_findings settings theirs ≡ []
+      → AreTold settings [] None theirs told → dump_findings settings theirs ≡ []
       → IsTrue (none_told is_obstacle told) → IsTrue (none_told is_alarm told)
       → DumpRestricts patched settings records text
   silent theirs ending told has are nothing no_obstacle no_alarm =
       let same = records_once dump theirs records ending Ending.Whole has clean.whole in
-      let here = subst (λ l. AreTold settings 0 None l told) same.0 are in
+      let here = subst (λ l. AreTold settings [] None l told) same.0 are in
       let (found, have, all) = told_are_findings settings dump records Ending.Whole told clean.whole here in
       surveyed_dump patched settings dump text records found clean fit
       (ap (dump_findings settings) (sym same.0) ∙ nothing) have

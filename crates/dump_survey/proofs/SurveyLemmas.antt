@@ -24,28 +24,28 @@ pub record HaveTold (settings : Settings) (dump : List ℕ) (state : Surveying) 
   pub before : List DumpRecord
   pub begins : BeginsWithRecords dump before
   pub count : length before ≡ state.number
-  pub told : AreTold settings 0 None before so_far
+  pub told : AreTold settings [] None before so_far
 
 -- what is told of records and of one more
-told_more : (settings : Settings) (number : ℕ) (present : Option ℕ) (records : List DumpRecord) (r : DumpRecord)
-    (told this : List NodeTold) → AreTold settings number present records told
-    → IsToldOf settings (number + length records) (open_behind present records) r this
-    → AreTold settings number present (records ++ r ∷ []) (told ++ this)
-told_more settings number present [] r told this none is = (
+told_more : (settings : Settings) (before : List DumpRecord) (present : Option ℕ) (records : List DumpRecord)
+    (r : DumpRecord) (told this : List NodeTold) → AreTold settings before present records told
+    → IsToldOf settings (before ++ records) (open_behind present records) r this
+    → AreTold settings before present (records ++ r ∷ []) (told ++ this)
+told_more settings before present [] r told this none is = (
   this,
   [],
   ap (λ l. l ++ this) none ∙ sym (append-nil this),
-  subst (λ n. IsToldOf settings n present r this) (let e : number + 0 ≡ number = omega arith in e) is,
+  subst (λ rs. IsToldOf settings rs present r this) (append-nil before) is,
   refl,
 )
-told_more settings number present (x ∷ records) r told this (first, others, all, one, more) is = (
+told_more settings before present (x ∷ records) r told this (first, others, all, one, more) is = (
   first,
   others ++ this,
   ap (λ l. l ++ this) all ∙ append_assoc first others this,
   one,
-  told_more settings (number + 1) (present_after present x) records r others this more
-      (subst (λ n. IsToldOf settings n (open_behind (present_after present x) records) r this)
-      (let e : number + length (x ∷ records) ≡ number + 1 + length records = omega arith in e) is),
+  told_more settings (before ++ x ∷ []) (present_after present x) records r others this more
+      (subst (λ rs. IsToldOf settings rs (open_behind (present_after present x) records) r this)
+      (sym (append_assoc before (x ∷ []) records)) is),
 )
 
 module _ (settings : Settings) (dump : List ℕ) (state after : Surveying) (told : List NodeTold)
@@ -58,7 +58,7 @@ module _ (settings : Settings) (dump : List ℕ) (state after : Surveying) (told
 
   more : (before : List DumpRecord) (r : DumpRecord) (this : List NodeTold)
       → ComesNext state before r after
-      → IsToldOf state.settings state.number (open_behind None before) r this
+      → IsToldOf state.settings before (open_behind None before) r this
       → HaveTold settings dump after (told ++ this)
   more before r this next is =
       let same = same_before before r next in record {
@@ -68,11 +68,9 @@ module _ (settings : Settings) (dump : List ℕ) (state after : Surveying) (told
         begins = subst (λ d. BeginsWithRecords d (before ++ r ∷ [])) so_far.dump_is next.begins;
         count = length-append before (r ∷ [])
             ∙ (ap (λ n. n + 1) next.count ∙ sym (ap (λ (s : Surveying). s.number) next.next));
-        told = told_more settings 0 None before r told this
-            (subst (λ l. AreTold settings 0 None l told) (sym same) so_far.told)
-            (subst (λ n. IsToldOf settings n (open_behind None before) r this)
-            (let count = next.count in let e : state.number ≡ 0 + length before = omega arith in e)
-            (subst (λ s. IsToldOf s state.number (open_behind None before) r this) so_far.settings_is is));
+        told = told_more settings [] None before r told this
+            (subst (λ l. AreTold settings [] None l told) (sym same) so_far.told)
+            (subst (λ s. IsToldOf s before (open_behind None before) r this) so_far.settings_is is);
       }
 
   -- a node's findings are told

@@ -8,9 +8,9 @@ use Rattle.dump_records.proofs.Prefixes.{is_front}
 use Rattle.dump_rules.specs.Settings.{Settings}
 use Rattle.dump_digest.specs.RecordParts.{is_node}
 use Rattle.dump_writer.specs.SinkWords.{IsPrefixOf}
-use Rattle.dump_history.specs.Findings.{Finding, AreFindingsOf, dump_findings}
+use Rattle.dump_history.specs.Findings.{dump_findings}
 use Rattle.dump_history.proofs.survey.FindingLemmas.{findings_once}
-use Rattle.dump_survey.specs.Told.{NodeTold, told_in, present_after, IsToldOf, AreTold}
+use Rattle.dump_survey.specs.Told.{NodeTold, told_in, present_after, IsToldOfNode, IsToldOf, AreTold}
 use Rattle.dump_survey.specs.Kinds.{kind_lines, times_told}
 use Rattle.dump_survey.specs.Lines.{node_line, dump_line, ending_line}
 use Rattle.dump_survey.specs.PrefixFindings.{told_prefixes}
@@ -19,36 +19,35 @@ use Rattle.dump_survey.specs.SurveyText.{IsSurveyText, survey_lines}
 use Rattle.dump_survey.proofs.TieLemmas.{told_once}
 
 -- something is told of each record, if only nothing
-told_of_record : (settings : Settings) (number : ℕ) (present : Option ℕ) (r : DumpRecord)
-    → (told : List NodeTold) × IsToldOf settings number present r told
-told_of_record settings number None r = ([], refl)
-told_of_record settings number (Some revision) r = by (is_node r)
+told_of_record : (settings : Settings) (before : List DumpRecord) (present : Option ℕ) (r : DumpRecord)
+    → (told : List NodeTold) × IsToldOf settings before present r told
+told_of_record settings before None r = ([], refl)
+told_of_record settings before (Some revision) r = by (is_node r)
   where
-    by : (b : Bool) → (told : List NodeTold) × MatchBool b
-        ((found : List Finding) × AreFindingsOf settings r found × (told ≡ map (told_in settings number revision r) found))
-        (told ≡ [])
+    by : (b : Bool) → (told : List NodeTold)
+        × MatchBool b (IsToldOfNode settings before revision r told) (told ≡ [])
     by true =
-        let (found, are, once) = findings_once settings r in
-        (map (told_in settings number revision r) found, (found, are, refl))
+        let (found, are, once) = findings_once settings before r in
+        (map (told_in settings (length before) revision r) found, (found, are, refl))
     by false = ([], refl)
 
 -- and of any records
-told_of_records : (settings : Settings) (number : ℕ) (present : Option ℕ) (records : List DumpRecord)
-    → (told : List NodeTold) × AreTold settings number present records told
-told_of_records settings number present [] = ([], refl)
-told_of_records settings number present (r ∷ records) =
-    let (this, one) = told_of_record settings number present r in
-    let (others, more) = told_of_records settings (number + 1) (present_after present r) records in
+told_of_records : (settings : Settings) (before : List DumpRecord) (present : Option ℕ) (records : List DumpRecord)
+    → (told : List NodeTold) × AreTold settings before present records told
+told_of_records settings before present [] = ([], refl)
+told_of_records settings before present (r ∷ records) =
+    let (this, one) = told_of_record settings before present r in
+    let (others, more) = told_of_records settings (before ++ r ∷ []) (present_after present r) records in
     (this ++ others, (this, others, refl, one, more))
 
 -- what is told of records begins with what is told of the first of them
-told_front : (settings : Settings) (number : ℕ) (present : Option ℕ) (records rest : List DumpRecord)
-    (told : List NodeTold) → AreTold settings number present (records ++ rest) told
-    → (front behind : List NodeTold) × (told ≡ front ++ behind) × AreTold settings number present records front
-told_front settings number present [] rest told are = ([], told, refl, refl)
-told_front settings number present (r ∷ records) rest told (this, others, is, one, more) =
+told_front : (settings : Settings) (before : List DumpRecord) (present : Option ℕ) (records rest : List DumpRecord)
+    (told : List NodeTold) → AreTold settings before present (records ++ rest) told
+    → (front behind : List NodeTold) × (told ≡ front ++ behind) × AreTold settings before present records front
+told_front settings before present [] rest told are = ([], told, refl, refl)
+told_front settings before present (r ∷ records) rest told (this, others, is, one, more) =
     let (front, behind, same, are) =
-    told_front settings (number + 1) (present_after present r) records rest others more in (
+    told_front settings (before ++ r ∷ []) (present_after present r) records rest others more in (
       this ++ front,
       behind,
       is ∙ (ap (λ l. this ++ l) same ∙ sym (append_assoc this front behind)),
@@ -57,7 +56,7 @@ told_front settings number present (r ∷ records) rest told (this, others, is, 
 
 -- the text of a survey begins with the lines of what is told of the first records
 pub begins_text : (settings : Settings) (dump : List ℕ) (before : List DumpRecord) (told : List NodeTold)
-    → BeginsWithRecords dump before → AreTold settings 0 None before told
+    → BeginsWithRecords dump before → AreTold settings [] None before told
     → (text : List ℕ) × (found : Bool) × IsSurveyText settings dump text found
     × IsPrefixOf (flat_map node_line told) text
 begins_text settings dump before told begins are =
@@ -66,9 +65,9 @@ begins_text settings dump before told begins are =
     let rest : List DumpRecord = drop (length before) records in
     let whole : before ++ rest ≡ records =
     ap (λ l. l ++ rest) front ∙ take-append-drop (length before) records in
-    let (all, all_are) = told_of_records settings 0 None records in
-    let (first, behind, is, first_are) = told_front settings 0 None before rest all
-    (subst (λ l. AreTold settings 0 None l all) (sym whole) all_are) in
+    let (all, all_are) = told_of_records settings [] None records in
+    let (first, behind, is, first_are) = told_front settings [] None before rest all
+    (subst (λ l. AreTold settings [] None l all) (sym whole) all_are) in
     let same : told ≡ first = told_once settings before first told first_are are in
     let end : List ℕ = flat_map dump_line (dump_findings settings records)
     ++ (prefix_lines (told_prefixes records settings.prefixes) ++ (ending_line (length records) ending

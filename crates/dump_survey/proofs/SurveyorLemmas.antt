@@ -18,7 +18,7 @@ use Rattle.dump_rules.specs.Prefix.{bare_prefix}
 use Rattle.dump_digest.specs.RecordParts.{is_revision_record, is_node}
 use Rattle.dump_filter.proofs.groups.KindLemmas.{alone}
 use Rattle.dump_survey.specs.declared.tally.Tally.{Tally}
-use Rattle.dump_survey.specs.steps.Tally.{no_tally, next_tally, tally_findings}
+use Rattle.dump_survey.specs.steps.Tally.{no_tally, next_tally, numbers_of, tally_findings}
 use Rattle.dump_history.specs.Findings.{Finding, every_finding, is_found, AreFindingsOf}
 use Rattle.dump_history.proofs.survey.FindingLemmas.{findings_once}
 use Rattle.dump_survey.specs.declared.finding.Found.{Found}
@@ -26,9 +26,11 @@ use Rattle.dump_survey.specs.declared.surveyor.End.{End}
 use Rattle.dump_survey.specs.declared.surveyor.Step.{Step}
 use Rattle.dump_survey.specs.declared.surveyor.Step.TheVariants.{Node, Other, Finished}
 use Rattle.dump_survey.specs.declared.memory.Memory.{Memory}
-use Rattle.dump_survey.specs.steps.Found.{has_found, merge_faults, IsFoundIn}
+use Rattle.dump_survey.specs.declared.revision_numbers.Numbers.{Numbers}
+use Rattle.dump_survey.specs.steps.Found.{has_found, node_faults, IsFoundIn}
+use Rattle.dump_survey.specs.steps.RevisionNumbers.{AreNumbersBehind}
 use Rattle.dump_survey.specs.declared.told.SurveyedNode.{SurveyedNode}
-use Rattle.dump_survey.specs.Told.{NodeTold, IsToldOf, told_in, told_naming}
+use Rattle.dump_survey.specs.Told.{NodeTold, IsToldOfNode, IsToldOf, told_in, told_naming}
 use Rattle.dump_survey.specs.steps.Found.{listed}
 use Rattle.dump_survey.specs.steps.Surveyed.{told_of_finding, told_of_node}
 use Rattle.dump_survey.specs.SurveyEnds.{survey_ending}
@@ -39,6 +41,7 @@ use Rattle.dump_survey.specs.steps.Surveying.{Surveying, Surveys}
 use Rattle.dump_survey.specs.steps.Steps.{IsStepOf, TellsEnd, ComesNext, open_behind, SurveyStep, ArePrefixesTold}
 use Rattle.dump_survey.proofs.IdleLemmas.{all_idle, idle_more, told_by_idle}
 use Rattle.dump_survey.proofs.TallyLemmas.{is_single, filter_same, tally_more, count_within, present_number, present_is, tally_tells}
+use Rattle.dump_survey.proofs.NumberLemmas.{numbers_behind}
 
 -- a lawful record is no node that is a revision too
 single : (number : ℕ) (r : DumpRecord) → is_lawful number r.headers ≡ true
@@ -106,23 +109,24 @@ at_first dump settings prefixes idle tally cutter is same all none = record {
 }
 
 -- what is found is what is found in the node
-found_is : (settings : Settings) (r : DumpRecord) (found : Found) → IsFoundIn settings r found
-    → AreFindingsOf settings r (listed found)
-found_is settings r found (faults, exact, named) =
-    let (fs, (ps, m, read, of, is), once) = findings_once settings r in (
+found_is : (settings : Settings) (before : List DumpRecord) (numbers : Numbers) (r : DumpRecord) (found : Found)
+    → AreNumbersBehind settings before r numbers → IsFoundIn settings numbers r found
+    → AreFindingsOf settings before r (listed found)
+found_is settings before numbers r found behind (faults, exact, named) =
+    let (fs, (ps, m, read, of, is), once) = findings_once settings before r in (
       ps,
-      merge_faults found.mergeinfo,
+      node_faults found.refused,
       read,
-      faults,
-      filter_same (λ f. has_found found f) (λ f. is_found settings r ps (merge_faults found.mergeinfo) f)
+      faults before behind,
+      filter_same (λ f. has_found found f) (λ f. is_found settings r ps (node_faults found.refused) f)
           (exact ps read) every_finding,
     )
 
 -- each finding of a node is told with the prefix that cuts
-told_as : (settings : Settings) (node : SurveyedNode) → IsFoundIn settings (record_item node.item) node.found
-    → told_of_node node
+told_as : (settings : Settings) (numbers : Numbers) (node : SurveyedNode)
+    → IsFoundIn settings numbers (record_item node.item) node.found → told_of_node node
     ≡ map (told_in settings (record_number node.item) node.revision (record_item node.item)) (listed node.found)
-told_as settings node (faults, exact, named) =
+told_as settings numbers node (faults, exact, named) =
     same_of_those (has_found node.found) (told_of_finding node) (told_in settings number node.revision r)
     (λ f has. ap (λ p. told_naming p number node.revision r f) (named f has)) every_finding
   where
@@ -145,12 +149,11 @@ told_as settings node (faults, exact, named) =
         by false is more = more
 
 -- what is found in a node of a revision is told of it
-told_of : (settings : Settings) (number revision : ℕ) (r : DumpRecord) (found : List Finding) (told : List NodeTold)
-    → is_node r ≡ true → AreFindingsOf settings r found → told ≡ map (told_in settings number revision r) found
-    → IsToldOf settings number (Some revision) r told
-told_of settings number revision r found told node are is =
-    subst (λ (b : Bool). MatchBool b
-    ((fs : List Finding) × AreFindingsOf settings r fs × (told ≡ map (told_in settings number revision r) fs)) (told ≡ []))
+told_of : (settings : Settings) (before : List DumpRecord) (revision : ℕ) (r : DumpRecord) (found : List Finding)
+    (told : List NodeTold) → is_node r ≡ true → AreFindingsOf settings before r found
+    → told ≡ map (told_in settings (length before) revision r) found → IsToldOf settings before (Some revision) r told
+told_of settings before revision r found told node are is =
+    subst (λ (b : Bool). MatchBool b (IsToldOfNode settings before revision r told) (told ≡ []))
     (sym node) (found, are, is)
 
 module _ (settings : Settings) (prefixes idle : List (List ℕ)) (tally : Tally) (cutter after : CutterState)
@@ -213,21 +216,21 @@ module _ (settings : Settings) (prefixes idle : List (List ℕ)) (tally : Tally)
     present = ap (λ (t : Tally). present_number t.present) knows.tallied ∙ present_is settings no_tally knows.before
 
     -- what is found in the record is told
-    pub stepped : (told : Step) → IsStepOf settings item tally.present told → SurveyStep (seen cutter) told (seen after)
+    pub stepped : (told : Step) → IsStepOf settings item tally told → SurveyStep (seen cutter) told (seen after)
     stepped (Finished end) is = absurd is
     stepped Other is = (
       knows.before,
       record_item item,
       comes,
       elim is [
-        | inl none ↦ subst (λ p. IsToldOf settings cutter.number p (record_item item) [])
+        | inl none ↦ subst (λ p. IsToldOf settings knows.before p (record_item item) [])
             (ap present_number (sym none) ∙ present) refl
         | inr other ↦ nothing (open_behind None knows.before) (is_node (record_item item)) refl other
       ],
     )
       where
         nothing : (p : Option ℕ) (b : Bool) → is_node (record_item item) ≡ b → b ≡ false
-            → IsToldOf settings cutter.number p (record_item item) []
+            → IsToldOf settings knows.before p (record_item item) []
         nothing None b is other = refl
         nothing (Some revision) true is other = cc
         nothing (Some revision) false is other = rw is refl
@@ -236,11 +239,11 @@ module _ (settings : Settings) (prefixes idle : List (List ℕ)) (tally : Tally)
       subst (λ (i : Record). ComesNext (seen cutter) knows.before (record_item i) (seen after)) (sym same) comes,
       number,
       node_is,
-      subst (λ (p : Option ℕ). IsToldOf settings cutter.number p r (told_of_node node)) (sym revision ∙ present)
-          (told_of settings cutter.number node.revision r (listed node.found) (told_of_node node) node_is
-          (found_is settings r node.found finds)
-          (told_as settings node finds
-          ∙ ap (λ n. map (told_in settings n node.revision r) (listed node.found)) number)),
+      subst (λ (p : Option ℕ). IsToldOf settings knows.before p r (told_of_node node)) (sym revision ∙ present)
+          (told_of settings knows.before node.revision r (listed node.found) (told_of_node node) node_is
+          (found_is settings knows.before (numbers_of tally node.revision) r node.found behind finds)
+          (told_as settings (numbers_of tally node.revision) node finds
+          ∙ ap (λ n. map (told_in settings n node.revision r) (listed node.found)) (number ∙ sym knows.count))),
     )
       where
         r : DumpRecord
@@ -252,11 +255,19 @@ module _ (settings : Settings) (prefixes idle : List (List ℕ)) (tally : Tally)
         node_is : is_node r ≡ true
         node_is = ap (λ (i : Record). is_node (record_item i)) same ∙ is
 
-        finds : IsFoundIn settings r node.found
-        finds = subst (λ (i : Record). IsFoundIn settings (record_item i) node.found) (sym same) found
+        finds : IsFoundIn settings (numbers_of tally node.revision) r node.found
+        finds = subst (λ (i : Record). IsFoundIn settings (numbers_of tally node.revision) (record_item i) node.found)
+            (sym same) found
+
+        behind : AreNumbersBehind settings knows.before r (numbers_of tally node.revision)
+        behind = subst (λ (t : Tally). AreNumbersBehind settings knows.before r (numbers_of t node.revision))
+            (sym knows.tallied) (numbers_behind settings knows.before r node.revision
+            (subst (λ (i : Record). list_all is_single (knows.before ++ record_item i ∷ []) ≡ true) (sym same)
+            (begun_single cutter.dump (knows.before ++ record_item item ∷ []) next_begins)) node_is
+            (ap (λ (t : Tally). present_number t.present) (sym knows.tallied) ∙ revision))
 
     -- so where there was memory
-    pub stepped_ok : (result : Result Step Memory) → IfOk result (IsStepOf settings item tally.present)
+    pub stepped_ok : (result : Result Step Memory) → IfOk result (IsStepOf settings item tally)
         → IfOk result (λ told. SurveyStep (seen cutter) told (seen after))
     stepped_ok (Ok told) is = stepped told is
     stepped_ok (Err e) is = tt

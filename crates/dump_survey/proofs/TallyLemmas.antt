@@ -85,7 +85,7 @@ node_numbered : (t : Tally) (kept early : Bool) (p : Option Present)
 node_numbered t kept early None = refl
 node_numbered t kept early (Some p) = refl
 
-node_begins : (t : Tally) (kept early : Bool) (p : Option Present) → (node_tally t kept early p).first ≡ t.first
+pub node_begins : (t : Tally) (kept early : Bool) (p : Option Present) → (node_tally t kept early p).first ≡ t.first
 node_begins t kept early None = refl
 node_begins t kept early (Some p) = refl
 

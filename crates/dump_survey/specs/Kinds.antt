@@ -15,14 +15,16 @@ finding_place Finding.Delta = 1
 finding_place Finding.UnknownAction = 2
 finding_place Finding.OddText = 3
 finding_place Finding.NoWholeFile = 4
-finding_place Finding.UnreadMergeinfo = 5
-finding_place Finding.MissingMergeSource = 6
-finding_place Finding.PropertiesLost = 7
-finding_place Finding.CopyLoses = 8
-finding_place Finding.CopyLetsIn = 9
-finding_place Finding.FolderTakes = 10
-finding_place Finding.FolderBrings = 11
-finding_place Finding.TextComesIn = 12
+finding_place Finding.MissingCopyRevision = 5
+finding_place Finding.UnreadMergeinfo = 6
+finding_place Finding.MissingMergeSource = 7
+finding_place Finding.MissingMergeRevision = 8
+finding_place Finding.PropertiesLost = 9
+finding_place Finding.CopyLoses = 10
+finding_place Finding.CopyLetsIn = 11
+finding_place Finding.FolderTakes = 12
+finding_place Finding.FolderBrings = 13
+finding_place Finding.TextComesIn = 14
 
 -- how often the finding is told
 abbrev pub times_told : List NodeTold → Finding → ℕ
@@ -48,10 +50,14 @@ finding_kind Finding.Delta = codes ": deltas under format version 2. Dump with -
 finding_kind Finding.UnknownAction = codes ": no action, or an unknown one. Have the dump made again\n"
 finding_kind Finding.OddText = codes ": texts that the load reads otherwise. Mend the dump: no prefix may match what the load makes of them\n"
 finding_kind Finding.NoWholeFile = codes ": fault 12, copies of what is not kept. Include the source too, or leave the copy out too\n"
+finding_kind Finding.MissingCopyRevision =
+    codes ": fault 13, copies of revisions without a new number. Leave --renumber-revs out, or dump from an earlier revision on\n"
 finding_kind Finding.UnreadMergeinfo =
     codes ": fault 14, mergeinfo that can't be read. Mend the property, and dump again; or leave the path out\n"
 finding_kind Finding.MissingMergeSource =
     codes ": fault 15, mergeinfo of paths that are not kept. Give --skip-missing-merge-sources, or keep these paths too\n"
+finding_kind Finding.MissingMergeRevision =
+    codes ": fault 16, mergeinfo of revisions outside of the dump. Give --skip-missing-merge-sources, or leave --renumber-revs out\n"
 finding_kind Finding.PropertiesLost = codes ": properties that may be lost with their source. Include the source too\n"
 finding_kind Finding.CopyLoses =
     codes ": copies that may lose a part. Leave the same path out below the copy, or keep it below the source too\n"

@@ -33,6 +33,7 @@ source_text t = concat (codes " is copied from " ∷ shown_path t.copy_path
 -- whether a finding's line tells what the node is copied from
 abbrev pub tells_source : Finding → Bool
 tells_source Finding.NoWholeFile = true
+tells_source Finding.MissingCopyRevision = true
 tells_source Finding.PropertiesLost = true
 tells_source Finding.CopyLoses = true
 tells_source Finding.CopyLetsIn = true
@@ -47,8 +48,10 @@ finding_words Finding.Delta = codes " tells of a delta, which format version 2 d
 finding_words Finding.UnknownAction = codes " has no action, or an unknown one"
 finding_words Finding.OddText = codes " has a path, a copy source or another text that the load reads otherwise"
 finding_words Finding.NoWholeFile = codes ", which is not kept: fault 12"
+finding_words Finding.MissingCopyRevision = codes ", for which there is no new number: fault 13"
 finding_words Finding.UnreadMergeinfo = codes " has mergeinfo that can't be read: fault 14"
 finding_words Finding.MissingMergeSource = codes " has mergeinfo of a path that is not kept: fault 15"
+finding_words Finding.MissingMergeRevision = codes " has mergeinfo of a revision outside of the dump: fault 16"
 finding_words Finding.PropertiesLost = codes ", which is not kept, and may lose its properties"
 finding_words Finding.CopyLoses = codes ", and may lose what is left out there and not here"
 finding_words Finding.CopyLetsIn = codes ", and may let in what is left out here and not there"

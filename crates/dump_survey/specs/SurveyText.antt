@@ -1,5 +1,5 @@
 -- What a survey writes: one line for each finding, in the dump's order, and behind them one for each kind.
-use Rattle.std.specs.Prelude.{◌≡◌, ℕ, Bool, not, ◌==◌, List, ◌++◌, flat_map, length, Option, None}
+use Rattle.std.specs.Prelude.{◌≡◌, ℕ, Bool, not, ◌==◌, List, [], ◌++◌, flat_map, length, Option, None}
 use Rattle.std.specs.Io.KnownBytes.{Appends}
 use Rattle.dump_records.specs.RecordText.{DumpRecord}
 use Rattle.dump_records.specs.DumpText.{Ending, HasRecords}
@@ -26,7 +26,7 @@ pub record IsSurveyText (settings : Settings) (dump text : List ℕ) (found : Bo
   pub ending : Ending
   pub has : HasRecords dump records ending
   pub told : List NodeTold
-  pub are_told : AreTold settings 0 None records told
+  pub are_told : AreTold settings [] None records told
   pub text_is : text ≡ survey_lines settings told records ending
   pub found_is : found ≡ not (length text == 0)
 

@@ -22,14 +22,14 @@ all_findings found = flat_map (λ fs. flat_map (λ node. node) fs) found
 -- the findings that are told of a dump's nodes are those of its groups' nodes, in order, and no others
 abbrev pub ToldAreFindings : Type 0
 ToldAreFindings = (settings : Settings) (dump : List ℕ) (records : List DumpRecord) (ending : Ending)
-    (told : List NodeTold) → HasRecords dump records ending → AreTold settings 0 None records told
+    (told : List NodeTold) → HasRecords dump records ending → AreTold settings [] None records told
     → (found : List (List (List Finding))) × HaveFindings settings records found
     × (map (λ (t : NodeTold). t.finding) told ≡ all_findings found)
 
 -- and a dump has one list of them
 abbrev pub ToldOnce : Type 0
 ToldOnce = (settings : Settings) (records : List DumpRecord) (told others : List NodeTold) →
-    AreTold settings 0 None records told → AreTold settings 0 None records others → others ≡ told
+    AreTold settings [] None records told → AreTold settings [] None records others → others ≡ told
 
 -- whether the finding is that a copy is cut otherwise than its source
 abbrev pub tells_cut : Finding → Bool
@@ -40,7 +40,7 @@ tells_cut _ = false
 -- with each of these a prefix is told that cuts, and with no other finding
 abbrev pub EachCutNamesPrefix : Type 0
 EachCutNamesPrefix = (settings : Settings) (records : List DumpRecord) (told : List NodeTold) →
-    AreTold settings 0 None records told
+    AreTold settings [] None records told
     → map (λ (t : NodeTold). is_some t.prefix) told ≡ map (λ (t : NodeTold). tells_cut t.finding) told
 
 -- whether none of the findings that are told is of this kind

@@ -1,6 +1,6 @@
 -- The survey of a dump: what is found in its nodes, in the dump as a whole and in the prefixes, up to where its list of
 -- records ends.
-use Rattle.std.specs.Prelude.{◌≡◌, ℕ, List, map, None}
+use Rattle.std.specs.Prelude.{◌≡◌, ℕ, List, [], map, None}
 use Rattle.dump_records.specs.RecordText.{DumpRecord}
 use Rattle.dump_records.specs.DumpText.{HasRecords}
 use Rattle.dump_rules.specs.Settings.{Settings}
@@ -15,6 +15,6 @@ use Rattle.dump_survey.specs.Told.{told_view, AreTold}
 pub record IsSurveyOf (settings : Settings) (dump : List ℕ) (survey : Survey) : Type 0 where
   pub records : List DumpRecord
   pub has : HasRecords dump records (survey_ending survey.end.end)
-  pub told : AreTold settings 0 None records (map told_view survey.told.items)
+  pub told : AreTold settings [] None records (map told_view survey.told.items)
   pub found : listed_findings survey.end.dump ≡ dump_findings settings records
   pub prefixes : map prefix_view survey.prefixes.items ≡ told_prefixes records settings.prefixes

@@ -1,5 +1,5 @@
 -- What a survey tells of a dump: each finding in a node of a revision, in order, and where it is.
-use Rattle.std.specs.Prelude.{◌≡◌, ℕ, ◌+◌, List, [], ◌∷◌, ◌++◌, map, Option, Some, None, option_copied, if◌then◌else◌, MatchBool}
+use Rattle.std.specs.Prelude.{◌≡◌, ℕ, List, [], ◌∷◌, ◌++◌, length, map, Option, Some, None, option_copied, if◌then◌else◌, MatchBool}
 use Rattle.dump_records.specs.RecordText.{DumpRecord}
 use Rattle.dump_rules.specs.Settings.{Settings}
 use Rattle.dump_digest.specs.RecordParts.{is_revision_record, is_node, node_path}
@@ -58,16 +58,20 @@ told_in settings number revision r finding =
 abbrev pub present_after : Option ℕ → DumpRecord → Option ℕ
 present_after present r = if is_revision_record r then Some (revision_number r) else if is_node r then present else None
 
--- this is told of the record with this number, where a node belongs to this revision
-abbrev pub IsToldOf : Settings → ℕ → Option ℕ → DumpRecord → List NodeTold → Type 0
-IsToldOf settings number None r told = told ≡ []
-IsToldOf settings number (Some revision) r told = MatchBool (is_node r)
-    ((found : List Finding) × AreFindingsOf settings r found × (told ≡ map (told_in settings number revision r) found))
-    (told ≡ [])
+-- this is told of a node of this revision behind these records
+abbrev pub IsToldOfNode : Settings → List DumpRecord → ℕ → DumpRecord → List NodeTold → Type 0
+IsToldOfNode settings before revision r told = (found : List Finding) × AreFindingsOf settings before r found
+    × (told ≡ map (told_in settings (length before) revision r) found)
 
--- this is told of the records, the first of which has this number
-abbrev pub AreTold : Settings → ℕ → Option ℕ → List DumpRecord → List NodeTold → Type 0
-AreTold settings number present [] told = told ≡ []
-AreTold settings number present (r ∷ records) told = (this others : List NodeTold) × (told ≡ this ++ others)
-    × IsToldOf settings number present r this
-    × AreTold settings (number + 1) (present_after present r) records others
+-- this is told of the record behind these, where a node belongs to this revision
+abbrev pub IsToldOf : Settings → List DumpRecord → Option ℕ → DumpRecord → List NodeTold → Type 0
+IsToldOf settings before None r told = told ≡ []
+IsToldOf settings before (Some revision) r told =
+    MatchBool (is_node r) (IsToldOfNode settings before revision r told) (told ≡ [])
+
+-- this is told of the records behind these
+abbrev pub AreTold : Settings → List DumpRecord → Option ℕ → List DumpRecord → List NodeTold → Type 0
+AreTold settings before present [] told = told ≡ []
+AreTold settings before present (r ∷ records) told = (this others : List NodeTold) × (told ≡ this ++ others)
+    × IsToldOf settings before present r this
+    × AreTold settings (before ++ r ∷ []) (present_after present r) records others

@@ -7,6 +7,7 @@ pub mod Losses
 pub mod Names
 pub mod Needs
 pub mod Prefixes
+pub mod RevisionNumbers
 pub mod Steps
 pub mod Surveyed
 pub mod Surveying

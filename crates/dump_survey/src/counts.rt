@@ -14,8 +14,10 @@ pub(crate) struct Counts {
     unknown_action: u64,
     odd_text: u64,
     no_whole_file: u64,
+    missing_copy_revision: u64,
     unread_mergeinfo: u64,
     missing_merge_source: u64,
+    missing_merge_revision: u64,
     properties_lost: u64,
     copy_loses: u64,
     copy_lets_in: u64,
@@ -43,8 +45,10 @@ impl Counts {
             unknown_action: 0,
             odd_text: 0,
             no_whole_file: 0,
+            missing_copy_revision: 0,
             unread_mergeinfo: 0,
             missing_merge_source: 0,
+            missing_merge_revision: 0,
             properties_lost: 0,
             copy_loses: 0,
             copy_lets_in: 0,
@@ -64,8 +68,10 @@ impl Counts {
             NodeFinding::UnknownAction => self.unknown_action,
             NodeFinding::OddText => self.odd_text,
             NodeFinding::NoWholeFile => self.no_whole_file,
+            NodeFinding::MissingCopyRevision => self.missing_copy_revision,
             NodeFinding::UnreadMergeinfo => self.unread_mergeinfo,
             NodeFinding::MissingMergeSource => self.missing_merge_source,
+            NodeFinding::MissingMergeRevision => self.missing_merge_revision,
             NodeFinding::PropertiesLost => self.properties_lost,
             NodeFinding::CopyLoses => self.copy_loses,
             NodeFinding::CopyLetsIn => self.copy_lets_in,
@@ -80,15 +86,17 @@ impl Counts {
         requires { (f : Finding) → count_in self.now f + 1 < 2 ^ 64 }
         ensures { AreWithNode self.now found.now result }
     {
-        let (obstacles, mergeinfo, losses) = (found.obstacles, found.mergeinfo, found.losses);
+        let (obstacles, refused, losses) = (found.obstacles, found.refused, found.losses);
         Counts {
             unread_block: with_one(self.unread_block, obstacles.unread_block),
             delta: with_one(self.delta, obstacles.delta),
             unknown_action: with_one(self.unknown_action, obstacles.unknown_action),
             odd_text: with_one(self.odd_text, obstacles.odd_text),
             no_whole_file: with_one(self.no_whole_file, losses.no_whole_file),
-            unread_mergeinfo: with_one(self.unread_mergeinfo, mergeinfo.unread),
-            missing_merge_source: with_one(self.missing_merge_source, mergeinfo.missing),
+            missing_copy_revision: with_one(self.missing_copy_revision, refused.copy_revision),
+            unread_mergeinfo: with_one(self.unread_mergeinfo, refused.unread),
+            missing_merge_source: with_one(self.missing_merge_source, refused.missing),
+            missing_merge_revision: with_one(self.missing_merge_revision, refused.outside),
             properties_lost: with_one(self.properties_lost, losses.properties_lost),
             copy_loses: with_one(self.copy_loses, losses.copy_loses.is_some()),
             copy_lets_in: with_one(self.copy_lets_in, losses.copy_lets_in.is_some()),

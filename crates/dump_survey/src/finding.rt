@@ -3,7 +3,7 @@ ghost use Rattle.std.specs.Prelude.{◌≡◌, option_copied};
 ghost use Rattle.dump_survey.specs.Meaning.{meaning};
 ghost use Rattle.dump_survey.specs.steps.Found.{found_prefix, has_found};
 
-use crate::refused_mergeinfo::MergeinfoFaults;
+use crate::refused::Refused;
 
 /// What can be found in a node.
 #[derive(Clone, Copy, Debug, PartialEq, Eq)]
@@ -18,10 +18,14 @@ pub enum NodeFinding {
     OddText,
     /// The filter stops at it with fault 12.
     NoWholeFile,
+    /// The filter stops at it with fault 13: it has no new number for the revision that it is copied from.
+    MissingCopyRevision,
     /// The filter stops at it with fault 14: its mergeinfo can't be read.
     UnreadMergeinfo,
     /// The filter stops at it with fault 15: its mergeinfo names a path that isn't kept.
     MissingMergeSource,
+    /// The filter stops at it with fault 16: its mergeinfo names a revision outside of the dump.
+    MissingMergeRevision,
     /// The properties of its left-out source may be lost.
     PropertiesLost,
     /// A copy of a kept path may lack what is left out below that path.
@@ -37,14 +41,16 @@ pub enum NodeFinding {
 }
 
 /// Each of them, in the order in which they are told.
-pub const EVERY_FINDING: [NodeFinding; 13] = [
+pub const EVERY_FINDING: [NodeFinding; 15] = [
     NodeFinding::UnreadBlock,
     NodeFinding::Delta,
     NodeFinding::UnknownAction,
     NodeFinding::OddText,
     NodeFinding::NoWholeFile,
+    NodeFinding::MissingCopyRevision,
     NodeFinding::UnreadMergeinfo,
     NodeFinding::MissingMergeSource,
+    NodeFinding::MissingMergeRevision,
     NodeFinding::PropertiesLost,
     NodeFinding::CopyLoses,
     NodeFinding::CopyLetsIn,
@@ -93,7 +99,7 @@ impl Losses<'static> {
 #[derive(Clone, Copy, Debug, PartialEq, Eq)]
 pub struct Found<'o> {
     pub(crate) obstacles: Obstacles,
-    pub(crate) mergeinfo: MergeinfoFaults,
+    pub(crate) refused: Refused,
     pub(crate) losses: Losses<'o>,
 }
 
@@ -108,8 +114,10 @@ impl<'o> Found<'o> {
             NodeFinding::UnknownAction => self.obstacles.unknown_action,
             NodeFinding::OddText => self.obstacles.odd_text,
             NodeFinding::NoWholeFile => self.losses.no_whole_file,
-            NodeFinding::UnreadMergeinfo => self.mergeinfo.unread,
-            NodeFinding::MissingMergeSource => self.mergeinfo.missing,
+            NodeFinding::MissingCopyRevision => self.refused.copy_revision,
+            NodeFinding::UnreadMergeinfo => self.refused.unread,
+            NodeFinding::MissingMergeSource => self.refused.missing,
+            NodeFinding::MissingMergeRevision => self.refused.outside,
             NodeFinding::PropertiesLost => self.losses.properties_lost,
             NodeFinding::CopyLoses => self.losses.copy_loses.is_some(),
             NodeFinding::CopyLetsIn => self.losses.copy_lets_in.is_some(),

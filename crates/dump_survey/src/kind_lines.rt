@@ -32,11 +32,17 @@ fn finding_kind(finding: NodeFinding) -> &'static [u8]
         NodeFinding::NoWholeFile => {
             b": fault 12, copies of what is not kept. Include the source too, or leave the copy out too\n"
         }
+        NodeFinding::MissingCopyRevision => {
+            b": fault 13, copies of revisions without a new number. Leave --renumber-revs out, or dump from an earlier revision on\n"
+        }
         NodeFinding::UnreadMergeinfo => {
             b": fault 14, mergeinfo that can't be read. Mend the property, and dump again; or leave the path out\n"
         }
         NodeFinding::MissingMergeSource => {
             b": fault 15, mergeinfo of paths that are not kept. Give --skip-missing-merge-sources, or keep these paths too\n"
+        }
+        NodeFinding::MissingMergeRevision => {
+            b": fault 16, mergeinfo of revisions outside of the dump. Give --skip-missing-merge-sources, or leave --renumber-revs out\n"
         }
         NodeFinding::PropertiesLost => {
             b": properties that may be lost with their source. Include the source too\n"

@@ -18,9 +18,10 @@ ghost use Rattle.dump_survey.specs.steps.Losses.{AreObstaclesOf, AreLossesOf};
 use crate::finding::{Found, Losses, Obstacles};
 use crate::memory::Memory;
 use crate::node_headers::{ADD, DELETE, REPLACE, action_of, has_odd_delta, is_known_action};
+use crate::revision_numbers::Numbers;
 use crate::plain::{are_lines_plain, are_names_plain, properties_of};
 use crate::prefixes::Prefixes;
-use crate::refused_mergeinfo::{MergeinfoFaults, mergeinfo_faults};
+use crate::refused::{Refused, refused_of};
 use crate::short_paths::is_short;
 use dump_records::Record;
 use dump_rules::{Options, Side, keeps};
@@ -232,31 +233,32 @@ fn losses_of_left<'o>(item: &Record<'_>, options: &Options, prefixes: &Prefixes<
     }
 }
 
-/// What is found in a node.
+/// What is found in a node, with the numbers of the revisions up to it.
 pub(crate) fn find<'o>(
     alloc: Global,
     item: &Record<'_>,
     options: &'o Options,
     prefixes: &Prefixes<'o>,
+    numbers: &Numbers,
 ) -> Result<Found<'o>, Memory>
     requires node { IsTrue (is_node (record_item item.now)) }
     requires prefixes { prefixes.now ≡ map bare_prefix options.now.prefixes }
-    ensures { IfOk result (λ found. IsFoundIn options.now (record_item item.now) found) }
+    ensures { IfOk result (λ found. IsFoundIn options.now numbers.now (record_item item.now) found) }
 {
     let props = properties_of(item);
     let obstacles = obstacles_of(item, &props);
     if !keeps(options, path_of(item)) {
         return Ok(Found {
             obstacles,
-            mergeinfo: MergeinfoFaults::NONE,
+            refused: Refused::NONE,
             losses: losses_of_left(item, options, prefixes),
         });
     }
-    let mergeinfo = mergeinfo_faults(item, &props, options);
+    let refused = refused_of(item, &props, options, numbers);
     let losses = losses_of_kept(alloc, item, options, prefixes)?;
     Ok(Found {
         obstacles,
-        mergeinfo,
+        refused,
         losses,
     })
 }

@@ -112,6 +112,7 @@ fn tells_source(finding: NodeFinding) -> bool
     matches!(
         finding,
         NodeFinding::NoWholeFile
+            | NodeFinding::MissingCopyRevision
             | NodeFinding::PropertiesLost
             | NodeFinding::CopyLoses
             | NodeFinding::CopyLetsIn
@@ -144,8 +145,12 @@ fn words(finding: NodeFinding) -> &'static [u8]
             b" has a path, a copy source or another text that the load reads otherwise"
         }
         NodeFinding::NoWholeFile => b", which is not kept: fault 12",
+        NodeFinding::MissingCopyRevision => b", for which there is no new number: fault 13",
         NodeFinding::UnreadMergeinfo => b" has mergeinfo that can't be read: fault 14",
         NodeFinding::MissingMergeSource => b" has mergeinfo of a path that is not kept: fault 15",
+        NodeFinding::MissingMergeRevision => {
+            b" has mergeinfo of a revision outside of the dump: fault 16"
+        }
         NodeFinding::PropertiesLost => b", which is not kept, and may lose its properties",
         NodeFinding::CopyLoses => b", and may lose what is left out there and not here",
         NodeFinding::CopyLetsIn => b", and may let in what is left out here and not there",

@@ -76,7 +76,7 @@ fn step_of<'o, 'a>(
     tally: &Tally,
 ) -> Result<Step<'o, 'a>, Memory>
     requires { prefixes.now ≡ map bare_prefix options.now.prefixes }
-    ensures { IfOk result (λ step. IsStepOf options.now item.entry tally.now.present step) }
+    ensures { IfOk result (λ step. IsStepOf options.now item.entry tally.now step) }
 {
     let Some(present) = tally.present else {
         return Ok(Step::Other);
@@ -84,7 +84,8 @@ fn step_of<'o, 'a>(
     if item.path().is_none() {
         return Ok(Step::Other);
     }
-    let found = find(alloc, &item, options, prefixes)?;
+    let numbers = tally.numbers(present.number);
+    let found = find(alloc, &item, options, prefixes, &numbers)?;
     Ok(Step::Node(SurveyedNode {
         item,
         revision: present.number,

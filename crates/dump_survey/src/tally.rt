@@ -3,10 +3,11 @@ ghost use Rattle.std.specs.Prelude.{◌≡◌, ◌+◌, ◌<◌, ◌==◌, ◌^�
 ghost use Rattle.dump_records.specs.steps.RecordViews.{record_item};
 ghost use Rattle.dump_digest.specs.RecordParts.{is_kept_node, is_node};
 ghost use Rattle.dump_history.specs.Findings.{copies_from_before};
-ghost use Rattle.dump_survey.specs.steps.Tally.{first_with, no_tally, keeps_open, keeps_present, node_tally, next_tally, tally_findings};
+ghost use Rattle.dump_survey.specs.steps.Tally.{first_with, least_behind, lesser, no_tally, keeps_open, keeps_present, node_tally, next_tally, numbers_of, tally_findings};
 ghost use Rattle.dump_survey.specs.DumpFindings.{listed_findings};
 
 use crate::node::{copy_revision_of, makes_copy};
+use crate::revision_numbers::Numbers;
 use dump_digest::is_kept;
 use dump_records::Record;
 use dump_rules::{Empty, Options};
@@ -59,6 +60,16 @@ fn is_above(first: u64, count: u64, number: u64) -> bool
     number >= first && number - first == count
 }
 
+/// The lesser of two numbers, the first of which there may not be.
+fn lesser(least: Option<u64>, number: u64) -> u64
+    ensures { result ≡ lesser least number }
+{
+    match least {
+        Some(least) if least <= number => least,
+        _ => number,
+    }
+}
+
 /// Whether a node makes a copy from a revision before this one.
 fn copies_from_before(item: &Record<'_>, first: u64) -> bool
     requires { IsTrue (is_node (record_item item.now)) }
@@ -84,6 +95,8 @@ pub(crate) struct Tally {
     node_outside: bool,
     /// Whether each revision before the present one is kept.
     all_kept: bool,
+    /// The least number of those that are.
+    least: Option<u64>,
     pub(crate) present: Option<Present>,
 }
 
@@ -100,6 +113,7 @@ impl Tally {
             source_before: false,
             node_outside: false,
             all_kept: true,
+            least: None,
             present: None,
         }
     }
@@ -111,6 +125,27 @@ impl Tally {
         match self.present {
             Some(present) => self.all_kept && present.stays(options),
             None => self.all_kept,
+        }
+    }
+
+    /// The least number of the kept revisions, where the present one has no more nodes.
+    fn least_kept(&self, options: &Options) -> Option<u64>
+        ensures { result ≡ least_behind options.now self.now.least self.now.present }
+    {
+        match self.present {
+            Some(present) if present.stays(options) => Some(lesser(self.least, present.number)),
+            _ => self.least,
+        }
+    }
+
+    /// The numbers that a node of this revision, the present one, is held against.
+    pub(crate) fn numbers(&self, present: u64) -> Numbers
+        ensures { result ≡ numbers_of self.now present }
+    {
+        Numbers {
+            first: self.first,
+            least: self.least,
+            present,
         }
     }
 
@@ -133,6 +168,7 @@ impl Tally {
                 first,
                 numbered: self.numbered && is_above(first, self.count, number),
                 all_kept: self.keeps_all(options),
+                least: self.least_kept(options),
                 present: Some(Present {
                     number,
                     bare: true,
@@ -145,6 +181,7 @@ impl Tally {
         } else {
             Tally {
                 all_kept: self.keeps_all(options),
+                least: self.least_kept(options),
                 present: None,
                 ..*self
             }

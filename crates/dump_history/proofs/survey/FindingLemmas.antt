@@ -1,30 +1,37 @@
 -- What is found in a node is found exactly: a node without an obstacle makes a change, and one without an alarm a quiet
 -- change.
-use Rattle.std.proofs.Common.{◌≡◌, ◌↔◌, Bool, true, false, not, ◌&&◌, ◌||◌, List, [], ◌∷◌, filter, Option, Some, None, is_some, cond, if◌then◌else◌, refl, sym, ap, ap₂, ◌∙◌, subst, inl, inr, Contains, IsTrue}
-use Rattle.std.specs.List.{list_any}
-use Rattle.dump_text.specs.Names.{property_length_name}
+use Rattle.std.proofs.Common.{◌≡◌, ◌⊎◌, ◌↔◌, ℕ, ◌<◌, Bool, true, false, not, ◌&&◌, ◌||◌, List, [], ◌∷◌, ◌++◌, filter, Option, Some, None, is_some, option_map, cond, if◌then◌else◌, refl, sym, ap, ap₂, ◌∙◌, subst, inl, inr, Contains, IsTrue, arith}
+use Rattle.std.specs.Prelude.{nat_lt, nat_le}
+use Rattle.std.specs.List.{list_any, last_or}
+use Rattle.std.proofs.Math.Bool.{or-true}
+use Rattle.std.proofs.lemmas.Bool.{or_parts, or_cases}
+use Rattle.dump_text.specs.Names.{copy_revision_name, property_length_name}
 use Rattle.dump_text.specs.HeaderLine.{has_header}
 use Rattle.dump_text.specs.PropertyList.{Property}
-use Rattle.dump_text.specs.declared.fault.FaultKind.TheVariants.{MergeSource}
+use Rattle.dump_text.specs.declared.fault.FaultKind.TheVariants.{CopyRevision, MergeSource, MergeRange}
 use Rattle.dump_text.proofs.BoolLemmas.{first_true, second_true, first_false, second_false, both_true, not_true, not_false}
+use Rattle.dump_records.specs.HeaderRules.{header_number}
 use Rattle.dump_records.specs.RecordText.{DumpRecord, has_prop_delta}
 use Rattle.dump_rules.specs.Settings.{Settings}
 use Rattle.dump_rules.specs.Mergeinfo.{HasMergeLines}
-use Rattle.dump_rules.specs.Rewriting.{HasMissingSource}
+use Rattle.dump_rules.specs.Renumbering.{KeptRevisions, new_number, last_kept, image}
+use Rattle.dump_rules.specs.Rewriting.{HasMissingSource, HasForeignNumber}
 use Rattle.dump_rules.specs.steps.ReadMergeinfo.{value_reads}
 use Rattle.dump_rules.proofs.reading.MergeinfoLemmas.{reads_exactly}
-use Rattle.dump_rules.proofs.faults.FaultLemmas.{found, finds, missing_there, missing_back}
+use Rattle.dump_rules.proofs.faults.FaultLemmas.{found, finds, missing_there, missing_back, foreign_there, foreign_back}
 use Rattle.dump_digest.specs.RecordParts.{is_copy, is_kept_node, is_mergeinfo, value_of, node_path, HasPropertyList, HasPropertyBlock}
 use Rattle.dump_digest.specs.ContentFaults.{HasBadMergeinfo, IsMergeinfoValueOf}
 use Rattle.dump_digest.proofs.PropertyBlocks.{property_list_once, block_or_not}
-use Rattle.dump_filter.specs.RecordFaults.{HoldsOfRecord}
+use Rattle.dump_filter.specs.Groups.{kept_revisions}
+use Rattle.dump_filter.specs.NewHeaders.{stays_copy}
+use Rattle.dump_filter.specs.RecordFaults.{present_number, HasBadCopyRevision, HoldsOfRecord}
 use Rattle.dump_trees.specs.Paths.{path_of}
 use Rattle.dump_trees.specs.Changes.{Made, PropertyChange, Change}
 use Rattle.dump_trees.specs.Quiet.{is_copied, cuts_alike, is_quiet_kept, is_quiet_dropped, is_quiet}
 use Rattle.dump_trees.proofs.paths.PathNames.{keeps_text}
 use Rattle.dump_history.specs.RecordChanges.{Patching, has_known_action, deletes, makes, made_by_kind, copy_path, copied_from, made_of, property_change_of, has_odd_delta, change_of, has_plain_texts, MakesChange}
-use Rattle.dump_history.specs.Findings.{Finding, every_finding, MergeFaults, AreMergeFaultsOf, has_kept_path, has_kept_source, is_above_prefix, is_found, findings_of, IsReadBlock, is_obstacle, is_alarm}
-use Rattle.dump_history.specs.steps.MergeReading.{is_unread_value, names_missing_source, faults_read, no_merge_faults}
+use Rattle.dump_history.specs.Findings.{begins_at, Finding, every_finding, NodeFaults, AreNodeFaultsOf, has_kept_path, has_kept_source, is_above_prefix, is_found, findings_of, IsReadBlock, is_obstacle, is_alarm}
+use Rattle.dump_history.specs.steps.NodeReading.{is_unread_value, names_missing_source, names_outside, has_up_to, is_missing_number, copy_refused, faults_read, copy_faults, no_node_faults}
 use Rattle.dump_history.specs.SurveyLaws.{FindingsAreOnce, ObstaclesAreExact, AlarmsAreExact}
 use Rattle.dump_history.proofs.again.NodeChanges.{makes_change, node_change, change_is}
 
@@ -55,19 +62,110 @@ same_truth true false left right = let bad : false ≡ true = right.1 (left.0 re
 same_truth false true left right = let bad : false ≡ true = left.1 (right.0 refl) in cc
 same_truth false false left right = refl
 
-abbrev faults_with : Bool → Bool → MergeFaults
-faults_with unread missing = record { unread = unread; missing = missing }
+abbrev faults_with : Bool → Bool → Bool → Bool → NodeFaults
+faults_with copy unread missing outside =
+    record { copy_revision = copy; unread = unread; missing = missing; outside = outside }
 
--- the faults of a node's mergeinfo are told once
-pub merge_faults_once : (settings : Settings) (r : DumpRecord) (m n : MergeFaults) → AreMergeFaultsOf settings r m
-    → AreMergeFaultsOf settings r n → m ≡ n
-merge_faults_once settings r m n one other =
+-- the faults of a node are told once
+pub node_faults_once : (settings : Settings) (before : List DumpRecord) (r : DumpRecord) (m n : NodeFaults)
+    → AreNodeFaultsOf settings before r m → AreNodeFaultsOf settings before r n → m ≡ n
+node_faults_once settings before r m n one other =
+    let copy = same_truth m.copy_revision n.copy_revision one.copy_revision other.copy_revision in
     let unread = same_truth m.unread n.unread one.unread other.unread in
     let missing = same_truth m.missing n.missing one.missing other.missing in
-    ap₂ faults_with unread missing
+    let outside = same_truth m.outside n.outside one.outside other.outside in
+    ap₂ (λ c u. faults_with c u m.missing m.outside) copy unread
+    ∙ ap₂ (faults_with n.copy_revision n.unread) missing outside
 
-module _ (settings : Settings) (r : DumpRecord) (keep : is_kept_node settings r ≡ true) (ps : List Property)
-    (block : HasPropertyList r ps) where
+-- the revision that a copy is from
+
+-- the last of some elements is one of them
+last_some : (x : ℕ) (xs : List ℕ) → last_or (Some x) xs ≡ None → ⊥
+last_some x [] bad = cc
+last_some x (y ∷ xs) bad = last_some y xs bad
+
+none_last : (xs : List ℕ) → last_or None xs ≡ None → xs ≡ []
+none_last [] none = refl
+none_last (x ∷ xs) none = absurd (last_some x xs none)
+
+-- there is no image where no kept number is at most the number
+none_up_to : (kept : KeptRevisions) (number : ℕ) → image kept number ≡ None
+    → has_up_to number kept.numbers ≡ false
+none_up_to kept number none = nothing_passes (λ k. nat_le k number) kept.numbers
+    (none_last (filter (λ k. nat_le k number) kept.numbers) (no_last (last_kept kept number) none))
+  where
+    no_last : (last : Option ℕ) → option_map (new_number kept) last ≡ None → last ≡ None
+    no_last None none = refl
+    no_last (Some n) bad = cc
+
+    nothing_passes : (p : ℕ → Bool) (xs : List ℕ) → filter p xs ≡ [] → list_any p xs ≡ false
+    nothing_passes p [] none = refl
+    nothing_passes p (x ∷ xs) none = by (nothing_passes p xs) (p x) none
+      where
+        by : (filter p xs ≡ [] → list_any p xs ≡ false) → (b : Bool) → cond b (x ∷ filter p xs) (filter p xs) ≡ []
+            → (b || list_any p xs) ≡ false
+        by rest true bad = cc
+        by rest false fine = rest fine
+
+no_image : (kept : KeptRevisions) (number : ℕ) → has_up_to number kept.numbers ≡ false → image kept number ≡ None
+no_image kept number none =
+    ap (λ l. option_map (new_number kept) (last_or None l)) (nothing_left (λ k. nat_le k number) kept.numbers none)
+  where
+    nothing_left : (p : ℕ → Bool) (xs : List ℕ) → list_any p xs ≡ false → filter p xs ≡ []
+    nothing_left p [] none = refl
+    nothing_left p (x ∷ xs) none =
+        let parts = or_parts (p x) (list_any p xs) none in
+        ap (λ b. cond b (x ∷ filter p xs) (filter p xs)) parts.0 ∙ nothing_left p xs parts.1
+
+module _ (settings : Settings) (before : List DumpRecord) (r : DumpRecord) where
+  abbrev kept : KeptRevisions
+  kept = kept_revisions settings (before ++ r ∷ [])
+
+  abbrev present : ℕ
+  present = present_number before
+
+  abbrev asked : Bool
+  asked = settings.renumber && is_kept_node settings r && stays_copy settings r
+
+  copy_holds : copy_refused settings before r ≡ true → HasBadCopyRevision settings before r
+  copy_holds is =
+      let (number, at, missing) = by (header_number copy_revision_name r.headers) refl
+      (second_true asked (is_missing_number (header_number copy_revision_name r.headers) kept.numbers present) is) in
+      (first_true asked (is_missing_number (header_number copy_revision_name r.headers) kept.numbers present) is,
+      number, at, missing)
+    where
+      sides : (number : ℕ) → (not (has_up_to number kept.numbers) || nat_lt present number) ≡ true
+          → (image kept number ≡ None) ⊎ (present < number)
+      sides number some = elim (or_cases (not (has_up_to number kept.numbers)) (nat_lt present number) some) [
+        | inl none ↦ inl (no_image kept number (not_true (has_up_to number kept.numbers) none))
+        | inr above ↦ inr (grind (arith, above))
+      ]
+
+      by : (o : Option ℕ) → header_number copy_revision_name r.headers ≡ o
+          → is_missing_number o kept.numbers present ≡ true
+          → (number : ℕ) × (header_number copy_revision_name r.headers ≡ Some number)
+          × ((image kept number ≡ None) ⊎ (present < number))
+      by None at bad = cc
+      by (Some number) at some = (number, at, sides number some)
+
+  copy_known : HasBadCopyRevision settings before r → copy_refused settings before r ≡ true
+  copy_known (on, number, at, missing) =
+      both_true asked (is_missing_number (header_number copy_revision_name r.headers) kept.numbers present) on
+      (ap (λ o. is_missing_number o kept.numbers present) at ∙ sides missing)
+    where
+      sides : (image kept number ≡ None) ⊎ (present < number)
+          → (not (has_up_to number kept.numbers) || nat_lt present number) ≡ true
+      sides (inl none) = ap (λ b. not b || nat_lt present number) (none_up_to kept number none)
+      sides (inr above) = ap (λ b. not (has_up_to number kept.numbers) || b) (let e : nat_lt present number ≡ true = grind (arith, above) in e)
+          ∙ or-true (not (has_up_to number kept.numbers))
+
+  pub copy_is : IsTrue (copy_refused settings before r) ↔ HoldsOfRecord settings before r CopyRevision
+  copy_is = (copy_holds, copy_known)
+
+-- mergeinfo
+
+module _ (settings : Settings) (before : List DumpRecord) (r : DumpRecord) (keep : is_kept_node settings r ≡ true)
+    (ps : List Property) (block : HasPropertyList r ps) where
   own : (p : Property) → Contains ps p → is_mergeinfo p ≡ true → IsMergeinfoValueOf settings r (value_of p)
   own p within is = (keep, ps, block, p, within, is, refl)
 
@@ -93,7 +191,7 @@ module _ (settings : Settings) (r : DumpRecord) (keep : is_kept_node settings r 
       refused true is = absurd (none (subst HasMergeLines same ((reads_exactly (value_of p)).0 is)))
       refused false is = is
 
-  missing_found : list_any (names_missing_source settings) ps ≡ true → HoldsOfRecord settings [] r MergeSource
+  missing_found : list_any (names_missing_source settings) ps ≡ true → HoldsOfRecord settings before r MergeSource
   missing_found some =
       let (p, within, so) = found (names_missing_source settings) ps some in
       let both = second_true (is_mergeinfo p) _ so in (
@@ -104,50 +202,92 @@ module _ (settings : Settings) (r : DumpRecord) (keep : is_kept_node settings r 
             (second_true (value_reads (value_of p)) _ both),
       )
 
-  missing_known : HoldsOfRecord settings [] r MergeSource → list_any (names_missing_source settings) ps ≡ true
+  missing_known : HoldsOfRecord settings before r MergeSource → list_any (names_missing_source settings) ps ≡ true
   missing_known (value, (kept, qs, other, p, within, is, same), misses) =
       let here : HasMissingSource settings (value_of p) = subst (HasMissingSource settings) (sym same) misses in
       finds (names_missing_source settings) ps p (within_own qs other p within)
       (both_true (is_mergeinfo p) _ is (both_true (value_reads (value_of p)) _
       ((reads_exactly (value_of p)).1 (here.1, here.2)) (missing_back settings (value_of p) here)))
 
-  pub faults_of_kept : AreMergeFaultsOf settings r (faults_read settings ps)
+  -- where the dump begins, and how far it has come
+  abbrev first : ℕ
+  first = begins_at (before ++ r ∷ [])
+
+  abbrev last : ℕ
+  last = present_number before
+
+  outside_found : list_any (names_outside settings first last) ps ≡ true → HoldsOfRecord settings before r MergeRange
+  outside_found some =
+      let (p, within, so) = found (names_outside settings first last) ps some in
+      let both = second_true (is_mergeinfo p) _ so in (
+        value_of p,
+        own p within (first_true (is_mergeinfo p) _ so),
+        foreign_there settings (kept_revisions settings (before ++ r ∷ [])) last (value_of p)
+            ((reads_exactly (value_of p)).0 (first_true (value_reads (value_of p)) _ both))
+            (second_true (value_reads (value_of p)) _ both),
+      )
+
+  outside_known : HoldsOfRecord settings before r MergeRange → list_any (names_outside settings first last) ps ≡ true
+  outside_known (value, (kept, qs, other, p, within, is, same), names) =
+      let revisions = kept_revisions settings (before ++ r ∷ []) in
+      let here : HasForeignNumber settings revisions last (value_of p)
+          = subst (HasForeignNumber settings revisions last) (sym same) names in
+      finds (names_outside settings first last) ps p (within_own qs other p within)
+      (both_true (is_mergeinfo p) _ is (both_true (value_reads (value_of p)) _
+      ((reads_exactly (value_of p)).1 (here.1, here.2)) (foreign_back settings revisions last (value_of p) here)))
+
+  pub faults_of_kept : AreNodeFaultsOf settings before r
+      (faults_read settings (copy_refused settings before r) first last ps)
   faults_of_kept = record {
+    copy_revision = copy_is settings before r;
     unread = (unread_there, unread_back);
     missing = (missing_found, missing_known);
+    outside = (outside_found, outside_known);
   }
 
 -- a node that isn't kept has none
-pub faults_of_left : (settings : Settings) (r : DumpRecord) → is_kept_node settings r ≡ false
-    → AreMergeFaultsOf settings r no_merge_faults
-faults_of_left settings r left = record {
+pub faults_of_left : (settings : Settings) (before : List DumpRecord) (r : DumpRecord)
+    → is_kept_node settings r ≡ false → AreNodeFaultsOf settings before r no_node_faults
+faults_of_left settings before r left = record {
+  copy_revision = (
+    λ bad. cc,
+    λ has. let bad : true ≡ false = sym (second_true settings.renumber (is_kept_node settings r)
+        (first_true (settings.renumber && is_kept_node settings r) (stays_copy settings r) has.0)) ∙ left in cc,
+  );
   unread = (λ bad. cc, λ has. let bad : true ≡ false = sym has.1.0 ∙ left in cc);
   missing = (λ bad. cc, λ has. let bad : true ≡ false = sym has.1.0 ∙ left in cc);
+  outside = (λ bad. cc, λ has. let bad : true ≡ false = sym has.1.0 ∙ left in cc);
 }
 
--- and so hasn't one whose properties can't be read
-pub faults_of_unread : (settings : Settings) (r : DumpRecord) → ¬ HasPropertyBlock r
-    → AreMergeFaultsOf settings r no_merge_faults
-faults_of_unread settings r unread = record {
+-- one whose properties can't be read has no mergeinfo
+pub faults_of_unread : (settings : Settings) (before : List DumpRecord) (r : DumpRecord) → ¬ HasPropertyBlock r
+    → AreNodeFaultsOf settings before r (copy_faults (copy_refused settings before r))
+faults_of_unread settings before r unread = record {
+  copy_revision = copy_is settings before r;
   unread = (λ bad. cc, λ has. absurd (unread (has.1.1, has.1.2)));
   missing = (λ bad. cc, λ has. absurd (unread (has.1.1, has.1.2)));
+  outside = (λ bad. cc, λ has. absurd (unread (has.1.1, has.1.2)));
 }
 
 -- so there are some
-pub merge_faults_of : (settings : Settings) (r : DumpRecord) → (m : MergeFaults) × AreMergeFaultsOf settings r m
-merge_faults_of settings r = elim (block_or_not r) [
+pub node_faults_of : (settings : Settings) (before : List DumpRecord) (r : DumpRecord)
+    → (m : NodeFaults) × AreNodeFaultsOf settings before r m
+node_faults_of settings before r = elim (block_or_not r) [
   | inl (ps, list) ↦ by_kept ps list (is_kept_node settings r) refl
-  | inr unread ↦ (no_merge_faults, faults_of_unread settings r unread)
+  | inr unread ↦ (copy_faults (copy_refused settings before r), faults_of_unread settings before r unread)
 ]
   where
     by_kept : (ps : List Property) → HasPropertyList r ps → (b : Bool) → is_kept_node settings r ≡ b
-        → (m : MergeFaults) × AreMergeFaultsOf settings r m
-    by_kept ps list true keep = (faults_read settings ps, faults_of_kept settings r keep ps list)
-    by_kept ps list false left = (no_merge_faults, faults_of_left settings r left)
+        → (m : NodeFaults) × AreNodeFaultsOf settings before r m
+    by_kept ps list true keep = (
+      faults_read settings (copy_refused settings before r) (begins_at (before ++ r ∷ [])) (present_number before) ps,
+      faults_of_kept settings before r keep ps list,
+    )
+    by_kept ps list false left = (no_node_faults, faults_of_left settings before r left)
 
 -- each node has one list of findings
 pub findings_once : FindingsAreOnce
-findings_once settings r = elim (block_or_not r) [
+findings_once settings before r = elim (block_or_not r) [
   | inl (ps, list) ↦ (
     findings_of settings r (Some ps) faults,
     (Some ps, faults, list, are, refl),
@@ -160,30 +300,30 @@ findings_once settings r = elim (block_or_not r) [
   )
 ]
   where
-    faults : MergeFaults
-    faults = (merge_faults_of settings r).0
+    faults : NodeFaults
+    faults = (node_faults_of settings before r).0
 
-    are : AreMergeFaultsOf settings r faults
-    are = (merge_faults_of settings r).1
+    are : AreNodeFaultsOf settings before r faults
+    are = (node_faults_of settings before r).1
 
     by_list : (ps : List Property) → HasPropertyList r ps → (others : List Finding) (o : Option (List Property))
-        (m : MergeFaults) → IsReadBlock r o → AreMergeFaultsOf settings r m
+        (m : NodeFaults) → IsReadBlock r o → AreNodeFaultsOf settings before r m
         → others ≡ findings_of settings r o m → others ≡ findings_of settings r (Some ps) faults
     by_list ps list others None m unread too same = absurd (unread (ps, list))
     by_list ps list others (Some qs) m list_too too same =
         same ∙ ap₂ (λ l n. findings_of settings r (Some l) n) (property_list_once r qs ps list_too list)
-        (merge_faults_once settings r m faults too are)
+        (node_faults_once settings before r m faults too are)
 
-    by_none : ¬ HasPropertyBlock r → (others : List Finding) (o : Option (List Property)) (m : MergeFaults)
-        → IsReadBlock r o → AreMergeFaultsOf settings r m
+    by_none : ¬ HasPropertyBlock r → (others : List Finding) (o : Option (List Property)) (m : NodeFaults)
+        → IsReadBlock r o → AreNodeFaultsOf settings before r m
         → others ≡ findings_of settings r o m → others ≡ findings_of settings r None faults
     by_none unread others None m none too same =
-        same ∙ ap (findings_of settings r None) (merge_faults_once settings r m faults too are)
+        same ∙ ap (findings_of settings r None) (node_faults_once settings before r m faults too are)
     by_none unread others (Some qs) m list too same = absurd (unread (qs, list))
 
 -- obstacles
 
-module _ (patched : Patching) (settings : Settings) (r : DumpRecord) (m : MergeFaults) where
+module _ (patched : Patching) (settings : Settings) (r : DumpRecord) (m : NodeFaults) where
   -- the obstacles of a node whose block can be read
   obstacles : (ps : List Property) → list_any is_obstacle (findings_of settings r (Some ps) m)
       ≡ (has_odd_delta r || (not (has_known_action r) || (not (has_plain_texts r ps) || false)))
@@ -235,7 +375,7 @@ obstacles_exact patched settings r (Some ps) m list =
 
 -- alarms
 
-module _ (patched : Patching) (settings : Settings) (r : DumpRecord) (ps : List Property) (merge : MergeFaults) where
+module _ (patched : Patching) (settings : Settings) (r : DumpRecord) (ps : List Property) (merge : NodeFaults) where
   abbrev source_cuts : Bool
   source_cuts = cuts_alike settings.side settings (path_of (copy_path r)) (path_of (node_path r))
 

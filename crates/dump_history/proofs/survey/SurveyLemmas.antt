@@ -1,5 +1,5 @@
 -- Where a survey finds nothing, the law of filtered dumps has its premise.
-use Rattle.std.proofs.Common.{◌≡◌, ℕ, zero, suc, Bool, true, false, not, ◌&&◌, ◌||◌, ◌==◌, List, [], ◌∷◌, ◌++◌, length, filter, cond, Option, Some, None, refl, sym, ap, ◌∙◌, subst, inl, append_assoc}
+use Rattle.std.proofs.Common.{◌≡◌, ℕ, zero, suc, Bool, true, false, not, ◌&&◌, ◌||◌, ◌==◌, List, [], ◌∷◌, ◌++◌, length, filter, take_while, cond, if◌then◌else◌, MatchBool, Option, Some, None, refl, sym, ap, ◌∙◌, subst, inl, append_assoc}
 use Rattle.std.specs.List.{AllZip, list_all, list_any, last_or}
 use Rattle.std.proofs.lemmas.Bool.{eqb-true}
 use Rattle.std.proofs.lemmas.List.{nil_from_length}
@@ -8,7 +8,7 @@ use Rattle.dump_text.proofs.BoolLemmas.{first_true, second_true, first_false, se
 use Rattle.dump_records.specs.RecordText.{DumpRecord}
 use Rattle.dump_rules.specs.Settings.{Settings}
 use Rattle.dump_digest.specs.RecordParts.{is_revision_record, is_node}
-use Rattle.dump_filter.specs.Groups.{Group, groups, revision_numbers, is_bare}
+use Rattle.dump_filter.specs.Groups.{Group, group_of, groups, revision_numbers, is_bare}
 use Rattle.dump_filter.specs.RecordFaults.{ends_in_group, AreFaultFree}
 use Rattle.dump_trees.specs.Changes.{Change}
 use Rattle.dump_trees.specs.Quiet.{is_quiet, are_quiet}
@@ -17,7 +17,7 @@ use Rattle.dump_history.specs.DumpChanges.{counts_from, has_ordered_nodes, MakeC
 use Rattle.dump_history.specs.DumpLaws.{keeps_numbering}
 use Rattle.dump_history.specs.PartLaws.{MakePartRevisions}
 use Rattle.dump_history.specs.Findings.{Finding, begins_at, has_source_before, AreFindingsOf, is_obstacle, is_alarm, every_dump_finding, first_has_node, is_found_in_dump, dump_findings}
-use Rattle.dump_history.specs.SurveyLaws.{none_is, RestrictsFrom, SurveyedDumpRestricts, SurveyedDumpFrontRestricts}
+use Rattle.dump_history.specs.SurveyLaws.{AreFindingsBehind, HaveFindingsBehind, none_is, RestrictsFrom, SurveyedDumpRestricts, SurveyedDumpFrontRestricts}
 use Rattle.dump_history.proofs.survey.FindingLemmas.{obstacles_exact, alarms_exact}
 use Rattle.dump_history.proofs.survey.PartLemmas.{groups_lowered, lowered_quiet}
 use Rattle.dump_history.proofs.restricted.FilteredLaw.{quiet_dump_restricts, quiet_front_restricts}
@@ -25,12 +25,48 @@ use Rattle.dump_history.proofs.restricted.PartLaw.{quiet_part_restricts}
 
 -- what is found in the nodes
 
+-- this is found in the node, whatever stands before it
+abbrev IsFoundBehind : Settings → DumpRecord → List Finding → Type 0
+IsFoundBehind settings r found = (before : List DumpRecord) × AreFindingsOf settings before r found
+
+nodes_found : (settings : Settings) (before nodes : List DumpRecord) (found : List (List Finding))
+    → AreFindingsBehind settings before nodes found → AllZip (IsFoundBehind settings) nodes found
+nodes_found settings before [] found none = subst (AllZip (IsFoundBehind settings) []) (sym none) tt
+nodes_found settings before (r ∷ nodes) found (first, others, is, one, more) =
+    subst (AllZip (IsFoundBehind settings) (r ∷ nodes)) (sym is)
+    ((before, one), nodes_found settings (before ++ r ∷ []) nodes others more)
+
+-- this is found in the nodes of these groups
+abbrev AreFoundIn : Settings → List Group → List (List (List Finding)) → Type 0
+AreFoundIn settings gs found = AllZip (λ (g : Group) fs. AllZip (IsFoundBehind settings) g.nodes fs) gs found
+
+groups_found : (settings : Settings) (before records : List DumpRecord) (found : List (List (List Finding)))
+    → HaveFindingsBehind settings before records found → AreFoundIn settings (groups records) found
+groups_found settings before [] found none = subst (AreFoundIn settings []) (sym none) tt
+groups_found settings before (r ∷ records) found have =
+    by (groups_found settings (before ++ r ∷ []) records) (is_revision_record r) have
+  where
+    More : Type 0
+    More = (fs : List (List (List Finding))) → HaveFindingsBehind settings (before ++ r ∷ []) records fs
+        → AreFoundIn settings (groups records) fs
+
+    by : More → (b : Bool) → MatchBool b
+        ((first : List (List Finding)) × (others : List (List (List Finding))) × (found ≡ first ∷ others)
+        × AreFindingsBehind settings (before ++ r ∷ []) (take_while is_node records) first
+        × HaveFindingsBehind settings (before ++ r ∷ []) records others)
+        (HaveFindingsBehind settings (before ++ r ∷ []) records found)
+        → AreFoundIn settings (if b then group_of r records ∷ groups records else groups records) found
+    by go true (first, others, is, own, more) =
+        subst (AreFoundIn settings (group_of r records ∷ groups records)) (sym is)
+        (nodes_found settings (before ++ r ∷ []) (take_while is_node records) first own, go others more)
+    by go false more = go found more
+
 module _ (patched : Patching) (settings : Settings) where
   -- a node in which no obstacle is found makes a change, a quiet one if no alarm is found
-  node_change_is : (r : DumpRecord) (found : List Finding) → AreFindingsOf settings r found
-      → not (list_any is_obstacle found) ≡ true
+  node_change_is : (before : List DumpRecord) (r : DumpRecord) (found : List Finding)
+      → AreFindingsOf settings before r found → not (list_any is_obstacle found) ≡ true
       → (c : Change) × MakesChange patched r c × (not (list_any is_alarm found) ≡ true → is_quiet settings c ≡ true)
-  node_change_is r found (ps, m, read, faults, same) none =
+  node_change_is before r found (ps, m, read, faults, same) none =
       let no_obstacle = ap (λ fs. list_any is_obstacle fs) (sym same) ∙ not_true (list_any is_obstacle found) none in
       let made = (obstacles_exact patched settings r ps m read).0 no_obstacle in (
         made.0,
@@ -40,7 +76,7 @@ module _ (patched : Patching) (settings : Settings) where
       )
 
   -- so do the nodes of a group
-  nodes_change : (rs : List DumpRecord) (found : List (List Finding)) → AllZip (AreFindingsOf settings) rs found
+  nodes_change : (rs : List DumpRecord) (found : List (List Finding)) → AllZip (IsFoundBehind settings) rs found
       → list_all (λ node. not (list_any is_obstacle node)) found ≡ true
       → (changes : List Change) × AllZip (MakesChange patched) rs changes
       × (list_all (λ node. not (list_any is_alarm node)) found ≡ true → list_all (is_quiet settings) changes ≡ true)
@@ -48,7 +84,7 @@ module _ (patched : Patching) (settings : Settings) where
   nodes_change [] (f ∷ found) all none = absurd all
   nodes_change (r ∷ rs) [] all none = absurd all
   nodes_change (r ∷ rs) (f ∷ found) all none =
-      let one = node_change_is r f all.0 (first_true (not (list_any is_obstacle f)) _ none) in
+      let one = node_change_is all.0.0 r f all.0.1 (first_true (not (list_any is_obstacle f)) _ none) in
       let more = nodes_change rs found all.1 (second_true (not (list_any is_obstacle f)) _ none) in (
         one.0 ∷ more.0,
         (one.1, more.1),
@@ -59,7 +95,7 @@ module _ (patched : Patching) (settings : Settings) where
 
   -- and the groups of a dump
   groups_change : (gs : List Group) (found : List (List (List Finding)))
-      → AllZip (λ (g : Group) fs. AllZip (AreFindingsOf settings) g.nodes fs) gs found
+      → AreFoundIn settings gs found
       → none_is is_obstacle found ≡ true
       → (revisions : List (List Change)) × AllZip (MakeChanges patched) gs revisions
       × (none_is is_alarm found ≡ true → are_quiet settings revisions ≡ true)
@@ -81,7 +117,7 @@ module _ (patched : Patching) (settings : Settings) where
 
   -- and the first groups, where only behind them alarms are found
   front_change : (gs : List Group) (found behind : List (List (List Finding)))
-      → AllZip (λ (g : Group) fs. AllZip (AreFindingsOf settings) g.nodes fs) gs (found ++ behind)
+      → AreFoundIn settings gs (found ++ behind)
       → none_is is_obstacle (found ++ behind) ≡ true
       → (front rest : List (List Change)) × AllZip (MakeChanges patched) gs (front ++ rest)
       × (length front ≡ length found)
@@ -216,7 +252,7 @@ first_is_bare patched (g ∷ gs) (changes ∷ revisions) some bare make =
 front_behind : (patched : Patching) (settings : Settings) (gs : List Group) (first : List (List Finding))
     (found behind : List (List (List Finding)))
     → (length gs == 0) ≡ false → first_has_node gs ≡ false
-    → AllZip (λ (g : Group) fs. AllZip (AreFindingsOf settings) g.nodes fs) gs (first ∷ found ++ behind)
+    → AreFoundIn settings gs (first ∷ found ++ behind)
     → none_is is_obstacle (found ++ behind) ≡ true
     → (front rest : List (List Change)) × AllZip (MakeChanges patched) gs ([] ∷ front ++ rest)
     × (length front ≡ length found)
@@ -282,16 +318,17 @@ surveyed_dump patched settings dump text records found clean fit nothing have no
         )
 
     by_first : (n : ℕ) → begins_at records ≡ n → RestrictsFrom patched settings records text n
-    by_first zero is = from_zero (groups_change patched settings (groups records) found have no_obstacle) is
+    by_first zero is = from_zero (groups_change patched settings (groups records) found (groups_found settings [] records found have) no_obstacle) is
     by_first (suc before) is =
-        from_later (groups_change patched settings (groups records) found have no_obstacle) before is
+        from_later (groups_change patched settings (groups records) found (groups_found settings [] records found have) no_obstacle) before is
 
 -- so it does of the first revisions where alarms are found behind them alone
 pub surveyed_front : SurveyedDumpFrontRestricts
 surveyed_front patched settings dump text records first found behind clean fit first_is nothing have no_obstacle
     no_alarm =
     let parts = front_behind patched settings (groups records) first found behind (some_group settings records nothing)
-    (is_first_bare settings records nothing first_is) have no_obstacle in
+    (is_first_bare settings records nothing first_is)
+    (groups_found settings [] records (first ∷ found ++ behind) have) no_obstacle in
     let makes : MakeRevisions patched records (parts.0 ++ parts.1) = record {
       numbered = subst (λ n. counts_from n (revision_numbers records) ≡ true) first_is
           (is_numbered settings records nothing);

@@ -8,7 +8,7 @@ use Rattle.dump_trees.specs.Paths.{path_of}
 use Rattle.dump_trees.specs.Changes.{PropertyChange, TextChange, Change}
 use Rattle.dump_history.specs.RecordChanges.{Patching, change_of, MakesChange}
 use Rattle.dump_history.specs.Findings.{Finding, is_found}
-use Rattle.dump_history.specs.steps.MergeReading.{no_merge_faults}
+use Rattle.dump_history.specs.steps.NodeReading.{no_node_faults}
 use Rattle.dump_history.proofs.values.WorkedDump.{line, settings}
 
 -- a reading of text deltas: the delta comes behind the old text
@@ -85,8 +85,8 @@ unread_under_2 list = absurd (let bad : false ≡ true = list.1 refl in cc)
 
 -- findings
 
-delta_under_2 : is_found settings (node 2 edit_lines block []) (Some []) no_merge_faults Finding.Delta ≡ true
+delta_under_2 : is_found settings (node 2 edit_lines block []) (Some []) no_node_faults Finding.Delta ≡ true
 delta_under_2 = refl
 
-no_finding : is_found settings (node 3 edit_lines block []) (Some (removal ∷ [])) no_merge_faults Finding.Delta ≡ false
+no_finding : is_found settings (node 3 edit_lines block []) (Some (removal ∷ [])) no_node_faults Finding.Delta ≡ false
 no_finding = refl

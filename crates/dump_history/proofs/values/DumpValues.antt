@@ -20,7 +20,7 @@ use Rattle.dump_history.specs.RecordChanges.{Patching, copy_path, change_of, Mak
 use Rattle.dump_history.specs.DumpChanges.{counts_from, has_ordered_nodes, MakeRevisions, HaveRevisionProperties, LoadsAs}
 use Rattle.dump_history.specs.DumpLaws.{keeps_numbering, TreesRestrict, KeepsProperties, RevisionsKeepProperties, LoadsRestricted, FrontLoadsRestricted, sets_no_mergeinfo}
 use Rattle.dump_history.specs.Findings.{Finding, AreFindingsOf}
-use Rattle.dump_history.specs.steps.MergeReading.{no_merge_faults}
+use Rattle.dump_history.specs.steps.NodeReading.{no_node_faults}
 use Rattle.dump_history.proofs.survey.FindingLemmas.{faults_of_unread}
 use Rattle.dump_history.proofs.values.WorkedDump.{line, record_at, version, zero, one, two, three, trunk, other, copy, records, settings, folder, revisions, none_of, third_tree}
 
@@ -124,12 +124,12 @@ makes_none_unread : (c : Change) → ¬ MakesChange refused (with_props trunk (c
 makes_none_unread c (ps, list, plain, is) = unreadable (ps, list)
 
 -- it is found, and nothing else is
-unread_found : AreFindingsOf settings (with_props trunk (codes "x")) (Finding.UnreadBlock ∷ [])
+unread_found : AreFindingsOf settings [] (with_props trunk (codes "x")) (Finding.UnreadBlock ∷ [])
 unread_found = (
   None,
-  no_merge_faults,
+  no_node_faults,
   unreadable,
-  faults_of_unread settings (with_props trunk (codes "x")) unreadable,
+  faults_of_unread settings [] (with_props trunk (codes "x")) unreadable,
   refl,
 )
 

@@ -7,7 +7,7 @@ use Rattle.dump_rules.specs.declared.options.Side.TheVariants.{Include, Exclude}
 use Rattle.dump_rules.specs.declared.options.Empty.TheVariants.{Pad}
 use Rattle.dump_rules.specs.Settings.{Settings}
 use Rattle.dump_history.specs.Findings.{Finding, findings_of}
-use Rattle.dump_history.specs.steps.MergeReading.{no_merge_faults}
+use Rattle.dump_history.specs.steps.NodeReading.{no_node_faults}
 use Rattle.dump_history.proofs.values.WorkedDump.{line, record_at}
 
 -- the options of these prefixes
@@ -38,4 +38,4 @@ whole_from source =
 
 -- the findings of a node without properties
 abbrev pub in_node : Settings → DumpRecord → List Finding
-in_node settings r = findings_of settings r (Some []) no_merge_faults
+in_node settings r = findings_of settings r (Some []) no_node_faults

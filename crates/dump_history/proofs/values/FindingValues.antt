@@ -9,7 +9,7 @@ use Rattle.dump_history.specs.DumpChanges.{has_ordered_nodes}
 use Rattle.dump_history.specs.Findings.{Finding, findings_of, DumpFinding, dump_findings}
 use Rattle.dump_history.proofs.values.WorkedDump.{line, record_at, records, version, zero, one, two, three, trunk}
 use Rattle.dump_history.proofs.values.WorkedDump.{settings as worked_settings}
-use Rattle.dump_history.specs.steps.MergeReading.{no_merge_faults}
+use Rattle.dump_history.specs.steps.NodeReading.{no_node_faults}
 use Rattle.dump_history.proofs.values.FindingParts.{cut_by, include_a, exclude_a, node, from, whole_from, in_node}
 
 -- a property length
@@ -29,7 +29,7 @@ deleted_kept = refl
 
 -- what makes no change that is told
 
-unread : findings_of include_a (node (codes "p/a") (codes "change") []) None no_merge_faults ≡ Finding.UnreadBlock ∷ []
+unread : findings_of include_a (node (codes "p/a") (codes "change") []) None no_node_faults ≡ Finding.UnreadBlock ∷ []
 unread = refl
 
 -- under version 3 nothing is found in deltas, nor in a deleted property
@@ -42,7 +42,7 @@ deltas_of_version_3 : in_node include_a delta_node ≡ []
 deltas_of_version_3 = refl
 
 deleted_property : findings_of include_a delta_node (Some (record { name = codes "k"; value = None } ∷ []))
-    no_merge_faults ≡ []
+    no_node_faults ≡ []
 deleted_property = refl
 
 -- under version 2 a delta is found
@@ -64,15 +64,23 @@ odd_action = refl
 no_action : in_node include_a (record_at 0 (line (codes "Node-path") (codes "p/a") ∷ [])) ≡ Finding.UnknownAction ∷ []
 no_action = refl
 
--- mergeinfo at which the filter stops
+-- a copy's revision and mergeinfo at which the filter stops
+
+missing_copy_revision : findings_of include_a (node (codes "p/a/g") (codes "add") (from (codes "p/a/f"))) (Some [])
+    (record no_node_faults { copy_revision = true }) ≡ Finding.MissingCopyRevision ∷ []
+missing_copy_revision = refl
 
 unread_mergeinfo : findings_of include_a (node (codes "p/a") (codes "change") []) (Some [])
-    (record { unread = true; missing = false }) ≡ Finding.UnreadMergeinfo ∷ []
+    (record no_node_faults { unread = true }) ≡ Finding.UnreadMergeinfo ∷ []
 unread_mergeinfo = refl
 
 missing_merge_source : findings_of include_a (node (codes "p/a") (codes "change") []) (Some [])
-    (record { unread = false; missing = true }) ≡ Finding.MissingMergeSource ∷ []
+    (record no_node_faults { missing = true }) ≡ Finding.MissingMergeSource ∷ []
 missing_merge_source = refl
+
+missing_merge_revision : findings_of include_a (node (codes "p/a") (codes "change") []) (Some [])
+    (record no_node_faults { outside = true }) ≡ Finding.MissingMergeRevision ∷ []
+missing_merge_revision = refl
 
 -- texts that the load reads otherwise
 
@@ -87,7 +95,7 @@ zero_in_line : in_node include_a (node (codes "p/a/g" ++ 0 ∷ []) (codes "add")
 zero_in_line = refl
 
 zero_in_name : findings_of include_a (node (codes "p/a") (codes "change") (block ∷ []))
-    (Some (record { name = codes "k" ++ 0 ∷ []; value = Some [] } ∷ [])) no_merge_faults ≡ Finding.OddText ∷ []
+    (Some (record { name = codes "k" ++ 0 ∷ []; value = Some [] } ∷ [])) no_node_faults ≡ Finding.OddText ∷ []
 zero_in_name = refl
 
 leading_slash : in_node include_a (node (codes "/p/a/g") (codes "add") (from (codes "/p/a/f"))) ≡ []

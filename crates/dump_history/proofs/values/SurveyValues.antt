@@ -7,7 +7,7 @@ use Rattle.dump_rules.specs.Settings.{Settings}
 use Rattle.dump_history.specs.Findings.{Finding, every_finding, findings_of, is_obstacle, is_alarm, DumpFinding, every_dump_finding, dump_findings}
 use Rattle.dump_history.specs.SurveyLaws.{none_is}
 use Rattle.dump_history.proofs.values.WorkedDump.{line, record_at, version, zero, one, two, trunk, three, copy}
-use Rattle.dump_history.specs.steps.MergeReading.{no_merge_faults}
+use Rattle.dump_history.specs.steps.NodeReading.{no_node_faults}
 use Rattle.dump_history.proofs.values.FindingParts.{cut_by, include_a, exclude_a, node, from, whole_from, in_node}
 
 -- a folder and what lies below it, both included
@@ -29,8 +29,8 @@ changed = node (codes "trunk") (codes "change")
 -- what can be found
 
 all_findings : every_finding ≡ Finding.UnreadBlock ∷ Finding.Delta ∷ Finding.UnknownAction ∷ Finding.OddText
-    ∷ Finding.NoWholeFile ∷ Finding.UnreadMergeinfo ∷ Finding.MissingMergeSource ∷ Finding.PropertiesLost
-    ∷ Finding.CopyLoses ∷ Finding.CopyLetsIn ∷ Finding.FolderTakes ∷ Finding.FolderBrings ∷ Finding.TextComesIn ∷ []
+    ∷ Finding.NoWholeFile ∷ Finding.MissingCopyRevision ∷ Finding.UnreadMergeinfo ∷ Finding.MissingMergeSource
+    ∷ Finding.MissingMergeRevision ∷ Finding.PropertiesLost ∷ Finding.CopyLoses ∷ Finding.CopyLetsIn ∷ Finding.FolderTakes ∷ Finding.FolderBrings ∷ Finding.TextComesIn ∷ []
 all_findings = refl
 
 obstacles : filter is_obstacle every_finding
@@ -47,7 +47,7 @@ three_found : in_node include_a (node (codes "p/a//g") (codes "add") (from (code
     ≡ Finding.OddText ∷ Finding.NoWholeFile ∷ Finding.PropertiesLost ∷ []
 three_found = refl
 
-unread_and_odd : findings_of include_a (node (codes "p/a/./g") (codes "rename") []) None no_merge_faults
+unread_and_odd : findings_of include_a (node (codes "p/a/./g") (codes "rename") []) None no_node_faults
     ≡ Finding.UnreadBlock ∷ Finding.UnknownAction ∷ Finding.OddText ∷ []
 unread_and_odd = refl
 

@@ -11,9 +11,9 @@ use Rattle.dump_history.specs.Findings.{Finding}
 use Rattle.dump_history.specs.SurveyLaws.{HaveFindings}
 use Rattle.dump_history.proofs.restricted.LoadsOnce.{later_once}
 use Rattle.dump_history.proofs.survey.SurveyLemmas.{surveyed_front}
-use Rattle.dump_history.proofs.values.WorkedDump.{records, dump, settings, revisions, first_tree, second_tree, loads}
+use Rattle.dump_history.proofs.values.WorkedDump.{records, dump, settings, trunk, other, copy, revisions, first_tree, second_tree, loads}
 use Rattle.dump_history.proofs.values.WorkedFilter.{text, clean, lengths}
-use Rattle.dump_history.proofs.values.WorkedSurvey.{in_trunk, in_other, in_copy}
+use Rattle.dump_history.proofs.values.WorkedSurvey.{before_trunk, before_other, before_copy, in_trunk, in_other, in_copy, one_node}
 
 -- two of three revisions are the first two
 two_of_three : (front rest : List (List Change)) (a b c : List Change)
@@ -34,7 +34,9 @@ abbrev behind : List (List (List Finding))
 behind = ([] ∷ []) ∷ []
 
 found : HaveFindings settings records ([] ∷ before ++ behind)
-found = (tt, ((in_trunk, tt), ((in_other, tt), ((in_copy, tt), tt))))
+found =
+    ([], _, refl, refl, (_, _, refl, one_node before_trunk trunk in_trunk,
+    (_, _, refl, one_node before_other other in_other, (_, _, refl, one_node before_copy copy in_copy, refl))))
 
 -- the trees of the first two
 abbrev first_trees : List Tree

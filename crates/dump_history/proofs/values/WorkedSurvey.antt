@@ -1,5 +1,6 @@
 -- The law of surveyed dumps, applied to the worked dump: nothing is found in it.
 use Rattle.std.proofs.Common.{◌≡◌, List, [], ◌∷◌, Some, refl, ap, ◌∙◌}
+use Rattle.dump_records.specs.RecordText.{DumpRecord}
 use Rattle.dump_filter.specs.Groups.{groups}
 use Rattle.dump_trees.specs.Trees.{root_alone}
 use Rattle.dump_trees.specs.Quiet.{nowhere_is_over}
@@ -7,32 +8,51 @@ use Rattle.dump_trees.specs.Revisions.{loaded_over}
 use Rattle.dump_history.specs.RecordChanges.{Patching}
 use Rattle.dump_history.specs.DumpLaws.{LoadsRestricted}
 use Rattle.dump_history.specs.Findings.{Finding, AreFindingsOf}
-use Rattle.dump_history.specs.SurveyLaws.{HaveFindings}
+use Rattle.dump_history.specs.SurveyLaws.{AreFindingsBehind, HaveFindings}
 use Rattle.dump_history.proofs.restricted.LoadsOnce.{later_once}
-use Rattle.dump_history.specs.steps.MergeReading.{no_merge_faults}
+use Rattle.dump_history.specs.steps.NodeReading.{no_node_faults}
 use Rattle.dump_history.proofs.survey.FindingLemmas.{faults_of_kept, faults_of_left}
 use Rattle.dump_history.proofs.survey.SurveyLemmas.{surveyed_dump}
-use Rattle.dump_history.proofs.values.WorkedDump.{records, dump, settings, trunk, other, copy, none_of, revisions, trees, loads}
+use Rattle.dump_history.proofs.values.WorkedDump.{records, dump, settings, version, zero, one, trunk, two, other, three, copy, none_of, revisions, trees, loads}
 use Rattle.dump_history.proofs.values.WorkedFilter.{text, clean, lengths}
 
 -- nothing is found in any of its nodes, group by group
 abbrev nothing : List (List (List Finding))
 nothing = [] ∷ ([] ∷ []) ∷ ([] ∷ []) ∷ ([] ∷ []) ∷ []
 
+-- the records before each node
+abbrev pub before_trunk : List DumpRecord
+before_trunk = version ∷ zero ∷ one ∷ []
+
+abbrev pub before_other : List DumpRecord
+before_other = version ∷ zero ∷ one ∷ trunk ∷ two ∷ []
+
+abbrev pub before_copy : List DumpRecord
+before_copy = version ∷ zero ∷ one ∷ trunk ∷ two ∷ other ∷ three ∷ []
+
 -- nothing is found in the kept folder
-pub in_trunk : AreFindingsOf settings trunk []
-in_trunk = (Some [], no_merge_faults, none_of trunk refl, faults_of_kept settings trunk refl [] (none_of trunk refl), refl)
+pub in_trunk : AreFindingsOf settings before_trunk trunk []
+in_trunk = (Some [], no_node_faults, none_of trunk refl,
+    faults_of_kept settings before_trunk trunk refl [] (none_of trunk refl), refl)
 
 -- nothing is found in the dropped folder
-pub in_other : AreFindingsOf settings other []
-in_other = (Some [], no_merge_faults, none_of other refl, faults_of_left settings other refl, refl)
+pub in_other : AreFindingsOf settings before_other other []
+in_other = (Some [], no_node_faults, none_of other refl, faults_of_left settings before_other other refl, refl)
 
 -- nothing is found in the copy
-pub in_copy : AreFindingsOf settings copy []
-in_copy = (Some [], no_merge_faults, none_of copy refl, faults_of_kept settings copy refl [] (none_of copy refl), refl)
+pub in_copy : AreFindingsOf settings before_copy copy []
+in_copy = (Some [], no_node_faults, none_of copy refl,
+    faults_of_kept settings before_copy copy refl [] (none_of copy refl), refl)
+
+-- so nothing is found in the one node of a group
+pub one_node : (before : List DumpRecord) (r : DumpRecord) → AreFindingsOf settings before r []
+    → AreFindingsBehind settings before (r ∷ []) ([] ∷ [])
+one_node before r none = ([], [], refl, none, refl)
 
 none_found : HaveFindings settings records nothing
-none_found = (tt, ((in_trunk, tt), ((in_other, tt), ((in_copy, tt), tt))))
+none_found =
+    ([], _, refl, refl, (_, _, refl, one_node before_trunk trunk in_trunk,
+    (_, _, refl, one_node before_other other in_other, (_, _, refl, one_node before_copy copy in_copy, refl))))
 
 -- so the law applies: the revisions that the survey's law speaks of are those of the dump
 restricts : (patched : Patching) → LoadsRestricted patched settings records trees text

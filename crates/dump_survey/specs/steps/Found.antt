@@ -3,10 +3,12 @@ use Rattle.std.specs.Prelude.{◌≡◌, ℕ, Bool, List, Option, None, is_some,
 use Rattle.dump_text.specs.PropertyList.{Property}
 use Rattle.dump_records.specs.RecordText.{DumpRecord}
 use Rattle.dump_rules.specs.Settings.{Settings}
-use Rattle.dump_history.specs.Findings.{Finding, every_finding, MergeFaults, AreMergeFaultsOf, is_found, IsReadBlock}
+use Rattle.dump_history.specs.Findings.{Finding, every_finding, NodeFaults, AreNodeFaultsOf, is_found, IsReadBlock}
 use Rattle.dump_survey.specs.CuttingPrefix.{cutting_prefix}
 use Rattle.dump_survey.specs.declared.finding.Found.{Found}
-use Rattle.dump_survey.specs.declared.refused_mergeinfo.MergeinfoFaults.{MergeinfoFaults}
+use Rattle.dump_survey.specs.declared.revision_numbers.Numbers.{Numbers}
+use Rattle.dump_survey.specs.declared.refused.Refused.{Refused}
+use Rattle.dump_survey.specs.steps.RevisionNumbers.{AreNumbersBehind}
 
 -- whether this is among what is found
 abbrev pub has_found : Found → Finding → Bool
@@ -15,8 +17,10 @@ has_found found Finding.Delta = found.obstacles.delta
 has_found found Finding.UnknownAction = found.obstacles.unknown_action
 has_found found Finding.OddText = found.obstacles.odd_text
 has_found found Finding.NoWholeFile = found.losses.no_whole_file
-has_found found Finding.UnreadMergeinfo = found.mergeinfo.unread
-has_found found Finding.MissingMergeSource = found.mergeinfo.missing
+has_found found Finding.MissingCopyRevision = found.refused.copy_revision
+has_found found Finding.UnreadMergeinfo = found.refused.unread
+has_found found Finding.MissingMergeSource = found.refused.missing
+has_found found Finding.MissingMergeRevision = found.refused.outside
 has_found found Finding.PropertiesLost = found.losses.properties_lost
 has_found found Finding.CopyLoses = is_some found.losses.copy_loses
 has_found found Finding.CopyLetsIn = is_some found.losses.copy_lets_in
@@ -30,15 +34,21 @@ found_prefix found Finding.CopyLoses = option_copied found.losses.copy_loses
 found_prefix found Finding.CopyLetsIn = option_copied found.losses.copy_lets_in
 found_prefix found _ = None
 
--- the faults of a node's mergeinfo
-abbrev pub merge_faults : MergeinfoFaults → MergeFaults
-merge_faults f = record { unread = f.unread; missing = f.missing }
+-- the faults that the filter has for a node
+abbrev pub node_faults : Refused → NodeFaults
+node_faults f =
+    record { copy_revision = f.copy_revision; unread = f.unread; missing = f.missing; outside = f.outside }
 
--- what is found is exactly what is found in the node, and it names the prefixes that cut
-abbrev pub IsFoundIn : Settings → DumpRecord → Found → Type 0
-IsFoundIn settings r found = AreMergeFaultsOf settings r (merge_faults found.mergeinfo)
+-- the node's faults are these, by these numbers, whatever stands before it
+abbrev pub AreFaultsBy : Settings → Numbers → DumpRecord → NodeFaults → Type 0
+AreFaultsBy settings numbers r m = (before : List DumpRecord) → AreNumbersBehind settings before r numbers →
+    AreNodeFaultsOf settings before r m
+
+-- what is found is exactly what is found in the node, by these numbers, and it names the prefixes that cut
+abbrev pub IsFoundIn : Settings → Numbers → DumpRecord → Found → Type 0
+IsFoundIn settings numbers r found = AreFaultsBy settings numbers r (node_faults found.refused)
     × ((ps : Option (List Property)) → IsReadBlock r ps → (finding : Finding)
-    → has_found found finding ≡ is_found settings r ps (merge_faults found.mergeinfo) finding)
+    → has_found found finding ≡ is_found settings r ps (node_faults found.refused) finding)
     × ((finding : Finding) → IsTrue (has_found found finding)
     → found_prefix found finding ≡ cutting_prefix settings r finding)
 

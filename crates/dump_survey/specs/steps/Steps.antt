@@ -19,16 +19,16 @@ use Rattle.dump_survey.specs.Told.{present_after, IsToldOf}
 use Rattle.dump_survey.specs.steps.Surveyed.{told_of_node}
 use Rattle.dump_survey.specs.SurveyEnds.{survey_ending}
 use Rattle.dump_survey.specs.steps.Surveying.{Surveying}
-use Rattle.dump_survey.specs.steps.Tally.{tally_findings}
+use Rattle.dump_survey.specs.steps.Tally.{numbers_of, tally_findings}
 
--- the step is that of this record, where the present revision is this one
-abbrev pub IsStepOf : Settings → Record → Option Present → Step → Type 0
-IsStepOf settings item present (Node node) = (node.item ≡ item)
+-- the step is that of this record, behind those of the tally
+abbrev pub IsStepOf : Settings → Record → Tally → Step → Type 0
+IsStepOf settings item tally (Node node) = (node.item ≡ item)
     × (is_node (record_item item) ≡ true)
-    × (option_map (λ (p : Present). p.number) present ≡ Some node.revision)
-    × IsFoundIn settings (record_item item) node.found
-IsStepOf settings item present Other = (present ≡ None) ⊎ (is_node (record_item item) ≡ false)
-IsStepOf settings item present (Finished end) = ⊥
+    × (option_map (λ (p : Present). p.number) tally.present ≡ Some node.revision)
+    × IsFoundIn settings (numbers_of tally node.revision) (record_item item) node.found
+IsStepOf settings item tally Other = (tally.present ≡ None) ⊎ (is_node (record_item item) ≡ false)
+IsStepOf settings item tally (Finished end) = ⊥
 
 -- the step tells this end, and what is found behind the records of the tally
 abbrev pub TellsEnd : Settings → Tally → End → Step → Type 0
@@ -51,9 +51,9 @@ pub record ComesNext (old : Surveying) (before : List DumpRecord) (r : DumpRecor
 abbrev pub SurveyStep : Surveying → Step → Surveying → Type 0
 SurveyStep old (Node node) new = (before : List DumpRecord) × ComesNext old before (record_item node.item) new
     × (record_number node.item ≡ old.number) × (is_node (record_item node.item) ≡ true)
-    × IsToldOf old.settings old.number (open_behind None before) (record_item node.item) (told_of_node node)
+    × IsToldOf old.settings before (open_behind None before) (record_item node.item) (told_of_node node)
 SurveyStep old Other new = (before : List DumpRecord) × (r : DumpRecord) × ComesNext old before r new
-    × IsToldOf old.settings old.number (open_behind None before) r []
+    × IsToldOf old.settings before (open_behind None before) r []
 SurveyStep old (Finished end) new = (records : List DumpRecord) × HasRecords old.dump records (survey_ending end.end)
     × (length records ≡ old.number)
     × (listed_findings end.dump ≡ dump_findings old.settings records)

@@ -1,10 +1,11 @@
 -- What is known of the revisions of a dump, record by record.
-use Rattle.std.specs.Prelude.{ℕ, ◌+◌, ◌==◌, Bool, true, false, not, ◌&&◌, ◌||◌, List, [], ◌∷◌, filter, Option, Some, None, if◌then◌else◌}
+use Rattle.std.specs.Prelude.{ℕ, ◌+◌, ◌==◌, Bool, true, false, not, ◌&&◌, ◌||◌, List, [], ◌∷◌, filter, Option, Some, None, nat_le, if◌then◌else◌}
 use Rattle.dump_records.specs.RecordText.{DumpRecord}
 use Rattle.dump_rules.specs.Settings.{Settings}
 use Rattle.dump_digest.specs.RecordParts.{is_revision_record, is_node, is_kept_node}
 use Rattle.dump_filter.specs.Groups.{revision_number, keeps_empty}
 use Rattle.dump_history.specs.Findings.{DumpFinding, every_dump_finding, copies_from_before}
+use Rattle.dump_survey.specs.declared.revision_numbers.Numbers.{Numbers}
 use Rattle.dump_survey.specs.declared.tally.Present.{Present}
 use Rattle.dump_survey.specs.declared.tally.Tally.{Tally}
 
@@ -18,6 +19,7 @@ no_tally = record {
   source_before = false;
   node_outside = false;
   all_kept = true;
+  least = None;
   present = None;
 }
 
@@ -29,6 +31,20 @@ keeps_open settings (Some p) = p.number == 0 || p.kept || keeps_empty settings.e
 -- whether each revision is kept, where the present one has no more nodes
 abbrev pub keeps_present : Settings → Tally → Bool
 keeps_present settings t = t.all_kept && keeps_open settings t.present
+
+-- the lesser of two numbers, the first of which there may not be
+abbrev pub lesser : Option ℕ → ℕ → ℕ
+lesser None number = number
+lesser (Some least) number = if nat_le least number then least else number
+
+-- the least number of the kept revisions, where the present one has no more nodes and this is the least of those before
+abbrev pub least_behind : Settings → Option ℕ → Option Present → Option ℕ
+least_behind settings least None = least
+least_behind settings least (Some p) = if keeps_open settings (Some p) then Some (lesser least p.number) else least
+
+-- the numbers that a node of this revision, the present one, is held against
+abbrev pub numbers_of : Tally → ℕ → Numbers
+numbers_of t present = record { first = t.first; least = t.least; present = present }
 
 -- the number of the first revision, where one of this number comes
 abbrev pub first_with : Tally → ℕ → ℕ
@@ -44,6 +60,7 @@ revision_tally settings t r = record {
   source_before = t.source_before;
   node_outside = t.node_outside;
   all_kept = keeps_present settings t;
+  least = least_behind settings t.least t.present;
   present = Some (record { number = revision_number r; bare = true; kept = false });
 }
 
@@ -59,7 +76,11 @@ node_tally t kept early (Some p) = record t {
 
 -- behind another record
 abbrev pub other_tally : Settings → Tally → Tally
-other_tally settings t = record t { all_kept = keeps_present settings t; present = None }
+other_tally settings t = record t {
+  all_kept = keeps_present settings t;
+  least = least_behind settings t.least t.present;
+  present = None;
+}
 
 -- behind one more record
 abbrev pub next_tally : Settings → Tally → DumpRecord → Tally

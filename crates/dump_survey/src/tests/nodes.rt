@@ -1,7 +1,7 @@
 //! What is found in single nodes.
 use super::rules;
 use crate::{NodeFinding, survey_dump};
-use dump_rules::Side;
+use dump_rules::{Empty, Options, Side};
 use std::alloc::Global;
 use std::process::Abort;
 use std::test::Fail;
@@ -228,4 +228,56 @@ fn left_out_folders_above_a_prefix_are_found(rt: HostRuntime) -> Result<(), Fail
         "Node-path: o\nNode-kind: dir\nNode-action: replace\nNode-copyfrom-rev: 0\nNode-copyfrom-path: t\n\n";
     let wanted = [NodeFinding::FolderTakes, NodeFinding::FolderBrings];
     assert_found(&rt, rt.alloc(), Side::Include, "o/s", replaced, &wanted)
+}
+
+// Whether these are the findings in the last node of a part of a history that is renumbered.
+fn assert_found_in_part(
+    rt: &impl Abort,
+    alloc: Global,
+    node: &str,
+    wanted: &[NodeFinding],
+) -> Result<(), Fail> {
+    let prefixes = [b"trunk".as_slice()];
+    let empty = Empty::DropEmptied;
+    let options = Options::new(alloc, Side::Include, &prefixes, empty, true, false, false)?;
+    let dump = format!(in alloc;
+        "SVN-fs-dump-format-version: 2\n\nRevision-number: 5\n\nNode-path: o\nNode-action: add\n\n\
+        Revision-number: 6\n\nNode-path: trunk\nNode-action: add\n\nRevision-number: 7\n\n{node}\n"
+    )?;
+    let survey = survey_dump(alloc, dump.as_bytes(), &options)?;
+    assert_eq!(rt; survey.told.len(), wanted.len(), "{node}");
+    for (told, finding) in survey.told.iter().zip(wanted) {
+        assert_eq!(rt; told.finding, *finding, "{node}");
+    }
+    Ok(())
+}
+
+#[test]
+fn revisions_without_a_new_number_are_found(rt: HostRuntime) -> Result<(), Fail> {
+    let missing = [NodeFinding::MissingCopyRevision];
+    let outside = [NodeFinding::MissingMergeRevision];
+    for (number, wanted) in [
+        ("5", missing.as_slice()),
+        ("6", [].as_slice()),
+        ("7", [].as_slice()),
+        ("8", missing.as_slice()),
+    ] {
+        let copy = format!(in rt.alloc();
+            "Node-path: trunk/f\nNode-action: add\nNode-copyfrom-rev: {number}\nNode-copyfrom-path: trunk\n\n"
+        )?;
+        assert_found_in_part(&rt, rt.alloc(), copy.as_str(), wanted)?;
+    }
+    for (number, wanted) in [
+        ("4", outside.as_slice()),
+        ("5", [].as_slice()),
+        ("7", [].as_slice()),
+        ("8", outside.as_slice()),
+    ] {
+        let merged = format!(in rt.alloc();
+            "Node-path: trunk\nNode-action: change\nProp-content-length: 42\nContent-length: 42\n\n\
+            K 13\nsvn:mergeinfo\nV 8\n/trunk:{number}\nPROPS-END\n"
+        )?;
+        assert_found_in_part(&rt, rt.alloc(), merged.as_str(), wanted)?;
+    }
+    Ok(())
 }

@@ -17,25 +17,31 @@ pub with_one-requires-5 : goal.with_one-requires-5
 with_one-requires-5 c = c.requires Finding.NoWholeFile
 
 pub with_one-requires-6 : goal.with_one-requires-6
-with_one-requires-6 c = c.requires Finding.UnreadMergeinfo
+with_one-requires-6 c = c.requires Finding.MissingCopyRevision
 
 pub with_one-requires-7 : goal.with_one-requires-7
-with_one-requires-7 c = c.requires Finding.MissingMergeSource
+with_one-requires-7 c = c.requires Finding.UnreadMergeinfo
 
 pub with_one-requires-8 : goal.with_one-requires-8
-with_one-requires-8 c = c.requires Finding.PropertiesLost
+with_one-requires-8 c = c.requires Finding.MissingMergeSource
 
 pub with_one-requires-9 : goal.with_one-requires-9
-with_one-requires-9 c = c.requires Finding.CopyLoses
+with_one-requires-9 c = c.requires Finding.MissingMergeRevision
 
 pub with_one-requires-10 : goal.with_one-requires-10
-with_one-requires-10 c = c.requires Finding.CopyLetsIn
+with_one-requires-10 c = c.requires Finding.PropertiesLost
 
 pub with_one-requires-11 : goal.with_one-requires-11
-with_one-requires-11 c = c.requires Finding.FolderTakes
+with_one-requires-11 c = c.requires Finding.CopyLoses
 
 pub with_one-requires-12 : goal.with_one-requires-12
-with_one-requires-12 c = c.requires Finding.FolderBrings
+with_one-requires-12 c = c.requires Finding.CopyLetsIn
 
 pub with_one-requires-13 : goal.with_one-requires-13
-with_one-requires-13 c = c.requires Finding.TextComesIn
+with_one-requires-13 c = c.requires Finding.FolderTakes
+
+pub with_one-requires-14 : goal.with_one-requires-14
+with_one-requires-14 c = c.requires Finding.FolderBrings
+
+pub with_one-requires-15 : goal.with_one-requires-15
+with_one-requires-15 c = c.requires Finding.TextComesIn

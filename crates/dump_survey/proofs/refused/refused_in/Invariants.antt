@@ -1,11 +1,12 @@
 use Rattle.std.proofs.Common.{List}
 use Rattle.dump_text.specs.PropertyList.{Property, IsPropertyBlock}
 use Rattle.dump_text.specs.steps.PropertyViews.{props_bytes, HasEntriesLeft}
-use Rattle.dump_survey.proofs.MergeinfoLemmas.{AreFaultsUpTo}
-use Rattle.dump_survey.proofs.refused_mergeinfo.faults_in.Given as goal
+use Rattle.dump_survey.proofs.RefusedLemmas.{IsRefusedUpTo}
+use Rattle.dump_survey.proofs.refused.refused_in.Given as goal
 
 abbrev pub invariant-loop-entry : goal.invariant-loop-entry
 invariant-loop-entry l =
     (goal.iterator-loop-entry).can_next l.entries × (goal.iterator-loop-entry).is_finite l.entries
     × ((ps : List Property) → IsPropertyBlock (props_bytes l.props) ps
-    → (qs : List Property) × HasEntriesLeft l.entries qs × AreFaultsUpTo l.options ps qs l.unread l.missing)
+    → (qs : List Property) × HasEntriesLeft l.entries qs
+    × IsRefusedUpTo l.options l.copy l.numbers.first l.numbers.present ps qs l.unread l.missing l.outside)

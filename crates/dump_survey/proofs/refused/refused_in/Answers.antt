@@ -2,9 +2,9 @@ use Rattle.std.proofs.Common.{◌≡◌, List, [], subst, inr, refl}
 use Rattle.dump_text.specs.PropertyList.{Property}
 use Rattle.dump_text.specs.steps.PropertyViews.{entry_property}
 use Rattle.dump_text.proofs.PropertyLemmas.{entry_parts, left_of, property_block_once}
-use Rattle.dump_survey.specs.steps.Found.{merge_faults}
-use Rattle.dump_survey.proofs.MergeinfoLemmas.{AreFaultsUpTo, faults_next, faults_at_last}
-use Rattle.dump_survey.proofs.refused_mergeinfo.faults_in.Goals as goal
+use Rattle.dump_survey.specs.steps.Found.{node_faults}
+use Rattle.dump_survey.proofs.RefusedLemmas.{IsRefusedUpTo, refused_next, refused_at_last}
+use Rattle.dump_survey.proofs.refused.refused_in.Goals as goal
 
 pub loop-entry-init : goal.loop-entry-init
 loop-entry-init c = (tt, tt, λ ps is. (ps, c.entries-entries.ensures.properties ps is, refl))
@@ -20,8 +20,9 @@ loop-entry-preserved c =
           let left = left_of _ p _ qs (entry_parts _ text _ p cut one) here in (
             left.others,
             inr left.entries,
-            faults_next c.args.options.now ps qs left.others p c.loop-entry.unread c.loop-entry.missing
-                (merge_faults c.entry_faults-faults.result) left.list c.entry_faults-faults.ensures up,
+            refused_next c.args.options.now c.args.copy c.args.numbers.now.first c.args.numbers.now.present ps qs
+                left.others p c.loop-entry.unread c.loop-entry.missing c.loop-entry.outside
+                (node_faults c.entry_refused-refused.result) left.list c.entry_refused-refused.ensures up,
           ),
     )
 
@@ -29,5 +30,7 @@ pub returns : goal.returns
 returns c = λ ps is.
     let (qs, here, up) = c.loop-entry.invariant.2 ps is in
     let none : qs ≡ [] = property_block_once _ qs [] here c.in_default.ensures.steps.0 in
-    faults_at_last c.args.options.now ps c.loop-entry.unread c.loop-entry.missing
-    (subst (λ (l : List Property). AreFaultsUpTo c.args.options.now ps l c.loop-entry.unread c.loop-entry.missing) none up)
+    refused_at_last c.args.options.now c.args.copy c.args.numbers.now.first c.args.numbers.now.present ps
+    c.loop-entry.unread c.loop-entry.missing c.loop-entry.outside
+    (subst (λ (l : List Property). IsRefusedUpTo c.args.options.now c.args.copy c.args.numbers.now.first
+    c.args.numbers.now.present ps l c.loop-entry.unread c.loop-entry.missing c.loop-entry.outside) none up)

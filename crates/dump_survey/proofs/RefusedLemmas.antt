@@ -1,0 +1,157 @@
+-- What is refused of a kept node: of its copy's revision, and of the mergeinfo among its properties, one by one.
+use Rattle.std.proofs.Common.{◌≡◌, ℕ, Bool, true, false, not, ◌&&◌, ◌||◌, List, [], ◌∷◌, ◌++◌, Bor, Option, Some, None, refl, sym, ap, ap₂, ◌∙◌, subst}
+use Rattle.std.specs.Prelude.{nat_lt}
+use Rattle.std.proofs.Math.Bool.{or-false, or_assoc}
+use Rattle.std.specs.List.{list_any}
+use Rattle.dump_text.specs.Names.{copy_revision_name}
+use Rattle.dump_text.specs.PropertyList.{Property, IsPropertyBlock}
+use Rattle.dump_text.specs.declared.props.Props.{Props}
+use Rattle.dump_text.specs.declared.props.Entry.{Entry}
+use Rattle.dump_text.specs.steps.PropertyViews.{entry_property, props_bytes}
+use Rattle.dump_text.proofs.BoolLemmas.{both_true}
+use Rattle.dump_records.specs.HeaderRules.{header_number}
+use Rattle.dump_records.specs.RecordText.{DumpRecord}
+use Rattle.dump_rules.specs.Settings.{Settings}
+use Rattle.dump_rules.specs.steps.ReadMergeinfo.{value_reads}
+use Rattle.dump_rules.specs.steps.NewLines.{value_misses, value_foreign}
+use Rattle.dump_digest.specs.RecordParts.{is_mergeinfo, is_node, is_kept_node, HasPropertyBlock}
+use Rattle.dump_digest.specs.steps.ContentViews.{ArePropertiesOf}
+use Rattle.dump_digest.proofs.SaidLemmas.{entry_value}
+use Rattle.dump_filter.specs.Groups.{kept_revisions}
+use Rattle.dump_filter.specs.NewHeaders.{stays_copy}
+use Rattle.dump_filter.specs.RecordFaults.{present_number}
+use Rattle.dump_history.specs.Findings.{NodeFaults, AreNodeFaultsOf, has_kept_path}
+use Rattle.dump_history.specs.steps.NodeReading.{is_unread_value, names_missing_source, names_outside, is_missing_number, copy_refused, property_faults, faults_read, copy_faults, no_node_faults}
+use Rattle.dump_history.proofs.survey.FindingLemmas.{faults_of_kept, faults_of_unread}
+use Rattle.dump_survey.specs.declared.revision_numbers.Numbers.{Numbers}
+use Rattle.dump_survey.specs.steps.Found.{AreFaultsBy}
+use Rattle.dump_survey.specs.steps.RevisionNumbers.{reaches, is_missing, misses_revision, AreNumbersBehind}
+
+abbrev made : Bool → Bool → Bool → Bool → NodeFaults
+made copy unread missing outside =
+    record { copy_revision = copy; unread = unread; missing = missing; outside = outside }
+
+-- of one property, where the dump begins with the first number and has come to the second
+
+module _ (s : Settings) (first present : ℕ) (e : Entry) where
+  pub refused_of_other : is_mergeinfo (entry_property e) ≡ false
+      → no_node_faults ≡ property_faults s first present (entry_property e)
+  refused_of_other other = rw other refl
+
+  pub refused_of_unread : is_mergeinfo (entry_property e) ≡ true → value_reads e.value.now ≡ false
+      → made false true false false ≡ property_faults s first present (entry_property e)
+  refused_of_unread named unread = rw (named, entry_value e, unread) refl
+
+  pub refused_of_value : is_mergeinfo (entry_property e) ≡ true → value_reads e.value.now ≡ true
+      → (missing outside : Bool) → missing ≡ value_misses s e.value.now
+      → outside ≡ value_foreign s first present e.value.now
+      → made false false missing outside ≡ property_faults s first present (entry_property e)
+  refused_of_value named reads missing outside misses foreign =
+      rw (named, entry_value e, reads, misses, foreign) refl
+
+-- of all of them: these are left, and of those before them so much is refused
+
+module _ (s : Settings) (copy : Bool) (first present : ℕ) where
+  abbrev pub unread_in : List Property → Bool
+  unread_in ps = list_any is_unread_value ps
+
+  abbrev pub missing_in : List Property → Bool
+  missing_in ps = list_any (names_missing_source s) ps
+
+  abbrev pub outside_in : List Property → Bool
+  outside_in ps = list_any (names_outside s first present) ps
+
+  abbrev pub IsRefusedUpTo : List Property → List Property → Bool → Bool → Bool → Type 0
+  IsRefusedUpTo ps qs unread missing outside = faults_read s copy first present ps
+      ≡ made copy (unread || unread_in qs) (missing || missing_in qs) (outside || outside_in qs)
+
+  same_made : {u v m n o p : Bool} → u ≡ v → m ≡ n → o ≡ p → made copy u m o ≡ made copy v n p
+  same_made unread missing outside = rw (unread, missing, outside) refl
+
+  pub refused_next : (ps qs others : List Property) (p : Property) (unread missing outside : Bool)
+      (m : NodeFaults) → qs ≡ p ∷ others → m ≡ property_faults s first present p
+      → IsRefusedUpTo ps qs unread missing outside
+      → IsRefusedUpTo ps others (unread || m.unread) (missing || m.missing) (outside || m.outside)
+  refused_next ps qs others p unread missing outside m is found up =
+      up
+      ∙ (ap (λ l. made copy (unread || unread_in l) (missing || missing_in l) (outside || outside_in l)) is
+      ∙ same_made
+      (sym (or_assoc unread (is_unread_value p) (unread_in others))
+      ∙ ap (λ (n : NodeFaults). (unread || n.unread) || unread_in others) (sym found))
+      (sym (or_assoc missing (names_missing_source s p) (missing_in others))
+      ∙ ap (λ (n : NodeFaults). (missing || n.missing) || missing_in others) (sym found))
+      (sym (or_assoc outside (names_outside s first present p) (outside_in others))
+      ∙ ap (λ (n : NodeFaults). (outside || n.outside) || outside_in others) (sym found)))
+
+  pub refused_at_last : (ps : List Property) (unread missing outside : Bool)
+      → IsRefusedUpTo ps [] unread missing outside
+      → made copy unread missing outside ≡ faults_read s copy first present ps
+  refused_at_last ps unread missing outside up =
+      sym (up ∙ same_made (or-false unread) (or-false missing) (or-false outside))
+
+-- of a kept node, by the numbers before it
+
+module _ (s : Settings) (numbers : Numbers) (r : DumpRecord) (node : is_node r ≡ true)
+    (kept : has_kept_path s r ≡ true) where
+  is_kept : is_kept_node s r ≡ true
+  is_kept = both_true (is_node r) (has_kept_path s r) node kept
+
+  -- the copy is refused by these numbers as it is by the records before
+  copy_by : (before : List DumpRecord) → AreNumbersBehind s before r numbers
+      → misses_revision s numbers r ≡ copy_refused s before r
+  copy_by before behind =
+      ap (λ b. (s.renumber && is_kept_node s r && stays_copy s r) && b)
+      (by (header_number copy_revision_name r.headers))
+    where
+      by : (o : Option ℕ) → is_missing numbers o
+          ≡ is_missing_number o (kept_revisions s (before ++ r ∷ [])).numbers (present_number before)
+      by None = refl
+      by (Some number) = ap₂ (λ reached present. not reached || nat_lt present number)
+          (sym (behind.kept is_kept number)) behind.present
+
+  pub kept_refused : (found : Option Props) (props : Props) → found ≡ Some props → ArePropertiesOf r found
+      → (m : NodeFaults)
+      → ((ps : List Property) → IsPropertyBlock (props_bytes props) ps
+      → m ≡ faults_read s (misses_revision s numbers r) numbers.first numbers.present ps)
+      → AreFaultsBy s numbers r m
+  kept_refused found props is of m read = λ before behind.
+      let same : ArePropertiesOf r (Some props) = subst (ArePropertiesOf r) is of in
+      let (ps, list) : HasPropertyBlock r = same.there.0 refl in
+      let reads = read ps (subst (λ (bytes : List ℕ). IsPropertyBlock bytes ps) (sym (same.bytes props refl)) list.0) in
+      subst (AreNodeFaultsOf s before r)
+      (sym (reads ∙ (ap (λ c. faults_read s c numbers.first numbers.present ps) (copy_by before behind)
+      ∙ ap₂ (λ f p. faults_read s (copy_refused s before r) f p ps) behind.first behind.present)))
+      (faults_of_kept s before r is_kept ps list)
+
+  pub unread_refused : (found : Option Props) → found ≡ None → ArePropertiesOf r found → (copy : Bool)
+      → copy ≡ misses_revision s numbers r → AreFaultsBy s numbers r (copy_faults copy)
+  unread_refused found is of copy copy_is = λ before behind.
+      let same : ArePropertiesOf r None = subst (ArePropertiesOf r) is of in
+      subst (λ b. AreNodeFaultsOf s before r (copy_faults b)) (sym (copy_is ∙ copy_by before behind))
+      (faults_of_unread s before r (λ has. let bad : false ≡ true = same.there.1 has in cc))
+
+-- the revision that a node is copied from
+
+module _ (s : Settings) (numbers : Numbers) (r : DumpRecord) (found : Option ℕ)
+    (is : found ≡ header_number copy_revision_name r.headers) where
+  pub no_copy_misses : found ≡ None → false ≡ misses_revision s numbers r
+  no_copy_misses none =
+      sym (ap (λ o. (s.renumber && is_kept_node s r && stays_copy s r) && is_missing numbers o) (sym is ∙ none)
+      ∙ never (s.renumber && is_kept_node s r && stays_copy s r))
+    where
+      never : (b : Bool) → (b && false) ≡ false
+      never true = refl
+      never false = refl
+
+  pub copy_misses : (number : ℕ) → found ≡ Some number → is_node r ≡ true → has_kept_path s r ≡ true
+      → (s.renumber && (stays_copy s r && is_missing numbers (Some number))) ≡ misses_revision s numbers r
+  copy_misses number some node kept =
+      by s.renumber (stays_copy s r)
+      ∙ sym (ap₂ (λ k o. (s.renumber && k && stays_copy s r) && is_missing numbers o)
+      (both_true (is_node r) (has_kept_path s r) node kept) (sym is ∙ some))
+    where
+      by : (a b : Bool) → (a && (b && is_missing numbers (Some number)))
+          ≡ ((a && true && b) && is_missing numbers (Some number))
+      by true true = refl
+      by true false = refl
+      by false b = refl
