@@ -27,7 +27,7 @@ use Rattle.dump_digest.specs.RecordParts.{is_kept_node, is_mergeinfo, value_of, 
 use Rattle.dump_digest.proofs.PropertyBlocks.{property_list_once, block_or_not}
 use Rattle.dump_history.specs.Findings.{IsReadBlock}
 use Rattle.dump_survey.specs.LeftOutMergeinfo.{IsReadValue, leaving_lines, AreLeftOutOfValue, AddUpTo, mergeinfo_values, AreLeftOutOfProperties, AreLeftOutOf, AreLeftOutOfRecords}
-use Rattle.dump_survey.specs.steps.LeftOutCounts.{text_count, value_count, property_count, properties_count}
+use Rattle.dump_survey.specs.steps.LeftOutCounts.{text_lines_count, value_count, property_count, properties_count}
 use Rattle.dump_survey.proofs.SurveyorLemmas.{begins_next, begins_with_none, nearer_by_one}
 
 -- the path of a line
@@ -120,15 +120,15 @@ lines_leave s (text ∷ texts) (line ∷ lines) all =
 value_leaves : (s : Settings) (value : List ℕ) (lines : List MergeLine) → IsMergeinfo value lines
     → value_count s value ≡ length (leaving_lines s lines)
 value_leaves s value lines (texts, all, is) =
-    ap (λ b. cond b (text_count s (without_lf value)) 0) ((reads_exactly value).1 (lines, (texts, all, is)))
+    ap (λ b. cond b (text_lines_count s (without_lf value)) 0) ((reads_exactly value).1 (lines, (texts, all, is)))
     ∙ (ap (count_by (line_misses s)) (texts_are texts lines all value is) ∙ lines_leave s texts lines all)
 
 pub unread_count : (s : Settings) (value : List ℕ) → value_reads value ≡ false → value_count s value ≡ 0
-unread_count s value unread = ap (λ b. cond b (text_count s (without_lf value)) 0) unread
+unread_count s value unread = ap (λ b. cond b (text_lines_count s (without_lf value)) 0) unread
 
 pub read_count : (s : Settings) (value : List ℕ) → value_reads value ≡ true
-    → value_count s value ≡ text_count s (without_lf value)
-read_count s value reads = ap (λ b. cond b (text_count s (without_lf value)) 0) reads
+    → value_count s value ≡ text_lines_count s (without_lf value)
+read_count s value reads = ap (λ b. cond b (text_lines_count s (without_lf value)) 0) reads
 
 not_read : (value : List ℕ) → ¬ HasMergeLines value → value_reads value ≡ false
 not_read value none = by (value_reads value) refl
@@ -211,7 +211,7 @@ module _ (s : Settings) (r : DumpRecord) (found : Option Props) (kept : is_kept_
 
 -- no more than its bytes
 
-text_fits : (s : Settings) (text : List ℕ) → text_count s text ≤ length text + 1
+text_fits : (s : Settings) (text : List ℕ) → text_lines_count s text ≤ length text + 1
 text_fits s [] = omega arith
 text_fits s (b ∷ text) =
     let some = count_by-le-length (line_misses s) (slice_split (λ c. c == 10) (b ∷ text)) in
@@ -229,7 +229,7 @@ shorter value = by (bytes_eq (drop (length value - 1) value) (10 ∷ []))
 pub value_fits : (s : Settings) (value : List ℕ) → value_count s value ≤ length value + 1
 value_fits s value = by (value_reads value)
   where
-    by : (b : Bool) → cond b (text_count s (without_lf value)) 0 ≤ length value + 1
+    by : (b : Bool) → cond b (text_lines_count s (without_lf value)) 0 ≤ length value + 1
     by true = let some = text_fits s (without_lf value) in let size = shorter value in omega arith
     by false = omega arith
 

@@ -6,7 +6,7 @@ ghost use Rattle.dump_records.specs.steps.RecordViews.{record_item};
 ghost use Rattle.dump_rules.specs.steps.ReadMergeinfo.{without_lf};
 ghost use Rattle.dump_rules.specs.steps.NewLines.{line_path};
 ghost use Rattle.dump_survey.specs.LeftOutMergeinfo.{AreLeftOutIn, AreLeftOutOf, AreLeftOutOfRecords};
-ghost use Rattle.dump_survey.specs.steps.LeftOutCounts.{properties_count, property_count, text_count, value_count};
+ghost use Rattle.dump_survey.specs.steps.LeftOutCounts.{properties_count, property_count, text_lines_count, value_count};
 
 use crate::plain::properties_of;
 use dump_digest::{is_kept, is_mergeinfo};
@@ -26,7 +26,7 @@ fn path_of(line: &[u8]) -> &[u8]
 
 /// How many lines of a text have a path that isn't kept.
 fn text_left_out(text: &[u8], options: &Options) -> usize
-    ensures { result ≡ text_count options.now text.now }
+    ensures { result ≡ text_lines_count options.now text.now }
 {
     if text.is_empty() {
         return 0;

@@ -7,12 +7,12 @@ use Rattle.dump_rules.specs.steps.NewLines.{line_misses, text_lines}
 use Rattle.dump_digest.specs.RecordParts.{is_mergeinfo, value_of}
 
 -- of the lines of a text
-abbrev pub text_count : Settings → List ℕ → ℕ
-text_count settings text = count_by (line_misses settings) (text_lines text)
+abbrev pub text_lines_count : Settings → List ℕ → ℕ
+text_lines_count settings text = count_by (line_misses settings) (text_lines text)
 
 -- of a value, none where it can't be read
 abbrev pub value_count : Settings → List ℕ → ℕ
-value_count settings value = if value_reads value then text_count settings (without_lf value) else 0
+value_count settings value = if value_reads value then text_lines_count settings (without_lf value) else 0
 
 -- of a property
 abbrev pub property_count : Settings → Property → ℕ
