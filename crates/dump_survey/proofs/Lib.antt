@@ -6,6 +6,8 @@ pub mod GrowthLemmas
 pub mod IdleLemmas
 pub mod KindLemmas
 pub mod LeavingLemmas
+pub mod LeftOutLemmas
+mod LeftOutValues
 pub mod LineLemmas
 pub mod LossLemmas
 pub mod NameLemmas

@@ -4,6 +4,8 @@ pub mod DumpFindings
 pub mod Folders
 pub mod KeepAsWell
 pub mod Kinds
+pub mod LeftOutLine
+pub mod LeftOutMergeinfo
 pub mod Lines
 pub mod LinesBehind
 pub mod Meaning

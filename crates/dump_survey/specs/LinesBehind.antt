@@ -1,4 +1,5 @@
--- What stands behind the findings, word for word: the folders to make before the load, and what to keep as well.
+-- What stands behind the findings, word for word: how many lines of mergeinfo are left out, the folders to make before
+-- the load, and what to keep as well.
 use Rattle.std.specs.Prelude.{◌≡◌, ℕ, ◌⊎◌, List, [], ◌∷◌, ◌++◌, flat_map, codes, Option}
 use Rattle.std.specs.List.{concat}
 use Rattle.std.specs.Io.KnownBytes.{Appends}
@@ -6,6 +7,8 @@ use Rattle.dump_rules.specs.Settings.{Settings}
 use Rattle.dump_writer.specs.SinkWords.{IsPrefixOf}
 use Rattle.dump_survey.specs.AsWellLines.{AreAsWellLines}
 use Rattle.dump_survey.specs.Folders.{AreFoldersToMake}
+use Rattle.dump_survey.specs.LeftOutLine.{left_out_line}
+use Rattle.dump_survey.specs.LeftOutMergeinfo.{AreLeftOutIn}
 use Rattle.dump_survey.specs.Lines.{shown_path}
 
 -- the line of a folder to be made
@@ -18,11 +21,13 @@ folder_lines folders = flat_map folder_line folders
 
 -- these are the lines behind the findings where this dump is filtered
 pub record AreLinesBehind (settings : Settings) (dump lines : List ℕ) : Type 0 where
+  pub left_out : ℕ
+  pub are_left_out : AreLeftOutIn settings dump left_out
   pub folders : List (List ℕ)
   pub are_folders : AreFoldersToMake settings folders
   pub as_well : List ℕ
   pub are_as_well : AreAsWellLines settings dump as_well
-  pub lines_are : lines ≡ folder_lines folders ++ as_well
+  pub lines_are : lines ≡ left_out_line left_out ++ folder_lines folders ++ as_well
 
 -- the sink took a first part of the lines
 abbrev pub TakesSome : Option (List ℕ) → Option (List ℕ) → List ℕ → Type 0

@@ -3,6 +3,7 @@ pub mod Folders
 pub mod Found
 pub mod IdlePrefixes
 pub mod KeptNumbers
+pub mod LeftOutCounts
 pub mod Losses
 pub mod Names
 pub mod Needs

@@ -5,6 +5,7 @@ ghost use Rattle.dump_digest.specs.RecordParts.{is_node};
 ghost use Rattle.dump_survey.specs.AsWellLines.{as_well_line, as_well_lines, as_well_words};
 ghost use Rattle.dump_survey.specs.DumpFindings.{listed_findings};
 ghost use Rattle.dump_survey.specs.Kinds.{kind_lines};
+ghost use Rattle.dump_survey.specs.LeftOutLine.{left_out_line, left_out_words};
 ghost use Rattle.dump_survey.specs.LinesBehind.{folder_line, folder_lines};
 ghost use Rattle.dump_survey.specs.Lines.{cut_words, dump_line, ending_line, finding_words, node_line, place_text, shown_byte, shown_path, small_digit, source_text, tells_source};
 ghost use Rattle.dump_survey.specs.Meaning.{meaning};
@@ -338,4 +339,29 @@ pub(crate) fn folder_lines(alloc: Global, folders: &[&[u8]]) -> Result<Vec<u8>, 
         left = others;
     }
     Ok(lines)
+}
+
+/// What the line that tells how many lines of mergeinfo are left out says behind their number.
+fn left_out_words(count: usize) -> &'static [u8]
+    ensures { result.now ≡ left_out_words count }
+{
+    if count == 1 {
+        b" line of a path that is not kept\n"
+    } else {
+        b" lines of paths that are not kept\n"
+    }
+}
+
+/// The line that tells how many lines of mergeinfo are left out, where any are.
+#[tactic(auto, unfolding(crate::specs::LeftOutLine::left_out_line))]
+pub(crate) fn left_out_line(alloc: Global, count: usize) -> Result<Vec<u8>, Memory>
+    ensures { IfOk result (λ line. line.items ≡ left_out_line count) }
+{
+    let mut line = Vec::new(alloc);
+    if count > 0 {
+        line.extend_from_slice(b"left out of mergeinfo: ")?;
+        push_number(&mut line, count as u64)?;
+        line.extend_from_slice(left_out_words(count))?;
+    }
+    Ok(line)
 }

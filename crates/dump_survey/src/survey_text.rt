@@ -9,8 +9,9 @@ ghost use Rattle.dump_survey.specs.LinesBehind.{AreLinesBehind, TakesSome, Takes
 use crate::as_well::keep_as_well;
 use crate::counts::Counts;
 use crate::folders::folders_to_make;
+use crate::left_out_mergeinfo::left_out_lines;
 use crate::memory::Memory;
-use crate::survey_lines::{as_well_lines, end_lines, folder_lines, node_lines};
+use crate::survey_lines::{as_well_lines, end_lines, folder_lines, left_out_line, node_lines};
 use crate::surveyor::{Step, Surveyor};
 use dump_rules::Options;
 use dump_writer::{Chunk, Piece, Sink, write_piece};
@@ -103,22 +104,25 @@ pub fn write_survey<S: Sink>(
     }
 }
 
-/// The lines of the folders to make before what is filtered under these options is loaded, and of what is to be kept as
-/// well.
+/// The lines of how many lines of mergeinfo are left out, of the folders to make before what is filtered under these
+/// options is loaded, and of what is to be kept as well.
 fn lines_behind(alloc: Global, dump: &[u8], options: &Options) -> Result<Vec<u8>, Memory>
     ensures { IfOk result (λ lines. AreLinesBehind options.now dump.now lines.items) }
 {
     let folders = folders_to_make(alloc, options)?;
     let paths = keep_as_well(alloc, dump, options)?;
-    let mut lines = folder_lines(alloc, &folders)?;
+    let mut lines = left_out_line(alloc, left_out_lines(dump, options))?;
+    let to_make = folder_lines(alloc, &folders)?;
+    lines.extend_from_slice(&to_make)?;
     let as_well = as_well_lines(alloc, options.side(), &paths)?;
     lines.extend_from_slice(&as_well)?;
     Ok(lines)
 }
 
-/// Writes what stands behind the findings where a dump is filtered under these options: a line for each folder to make
-/// before the load, in the order of [`folders_to_make`], and one for each path that is to be kept as well, in that of
-/// [`keep_as_well`]: none where the filter stops at no copy. Nothing is written before all is known.
+/// Writes what stands behind the findings where a dump is filtered under these options: a line with the number of
+/// [`left_out_lines`], where that isn't 0, then one for each folder to make before the load, in the order of
+/// [`folders_to_make`], and one for each path that is to be kept as well, in that of [`keep_as_well`]: none where the
+/// filter stops at no copy. Nothing is written before all is known.
 pub fn write_behind<S: Sink>(
     alloc: Global,
     dump: &[u8],

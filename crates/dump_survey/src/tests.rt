@@ -9,6 +9,7 @@ use std::test::Fail;
 mod as_well;
 mod cuts;
 mod folders;
+mod left_out;
 mod map;
 mod nodes;
 mod prefixes;

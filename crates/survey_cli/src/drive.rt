@@ -118,7 +118,8 @@ fn write_text<W: Write>(
     Ok(found)
 }
 
-// Writes the survey, and behind it the folders to make and what to keep as well.
+// Writes the survey, and behind it how many lines of mergeinfo are left out, the folders to make and what to keep as
+// well.
 fn write_front<W: Write>(
     alloc: Global,
     dump: &[u8],

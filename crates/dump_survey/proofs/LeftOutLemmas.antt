@@ -1,0 +1,374 @@
+-- How many lines of mergeinfo are left out, of a value, of properties and of records, and that there is one such number.
+use Rattle.std.proofs.Common.{◌≡◌, ◌≢◌, ◌⊎◌, ◌↔◌, ℕ, ◌+◌, ◌-◌, ◌<◌, ◌≤◌, Bool, true, false, not, ◌==◌, List, [], ◌∷◌, ◌++◌, length, length-append, map, take, drop, filter, get_or, bytes_eq, codes, sum, sum_by, count_by, cond, Option, Some, None, IsSome, is_some, unwrap_or, MatchBool, refl, sym, ap, ap₂, ◌∙◌, subst, arith, inl, inr, zero-add}
+use Rattle.std.specs.List.{AllZip, suffix_len, slice_split}
+use Rattle.std.proofs.lemmas.Bool.Decides.{eqb_tells}
+use Rattle.std.proofs.lemmas.List.{length-take}
+use Rattle.std.proofs.lemmas.List.Splits.{length-slice_split}
+use Rattle.std.proofs.lemmas.List.Sums.{suffix_len_is, sum_by-cons, sum_by_push, sum-map, count_by-le-length}
+use Rattle.dump_text.specs.PropertyList.{Property, sized_text, IsEntry, AreEntries, IsPropertyBlock}
+use Rattle.dump_text.specs.declared.props.Props.{Props}
+use Rattle.dump_text.specs.steps.PropertyViews.{props_bytes}
+use Rattle.dump_text.specs.HeaderBlock.{block_text}
+use Rattle.dump_records.specs.RecordText.{DumpRecord, record_text}
+use Rattle.dump_records.specs.declared.record.Record.{Record}
+use Rattle.dump_records.specs.declared.cutter.Cut.TheVariants as cuts
+use Rattle.dump_records.specs.DumpText.{Ending, line_feeds, IsCutInto, BeginsWithRecords}
+use Rattle.dump_records.specs.steps.CutterState.{CutterState}
+use Rattle.dump_records.specs.steps.CutRecords.{EndsAfter}
+use Rattle.dump_records.specs.steps.RecordViews.{record_item, CutStep}
+use Rattle.dump_records.proofs.Prefixes.{whole_list}
+use Rattle.dump_rules.specs.Settings.{Settings, keeps_path}
+use Rattle.dump_rules.specs.Mergeinfo.{MergeLine, IsMergeLine, IsMergeinfo, HasMergeLines}
+use Rattle.dump_rules.specs.steps.ReadMergeinfo.{colon_end, value_reads, without_lf}
+use Rattle.dump_rules.specs.steps.NewLines.{line_path, line_misses, text_lines}
+use Rattle.dump_rules.proofs.reading.MergeinfoLemmas.{reads_exactly}
+use Rattle.dump_rules.proofs.new_values.ValueLemmas.{line_parts, texts_are}
+use Rattle.dump_digest.specs.RecordParts.{is_kept_node, is_mergeinfo, value_of, HasPropertyBlock, HasPropertyList}
+use Rattle.dump_digest.proofs.PropertyBlocks.{property_list_once, block_or_not}
+use Rattle.dump_history.specs.Findings.{IsReadBlock}
+use Rattle.dump_survey.specs.LeftOutMergeinfo.{IsReadValue, leaving_lines, AreLeftOutOfValue, AddUpTo, mergeinfo_values, AreLeftOutOfProperties, AreLeftOutOf, AreLeftOutOfRecords}
+use Rattle.dump_survey.specs.steps.LeftOutCounts.{text_lines_count, value_count, property_count, properties_count}
+use Rattle.dump_survey.proofs.SurveyorLemmas.{begins_next, begins_with_none, nearer_by_one}
+
+-- the path of a line
+
+other_byte : (b c : ℕ) → b ≢ c → not (b == c) ≡ true
+other_byte b c other = elim (eqb_tells b c) [ inl (test, same) ↦ absurd (other same) | inr (test, apart) ↦ ap not test ]
+
+this_byte : (b c : ℕ) → b ≡ c → not (b == c) ≡ false
+this_byte b c same = elim (eqb_tells b c) [ inl (test, is) ↦ ap not test | inr (test, apart) ↦ absurd (apart same) ]
+
+-- it stands before the last colon
+pub path_at_colon : (line : List ℕ) (colon : ℕ) → colon < length line → get_or line colon 0 ≡ 58
+    → ((k : ℕ) → colon < k → k < length line → get_or line k 0 ≢ 58) → take colon line ≡ line_path line
+path_at_colon line colon within here others =
+    let is = suffix_len_is (λ b. not (b == 58)) line (colon + 1) 0 (omega arith)
+    (λ k low high. other_byte (get_or line k 0) 58 (others k (omega arith) high))
+    (λ some. this_byte (get_or line (colon + 1 - 1) 0) 58
+    (ap (λ n. get_or line n 0) (let e : colon + 1 - 1 ≡ colon = omega arith in e) ∙ here)) in
+    let place : colon ≡ colon_end line - 1 = omega arith in
+    ap (λ n. take n line) place
+
+-- and where there is none, it is empty
+pub path_of_none : (line : List ℕ) → ((k : ℕ) → k < length line → get_or line k 0 ≢ 58) → [] ≡ line_path line
+path_of_none line none =
+    let is = suffix_len_is (λ b. not (b == 58)) line 0 0 (omega arith)
+    (λ k low high. other_byte (get_or line k 0) 58 (none k high)) (λ some. absurd (omega arith)) in
+    let place : 0 ≡ colon_end line - 1 = omega arith in
+    ap (λ n. take n line) place
+
+-- counts that add up
+
+pub adds_up : {X : Type 0} (HasCount : X → ℕ → Type 0) (count : X → ℕ) → ((x : X) → HasCount x (count x))
+    → (xs : List X) → AddUpTo HasCount xs (sum_by count xs)
+adds_up {X} HasCount count each xs = (map count xs, zipped xs, sym (sum-map count xs))
+  where
+    zipped : (xs : List X) → AllZip HasCount xs (map count xs)
+    zipped [] = tt
+    zipped (x ∷ xs) = (each x, zipped xs)
+
+pub adds_once : {X : Type 0} (HasCount : X → ℕ → Type 0) (count : X → ℕ)
+    → ((x : X) (n : ℕ) → HasCount x n → n ≡ count x)
+    → (xs : List X) (total : ℕ) → AddUpTo HasCount xs total → total ≡ sum_by count xs
+adds_once {X} HasCount count each xs total (counts, all, is) = is ∙ same xs counts all
+  where
+    same : (xs : List X) (counts : List ℕ) → AllZip HasCount xs counts → sum counts ≡ sum_by count xs
+    same [] [] all = refl
+    same [] (n ∷ counts) all = absurd all
+    same (x ∷ xs) [] all = absurd all
+    same (x ∷ xs) (n ∷ counts) all =
+        sum_by-cons (λ m. m) n counts ∙ (ap₂ (λ a b. a + b) (each x n all.0) (same xs counts all.1)
+        ∙ sym (sum_by-cons count x xs))
+
+-- one more of them
+pub adds_more : {X : Type 0} (HasCount : X → ℕ → Type 0) (xs : List X) (total : ℕ) (x : X) (n : ℕ)
+    → AddUpTo HasCount xs total → HasCount x n → AddUpTo HasCount (xs ++ x ∷ []) (total + n)
+adds_more {X} HasCount xs total x n (counts, all, is) has =
+    (counts ++ n ∷ [], zipped xs counts all, ap (λ m. m + n) is ∙ sym (sum_by_push (λ m. m) counts n))
+  where
+    zipped : (xs : List X) (counts : List ℕ) → AllZip HasCount xs counts
+        → AllZip HasCount (xs ++ x ∷ []) (counts ++ n ∷ [])
+    zipped [] [] all = (has, tt)
+    zipped [] (m ∷ counts) all = absurd all
+    zipped (y ∷ xs) [] all = absurd all
+    zipped (y ∷ xs) (m ∷ counts) all = (all.0, zipped xs counts all.1)
+
+-- of a value
+
+-- a text that isn't empty is cut at its LFs
+pub lines_of_some : (text : List ℕ) → (length text == 0) ≡ false → text_lines text ≡ slice_split (λ b. b == 10) text
+lines_of_some [] some = let bad : true ≡ false = some in cc
+lines_of_some (b ∷ text) some = refl
+
+-- line by line
+lines_leave : (s : Settings) (texts : List (List ℕ)) (lines : List MergeLine) → AllZip IsMergeLine texts lines
+    → count_by (line_misses s) texts ≡ length (leaving_lines s lines)
+lines_leave s [] [] all = refl
+lines_leave s [] (line ∷ lines) all = absurd all
+lines_leave s (text ∷ texts) [] all = absurd all
+lines_leave s (text ∷ texts) (line ∷ lines) all =
+    sum_by-cons (λ t. cond (line_misses s t) 1 0) text texts
+    ∙ (ap₂ (λ b n. cond b 1 0 + n) (ap (λ p. not (keeps_path s p)) (line_parts text line all.0).path)
+    (lines_leave s texts lines all.1)
+    ∙ one_more (not (keeps_path s line.path)) (leaving_lines s lines))
+  where
+    one_more : (b : Bool) (others : List MergeLine)
+        → cond b 1 0 + length others ≡ length (cond b (line ∷ others) others)
+    one_more true others = omega arith
+    one_more false others = zero-add (length others)
+
+value_leaves : (s : Settings) (value : List ℕ) (lines : List MergeLine) → IsMergeinfo value lines
+    → value_count s value ≡ length (leaving_lines s lines)
+value_leaves s value lines (texts, all, is) =
+    ap (λ b. cond b (text_lines_count s (without_lf value)) 0) ((reads_exactly value).1 (lines, (texts, all, is)))
+    ∙ (ap (count_by (line_misses s)) (texts_are texts lines all value is) ∙ lines_leave s texts lines all)
+
+pub unread_count : (s : Settings) (value : List ℕ) → value_reads value ≡ false → value_count s value ≡ 0
+unread_count s value unread = ap (λ b. cond b (text_lines_count s (without_lf value)) 0) unread
+
+pub read_count : (s : Settings) (value : List ℕ) → value_reads value ≡ true
+    → value_count s value ≡ text_lines_count s (without_lf value)
+read_count s value reads = ap (λ b. cond b (text_lines_count s (without_lf value)) 0) reads
+
+not_read : (value : List ℕ) → ¬ HasMergeLines value → value_reads value ≡ false
+not_read value none = by (value_reads value) refl
+  where
+    by : (b : Bool) → value_reads value ≡ b → b ≡ false
+    by true reads = absurd (none ((reads_exactly value).0 reads))
+    by false unread = refl
+
+pub value_is : (s : Settings) (value : List ℕ) → AreLeftOutOfValue s value (value_count s value)
+value_is s value = by (value_reads value) refl
+  where
+    by : (b : Bool) → value_reads value ≡ b → AreLeftOutOfValue s value (value_count s value)
+    by true reads = let (lines, is) = (reads_exactly value).0 reads in (Some lines, is, value_leaves s value lines is)
+    by false unread = (
+      None,
+      λ has. let bad : false ≡ true = sym unread ∙ (reads_exactly value).1 has in cc,
+      unread_count s value unread,
+    )
+
+pub value_once : (s : Settings) (value : List ℕ) (n : ℕ) → AreLeftOutOfValue s value n → n ≡ value_count s value
+value_once s value n (None, none, is) = is ∙ sym (unread_count s value (not_read value none))
+value_once s value n (Some lines, read, is) = is ∙ sym (value_leaves s value lines read)
+
+-- of properties
+
+values_count : (s : Settings) (ps : List Property) → sum_by (value_count s) (mergeinfo_values ps) ≡ properties_count s ps
+values_count s [] = refl
+values_count s (p ∷ ps) = by (is_mergeinfo p) (values_count s ps) ∙ sym (sum_by-cons (property_count s) p ps)
+  where
+    by : (b : Bool) → sum_by (value_count s) (mergeinfo_values ps) ≡ properties_count s ps
+        → sum_by (value_count s) (map value_of (cond b (p ∷ filter is_mergeinfo ps) (filter is_mergeinfo ps)))
+        ≡ cond b (value_count s (value_of p)) 0 + properties_count s ps
+    by true others = sum_by-cons (value_count s) (value_of p) (mergeinfo_values ps)
+        ∙ ap (λ n. value_count s (value_of p) + n) others
+    by false others = others ∙ sym (zero-add (properties_count s ps))
+
+pub properties_are : (s : Settings) (ps : List Property)
+    → AddUpTo (AreLeftOutOfValue s) (mergeinfo_values ps) (properties_count s ps)
+properties_are s ps =
+    subst (AddUpTo (AreLeftOutOfValue s) (mergeinfo_values ps)) (values_count s ps)
+    (adds_up (AreLeftOutOfValue s) (value_count s) (value_is s) (mergeinfo_values ps))
+
+pub properties_once : (s : Settings) (ps : List Property) (n : ℕ)
+    → AddUpTo (AreLeftOutOfValue s) (mergeinfo_values ps) n → n ≡ properties_count s ps
+properties_once s ps n add =
+    adds_once (AreLeftOutOfValue s) (value_count s) (value_once s) (mergeinfo_values ps) n add ∙ values_count s ps
+
+-- with one more of them
+pub count_next : (s : Settings) (ps qs others : List Property) (p : Property) (count n : ℕ) → qs ≡ p ∷ others
+    → n ≡ property_count s p → properties_count s ps ≡ count + properties_count s qs
+    → properties_count s ps ≡ (count + n) + properties_count s others
+count_next s ps qs others p count n is here up =
+    let first = ap (properties_count s) is ∙ sum_by-cons (property_count s) p others in
+    omega arith
+
+-- of a record
+
+pub left_out_of_other : (s : Settings) (r : DumpRecord) → is_kept_node s r ≡ false → AreLeftOutOf s r 0
+left_out_of_other s r other = rw other refl
+
+left_out_of_kept : (s : Settings) (r : DumpRecord) (n : ℕ) → is_kept_node s r ≡ true → AreLeftOutOfProperties s r n
+    → AreLeftOutOf s r n
+left_out_of_kept s r n kept are = rw kept are
+
+module _ (s : Settings) (r : DumpRecord) (found : Option Props) (kept : is_kept_node s r ≡ true)
+    (means : IsSome found ↔ HasPropertyBlock r) where
+  pub left_out_of_unread : found ≡ None → AreLeftOutOf s r 0
+  left_out_of_unread none =
+      left_out_of_kept s r 0 kept
+      (None, λ has. let bad : false ≡ true = sym (ap is_some none) ∙ means.1 has in cc, properties_are s [])
+
+  pub left_out_of_read : (props : Props) → found ≡ Some props → props_bytes props ≡ r.props → (n : ℕ)
+      → ((ps : List Property) → IsPropertyBlock (props_bytes props) ps → n ≡ properties_count s ps)
+      → AreLeftOutOf s r n
+  left_out_of_read props is bytes n counted =
+      let (ps, list) = means.0 (ap is_some is) in
+      let count = counted ps (subst (λ (text : List ℕ). IsPropertyBlock text ps) (sym bytes) list.0) in
+      left_out_of_kept s r n kept
+      (Some ps, list, subst (AddUpTo (AreLeftOutOfValue s) (mergeinfo_values ps)) (sym count) (properties_are s ps))
+
+-- no more than its bytes
+
+text_fits : (s : Settings) (text : List ℕ) → text_lines_count s text ≤ length text + 1
+text_fits s [] = omega arith
+text_fits s (b ∷ text) =
+    let some = count_by-le-length (line_misses s) (slice_split (λ c. c == 10) (b ∷ text)) in
+    let size = length-slice_split (λ c. c == 10) (b ∷ text) in
+    let lfs = count_by-le-length (λ c. c == 10) (b ∷ text) in
+    omega arith
+
+shorter : (value : List ℕ) → length (without_lf value) ≤ length value
+shorter value = by (bytes_eq (drop (length value - 1) value) (10 ∷ []))
+  where
+    by : (b : Bool) → length (cond b (take (length value - 1) value) value) ≤ length value
+    by true = let size = length-take (length value - 1) value in omega arith
+    by false = omega arith
+
+pub value_fits : (s : Settings) (value : List ℕ) → value_count s value ≤ length value + 1
+value_fits s value = by (value_reads value)
+  where
+    by : (b : Bool) → cond b (text_lines_count s (without_lf value)) 0 ≤ length value + 1
+    by true = let some = text_fits s (without_lf value) in let size = shorter value in omega arith
+    by false = omega arith
+
+property_fits : (s : Settings) (p : Property) → property_count s p ≤ length (value_of p) + 1
+property_fits s p = by (is_mergeinfo p)
+  where
+    by : (b : Bool) → cond b (value_count s (value_of p)) 0 ≤ length (value_of p) + 1
+    by true = value_fits s (value_of p)
+    by false = omega arith
+
+sized_size : (letter digits bytes : List ℕ) → length bytes + 2 ≤ length (sized_text letter digits bytes)
+sized_size letter digits bytes =
+    let front = letter ++ codes " " ++ digits in
+    let whole = length-append (front ++ codes "\n" ++ bytes) (codes "\n") in
+    let body = length-append (front ++ codes "\n") bytes in
+    let line = length-append front (codes "\n") in
+    omega arith
+
+value_size : (text : List ℕ) (p : Property) → IsEntry text p → length (value_of p) + 1 ≤ length text
+value_size text p (inl (value, set, (d, e, named, valued, spelled))) =
+    let size = ap length spelled ∙ length-append (sized_text (codes "K") d p.name) (sized_text (codes "V") e value) in
+    let part = sized_size (codes "V") e value in
+    let same = ap (λ (v : Option (List ℕ)). length (unwrap_or v [])) set in
+    omega arith
+value_size text p (inr (none, (d, named, spelled))) =
+    let size = ap length spelled in
+    let part = sized_size (codes "D") d p.name in
+    let same = ap (λ (v : Option (List ℕ)). length (unwrap_or v [])) none in
+    omega arith
+
+-- of the property of an entry
+pub entry_fits : (s : Settings) (text : List ℕ) (p : Property) → IsEntry text p → property_count s p ≤ length text
+entry_fits s text p one =
+    let some = property_fits s p in let size = value_size text p one in omega arith
+
+properties_fit : (s : Settings) (text : List ℕ) (ps : List Property) → AreEntries text ps
+    → properties_count s ps ≤ length text
+properties_fit s text [] are = omega arith
+properties_fit s text (p ∷ ps) (entry, rest, cut, one, more) =
+    let here = entry_fits s entry p one in
+    let others = properties_fit s rest ps more in
+    let size = ap length cut ∙ length-append entry rest in
+    let sum = sum_by-cons (property_count s) p ps in
+    omega arith
+
+block_fits : (s : Settings) (text : List ℕ) (ps : List Property) → IsPropertyBlock text ps
+    → properties_count s ps ≤ length text
+block_fits s text ps (inl (empty, none)) = let sum = ap (properties_count s) none in omega arith
+block_fits s text ps (inr are) = properties_fit s text ps are
+
+-- of a record
+record_fits : (s : Settings) (r : DumpRecord) (n : ℕ) → AreLeftOutOf s r n → n ≤ length r.props
+record_fits s r n are = by (is_kept_node s r) are
+  where
+    of_block : AreLeftOutOfProperties s r n → n ≤ length r.props
+    of_block (None, none, add) = let is = properties_once s [] n add in omega arith
+    of_block (Some ps, list, add) =
+        let is = properties_once s ps n add in let size = block_fits s r.props ps list.0 in omega arith
+
+    by : (b : Bool) → MatchBool b (AreLeftOutOfProperties s r n) (n ≡ 0) → n ≤ length r.props
+    by true are = of_block are
+    by false none = omega arith
+
+-- of records
+counts_fit : (s : Settings) (number place : ℕ) (text rest : List ℕ) (records : List DumpRecord) (counts : List ℕ)
+    → IsCutInto number place text records rest → AllZip (AreLeftOutOf s) records counts → sum counts ≤ length text
+counts_fit s number place text rest [] [] cut all = omega arith
+counts_fit s number place text rest [] (n ∷ counts) cut all = absurd all
+counts_fit s number place text rest (r ∷ records) [] cut all = absurd all
+counts_fit s number place text rest (r ∷ records) (n ∷ counts) (lfs, front, behind, is, at, b, more) all =
+    let others = counts_fit s (number + 1) (r.place + length (record_text r)) behind rest records counts more all.1 in
+    let here = record_fits s r n all.0 in
+    let size = ap length is ∙ length-append (line_feeds lfs) front in
+    let body = ap length b.spelled ∙ length-append (record_text r) behind in
+    let parts = length-append (block_text r.headers ++ r.props) r.text in
+    let props = length-append (block_text r.headers) r.props in
+    let sum = sum_by-cons (λ m. m) n counts in
+    omega arith
+
+-- record by record
+
+-- what was counted of the records that the cutter has given
+pub record CountedSoFar (s : Settings) (dump : List ℕ) (cutter : CutterState) (count : ℕ) : Type 0 where
+  pub dump_is : cutter.dump ≡ dump
+  pub before : List DumpRecord
+  pub begins : BeginsWithRecords dump before
+  pub number : length before ≡ cutter.number
+  pub add : AddUpTo (AreLeftOutOf s) before count
+
+pub none_counted : (s : Settings) (dump : List ℕ) (cutter : CutterState)
+    → cutter ≡ record { dump = dump; number = 0 } → CountedSoFar s dump cutter 0
+none_counted s dump cutter is = record {
+  dump_is = ap (λ (c : CutterState). c.dump) is;
+  before = [];
+  begins = begins_with_none dump;
+  number = sym (ap (λ (c : CutterState). c.number) is);
+  add = ([], tt, refl);
+}
+
+module _ (s : Settings) (dump : List ℕ) (cutter after : CutterState) (count : ℕ)
+    (so_far : CountedSoFar s dump cutter count) where
+  module _ (item : Record) (step : CutStep cutter (cuts.Item item) after) (n : ℕ)
+      (are : AreLeftOutOf s (record_item item) n) where
+    next_begins : BeginsWithRecords dump (so_far.before ++ record_item item ∷ [])
+    next_begins = begins_next dump cutter after so_far.before so_far.dump_is so_far.begins so_far.number item step
+
+    next_add : AddUpTo (AreLeftOutOf s) (so_far.before ++ record_item item ∷ []) (count + n)
+    next_add = adds_more (AreLeftOutOf s) so_far.before count (record_item item) n so_far.add are
+
+    -- the cutter is nearer to the end
+    pub counted_nearer : (after.number ≡ cutter.number + 1) × (after.number ≤ length dump)
+    counted_nearer = nearer_by_one dump cutter after so_far.before so_far.dump_is so_far.begins so_far.number item step
+
+    -- there are no more lines than bytes
+    pub counted_fits : count + n ≤ length dump
+    counted_fits =
+        let (counts, all, is) = next_add in
+        let (rest, cut, versions) = next_begins in
+        let fits = counts_fit s 0 0 dump rest (so_far.before ++ record_item item ∷ []) counts cut all in
+        omega arith
+
+    -- with one more record
+    pub counted_more : CountedSoFar s dump after (count + n)
+    counted_more = record {
+      dump_is = ap (λ (c : CutterState). c.dump) step.3 ∙ so_far.dump_is;
+      before = so_far.before ++ record_item item ∷ [];
+      begins = next_begins;
+      number = length-append so_far.before (record_item item ∷ [])
+          ∙ (ap (λ m. m + 1) so_far.number ∙ sym (ap (λ (c : CutterState). c.number) step.3));
+      add = next_add;
+    }
+
+  -- where the records end
+  pub all_counted : (ending : Ending) → EndsAfter cutter.dump cutter.number ending → AreLeftOutOfRecords s dump count
+  all_counted ending ends = (
+    so_far.before,
+    ending,
+    whole_list dump so_far.before ending so_far.begins
+        (subst (λ d. EndsAfter d (length so_far.before) ending) so_far.dump_is
+        (subst (λ n. EndsAfter cutter.dump n ending) (sym so_far.number) ends)),
+    so_far.add,
+  )

@@ -1,0 +1,127 @@
+-- Worked values of the lines of mergeinfo that are left out, computed and proved by the kernel; and that each dump has one
+-- number of them.
+use Rattle.std.proofs.Common.{◌≡◌, ◌⊎◌, ℕ, Bool, true, false, List, [], ◌∷◌, Option, Some, None, MatchBool, refl, sym, ap, ap₂, ◌∙◌, subst, inl, inr, codes, sum_by}
+use Rattle.std.specs.Fmt.{digits}
+use Rattle.dump_text.specs.PropertyList.{Property}
+use Rattle.dump_records.specs.RecordText.{DumpRecord}
+use Rattle.dump_records.proofs.ListLaw.{each_dump_has_one_list}
+use Rattle.dump_rules.specs.declared.options.Side.TheVariants.{Include}
+use Rattle.dump_rules.specs.declared.options.Empty.TheVariants.{Pad}
+use Rattle.dump_rules.specs.Settings.{Settings}
+use Rattle.dump_digest.specs.RecordParts.{is_kept_node, HasPropertyBlock, HasPropertyList}
+use Rattle.dump_digest.proofs.PropertyBlocks.{property_list_once, block_or_not}
+use Rattle.dump_history.proofs.values.WorkedDump.{trunk, other}
+use Rattle.dump_survey.specs.LeftOutLine.{left_out_line, left_out_words}
+use Rattle.dump_survey.specs.LeftOutMergeinfo.{AreLeftOutOfValue, AddUpTo, mergeinfo_values, AreLeftOutOfProperties, AreLeftOutOf, AreLeftOutIn, AreLeftOutOfRecords}
+use Rattle.dump_survey.specs.steps.LeftOutCounts.{properties_count}
+use Rattle.dump_survey.proofs.LeftOutLemmas.{adds_up, adds_once, value_is, properties_are, properties_once}
+
+abbrev call : Bool → Settings
+call skip_missing = record {
+  side = Include;
+  prefixes = codes "trunk" ∷ [];
+  empty = Pad;
+  renumber = false;
+  preserve = false;
+  skip_missing = skip_missing;
+}
+
+-- of a value
+
+two_of_three : AreLeftOutOfValue (call true) (codes "/trunk/a:1\n/a:\n/trunk2:1-2*\n") 2
+two_of_three = value_is (call true) (codes "/trunk/a:1\n/a:\n/trunk2:1-2*\n")
+
+-- the path reaches to the last colon, and no prefix matches /trunk:1
+path_with_a_colon : AreLeftOutOfValue (call true) (codes "/trunk:1:2") 1
+path_with_a_colon = value_is (call true) (codes "/trunk:1:2")
+
+none_of_no_line : AreLeftOutOfValue (call true) [] 0
+none_of_no_line = value_is (call true) []
+
+none_of_unread : AreLeftOutOfValue (call true) (codes "/a:1\n/b") 0
+none_of_unread = value_is (call true) (codes "/a:1\n/b")
+
+-- of properties
+
+abbrev set : List ℕ → List ℕ → Property
+set name value = record { name = name; value = Some value }
+
+-- two values add up; other names and what is deleted don't count
+each_value_counts : AddUpTo (AreLeftOutOfValue (call true))
+    (mergeinfo_values (set (codes "svn:mergeinfo") (codes "/a:1") ∷ set (codes "svn:log") (codes "/a:1")
+    ∷ record { name = codes "svn:mergeinfo"; value = None } ∷ set (codes "svn:mergeinfo") (codes "/b:1\n/c:1") ∷ [])) 3
+each_value_counts = properties_are (call true)
+    (set (codes "svn:mergeinfo") (codes "/a:1") ∷ set (codes "svn:log") (codes "/a:1")
+    ∷ record { name = codes "svn:mergeinfo"; value = None } ∷ set (codes "svn:mergeinfo") (codes "/b:1\n/c:1") ∷ [])
+
+-- a record that isn't a kept node has none
+none_of_other : AreLeftOutOf (call true) other 0
+none_of_other = refl
+
+-- without the option none are left out
+none_without_option : (dump : List ℕ) → AreLeftOutIn (call false) dump 0
+none_without_option dump = refl
+
+-- the line
+
+no_line : left_out_line 0 ≡ []
+unfolding left_out_line
+no_line = refl
+
+one_line : left_out_line 1 ≡ codes "left out of mergeinfo: 1 line of a path that is not kept\n"
+unfolding left_out_line digits
+one_line = refl
+
+more_lines : left_out_line 12 ≡ codes "left out of mergeinfo: 12 lines of paths that are not kept\n"
+unfolding left_out_line digits
+more_lines = refl
+
+-- one number
+
+abbrev HasOne : {X : Type 0} → (X → ℕ → Type 0) → X → Type 0
+HasOne HasCount x = (n : ℕ) × HasCount x n × ((m : ℕ) → HasCount x m → m ≡ n)
+
+block_has_one : (s : Settings) (r : DumpRecord) → HasOne (AreLeftOutOfProperties s) r
+block_has_one s r = elim (block_or_not r) [
+  | inl (ps, list) ↦ (properties_count s ps, (Some ps, list, properties_are s ps), by_list ps list)
+  | inr none ↦ (0, (None, none, properties_are s []), by_none none)
+]
+  where
+    by_list : (ps : List Property) → HasPropertyList r ps → (m : ℕ) → AreLeftOutOfProperties s r m
+        → m ≡ properties_count s ps
+    by_list ps list m (None, none, add) = absurd (none (ps, list))
+    by_list ps list m (Some qs, list_too, add) =
+        properties_once s qs m add ∙ ap (properties_count s) (property_list_once r qs ps list_too list)
+
+    by_none : ¬ HasPropertyBlock r → (m : ℕ) → AreLeftOutOfProperties s r m → m ≡ 0
+    by_none none m (None, none_too, add) = properties_once s [] m add
+    by_none none m (Some qs, list, add) = absurd (none (qs, list))
+
+record_has_one : (s : Settings) (r : DumpRecord) → HasOne (AreLeftOutOf s) r
+record_has_one s r = by (is_kept_node s r)
+  where
+    by : (b : Bool) → (n : ℕ) × MatchBool b (AreLeftOutOfProperties s r n) (n ≡ 0)
+        × ((m : ℕ) → MatchBool b (AreLeftOutOfProperties s r m) (m ≡ 0) → m ≡ n)
+    by true = block_has_one s r
+    by false = (0, refl, λ m is. is)
+
+dump_has_one : (s : Settings) (dump : List ℕ) → HasOne (AreLeftOutIn s) dump
+dump_has_one s dump = by s.skip_missing
+  where
+    count : DumpRecord → ℕ
+    count r = (record_has_one s r).0
+
+    of_records : HasOne (AreLeftOutOfRecords s) dump
+    of_records =
+        let (records, ending, has, once) = each_dump_has_one_list dump in (
+          sum_by count records,
+          (records, ending, has, adds_up (AreLeftOutOf s) count (λ r. (record_has_one s r).1) records),
+          λ m (others, end, has_too, add).
+              adds_once (AreLeftOutOf s) count (λ r. (record_has_one s r).2) others m add
+              ∙ ap (sum_by count) (once others end has_too).0,
+        )
+
+    by : (b : Bool) → (n : ℕ) × MatchBool b (AreLeftOutOfRecords s dump n) (n ≡ 0)
+        × ((m : ℕ) → MatchBool b (AreLeftOutOfRecords s dump m) (m ≡ 0) → m ≡ n)
+    by true = of_records
+    by false = (0, refl, λ m is. is)

@@ -1,0 +1,19 @@
+use Rattle.std.proofs.Common.{◌∙◌, ◌==◌, ap, sym, count_by, rules, tests}
+use Rattle.std.specs.List.{slice_split}
+use Rattle.std.proofs.lemmas.Iterator.Consumers.{count_from_yields_List, YieldsList-from_filter, YieldsList-at}
+use Rattle.std.proofs.lemmas.Iterator.Splits.{YieldsList-from_slice_split}
+use Rattle.std.proofs.lemmas.List.Sums.{length-filter}
+use Rattle.dump_rules.specs.steps.NewLines.{line_misses}
+use Rattle.dump_survey.proofs.LeftOutLemmas.{lines_of_some}
+use Rattle.dump_survey.proofs.left_out_mergeinfo.text_left_out.Goals as goal
+
+pub returns : goal.returns
+returns c =
+    count_from_yields_List c.filter.result _ c.count.ensures.ran
+    (YieldsList-from_filter _ (line_misses c.args.options.now)
+    (YieldsList-at c.filter.ensures.source (YieldsList-from_slice_split _ _ c.args.text.now c.split.ensures.rest
+    c.split.ensures.done c.split.ensures.closure (λ x r q k. search (rules, tests))))
+    c.filter.ensures.closure (λ x b q k. search (rules, tests)))
+    ∙ (length-filter (line_misses c.args.options.now) (slice_split (λ b. b == 10) c.args.text.now)
+    ∙ sym (ap (count_by (line_misses c.args.options.now)) (lines_of_some c.args.text.now
+    (sym c.is_empty.ensures ∙ c.if-is_empty.false))))

@@ -1,0 +1,17 @@
+use Rattle.std.proofs.Common.{◌∙◌, ap, sym, cond}
+use Rattle.dump_rules.specs.steps.ReadMergeinfo.{without_lf}
+use Rattle.dump_digest.proofs.MergeLemmas.{read_is}
+use Rattle.dump_survey.specs.steps.LeftOutCounts.{text_lines_count}
+use Rattle.dump_survey.proofs.LeftOutLemmas.{unread_count, read_count}
+use Rattle.dump_survey.proofs.left_out_mergeinfo.value_left_out.Goals as goal
+
+pub returns-then-merge_reads : goal.returns-then-merge_reads
+returns-then-merge_reads c =
+    c.text_left_out.ensures ∙ (ap (text_lines_count c.args.options.now) c.without_lf.ensures
+    ∙ sym (read_count c.args.options.now c.args.value.now
+    (sym (read_is c.args.value.now c.merge_reads.result c.merge_reads.ensures) ∙ c.if-merge_reads.true)))
+
+pub returns-else-merge_reads : goal.returns-else-merge_reads
+returns-else-merge_reads c =
+    sym (unread_count c.args.options.now c.args.value.now
+    (sym (read_is c.args.value.now c.merge_reads.result c.merge_reads.ensures) ∙ c.if-merge_reads.false))

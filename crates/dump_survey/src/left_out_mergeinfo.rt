@@ -1,0 +1,121 @@
+//! The lines of mergeinfo that the filter leaves out.
+ghost use Rattle.std.specs.Prelude.{◌≡◌, List};
+ghost use Rattle.dump_text.specs.PropertyList.{IsPropertyBlock, Property};
+ghost use Rattle.dump_text.specs.steps.PropertyViews.{entry_property, props_bytes};
+ghost use Rattle.dump_records.specs.steps.RecordViews.{record_item};
+ghost use Rattle.dump_rules.specs.steps.ReadMergeinfo.{without_lf};
+ghost use Rattle.dump_rules.specs.steps.NewLines.{line_path};
+ghost use Rattle.dump_survey.specs.LeftOutMergeinfo.{AreLeftOutIn, AreLeftOutOf, AreLeftOutOfRecords};
+ghost use Rattle.dump_survey.specs.steps.LeftOutCounts.{properties_count, property_count, text_lines_count, value_count};
+
+use crate::plain::properties_of;
+use dump_digest::{is_kept, is_mergeinfo};
+use dump_records::{Cut, Cutter, Record};
+use dump_rules::{Options, keeps, merge_reads};
+use dump_text::{Entry, Props};
+
+/// The path of a line of mergeinfo, which reaches to its last colon.
+fn path_of(line: &[u8]) -> &[u8]
+    ensures { result.now ≡ line_path line.now }
+{
+    match line.iter().rposition(|b| *b == b':') {
+        Some(colon) => &line[..colon],
+        None => &[],
+    }
+}
+
+/// How many lines of a text have a path that isn't kept.
+fn text_left_out(text: &[u8], options: &Options) -> usize
+    ensures { result ≡ text_lines_count options.now text.now }
+{
+    if text.is_empty() {
+        return 0;
+    }
+    text.split(|b| *b == b'\n')
+        .filter(|line| !keeps(options, path_of(line)))
+        .count()
+}
+
+/// The value without an LF at its end.
+fn without_lf(value: &[u8]) -> &[u8]
+    ensures { result.now ≡ without_lf value.now }
+{
+    value.strip_suffix(b"\n").unwrap_or(value)
+}
+
+/// How many lines of a value are left out, none where it can't be read.
+fn value_left_out(value: &[u8], options: &Options) -> usize
+    ensures { result ≡ value_count options.now value.now }
+{
+    if merge_reads(value) {
+        text_left_out(without_lf(value), options)
+    } else {
+        0
+    }
+}
+
+/// How many lines of a property are left out.
+fn entry_left_out(entry: &Entry<'_>, options: &Options) -> usize
+    ensures { result ≡ property_count options.now (entry_property entry.now) }
+{
+    if is_mergeinfo(entry) {
+        value_left_out(entry.value, options)
+    } else {
+        0
+    }
+}
+
+/// How many lines of some properties are left out. The name may stand more than once.
+fn properties_left_out(props: &Props<'_>, options: &Options) -> usize
+    ensures { (ps : List Property) → IsPropertyBlock (props_bytes props.now) ps
+        → result ≡ properties_count options.now ps }
+{
+    // so that the block's length, and with it the count, is known to fit
+    let _size = props.bytes().len();
+    let mut count = 0;
+    let mut entries = props.entries();
+    while let Some(entry) = entries.next() {
+        count += entry_left_out(&entry, options);
+    }
+    count
+}
+
+/// How many lines are left out with a record.
+fn record_left_out(item: &Record<'_>, options: &Options) -> usize
+    ensures { AreLeftOutOf options.now (record_item item.now) result }
+{
+    if !is_kept(item, options) {
+        return 0;
+    }
+    match properties_of(item) {
+        Some(props) => properties_left_out(&props, options),
+        None => 0,
+    }
+}
+
+/// How many lines are left out with the records of a dump.
+fn records_left_out(dump: &[u8], options: &Options) -> usize
+    ensures { AreLeftOutOfRecords options.now dump.now result }
+{
+    let mut cutter = Cutter::new(dump);
+    let mut count = 0;
+    loop {
+        match cutter.next() {
+            Cut::Item(item) => count += record_left_out(&item, options),
+            Cut::Finished => return count,
+            Cut::Fault { .. } => return count,
+        }
+    }
+}
+
+/// How many lines of the mergeinfo of kept nodes the filter leaves out of a dump under these options, since their paths
+/// aren't kept. Without `--skip-missing-merge-sources` it leaves none out, and the dump isn't read.
+pub fn left_out_lines(dump: &[u8], options: &Options) -> usize
+    ensures { AreLeftOutIn options.now dump.now result }
+{
+    if options.skip_missing() {
+        records_left_out(dump, options)
+    } else {
+        0
+    }
+}
