@@ -1,1 +1,2 @@
 pub mod MergeReading
+pub mod NamingTests

@@ -6,6 +6,7 @@ pub mod GrowthLemmas
 pub mod IdleLemmas
 pub mod KindLemmas
 pub mod LeavingLemmas
+pub mod LeftLemmas
 pub mod LineLemmas
 pub mod LossLemmas
 pub mod MergeinfoLemmas

@@ -1,5 +1,5 @@
 -- What is refused of the mergeinfo among properties, property by property.
-use Rattle.std.proofs.Common.{◌≡◌, ℕ, Bool, true, false, ◌||◌, List, [], ◌∷◌, Option, Some, None, refl, sym, ap, ap₂, ◌∙◌, subst}
+use Rattle.std.proofs.Common.{◌≡◌, ◌↔◌, ℕ, Bool, true, false, IsTrue, ◌||◌, List, [], ◌∷◌, Option, Some, None, refl, sym, ap, ap₂, ◌∙◌, subst}
 use Rattle.std.proofs.Math.Bool.{or-false, or_assoc}
 use Rattle.std.specs.List.{list_any}
 use Rattle.dump_text.specs.PropertyList.{Property, IsPropertyBlock}
@@ -14,6 +14,7 @@ use Rattle.dump_rules.specs.steps.NewLines.{value_misses}
 use Rattle.dump_digest.specs.RecordParts.{is_mergeinfo, is_node, HasPropertyBlock}
 use Rattle.dump_digest.specs.steps.ContentViews.{ArePropertiesOf}
 use Rattle.dump_digest.proofs.SaidLemmas.{entry_value}
+use Rattle.dump_history.specs.NumberGaps.{SetsMergeinfo}
 use Rattle.dump_history.specs.Findings.{MergeFaults, AreMergeFaultsOf, has_kept_path}
 use Rattle.dump_history.specs.steps.MergeReading.{is_unread_value, names_missing_source, property_faults, faults_read, no_merge_faults}
 use Rattle.dump_history.proofs.survey.FindingLemmas.{faults_of_kept, faults_of_unread}
@@ -74,3 +75,29 @@ module _ (s : Settings) (r : DumpRecord) where
   unread_faults found is of =
       let same : ArePropertiesOf r None = subst (ArePropertiesOf r) is of in
       faults_of_unread s r (λ has. let bad : false ≡ true = same.there.1 has in cc)
+
+-- whether mergeinfo stands among properties
+
+pub merge_stops : (ps qs : List Property) (p : Property) → ps ≡ p ∷ qs → is_mergeinfo p ≡ true
+    → list_any is_mergeinfo ps ≡ true
+merge_stops ps qs p is merges = ap (list_any is_mergeinfo) is ∙ ap (λ b. b || list_any is_mergeinfo qs) merges
+
+pub merge_goes : (ps qs : List Property) (p : Property) → ps ≡ p ∷ qs → is_mergeinfo p ≡ false
+    → list_any is_mergeinfo ps ≡ list_any is_mergeinfo qs
+merge_goes ps qs p is other = ap (list_any is_mergeinfo) is ∙ ap (λ b. b || list_any is_mergeinfo qs) other
+
+-- where the block is read, its properties tell whether the node sets mergeinfo
+pub merges_read : (r : DumpRecord) (props : Props) (sets : Bool) → HasPropertyBlock r → props_bytes props ≡ r.props
+    → ((ps : List Property) → IsPropertyBlock (props_bytes props) ps → sets ≡ list_any is_mergeinfo ps)
+    → IsTrue sets ↔ SetsMergeinfo r
+merges_read r props sets (ps, list) same read = (
+  λ so. (ps, list, sym (read ps (block ps list.0)) ∙ so),
+  λ (qs, other, set). read qs (block qs other.0) ∙ set,
+)
+  where
+    block : (qs : List Property) → IsPropertyBlock r.props qs → IsPropertyBlock (props_bytes props) qs
+    block qs is = subst (λ (bytes : List ℕ). IsPropertyBlock bytes qs) (sym same) is
+
+-- and where it can't be, it doesn't
+pub merges_unread : (r : DumpRecord) → ¬ HasPropertyBlock r → IsTrue false ↔ SetsMergeinfo r
+merges_unread r unread = (λ bad. cc, λ (ps, list, set). absurd (unread (ps, list)))

@@ -5,6 +5,7 @@ pub mod IdlePrefixes
 pub mod KeptNumbers
 pub mod Losses
 pub mod Names
+pub mod Naming
 pub mod Needs
 pub mod Prefixes
 pub mod Steps

@@ -42,6 +42,7 @@ mod kind_lines;
 pub mod laws;
 mod map;
 mod memory;
+mod naming;
 mod needs;
 mod node;
 mod node_headers;

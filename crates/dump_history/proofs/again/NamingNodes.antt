@@ -64,12 +64,12 @@ module _ (patched : Patching) (settings : Settings) where
   NamingNode nodes = (r : DumpRecord) × Contains nodes r × IsTrue (is_kept_node settings r) × NamesRevision r
 
   -- a kept change of a group that names a revision is that of a kept node that does
-  nodes_name : (nodes : List DumpRecord) (changes : List Change) → list_all is_node nodes ≡ true
+  naming_node_of : (nodes : List DumpRecord) (changes : List Change) → list_all is_node nodes ≡ true
       → AllMake patched nodes changes → names_kept settings names_revision changes ≡ true → NamingNode nodes
-  nodes_name [] [] are make names = absurd (let bad : false ≡ true = names in cc)
-  nodes_name [] (c ∷ changes) are make names = absurd make
-  nodes_name (r ∷ nodes) [] are make names = absurd make
-  nodes_name (r ∷ nodes) (c ∷ changes) are make names =
+  naming_node_of [] [] are make names = absurd (let bad : false ≡ true = names in cc)
+  naming_node_of [] (c ∷ changes) are make names = absurd make
+  naming_node_of (r ∷ nodes) [] are make names = absurd make
+  naming_node_of (r ∷ nodes) (c ∷ changes) are make names =
       elim (or_cases (keeps settings c.path && names_revision c) (names_kept settings names_revision changes) names) [
         | inl here ↦ (let parts = and_parts (keeps settings c.path) (names_revision c) here in (
           r,
@@ -77,40 +77,40 @@ module _ (patched : Patching) (settings : Settings) where
           kept_node patched settings r c (first_true (is_node r) (list_all is_node nodes) are) make.0 ∙ parts.0,
           node_names r c make.0 parts.1,
         ))
-        | inr later ↦ (let (s, within, kept, naming) = nodes_name nodes changes
+        | inr later ↦ (let (s, within, kept, naming) = naming_node_of nodes changes
             (second_true (is_node r) (list_all is_node nodes) are) make.1 later in
             (s, Contains-append_right (r ∷ []) nodes s within, kept, naming))
       ]
 
   -- so of all groups
-  groups_name : (gs : List Group) (revisions : List (List Change)) → AllHaveNodes gs → GroupsMake patched gs revisions
+  naming_node_of_groups : (gs : List Group) (revisions : List (List Change)) → AllHaveNodes gs → GroupsMake patched gs revisions
       → names_none settings names_revision revisions ≡ false → HasNamingNode settings gs
-  groups_name [] [] are make named = absurd (let bad : true ≡ false = named in cc)
-  groups_name [] (changes ∷ revisions) are make named = absurd make
-  groups_name (g ∷ gs) [] are make named = absurd make
-  groups_name (g ∷ gs) (changes ∷ revisions) are make named =
+  naming_node_of_groups [] [] are make named = absurd (let bad : true ≡ false = named in cc)
+  naming_node_of_groups [] (changes ∷ revisions) are make named = absurd make
+  naming_node_of_groups (g ∷ gs) [] are make named = absurd make
+  naming_node_of_groups (g ∷ gs) (changes ∷ revisions) are make named =
       elim (and_cases (not (names_kept settings names_revision changes))
       (names_none settings names_revision revisions) named) [
-        | inl here ↦ (let (r, within, kept, naming) = nodes_name g.nodes changes are.0 make.0 (not-false _ here) in
+        | inl here ↦ (let (r, within, kept, naming) = naming_node_of g.nodes changes are.0 make.0 (not-false _ here) in
             (g, r, (0, omega arith, refl), within, kept, naming))
-        | inr later ↦ (let (h, r, there, within, kept, naming) = groups_name gs revisions are.1 make.1 later in
+        | inr later ↦ (let (h, r, there, within, kept, naming) = naming_node_of_groups gs revisions are.1 make.1 later in
             (h, r, Contains-append_right (g ∷ []) gs h there, within, kept, naming))
       ]
 
   -- and of those behind the first dropped one
-  groups_name_behind : (n : ℕ) (gs : List Group) (revisions : List (List Change)) → AllHaveNodes gs
+  naming_node_behind : (n : ℕ) (gs : List Group) (revisions : List (List Change)) → AllHaveNodes gs
       → AreNumberedFrom (suc n) gs → GroupsMake patched gs revisions
       → names_none_behind settings (empty_rule settings) names_revision revisions ≡ false
       → HasNamingNodeBehind settings gs
-  groups_name_behind n [] [] are numbered make named = absurd (let bad : true ≡ false = named in cc)
-  groups_name_behind n [] (changes ∷ revisions) are numbered make named = absurd make
-  groups_name_behind n (g ∷ gs) [] are numbered make named = absurd make
-  groups_name_behind n (g ∷ gs) (changes ∷ revisions) are numbered make named =
+  naming_node_behind n [] [] are numbered make named = absurd (let bad : true ≡ false = named in cc)
+  naming_node_behind n [] (changes ∷ revisions) are numbered make named = absurd make
+  naming_node_behind n (g ∷ gs) [] are numbered make named = absurd make
+  naming_node_behind n (g ∷ gs) (changes ∷ revisions) are numbered make named =
       by_kept (keeps_group settings g) (ap (λ b. cond b
       (names_none_behind settings (empty_rule settings) names_revision revisions)
       (names_none settings names_revision revisions))
       (kept_group patched settings g changes (later_number (group_number g) n numbered.0) are.0 make.0) ∙ named)
-      (groups_name_behind (suc n) gs revisions are.1 numbered.1 make.1)
+      (naming_node_behind (suc n) gs revisions are.1 numbered.1 make.1)
     where
       by_kept : (b : Bool)
           → cond b (names_none_behind settings (empty_rule settings) names_revision revisions)
@@ -119,11 +119,11 @@ module _ (patched : Patching) (settings : Settings) where
           → HasNamingNodeBehind settings gs)
           → MatchBool b (HasNamingNodeBehind settings gs) (HasNamingNode settings gs)
       by_kept true named later = later named
-      by_kept false named later = groups_name gs revisions are.1 make.1 named
+      by_kept false named later = naming_node_of_groups gs revisions are.1 make.1 named
 
   -- so where no node names a revision behind the first dropped group, no change does
   pub none_named_behind : (n : ℕ) (gs : List Group) (revisions : List (List Change)) → AllHaveNodes gs
       → AreNumberedFrom (suc n) gs → GroupsMake patched gs revisions → ¬ HasNamingNodeBehind settings gs
       → names_none_behind settings (empty_rule settings) names_revision revisions ≡ true
   none_named_behind n gs revisions are numbered make none =
-      true_from_ne_false _ (λ named. none (groups_name_behind n gs revisions are numbered make named))
+      true_from_ne_false _ (λ named. none (naming_node_behind n gs revisions are numbered make named))

@@ -11,6 +11,7 @@ use Rattle.dump_filter.specs.Groups.{Group, groups, keeps_group}
 use Rattle.dump_history.specs.RecordChanges.{makes}
 use Rattle.dump_history.specs.NumberGaps.{SetsMergeinfo, NamesRevision, HasNamingNode, HasNamingNodeBehind}
 use Rattle.dump_history.specs.Findings.{dump_findings}
+use Rattle.dump_history.specs.steps.NamingTests.{TellsNaming, nodes_name, groups_name, groups_name_behind}
 use Rattle.dump_history.specs.SurveyLaws.{DumpFindingsAreOnce}
 use Rattle.dump_history.proofs.survey.FindingLemmas.{same_truth}
 
@@ -47,52 +48,39 @@ naming_told r = let (merges, told) = merge_told r in (
 pub names_test : DumpRecord → Bool
 names_test r = (naming_told r).0
 
--- the test tells which nodes name a revision
-abbrev pub TellsNaming : (DumpRecord → Bool) → Type 0
-TellsNaming names = (r : DumpRecord) → IsTrue (names r) ↔ NamesRevision r
-
 pub test_tells : TellsNaming names_test
 unfolding names_test naming_told
 test_tells r = (naming_told r).1
 
-module _ (settings : Settings) (names : DumpRecord → Bool) where
-  -- whether a kept node of the group names a revision, by a test of nodes
-  abbrev pub group_names : Group → Bool
-  group_names g = list_any (λ r. is_kept_node settings r && names r) g.nodes
+module _ (settings : Settings) (names : DumpRecord → Bool) (tells : TellsNaming names) where
+  names_in : (gs : List Group) → groups_name settings names gs ≡ true → HasNamingNode settings gs
+  names_in gs some =
+      let (g, there, so) = found (λ (h : Group). nodes_name settings names h.nodes) gs some in
+      let (r, within, both) = found (λ r. is_kept_node settings r && names r) g.nodes so in
+      let parts = and_parts (is_kept_node settings r) (names r) both in
+      (g, r, there, within, parts.0, (tells r).0 parts.1)
 
-  -- whether one behind the first dropped group does
-  abbrev pub behind_names : List Group → Bool
-  behind_names [] = false
-  behind_names (g ∷ gs) = if keeps_group settings g then behind_names gs else list_any group_names gs
+  names_back : (gs : List Group) → HasNamingNode settings gs → groups_name settings names gs ≡ true
+  names_back gs (g, r, there, within, kept, naming) =
+      finds (λ (h : Group). nodes_name settings names h.nodes) gs g there
+      (finds (λ s. is_kept_node settings s && names s) g.nodes r within
+      (and_from (is_kept_node settings r) (names r) kept ((tells r).1 naming)))
 
-  module _ (tells : TellsNaming names) where
-    names_in : (gs : List Group) → list_any group_names gs ≡ true → HasNamingNode settings gs
-    names_in gs some =
-        let (g, there, so) = found group_names gs some in
-        let (r, within, both) = found (λ r. is_kept_node settings r && names r) g.nodes so in
-        let parts = and_parts (is_kept_node settings r) (names r) both in
-        (g, r, there, within, parts.0, (tells r).0 parts.1)
-
-    names_back : (gs : List Group) → HasNamingNode settings gs → list_any group_names gs ≡ true
-    names_back gs (g, r, there, within, kept, naming) =
-        finds group_names gs g there (finds (λ s. is_kept_node settings s && names s) g.nodes r within
-        (and_from (is_kept_node settings r) (names r) kept ((tells r).1 naming)))
-
-    -- the test of nodes tells it of groups
-    pub behind_told : (gs : List Group) → IsTrue (behind_names gs) ↔ HasNamingNodeBehind settings gs
-    behind_told [] = (λ bad. let worse : false ≡ true = bad in cc, λ none. absurd none)
-    behind_told (g ∷ gs) = by_kept (behind_told gs) (keeps_group settings g)
-      where
-        by_kept : IsTrue (behind_names gs) ↔ HasNamingNodeBehind settings gs → (b : Bool)
-            → IsTrue (if b then behind_names gs else list_any group_names gs)
-            ↔ MatchBool b (HasNamingNodeBehind settings gs) (HasNamingNode settings gs)
-        by_kept later true = later
-        by_kept later false = (names_in gs, names_back gs)
+  -- the test of nodes tells it of groups
+  pub behind_told : (gs : List Group) → IsTrue (groups_name_behind settings names gs) ↔ HasNamingNodeBehind settings gs
+  behind_told [] = (λ bad. let worse : false ≡ true = bad in cc, λ none. absurd none)
+  behind_told (g ∷ gs) = by_kept (behind_told gs) (keeps_group settings g)
+    where
+      by_kept : IsTrue (groups_name_behind settings names gs) ↔ HasNamingNodeBehind settings gs → (b : Bool)
+          → IsTrue (if b then groups_name_behind settings names gs else groups_name settings names gs)
+          ↔ MatchBool b (HasNamingNodeBehind settings gs) (HasNamingNode settings gs)
+      by_kept later true = later
+      by_kept later false = (names_in gs, names_back gs)
 
 -- a dump has one list of findings as a whole
 pub dump_findings_once : DumpFindingsAreOnce
 dump_findings_once settings records =
-    let named = behind_names settings names_test (groups records) in
+    let named = groups_name_behind settings names_test (groups records) in
     let told = behind_told settings names_test test_tells (groups records) in (
       dump_findings settings records named,
       (named, told, refl),

@@ -9,9 +9,10 @@ use Rattle.dump_history.specs.DumpLaws.{LoadsRestricted}
 use Rattle.dump_history.specs.Findings.{Finding, AreFindingsOf, AreDumpFindingsOf}
 use Rattle.dump_history.specs.SurveyLaws.{HaveFindings}
 use Rattle.dump_history.proofs.restricted.LoadsOnce.{later_once}
+use Rattle.dump_history.specs.steps.NamingTests.{groups_name_behind}
 use Rattle.dump_history.specs.steps.MergeReading.{no_merge_faults}
 use Rattle.dump_history.proofs.survey.FindingLemmas.{faults_of_kept, faults_of_left}
-use Rattle.dump_history.proofs.survey.NamingTest.{names_test, test_tells, behind_names, behind_told}
+use Rattle.dump_history.proofs.survey.NamingTest.{names_test, test_tells, behind_told}
 use Rattle.dump_history.proofs.survey.SurveyLemmas.{surveyed_dump}
 use Rattle.dump_history.proofs.values.WorkedDump.{records, dump, settings, trunk, other, copy, none_of, revisions, trees, loads}
 use Rattle.dump_history.proofs.values.WorkedFilter.{text, clean, lengths}
@@ -38,7 +39,7 @@ none_found = (tt, ((in_trunk, tt), ((in_other, tt), ((in_copy, tt), tt))))
 -- with renumbering nothing is found in the dump as a whole, whatever its nodes name
 pub none_in_dump : AreDumpFindingsOf settings records []
 none_in_dump = (
-  behind_names settings names_test (groups records),
+  groups_name_behind settings names_test (groups records),
   behind_told settings names_test test_tells (groups records),
   refl,
 )
