@@ -5,5 +5,8 @@ pub mod NodeChanges
 pub mod GroupsAgain
 pub mod GroupChanges
 pub mod GroupNumbers
+pub mod PlainAgain
+pub mod GapNumbers
+pub mod NamingNodes
 pub mod OrderAgain
 pub mod DumpAgain

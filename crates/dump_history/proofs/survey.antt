@@ -1,4 +1,5 @@
 -- What a survey finds is exact, and where it finds nothing the law has its premise.
 pub mod FindingLemmas
 pub mod PartLemmas
+pub mod NamingTest
 pub mod SurveyLemmas

@@ -1,19 +1,19 @@
 -- The law of filtered dumps: what is written, loaded over the given folders, has the trees that the whole dump has,
 -- restricted to the kept paths.
-use Rattle.std.specs.Prelude.{◌≡◌, ℕ, Bool, not, ◌||◌, List, [], ◌∷◌, ◌++◌, length, drop, take, filter, Option, Some, None, IsTrue}
+use Rattle.std.specs.Prelude.{◌≡◌, ℕ, Bool, not, ◌||◌, List, [], ◌∷◌, ◌++◌, length, drop, take, filter, Some, IsTrue}
 use Rattle.std.specs.List.{AllZip, list_all, list_any}
 use Rattle.dump_text.specs.PropertyList.{Property}
 use Rattle.dump_records.specs.DumpText.{Ending, HasRecords}
 use Rattle.dump_records.specs.RecordText.{DumpRecord}
 use Rattle.dump_rules.specs.Settings.{Settings}
 use Rattle.dump_rules.specs.Renumbering.{KeptRevisions, image}
-use Rattle.dump_digest.specs.RecordParts.{is_mergeinfo, HasPropertyList}
+use Rattle.dump_digest.specs.RecordParts.{HasPropertyList}
 use Rattle.dump_filter.specs.FilterLaws.{LengthsFit}
-use Rattle.dump_filter.specs.Groups.{Group, groups, keeps_group, is_padded, kept_revisions}
+use Rattle.dump_filter.specs.Groups.{Group, groups, keeps_group, is_padded, revision_numbers, kept_revisions}
 use Rattle.dump_filter.specs.NewContent.{IsNewProperty, revision_properties}
 use Rattle.dump_filter.specs.WholeText.{IsCleanText}
 use Rattle.dump_trees.specs.Trees.{Tree, root_alone}
-use Rattle.dump_trees.specs.Changes.{PropertyChange, Change}
+use Rattle.dump_trees.specs.Changes.{Change}
 use Rattle.dump_trees.specs.Restriction.{given}
 use Rattle.dump_trees.specs.Quiet.{are_quiet, nowhere_is_over}
 use Rattle.dump_trees.specs.Revisions.{loaded, loaded_over, AllRevisionsSeparate}
@@ -21,10 +21,11 @@ use Rattle.dump_trees.specs.MovedLaws.{revisions_behind, AreRevisionsBehind}
 use Rattle.dump_trees.specs.HistoryLaws.{ImagesRestrict}
 use Rattle.dump_history.specs.RecordChanges.{Patching}
 use Rattle.dump_history.specs.RaisedMergeinfo.{IsRaised}
-use Rattle.dump_history.specs.DumpChanges.{MakeRevisions, HaveRevisionProperties, LoadsAs}
+use Rattle.dump_history.specs.DumpChanges.{counts_from, MakeRevisions, HaveRevisionProperties, LoadsAs}
+use Rattle.dump_history.specs.NumberGaps.{sets_mergeinfo, MakeRevisionsWithGaps, LoadsWithGapsAs, KeepsNamedNumbers}
 
 -- whether the numbers of a dump numbered 0, 1, 2 and so on are so again where it is filtered: revisions are renumbered,
--- or none is dropped
+-- or none is dropped. Else what is written has gaps in its numbers
 abbrev pub keeps_numbering : Settings → List DumpRecord → Bool
 keeps_numbering settings records = settings.renumber || list_all (keeps_group settings) (groups records)
 
@@ -45,13 +46,19 @@ abbrev pub RevisionsKeepProperties : Settings → List DumpRecord → List DumpR
 RevisionsKeepProperties settings records again =
     AllZip (KeepsProperties settings) (filter (keeps_group settings) (groups records)) (groups again)
 
+-- the filtered dump has no gap in its numbers, which begin with this one, where the dump keeps its numbering
+abbrev pub HasNoGapIfKept : Settings → List DumpRecord → ℕ → List DumpRecord → Type 0
+HasNoGapIfKept settings records first again =
+    IsTrue (keeps_numbering settings records) → IsTrue (counts_from first (revision_numbers again))
+
 -- the text is a dump that loads into a repository whose revision 0 has the given folders: it makes a revision for each
 -- kept one of these records, with its properties, and the trees are these trees, restricted
 abbrev pub LoadsRestricted : Patching → Settings → List DumpRecord → List Tree → List ℕ → Type 0
 LoadsRestricted patched settings records trees text =
     (again : List DumpRecord) × (written : List (List Change)) × (others : List Tree)
     × HasRecords text again Ending.Whole
-    × LoadsAs patched (given settings) again written others
+    × LoadsWithGapsAs patched (given settings) again written others
+    × HasNoGapIfKept settings records 0 again
     × (length others ≡ length (kept_revisions settings records).numbers)
     × TreesRestrict settings records trees others
     × RevisionsKeepProperties settings records again
@@ -62,7 +69,7 @@ abbrev pub FilteredDumpRestricts : Type 0
 FilteredDumpRestricts = (patched : Patching) (settings : Settings) (dump text : List ℕ) (records : List DumpRecord)
     (revisions : List (List Change)) (trees : List Tree) →
     IsCleanText settings dump records text → LengthsFit settings records
-    → IsTrue (keeps_numbering settings records)
+    → KeepsNamedNumbers settings records
     → LoadsAs patched root_alone records revisions trees
     → AllRevisionsSeparate settings (root_alone ∷ []) root_alone revisions
     → LoadsRestricted patched settings records trees text
@@ -72,7 +79,7 @@ abbrev pub QuietDumpRestricts : Type 0
 QuietDumpRestricts = (patched : Patching) (settings : Settings) (dump text : List ℕ) (records : List DumpRecord)
     (revisions : List (List Change)) (trees : List Tree) →
     IsCleanText settings dump records text → LengthsFit settings records
-    → IsTrue (keeps_numbering settings records)
+    → KeepsNamedNumbers settings records
     → LoadsAs patched root_alone records revisions trees
     → IsTrue (are_quiet settings revisions)
     → IsTrue (nowhere_is_over settings (root_alone ∷ []) root_alone revisions)
@@ -85,7 +92,8 @@ abbrev pub FrontLoadsRestricted : Patching → Settings → List DumpRecord → 
 FrontLoadsRestricted patched settings records trees text =
     (again : List DumpRecord) × (first more : List (List Change)) × (others : List Tree)
     × HasRecords text again Ending.Whole
-    × MakeRevisions patched again (first ++ more)
+    × MakeRevisionsWithGaps patched again (first ++ more)
+    × HasNoGapIfKept settings records 0 again
     × (loaded_over (given settings) first ≡ Some others)
     × (length others ≡ length (filter (keeps_group settings) (take (length trees) (groups records))))
     × TreesRestrict settings records trees others
@@ -97,7 +105,7 @@ abbrev pub FilteredDumpFrontRestricts : Type 0
 FilteredDumpFrontRestricts = (patched : Patching) (settings : Settings) (dump text : List ℕ) (records : List DumpRecord)
     (front rest : List (List Change)) (trees : List Tree) →
     IsCleanText settings dump records text → LengthsFit settings records
-    → IsTrue (keeps_numbering settings records)
+    → KeepsNamedNumbers settings records
     → MakeRevisions patched records (front ++ rest) → loaded_over root_alone front ≡ Some trees
     → AllRevisionsSeparate settings (root_alone ∷ []) root_alone front
     → FrontLoadsRestricted patched settings records trees text
@@ -108,30 +116,25 @@ abbrev pub QuietDumpFrontRestricts : Type 0
 QuietDumpFrontRestricts = (patched : Patching) (settings : Settings) (dump text : List ℕ) (records : List DumpRecord)
     (front rest : List (List Change)) (trees : List Tree) →
     IsCleanText settings dump records text → LengthsFit settings records
-    → IsTrue (keeps_numbering settings records)
+    → KeepsNamedNumbers settings records
     → MakeRevisions patched records (front ++ rest) → loaded_over root_alone front ≡ Some trees
     → IsTrue (are_quiet settings front)
     → IsTrue (nowhere_is_over settings (root_alone ∷ []) root_alone front)
     → FrontLoadsRestricted patched settings records trees text
+
+-- a dump without gaps in its numbers is one of those that may have some
+abbrev pub NoGapIsNeeded : Type 0
+NoGapIsNeeded = (patched : Patching) (records : List DumpRecord) (revisions : List (List Change)) →
+    MakeRevisions patched records revisions → MakeRevisionsWithGaps patched records revisions
 
 -- a dump has one list of records, revisions, properties of revisions, and trees
 abbrev pub DumpLoadsOnce : Type 0
 DumpLoadsOnce = (patched : Patching) (first : Tree) (dump : List ℕ) (records others : List DumpRecord)
     (revisions more : List (List Change)) (trees others_trees : List Tree) (props others_props : List (List Property)) →
     HasRecords dump records Ending.Whole → HasRecords dump others Ending.Whole
-    → LoadsAs patched first records revisions trees → LoadsAs patched first others more others_trees
+    → LoadsWithGapsAs patched first records revisions trees → LoadsWithGapsAs patched first others more others_trees
     → HaveRevisionProperties records props → HaveRevisionProperties others others_props
     → (others ≡ records) × (more ≡ revisions) × (others_trees ≡ trees) × (others_props ≡ props)
-
--- the entries that a change of properties sets or takes away
-abbrev pub entries_of : Option PropertyChange → List Property
-entries_of None = []
-entries_of (Some (PropertyChange.Replaced entries)) = entries
-entries_of (Some (PropertyChange.Edited entries)) = entries
-
--- whether the change sets mergeinfo
-abbrev pub sets_mergeinfo : Change → Bool
-sets_mergeinfo c = list_any is_mergeinfo (entries_of c.props)
 
 -- whether no change sets mergeinfo
 abbrev pub sets_no_mergeinfo : List (List Change) → Bool
@@ -142,7 +145,7 @@ sets_no_mergeinfo revisions = list_all (λ changes. not (list_any sets_mergeinfo
 abbrev pub DumpLoadsTheSameBehindOthers : Type 0
 DumpLoadsTheSameBehindOthers = (patched : Patching) (older : List Tree) (first : Tree) (records : List DumpRecord)
     (revisions : List (List Change)) (trees : List Tree) →
-    LoadsAs patched first records revisions trees → IsTrue (sets_no_mergeinfo revisions)
+    LoadsWithGapsAs patched first records revisions trees → IsTrue (sets_no_mergeinfo revisions)
     → loaded (older ++ first ∷ []) first (revisions_behind (length older) revisions) ≡ Some (older ++ trees)
 
 -- revisions that set no mergeinfo stay as they are behind others, but for the numbers of their copies
@@ -169,7 +172,8 @@ abbrev pub LoadsBehindFolders : Patching → Settings → List DumpRecord → Li
 LoadsBehindFolders patched settings records trees text =
     (again : List DumpRecord) × (written : List (List Change))
     × HasRecords text again Ending.Whole
-    × MakeRevisions patched again written
+    × MakeRevisionsWithGaps patched again written
+    × HasNoGapIfKept settings records 0 again
     × ((moved : List (List Change)) → AreRevisionsBehind (IsRaised 1) 1 written moved
     → (others : List Tree)
     × (loaded (root_alone ∷ given settings ∷ []) (given settings) moved ≡ Some (root_alone ∷ others))
@@ -183,7 +187,7 @@ abbrev pub QuietDumpRestrictsBehindFolders : Type 0
 QuietDumpRestrictsBehindFolders = (patched : Patching) (settings : Settings) (dump text : List ℕ)
     (records : List DumpRecord) (revisions : List (List Change)) (trees : List Tree) →
     IsCleanText settings dump records text → LengthsFit settings records
-    → IsTrue (keeps_numbering settings records)
+    → KeepsNamedNumbers settings records
     → LoadsAs patched root_alone records revisions trees
     → IsTrue (are_quiet settings revisions)
     → IsTrue (nowhere_is_over settings (root_alone ∷ []) root_alone revisions)

@@ -20,7 +20,7 @@ use Rattle.dump_trees.specs.Restriction.{is_above_some}
 use Rattle.dump_trees.specs.Quiet.{cuts_alike}
 use Rattle.dump_history.specs.RecordChanges.{copy_path, copy_revision, deletes, makes, has_known_action, has_odd_delta, has_plain_texts}
 use Rattle.dump_history.specs.DumpChanges.{counts_from, has_ordered_nodes}
-use Rattle.dump_history.specs.DumpLaws.{keeps_numbering}
+use Rattle.dump_history.specs.NumberGaps.{NamesRevisionBehind}
 
 -- what can be found in a node
 pub data Finding : Type 0 where
@@ -176,7 +176,7 @@ pub data DumpFinding : Type 0 where
   SourceBefore : DumpFinding
   -- a node stands outside of any revision, at which the filter stops
   NodeOutside : DumpFinding
-  -- a revision is dropped, and the others aren't renumbered, be there copies behind it or not
+  -- a revision is dropped, the others aren't renumbered, and a kept node behind it is a copy or sets mergeinfo
   NumbersLeft : DumpFinding
 
 -- each of them, in order
@@ -202,16 +202,23 @@ copies_from_before first r = makes_copy r && nat_lt (copy_revision r) first
 abbrev pub has_source_before : ℕ → List Group → Bool
 has_source_before first gs = list_any (λ (g : Group). list_any (copies_from_before first) g.nodes) gs
 
--- whether this is found in the dump
-abbrev pub is_found_in_dump : Settings → List DumpRecord → DumpFinding → Bool
-is_found_in_dump settings records DumpFinding.NoRevision = length (groups records) == 0
-is_found_in_dump settings records DumpFinding.OtherNumbers =
+-- whether this is found in the dump; named tells whether a kept node behind the first dropped revision names one
+abbrev pub is_found_in_dump : Settings → List DumpRecord → (named : Bool) → DumpFinding → Bool
+is_found_in_dump settings records named DumpFinding.NoRevision = length (groups records) == 0
+is_found_in_dump settings records named DumpFinding.OtherNumbers =
     not (counts_from (begins_at records) (revision_numbers records))
-is_found_in_dump settings records DumpFinding.NodeInFirst = begins_at records == 0 && first_has_node (groups records)
-is_found_in_dump settings records DumpFinding.SourceBefore = has_source_before (begins_at records) (groups records)
-is_found_in_dump settings records DumpFinding.NodeOutside = not (has_ordered_nodes Bool.false records)
-is_found_in_dump settings records DumpFinding.NumbersLeft = not (keeps_numbering settings records)
+is_found_in_dump settings records named DumpFinding.NodeInFirst =
+    begins_at records == 0 && first_has_node (groups records)
+is_found_in_dump settings records named DumpFinding.SourceBefore =
+    has_source_before (begins_at records) (groups records)
+is_found_in_dump settings records named DumpFinding.NodeOutside = not (has_ordered_nodes Bool.false records)
+is_found_in_dump settings records named DumpFinding.NumbersLeft = not settings.renumber && named
 
 -- what is found in the dump, in order
-abbrev pub dump_findings : Settings → List DumpRecord → List DumpFinding
-dump_findings settings records = filter (λ f. is_found_in_dump settings records f) every_dump_finding
+abbrev pub dump_findings : Settings → List DumpRecord → (named : Bool) → List DumpFinding
+dump_findings settings records named = filter (λ f. is_found_in_dump settings records named f) every_dump_finding
+
+-- this is what is found in the dump as a whole
+abbrev pub AreDumpFindingsOf : Settings → List DumpRecord → List DumpFinding → Type 0
+AreDumpFindingsOf settings records found = (named : Bool)
+    × (IsTrue named ↔ NamesRevisionBehind settings records) × (found ≡ dump_findings settings records named)

@@ -23,7 +23,8 @@ use Rattle.dump_trees.specs.HistoryLaws.{ImagesRestrict}
 use Rattle.dump_history.specs.RecordChanges.{Patching}
 use Rattle.dump_history.specs.RaisedMergeinfo.{IsRaised}
 use Rattle.dump_history.specs.DumpChanges.{counts_from, has_ordered_nodes, MakeChanges}
-use Rattle.dump_history.specs.DumpLaws.{keeps_numbering, RevisionsKeepProperties}
+use Rattle.dump_history.specs.NumberGaps.{count_to_gap, KeepsNamedNumbers}
+use Rattle.dump_history.specs.DumpLaws.{RevisionsKeepProperties, HasNoGapIfKept}
 
 -- the dump's revisions are numbered on from this number, which they don't have themselves; its nodes stand in them, and
 -- make these changes, the numbers of whose copies are lowered by it. So none copies from a revision of a lower number
@@ -32,6 +33,18 @@ pub record MakePartRevisions (patched : Patching) (before : ℕ) (records : List
   pub numbered : IsTrue (counts_from (suc before) (revision_numbers records))
   pub ordered : IsTrue (has_ordered_nodes Bool.false records)
   pub changes : AllZip (MakeChanges patched) (groups records) (revisions_behind before revisions)
+
+-- the same of a part with a gap in its numbers, be it before its first one, behind which no change names a revision
+pub record MakePartRevisionsWithGaps (patched : Patching) (before : ℕ) (records : List DumpRecord)
+    (revisions : List (List Change)) : Type 0 where
+  pub numbered : IsTrue (count_to_gap (suc before) (revision_numbers records) revisions)
+  pub ordered : IsTrue (has_ordered_nodes Bool.false records)
+  pub changes : AllZip (MakeChanges patched) (groups records) (revisions_behind before revisions)
+
+-- a part without gaps is one of those that may have some
+abbrev pub NoGapIsNeededInPart : Type 0
+NoGapIsNeededInPart = (patched : Patching) (before : ℕ) (records : List DumpRecord) (revisions : List (List Change)) →
+    MakePartRevisions patched before records revisions → MakePartRevisionsWithGaps patched before records revisions
 
 -- the part is loaded into a repository whose revision 0 has the first tree, and no other is there: it makes these
 -- revisions, and then these are the repository's trees, that of revision 0 among them; mergeinfo is as it stands in the
@@ -74,14 +87,16 @@ PartLoadsBehind IsLoaded older before settings records trees written =
     × ImagesRestrict settings (IsPropertyLoaded IsLoaded settings (kept_revisions settings records))
     (image (kept_as_loaded before (kept_revisions settings records))) trees others
 
--- the text is a part of a history with the same first number, or has no revision. It loads into a new repository whose
--- revision 0 has the given folders, and into one where an administrator has made them in revision 1: there is a revision
--- for each kept one of these records, with its properties, and the trees are these trees, restricted
+-- the text is a part of a history with the same first number, or with a gap in its numbers there or later, or has no
+-- revision. It loads into a new repository whose revision 0 has the given folders, and into one where an administrator
+-- has made them in revision 1: there is a revision for each kept one of these records, with its properties, and the
+-- trees are these trees, restricted
 abbrev pub PartLoadsRestricted : Patching → ℕ → Settings → List DumpRecord → List Tree → List ℕ → Type 0
 PartLoadsRestricted patched before settings records trees text =
     (again : List DumpRecord) × (written : List (List Change))
     × HasRecords text again Ending.Whole
-    × MakePartRevisions patched before again written
+    × MakePartRevisionsWithGaps patched before again written
+    × HasNoGapIfKept settings records (suc before) again
     × PartLoadsBehind (IsLoadedProperty before) [] before settings records trees written
     × PartLoadsBehind (IsLoadedBehindOne before) (root_alone ∷ []) before settings records trees written
     × RevisionsKeepProperties settings records again
@@ -92,7 +107,7 @@ abbrev pub FilteredPartRestricts : Type 0
 FilteredPartRestricts = (patched : Patching) (before : ℕ) (settings : Settings) (dump text : List ℕ)
     (records : List DumpRecord) (revisions : List (List Change)) (trees : List Tree) →
     IsCleanText settings dump records text → LengthsFit settings records
-    → IsTrue (keeps_numbering settings records)
+    → KeepsNamedNumbers settings records
     → PartLoadsAs patched before root_alone records revisions trees
     → AllRevisionsSeparate settings (root_alone ∷ []) root_alone revisions
     → PartLoadsRestricted patched before settings records trees text
@@ -102,7 +117,7 @@ abbrev pub QuietPartRestricts : Type 0
 QuietPartRestricts = (patched : Patching) (before : ℕ) (settings : Settings) (dump text : List ℕ)
     (records : List DumpRecord) (revisions : List (List Change)) (trees : List Tree) →
     IsCleanText settings dump records text → LengthsFit settings records
-    → IsTrue (keeps_numbering settings records)
+    → KeepsNamedNumbers settings records
     → PartLoadsAs patched before root_alone records revisions trees
     → IsTrue (are_quiet settings revisions)
     → IsTrue (nowhere_is_over settings (root_alone ∷ []) root_alone revisions)

@@ -15,7 +15,13 @@ use Rattle.dump_history.specs.RecordChanges.{Patching, MakesChange}
 use Rattle.dump_history.specs.DumpChanges.{MakeRevisions}
 use Rattle.dump_history.specs.DumpLaws.{LoadsRestricted, FrontLoadsRestricted}
 use Rattle.dump_history.specs.PartLaws.{MakePartRevisions, PartLoadsRestricted}
-use Rattle.dump_history.specs.Findings.{begins_at, Finding, NodeFaults, findings_of, IsReadBlock, AreFindingsOf, is_obstacle, is_alarm, dump_findings}
+use Rattle.dump_history.specs.Findings.{begins_at, Finding, NodeFaults, findings_of, IsReadBlock, AreFindingsOf, is_obstacle, is_alarm, DumpFinding, AreDumpFindingsOf}
+
+-- each dump has one list of findings as a whole
+abbrev pub DumpFindingsAreOnce : Type 0
+DumpFindingsAreOnce = (settings : Settings) (records : List DumpRecord) →
+    (found : List DumpFinding) × AreDumpFindingsOf settings records found
+    × ((others : List DumpFinding) → AreDumpFindingsOf settings records others → others ≡ found)
 
 -- each node has one list of findings
 abbrev pub FindingsAreOnce : Type 0
@@ -84,7 +90,7 @@ abbrev pub SurveyedDumpRestricts : Type 0
 SurveyedDumpRestricts = (patched : Patching) (settings : Settings) (dump text : List ℕ) (records : List DumpRecord)
     (found : List (List (List Finding))) →
     IsCleanText settings dump records text → LengthsFit settings records
-    → dump_findings settings records ≡ [] → HaveFindings settings records found
+    → AreDumpFindingsOf settings records [] → HaveFindings settings records found
     → IsTrue (none_is is_obstacle found) → IsTrue (none_is is_alarm found)
     → DumpRestricts patched settings records text
 
@@ -94,7 +100,7 @@ abbrev pub SurveyedDumpFrontRestricts : Type 0
 SurveyedDumpFrontRestricts = (patched : Patching) (settings : Settings) (dump text : List ℕ) (records : List DumpRecord)
     (first : List (List Finding)) (found behind : List (List (List Finding))) →
     IsCleanText settings dump records text → LengthsFit settings records
-    → begins_at records ≡ 0 → dump_findings settings records ≡ []
+    → begins_at records ≡ 0 → AreDumpFindingsOf settings records []
     → HaveFindings settings records (first ∷ found ++ behind)
     → IsTrue (none_is is_obstacle (found ++ behind)) → IsTrue (none_is is_alarm found)
     → (front rest : List (List Change)) × MakeRevisions patched records (front ++ rest) × (length front ≡ length found)

@@ -1,1 +1,2 @@
+pub mod NamingTests
 pub mod NodeReading

@@ -1,7 +1,7 @@
 //! Laws of dumps and the repositories that they make, each the contract of a function that does nothing.
-ghost use Rattle.dump_history.specs.DumpLaws.{DumpLoadsOnce, DumpLoadsTheSameBehindOthers, FilteredDumpRestricts, PlainRevisionsStay, FilteredDumpFrontRestricts, QuietDumpRestricts, QuietDumpRestrictsBehindFolders, QuietDumpFrontRestricts};
-ghost use Rattle.dump_history.specs.PartLaws.{FilteredPartRestricts, QuietPartRestricts};
-ghost use Rattle.dump_history.specs.SurveyLaws.{AlarmsAreExact, FindingsAreOnce, ObstaclesAreExact, SurveyedDumpRestricts, SurveyedDumpFrontRestricts};
+ghost use Rattle.dump_history.specs.DumpLaws.{DumpLoadsOnce, DumpLoadsTheSameBehindOthers, FilteredDumpRestricts, NoGapIsNeeded, PlainRevisionsStay, FilteredDumpFrontRestricts, QuietDumpRestricts, QuietDumpRestrictsBehindFolders, QuietDumpFrontRestricts};
+ghost use Rattle.dump_history.specs.PartLaws.{FilteredPartRestricts, NoGapIsNeededInPart, QuietPartRestricts};
+ghost use Rattle.dump_history.specs.SurveyLaws.{AlarmsAreExact, DumpFindingsAreOnce, FindingsAreOnce, ObstaclesAreExact, SurveyedDumpRestricts, SurveyedDumpFrontRestricts};
 
 /// What the filter writes of a dump without a fault, loaded over the given folders, has the trees that the whole dump
 /// has, restricted to the kept paths, where the filter's cut separates its changes.
@@ -32,9 +32,11 @@ pub fn each_part_restricts()
     ensures quiet { QuietPartRestricts }
 {}
 
-/// A dump has one list of records, revisions and trees.
+/// A dump has one list of records, revisions and trees, be there a gap in its numbers or not.
 pub fn each_dump_loads_once()
-    ensures { DumpLoadsOnce }
+    ensures once { DumpLoadsOnce }
+    ensures dump { NoGapIsNeeded }
+    ensures part { NoGapIsNeededInPart }
 {}
 
 /// Behind older revisions a dump that sets no mergeinfo makes the trees that it makes in a new repository; its changes
@@ -48,6 +50,7 @@ pub fn each_dump_loads_the_same_behind_others()
 /// node does; the change is quiet exactly where there is no alarm.
 pub fn each_finding_is_exact()
     ensures once { FindingsAreOnce }
+    ensures whole { DumpFindingsAreOnce }
     ensures obstacles { ObstaclesAreExact }
     ensures alarms { AlarmsAreExact }
 {}

@@ -6,10 +6,12 @@ pub mod GrowthLemmas
 pub mod IdleLemmas
 pub mod KindLemmas
 pub mod LeavingLemmas
+pub mod LeftLemmas
 pub mod LeftOutLemmas
 mod LeftOutValues
 pub mod LineLemmas
 pub mod LossLemmas
+pub mod MergeinfoLemmas
 pub mod NameLemmas
 pub mod NamedLemmas
 pub mod NeedLemmas

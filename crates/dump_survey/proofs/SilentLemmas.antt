@@ -10,7 +10,7 @@ use Rattle.dump_rules.specs.Settings.{Settings}
 use Rattle.dump_filter.specs.FilterLaws.{LengthsFit}
 use Rattle.dump_filter.specs.WholeText.{IsCleanText}
 use Rattle.dump_history.specs.RecordChanges.{Patching}
-use Rattle.dump_history.specs.Findings.{Finding, DumpFinding, dump_findings, is_obstacle, is_alarm}
+use Rattle.dump_history.specs.Findings.{Finding, DumpFinding, AreDumpFindingsOf, is_obstacle, is_alarm}
 use Rattle.dump_history.specs.SurveyLaws.{none_is, DumpRestricts}
 use Rattle.dump_history.proofs.survey.SurveyLemmas.{surveyed_dump}
 use Rattle.dump_survey.specs.Lines.{node_line, dump_line, place_text}
@@ -52,7 +52,7 @@ module _ (patched : Patching) (settings : Settings) (dump text : List ℕ) (reco
     (clean : IsCleanText settings dump records text) (fit : LengthsFit settings records) where
   -- where nothing that matters is told of the dump, the law has its premise
   silent : (theirs : List DumpRecord) (ending : Ending) (told : List NodeTold) → HasRecords dump theirs ending
-      → AreTold settings [] None theirs told → dump_findings settings theirs ≡ []
+      → AreTold settings [] None theirs told → AreDumpFindingsOf settings theirs []
       → IsTrue (none_told is_obstacle told) → IsTrue (none_told is_alarm told)
       → DumpRestricts patched settings records text
   silent theirs ending told has are nothing no_obstacle no_alarm =
@@ -60,7 +60,7 @@ module _ (patched : Patching) (settings : Settings) (dump text : List ℕ) (reco
       let here = subst (λ l. AreTold settings [] None l told) same.0 are in
       let (found, have, all) = told_are_findings settings dump records Ending.Whole told clean.whole here in
       surveyed_dump patched settings dump text records found clean fit
-      (ap (dump_findings settings) (sym same.0) ∙ nothing) have
+      (subst (λ l. AreDumpFindingsOf settings l []) same.0 nothing) have
       (none_of_groups is_obstacle found (ap (list_any is_obstacle) (sym all) ∙ not_true _ no_obstacle))
       (none_of_groups is_alarm found (ap (list_any is_alarm) (sym all) ∙ not_true _ no_alarm))
 
@@ -68,7 +68,7 @@ module _ (patched : Patching) (settings : Settings) (dump text : List ℕ) (reco
 pub silent_restricts : SilentSurveyRestricts
 silent_restricts patched settings dump text records survey clean fit is nothing no_obstacle no_alarm =
     silent patched settings dump text records clean fit is.records (survey_ending survey.end.end)
-    (map told_view survey.told.items) is.has is.told (sym is.found ∙ nothing) no_obstacle no_alarm
+    (map told_view survey.told.items) is.has is.told (subst (AreDumpFindingsOf settings is.records) nothing is.found) no_obstacle no_alarm
 
 no_bytes : (xs : List ℕ) → false ≡ not (length xs == 0) → xs ≡ []
 no_bytes [] is = refl
@@ -105,8 +105,8 @@ silent_text_restricts patched settings dump text said records clean fit is =
     let nothing = sym is.text_is ∙ no_bytes said is.found_is in
     let parts = both_none (flat_map node_line is.told) _ nothing in
     let told = no_lines is.told parts.0 in
-    let found = no_dump_lines (dump_findings settings is.records)
-    (both_none (flat_map dump_line (dump_findings settings is.records)) _ parts.1).0 in
+    let found = subst (AreDumpFindingsOf settings is.records)
+    (no_dump_lines is.of_dump (both_none (flat_map dump_line is.of_dump) _ parts.1).0) is.are_of_dump in
     silent patched settings dump text records clean fit is.records is.ending is.told is.has is.are_told found
     (none is.told told is_obstacle) (none is.told told is_alarm)
   where

@@ -8,8 +8,8 @@ use Rattle.dump_records.proofs.Prefixes.{is_front}
 use Rattle.dump_rules.specs.Settings.{Settings}
 use Rattle.dump_digest.specs.RecordParts.{is_node}
 use Rattle.dump_writer.specs.SinkWords.{IsPrefixOf}
-use Rattle.dump_history.specs.Findings.{dump_findings}
 use Rattle.dump_history.proofs.survey.FindingLemmas.{findings_once}
+use Rattle.dump_history.proofs.survey.NamingTest.{dump_findings_once}
 use Rattle.dump_survey.specs.Told.{NodeTold, told_in, present_after, IsToldOfNode, IsToldOf, AreTold}
 use Rattle.dump_survey.specs.Kinds.{kind_lines, times_told}
 use Rattle.dump_survey.specs.Lines.{node_line, dump_line, ending_line}
@@ -69,17 +69,20 @@ begins_text settings dump before told begins are =
     let (first, behind, is, first_are) = told_front settings [] None before rest all
     (subst (λ l. AreTold settings [] None l all) (sym whole) all_are) in
     let same : told ≡ first = told_once settings before first told first_are are in
-    let end : List ℕ = flat_map dump_line (dump_findings settings records)
+    let (of_dump, of_dump_are, of_dump_once) = dump_findings_once settings records in
+    let end : List ℕ = flat_map dump_line of_dump
     ++ (prefix_lines (told_prefixes records settings.prefixes) ++ (ending_line (length records) ending
-    ++ kind_lines (times_told all) (dump_findings settings records) (told_prefixes records settings.prefixes) ending)) in (
-      survey_lines settings all records ending,
-      not (length (survey_lines settings all records ending) == 0),
+    ++ kind_lines (times_told all) of_dump (told_prefixes records settings.prefixes) ending)) in (
+      survey_lines settings all of_dump records ending,
+      not (length (survey_lines settings all of_dump records ending) == 0),
       record {
         records = records;
         ending = ending;
         has = has;
         told = all;
         are_told = all_are;
+        of_dump = of_dump;
+        are_of_dump = of_dump_are;
         text_is = refl;
         found_is = refl;
       },

@@ -1,5 +1,5 @@
 -- What a surveyor knows goes on to one more record, and tells what is found where the records end.
-use Rattle.std.proofs.Common.{◌≡◌, ℕ, ◌+◌, ◌^◌, ◌<◌, ◌≤◌, Bool, true, false, not, ◌&&◌, List, [], ◌∷◌, ◌++◌, length, length-append, map, filter, cond, Option, Some, None, refl, sym, ap, ap₂, ◌∙◌, subst, arith, inl, inr, Result, Ok, Err, MatchBool}
+use Rattle.std.proofs.Common.{◌≡◌, ℕ, ◌+◌, ◌^◌, ◌<◌, ◌≤◌, Bool, true, false, not, ◌&&◌, ◌||◌, List, [], ◌∷◌, ◌++◌, length, length-append, map, filter, cond, Option, Some, None, refl, sym, ap, ap₂, ◌∙◌, subst, arith, inl, inr, Result, Ok, Err, MatchBool}
 use Rattle.std.specs.Result.{IfOk}
 use Rattle.std.specs.List.{list_all}
 use Rattle.std.proofs.lemmas.Bool.{and_from}
@@ -18,11 +18,14 @@ use Rattle.dump_rules.specs.Prefix.{bare_prefix}
 use Rattle.dump_digest.specs.RecordParts.{is_revision_record, is_node}
 use Rattle.dump_filter.proofs.groups.KindLemmas.{alone}
 use Rattle.dump_survey.specs.declared.tally.Tally.{Tally}
+use Rattle.dump_survey.specs.steps.Naming.{leaves_number}
 use Rattle.dump_survey.specs.steps.Tally.{no_tally, next_tally, numbers_of, tally_findings}
-use Rattle.dump_history.specs.Findings.{Finding, every_finding, is_found, AreFindingsOf}
+use Rattle.dump_history.specs.Findings.{Finding, every_finding, is_found, AreFindingsOf, AreDumpFindingsOf}
+use Rattle.dump_history.specs.steps.NamingTests.{TellsNaming}
 use Rattle.dump_history.proofs.survey.FindingLemmas.{findings_once}
 use Rattle.dump_survey.specs.declared.finding.Found.{Found}
 use Rattle.dump_survey.specs.declared.surveyor.End.{End}
+use Rattle.dump_survey.specs.declared.surveyor.SurveyEnd.{SurveyEnd}
 use Rattle.dump_survey.specs.declared.surveyor.Step.{Step}
 use Rattle.dump_survey.specs.declared.surveyor.Step.TheVariants.{Node, Other, Finished}
 use Rattle.dump_survey.specs.declared.memory.Memory.{Memory}
@@ -40,7 +43,8 @@ use Rattle.dump_survey.specs.steps.IdlePrefixes.{AreWithout, is_touched_by, pref
 use Rattle.dump_survey.specs.steps.Surveying.{Surveying, Surveys}
 use Rattle.dump_survey.specs.steps.Steps.{IsStepOf, TellsEnd, ComesNext, open_behind, SurveyStep, ArePrefixesTold}
 use Rattle.dump_survey.proofs.IdleLemmas.{all_idle, idle_more, told_by_idle}
-use Rattle.dump_survey.proofs.TallyLemmas.{is_single, filter_same, tally_more, count_within, present_number, present_is, tally_tells}
+use Rattle.dump_survey.proofs.TallyLemmas.{is_single, filter_same, tally_more, count_within, present_number, present_is}
+use Rattle.dump_survey.proofs.LeftLemmas.{leave_more, tally_tells}
 use Rattle.dump_survey.proofs.NumberLemmas.{numbers_behind}
 
 -- a lawful record is no node that is a revision too
@@ -96,16 +100,18 @@ begins_with_none dump =
     begins_prefix dump [] records (has.0, has.1, has.2)
 
 -- before the first record
-pub at_first : (dump : List ℕ) (settings : Settings) (prefixes idle : List (List ℕ)) (tally : Tally)
+pub at_first : (dump : List ℕ) (settings : Settings) (prefixes idle : List (List ℕ)) (tally : Tally) (left : Bool)
     (cutter : CutterState) → cutter ≡ record { dump = dump; number = 0 } → prefixes ≡ map bare_prefix settings.prefixes
-    → HaveSame idle (map bare_prefix settings.prefixes) → tally ≡ no_tally → Surveys settings prefixes idle tally cutter
-at_first dump settings prefixes idle tally cutter is same all none = record {
+    → HaveSame idle (map bare_prefix settings.prefixes) → tally ≡ no_tally → left ≡ false
+    → Surveys settings prefixes idle tally left cutter
+at_first dump settings prefixes idle tally left cutter is same all none not_left = record {
   prefixes_are = same;
   before = [];
   begins = begins_with_none cutter.dump;
   count = sym (ap (λ (c : CutterState). c.number) is);
   idle_are = all_idle settings.prefixes idle all;
   tallied = none;
+  left_is = λ names tells. not_left;
 }
 
 -- what is found is what is found in the node
@@ -156,27 +162,26 @@ told_of settings before revision r found told node are is =
     subst (λ (b : Bool). MatchBool b (IsToldOfNode settings before revision r told) (told ≡ []))
     (sym node) (found, are, is)
 
-module _ (settings : Settings) (prefixes idle : List (List ℕ)) (tally : Tally) (cutter after : CutterState)
-    (knows : Surveys settings prefixes idle tally cutter) where
+module _ (settings : Settings) (prefixes idle : List (List ℕ)) (tally : Tally) (left : Bool)
+    (cutter after : CutterState) (knows : Surveys settings prefixes idle tally left cutter) where
   -- the surveyor as callers see it
   abbrev seen : CutterState → Surveying
   seen c = record { dump = c.dump; settings = settings; number = c.number }
 
   -- what is known where the records end
-  pub ended : (end : End) (step : Step) → EndsAfter cutter.dump cutter.number (survey_ending end) → after ≡ cutter
-      → TellsEnd settings tally end step
-      → SurveyStep (seen cutter) step (seen after)
-  ended end (Node node) ends same is = absurd is
-  ended end Other ends same is = absurd is
-  ended end (Finished told) ends same (end_is, found) =
+  pub ended : (end : End) (told : SurveyEnd) → EndsAfter cutter.dump cutter.number (survey_ending end)
+      → after ≡ cutter → TellsEnd tally left end told
+      → SurveyStep (seen cutter) (Finished told) (seen after)
+  ended end told ends same (end_is, found) =
       let begins = knows.begins in
       let has = whole_list cutter.dump knows.before (survey_ending end) begins
       (subst (λ n. EndsAfter cutter.dump n (survey_ending end)) (sym knows.count) ends) in (
         knows.before,
         subst (λ e. HasRecords cutter.dump knows.before (survey_ending e)) (sym end_is) has,
         knows.count,
-        found ∙ (ap (tally_findings settings) knows.tallied
-            ∙ tally_tells settings knows.before (begun_single cutter.dump knows.before begins)),
+        subst (AreDumpFindingsOf settings knows.before)
+            (sym (found ∙ ap (λ (t : Tally). tally_findings t left) knows.tallied))
+            (tally_tells settings knows.before left (begun_single cutter.dump knows.before begins) knows.left_is),
         ap seen same,
       )
 
@@ -195,18 +200,26 @@ module _ (settings : Settings) (prefixes idle : List (List ℕ)) (tally : Tally)
         omega arith
 
     -- and goes on with the record
-    pub goes_on : (left : List (List ℕ)) (next : Tally) → AreWithout (is_touched_by (record_item item)) idle left
-        → next ≡ next_tally settings tally (record_item item) → Surveys settings prefixes left next after
-    goes_on left next without is = record {
+    pub goes_on : (others : List (List ℕ)) (next : Tally) (still : Bool)
+        → AreWithout (is_touched_by (record_item item)) idle others
+        → next ≡ next_tally settings tally (record_item item)
+        → ((names : DumpRecord → Bool) → TellsNaming names
+        → still ≡ (left || leaves_number settings names tally (record_item item)))
+        → Surveys settings prefixes others next still after
+    goes_on others next still without is still_is = record {
       prefixes_are = knows.prefixes_are;
       before = knows.before ++ record_item item ∷ [];
       begins = subst (λ (c : CutterState). BeginsWithRecords c.dump (knows.before ++ record_item item ∷ []))
           (sym step.3) next_begins;
       count = length-append knows.before (record_item item ∷ [])
           ∙ (ap (λ n. n + 1) knows.count ∙ sym (ap (λ (c : CutterState). c.number) step.3));
-      idle_are = idle_more knows.before (record_item item) settings.prefixes idle left knows.idle_are without;
+      idle_are = idle_more knows.before (record_item item) settings.prefixes idle others knows.idle_are without;
       tallied = is ∙ (ap (λ t. next_tally settings t (record_item item)) knows.tallied
           ∙ sym (tally_more settings no_tally knows.before (record_item item)));
+      left_is = λ names tells. still_is names tells
+          ∙ (ap₂ (λ b (t : Tally). b || leaves_number settings names t (record_item item)) (knows.left_is names tells)
+          knows.tallied
+          ∙ sym (leave_more settings names no_tally knows.before (record_item item)));
     }
 
     comes : ComesNext (seen cutter) knows.before (record_item item) (seen after)
@@ -273,14 +286,14 @@ module _ (settings : Settings) (prefixes idle : List (List ℕ)) (tally : Tally)
     stepped_ok (Err e) is = tt
 
 -- what is told of the prefixes, where there was memory
-pub told_so_far : (settings : Settings) (prefixes idle : List (List ℕ)) (tally : Tally) (cutter : CutterState)
-    → Surveys settings prefixes idle tally cutter → (given : List (List ℕ)) → given ≡ settings.prefixes
+pub told_so_far : (settings : Settings) (prefixes idle : List (List ℕ)) (tally : Tally) (left : Bool)
+    (cutter : CutterState) → Surveys settings prefixes idle tally left cutter → (given : List (List ℕ)) → given ≡ settings.prefixes
     → {V : Type 0} (view : V → List PrefixTold) (result : Result V Memory)
     → IfOk result (λ told. view told ≡ prefixes_by idle given)
     → IfOk result (λ told. ArePrefixesTold (record { dump = cutter.dump; settings = settings; number = cutter.number })
     (view told))
-told_so_far settings prefixes idle tally cutter knows given same view (Err e) is = tt
-told_so_far settings prefixes idle tally cutter knows given same view (Ok told) is = (
+told_so_far settings prefixes idle tally left cutter knows given same view (Err e) is = tt
+told_so_far settings prefixes idle tally left cutter knows given same view (Ok told) is = (
   knows.before,
   knows.begins,
   knows.count,

@@ -7,13 +7,13 @@ use Rattle.std.proofs.lemmas.List.Sums.{take_while-cons}
 use Rattle.dump_records.specs.RecordText.{DumpRecord}
 use Rattle.dump_rules.specs.Settings.{Settings}
 use Rattle.dump_digest.specs.RecordParts.{is_revision_record, is_node, is_kept_node}
-use Rattle.dump_filter.specs.Groups.{group_of, groups, group_number, first_number, revision_number, revision_numbers, keeps_group, keeps_empty}
+use Rattle.dump_filter.specs.Groups.{group_of, groups, group_number, first_number, revision_number, revision_numbers, keeps_empty}
 use Rattle.dump_history.specs.DumpChanges.{counts_from, has_ordered_nodes}
-use Rattle.dump_history.specs.Findings.{DumpFinding, every_dump_finding, begins_at, copies_from_before, has_source_before, is_found_in_dump, first_has_node, dump_findings}
+use Rattle.dump_history.specs.Findings.{DumpFinding, begins_at, copies_from_before, has_source_before, is_found_in_dump, first_has_node}
 use Rattle.dump_survey.specs.declared.tally.Present.{Present}
 use Rattle.dump_survey.specs.declared.tally.Tally.{Tally}
 use Rattle.dump_survey.specs.steps.Steps.{open_behind}
-use Rattle.dump_survey.specs.steps.Tally.{no_tally, keeps_open, keeps_present, first_with, revision_tally, node_tally, other_tally, next_tally, tally_behind, is_tallied, tally_findings}
+use Rattle.dump_survey.specs.steps.Tally.{no_tally, keeps_open, first_with, revision_tally, node_tally, other_tally, next_tally, tally_behind, is_tallied}
 
 -- one more record
 pub tally_more : (settings : Settings) (t : Tally) (records : List DumpRecord) (r : DumpRecord)
@@ -205,76 +205,6 @@ closes_none settings (Some p) =
 pub some_left : (n : ℕ) (b : Bool) → (b && (suc n == 0)) ≡ false
 some_left n true = grind arith
 some_left n false = refl
-
--- whether each revision is kept
-abbrev keeps_all : Settings → Tally → List DumpRecord → Bool
-keeps_all settings t records =
-    t.all_kept && (closes settings t.present (nodes records) && list_all (keeps_group settings) (groups records))
-
-module _ (settings : Settings) (t : Tally) (r : DumpRecord) (records : List DumpRecord)
-    (more : (u : Tally) → keeps_present settings (tally_behind settings u records) ≡ keeps_all settings u records) where
-  -- behind a record that is no node the present revision has its nodes
-  ends_here : (rest : Bool) → is_node r ≡ false
-      → (keeps_present settings t && rest)
-      ≡ (t.all_kept && (closes settings t.present (nodes (r ∷ records)) && rest))
-  ends_here rest other =
-      and_assoc t.all_kept (keeps_open settings t.present) rest
-      ∙ ap (λ b. t.all_kept && (b && rest))
-      (sym (closes_none settings t.present) ∙ ap (closes settings t.present) (sym (nodes_none r records other)))
-
-  kept_revision : is_node r ≡ false
-      → keeps_present settings (tally_behind settings (revision_tally settings t r) records)
-      ≡ (t.all_kept && (closes settings t.present (nodes (r ∷ records))
-      && list_all (keeps_group settings) (group_of r records ∷ groups records)))
-  kept_revision other = more (revision_tally settings t r)
-      ∙ ends_here (list_all (keeps_group settings) (group_of r records ∷ groups records)) other
-
-  kept_other : is_node r ≡ false
-      → keeps_present settings (tally_behind settings (other_tally settings t) records)
-      ≡ (t.all_kept && (closes settings t.present (nodes (r ∷ records))
-      && list_all (keeps_group settings) (groups records)))
-  kept_other other = more (other_tally settings t)
-      ∙ ends_here (list_all (keeps_group settings) (groups records)) other
-
-  node_closes : (p : Option Present) → is_node r ≡ true → t.present ≡ p
-      → keeps_all settings (node_tally t (is_kept_node settings r) (copies_from_before t.first r) p) records
-      ≡ (t.all_kept && (closes settings p (nodes (r ∷ records))
-      && list_all (keeps_group settings) (groups records)))
-  node_closes None node is =
-      ap (λ q. t.all_kept && (closes settings q (nodes records) && list_all (keeps_group settings) (groups records))) is
-  node_closes (Some p) node is =
-      ap₂ (λ k b. t.all_kept && ((p.number == 0 || k || keeps_empty settings.empty b)
-      && list_all (keeps_group settings) (groups records)))
-      (or_assoc p.kept (is_kept_node settings r) (list_any (is_kept_node settings) (nodes records)))
-      (sym (some_left (length (nodes records)) p.bare))
-      ∙ ap (λ ns. t.all_kept && (closes settings (Some p) ns && list_all (keeps_group settings) (groups records)))
-      (sym (nodes_more r records node))
-
-  kept_node : is_node r ≡ true
-      → keeps_present settings (tally_behind settings (node_tally t (is_kept_node settings r) (copies_from_before t.first r) t.present) records)
-      ≡ (t.all_kept && (closes settings t.present (nodes (r ∷ records))
-      && list_all (keeps_group settings) (groups records)))
-  kept_node node = more (node_tally t (is_kept_node settings r) (copies_from_before t.first r) t.present) ∙ node_closes t.present node refl
-
-  kept_step : (v n : Bool) → is_revision_record r ≡ v → is_node r ≡ n → not (n && v) ≡ true
-      → keeps_present settings (tally_behind settings (if v then revision_tally settings t r
-      else if n then node_tally t (is_kept_node settings r) (copies_from_before t.first r) t.present else other_tally settings t) records)
-      ≡ (t.all_kept && (closes settings t.present (nodes (r ∷ records))
-      && list_all (keeps_group settings) (if v then group_of r records ∷ groups records else groups records)))
-  kept_step true true rev node single = cc
-  kept_step true false rev other single = kept_revision other
-  kept_step false true rev node single = kept_node node
-  kept_step false false rev other single = kept_other other
-
--- each revision is kept, by the tally and by the groups
-kept_is : (settings : Settings) (t : Tally) (records : List DumpRecord) → list_all is_single records ≡ true
-    → keeps_present settings (tally_behind settings t records) ≡ keeps_all settings t records
-kept_is settings t [] single =
-    ap (λ b. t.all_kept && b) (sym (closes_none settings t.present) ∙ sym (and-true (closes settings t.present [])))
-kept_is settings t (r ∷ records) single =
-    let parts = and_parts (is_single r) (list_all is_single records) single in
-    kept_step settings t r records (λ u. kept_is settings u records parts.1) (is_revision_record r) (is_node r)
-    refl refl parts.0
 
 -- whether the first revision has a node, where so many came already and this one is present
 abbrev first_has : ℕ → Option Present → List DumpRecord → Bool
@@ -493,37 +423,24 @@ source_is settings t (r ∷ records) single =
 zero_more : (n : ℕ) → 0 + n ≡ n
 zero_more n = omega arith
 
-or_not : (a b : Bool) → (not a && not b) ≡ not (a || b)
-or_not true b = refl
-or_not false b = refl
-
--- what the tally of all records tells is found in the dump, finding by finding
-each_tallied : (settings : Settings) (records : List DumpRecord) → list_all is_single records ≡ true
-    → (f : DumpFinding)
-    → is_tallied settings (tally_behind settings no_tally records) f ≡ is_found_in_dump settings records f
-each_tallied settings records single DumpFinding.NoRevision =
+-- what the tally of all records tells is found in the dump, finding by finding, where numbers are left so
+pub each_tallied : (settings : Settings) (records : List DumpRecord) → list_all is_single records ≡ true
+    → (left named : Bool) → left ≡ (not settings.renumber && named) → (f : DumpFinding)
+    → is_tallied (tally_behind settings no_tally records) left f ≡ is_found_in_dump settings records named f
+each_tallied settings records single left named left_is DumpFinding.NoRevision =
     ap (λ c. c == 0) (count_is settings no_tally records ∙ zero_more (length (groups records)))
-each_tallied settings records single DumpFinding.OtherNumbers = ap not (numbered_is settings no_tally records
+each_tallied settings records single left named left_is DumpFinding.OtherNumbers = ap not (numbered_is settings no_tally records
     ∙ ap (λ n. counts_from n (revision_numbers records))
     (let same : begins_at records + 0 ≡ begins_at records = omega arith in same))
-each_tallied settings records single DumpFinding.NodeInFirst =
+each_tallied settings records single left named left_is DumpFinding.NodeInFirst =
     ap₂ (λ f b. f == 0 && b) (begins_at_is settings records)
     (first_is settings no_tally records single 0 refl)
-each_tallied settings records single DumpFinding.SourceBefore = source_is settings no_tally records single
-each_tallied settings records single DumpFinding.NodeOutside = outside_is settings no_tally records single
-each_tallied settings records single DumpFinding.NumbersLeft =
-    ap (λ b. not settings.renumber && not b) (kept_is settings no_tally records single)
-    ∙ or_not settings.renumber (list_all (keeps_group settings) (groups records))
+each_tallied settings records single left named left_is DumpFinding.SourceBefore = source_is settings no_tally records single
+each_tallied settings records single left named left_is DumpFinding.NodeOutside = outside_is settings no_tally records single
+each_tallied settings records single left named left_is DumpFinding.NumbersLeft = left_is
 
 -- tests that are the same leave the same
 pub filter_same : {X : Type 0} (p q : X → Bool) → ((x : X) → p x ≡ q x) → (xs : List X) → filter p xs ≡ filter q xs
 filter_same p q same [] = refl
 filter_same p q same (x ∷ xs) =
     ap₂ (λ b ys. cond b (x ∷ ys) ys) (same x) (filter_same p q same xs)
-
--- so the tally tells what is found in the dump
-pub tally_tells : (settings : Settings) (records : List DumpRecord) → list_all is_single records ≡ true
-    → tally_findings settings (tally_behind settings no_tally records) ≡ dump_findings settings records
-tally_tells settings records single =
-    filter_same (λ f. is_tallied settings (tally_behind settings no_tally records) f)
-    (λ f. is_found_in_dump settings records f) (each_tallied settings records single) every_dump_finding

@@ -7,7 +7,7 @@ use Rattle.std.proofs.KnownBytes.{Appends-nil, Appends-trans}
 use Rattle.std.proofs.lemmas.Grind.{flat_map-append}
 use Rattle.dump_records.specs.DumpText.{Ending}
 use Rattle.dump_rules.specs.Settings.{Settings}
-use Rattle.dump_history.specs.Findings.{Finding, every_finding, DumpFinding, dump_findings}
+use Rattle.dump_history.specs.Findings.{Finding, every_finding, DumpFinding}
 use Rattle.dump_records.proofs.ListLaw.{each_dump_has_one_list}
 use Rattle.dump_records.proofs.Prefixes.{begins_prefix}
 use Rattle.dump_writer.specs.SinkWords.{IsPrefixOf}
@@ -184,18 +184,21 @@ module _ (settings : Settings) (dump : List ℕ) (state after : Surveying) (old 
           has = all.0;
           told = so_far.told;
           are_told = so_far.have.told;
+          of_dump = listed_findings end.dump;
+          are_of_dump = all.1;
           text_is = ap (λ l. flat_map node_line so_far.told ++ l)
               (lines_are ∙ (ap (λ ps. flat_map dump_line (listed_findings end.dump)
               ++ (prefix_lines ps ++ (ending_line count (survey_ending end.end)
               ++ kind_lines (count_in counts) (listed_findings end.dump) ps (survey_ending end.end)))) prefixes_are
-              ∙ (ap₂ (λ fs n. flat_map dump_line fs ++ (prefix_lines (told_prefixes so_far.have.before settings.prefixes)
-              ++ (ending_line n (survey_ending end.end) ++ kind_lines (count_in counts) fs
-              (told_prefixes so_far.have.before settings.prefixes) (survey_ending end.end)))) all.1
+              ∙ (ap (λ n. flat_map dump_line (listed_findings end.dump)
+              ++ (prefix_lines (told_prefixes so_far.have.before settings.prefixes)
+              ++ (ending_line n (survey_ending end.end) ++ kind_lines (count_in counts) (listed_findings end.dump)
+              (told_prefixes so_far.have.before settings.prefixes) (survey_ending end.end))))
               (so_far.counted ∙ sym so_far.have.count)
-              ∙ ap (λ ks. flat_map dump_line (dump_findings settings so_far.have.before)
+              ∙ ap (λ ks. flat_map dump_line (listed_findings end.dump)
               ++ (prefix_lines (told_prefixes so_far.have.before settings.prefixes)
               ++ (ending_line (length so_far.have.before) (survey_ending end.end) ++ (ks
-              ++ kinds_behind (dump_findings settings so_far.have.before)
+              ++ kinds_behind (listed_findings end.dump)
               (told_prefixes so_far.have.before settings.prefixes) (survey_ending end.end)))))
               (same_lines (λ n f. kind_line n (finding_kind f)) (count_in counts) (times_told so_far.told)
               so_far.counts_are every_finding))));

@@ -79,7 +79,7 @@ dump_line DumpFinding.NodeInFirst = codes "revision 0 of the dump has a node\n"
 dump_line DumpFinding.SourceBefore = codes "a node of the dump is copied from before its first revision\n"
 dump_line DumpFinding.NodeOutside = codes "a node of the dump stands in no revision: fault 8\n"
 dump_line DumpFinding.NumbersLeft =
-    codes "a revision is left out, and those behind it keep their numbers: give --renumber-revs\n"
+    codes "a revision is left out, and a copy or mergeinfo behind it names revisions by their old numbers: give --renumber-revs\n"
 
 -- the line of what ends the list of so many records before the dump's end
 unfoldable pub ending_line : ℕ → Ending → List ℕ

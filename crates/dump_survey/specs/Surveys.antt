@@ -4,7 +4,7 @@ use Rattle.std.specs.Prelude.{◌≡◌, ℕ, List, [], map, None}
 use Rattle.dump_records.specs.RecordText.{DumpRecord}
 use Rattle.dump_records.specs.DumpText.{HasRecords}
 use Rattle.dump_rules.specs.Settings.{Settings}
-use Rattle.dump_history.specs.Findings.{dump_findings}
+use Rattle.dump_history.specs.Findings.{AreDumpFindingsOf}
 use Rattle.dump_survey.specs.declared.survey.Survey.{Survey}
 use Rattle.dump_survey.specs.DumpFindings.{listed_findings}
 use Rattle.dump_survey.specs.PrefixFindings.{prefix_view, told_prefixes}
@@ -16,5 +16,5 @@ pub record IsSurveyOf (settings : Settings) (dump : List ℕ) (survey : Survey) 
   pub records : List DumpRecord
   pub has : HasRecords dump records (survey_ending survey.end.end)
   pub told : AreTold settings [] None records (map told_view survey.told.items)
-  pub found : listed_findings survey.end.dump ≡ dump_findings settings records
+  pub found : AreDumpFindingsOf settings records (listed_findings survey.end.dump)
   pub prefixes : map prefix_view survey.prefixes.items ≡ told_prefixes records settings.prefixes

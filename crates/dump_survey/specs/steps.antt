@@ -6,6 +6,7 @@ pub mod KeptNumbers
 pub mod LeftOutCounts
 pub mod Losses
 pub mod Names
+pub mod Naming
 pub mod Needs
 pub mod Prefixes
 pub mod RevisionNumbers

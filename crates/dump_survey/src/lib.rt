@@ -43,6 +43,7 @@ pub mod laws;
 mod left_out_mergeinfo;
 mod map;
 mod memory;
+mod naming;
 mod needs;
 mod node;
 mod node_headers;

@@ -227,7 +227,7 @@ fn push_dump_lines(lines: &mut Vec<u8>, found: &DumpFindings) -> Result<(), Memo
     push_if(
         lines,
         found.numbers_left,
-        b"a revision is left out, and those behind it keep their numbers: give --renumber-revs\n",
+        b"a revision is left out, and a copy or mergeinfo behind it names revisions by their old numbers: give --renumber-revs\n",
     )?;
     Ok(())
 }

@@ -6,6 +6,7 @@ ghost use Rattle.dump_survey.specs.PrefixFindings.{prefix_view};
 ghost use Rattle.dump_survey.specs.steps.Steps.{IsStepOf, TellsEnd};
 
 use crate::memory::Memory;
+use crate::naming::leaves_number;
 use crate::node::find;
 use crate::prefix_findings::{ToldPrefix, leave_touched, told_prefixes};
 use crate::prefix_set::PrefixSet;
@@ -55,6 +56,8 @@ pub struct Surveyor<'o, 'a> {
     /// Those that no node has matched so far.
     idle: PrefixSet,
     tally: Tally,
+    /// Whether a kept node named a revision behind a dropped one, and revisions aren't renumbered.
+    numbers_left: bool,
 }
 
 impl<'o, 'a> Model for Surveyor<'o, 'a> {
@@ -64,7 +67,7 @@ impl<'o, 'a> Model for Surveyor<'o, 'a> {
 
     ghost view = { λ s. record { dump = s.cutter.dump; settings = s.options.now; number = s.cutter.number } };
 
-    ghost invariant = { λ s. Surveys s.options.now s.prefixes s.idle s.tally s.cutter };
+    ghost invariant = { λ s. Surveys s.options.now s.prefixes s.idle s.tally s.numbers_left s.cutter };
 }
 
 /// What is found in the next record, behind those of this tally.
@@ -93,14 +96,14 @@ fn step_of<'o, 'a>(
     }))
 }
 
-/// What is known behind the records of this tally, which end so.
-fn finished<'o, 'a>(options: &'o Options, tally: &Tally, end: End) -> Step<'o, 'a>
-    ensures { TellsEnd options.now tally.now end result }
+/// What is known behind the records of this tally, which end so, and leave numbers or not.
+fn finished(tally: &Tally, numbers_left: bool, end: End) -> SurveyEnd
+    ensures { TellsEnd tally.now numbers_left end result }
 {
-    Step::Finished(SurveyEnd {
-        dump: tally.findings(options),
+    SurveyEnd {
+        dump: tally.findings(numbers_left),
         end,
-    })
+    }
 }
 
 impl<'o, 'a> Surveyor<'o, 'a> {
@@ -123,6 +126,7 @@ impl<'o, 'a> Surveyor<'o, 'a> {
             prefixes,
             idle,
             tally: Tally::new(),
+            numbers_left: false,
         })
     }
 
@@ -133,13 +137,18 @@ impl<'o, 'a> Surveyor<'o, 'a> {
     {
         let item = match self.cutter.next() {
             Cut::Item(item) => item,
-            Cut::Finished => return Ok(finished(self.options, &self.tally, End::Whole)),
+            Cut::Finished => {
+                let end = finished(&self.tally, self.numbers_left, End::Whole);
+                return Ok(Step::Finished(end));
+            }
             Cut::Fault { kind, place } => {
-                return Ok(finished(self.options, &self.tally, End::Broken { kind, place }));
+                let end = finished(&self.tally, self.numbers_left, End::Broken { kind, place });
+                return Ok(Step::Finished(end));
             }
         };
         leave_touched(&mut self.idle, &item);
         let before = self.tally;
+        self.numbers_left = self.numbers_left || leaves_number(&item, self.options, &before);
         self.tally = before.with(&item, self.options);
         step_of(alloc, item, self.options, &self.prefixes, &before)
     }

@@ -4,6 +4,7 @@ ghost use Rattle.dump_records.specs.steps.RecordViews.{record_item};
 ghost use Rattle.dump_digest.specs.RecordParts.{is_kept_node, is_node};
 ghost use Rattle.dump_history.specs.Findings.{copies_from_before};
 ghost use Rattle.dump_survey.specs.steps.Tally.{first_with, least_behind, lesser, no_tally, keeps_open, keeps_present, node_tally, next_tally, numbers_of, tally_findings};
+ghost use Rattle.dump_survey.specs.steps.Naming.{is_behind_dropped};
 ghost use Rattle.dump_survey.specs.DumpFindings.{listed_findings};
 
 use crate::node::{copy_revision_of, makes_copy};
@@ -25,7 +26,7 @@ pub struct DumpFindings {
     pub source_before: bool,
     /// A node stands outside of any revision.
     pub node_outside: bool,
-    /// A revision is dropped, and the others aren't renumbered.
+    /// A revision is dropped, the others aren't renumbered, and a kept node behind it names one by its number.
     pub numbers_left: bool,
 }
 
@@ -214,9 +215,16 @@ impl Tally {
         }
     }
 
-    /// What is found in the dump, where it ends here.
-    pub(crate) fn findings(&self, options: &Options) -> DumpFindings
-        ensures { listed_findings result ≡ tally_findings options.now self.now }
+    /// Whether a revision is present, and one before it is dropped.
+    pub(crate) fn is_behind_dropped(&self) -> bool
+        ensures { result ≡ is_behind_dropped self.now }
+    {
+        self.present.is_some() && !self.all_kept
+    }
+
+    /// What is found in the dump, where it ends here, and numbers are left or not.
+    pub(crate) fn findings(&self, numbers_left: bool) -> DumpFindings
+        ensures { listed_findings result ≡ tally_findings self.now numbers_left }
     {
         DumpFindings {
             no_revision: self.count == 0,
@@ -224,7 +232,7 @@ impl Tally {
             node_in_first: self.first == 0 && self.node_in_first,
             source_before: self.source_before,
             node_outside: self.node_outside,
-            numbers_left: !options.renumber() && !self.keeps_all(options),
+            numbers_left,
         }
     }
 }

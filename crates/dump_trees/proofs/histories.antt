@@ -4,3 +4,4 @@ pub mod HistoryLemmas
 pub mod FrontLemmas
 pub mod MovedLemmas
 pub mod AlikeLemmas
+pub mod NamingLemmas

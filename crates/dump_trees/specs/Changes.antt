@@ -10,6 +10,13 @@ pub data Made : Type 0 where
   NewFile : Made
   Copied : (number : ℕ) → (source : NodePath) → Made
 
+-- whether something is copied
+abbrev pub is_copied : Option Made → Bool
+is_copied None = false
+is_copied (Some Made.NewFolder) = false
+is_copied (Some Made.NewFile) = false
+is_copied (Some (Made.Copied number source)) = true
+
 -- what a change makes of a node's properties: these entries take the place of the old ones, or they edit the old ones,
 -- as a property delta does. An entry sets a property, or without a value takes it away
 pub data PropertyChange : Type 0 where

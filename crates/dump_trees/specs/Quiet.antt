@@ -10,19 +10,12 @@ use Rattle.dump_rules.specs.Settings.{Settings, keeps_path}
 use Rattle.dump_trees.specs.Paths.{NodePath, path_text, keeps}
 use Rattle.dump_rules.specs.Renumbering.{image}
 use Rattle.dump_trees.specs.Trees.{Tree, root_alone}
-use Rattle.dump_trees.specs.Changes.{Made, PropertyChange, Change, History, step, steps}
+use Rattle.dump_trees.specs.Changes.{Made, is_copied, PropertyChange, Change, History, step, steps}
 use Rattle.dump_trees.specs.Restriction.{is_above, is_above_some, is_lost, given, NewProperty, KeepsEntries}
 use Rattle.dump_trees.specs.Separation.{Separates}
 use Rattle.dump_trees.specs.Revisions.{loaded_over, EmptyRule, stays_numbered, kept_of, AreFiltered, AllRevisionsSeparate}
 use Rattle.dump_trees.specs.StepLaws.{IsMade}
 use Rattle.dump_trees.specs.HistoryLaws.{ImagesRestrict}
-
--- whether something is copied
-abbrev pub is_copied : Option Made → Bool
-is_copied None = false
-is_copied (Some Made.NewFolder) = false
-is_copied (Some Made.NewFile) = false
-is_copied (Some (Made.Copied number source)) = true
 
 -- the text of a prefix that lies below the path, without the path
 abbrev pub rest_of_prefix : NodePath → List ℕ → List ℕ

@@ -1,12 +1,12 @@
 -- Revisions: how a dump whose revisions are numbered 0, 1, 2 and so on is loaded, and what the filter leaves of it.
 -- Revision 0 has no changes, so the lists begin with the changes of revision 1.
-use Rattle.std.specs.Prelude.{◌≡◌, ℕ, suc, Bool, ◌||◌, List, [], ◌∷◌, ◌++◌, Option, Some, option_and_then, slice_get, if◌then◌else◌, MatchBool, ⊤}
+use Rattle.std.specs.Prelude.{◌≡◌, ℕ, suc, Bool, true, not, ◌&&◌, ◌||◌, List, [], ◌∷◌, ◌++◌, Option, Some, option_and_then, slice_get, if◌then◌else◌, MatchBool, ⊤}
 use Rattle.std.specs.List.{list_all, list_any}
 use Rattle.dump_rules.specs.Settings.{Settings}
 use Rattle.dump_rules.specs.Renumbering.{KeptRevisions, image}
 use Rattle.dump_trees.specs.Paths.{keeps}
 use Rattle.dump_trees.specs.Trees.{Tree}
-use Rattle.dump_trees.specs.Changes.{Change, History, step, steps}
+use Rattle.dump_trees.specs.Changes.{is_copied, Change, History, step, steps}
 use Rattle.dump_trees.specs.Restriction.{NewProperty, NewNumber, IsNewChange}
 use Rattle.dump_trees.specs.Separation.{Separates}
 
@@ -38,11 +38,26 @@ EmptyRule = List Change → Bool
 abbrev pub keeps_revision : Settings → EmptyRule → List Change → Bool
 keeps_revision settings rule changes = list_any (λ (c : Change). keeps settings c.path) changes || rule changes
 
--- whether revisions numbered 0, 1, 2 and so on are so again where they are filtered: they are renumbered, or none is
--- dropped
+-- whether a kept change of a revision names a revision by its number, by this test of what does
+abbrev pub names_kept : Settings → (Change → Bool) → List Change → Bool
+names_kept settings names changes = list_any (λ (c : Change). keeps settings c.path && names c) changes
+
+-- whether no kept change of these revisions does
+abbrev pub names_none : Settings → (Change → Bool) → List (List Change) → Bool
+names_none settings names revisions = list_all (λ changes. not (names_kept settings names changes)) revisions
+
+-- whether none of those behind the first dropped one does
+abbrev pub names_none_behind : Settings → EmptyRule → (Change → Bool) → List (List Change) → Bool
+names_none_behind settings rule names [] = true
+names_none_behind settings rule names (changes ∷ revisions) =
+    if keeps_revision settings rule changes then names_none_behind settings rule names revisions
+    else names_none settings names revisions
+
+-- whether the number of each kept copy finds its revision where revisions numbered 0, 1, 2 and so on are filtered: they
+-- are renumbered, or behind the first dropped one no kept change is a copy
 abbrev pub stays_numbered : Settings → EmptyRule → List (List Change) → Bool
 stays_numbered settings rule revisions =
-    settings.renumber || list_all (λ changes. keeps_revision settings rule changes) revisions
+    settings.renumber || names_none_behind settings rule (λ (c : Change). is_copied c.made) revisions
 
 -- what the filter writes of the revisions: of each kept one the changes that it writes
 abbrev pub AreNewRevisions : Settings → NewProperty → NewNumber → EmptyRule → List (List Change) → List (List Change)

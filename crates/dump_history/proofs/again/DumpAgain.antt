@@ -1,5 +1,5 @@
 -- A dump's revisions, and those of what is written of it.
-use Rattle.std.proofs.Common.{◌≡◌, ℕ, suc, ◌==◌, Bool, true, false, ◌&&◌, ◌||◌, List, [], ◌∷◌, map, refl, sym, ap, ◌∙◌, subst, take_while, if◌then◌else◌}
+use Rattle.std.proofs.Common.{◌≡◌, ℕ, suc, ◌==◌, Bool, true, false, ◌||◌, List, [], ◌∷◌, map, MatchBool, refl, sym, ap, ◌∙◌, subst, take_while, if◌then◌else◌}
 use Rattle.std.specs.List.{list_all}
 use Rattle.std.proofs.lemmas.Bool.{eqb-true}
 use Rattle.std.proofs.lemmas.List.Sums.{take_while-cons}
@@ -12,12 +12,17 @@ use Rattle.dump_filter.specs.Groups.{Group, groups, group_number, has_kept_node,
 use Rattle.dump_filter.specs.NewContent.{IsNewProperty}
 use Rattle.dump_filter.specs.NewHeaders.{IsWrittenCopyNumber}
 use Rattle.dump_trees.specs.Changes.{Change}
-use Rattle.dump_trees.specs.Revisions.{keeps_revision, AreNewRevisions, kept_from, kept_of}
+use Rattle.dump_trees.specs.Restriction.{NewNumber}
+use Rattle.dump_trees.specs.Revisions.{AreNewRevisions, names_none_behind, kept_from, kept_of}
 use Rattle.dump_history.specs.DumpChanges.{counts_from}
+use Rattle.dump_history.specs.NumberGaps.{names_revision, count_to_gap, HasNamingNode, HasNamingNodeBehind}
+use Rattle.dump_history.proofs.again.NodeChanges.{entries_kept}
+use Rattle.dump_history.proofs.again.NamingNodes.{none_named_behind}
+use Rattle.dump_history.proofs.again.GapNumbers.{no_gap, gap_again}
 use Rattle.dump_history.proofs.again.GroupsAgain.{AreGroupsAgain}
 use Rattle.dump_history.specs.RecordChanges.{Patching}
-use Rattle.dump_history.proofs.again.GroupChanges.{AllMake, GroupsMake, empty_rule, AllHaveNodes, AreNumberedFrom, kept_group, later_number, nodes_change, groups_change}
-use Rattle.dump_history.proofs.again.GroupNumbers.{AllRevisions, kept_numbers, kept_numbers_are}
+use Rattle.dump_history.proofs.again.GroupChanges.{AllMake, GroupsMake, empty_rule, AllHaveNodes, AreNumberedFrom, nodes_change, groups_change}
+use Rattle.dump_history.proofs.again.GroupNumbers.{AllRevisions, kept_numbers, kept_numbers_are, own_number}
 
 -- groups
 
@@ -59,6 +64,21 @@ counted_from n (g ∷ gs) numbered =
     both_true (group_number g == n) (counts_from (suc n) (map group_number gs))
     (ap (λ m. m == n) numbered.0 ∙ equals_itself n) (counted_from (suc n) gs numbered.1)
 
+-- the numbers of these groups are 0, and behind it those of these revisions, perhaps with a gap
+abbrev pub CountToGap : List Group → List (List Change) → Type 0
+CountToGap gs revisions = (later : List ℕ) × (map group_number gs ≡ 0 ∷ later)
+    × (count_to_gap 1 later revisions ≡ true)
+
+-- groups that are numbered on have none
+pub counts_without : (patched : Patching) (gs : List Group) (revisions : List (List Change)) → AreNumberedFrom 0 gs
+    → GroupsMake patched gs ([] ∷ revisions) → CountToGap gs revisions
+counts_without patched [] revisions numbered make = absurd make
+counts_without patched (g ∷ gs) revisions numbered make = (
+  map group_number gs,
+  ap (λ n. n ∷ map group_number gs) numbered.0,
+  no_gap patched 1 gs revisions numbered.1 make.1,
+)
+
 module _ (patched : Patching) (settings : Settings) where
   -- revision 0 is kept
   pub first_kept : (g : Group) → group_number g ≡ 0 → keeps_group settings g ≡ true
@@ -89,27 +109,15 @@ module _ (patched : Patching) (settings : Settings) where
       let numbers = numbers_are (groups records) revisions (groups_are records).1 numbered make in
       λ i. record { first = first i; numbers = numbers i }
 
-  -- all groups above 0 are kept where their revisions are
-  pub all_later : (n : ℕ) (gs : List Group) (revisions : List (List Change)) → AllHaveNodes gs
-      → AreNumberedFrom (suc n) gs → GroupsMake patched gs revisions
-      → list_all (keeps_group settings) gs ≡ list_all (keeps_revision settings (empty_rule settings)) revisions
-  all_later n [] [] are numbered make = refl
-  all_later n [] (changes ∷ revisions) are numbered make = absurd make
-  all_later n (g ∷ gs) [] are numbered make = absurd make
-  all_later n (g ∷ gs) (changes ∷ revisions) are numbered (first, make) =
-      let same = kept_group patched settings g changes (later_number (group_number g) n numbered.0) are.0 first in
-      let more = all_later (suc n) gs revisions are.1 numbered.1 make in
-      λ i. same i && more i
-
-  -- all groups are kept where all revisions are
-  pub all_kept : (gs : List Group) (revisions : List (List Change)) → AllHaveNodes gs → AreNumberedFrom 0 gs
-      → GroupsMake patched gs ([] ∷ revisions)
-      → list_all (keeps_group settings) gs ≡ list_all (keeps_revision settings (empty_rule settings)) revisions
-  all_kept [] revisions are numbered make = absurd make
-  all_kept (g ∷ gs) revisions are numbered make =
-      let keep = first_kept g numbered.0 in
-      let more = all_later 0 gs revisions are.1 numbered.1 make.1 in
-      λ i. keep i && more i
+  -- where no node names a revision behind the first dropped group, no change does
+  pub none_named : (gs : List Group) (revisions : List (List Change)) → AllHaveNodes gs → AreNumberedFrom 0 gs
+      → GroupsMake patched gs ([] ∷ revisions) → ¬ HasNamingNodeBehind settings gs
+      → names_none_behind settings (empty_rule settings) names_revision revisions ≡ true
+  none_named [] revisions are numbered make none = absurd make
+  none_named (g ∷ gs) revisions are numbered make none =
+      none_named_behind patched settings 0 gs revisions are.1 numbered.1 make.1
+      (λ has. none (subst (λ b. MatchBool b (HasNamingNodeBehind settings gs) (HasNamingNode settings gs))
+      (sym (first_kept g numbered.0)) has))
 
   module _ (kept : KeptRevisions) where
     -- what the filter leaves of these revisions, as groups that are read again
@@ -117,6 +125,24 @@ module _ (patched : Patching) (settings : Settings) where
     LeavesRevisions revisions again = (written : List (List Change)) × GroupsMake patched again ([] ∷ written)
         × AreNewRevisions settings (IsNewProperty settings kept) (IsWrittenCopyNumber settings kept)
         (empty_rule settings) revisions written
+
+    -- without renumbering the groups that are read again may have one, where no revision is named behind it
+    pub counts_with : settings.renumber ≡ false → (IsNumber : NewNumber) (gs again : List Group)
+        (revisions written : List (List Change)) → AllRevisions gs → AllHaveNodes gs → AreNumberedFrom 0 gs
+        → GroupsMake patched gs ([] ∷ revisions) → AreGroupsAgain settings kept gs again
+        → GroupsMake patched again ([] ∷ written)
+        → AreNewRevisions settings (IsNewProperty settings kept) IsNumber (empty_rule settings) revisions written
+        → names_none_behind settings (empty_rule settings) names_revision revisions ≡ true → CountToGap again written
+    counts_with stays IsNumber [] again revisions written revs are numbered make this more new none = absurd make
+    counts_with stays IsNumber (g ∷ gs) again revisions written revs are numbered make this more new none =
+        let (h, rest, same, read, reads) = rw (first_kept g numbered.0) at this in
+        let made = subst (λ (l : List Group). GroupsMake patched l ([] ∷ written)) same more in
+        let own : group_number h ≡ 0 = own_number settings kept stays g h revs.0 read ∙ numbered.0 in (
+          map group_number rest,
+          ap (map group_number) same ∙ ap (λ n. n ∷ map group_number rest) own,
+          gap_again settings kept stays patched (IsNewProperty settings kept) (entries_kept settings kept) IsNumber 0 gs
+              rest revisions written revs.1 are.1 numbered.1 make.1 reads made.1 new none,
+        )
 
     -- the groups that are read again, where the first one has the number 0 and no nodes
     pub revisions_change : (gs again : List Group) (revisions : List (List Change)) → AllHaveNodes gs

@@ -49,7 +49,7 @@ later_number m n is = grind (arith, is)
 
 module _ (patched : Patching) (settings : Settings) where
   -- a node is kept where its change is
-  kept_node : (r : DumpRecord) (c : Change) → is_node r ≡ true → MakesChange patched r c
+  pub kept_node : (r : DumpRecord) (c : Change) → is_node r ≡ true → MakesChange patched r c
       → is_kept_node settings r ≡ keeps settings c.path
   kept_node r c node change =
       let path = keeps_text settings (node_path r) in

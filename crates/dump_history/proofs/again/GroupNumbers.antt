@@ -67,6 +67,12 @@ module _ (settings : Settings) where
         → group_number h ≡ written_number settings kept (group_number g)
     number_again g h rev read = read.revision.number rev
 
+    -- without renumbering a group has its own number
+    pub own_number : settings.renumber ≡ false → (g h : Group) → is_revision_record g.revision ≡ true
+        → IsGroupAgain settings kept g h → group_number h ≡ group_number g
+    own_number stays g h rev read = number_again g h rev read
+        ∙ ap (λ b. if b then new_number kept (group_number g) else group_number g) stays
+
     -- with renumbering: the groups that are read again are numbered on from the dump's first number, and the count of
     -- the kept ones before them
     pub renumbered_again : settings.renumber ≡ true → (first : ℕ) → kept.first ≡ first → (n : ℕ) (earlier : List ℕ)
@@ -124,8 +130,7 @@ module _ (settings : Settings) where
         let keep = first_true (keeps_group settings g) (list_all (keeps_group settings) gs) all in
         let (h, rest, same, read, reads) = rw keep at this in
         subst (AreNumberedFrom n) (sym same) (
-          number_again g h revs.0 read
-              ∙ ap (λ b. if b then new_number kept (group_number g) else group_number g) stays ∙ numbered.0,
+          own_number stays g h revs.0 read ∙ numbered.0,
           same_again stays (suc n) gs rest
               (second_true (keeps_group settings g) (list_all (keeps_group settings) gs) all) revs.1 numbered.1 reads,
         )

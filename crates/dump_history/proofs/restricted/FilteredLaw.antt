@@ -2,8 +2,8 @@
 use Rattle.std.proofs.Common.{◌≡◌, ℕ, Bool, true, false, ◌||◌, List, [], ◌∷◌, ◌++◌, length, refl, sym, ap, ◌∙◌, subst}
 use Rattle.std.specs.Prelude.{take, filter}
 use Rattle.std.specs.List.{list_all}
-use Rattle.std.proofs.lemmas.List.Folds.{list_all-append}
-use Rattle.dump_text.proofs.BoolLemmas.{first_true, absurd_bool}
+use Rattle.std.proofs.lemmas.Bool.{MatchBool-at_false, or_left, or_right, or_parts}
+use Rattle.dump_text.proofs.BoolLemmas.{absurd_bool}
 use Rattle.dump_records.specs.DumpText.{Ending, HasRecords, IsCutInto}
 use Rattle.dump_records.specs.RecordText.{DumpRecord}
 use Rattle.dump_rules.specs.Settings.{Settings}
@@ -11,33 +11,36 @@ use Rattle.dump_rules.specs.Renumbering.{KeptRevisions, image}
 use Rattle.dump_filter.specs.FilterLaws.{LengthsFit}
 use Rattle.dump_filter.specs.Groups.{Group, groups, keeps_group, kept_revisions}
 use Rattle.dump_filter.specs.NewContent.{IsNewProperty}
+use Rattle.dump_filter.specs.NewHeaders.{IsWrittenCopyNumber}
 use Rattle.dump_filter.specs.WholeText.{IsCleanText}
 use Rattle.dump_filter.proofs.knowing.Answered.{AllLawful, all_lawful}
 use Rattle.dump_filter.proofs.again.ReadAgain.{AreReadAgain}
 use Rattle.dump_filter.proofs.again.OwnTextLaw.{reads_again}
 use Rattle.dump_trees.specs.Trees.{root_alone}
-use Rattle.dump_trees.specs.Changes.{Change}
+use Rattle.dump_trees.specs.Changes.{is_copied, Change}
 use Rattle.dump_trees.specs.HistoryLaws.{ImagesRestrict}
-use Rattle.dump_trees.specs.Revisions.{keeps_revision, AreNewRevisions, kept_of, IsWrittenNumber}
+use Rattle.dump_trees.specs.Revisions.{names_none_behind, stays_numbered, AreNewRevisions, kept_of, IsWrittenNumber}
+use Rattle.dump_trees.proofs.histories.NamingLemmas.{front_names_none, fewer_names_none}
 use Rattle.dump_trees.proofs.histories.HistoryLemmas.{history}
 use Rattle.dump_trees.proofs.histories.FrontLemmas.{front_history}
 use Rattle.dump_trees.proofs.quiet.QuietLemmas.{all_quiet}
 use Rattle.dump_history.specs.RecordChanges.{Patching}
 use Rattle.dump_history.specs.DumpChanges.{MakeRevisions}
-use Rattle.dump_history.specs.DumpLaws.{keeps_numbering, FilteredDumpRestricts, QuietDumpRestricts, FilteredDumpFrontRestricts, QuietDumpFrontRestricts, RevisionsKeepProperties}
+use Rattle.dump_history.specs.NumberGaps.{sets_mergeinfo, names_revision, MakeRevisionsWithGaps, KeepsNamedNumbers}
+use Rattle.dump_history.specs.DumpLaws.{keeps_numbering, HasNoGapIfKept, FilteredDumpRestricts, QuietDumpRestricts, FilteredDumpFrontRestricts, QuietDumpFrontRestricts, RevisionsKeepProperties}
 use Rattle.dump_history.proofs.again.NodeChanges.{entries_kept}
 use Rattle.dump_history.proofs.again.GroupsAgain.{keeps_first, AreGroupsAgain, groups_again}
-use Rattle.dump_history.proofs.again.GroupChanges.{empty_rule, AreNumberedFrom}
+use Rattle.dump_history.proofs.again.GroupChanges.{GroupsMake, empty_rule, AreNumberedFrom}
 use Rattle.dump_history.proofs.again.GroupNumbers.{renumbered_again, same_again, properties_again}
 use Rattle.dump_history.proofs.again.OrderAgain.{none_behind, order_again}
 use Rattle.dump_history.proofs.restricted.FrontSize.{kept_count, trees_count}
-use Rattle.dump_history.proofs.again.DumpAgain.{groups_are, numbered_from, counted_from, kept_revisions_are, all_kept, revisions_change}
+use Rattle.dump_history.proofs.again.DumpAgain.{groups_are, numbered_from, counted_from, kept_revisions_are, none_named, CountToGap, counts_without, counts_with, revisions_change}
 
 -- the clean text that the filter writes of a dump that makes these revisions
 module _ (patched : Patching) (settings : Settings) (dump text : List ℕ) (records : List DumpRecord)
     (revisions : List (List Change))
     (clean : IsCleanText settings dump records text) (fit : LengthsFit settings records)
-    (keeps : keeps_numbering settings records ≡ true) (makes : MakeRevisions patched records revisions) where
+    (keeps : KeepsNamedNumbers settings records) (makes : MakeRevisions patched records revisions) where
   abbrev kept : KeptRevisions
   kept = kept_revisions settings records
 
@@ -52,21 +55,51 @@ module _ (patched : Patching) (settings : Settings) (dump text : List ℕ) (reco
   pub same_kept : kept_revisions settings records ≡ kept_of settings (empty_rule settings) revisions
   same_kept = kept_revisions_are patched settings records revisions numbered makes.changes
 
-  -- revisions are renumbered, or none is dropped
-  pub keeps_changes : (settings.renumber || list_all (keeps_revision settings (empty_rule settings)) revisions) ≡ true
-  keeps_changes = ap (λ b. settings.renumber || b)
-      (sym (all_kept patched settings (groups records) revisions (groups_are records).1 numbered makes.changes)) ∙ keeps
+  -- without renumbering no change names a revision behind the first dropped one
+  none_behind_dropped : settings.renumber ≡ false
+      → names_none_behind settings (empty_rule settings) names_revision revisions ≡ true
+  none_behind_dropped stays = none_named patched settings (groups records) revisions (groups_are records).1 numbered
+      makes.changes (MatchBool-at_false _ _ stays keeps)
 
-  numbers_again : (again : List Group) → AreGroupsAgain settings kept (groups records) again
+  -- so each copy finds its revision
+  pub keeps_changes : stays_numbered settings (empty_rule settings) revisions ≡ true
+  keeps_changes = cases settings.renumber refl
+    where
+      cases : (b : Bool) → settings.renumber ≡ b → stays_numbered settings (empty_rule settings) revisions ≡ true
+      cases true renumber = or_left settings.renumber _ renumber
+      cases false stays = or_right settings.renumber _ (fewer_names_none settings (empty_rule settings) names_revision
+          (λ (c : Change). is_copied c.made) (λ c none. (or_parts (is_copied c.made) (sets_mergeinfo c) none).0)
+          revisions (none_behind_dropped stays))
+
+  renumbered : settings.renumber ≡ true → (again : List Group) → AreGroupsAgain settings kept (groups records) again
       → AreNumberedFrom 0 again
-  numbers_again again reads = cases settings.renumber refl
+  renumbered renumber again reads =
+      renumbered_again settings kept renumber 0 (ap (λ (k : KeptRevisions). k.first) same_kept)
+      0 [] (groups records) again refl refl (groups_are records).0 numbered reads
+
+  -- where the numbering is kept there is no gap
+  numbers_again : keeps_numbering settings records ≡ true → (again : List Group)
+      → AreGroupsAgain settings kept (groups records) again → AreNumberedFrom 0 again
+  numbers_again all again reads = cases settings.renumber refl
     where
       cases : (b : Bool) → settings.renumber ≡ b → AreNumberedFrom 0 again
-      cases true renumber = renumbered_again settings kept renumber 0 (ap (λ (k : KeptRevisions). k.first) same_kept)
-          0 [] (groups records) again refl refl (groups_are records).0 numbered reads
+      cases true renumber = renumbered renumber again reads
       cases false stays = same_again settings kept stays 0 (groups records) again
-          (sym (ap (λ b. b || list_all (keeps_group settings) (groups records)) stays) ∙ keeps)
+          (sym (ap (λ b. b || list_all (keeps_group settings) (groups records)) stays) ∙ all)
           (groups_are records).0 numbered reads
+
+  -- else there may be one
+  gaps_again : (again : List Group) (written : List (List Change))
+      → AreGroupsAgain settings kept (groups records) again → GroupsMake patched again ([] ∷ written)
+      → AreNewRevisions settings (IsNewProperty settings kept) (IsWrittenCopyNumber settings kept)
+      (empty_rule settings) revisions written → CountToGap again written
+  gaps_again again written reads make new = cases settings.renumber refl
+    where
+      cases : (b : Bool) → settings.renumber ≡ b → CountToGap again written
+      cases true renumber = counts_without patched again written (renumbered renumber again reads) make
+      cases false stays = counts_with patched settings kept stays (IsWrittenCopyNumber settings kept) (groups records)
+          again revisions written (groups_are records).0 (groups_are records).1 numbered makes.changes reads make new
+          (none_behind_dropped stays)
 
   -- the text is a dump that makes what the filter leaves of the revisions
   pub record IsLeft : Type 0 where
@@ -74,7 +107,8 @@ module _ (patched : Patching) (settings : Settings) (dump text : List ℕ) (reco
     pub has : HasRecords text again Ending.Whole
     pub reads : AreReadAgain settings (kept_revisions settings records) records text again
     pub written : List (List Change)
-    pub makes_again : MakeRevisions patched again written
+    pub makes_again : MakeRevisionsWithGaps patched again written
+    pub no_gap_if_kept : HasNoGapIfKept settings records 0 again
     pub new : AreNewRevisions settings (IsNewProperty settings (kept_revisions settings records))
         (IsWrittenNumber settings (kept_of settings (empty_rule settings) revisions)) (empty_rule settings)
         revisions written
@@ -86,18 +120,22 @@ module _ (patched : Patching) (settings : Settings) (dump text : List ℕ) (reco
       let read_groups = groups_again settings kept records text again lawful reads in
       let (written, make, new) = revisions_change patched settings kept (groups records) (groups again) revisions
       (groups_are records).1 numbered makes.changes read_groups in
+      let (later, begins, counts) = gaps_again (groups again) written read_groups make new in
       record {
         again = again;
         has = has;
         reads = reads;
         written = written;
         makes_again = record {
-          numbered = counted_from 0 (groups again) (numbers_again (groups again) read_groups);
+          later = later;
+          begins = begins;
+          numbered = counts;
           ordered = order_again settings kept false false records text again lawful makes.ordered
               (λ first. absurd (absurd_bool (keeps_first settings kept records) first
               (none_behind settings kept records makes.ordered))) reads;
           changes = make;
         };
+        no_gap_if_kept = λ all. counted_from 0 (groups again) (numbers_again all (groups again) read_groups);
         new = subst (λ (k : KeptRevisions). AreNewRevisions settings (IsNewProperty settings kept)
             (IsWrittenNumber settings k) (empty_rule settings) revisions written) same_kept new;
         properties = properties_again settings kept (groups records) (groups again) (groups_are records).0 read_groups;
@@ -118,6 +156,7 @@ filtered_dump_restricts patched settings dump text records revisions trees clean
       others,
       left.has,
       record { makes = left.makes_again; loads = loaded },
+      left.no_gap_if_kept,
       size ∙ ap (λ (k : KeptRevisions). length k.numbers) same,
       subst (λ (k : KeptRevisions). ImagesRestrict settings
           (IsNewProperty settings (kept_revisions settings records)) (image k) trees others) same images,
@@ -137,7 +176,7 @@ filtered_front_restricts patched settings dump text records front rest trees cle
     let part = front_history settings (IsNewProperty settings (kept_revisions settings records))
     (entries_kept settings (kept_revisions settings records))
     (empty_rule settings) front rest left.written trees
-    (front_keeps settings.renumber (keeps_revision settings (empty_rule settings)) front rest
+    (front_keeps settings front rest
     (keeps_changes patched settings dump text records (front ++ rest) clean fit keeps makes)) loads apart left.new in
     let same = sym (same_kept patched settings dump text records (front ++ rest) clean fit keeps makes) in (
       left.again,
@@ -145,7 +184,8 @@ filtered_front_restricts patched settings dump text records front rest trees cle
       part.more,
       part.others,
       left.has,
-      subst (MakeRevisions patched left.again) part.begins left.makes_again,
+      subst (MakeRevisionsWithGaps patched left.again) part.begins left.makes_again,
+      left.no_gap_if_kept,
       part.loads,
       part.size
           ∙ kept_count patched settings (groups records) front rest (groups_are records).1
@@ -157,11 +197,18 @@ filtered_front_restricts patched settings dump text records front rest trees cle
       left.properties,
     )
   where
-    front_keeps : (b : Bool) (test : List Change → Bool) (xs ys : List (List Change))
-        → (b || list_all test (xs ++ ys)) ≡ true → (b || list_all test xs) ≡ true
-    front_keeps true test xs ys all = refl
-    front_keeps false test xs ys all =
-        first_true (list_all test xs) (list_all test ys) (sym (list_all-append test xs ys) ∙ all)
+    front_keeps : (settings : Settings) (front rest : List (List Change))
+        → stays_numbered settings (empty_rule settings) (front ++ rest) ≡ true
+        → stays_numbered settings (empty_rule settings) front ≡ true
+    front_keeps settings front rest all = cases settings.renumber all
+      where
+        cases : (b : Bool)
+            → (b || names_none_behind settings (empty_rule settings) (λ (c : Change). is_copied c.made) (front ++ rest))
+            ≡ true
+            → (b || names_none_behind settings (empty_rule settings) (λ (c : Change). is_copied c.made) front) ≡ true
+        cases true all = refl
+        cases false all =
+            front_names_none settings (empty_rule settings) (λ (c : Change). is_copied c.made) front rest all
 
 -- and so have first revisions of quiet changes
 pub quiet_front_restricts : QuietDumpFrontRestricts

@@ -24,12 +24,13 @@ drop_first R (x ∷ xs) (y ∷ ys) (first, all) = all
 -- a dump of quiet changes, loaded behind the given folders, has the restricted trees, with raised mergeinfo
 pub quiet_dump_restricts_behind : QuietDumpRestrictsBehindFolders
 quiet_dump_restricts_behind patched settings dump text records revisions trees clean fit keeps loads quiet over =
-    let (again, written, others, has, loads_again, size, images, properties) =
+    let (again, written, others, has, loads_again, no_gap, size, images, properties) =
     quiet_dump_restricts patched settings dump text records revisions trees clean fit keeps loads quiet over in (
       again,
       written,
       has,
       loads_again.makes,
+      no_gap,
       λ moved behind.
           let (raised, loaded_are, same_size, alike) = loads_alike (IsRaised 1) (raised_entries 1) (root_alone ∷ [])
           (given settings) written moved others (given_folders settings) (given_alike settings (IsRaised 1)) behind

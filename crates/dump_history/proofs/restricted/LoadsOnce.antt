@@ -1,5 +1,5 @@
 -- A dump's records, changes, properties and trees are one list each.
-use Rattle.std.proofs.Common.{◌≡◌, ℕ, List, [], ◌∷◌, ◌++◌, Some, option_map, refl, sym, ap, ◌∙◌, subst}
+use Rattle.std.proofs.Common.{◌≡◌, ℕ, suc, List, [], ◌∷◌, ◌++◌, Some, option_map, refl, sym, ap, ◌∙◌, subst}
 use Rattle.std.specs.List.{AllZip}
 use Rattle.dump_text.specs.PropertyList.{Property}
 use Rattle.dump_records.specs.DumpText.{Ending, HasRecords}
@@ -7,15 +7,21 @@ use Rattle.dump_records.specs.RecordText.{DumpRecord}
 use Rattle.dump_records.proofs.Unique.{records_once}
 use Rattle.dump_digest.specs.RecordParts.{HasPropertyList}
 use Rattle.dump_digest.proofs.PropertyBlocks.{property_list_once}
-use Rattle.dump_filter.specs.Groups.{Group, groups}
+use Rattle.dump_filter.specs.Groups.{Group, groups, revision_numbers}
 use Rattle.dump_trees.specs.Trees.{Tree}
 use Rattle.dump_trees.specs.Changes.{Change}
 use Rattle.dump_trees.specs.Revisions.{loaded_over}
+use Rattle.dump_trees.specs.MovedLaws.{revisions_behind}
 use Rattle.dump_trees.proofs.histories.MovedLemmas.{loads_behind}
 use Rattle.dump_history.specs.RecordChanges.{Patching, MakesChange}
-use Rattle.dump_history.specs.DumpChanges.{HaveRevisionProperties, LoadsAs}
-use Rattle.dump_history.specs.DumpLaws.{DumpLoadsOnce, DumpLoadsTheSameBehindOthers}
+use Rattle.dump_history.specs.DumpChanges.{HaveRevisionProperties}
+use Rattle.dump_history.specs.NumberGaps.{LoadsWithGapsAs}
+use Rattle.dump_history.specs.DumpLaws.{NoGapIsNeeded, DumpLoadsOnce, DumpLoadsTheSameBehindOthers}
+use Rattle.dump_history.specs.PartLaws.{NoGapIsNeededInPart}
 use Rattle.dump_history.proofs.again.NodeChanges.{change_once}
+use Rattle.dump_history.proofs.again.GapNumbers.{no_gap}
+use Rattle.dump_history.proofs.again.DumpAgain.{numbered_from, counts_without}
+use Rattle.dump_history.proofs.restricted.PartNumbers.{raised_counts}
 
 -- where each item has one partner, a list has one list of partners
 pub partners_once : {A B : Type 0} (R : A → B → Type 0) → ((x : A) (y z : B) → R x y → R x z → y ≡ z)
@@ -81,12 +87,29 @@ trees_once first revisions others trees more same loads loads_too =
     some_once : {x y : List Tree} → Some x ≡ Some y → x ≡ y
     some_once e = cc
 
+-- a dump without gaps in its numbers is one of those that may have some
+pub no_gap_is_needed : NoGapIsNeeded
+no_gap_is_needed patched records revisions makes =
+    let (later, begins, counts) = counts_without patched (groups records) revisions
+    (numbered_from 0 (groups records) makes.numbered) makes.changes in
+    record { later = later; begins = begins; numbered = counts; ordered = makes.ordered; changes = makes.changes }
+
+-- so is a part
+pub no_gap_is_needed_in_part : NoGapIsNeededInPart
+no_gap_is_needed_in_part patched before records revisions makes = record {
+  numbered = sym (raised_counts before (suc before) (revision_numbers records) revisions)
+      ∙ no_gap patched (suc before) (groups records) (revisions_behind before revisions)
+      (numbered_from (suc before) (groups records) makes.numbered) makes.changes;
+  ordered = makes.ordered;
+  changes = makes.changes;
+}
+
 -- a dump has one list of records, revisions, properties and trees
 pub dump_loads_once : DumpLoadsOnce
 dump_loads_once patched first dump records others revisions more trees others_trees props others_props has has_too loads
     loads_too have have_too =
     let same = sym (whole_records_once dump records others has has_too) in
-    let makes = subst (λ (l : List DumpRecord). LoadsAs patched first l more others_trees) same loads_too in
+    let makes = subst (λ (l : List DumpRecord). LoadsWithGapsAs patched first l more others_trees) same loads_too in
     let one = later_once patched (groups records) [] more revisions makes.makes.changes loads.makes.changes in (
       same,
       one,

@@ -1,6 +1,7 @@
 -- The law of a part of a history.
 use Rattle.std.proofs.Common.{◌≡◌, ℕ, suc, ◌+◌, Bool, true, false, not, ◌&&◌, ◌||◌, ◌==◌, ◌⊎◌, List, [], ◌∷◌, Some, None, IsSome, is_some, length, map, filter, bytes_eq, MatchBool, refl, sym, ap, ◌∙◌, subst, inl, inr, arith}
 use Rattle.std.specs.List.{list_all}
+use Rattle.std.proofs.lemmas.Bool.{MatchBool-at_false, or_left, or_right, or_parts}
 use Rattle.std.proofs.lemmas.List.{length-map}
 use Rattle.dump_records.specs.DumpText.{Ending, HasRecords, IsCutInto}
 use Rattle.dump_records.specs.RecordText.{DumpRecord}
@@ -15,28 +16,32 @@ use Rattle.dump_filter.specs.WholeText.{IsCleanText}
 use Rattle.dump_filter.proofs.knowing.Answered.{AllLawful, all_lawful}
 use Rattle.dump_filter.proofs.again.OwnTextLaw.{reads_again}
 use Rattle.dump_trees.specs.Trees.{Tree, root_alone}
-use Rattle.dump_trees.specs.Changes.{Change}
+use Rattle.dump_trees.specs.Changes.{is_copied, Change}
 use Rattle.dump_trees.specs.Restriction.{given, NewProperty, KeepsEntries}
 use Rattle.dump_trees.specs.HistoryLaws.{ImagesRestrict}
 use Rattle.dump_trees.specs.MovedLaws.{revisions_behind}
-use Rattle.dump_trees.specs.Revisions.{loaded_over, keeps_revision, AreNewRevisions, kept_from, kept_of, IsWrittenNumber}
+use Rattle.dump_trees.specs.Revisions.{loaded_over, names_none_behind, stays_numbered, AreNewRevisions, kept_from, kept_of, IsWrittenNumber}
 use Rattle.dump_trees.proofs.paths.GivenFolders.{given_folders}
 use Rattle.dump_trees.proofs.histories.AlikeLemmas.{loads_alike, given_alike, both_restrict}
 use Rattle.dump_trees.proofs.histories.HistoryLemmas.{history}
 use Rattle.dump_trees.proofs.histories.KeptNumbers.{AreAbove, kept_above}
+use Rattle.dump_trees.proofs.histories.NamingLemmas.{fewer_names_none}
 use Rattle.dump_trees.proofs.quiet.QuietLemmas.{all_quiet}
 use Rattle.dump_history.specs.RecordChanges.{Patching}
 use Rattle.dump_history.specs.RaisedMergeinfo.{IsRaised}
-use Rattle.dump_history.specs.DumpLaws.{keeps_numbering, RevisionsKeepProperties}
-use Rattle.dump_history.specs.PartLaws.{MakePartRevisions, IsLoadedProperty, IsLoadedBehindOne, kept_as_loaded, PartLoadsBehind, FilteredPartRestricts, QuietPartRestricts}
+use Rattle.dump_history.specs.NumberGaps.{sets_mergeinfo, names_revision, count_to_gap, KeepsNamedNumbers}
+use Rattle.dump_history.specs.DumpLaws.{keeps_numbering, HasNoGapIfKept, RevisionsKeepProperties}
+use Rattle.dump_history.specs.PartLaws.{MakePartRevisions, MakePartRevisionsWithGaps, IsLoadedProperty, IsLoadedBehindOne, kept_as_loaded, PartLoadsBehind, FilteredPartRestricts, QuietPartRestricts}
 use Rattle.dump_history.proofs.again.NodeChanges.{entries_kept}
 use Rattle.dump_history.proofs.again.GroupsAgain.{keeps_first, AreGroupsAgain, groups_again}
 use Rattle.dump_history.proofs.again.GroupChanges.{GroupsMake, empty_rule, AreNumberedFrom, groups_change}
 use Rattle.dump_history.proofs.again.GroupNumbers.{renumbered_again, same_again, kept_numbers_are, properties_again}
 use Rattle.dump_history.proofs.again.OrderAgain.{none_behind, order_again}
-use Rattle.dump_history.proofs.again.DumpAgain.{groups_are, numbered_from, counted_from, all_later}
+use Rattle.dump_history.proofs.again.NamingNodes.{none_named_behind}
+use Rattle.dump_history.proofs.again.GapNumbers.{no_gap, gap_again}
+use Rattle.dump_history.proofs.again.DumpAgain.{groups_are, numbered_from, counted_from}
 use Rattle.dump_history.proofs.restricted.RaisedLemmas.{raised_entries}
-use Rattle.dump_history.proofs.restricted.PartNumbers.{raised_image, kept_raised, kept_from_raised, all_raised, kept_loaded}
+use Rattle.dump_history.proofs.restricted.PartNumbers.{raised_image, kept_raised, kept_from_raised, raised_none_behind, raised_counts, kept_loaded}
 use Rattle.dump_history.proofs.restricted.PartChanges.{revisions_lowered}
 use Rattle.dump_text.proofs.BoolLemmas.{absurd_bool, first_true, second_true}
 
@@ -49,7 +54,7 @@ first_is n (g ∷ gs) numbered = inl numbered.0
 module _ (patched : Patching) (before : ℕ) (settings : Settings) (dump text : List ℕ) (records : List DumpRecord)
     (revisions : List (List Change))
     (clean : IsCleanText settings dump records text) (fit : LengthsFit settings records)
-    (keeps : keeps_numbering settings records ≡ true) (makes : MakePartRevisions patched before records revisions) where
+    (keeps : KeepsNamedNumbers settings records) (makes : MakePartRevisions patched before records revisions) where
   abbrev kept : KeptRevisions
   kept = kept_revisions settings records
 
@@ -78,11 +83,22 @@ module _ (patched : Patching) (before : ℕ) (settings : Settings) (dump text : 
   above : AreAbove 0 loaded_numbers
   above = kept_above settings (empty_rule settings) 0 1 revisions (omega arith)
 
-  -- revisions are renumbered, or none is dropped
-  pub keeps_changes : (settings.renumber || list_all (keeps_revision settings (empty_rule settings)) revisions) ≡ true
-  keeps_changes = ap (λ b. settings.renumber || b)
-      (sym (all_later patched settings before (groups records) (revisions_behind before revisions)
-      (groups_are records).1 numbered makes.changes ∙ all_raised settings before revisions)) ∙ keeps
+  -- without renumbering no change names a revision behind the first dropped one
+  none_behind_dropped : settings.renumber ≡ false
+      → names_none_behind settings (empty_rule settings) names_revision (revisions_behind before revisions) ≡ true
+  none_behind_dropped stays = none_named_behind patched settings before (groups records)
+      (revisions_behind before revisions) (groups_are records).1 numbered makes.changes
+      (MatchBool-at_false _ _ stays keeps)
+
+  -- so each copy finds its revision
+  pub keeps_changes : stays_numbered settings (empty_rule settings) revisions ≡ true
+  keeps_changes = cases settings.renumber refl
+    where
+      cases : (b : Bool) → settings.renumber ≡ b → stays_numbered settings (empty_rule settings) revisions ≡ true
+      cases true renumber = or_left settings.renumber _ renumber
+      cases false stays = or_right settings.renumber _ (fewer_names_none settings (empty_rule settings) names_revision
+          (λ (c : Change). is_copied c.made) (λ c none. (or_parts (is_copied c.made) (sets_mergeinfo c) none).0)
+          revisions (sym (raised_none_behind settings before revisions) ∙ none_behind_dropped stays))
 
   -- the number of a copy is written so that the load finds the right one
   written_number : (n new : ℕ) → IsWrittenCopyNumber settings kept (before + n) new
@@ -107,30 +123,51 @@ module _ (patched : Patching) (before : ℕ) (settings : Settings) (dump text : 
           ]
       cases false same = (n, same, refl)
 
-  numbers_again : (again : List Group) → AreGroupsAgain settings kept (groups records) again
+  renumbered : settings.renumber ≡ true → (again : List Group) → AreGroupsAgain settings kept (groups records) again
       → AreNumberedFrom (suc before) again
-  numbers_again again reads = cases settings.renumber refl
+  renumbered renumber again reads =
+      elim (first_is (suc before) (groups records) numbered) [
+        | inl first ↦ subst (λ n. AreNumberedFrom n again)
+            (let same : suc before + length {A = ℕ} [] ≡ suc before = omega arith in same)
+            (renumbered_again settings kept renumber (suc before) first (suc before) [] (groups records) again refl
+            refl (groups_are records).0 numbered reads)
+        | inr none ↦ subst (AreNumberedFrom (suc before))
+            (sym (subst (λ gs. AreGroupsAgain settings kept gs again) none reads)) tt
+      ]
+
+  -- where the numbering is kept there is no gap
+  numbers_again : keeps_numbering settings records ≡ true → (again : List Group)
+      → AreGroupsAgain settings kept (groups records) again → AreNumberedFrom (suc before) again
+  numbers_again all again reads = cases settings.renumber refl
     where
       cases : (b : Bool) → settings.renumber ≡ b → AreNumberedFrom (suc before) again
-      cases true renumber =
-          elim (first_is (suc before) (groups records) numbered) [
-            | inl first ↦ subst (λ n. AreNumberedFrom n again)
-                (let same : suc before + length {A = ℕ} [] ≡ suc before = omega arith in same)
-                (renumbered_again settings kept renumber (suc before) first (suc before) [] (groups records) again refl
-                refl (groups_are records).0 numbered reads)
-            | inr none ↦ subst (AreNumberedFrom (suc before))
-                (sym (subst (λ gs. AreGroupsAgain settings kept gs again) none reads)) tt
-          ]
+      cases true renumber = renumbered renumber again reads
       cases false stays = same_again settings kept stays (suc before) (groups records) again
-          (sym (ap (λ b. b || list_all (keeps_group settings) (groups records)) stays) ∙ keeps)
+          (sym (ap (λ b. b || list_all (keeps_group settings) (groups records)) stays) ∙ all)
           (groups_are records).0 numbered reads
+
+  -- else there may be one
+  gaps_again : (again : List Group) (written : List (List Change))
+      → AreGroupsAgain settings kept (groups records) again → GroupsMake patched again written
+      → AreNewRevisions settings (IsNewProperty settings kept) (IsWrittenCopyNumber settings kept)
+      (empty_rule settings) (revisions_behind before revisions) written
+      → count_to_gap (suc before) (map group_number again) written ≡ true
+  gaps_again again written reads make new = cases settings.renumber refl
+    where
+      cases : (b : Bool) → settings.renumber ≡ b → count_to_gap (suc before) (map group_number again) written ≡ true
+      cases true renumber = no_gap patched (suc before) again written (renumbered renumber again reads) make
+      cases false stays = gap_again settings kept stays patched (IsNewProperty settings kept)
+          (entries_kept settings kept) (IsWrittenCopyNumber settings kept) before (groups records) again
+          (revisions_behind before revisions) written (groups_are records).0 (groups_are records).1 numbered
+          makes.changes reads make new (none_behind_dropped stays)
 
   -- the text is a part that makes what the filter leaves of the revisions
   pub record IsPartLeft : Type 0 where
     pub again : List DumpRecord
     pub has : HasRecords text again Ending.Whole
     pub written : List (List Change)
-    pub makes_again : MakePartRevisions patched before again written
+    pub makes_again : MakePartRevisionsWithGaps patched before again written
+    pub no_gap_if_kept : HasNoGapIfKept settings records (suc before) again
     pub new : AreNewRevisions settings (IsNewProperty settings (kept_revisions settings records))
         (IsWrittenNumber settings (kept_of settings (empty_rule settings) revisions)) (empty_rule settings)
         revisions written
@@ -150,12 +187,16 @@ module _ (patched : Patching) (before : ℕ) (settings : Settings) (dump text : 
         has = has;
         written = written;
         makes_again = record {
-          numbered = counted_from (suc before) (groups again) (numbers_again (groups again) read_groups);
+          numbered = sym (raised_counts before (suc before) (map group_number (groups again)) written)
+              ∙ (ap (count_to_gap (suc before) (map group_number (groups again))) (sym raised_is)
+              ∙ gaps_again (groups again) raised read_groups make new);
           ordered = order_again settings kept false false records text again lawful makes.ordered
               (λ first. absurd (absurd_bool (keeps_first settings kept records) first
               (none_behind settings kept records makes.ordered))) reads;
           changes = subst (GroupsMake patched (groups again)) raised_is make;
         };
+        no_gap_if_kept =
+            λ all. counted_from (suc before) (groups again) (numbers_again all (groups again) read_groups);
         new = are_new;
         properties = properties_again settings kept (groups records) (groups again) (groups_are records).0 read_groups;
       }
@@ -226,6 +267,7 @@ filtered_part_restricts patched before settings dump text records revisions tree
       left.written,
       left.has,
       left.makes_again,
+      left.no_gap_if_kept,
       part_behind (IsLoadedProperty before) (loaded_entries before) [] before settings records trees others left.written
           loaded same_size same_images,
       part_behind (IsLoadedBehindOne before) (loaded_behind_one before) (root_alone ∷ []) before settings records trees

@@ -1,5 +1,5 @@
 -- The kept numbers of a part of a history, and those that a load gives them.
-use Rattle.std.proofs.Common.{◌≡◌, ℕ, suc, ◌+◌, ◌-◌, Bool, true, false, ◌&&◌, ◌||◌, ◌==◌, List, [], ◌∷◌, Option, Some, None, option_map, cond, map, filter, count_by, nat_lt, nat_le, refl, sym, ap, ap₂, ◌∙◌, subst, arith}
+use Rattle.std.proofs.Common.{◌≡◌, ℕ, suc, ◌+◌, ◌-◌, Bool, true, false, not, ◌&&◌, ◌||◌, ◌==◌, List, [], ◌∷◌, Option, Some, None, option_map, cond, map, filter, count_by, nat_lt, nat_le, refl, sym, ap, ap₂, ◌∙◌, subst, arith}
 use Rattle.std.specs.List.{list_all, list_any, last_or}
 use Rattle.std.proofs.lemmas.Bool.{and_parts}
 use Rattle.std.proofs.lemmas.List.{length-map}
@@ -8,10 +8,11 @@ use Rattle.dump_rules.specs.Settings.{Settings}
 use Rattle.dump_filter.specs.Groups.{keeps_empty}
 use Rattle.dump_rules.specs.Renumbering.{KeptRevisions, new_number, last_kept, image}
 use Rattle.dump_trees.specs.Paths.{keeps}
-use Rattle.dump_trees.specs.Changes.{Change}
-use Rattle.dump_trees.specs.MovedLaws.{change_behind, revisions_behind}
-use Rattle.dump_trees.specs.Revisions.{keeps_revision, kept_from}
+use Rattle.dump_trees.specs.Changes.{Made, is_copied, Change}
+use Rattle.dump_trees.specs.MovedLaws.{made_behind, change_behind, revisions_behind}
+use Rattle.dump_trees.specs.Revisions.{keeps_revision, names_kept, names_none, names_none_behind, kept_from}
 use Rattle.dump_trees.proofs.histories.KeptNumbers.{AreAbove}
+use Rattle.dump_history.specs.NumberGaps.{sets_mergeinfo, names_revision, name_no_revision, go_up, count_to_gap}
 use Rattle.dump_history.specs.PartLaws.{kept_as_loaded}
 use Rattle.dump_history.proofs.again.GroupChanges.{empty_rule}
 
@@ -176,13 +177,64 @@ kept_from_raised settings before n (changes ∷ revisions) =
     cases same true = ap (λ ks. (before + n) ∷ ks) same
     cases same false = same
 
--- all are kept where all raised ones are
-pub all_raised : (settings : Settings) (before : ℕ) (revisions : List (List Change))
-    → list_all (keeps_revision settings (empty_rule settings)) (revisions_behind before revisions)
-    ≡ list_all (keeps_revision settings (empty_rule settings)) revisions
-all_raised settings before [] = refl
-all_raised settings before (changes ∷ revisions) =
-    ap₂ (λ b c. b && c) (kept_raised settings before changes) (all_raised settings before revisions)
+-- what is raised is copied where it was
+pub raised_copied : (before : ℕ) (made : Option Made) → is_copied (made_behind before made) ≡ is_copied made
+raised_copied before None = refl
+raised_copied before (Some Made.NewFolder) = refl
+raised_copied before (Some Made.NewFile) = refl
+raised_copied before (Some (Made.Copied number source)) = refl
+
+-- and names a revision where it did
+raised_names : (before : ℕ) (c : Change) → names_revision (change_behind before c) ≡ names_revision c
+raised_names before c = ap (λ b. b || sets_mergeinfo c) (raised_copied before c.made)
+
+module _ (settings : Settings) (before : ℕ) where
+  raised_names_kept : (changes : List Change) → names_kept settings names_revision (map (change_behind before) changes)
+      ≡ names_kept settings names_revision changes
+  raised_names_kept [] = refl
+  raised_names_kept (c ∷ changes) =
+      ap₂ (λ b d. (keeps settings c.path && b) || d) (raised_names before c) (raised_names_kept changes)
+
+  raised_names_none : (revisions : List (List Change))
+      → names_none settings names_revision (revisions_behind before revisions)
+      ≡ names_none settings names_revision revisions
+  raised_names_none [] = refl
+  raised_names_none (changes ∷ revisions) =
+      ap₂ (λ b d. not b && d) (raised_names_kept changes) (raised_names_none revisions)
+
+  -- so do revisions behind the first dropped one
+  pub raised_none_behind : (revisions : List (List Change))
+      → names_none_behind settings (empty_rule settings) names_revision (revisions_behind before revisions)
+      ≡ names_none_behind settings (empty_rule settings) names_revision revisions
+  raised_none_behind [] = refl
+  raised_none_behind (changes ∷ revisions) =
+      let kept = kept_raised settings before changes in
+      let more = raised_none_behind revisions in
+      let none = raised_names_none revisions in
+      λ i. cond (kept i) (more i) (none i)
+
+module _ (before : ℕ) where
+  raised_names_some : (changes : List Change)
+      → list_any names_revision (map (change_behind before) changes) ≡ list_any names_revision changes
+  raised_names_some [] = refl
+  raised_names_some (c ∷ changes) =
+      ap₂ (λ b d. b || d) (raised_names before c) (raised_names_some changes)
+
+  raised_plain : (revisions : List (List Change))
+      → name_no_revision (revisions_behind before revisions) ≡ name_no_revision revisions
+  raised_plain [] = refl
+  raised_plain (changes ∷ revisions) =
+      ap₂ (λ b d. not b && d) (raised_names_some changes) (raised_plain revisions)
+
+  -- raised revisions have the gap that they had
+  pub raised_counts : (n : ℕ) (numbers : List ℕ) (revisions : List (List Change))
+      → count_to_gap n numbers (revisions_behind before revisions) ≡ count_to_gap n numbers revisions
+  raised_counts n [] revisions = refl
+  raised_counts n (m ∷ numbers) [] = refl
+  raised_counts n (m ∷ numbers) (changes ∷ revisions) =
+      let more = raised_counts (suc n) numbers revisions in
+      let plain = raised_plain (changes ∷ revisions) in
+      λ i. ((m == n) && more i) || (go_up n (m ∷ numbers) && plain i)
 
 -- the kept revisions as they are loaded are those of the lowered revisions
 pub kept_loaded : (before : ℕ) (kept : KeptRevisions) (xs : List ℕ) → kept.numbers ≡ map (λ k. before + k) xs

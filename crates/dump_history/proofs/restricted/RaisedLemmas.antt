@@ -8,7 +8,8 @@ use Rattle.dump_trees.specs.Changes.{PropertyChange, Change}
 use Rattle.dump_trees.specs.Restriction.{KeepsEntries, AreNewProps}
 use Rattle.dump_trees.specs.MovedLaws.{change_behind, IsChangeBehind}
 use Rattle.dump_history.specs.RaisedMergeinfo.{IsRaisedValue, IsRaised}
-use Rattle.dump_history.specs.DumpLaws.{entries_of, sets_mergeinfo, sets_no_mergeinfo, PlainRevisionsStay}
+use Rattle.dump_history.specs.NumberGaps.{entries_of, sets_mergeinfo}
+use Rattle.dump_history.specs.DumpLaws.{sets_no_mergeinfo, PlainRevisionsStay}
 
 -- what is said of a property's value, by whether it is mergeinfo
 abbrev SaysOfValue : ℕ → Property → Property → Bool → Type 0

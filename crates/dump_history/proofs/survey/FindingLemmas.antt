@@ -26,8 +26,8 @@ use Rattle.dump_filter.specs.Groups.{kept_revisions}
 use Rattle.dump_filter.specs.NewHeaders.{stays_copy}
 use Rattle.dump_filter.specs.RecordFaults.{present_number, HasBadCopyRevision, HoldsOfRecord}
 use Rattle.dump_trees.specs.Paths.{path_of}
-use Rattle.dump_trees.specs.Changes.{Made, PropertyChange, Change}
-use Rattle.dump_trees.specs.Quiet.{is_copied, cuts_alike, is_quiet_kept, is_quiet_dropped, is_quiet}
+use Rattle.dump_trees.specs.Changes.{Made, is_copied, PropertyChange, Change}
+use Rattle.dump_trees.specs.Quiet.{cuts_alike, is_quiet_kept, is_quiet_dropped, is_quiet}
 use Rattle.dump_trees.proofs.paths.PathNames.{keeps_text}
 use Rattle.dump_history.specs.RecordChanges.{Patching, has_known_action, deletes, makes, made_by_kind, copy_path, copied_from, made_of, property_change_of, has_odd_delta, change_of, has_plain_texts, MakesChange}
 use Rattle.dump_history.specs.Findings.{begins_at, Finding, every_finding, NodeFaults, AreNodeFaultsOf, has_kept_path, has_kept_source, is_above_prefix, is_found, findings_of, IsReadBlock, is_obstacle, is_alarm}
@@ -56,7 +56,7 @@ any_filtered test p (x ∷ xs) =
     cases rest false false = rest
 
 -- a test that is decided by the same facts is the same
-same_truth : {A : Type 0} (a b : Bool) → IsTrue a ↔ A → IsTrue b ↔ A → a ≡ b
+pub same_truth : {A : Type 0} (a b : Bool) → IsTrue a ↔ A → IsTrue b ↔ A → a ≡ b
 same_truth true true left right = refl
 same_truth true false left right = let bad : false ≡ true = right.1 (left.0 refl) in cc
 same_truth false true left right = let bad : false ≡ true = left.1 (right.0 refl) in cc

@@ -11,11 +11,12 @@ use Rattle.dump_trees.specs.Paths.{NodePath, keeps}
 use Rattle.dump_trees.specs.Changes.{Made, PropertyChange, Change}
 use Rattle.dump_trees.specs.Restriction.{is_above_some}
 use Rattle.dump_trees.specs.MovedLaws.{made_behind, change_behind, revisions_behind}
-use Rattle.dump_trees.specs.Quiet.{is_copied, is_quiet_kept, is_quiet_dropped, is_quiet, are_quiet}
+use Rattle.dump_trees.specs.Quiet.{is_quiet_kept, is_quiet_dropped, is_quiet, are_quiet}
 use Rattle.dump_history.specs.RecordChanges.{Patching, says, makes, copy_revision, copied_from, made_by_kind, made_of, MakesChange}
 use Rattle.dump_history.specs.DumpChanges.{MakeChanges}
 use Rattle.dump_history.specs.Findings.{copies_from_before, has_source_before}
 use Rattle.dump_history.proofs.again.NodeChanges.{change_is}
+use Rattle.dump_history.proofs.restricted.PartNumbers.{raised_copied}
 
 -- what is copied comes from a revision of at least this number
 abbrev IsFrom : ℕ → Option Made → Type 0
@@ -94,12 +95,6 @@ module _ (settings : Settings) (before : ℕ) where
   same_kept path props (Some Made.NewFile) = refl
   same_kept path props (Some (Made.Copied n source)) = refl
 
-  same_copied : (made : Option Made) → is_copied (made_behind before made) ≡ is_copied made
-  same_copied None = refl
-  same_copied (Some Made.NewFolder) = refl
-  same_copied (Some Made.NewFile) = refl
-  same_copied (Some (Made.Copied n source)) = refl
-
   change_quiet : (c : Change) → is_quiet settings (change_behind before c) ≡ is_quiet settings c
   change_quiet c = cases (keeps settings c.path)
     where
@@ -108,7 +103,7 @@ module _ (settings : Settings) (before : ℕ) where
           ≡ (if b then is_quiet_kept settings c.path c.props c.made else is_quiet_dropped settings c)
       cases true = same_kept c.path c.props c.made
       cases false = ap (λ b. not ((c.deletes || b) && is_above_some settings.side settings.prefixes c.path))
-          (same_copied c.made)
+          (raised_copied before c.made)
 
   changes_quiet : (changes : List Change)
       → list_all (is_quiet settings) (map (change_behind before) changes) ≡ list_all (is_quiet settings) changes

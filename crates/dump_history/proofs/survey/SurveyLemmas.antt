@@ -1,7 +1,7 @@
 -- Where a survey finds nothing, the law of filtered dumps has its premise.
 use Rattle.std.proofs.Common.{◌≡◌, ℕ, zero, suc, Bool, true, false, not, ◌&&◌, ◌||◌, ◌==◌, List, [], ◌∷◌, ◌++◌, length, filter, take_while, cond, if◌then◌else◌, MatchBool, Option, Some, None, refl, sym, ap, ◌∙◌, subst, inl, append_assoc}
 use Rattle.std.specs.List.{AllZip, list_all, list_any, last_or}
-use Rattle.std.proofs.lemmas.Bool.{eqb-true}
+use Rattle.std.proofs.lemmas.Bool.{eqb-true, both_ways}
 use Rattle.std.proofs.lemmas.List.{nil_from_length}
 use Rattle.dump_text.specs.declared.fault.FaultKind.TheVariants.{Order}
 use Rattle.dump_text.proofs.BoolLemmas.{first_true, second_true, first_false, second_false, both_true, not_true, not_so}
@@ -14,9 +14,9 @@ use Rattle.dump_trees.specs.Changes.{Change}
 use Rattle.dump_trees.specs.Quiet.{is_quiet, are_quiet}
 use Rattle.dump_history.specs.RecordChanges.{Patching, MakesChange}
 use Rattle.dump_history.specs.DumpChanges.{counts_from, has_ordered_nodes, MakeChanges, MakeRevisions}
-use Rattle.dump_history.specs.DumpLaws.{keeps_numbering}
+use Rattle.dump_history.specs.NumberGaps.{NamesRevisionBehind, KeepsNamedNumbers}
 use Rattle.dump_history.specs.PartLaws.{MakePartRevisions}
-use Rattle.dump_history.specs.Findings.{Finding, begins_at, has_source_before, AreFindingsOf, is_obstacle, is_alarm, every_dump_finding, first_has_node, is_found_in_dump, dump_findings}
+use Rattle.dump_history.specs.Findings.{Finding, begins_at, has_source_before, AreFindingsOf, is_obstacle, is_alarm, every_dump_finding, first_has_node, is_found_in_dump, AreDumpFindingsOf}
 use Rattle.dump_history.specs.SurveyLaws.{AreFindingsBehind, HaveFindingsBehind, none_is, RestrictsFrom, SurveyedDumpRestricts, SurveyedDumpFrontRestricts}
 use Rattle.dump_history.proofs.survey.FindingLemmas.{obstacles_exact, alarms_exact}
 use Rattle.dump_history.proofs.survey.PartLemmas.{groups_lowered, lowered_quiet}
@@ -181,12 +181,12 @@ module _ (settings : Settings) (all : List DumpRecord) (free : AreFaultFree sett
   order_of = order_behind [] all refl
 
 -- nothing is found in the dump as a whole
-module _ (settings : Settings) (records : List DumpRecord) (none : dump_findings settings records ≡ []) where
+module _ (settings : Settings) (records : List DumpRecord) (nothing : AreDumpFindingsOf settings records []) where
   each_none : (length (groups records) == 0 || (not (counts_from (begins_at records) (revision_numbers records))
       || ((begins_at records == 0 && first_has_node (groups records))
       || (has_source_before (begins_at records) (groups records) || (not (has_ordered_nodes false records)
-      || (not (keeps_numbering settings records) || false)))))) ≡ false
-  each_none = none_passes (λ f. is_found_in_dump settings records f) every_dump_finding none
+      || ((not settings.renumber && nothing.0) || false)))))) ≡ false
+  each_none = none_passes (λ f. is_found_in_dump settings records nothing.0 f) every_dump_finding (sym nothing.2)
 
   denied : (b : Bool) → not b ≡ false → b ≡ true
   denied true is = refl
@@ -202,7 +202,7 @@ module _ (settings : Settings) (records : List DumpRecord) (none : dump_findings
 
   behind_numbers : ((begins_at records == 0 && first_has_node (groups records))
       || (has_source_before (begins_at records) (groups records) || (not (has_ordered_nodes false records)
-      || (not (keeps_numbering settings records) || false)))) ≡ false
+      || ((not settings.renumber && nothing.0) || false)))) ≡ false
   behind_numbers = second_false (not (counts_from (begins_at records) (revision_numbers records))) _
       (second_false (length (groups records) == 0) _ each_none)
 
@@ -211,17 +211,23 @@ module _ (settings : Settings) (records : List DumpRecord) (none : dump_findings
       ∙ first_false (begins_at records == 0 && first_has_node (groups records)) _ behind_numbers
 
   behind_first : (has_source_before (begins_at records) (groups records) || (not (has_ordered_nodes false records)
-      || (not (keeps_numbering settings records) || false))) ≡ false
+      || ((not settings.renumber && nothing.0) || false))) ≡ false
   behind_first = second_false (begins_at records == 0 && first_has_node (groups records)) _ behind_numbers
 
   no_source_before : has_source_before (begins_at records) (groups records) ≡ false
   no_source_before = first_false (has_source_before (begins_at records) (groups records)) _ behind_first
 
-  keeps_numbers : keeps_numbering settings records ≡ true
-  keeps_numbers = denied (keeps_numbering settings records)
-      (first_false (not (keeps_numbering settings records)) false
+  none_left : (not settings.renumber && nothing.0) ≡ false
+  none_left = first_false (not settings.renumber && nothing.0) false
       (second_false (not (has_ordered_nodes false records)) _
-      (second_false (has_source_before (begins_at records) (groups records)) _ behind_first)))
+      (second_false (has_source_before (begins_at records) (groups records)) _ behind_first))
+
+  keeps_numbers : KeepsNamedNumbers settings records
+  keeps_numbers = cases settings.renumber none_left
+    where
+      cases : (b : Bool) → (not b && nothing.0) ≡ false → MatchBool b (Unit {0}) (¬ NamesRevisionBehind settings records)
+      cases true none = tt
+      cases false none = λ names. both_ways nothing.0 none (nothing.1.1 names)
 
 -- the changes of a group without nodes are none
 no_changes : (patched : Patching) (g : Group) (changes : List Change) → not (is_bare g) ≡ false

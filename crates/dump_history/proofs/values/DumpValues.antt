@@ -290,11 +290,11 @@ at_image others images =
 loads_given : (trees : List Tree) (text : List ℕ) → LoadsRestricted refused settings records trees text
     → (written : List (List Change)) × (others : List Tree) × (loaded_over (given settings) written ≡ Some others)
     × (length others ≡ 3)
-loads_given trees text (again, written, others, has, loads, size, images, keep) = (written, others, loads.loads, size)
+loads_given trees text (again, written, others, has, loads, no_gap, size, images, keep) = (written, others, loads.loads, size)
 
 front_given : (trees : List Tree) (text : List ℕ) → FrontLoadsRestricted refused settings records trees text
     → (first : List (List Change)) × (others : List Tree) × (loaded_over (given settings) first ≡ Some others)
-front_given trees text (again, first, more, others, has, makes, loads, size, images, keep) = (first, others, loads)
+front_given trees text (again, first, more, others, has, makes, no_gap, loads, size, images, keep) = (first, others, loads)
 
 -- mergeinfo that a change sets, be it with other properties or by an edit; one that is taken away isn't set
 

@@ -116,41 +116,41 @@ all_dump_findings : every_dump_finding ≡ DumpFinding.NoRevision ∷ DumpFindin
 all_dump_findings = refl
 
 -- a number that comes twice
-number_again : dump_findings include_a (version ∷ zero ∷ one ∷ one ∷ []) ≡ DumpFinding.OtherNumbers ∷ []
+number_again : dump_findings include_a (version ∷ zero ∷ one ∷ one ∷ []) false ≡ DumpFinding.OtherNumbers ∷ []
 number_again = refl
 
 -- nodes of later revisions don't count
-node_in_second : dump_findings include_a (version ∷ zero ∷ one ∷ trunk ∷ two ∷ []) ≡ []
+node_in_second : dump_findings include_a (version ∷ zero ∷ one ∷ trunk ∷ two ∷ []) false ≡ []
 node_in_second = refl
 
--- three of them in one dump: a node in revision 0, and behind it revision 2, which is dropped
+-- three of them in one dump: a node in revision 0, and behind it revision 2, which is dropped, and a kept copy
 three_in_dump : dump_findings (record (cut_by Include (codes "trunk" ∷ [])) { empty = DropAll })
-    (version ∷ zero ∷ trunk ∷ two ∷ [])
+    (version ∷ zero ∷ trunk ∷ two ∷ three ∷ copy ∷ []) true
     ≡ DumpFinding.OtherNumbers ∷ DumpFinding.NodeInFirst ∷ DumpFinding.NumbersLeft ∷ []
 three_in_dump = refl
 
 -- a copy of revision 2 is from before a dump that begins at revision 3, and isn't in one that begins at 2
 
-copied_from_before : dump_findings include_trunk (version ∷ three ∷ copy ∷ []) ≡ DumpFinding.SourceBefore ∷ []
+copied_from_before : dump_findings include_trunk (version ∷ three ∷ copy ∷ []) false ≡ DumpFinding.SourceBefore ∷ []
 copied_from_before = refl
 
-copied_from_first : dump_findings include_trunk (version ∷ two ∷ three ∷ copy ∷ []) ≡ []
+copied_from_first : dump_findings include_trunk (version ∷ two ∷ three ∷ copy ∷ []) false ≡ []
 copied_from_first = refl
 
 -- a copy that isn't kept is told too, and one behind the first revision; under a change a copy source doesn't count
 
-dropped_from_before : dump_findings include_a (version ∷ three ∷ copy ∷ []) ≡ DumpFinding.SourceBefore ∷ []
+dropped_from_before : dump_findings include_a (version ∷ three ∷ copy ∷ []) false ≡ DumpFinding.SourceBefore ∷ []
 dropped_from_before = refl
 
-later_from_before : dump_findings include_trunk (version ∷ three ∷ trunk ∷ four ∷ copy ∷ [])
+later_from_before : dump_findings include_trunk (version ∷ three ∷ trunk ∷ four ∷ copy ∷ []) false
     ≡ DumpFinding.SourceBefore ∷ []
 later_from_before = refl
 
-changed_from_before : dump_findings include_trunk (version ∷ three ∷ changed ∷ []) ≡ []
+changed_from_before : dump_findings include_trunk (version ∷ three ∷ changed ∷ []) false ≡ []
 changed_from_before = refl
 
 -- a copy behind another node of its revision is told too
-second_from_before : dump_findings include_trunk (version ∷ three ∷ trunk ∷ copy ∷ []) ≡ DumpFinding.SourceBefore ∷ []
+second_from_before : dump_findings include_trunk (version ∷ three ∷ trunk ∷ copy ∷ []) false ≡ DumpFinding.SourceBefore ∷ []
 second_from_before = refl
 
 -- none of the findings of a dump's nodes

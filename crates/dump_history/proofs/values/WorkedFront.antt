@@ -13,7 +13,7 @@ use Rattle.dump_history.proofs.restricted.LoadsOnce.{later_once}
 use Rattle.dump_history.proofs.survey.SurveyLemmas.{surveyed_front}
 use Rattle.dump_history.proofs.values.WorkedDump.{records, dump, settings, trunk, other, copy, revisions, first_tree, second_tree, loads}
 use Rattle.dump_history.proofs.values.WorkedFilter.{text, clean, lengths}
-use Rattle.dump_history.proofs.values.WorkedSurvey.{before_trunk, before_other, before_copy, in_trunk, in_other, in_copy, one_node}
+use Rattle.dump_history.proofs.values.WorkedSurvey.{before_trunk, before_other, before_copy, in_trunk, in_other, in_copy, one_node, none_in_dump}
 
 -- two of three revisions are the first two
 two_of_three : (front rest : List (List Change)) (a b c : List Change)
@@ -46,7 +46,7 @@ first_trees = root_alone ∷ first_tree ∷ second_tree ∷ []
 restricts : (patched : Patching) → FrontLoadsRestricted patched settings records first_trees text
 restricts patched =
     let (front, rest, makes, two, law) =
-    surveyed_front patched settings dump text records [] before behind clean lengths refl refl found refl refl in
+    surveyed_front patched settings dump text records [] before behind clean lengths refl none_in_dump found refl refl in
     let same : front ++ rest ≡ revisions =
     later_once patched (groups records) [] (front ++ rest) revisions makes.changes (loads patched).makes.changes in
     let is : front ≡ _ = two_of_three front rest _ _ _ same two in

@@ -16,7 +16,7 @@ use Rattle.dump_history.proofs.values.WorkedFilter.{text, clean, lengths}
 -- the law applies: what is written loads over the root, and has the restricted trees
 restricts : (patched : Patching) → LoadsRestricted patched settings records trees text
 restricts patched =
-    quiet_dump_restricts patched settings dump text records revisions trees clean lengths refl (loads patched) refl refl
+    quiet_dump_restricts patched settings dump text records revisions trees clean lengths tt (loads patched) refl refl
 
 -- revision 3 of the dump stands at 2, and dropped revision 2 at 1
 image_of_copy : image (kept_revisions settings records) 3 ≡ Some 2
@@ -46,7 +46,7 @@ in_revision_2 : (others : List Tree) × (tree : Tree) × (slice_get others 2 ≡
     (tree (path_of (codes "trunk/b")))
     × (tree (path_of (codes "other")) ≡ None)
 in_revision_2 =
-    let (again, written, others, has, loads_again, size, images, keep) = restricts refused in
+    let (again, written, others, has, loads_again, no_gap, size, images, keep) = restricts refused in
     let (new, tree, image_is, stands, restricted) = images 3 third_tree refl in
     let at : 2 ≡ new = (let both : Some 2 ≡ Some new = image_is in cc) in (
       others,

@@ -7,11 +7,13 @@ use Rattle.dump_trees.specs.Quiet.{nowhere_is_over}
 use Rattle.dump_trees.specs.Revisions.{loaded_over}
 use Rattle.dump_history.specs.RecordChanges.{Patching}
 use Rattle.dump_history.specs.DumpLaws.{LoadsRestricted}
-use Rattle.dump_history.specs.Findings.{Finding, AreFindingsOf}
+use Rattle.dump_history.specs.Findings.{Finding, AreFindingsOf, AreDumpFindingsOf}
 use Rattle.dump_history.specs.SurveyLaws.{AreFindingsBehind, HaveFindings}
 use Rattle.dump_history.proofs.restricted.LoadsOnce.{later_once}
 use Rattle.dump_history.specs.steps.NodeReading.{no_node_faults}
+use Rattle.dump_history.specs.steps.NamingTests.{groups_name_behind}
 use Rattle.dump_history.proofs.survey.FindingLemmas.{faults_of_kept, faults_of_left}
+use Rattle.dump_history.proofs.survey.NamingTest.{names_test, test_tells, behind_told}
 use Rattle.dump_history.proofs.survey.SurveyLemmas.{surveyed_dump}
 use Rattle.dump_history.proofs.values.WorkedDump.{records, dump, settings, version, zero, one, trunk, two, other, three, copy, none_of, revisions, trees, loads}
 use Rattle.dump_history.proofs.values.WorkedFilter.{text, clean, lengths}
@@ -54,11 +56,19 @@ none_found =
     ([], _, refl, refl, (_, _, refl, one_node before_trunk trunk in_trunk,
     (_, _, refl, one_node before_other other in_other, (_, _, refl, one_node before_copy copy in_copy, refl))))
 
+-- with renumbering nothing is found in the dump as a whole, whatever its nodes name
+pub none_in_dump : AreDumpFindingsOf settings records []
+none_in_dump = (
+  groups_name_behind settings names_test (groups records),
+  behind_told settings names_test test_tells (groups records),
+  refl,
+)
+
 -- so the law applies: the revisions that the survey's law speaks of are those of the dump
 restricts : (patched : Patching) → LoadsRestricted patched settings records trees text
 restricts patched =
     let (found, made, law) =
-    surveyed_dump patched settings dump text records nothing clean lengths refl none_found refl refl in
+    surveyed_dump patched settings dump text records nothing clean lengths none_in_dump none_found refl refl in
     let same : found ≡ revisions =
     later_once patched (groups records) [] found revisions made.changes (loads patched).makes.changes in
     law trees (ap (loaded_over root_alone) same ∙ (loads patched).loads)

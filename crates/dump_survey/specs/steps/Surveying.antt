@@ -1,5 +1,5 @@
 -- What the contracts see of a surveyor, and what it knows.
-use Rattle.std.specs.Prelude.{◌≡◌, ℕ, List, length, map}
+use Rattle.std.specs.Prelude.{◌≡◌, ℕ, Bool, List, length, map}
 use Rattle.dump_records.specs.RecordText.{DumpRecord}
 use Rattle.dump_records.specs.DumpText.{BeginsWithRecords}
 use Rattle.dump_records.specs.steps.CutterState.{CutterState}
@@ -7,6 +7,7 @@ use Rattle.dump_rules.specs.Settings.{Settings}
 use Rattle.dump_rules.specs.Prefix.{bare_prefix}
 use Rattle.dump_survey.specs.declared.tally.Tally.{Tally}
 use Rattle.dump_survey.specs.steps.IdlePrefixes.{AreIdle}
+use Rattle.dump_survey.specs.steps.Naming.{LeaveNumber}
 use Rattle.dump_survey.specs.steps.Tally.{no_tally, tally_behind}
 
 -- a surveyor: its dump, the filter's options, and how many records it has given
@@ -15,12 +16,14 @@ pub record Surveying : Type 0 where
   pub settings : Settings
   pub number : ℕ
 
--- it holds the options' prefixes, those of them that the records that the cutter has given leave idle, and their tally
-pub record Surveys (settings : Settings) (prefixes idle : List (List ℕ)) (tally : Tally) (cutter : CutterState)
-    : Type 0 where
+-- it holds the options' prefixes, those of them that the records that the cutter has given leave idle, their tally, and
+-- whether they leave numbers
+pub record Surveys (settings : Settings) (prefixes idle : List (List ℕ)) (tally : Tally) (left : Bool)
+    (cutter : CutterState) : Type 0 where
   pub prefixes_are : prefixes ≡ map bare_prefix settings.prefixes
   pub before : List DumpRecord
   pub begins : BeginsWithRecords cutter.dump before
   pub count : length before ≡ cutter.number
   pub idle_are : AreIdle before settings.prefixes idle
   pub tallied : tally ≡ tally_behind settings no_tally before
+  pub left_is : LeaveNumber settings before left

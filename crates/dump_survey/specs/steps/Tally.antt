@@ -94,15 +94,15 @@ abbrev pub tally_behind : Settings → Tally → List DumpRecord → Tally
 tally_behind settings t [] = t
 tally_behind settings t (r ∷ records) = tally_behind settings (next_tally settings t r) records
 
--- whether this is found in the dump, where it ends here
-abbrev pub is_tallied : Settings → Tally → DumpFinding → Bool
-is_tallied settings t DumpFinding.NoRevision = t.count == 0
-is_tallied settings t DumpFinding.OtherNumbers = not t.numbered
-is_tallied settings t DumpFinding.NodeInFirst = t.first == 0 && t.node_in_first
-is_tallied settings t DumpFinding.SourceBefore = t.source_before
-is_tallied settings t DumpFinding.NodeOutside = t.node_outside
-is_tallied settings t DumpFinding.NumbersLeft = not settings.renumber && not (keeps_present settings t)
+-- whether this is found in the dump, where it ends here, and numbers are left or not
+abbrev pub is_tallied : Tally → Bool → DumpFinding → Bool
+is_tallied t left DumpFinding.NoRevision = t.count == 0
+is_tallied t left DumpFinding.OtherNumbers = not t.numbered
+is_tallied t left DumpFinding.NodeInFirst = t.first == 0 && t.node_in_first
+is_tallied t left DumpFinding.SourceBefore = t.source_before
+is_tallied t left DumpFinding.NodeOutside = t.node_outside
+is_tallied t left DumpFinding.NumbersLeft = left
 
 -- what is found in the dump, where it ends here
-abbrev pub tally_findings : Settings → Tally → List DumpFinding
-tally_findings settings t = filter (λ f. is_tallied settings t f) every_dump_finding
+abbrev pub tally_findings : Tally → Bool → List DumpFinding
+tally_findings t left = filter (λ f. is_tallied t left f) every_dump_finding

@@ -77,15 +77,17 @@ module _ (settings : Settings) (IsNew : NewProperty) (IsNumber : NewNumber) (ent
       cases further None at has = tt
       cases further (Some after) at has = sides further after at has (keeps settings c.path) refl
 
-  -- of changes none of which is kept nothing is written
-  pub none_written : (changes : List Change) → list_any (λ (c : Change). keeps settings c.path) changes ≡ false
-      → AreNewChanges settings IsNew IsNumber changes []
-  none_written [] none = refl
-  none_written (c ∷ changes) none =
-      let parts = or_parts (keeps settings c.path) (list_any (λ (d : Change). keeps settings d.path) changes) none in
-      subst (λ b. MatchBool b ((new : Change) × (rest : List Change) × ([] ≡ new ∷ rest)
-      × IsNewChange settings IsNew IsNumber c new × AreNewChanges settings IsNew IsNumber changes rest)
-      (AreNewChanges settings IsNew IsNumber changes [])) (sym parts.0) (none_written changes parts.1)
+-- of changes none of which is kept nothing is written
+pub none_written : (settings : Settings) (IsNew : NewProperty) (IsNumber : NewNumber) (changes : List Change)
+    → list_any (λ (c : Change). keeps settings c.path) changes ≡ false
+    → AreNewChanges settings IsNew IsNumber changes []
+none_written settings IsNew IsNumber [] none = refl
+none_written settings IsNew IsNumber (c ∷ changes) none =
+    let parts = or_parts (keeps settings c.path) (list_any (λ (d : Change). keeps settings d.path) changes) none in
+    subst (λ b. MatchBool b ((new : Change) × (rest : List Change) × ([] ≡ new ∷ rest)
+    × IsNewChange settings IsNew IsNumber c new × AreNewChanges settings IsNew IsNumber changes rest)
+    (AreNewChanges settings IsNew IsNumber changes [])) (sym parts.0)
+    (none_written settings IsNew IsNumber changes parts.1)
 
 -- the law of a revision, as the contract states it
 pub each_revision : EachRevisionRestricts

@@ -1,20 +1,21 @@
 -- A whole history: what holds after each revision, and so at the end.
-use Rattle.std.proofs.Common.{◌≡◌, ℕ, zero, suc, Bool, true, false, ◌&&◌, List, [], ◌∷◌, ◌++◌, length, Option, Some, None, option_and_then, cond, IsTrue, MatchBool, refl, sym, ap, ◌∙◌, subst, inl, inr, not, arith, append-nil, append_assoc}
+use Rattle.std.proofs.Common.{◌≡◌, ℕ, zero, suc, Bool, true, false, ◌&&◌, List, [], ◌∷◌, ◌++◌, length, Option, Some, None, option_and_then, cond, IsTrue, ◌⊎◌, refl, sym, ap, ◌∙◌, subst, inl, inr, not, arith, append-nil, append_assoc}
 use Rattle.std.specs.Prelude.{slice_get}
-use Rattle.std.specs.List.{list_any, list_all}
-use Rattle.std.proofs.lemmas.Bool.{MatchBool-at_true, MatchBool-at_false, both_ways, and_parts, or_parts, or_cases}
+use Rattle.std.specs.List.{list_any}
+use Rattle.std.proofs.lemmas.Bool.{MatchBool-at_true, MatchBool-at_false, both_ways, and_parts, or_parts, or_cases, not-true}
 use Rattle.dump_rules.specs.Settings.{Settings}
 use Rattle.dump_rules.specs.Renumbering.{KeptRevisions, image}
 use Rattle.dump_trees.specs.Paths.{NodePath, keeps}
 use Rattle.dump_trees.specs.Trees.{Node, Tree, HasFolders, root_alone}
-use Rattle.dump_trees.specs.Changes.{Change, steps}
-use Rattle.dump_trees.specs.Restriction.{is_above_some, given, NewProperty, KeepsEntries, IsNewNode, IsRestricted}
+use Rattle.dump_trees.specs.Changes.{is_copied, Change, steps}
+use Rattle.dump_trees.specs.Restriction.{is_above_some, given, NewProperty, NewNumber, KeepsEntries, IsNewNode, IsRestricted}
 use Rattle.dump_trees.specs.StepLaws.{AllHaveFolders, AreRestricted, IsMade}
-use Rattle.dump_trees.specs.Revisions.{loaded, loaded_over, AreNewChanges, EmptyRule, keeps_revision, stays_numbered, AreNewRevisions, kept_from, kept_of, IsWrittenNumber, AllRevisionsSeparate}
+use Rattle.dump_trees.specs.Revisions.{loaded, loaded_over, AreNewChanges, EmptyRule, keeps_revision, names_kept, names_none, names_none_behind, stays_numbered, AreNewRevisions, kept_from, kept_of, IsWrittenNumber, AllRevisionsSeparate}
 use Rattle.dump_trees.specs.HistoryLaws.{ImagesRestrict, HistoryRestricts, EachHistoryRestricts}
 use Rattle.dump_trees.proofs.changes.StageLemmas.{Follows}
 use Rattle.dump_trees.proofs.changes.FolderLemmas.{KeepsFolders}
 use Rattle.dump_trees.proofs.changes.RevisionLemmas.{steps_keep, steps_follow, none_written}
+use Rattle.dump_trees.proofs.histories.NamingLemmas.{other_changes}
 use Rattle.dump_trees.proofs.histories.KeptNumbers.{length_push, get_last, get_before, get_pushed, AreBelow, below_next, below_pushed, kept_above, image_kept, image_dropped}
 
 -- the start
@@ -38,6 +39,25 @@ start_restricts settings IsNew entries = record { kept = kept; left = λ path le
 module _ (settings : Settings) (IsNew : NewProperty) (entries : KeepsEntries IsNew) (rule : EmptyRule)
     (kept : KeptRevisions)
     (zero_first : kept.first ≡ 0) (begun : List ℕ) (others_behind : List (List Change)) where
+  -- so far each number is its own image
+  record IsEven (number : ℕ) (trees others : List Tree) : Type 0 where
+    size : length others ≡ suc number
+    own : (n : ℕ) (tree : Tree) → slice_get trees n ≡ Some tree → image kept n ≡ Some n
+
+  -- whether no kept change of these revisions is a copy
+  abbrev copies_none : List (List Change) → Bool
+  copies_none revisions = names_none settings (λ (c : Change). is_copied c.made) revisions
+
+  -- so as long as one may be
+  abbrev copies_none_behind : List (List Change) → Bool
+  copies_none_behind revisions = names_none_behind settings rule (λ (c : Change). is_copied c.made) revisions
+
+  -- how the kept copies of these revisions find their sources: revisions are renumbered, or the numbers are even, or
+  -- there are no such copies
+  abbrev FindsCopies : ℕ → List Tree → List Tree → List (List Change) → Type 0
+  FindsCopies number trees others revisions = (settings.renumber ≡ true)
+      ⊎ ((IsEven number trees others × (copies_none_behind revisions ≡ true)) ⊎ (copies_none revisions ≡ true))
+
   -- what holds between the two loads after the revision of this number, while these revisions are left, and behind them
   -- those that aren't loaded; the kept numbers of the loaded ones, once all are, are those that begun lists
   record Ongoing (number : ℕ) (trees others : List Tree) (youngest restricted : Tree) (revisions : List (List Change))
@@ -52,29 +72,29 @@ module _ (settings : Settings) (IsNew : NewProperty) (entries : KeepsEntries IsN
     begins : begun ≡ earlier ++ kept_from settings rule (suc number) revisions
     low : AreBelow (suc number) earlier
     count : length others ≡ length earlier
-    images : (n : ℕ) (tree : Tree) → slice_get trees n ≡ Some tree →
-        (new : ℕ) × (other : Tree) × (image kept n ≡ Some new) × (slice_get others new ≡ Some other)
-        × IsRestricted settings IsNew tree other × (settings.renumber ≡ false → new ≡ n)
-    even : settings.renumber ≡ false → length others ≡ suc number
-    all_kept : settings.renumber ≡ false → list_all (λ changes. keeps_revision settings rule changes) revisions ≡ true
+    images : ImagesRestrict settings IsNew (image kept) trees others
+    found : FindsCopies number trees others revisions
 
-  -- the trees that copies may name
-  copies_restrict : (number : ℕ) (trees others : List Tree) (youngest restricted : Tree)
-      (revisions : List (List Change))
-      → Ongoing number trees others youngest restricted revisions
+  -- with renumbering the trees that copies name are at the images
+  renumbered_restrict : settings.renumber ≡ true → (trees others : List Tree)
+      → ImagesRestrict settings IsNew (image kept) trees others
       → AreRestricted settings IsNew (IsWrittenNumber settings kept) (slice_get trees) (slice_get others)
-  copies_restrict number trees others youngest restricted revisions o n written tree numbered at =
+  renumbered_restrict renumber trees others images n written tree numbered at =
+      let (new, other, image_is, stands, restricted) = images n tree at in
+      let same : Some new ≡ Some written = sym image_is ∙ MatchBool-at_true _ _ renumber numbered in
       subst (λ m. (other : Tree) × (slice_get others m ≡ Some other) × IsRestricted settings IsNew tree other)
-      (cases settings.renumber refl numbered) (there.1, there.3, there.4)
-    where
-      there : (new : ℕ) × (other : Tree) × (image kept n ≡ Some new) × (slice_get others new ≡ Some other)
-          × IsRestricted settings IsNew tree other × (settings.renumber ≡ false → new ≡ n)
-      there = o.images n tree at
+      (let one : new ≡ written = cc in one) (other, stands, restricted)
 
-      cases : (b : Bool) → settings.renumber ≡ b → MatchBool b (image kept n ≡ Some written) (written ≡ n)
-          → there.0 ≡ written
-      cases true is same = let both : Some there.0 ≡ Some written = sym there.2 ∙ same in cc
-      cases false is same = there.5 is ∙ sym same
+  -- where numbers are even they are so without
+  even_restrict : settings.renumber ≡ false → (number : ℕ) (trees others : List Tree) → IsEven number trees others
+      → ImagesRestrict settings IsNew (image kept) trees others
+      → AreRestricted settings IsNew (IsWrittenNumber settings kept) (slice_get trees) (slice_get others)
+  even_restrict stays number trees others even images n written tree numbered at =
+      let (new, other, image_is, stands, restricted) = images n tree at in
+      let same : Some new ≡ Some n = sym image_is ∙ even.own n tree at in
+      let own : written ≡ n = MatchBool-at_false _ _ stays numbered in
+      subst (λ m. (other : Tree) × (slice_get others m ≡ Some other) × IsRestricted settings IsNew tree other)
+      (let one : new ≡ written = cc in one) (other, stands, restricted)
 
   folders_more : (trees : List Tree) (tree : Tree) → AllHaveFolders (slice_get trees) → HasFolders tree
       → AllHaveFolders (slice_get (trees ++ tree ∷ []))
@@ -107,8 +127,7 @@ module _ (settings : Settings) (IsNew : NewProperty) (entries : KeepsEntries IsN
     low = below_pushed (suc number) o.earlier o.low;
     count = length_push others other ∙ (ap suc o.count ∙ sym (length_push o.earlier (suc number)));
     images = images;
-    even = λ plain. length_push others other ∙ ap suc (o.even plain);
-    all_kept = λ plain. (and_parts (keeps_revision settings rule changes) _ (o.all_kept plain)).1;
+    found = found;
   }
     where
       later : List ℕ
@@ -133,21 +152,40 @@ module _ (settings : Settings) (IsNew : NewProperty) (entries : KeepsEntries IsN
           (kept_above settings rule (suc number) (suc (suc number)) (revisions ++ others_behind) (omega arith))
           ∙ ap Some (sym o.count)
 
-      images : (n : ℕ) (t : Tree) → slice_get (trees ++ tree ∷ []) n ≡ Some t →
-          (new : ℕ) × (u : Tree) × (image kept n ≡ Some new) × (slice_get (others ++ other ∷ []) new ≡ Some u)
-          × IsRestricted settings IsNew t u × (settings.renumber ≡ false → new ≡ n)
+      images : ImagesRestrict settings IsNew (image kept) (trees ++ tree ∷ []) (others ++ other ∷ [])
       images n t at =
           elim (get_pushed trees tree n t at) [
             | inl before ↦ (let there = o.images n t before in
-                (there.0, there.1, there.2, get_before others (other ∷ []) there.0 there.1 there.3, there.4, there.5))
+                (there.0, there.1, there.2, get_before others (other ∷ []) there.0 there.1 there.3, there.4))
             | inr end ↦ (
               length others,
               other,
               ap (image kept) (end.0 ∙ o.size) ∙ its_image,
               get_last others other,
               subst (λ v. IsRestricted settings IsNew v other) end.1 r,
-              λ plain. o.even plain ∙ sym (end.0 ∙ o.size),
             )
+          ]
+
+      still_even : IsEven number trees others → IsEven (suc number) (trees ++ tree ∷ []) (others ++ other ∷ [])
+      still_even even = record {
+        size = length_push others other ∙ ap suc even.size;
+        own = λ n t at.
+            elim (get_pushed trees tree n t at) [
+              | inl before ↦ even.own n t before
+              | inr end ↦ ap (image kept) (end.0 ∙ o.size)
+                  ∙ (its_image ∙ ap Some (even.size ∙ sym (end.0 ∙ o.size)))
+            ];
+      }
+
+      found : FindsCopies (suc number) (trees ++ tree ∷ []) (others ++ other ∷ []) revisions
+      found =
+          elim o.found [
+            | inl renumber ↦ inl renumber
+            | inr (inl (even, none)) ↦ inr (inl (
+              still_even even,
+              sym (ap (λ b. cond b (copies_none_behind revisions) (copies_none revisions)) is) ∙ none,
+            ))
+            | inr (inr none) ↦ inr (inr (and_parts _ (copies_none revisions) none).1)
           ]
 
   -- a dropped revision
@@ -169,13 +207,17 @@ module _ (settings : Settings) (IsNew : NewProperty) (entries : KeepsEntries IsN
     low = below_next (suc number) o.earlier o.low;
     count = o.count;
     images = images;
-    even = λ plain. absurd (never plain);
-    all_kept = λ plain. absurd (never plain);
+    found = found;
   }
     where
-      never : settings.renumber ≡ false → ⊥
-      never plain = both_ways _ is (and_parts (keeps_revision settings rule changes)
-          (list_all (λ others. keeps_revision settings rule others) revisions) (o.all_kept plain)).0
+      found : FindsCopies (suc number) (trees ++ tree ∷ []) others revisions
+      found =
+          elim o.found [
+            | inl renumber ↦ inl renumber
+            | inr (inl (even, none)) ↦ inr (inr
+                (sym (ap (λ b. cond b (copies_none_behind revisions) (copies_none revisions)) is) ∙ none))
+            | inr (inr none) ↦ inr (inr (and_parts _ (copies_none revisions) none).1)
+          ]
 
       split : kept.numbers ≡ o.earlier ++ kept_from settings rule (suc (suc number)) (revisions ++ others_behind)
       split = o.numbers
@@ -190,9 +232,7 @@ module _ (settings : Settings) (IsNew : NewProperty) (entries : KeepsEntries IsN
           (kept_from settings rule (suc (suc number)) (revisions ++ others_behind)) split
           o.low (kept_above settings rule (suc number) (suc (suc number)) (revisions ++ others_behind) (omega arith))
 
-      images : (n : ℕ) (t : Tree) → slice_get (trees ++ tree ∷ []) n ≡ Some t →
-          (new : ℕ) × (u : Tree) × (image kept n ≡ Some new) × (slice_get others new ≡ Some u)
-          × IsRestricted settings IsNew t u × (settings.renumber ≡ false → new ≡ n)
+      images : ImagesRestrict settings IsNew (image kept) (trees ++ tree ∷ []) others
       images n t at =
           elim (get_pushed trees tree n t at) [
             | inl before ↦ o.images n t before
@@ -202,7 +242,6 @@ module _ (settings : Settings) (IsNew : NewProperty) (entries : KeepsEntries IsN
               ap (image kept) (end.0 ∙ o.size) ∙ (its_image ∙ there.2),
               there.3,
               subst (λ v. IsRestricted settings IsNew v there.1) end.1 (same there.1 there.4),
-              λ plain. absurd (never plain),
             ))
           ]
 
@@ -220,8 +259,7 @@ module _ (settings : Settings) (IsNew : NewProperty) (entries : KeepsEntries IsN
         others,
         refl,
         o.count ∙ ap length (sym (o.begins ∙ append-nil o.earlier)),
-        subst (λ ts. ImagesRestrict settings IsNew (image kept) ts others) same
-            (λ n tree there. let found = o.images n tree there in (found.0, found.1, found.2, found.3, found.4)),
+        subst (λ ts. ImagesRestrict settings IsNew (image kept) ts others) same o.images,
       )
 
   -- what is shown of the revisions behind one
@@ -240,18 +278,38 @@ module _ (settings : Settings) (IsNew : NewProperty) (entries : KeepsEntries IsN
       (apart : AllRevisionsSeparate settings trees youngest (changes ∷ revisions)) (final : List Tree) (tree : Tree)
       (at : steps (slice_get trees) youngest changes ≡ Some tree) (has : HasFolders tree)
       (rest_loaded : loaded (trees ++ tree ∷ []) tree revisions ≡ Some final) where
+    follow_by : (IsNumber : NewNumber)
+        → AreRestricted settings IsNew IsNumber (slice_get trees) (slice_get others) → (written : List Change)
+        → AreNewChanges settings IsNew IsNumber changes written
+        → (other : Tree) → IsRestricted settings IsNew youngest other
+        → Follows settings IsNew (Some tree) (steps (slice_get others) other written)
+    follow_by IsNumber same written new other r =
+        subst (λ a. Follows settings IsNew a (steps (slice_get others) other written)) at
+        (steps_follow settings IsNew IsNumber entries (slice_get trees) (slice_get others) o.folders same changes
+        written youngest other o.has r apart.0 new)
+
     -- the changes of the revision, whatever is written of them
     changes_follow : (written : List Change)
         → AreNewChanges settings IsNew (IsWrittenNumber settings kept) changes written
         → (other : Tree) → IsRestricted settings IsNew youngest other
         → Follows settings IsNew (Some tree) (steps (slice_get others) other written)
-    changes_follow written new other r =
-        subst (λ a. Follows settings IsNew a (steps (slice_get others) other written)) at
-        (steps_follow settings IsNew (IsWrittenNumber settings kept) entries (slice_get trees)
-        (slice_get others) o.folders
-        (copies_restrict number trees others youngest restricted
-        (changes ∷ revisions) o) changes written youngest other o.has r
-        apart.0 new)
+    changes_follow written new = by_found (settings.renumber) refl o.found
+      where
+        Followed : Type 0
+        Followed = (other : Tree) → IsRestricted settings IsNew youngest other
+            → Follows settings IsNew (Some tree) (steps (slice_get others) other written)
+
+        by_found : (b : Bool) → settings.renumber ≡ b → FindsCopies number trees others (changes ∷ revisions)
+            → Followed
+        by_found true renumber found = follow_by (IsWrittenNumber settings kept)
+            (renumbered_restrict renumber trees others o.images) written new
+        by_found false stays (inl renumber) = absurd (both_ways settings.renumber stays renumber)
+        by_found false stays (inr (inl (even, none))) = follow_by (IsWrittenNumber settings kept)
+            (even_restrict stays number trees others even o.images) written new
+        by_found false stays (inr (inr none)) = follow_by (λ old number. ⊥) (λ n m t bad. absurd bad) written
+            (other_changes settings IsNew (IsWrittenNumber settings kept) (λ old number. ⊥) changes written
+            (not-true _ (and_parts (not (names_kept settings (λ (c : Change). is_copied c.made) changes))
+            (copies_none revisions) none).0) new)
 
     kept_goes_on : keeps_revision settings rule changes ≡ true → (new : List Change) (rest : List (List Change))
         → AreNewChanges settings IsNew (IsWrittenNumber settings kept) changes new
@@ -276,9 +334,7 @@ module _ (settings : Settings) (IsNew : NewProperty) (entries : KeepsEntries IsN
         further written (suc number) (trees ++ tree ∷ []) others tree restricted
         (next_dropped number trees others youngest restricted changes revisions o is tree has
         (λ other r. changes_follow []
-        (none_written settings IsNew (IsWrittenNumber settings kept) entries (slice_get trees)
-        (slice_get others) o.folders
-        (copies_restrict number trees others youngest restricted (changes ∷ revisions) o) changes
+        (none_written settings IsNew (IsWrittenNumber settings kept) changes
         (or_parts (list_any (λ (c : Change). keeps settings c.path) changes) (rule changes) is).0) other r))
         (apart.1 tree at) new_revisions final rest_loaded
 
@@ -333,30 +389,31 @@ front_follows settings IsNew entries rule kept zero_first revisions rest written
     start_folders zero tree is = subst HasFolders (let both : Some root_alone ≡ Some tree = is in cc) root_folders
     start_folders (suc n) tree is = absurd (let bad : None ≡ Some tree = is in cc)
 
-    start_images : (n : ℕ) (tree : Tree) → slice_get (root_alone ∷ []) n ≡ Some tree →
-        (number : ℕ) × (other : Tree) × (image kept n ≡ Some number)
-        × (slice_get (given settings ∷ []) number ≡ Some other)
-        × IsRestricted settings IsNew tree other × (settings.renumber ≡ false → number ≡ n)
+    zero_image : image kept 0 ≡ Some 0
+    zero_image = image_kept kept zero_first 0 [] (kept_from settings rule 1 (revisions ++ rest)) all_numbers refl
+        (kept_above settings rule 0 1 (revisions ++ rest) (omega arith))
+
+    start_images : ImagesRestrict settings IsNew (image kept) (root_alone ∷ []) (given settings ∷ [])
     start_images zero tree is = (
       0,
       given settings,
-      image_kept kept zero_first 0 [] (kept_from settings rule 1 (revisions ++ rest)) all_numbers refl
-          (kept_above settings rule 0 1 (revisions ++ rest) (omega arith)),
+      zero_image,
       refl,
       subst (λ t. IsRestricted settings IsNew t (given settings)) (let both : Some root_alone ≡ Some tree = is in cc)
           (start_restricts settings IsNew entries),
-      λ plain. refl,
     )
     start_images (suc n) tree is = absurd (let bad : None ≡ Some tree = is in cc)
 
-    all_kept : settings.renumber ≡ false → list_all (λ changes. keeps_revision settings rule changes) revisions ≡ true
-    all_kept plain =
-        elim
-        (or_cases settings.renumber
-        (list_all (λ changes. keeps_revision settings rule changes) revisions) numbered) [
-          | inl renumbered ↦ absurd (both_ways _ plain renumbered)
-          | inr all ↦ all
-        ]
+    start_even : IsEven settings IsNew entries rule kept zero_first (0 ∷ kept_from settings rule 1 revisions) rest 0
+        (root_alone ∷ []) (given settings ∷ [])
+    start_even = record {
+      size = refl;
+      own = own;
+    }
+      where
+        own : (n : ℕ) (tree : Tree) → slice_get (root_alone ∷ []) n ≡ Some tree → image kept n ≡ Some n
+        own zero tree is = zero_image
+        own (suc n) tree is = absurd (let bad : None ≡ Some tree = is in cc)
 
     start : Ongoing settings IsNew entries rule kept zero_first (0 ∷ kept_from settings rule 1 revisions) rest 0
         (root_alone ∷ []) (given settings ∷ []) root_alone (given settings) revisions
@@ -372,8 +429,13 @@ front_follows settings IsNew entries rule kept zero_first revisions rest written
       low = refl;
       count = refl;
       images = start_images;
-      even = λ plain. refl;
-      all_kept = all_kept;
+      found =
+          elim
+          (or_cases settings.renumber
+          (names_none_behind settings rule (λ (c : Change). is_copied c.made) revisions) numbered) [
+            | inl renumbered ↦ inl renumbered
+            | inr none ↦ inr (inl (start_even, none))
+          ];
     }
 
 -- the law of a history, for each relation of new properties that keeps entries

@@ -38,16 +38,43 @@ kept_bare = refl
 kept_all : (kept_of (including (codes "a")) (λ changes. true) six).numbers ≡ 0 ∷ 1 ∷ 2 ∷ 3 ∷ 4 ∷ 5 ∷ 6 ∷ []
 kept_all = refl
 
--- the numbers stay 0, 1, 2 and so on where revisions are renumbered, or none is dropped
+-- each kept copy finds its revision by its number where revisions are renumbered, or none is dropped; where one is, while
+-- no kept change behind it is a copy
 
-numbers_renumbered : stays_numbered (including (codes "a")) none_more six ≡ true
+-- the options without renumbering
+abbrev left_numbers : Settings
+left_numbers = record (including (codes "a")) { renumber = false }
+
+-- one more revision with this change
+abbrev with_change : Change → List (List Change)
+with_change c = six ++ (c ∷ []) ∷ []
+
+numbers_renumbered : stays_numbered (including (codes "a")) none_more (with_change (copy 2 (codes "a") (codes "a/c"))) ≡ true
 numbers_renumbered = refl
 
-numbers_left : stays_numbered (record (including (codes "a")) { renumber = false }) none_more six ≡ false
-numbers_left = refl
-
-numbers_kept : stays_numbered (record (including (codes "a")) { renumber = false }) (λ changes. true) six ≡ true
+numbers_kept : stays_numbered left_numbers (λ changes. true) (with_change (copy 2 (codes "a") (codes "a/c"))) ≡ true
 numbers_kept = refl
+
+numbers_not_named : stays_numbered left_numbers none_more six ≡ true
+numbers_not_named = refl
+
+numbers_named : stays_numbered left_numbers none_more (with_change (copy 2 (codes "a") (codes "a/c"))) ≡ false
+numbers_named = refl
+
+-- a copy that is left out names nothing in what is written
+numbers_left_out : stays_numbered left_numbers none_more (with_change (copy 2 (codes "a") (codes "c/a"))) ≡ true
+numbers_left_out = refl
+
+-- a copy before the first dropped revision finds its own
+numbers_before : stays_numbered left_numbers none_more
+    ((folder (codes "a") ∷ []) ∷ (copy 1 (codes "a") (codes "a/c") ∷ []) ∷ six) ≡ true
+numbers_before = refl
+
+-- one behind it counts, be there more kept revisions between
+numbers_behind : stays_numbered left_numbers none_more
+    ((folder (codes "a") ∷ []) ∷ [] ∷ (change (codes "a") ∷ []) ∷ (change (codes "a") ∷ copy 1 (codes "a") (codes "a/c") ∷ []) ∷ [])
+    ≡ false
+numbers_behind = refl
 
 image_of_zero : image kept 0 ≡ Some 0
 image_of_zero = refl

@@ -1,4 +1,5 @@
 use Rattle.dump_history.proofs.survey.FindingLemmas.{findings_once, obstacles_exact, alarms_exact}
+use Rattle.dump_history.proofs.survey.NamingTest.{dump_findings_once}
 use Rattle.dump_history.proofs.laws.each_finding_is_exact.Goals as goal
 
 pub returns-clause-once : goal.returns-clause-once
@@ -9,3 +10,6 @@ returns-clause-obstacles c = obstacles_exact
 
 pub returns-clause-alarms : goal.returns-clause-alarms
 returns-clause-alarms c = alarms_exact
+
+pub returns-clause-whole : goal.returns-clause-whole
+returns-clause-whole c = dump_findings_once

@@ -1,0 +1,89 @@
+-- Whether a kept node names a revision can be told, node by node, and so whether one behind a dropped revision does.
+use Rattle.std.proofs.Common.{◌≡◌, ◌↔◌, Bool, true, false, ◌&&◌, ◌||◌, List, [], ◌∷◌, if◌then◌else◌, IsTrue, MatchBool, refl, ap, ◌∙◌, inl, inr}
+use Rattle.std.specs.List.{list_any}
+use Rattle.std.proofs.lemmas.Bool.{or_cases, or_left, or_right, and_parts, and_from}
+use Rattle.dump_records.specs.RecordText.{DumpRecord}
+use Rattle.dump_rules.specs.Settings.{Settings}
+use Rattle.dump_rules.proofs.faults.FaultLemmas.{found, finds}
+use Rattle.dump_digest.specs.RecordParts.{is_copy, is_kept_node, is_mergeinfo}
+use Rattle.dump_digest.proofs.PropertyBlocks.{property_list_once, block_or_not}
+use Rattle.dump_filter.specs.Groups.{Group, groups, keeps_group}
+use Rattle.dump_history.specs.RecordChanges.{makes}
+use Rattle.dump_history.specs.NumberGaps.{SetsMergeinfo, NamesRevision, HasNamingNode, HasNamingNodeBehind}
+use Rattle.dump_history.specs.Findings.{dump_findings}
+use Rattle.dump_history.specs.steps.NamingTests.{TellsNaming, nodes_name, groups_name, groups_name_behind}
+use Rattle.dump_history.specs.SurveyLaws.{DumpFindingsAreOnce}
+use Rattle.dump_history.proofs.survey.FindingLemmas.{same_truth}
+
+-- whether the node sets mergeinfo
+pub merge_told : (r : DumpRecord) → (b : Bool) × (IsTrue b ↔ SetsMergeinfo r)
+merge_told r = elim (block_or_not r) [
+  | inl (ps, list) ↦ (
+    list_any is_mergeinfo ps,
+    (
+      λ set. (ps, list, set),
+      λ (qs, other, set). ap (list_any is_mergeinfo) (property_list_once r ps qs list other) ∙ set,
+    ),
+  )
+  | inr unread ↦ (false, (λ bad. cc, λ (ps, list, set). absurd (unread (ps, list))))
+]
+
+-- whether it names a revision
+naming_told : (r : DumpRecord) → (b : Bool) × (IsTrue b ↔ NamesRevision r)
+naming_told r = let (merges, told) = merge_told r in (
+  (makes r && is_copy r) || merges,
+  (
+    λ names. elim (or_cases (makes r && is_copy r) merges names) [
+      | inl copies ↦ inl copies
+      | inr set ↦ inr (told.0 set)
+    ],
+    λ names. elim names [
+      | inl copies ↦ or_left (makes r && is_copy r) merges copies
+      | inr set ↦ or_right (makes r && is_copy r) merges (told.1 set)
+    ],
+  ),
+)
+
+-- so as a test of nodes
+pub names_test : DumpRecord → Bool
+names_test r = (naming_told r).0
+
+pub test_tells : TellsNaming names_test
+unfolding names_test naming_told
+test_tells r = (naming_told r).1
+
+module _ (settings : Settings) (names : DumpRecord → Bool) (tells : TellsNaming names) where
+  names_in : (gs : List Group) → groups_name settings names gs ≡ true → HasNamingNode settings gs
+  names_in gs some =
+      let (g, there, so) = found (λ (h : Group). nodes_name settings names h.nodes) gs some in
+      let (r, within, both) = found (λ r. is_kept_node settings r && names r) g.nodes so in
+      let parts = and_parts (is_kept_node settings r) (names r) both in
+      (g, r, there, within, parts.0, (tells r).0 parts.1)
+
+  names_back : (gs : List Group) → HasNamingNode settings gs → groups_name settings names gs ≡ true
+  names_back gs (g, r, there, within, kept, naming) =
+      finds (λ (h : Group). nodes_name settings names h.nodes) gs g there
+      (finds (λ s. is_kept_node settings s && names s) g.nodes r within
+      (and_from (is_kept_node settings r) (names r) kept ((tells r).1 naming)))
+
+  -- the test of nodes tells it of groups
+  pub behind_told : (gs : List Group) → IsTrue (groups_name_behind settings names gs) ↔ HasNamingNodeBehind settings gs
+  behind_told [] = (λ bad. let worse : false ≡ true = bad in cc, λ none. absurd none)
+  behind_told (g ∷ gs) = by_kept (behind_told gs) (keeps_group settings g)
+    where
+      by_kept : IsTrue (groups_name_behind settings names gs) ↔ HasNamingNodeBehind settings gs → (b : Bool)
+          → IsTrue (if b then groups_name_behind settings names gs else groups_name settings names gs)
+          ↔ MatchBool b (HasNamingNodeBehind settings gs) (HasNamingNode settings gs)
+      by_kept later true = later
+      by_kept later false = (names_in gs, names_back gs)
+
+-- a dump has one list of findings as a whole
+pub dump_findings_once : DumpFindingsAreOnce
+dump_findings_once settings records =
+    let named = groups_name_behind settings names_test (groups records) in
+    let told = behind_told settings names_test test_tells (groups records) in (
+      dump_findings settings records named,
+      (named, told, refl),
+      λ others (other, other_told, same). same
+          ∙ ap (λ b. dump_findings settings records b) (same_truth other named other_told told),
+    )

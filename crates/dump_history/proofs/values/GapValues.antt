@@ -1,0 +1,228 @@
+-- Worked values of gaps in a dump's numbers, and of nodes that name a revision behind a dropped one.
+use Rattle.std.proofs.Common.{◌≡◌, ℕ, zero, suc, Bool, true, false, ◌||◌, List, [], ◌∷◌, Some, None, refl, ap, inl, inr, arith, codes}
+use Rattle.dump_text.specs.PropertyList.{Property}
+use Rattle.dump_records.specs.RecordText.{DumpRecord}
+use Rattle.dump_rules.specs.Settings.{Settings}
+use Rattle.dump_digest.specs.RecordParts.{HasPropertyList}
+use Rattle.dump_digest.proofs.PropertyBlocks.{property_list_once}
+use Rattle.dump_filter.specs.Groups.{groups, first_number}
+use Rattle.dump_trees.specs.Paths.{path_of}
+use Rattle.dump_trees.specs.Trees.{root_alone}
+use Rattle.dump_trees.specs.Changes.{Made, PropertyChange, Change}
+use Rattle.dump_history.specs.RecordChanges.{Patching}
+use Rattle.dump_history.specs.NumberGaps.{names_revision, name_no_revision, go_up, count_to_gap, MakeRevisionsWithGaps, LoadsWithGapsAs, NamesRevision, NamesRevisionBehind, KeepsNamedNumbers}
+use Rattle.dump_history.specs.PartLaws.{MakePartRevisionsWithGaps}
+use Rattle.dump_history.specs.Findings.{DumpFinding, AreDumpFindingsOf}
+use Rattle.dump_history.proofs.survey.NamingTest.{names_test, test_tells, behind_told}
+use Rattle.dump_history.proofs.values.WorkedDump.{line, record_at, version, one, two, three, trunk, other, copy, records, settings, folder, none_of, makes_trunk}
+use Rattle.dump_history.proofs.values.WorkedDump.{zero as revision_0}
+
+-- changes that name a revision
+
+abbrev plain : Change
+plain = folder (codes "trunk") (Some Made.NewFolder)
+
+abbrev copied : Change
+copied = folder (codes "trunk/b") (Some (Made.Copied 2 (path_of (codes "trunk"))))
+
+abbrev merge : Property
+merge = record { name = codes "svn:mergeinfo"; value = Some (codes "/b:1") }
+
+abbrev merging : Change
+merging = record plain { props = Some (PropertyChange.Edited (merge ∷ [])) }
+
+folder_names_none : names_revision plain ≡ false
+folder_names_none = refl
+
+copy_names_one : names_revision copied ≡ true
+copy_names_one = refl
+
+mergeinfo_names_one : names_revision merging ≡ true
+mergeinfo_names_one = refl
+
+none_in_folders : name_no_revision ([] ∷ (plain ∷ plain ∷ []) ∷ []) ≡ true
+none_in_folders = refl
+
+one_in_second : name_no_revision ((plain ∷ []) ∷ (plain ∷ merging ∷ []) ∷ []) ≡ false
+one_in_second = refl
+
+-- numbers
+
+goes_up : go_up 2 (3 ∷ 7 ∷ 8 ∷ []) ≡ true
+goes_up = refl
+
+stays : go_up 2 (3 ∷ 3 ∷ []) ≡ false
+stays = refl
+
+not_above : go_up 2 (2 ∷ 3 ∷ []) ≡ false
+not_above = refl
+
+no_gap : count_to_gap 1 (1 ∷ 2 ∷ []) ((copied ∷ []) ∷ (merging ∷ []) ∷ []) ≡ true
+no_gap = refl
+
+plain_behind_gap : count_to_gap 1 (1 ∷ 3 ∷ 7 ∷ []) ((copied ∷ []) ∷ (plain ∷ []) ∷ [] ∷ []) ≡ true
+plain_behind_gap = refl
+
+copy_at_gap : count_to_gap 1 (1 ∷ 3 ∷ []) ((plain ∷ []) ∷ (copied ∷ []) ∷ []) ≡ false
+copy_at_gap = refl
+
+copy_behind_gap : count_to_gap 1 (1 ∷ 3 ∷ 4 ∷ []) ((plain ∷ []) ∷ (plain ∷ []) ∷ (copied ∷ []) ∷ []) ≡ false
+copy_behind_gap = refl
+
+mergeinfo_behind_gap : count_to_gap 1 (2 ∷ []) ((merging ∷ []) ∷ []) ≡ false
+mergeinfo_behind_gap = refl
+
+number_again : count_to_gap 1 (1 ∷ 1 ∷ []) ((plain ∷ []) ∷ (plain ∷ []) ∷ []) ≡ false
+number_again = refl
+
+falls_behind_gap : count_to_gap 1 (3 ∷ 2 ∷ []) ((plain ∷ []) ∷ (plain ∷ []) ∷ []) ≡ false
+falls_behind_gap = refl
+
+one_number_more : count_to_gap 1 (1 ∷ 2 ∷ []) ((plain ∷ []) ∷ []) ≡ false
+one_number_more = refl
+
+-- dumps with gaps
+
+-- every delta is refused
+abbrev refused : Patching
+refused delta old = None
+
+-- revision 1 is missing
+with_gap : MakeRevisionsWithGaps refused (version ∷ revision_0 ∷ two ∷ trunk ∷ []) ((plain ∷ []) ∷ [])
+with_gap = record {
+  later = 2 ∷ [];
+  begins = refl;
+  numbered = refl;
+  ordered = refl;
+  changes = (tt, ((makes_trunk refused, tt), tt));
+}
+
+-- it is loaded as revision 1
+loads_with_gap : (tree : _) × LoadsWithGapsAs refused root_alone (version ∷ revision_0 ∷ two ∷ trunk ∷ []) ((plain ∷ []) ∷ [])
+    (root_alone ∷ tree ∷ [])
+loads_with_gap = (_, record { makes = with_gap; loads = refl })
+
+-- it begins at revision 0
+from_one : (rs : List (List Change)) → ¬ MakeRevisionsWithGaps refused (version ∷ one ∷ []) rs
+from_one rs makes = let bad : suc zero ≡ zero = ap first_number makes.begins in omega (arith, bad)
+
+-- a part may lack its first revisions too
+part_with_gap : MakePartRevisionsWithGaps refused 0 (version ∷ two ∷ trunk ∷ []) ((plain ∷ []) ∷ [])
+part_with_gap = record { numbered = refl; ordered = refl; changes = ((makes_trunk refused, tt), tt) }
+
+-- nodes that name a revision behind a dropped one
+
+-- the options of the worked dump, without renumbering: revision 2 is dropped
+abbrev left_numbers : Settings
+left_numbers = record settings { renumber = false }
+
+-- a node that sets these property bytes
+abbrev setting : List ℕ → DumpRecord
+setting bytes = record (record_at 0 (line (codes "Node-path") (codes "trunk") ∷ line (codes "Node-action") (codes "change")
+    ∷ line (codes "Prop-content-length") (codes "1") ∷ [])) { props = bytes }
+
+abbrev merges : DumpRecord
+merges = setting (codes "K 13\nsvn:mergeinfo\nV 4\n/b:1\nPROPS-END\n")
+
+reads_merge : HasPropertyList merges (merge ∷ [])
+reads_merge = (
+  inr (
+    codes "K 13\nsvn:mergeinfo\nV 4\n/b:1\n",
+    codes "PROPS-END\n",
+    refl,
+    inl (codes "/b:1", refl, (codes "13", codes "4", refl, refl, refl)),
+    refl,
+  ),
+  λ deletes. cc,
+)
+
+-- a property that isn't mergeinfo
+
+abbrev ignore : Property
+ignore = record { name = codes "svn:ignore"; value = Some (codes "a") }
+
+abbrev ignores : DumpRecord
+ignores = setting (codes "K 10\nsvn:ignore\nV 1\na\nPROPS-END\n")
+
+reads_ignore : HasPropertyList ignores (ignore ∷ [])
+reads_ignore = (
+  inr (
+    codes "K 10\nsvn:ignore\nV 1\na\n",
+    codes "PROPS-END\n",
+    refl,
+    inl (codes "a", refl, (codes "10", codes "1", refl, refl, refl)),
+    refl,
+  ),
+  λ deletes. cc,
+)
+
+copy_names : NamesRevision copy
+copy_names = inl refl
+
+merge_names : NamesRevision merges
+merge_names = inr (merge ∷ [], reads_merge, refl)
+
+folder_names_no_revision : ¬ NamesRevision trunk
+folder_names_no_revision (inl copies) = let bad : false ≡ true = copies in cc
+folder_names_no_revision (inr (ps, list, set)) =
+    let same : ps ≡ [] = property_list_once trunk ps [] list (none_of trunk refl) in cc
+
+ignore_names_no_revision : ¬ NamesRevision ignores
+ignore_names_no_revision (inl copies) = let bad : false ≡ true = copies in cc
+ignore_names_no_revision (inr (ps, list, set)) =
+    let same : ps ≡ ignore ∷ [] = property_list_once ignores ps (ignore ∷ []) list reads_ignore in cc
+
+-- the records up to the dropped revision, and revision 3 with this node
+abbrev behind : DumpRecord → List DumpRecord
+behind r = version ∷ revision_0 ∷ one ∷ trunk ∷ two ∷ other ∷ three ∷ r ∷ []
+
+copy_behind : NamesRevisionBehind left_numbers records
+copy_behind = (_, copy, (0, omega arith, refl), (0, omega arith, refl), refl, copy_names)
+
+mergeinfo_behind : NamesRevisionBehind left_numbers (behind merges)
+mergeinfo_behind = (_, merges, (0, omega arith, refl), (0, omega arith, refl), refl, merge_names)
+
+left : (b : Bool) → (b || false) ≡ true → b ≡ true
+left true is = refl
+left false is = is
+
+-- a node that names none
+folder_behind : ¬ NamesRevisionBehind left_numbers (behind trunk)
+folder_behind names = folder_names_no_revision ((test_tells trunk).0 (left (names_test trunk)
+    (left (names_test trunk || false)
+    ((behind_told left_numbers names_test test_tells (groups (behind trunk))).1 names))))
+
+-- a copy that is left out
+abbrev left_out : DumpRecord
+left_out = record_at 0 (line (codes "Node-path") (codes "b") ∷ line (codes "Node-action") (codes "add")
+    ∷ line (codes "Node-copyfrom-rev") (codes "2") ∷ line (codes "Node-copyfrom-path") (codes "trunk") ∷ [])
+
+left_out_behind : ¬ NamesRevisionBehind left_numbers (behind left_out)
+left_out_behind names = let bad : false ≡ true =
+    (behind_told left_numbers names_test test_tells (groups (behind left_out))).1 names in cc
+
+-- one before the dropped revision
+abbrev copied_before : List DumpRecord
+copied_before = version ∷ revision_0 ∷ one ∷ trunk ∷ copy ∷ two ∷ other ∷ []
+
+copy_before : ¬ NamesRevisionBehind left_numbers copied_before
+copy_before names = let bad : false ≡ true =
+    (behind_told left_numbers names_test test_tells (groups copied_before)).1 names in cc
+
+-- what is found
+
+numbers_found : AreDumpFindingsOf left_numbers records (DumpFinding.NumbersLeft ∷ [])
+numbers_found = (true, (λ so. copy_behind, λ names. refl), refl)
+
+none_found : AreDumpFindingsOf left_numbers (behind trunk) []
+none_found = (false, (λ bad. let worse : false ≡ true = bad in cc, λ names. absurd (folder_behind names)), refl)
+
+renumbered : AreDumpFindingsOf settings records []
+renumbered = (true, (λ so. copy_behind, λ names. refl), refl)
+
+-- and what the law asks
+kept_by_name : KeepsNamedNumbers left_numbers (behind trunk)
+kept_by_name = folder_behind
+
+kept_by_renumbering : KeepsNamedNumbers settings records
+kept_by_renumbering = tt

@@ -1,0 +1,33 @@
+-- Whether mergeinfo stands among properties, one by one.
+use Rattle.std.proofs.Common.{◌≡◌, ◌↔◌, ℕ, Bool, true, false, IsTrue, ◌||◌, List, ◌∷◌, sym, ap, ◌∙◌, subst}
+use Rattle.std.specs.List.{list_any}
+use Rattle.dump_text.specs.PropertyList.{Property, IsPropertyBlock}
+use Rattle.dump_text.specs.declared.props.Props.{Props}
+use Rattle.dump_text.specs.steps.PropertyViews.{props_bytes}
+use Rattle.dump_records.specs.RecordText.{DumpRecord}
+use Rattle.dump_digest.specs.RecordParts.{is_mergeinfo, HasPropertyBlock}
+use Rattle.dump_history.specs.NumberGaps.{SetsMergeinfo}
+
+pub merge_stops : (ps qs : List Property) (p : Property) → ps ≡ p ∷ qs → is_mergeinfo p ≡ true
+    → list_any is_mergeinfo ps ≡ true
+merge_stops ps qs p is merges = ap (list_any is_mergeinfo) is ∙ ap (λ b. b || list_any is_mergeinfo qs) merges
+
+pub merge_goes : (ps qs : List Property) (p : Property) → ps ≡ p ∷ qs → is_mergeinfo p ≡ false
+    → list_any is_mergeinfo ps ≡ list_any is_mergeinfo qs
+merge_goes ps qs p is other = ap (list_any is_mergeinfo) is ∙ ap (λ b. b || list_any is_mergeinfo qs) other
+
+-- where the block is read, its properties tell whether the node sets mergeinfo
+pub merges_read : (r : DumpRecord) (props : Props) (sets : Bool) → HasPropertyBlock r → props_bytes props ≡ r.props
+    → ((ps : List Property) → IsPropertyBlock (props_bytes props) ps → sets ≡ list_any is_mergeinfo ps)
+    → IsTrue sets ↔ SetsMergeinfo r
+merges_read r props sets (ps, list) same read = (
+  λ so. (ps, list, sym (read ps (block ps list.0)) ∙ so),
+  λ (qs, other, set). read qs (block qs other.0) ∙ set,
+)
+  where
+    block : (qs : List Property) → IsPropertyBlock r.props qs → IsPropertyBlock (props_bytes props) qs
+    block qs is = subst (λ (bytes : List ℕ). IsPropertyBlock bytes qs) (sym same) is
+
+-- and where it can't be, it doesn't
+pub merges_unread : (r : DumpRecord) → ¬ HasPropertyBlock r → IsTrue false ↔ SetsMergeinfo r
+merges_unread r unread = (λ bad. cc, λ (ps, list, set). absurd (unread (ps, list)))

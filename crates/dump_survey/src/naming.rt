@@ -1,0 +1,62 @@
+//! Nodes that name a revision by its number, and whether the number stays its own.
+ghost use Rattle.std.specs.Prelude.{◌≡◌, ◌↔◌, Bool, IsTrue, List};
+ghost use Rattle.std.specs.List.{list_any};
+ghost use Rattle.dump_text.specs.PropertyList.{IsPropertyBlock, Property};
+ghost use Rattle.dump_text.specs.steps.PropertyViews.{props_bytes};
+ghost use Rattle.dump_records.specs.RecordText.{DumpRecord};
+ghost use Rattle.dump_records.specs.steps.RecordViews.{record_item};
+ghost use Rattle.dump_digest.specs.RecordParts.{is_mergeinfo, is_node};
+ghost use Rattle.dump_history.specs.NumberGaps.{NamesRevision, SetsMergeinfo};
+ghost use Rattle.dump_history.specs.steps.NamingTests.{TellsNaming};
+ghost use Rattle.dump_survey.specs.steps.Naming.{leaves_number};
+
+use crate::node::makes_copy;
+use crate::plain::properties_of;
+use crate::tally::Tally;
+use dump_digest::{is_kept, is_mergeinfo};
+use dump_records::Record;
+use dump_rules::Options;
+use dump_text::Props;
+
+/// Whether mergeinfo stands among the properties.
+fn has_mergeinfo(props: &Props<'_>) -> bool
+    ensures { (ps : List Property) → IsPropertyBlock (props_bytes props.now) ps → result ≡ list_any is_mergeinfo ps }
+{
+    let mut entries = props.entries();
+    while let Some(entry) = entries.next() {
+        if is_mergeinfo(&entry) {
+            return true;
+        }
+    }
+    false
+}
+
+/// Whether a node sets mergeinfo, by a block that can be read.
+fn sets_mergeinfo(item: &Record<'_>) -> bool
+    ensures { IsTrue result ↔ SetsMergeinfo (record_item item.now) }
+{
+    match properties_of(item) {
+        Some(props) => has_mergeinfo(&props),
+        None => false,
+    }
+}
+
+/// Whether a node names a revision: it makes a copy, or sets mergeinfo.
+fn names_revision(item: &Record<'_>) -> bool
+    requires { IsTrue (is_node (record_item item.now)) }
+    ensures { IsTrue result ↔ NamesRevision (record_item item.now) }
+{
+    makes_copy(item) || sets_mergeinfo(item)
+}
+
+/// Whether a record behind those of the tally is a kept node that names a revision, while one is dropped before it and
+/// the others keep their numbers.
+pub(crate) fn leaves_number(item: &Record<'_>, options: &Options, tally: &Tally) -> bool
+    ensures { (names : DumpRecord → Bool) → TellsNaming names
+        → result ≡ leaves_number options.now names tally.now (record_item item.now) }
+{
+    if options.renumber() || !tally.is_behind_dropped() || !is_kept(item, options) {
+        return false;
+    }
+    names_revision(item)
+}
