@@ -132,15 +132,30 @@ fn a_part_of_a_history_is_told_where_its_load_goes_wrong(rt: HostRuntime) -> Res
     Ok(())
 }
 
+// What stands behind a dropped revision: a copy, mergeinfo, neither, and a copy that is left out.
+const COPY: &str =
+    "Node-path: t/b\nNode-action: add\nNode-copyfrom-rev: 1\nNode-copyfrom-path: t/a\n\n";
+
+const MERGE: &str = "Node-path: t/a\nNode-action: change\nProp-content-length: 42\n\n\
+K 13\nsvn:mergeinfo\nV 8\n/trunk:1\nPROPS-END\n\n";
+
+const NEITHER: &str = "Node-path: t/a\nNode-action: change\n\n";
+
+const OUTSIDE: &str =
+    "Node-path: b\nNode-action: add\nNode-copyfrom-rev: 1\nNode-copyfrom-path: t\n\n";
+
 #[test]
 fn a_dropped_revision_leaves_the_others_their_numbers(rt: HostRuntime) -> Result<(), Fail> {
     let rows = [
-        (Empty::Pad, false, false),
-        (Empty::DropEmptied, true, false),
-        (Empty::DropEmptied, false, true),
+        (Empty::Pad, false, COPY, false),
+        (Empty::DropEmptied, true, COPY, false),
+        (Empty::DropEmptied, false, COPY, true),
+        (Empty::DropEmptied, false, MERGE, true),
+        (Empty::DropEmptied, false, NEITHER, false),
+        (Empty::DropEmptied, false, OUTSIDE, false),
     ];
-    for (empty, renumber, left) in rows {
-        let prefixes = [b"branches".as_slice()];
+    for (empty, renumber, node, left) in rows {
+        let prefixes = [b"t".as_slice()];
         let options = Options::new(
             rt.alloc(),
             Side::Include,
@@ -150,8 +165,16 @@ fn a_dropped_revision_leaves_the_others_their_numbers(rt: HostRuntime) -> Result
             false,
             false,
         )?;
-        let survey = survey_dump(rt.alloc(), ONE_NODE, &options)?;
-        assert_eq!(rt; survey.end.dump.numbers_left, left, "{empty:?} {renumber}");
+        let dump = format!(in rt.alloc();
+            "SVN-fs-dump-format-version: 2\n\nRevision-number: 0\n\nRevision-number: 1\n\n{NEITHER}\n\
+Revision-number: 2\n\nNode-path: o\nNode-action: add\n\n\nRevision-number: 3\n\n{node}"
+        )?;
+        let survey = survey_dump(rt.alloc(), dump.as_bytes(), &options)?;
+        assert_eq!(rt;
+            survey.end.dump.numbers_left,
+            left,
+            "{empty:?} {renumber} {node}"
+        );
     }
     Ok(())
 }
