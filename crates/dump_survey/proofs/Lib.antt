@@ -17,6 +17,7 @@ pub mod NamedLemmas
 pub mod NeedLemmas
 pub mod NodeLemmas
 pub mod NumberLemmas
+pub mod PlaceLemmas
 pub mod PlainLemmas
 pub mod PrefixLemmas
 mod PrefixValues

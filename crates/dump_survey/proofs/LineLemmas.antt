@@ -1,10 +1,13 @@
 -- The lines of what is found, one behind the other.
-use Rattle.std.proofs.Common.{◌≡◌, ℕ, Bool, true, false, List, [], ◌∷◌, ◌++◌, flat_map, filter, cond, refl, sym, ap, ◌∙◌, append-nil, append_assoc, Result, Ok, Err}
+use Rattle.std.proofs.Common.{◌≡◌, ℕ, Bool, true, false, List, [], ◌∷◌, ◌++◌, flat_map, filter, map, cond, refl, sym, ap, ◌∙◌, append-nil, append_assoc, Result, Ok, Err}
 use Rattle.std.specs.List.{concat}
 use Rattle.std.specs.Result.{OnOk}
 use Rattle.dump_history.specs.Findings.{DumpFinding, every_dump_finding}
+use Rattle.dump_survey.specs.declared.surveyor.SurveyEnd.{SurveyEnd}
 use Rattle.dump_survey.specs.declared.tally.DumpFindings.{DumpFindings}
 use Rattle.dump_survey.specs.DumpFindings.{has_dump_finding, listed_findings}
+use Rattle.dump_survey.specs.DumpTold.{place_in, told_at_end}
+use Rattle.dump_survey.specs.Lines.{at_words, dump_words, dump_line}
 
 -- the lines of those that pass the test, each where it passes
 lines_of_those : {F : Type 0} (test : F → Bool) (line : F → List ℕ) (fs : List F)
@@ -30,6 +33,19 @@ lines_if line found = cond found.no_revision (line DumpFinding.NoRevision) []
 pub dump_lines : (line : DumpFinding → List ℕ) (found : DumpFindings)
     → flat_map line (listed_findings found) ≡ concat (lines_if line found)
 dump_lines line found = lines_of_those (λ f. has_dump_finding found f) line every_dump_finding
+
+-- what is told of them at the end, line by line
+pub told_lines : (end : SurveyEnd)
+    → flat_map dump_line (told_at_end end)
+    ≡ concat (lines_if (λ f. at_words (place_in end.places f) ++ dump_words f) end.dump)
+told_lines end =
+    each (listed_findings end.dump) ∙ dump_lines (λ f. at_words (place_in end.places f) ++ dump_words f) end.dump
+  where
+    each : (fs : List DumpFinding)
+        → flat_map dump_line (map (λ f. record { finding = f; at = place_in end.places f }) fs)
+        ≡ flat_map (λ f. at_words (place_in end.places f) ++ dump_words f) fs
+    each [] = refl
+    each (f ∷ fs) = ap (λ l. (at_words (place_in end.places f) ++ dump_words f) ++ l) (each fs)
 
 -- the parts are added one behind the other
 abbrev pub AreAdded : List ℕ → List (List ℕ) → List ℕ → Type 0

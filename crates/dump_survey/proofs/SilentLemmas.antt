@@ -13,10 +13,12 @@ use Rattle.dump_history.specs.RecordChanges.{Patching}
 use Rattle.dump_history.specs.Findings.{Finding, DumpFinding, AreDumpFindingsOf, is_obstacle, is_alarm}
 use Rattle.dump_history.specs.SurveyLaws.{none_is, DumpRestricts}
 use Rattle.dump_history.proofs.survey.SurveyLemmas.{surveyed_dump}
-use Rattle.dump_survey.specs.Lines.{node_line, dump_line, place_text}
+use Rattle.dump_survey.specs.DumpTold.{DumpTold, place_in, AreDumpTold}
+use Rattle.dump_survey.specs.Lines.{node_line, at_words, dump_words, dump_line, place_text}
 use Rattle.dump_survey.specs.Told.{NodeTold, told_view, AreTold}
 use Rattle.dump_survey.specs.SurveyEnds.{survey_ending}
 use Rattle.dump_survey.specs.SurveyTies.{all_findings, none_told, SilentSurveyRestricts, SilentTextRestricts}
+use Rattle.dump_survey.proofs.PlaceLemmas.{nothing_found}
 use Rattle.dump_survey.proofs.TieLemmas.{told_are_findings}
 
 any_both : (test : Finding → Bool) (xs ys : List Finding)
@@ -68,7 +70,8 @@ module _ (patched : Patching) (settings : Settings) (dump text : List ℕ) (reco
 pub silent_restricts : SilentSurveyRestricts
 silent_restricts patched settings dump text records survey clean fit is nothing no_obstacle no_alarm =
     silent patched settings dump text records clean fit is.records (survey_ending survey.end.end)
-    (map told_view survey.told.items) is.has is.told (subst (AreDumpFindingsOf settings is.records) nothing is.found) no_obstacle no_alarm
+    (map told_view survey.told.items) is.has is.told (nothing_found settings is.records (subst (AreDumpTold settings is.records)
+    (ap (map (λ f. record { finding = f; at = place_in survey.end.places f })) nothing) is.found)) no_obstacle no_alarm
 
 no_bytes : (xs : List ℕ) → false ≡ not (length xs == 0) → xs ≡ []
 no_bytes [] is = refl
@@ -89,15 +92,20 @@ no_lines [] none = refl
 no_lines (t ∷ told) none = cc
 
 -- and so has one of the whole dump
-no_dump_lines : (found : List DumpFinding) → flat_map dump_line found ≡ [] → found ≡ []
-unfolding dump_line
+some_words : (f : DumpFinding) → dump_words f ≡ [] → ⊥
+unfolding dump_words
+some_words DumpFinding.NoRevision none = cc
+some_words DumpFinding.OtherNumbers none = cc
+some_words DumpFinding.NodeInFirst none = cc
+some_words DumpFinding.SourceBefore none = cc
+some_words DumpFinding.NodeOutside none = cc
+some_words DumpFinding.NumbersLeft none = cc
+
+no_dump_lines : (told : List DumpTold) → flat_map dump_line told ≡ [] → told ≡ []
 no_dump_lines [] none = refl
-no_dump_lines (DumpFinding.NoRevision ∷ found) none = cc
-no_dump_lines (DumpFinding.OtherNumbers ∷ found) none = cc
-no_dump_lines (DumpFinding.NodeInFirst ∷ found) none = cc
-no_dump_lines (DumpFinding.SourceBefore ∷ found) none = cc
-no_dump_lines (DumpFinding.NodeOutside ∷ found) none = cc
-no_dump_lines (DumpFinding.NumbersLeft ∷ found) none = cc
+no_dump_lines (t ∷ told) none = absurd (some_words t.finding
+    (both_none (at_words t.at) (dump_words t.finding)
+    (both_none (at_words t.at ++ dump_words t.finding) (flat_map dump_line told) none).0).1)
 
 -- where no line is written nothing is told, and so nothing that matters
 pub silent_text_restricts : SilentTextRestricts
@@ -105,8 +113,8 @@ silent_text_restricts patched settings dump text said records clean fit is =
     let nothing = sym is.text_is ∙ no_bytes said is.found_is in
     let parts = both_none (flat_map node_line is.told) _ nothing in
     let told = no_lines is.told parts.0 in
-    let found = subst (AreDumpFindingsOf settings is.records)
-    (no_dump_lines is.of_dump (both_none (flat_map dump_line is.of_dump) _ parts.1).0) is.are_of_dump in
+    let found = nothing_found settings is.records (subst (AreDumpTold settings is.records)
+    (no_dump_lines is.of_dump (both_none (flat_map dump_line is.of_dump) _ parts.1).0) is.are_of_dump) in
     silent patched settings dump text records clean fit is.records is.ending is.told is.has is.are_told found
     (none is.told told is_obstacle) (none is.told told is_alarm)
   where

@@ -5,11 +5,10 @@ use Rattle.dump_records.specs.DumpText.{BeginsWithRecords, HasRecords}
 use Rattle.dump_records.proofs.Prefixes.{begins_prefix, begins_once}
 use Rattle.dump_records.proofs.CutLemmas.{count_fits}
 use Rattle.dump_rules.specs.Settings.{Settings}
-use Rattle.dump_history.specs.Findings.{AreDumpFindingsOf}
 use Rattle.dump_survey.specs.declared.surveyor.Step.TheVariants.{Node, Other, Finished}
 use Rattle.dump_survey.specs.declared.told.SurveyedNode.{SurveyedNode}
 use Rattle.dump_survey.specs.declared.surveyor.SurveyEnd.{SurveyEnd}
-use Rattle.dump_survey.specs.DumpFindings.{listed_findings}
+use Rattle.dump_survey.specs.DumpTold.{told_at_end, AreDumpTold}
 use Rattle.dump_survey.specs.Told.{NodeTold, present_after, IsToldOf, AreTold}
 use Rattle.dump_survey.specs.steps.Surveyed.{told_of_node}
 use Rattle.dump_survey.specs.PrefixFindings.{PrefixTold, told_prefixes}
@@ -112,12 +111,12 @@ module _ (settings : Settings) (dump : List ℕ) (state after : Surveying) (told
   -- where the records end all are told
   pub all_told : (end : SurveyEnd) → SurveyStep state (Finished end) after
       → HasRecords dump so_far.before (survey_ending end.end)
-      × AreDumpFindingsOf settings so_far.before (listed_findings end.dump)
+      × AreDumpTold settings so_far.before (told_at_end end)
   all_told end (records, has, count, found, next) =
       let here = subst (λ d. HasRecords d records (survey_ending end.end)) so_far.dump_is has in
       let all : records ≡ so_far.before = begins_once dump records so_far.before (count ∙ sym so_far.count)
       (here.0, here.1, here.2) so_far.begins in (
         subst (λ l. HasRecords dump l (survey_ending end.end)) all here,
-        subst (λ (s : Settings). AreDumpFindingsOf s so_far.before (listed_findings end.dump)) so_far.settings_is
-            (subst (λ (l : List DumpRecord). AreDumpFindingsOf state.settings l (listed_findings end.dump)) all found),
+        subst (λ (s : Settings). AreDumpTold s so_far.before (told_at_end end)) so_far.settings_is
+            (subst (λ (l : List DumpRecord). AreDumpTold state.settings l (told_at_end end)) all found),
       )

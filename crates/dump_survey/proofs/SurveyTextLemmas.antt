@@ -9,13 +9,14 @@ use Rattle.dump_rules.specs.Settings.{Settings}
 use Rattle.dump_digest.specs.RecordParts.{is_node}
 use Rattle.dump_writer.specs.SinkWords.{IsPrefixOf}
 use Rattle.dump_history.proofs.survey.FindingLemmas.{findings_once}
-use Rattle.dump_history.proofs.survey.NamingTest.{dump_findings_once}
 use Rattle.dump_survey.specs.Told.{NodeTold, told_in, present_after, IsToldOfNode, IsToldOf, AreTold}
+use Rattle.dump_survey.specs.DumpTold.{DumpTold}
 use Rattle.dump_survey.specs.Kinds.{kind_lines, times_told}
 use Rattle.dump_survey.specs.Lines.{node_line, dump_line, ending_line}
 use Rattle.dump_survey.specs.PrefixFindings.{told_prefixes}
 use Rattle.dump_survey.specs.PrefixLines.{prefix_lines}
 use Rattle.dump_survey.specs.SurveyText.{IsSurveyText, survey_lines}
+use Rattle.dump_survey.proofs.PlaceLemmas.{each_dump_told}
 use Rattle.dump_survey.proofs.TieLemmas.{told_once}
 
 -- something is told of each record, if only nothing
@@ -69,10 +70,10 @@ begins_text settings dump before told begins are =
     let (first, behind, is, first_are) = told_front settings [] None before rest all
     (subst (λ l. AreTold settings [] None l all) (sym whole) all_are) in
     let same : told ≡ first = told_once settings before first told first_are are in
-    let (of_dump, of_dump_are, of_dump_once) = dump_findings_once settings records in
+    let (of_dump, of_dump_are) = each_dump_told settings records in
     let end : List ℕ = flat_map dump_line of_dump
     ++ (prefix_lines (told_prefixes records settings.prefixes) ++ (ending_line (length records) ending
-    ++ kind_lines (times_told all) of_dump (told_prefixes records settings.prefixes) ending)) in (
+    ++ kind_lines (times_told all) (map (λ (t : DumpTold). t.finding) of_dump) (told_prefixes records settings.prefixes) ending)) in (
       survey_lines settings all of_dump records ending,
       not (length (survey_lines settings all of_dump records ending) == 0),
       record {

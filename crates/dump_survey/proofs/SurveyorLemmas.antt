@@ -17,9 +17,13 @@ use Rattle.dump_rules.specs.Settings.{Settings}
 use Rattle.dump_rules.specs.Prefix.{bare_prefix}
 use Rattle.dump_digest.specs.RecordParts.{is_revision_record, is_node}
 use Rattle.dump_filter.proofs.groups.KindLemmas.{alone}
+use Rattle.dump_survey.specs.declared.places.DumpPlaces.{DumpPlaces}
+use Rattle.dump_survey.specs.declared.places.Place.{Place}
+use Rattle.dump_survey.specs.declared.tally.DumpFindings.{DumpFindings}
 use Rattle.dump_survey.specs.declared.tally.Tally.{Tally}
-use Rattle.dump_survey.specs.steps.Naming.{leaves_number}
-use Rattle.dump_survey.specs.steps.Tally.{no_tally, next_tally, numbers_of, tally_findings}
+use Rattle.dump_survey.specs.steps.Naming.{leaves_number, LeaveNumber}
+use Rattle.dump_survey.specs.steps.Tally.{no_tally, next_tally, numbers_of, tally_behind, tally_findings}
+use Rattle.dump_survey.specs.steps.Places.{no_places, AreNextPlaces, ArePlaces}
 use Rattle.dump_history.specs.Findings.{Finding, every_finding, is_found, AreFindingsOf, AreDumpFindingsOf}
 use Rattle.dump_history.specs.steps.NamingTests.{TellsNaming}
 use Rattle.dump_history.proofs.survey.FindingLemmas.{findings_once}
@@ -36,6 +40,7 @@ use Rattle.dump_survey.specs.declared.told.SurveyedNode.{SurveyedNode}
 use Rattle.dump_survey.specs.Told.{NodeTold, IsToldOfNode, IsToldOf, told_in, told_naming}
 use Rattle.dump_survey.specs.steps.Found.{listed}
 use Rattle.dump_survey.specs.steps.Surveyed.{told_of_finding, told_of_node}
+use Rattle.dump_survey.specs.DumpFindings.{listed_findings}
 use Rattle.dump_survey.specs.SurveyEnds.{survey_ending}
 use Rattle.dump_survey.specs.steps.Folders.{HaveSame}
 use Rattle.dump_survey.specs.PrefixFindings.{PrefixTold}
@@ -46,6 +51,7 @@ use Rattle.dump_survey.proofs.IdleLemmas.{all_idle, idle_more, told_by_idle}
 use Rattle.dump_survey.proofs.TallyLemmas.{is_single, filter_same, tally_more, count_within, present_number, present_is}
 use Rattle.dump_survey.proofs.LeftLemmas.{leave_more, tally_tells}
 use Rattle.dump_survey.proofs.NumberLemmas.{numbers_behind}
+use Rattle.dump_survey.proofs.PlaceLemmas.{no_places_yet, places_next, told_where_ended}
 
 -- a lawful record is no node that is a revision too
 single : (number : ℕ) (r : DumpRecord) → is_lawful number r.headers ≡ true
@@ -101,10 +107,11 @@ begins_with_none dump =
 
 -- before the first record
 pub at_first : (dump : List ℕ) (settings : Settings) (prefixes idle : List (List ℕ)) (tally : Tally) (left : Bool)
-    (cutter : CutterState) → cutter ≡ record { dump = dump; number = 0 } → prefixes ≡ map bare_prefix settings.prefixes
-    → HaveSame idle (map bare_prefix settings.prefixes) → tally ≡ no_tally → left ≡ false
-    → Surveys settings prefixes idle tally left cutter
-at_first dump settings prefixes idle tally left cutter is same all none not_left = record {
+    (places : DumpPlaces) (cutter : CutterState) → cutter ≡ record { dump = dump; number = 0 }
+    → prefixes ≡ map bare_prefix settings.prefixes
+    → HaveSame idle (map bare_prefix settings.prefixes) → tally ≡ no_tally → left ≡ false → places ≡ no_places
+    → Surveys settings prefixes idle tally left places cutter
+at_first dump settings prefixes idle tally left places cutter is same all none not_left no_place = record {
   prefixes_are = same;
   before = [];
   begins = begins_with_none cutter.dump;
@@ -112,6 +119,7 @@ at_first dump settings prefixes idle tally left cutter is same all none not_left
   idle_are = all_idle settings.prefixes idle all;
   tallied = none;
   left_is = λ names tells. not_left;
+  places_are = subst (ArePlaces settings []) (sym no_place) (no_places_yet settings);
 }
 
 -- what is found is what is found in the node
@@ -162,26 +170,28 @@ told_of settings before revision r found told node are is =
     subst (λ (b : Bool). MatchBool b (IsToldOfNode settings before revision r told) (told ≡ []))
     (sym node) (found, are, is)
 
-module _ (settings : Settings) (prefixes idle : List (List ℕ)) (tally : Tally) (left : Bool)
-    (cutter after : CutterState) (knows : Surveys settings prefixes idle tally left cutter) where
+module _ (settings : Settings) (prefixes idle : List (List ℕ)) (tally : Tally) (left : Bool) (places : DumpPlaces)
+    (cutter after : CutterState) (knows : Surveys settings prefixes idle tally left places cutter) where
   -- the surveyor as callers see it
   abbrev seen : CutterState → Surveying
   seen c = record { dump = c.dump; settings = settings; number = c.number }
 
   -- what is known where the records end
   pub ended : (end : End) (told : SurveyEnd) → EndsAfter cutter.dump cutter.number (survey_ending end)
-      → after ≡ cutter → TellsEnd tally left end told
+      → after ≡ cutter → TellsEnd tally left places end told
       → SurveyStep (seen cutter) (Finished told) (seen after)
-  ended end told ends same (end_is, found) =
+  ended end told ends same (end_is, places_is, found) =
       let begins = knows.begins in
       let has = whole_list cutter.dump knows.before (survey_ending end) begins
       (subst (λ n. EndsAfter cutter.dump n (survey_ending end)) (sym knows.count) ends) in (
         knows.before,
         subst (λ e. HasRecords cutter.dump knows.before (survey_ending e)) (sym end_is) has,
         knows.count,
-        subst (AreDumpFindingsOf settings knows.before)
+        told_where_ended settings knows.before told
+            (subst (AreDumpFindingsOf settings knows.before)
             (sym (found ∙ ap (λ (t : Tally). tally_findings t left) knows.tallied))
-            (tally_tells settings knows.before left (begun_single cutter.dump knows.before begins) knows.left_is),
+            (tally_tells settings knows.before left (begun_single cutter.dump knows.before begins) knows.left_is))
+            (subst (ArePlaces settings knows.before) (sym places_is) knows.places_are),
         ap seen same,
       )
 
@@ -199,14 +209,44 @@ module _ (settings : Settings) (prefixes idle : List (List ℕ)) (tally : Tally)
         let fits = item.counted in
         omega arith
 
-    -- and goes on with the record
+    -- the tally goes on with the record
+    next_tallied : (next : Tally) → next ≡ next_tally settings tally (record_item item)
+        → next ≡ tally_behind settings no_tally (knows.before ++ record_item item ∷ [])
+    next_tallied next is = is ∙ (ap (λ t. next_tally settings t (record_item item)) knows.tallied
+        ∙ sym (tally_more settings no_tally knows.before (record_item item)))
+
+    -- and so does what is known of numbers that are left
+    next_left : (still : Bool) → ((names : DumpRecord → Bool) → TellsNaming names
+        → still ≡ (left || leaves_number settings names tally (record_item item)))
+        → LeaveNumber settings (knows.before ++ record_item item ∷ []) still
+    next_left still still_is = λ names tells. still_is names tells
+        ∙ (ap₂ (λ b (t : Tally). b || leaves_number settings names t (record_item item)) (knows.left_is names tells)
+        knows.tallied
+        ∙ sym (leave_more settings names no_tally knows.before (record_item item)))
+
+    -- so this is found with the record
+    next_found : (next : Tally) (still : Bool) (flags : DumpFindings)
+        → next ≡ next_tally settings tally (record_item item)
+        → LeaveNumber settings (knows.before ++ record_item item ∷ []) still
+        → listed_findings flags ≡ tally_findings next still
+        → AreDumpFindingsOf settings (knows.before ++ record_item item ∷ []) (listed_findings flags)
+    next_found next still flags is left_is flags_are =
+        subst (AreDumpFindingsOf settings (knows.before ++ record_item item ∷ []))
+        (sym (flags_are ∙ ap (λ (t : Tally). tally_findings t still) (next_tallied next is)))
+        (tally_tells settings (knows.before ++ record_item item ∷ []) still
+        (begun_single cutter.dump (knows.before ++ record_item item ∷ []) next_begins) left_is)
+
+    -- and the surveyor goes on
     pub goes_on : (others : List (List ℕ)) (next : Tally) (still : Bool)
         → AreWithout (is_touched_by (record_item item)) idle others
         → next ≡ next_tally settings tally (record_item item)
         → ((names : DumpRecord → Bool) → TellsNaming names
         → still ≡ (left || leaves_number settings names tally (record_item item)))
-        → Surveys settings prefixes others next still after
-    goes_on others next still without is still_is = record {
+        → (flags : DumpFindings) → listed_findings flags ≡ tally_findings next still
+        → (here : Place) → here ≡ record { number = record_number item; place = (record_item item).place }
+        → (new : DumpPlaces) → AreNextPlaces places flags here new
+        → Surveys settings prefixes others next still new after
+    goes_on others next still without is still_is flags flags_are here here_is new new_are = record {
       prefixes_are = knows.prefixes_are;
       before = knows.before ++ record_item item ∷ [];
       begins = subst (λ (c : CutterState). BeginsWithRecords c.dump (knows.before ++ record_item item ∷ []))
@@ -214,12 +254,12 @@ module _ (settings : Settings) (prefixes idle : List (List ℕ)) (tally : Tally)
       count = length-append knows.before (record_item item ∷ [])
           ∙ (ap (λ n. n + 1) knows.count ∙ sym (ap (λ (c : CutterState). c.number) step.3));
       idle_are = idle_more knows.before (record_item item) settings.prefixes idle others knows.idle_are without;
-      tallied = is ∙ (ap (λ t. next_tally settings t (record_item item)) knows.tallied
-          ∙ sym (tally_more settings no_tally knows.before (record_item item)));
-      left_is = λ names tells. still_is names tells
-          ∙ (ap₂ (λ b (t : Tally). b || leaves_number settings names t (record_item item)) (knows.left_is names tells)
-          knows.tallied
-          ∙ sym (leave_more settings names no_tally knows.before (record_item item)));
+      tallied = next_tallied next is;
+      left_is = next_left still still_is;
+      places_are = places_next settings knows.before (record_item item) places new flags here knows.places_are
+          (next_found next still flags is (next_left still still_is) flags_are)
+          (here_is ∙ ap (λ n. record { number = n; place = (record_item item).place }) (step.1 ∙ sym knows.count))
+          new_are;
     }
 
     comes : ComesNext (seen cutter) knows.before (record_item item) (seen after)
@@ -287,13 +327,13 @@ module _ (settings : Settings) (prefixes idle : List (List ℕ)) (tally : Tally)
 
 -- what is told of the prefixes, where there was memory
 pub told_so_far : (settings : Settings) (prefixes idle : List (List ℕ)) (tally : Tally) (left : Bool)
-    (cutter : CutterState) → Surveys settings prefixes idle tally left cutter → (given : List (List ℕ)) → given ≡ settings.prefixes
+    (places : DumpPlaces) (cutter : CutterState) → Surveys settings prefixes idle tally left places cutter → (given : List (List ℕ)) → given ≡ settings.prefixes
     → {V : Type 0} (view : V → List PrefixTold) (result : Result V Memory)
     → IfOk result (λ told. view told ≡ prefixes_by idle given)
     → IfOk result (λ told. ArePrefixesTold (record { dump = cutter.dump; settings = settings; number = cutter.number })
     (view told))
-told_so_far settings prefixes idle tally left cutter knows given same view (Err e) is = tt
-told_so_far settings prefixes idle tally left cutter knows given same view (Ok told) is = (
+told_so_far settings prefixes idle tally left places cutter knows given same view (Err e) is = tt
+told_so_far settings prefixes idle tally left places cutter knows given same view (Ok told) is = (
   knows.before,
   knows.begins,
   knows.count,

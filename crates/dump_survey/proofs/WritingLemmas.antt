@@ -17,6 +17,7 @@ use Rattle.dump_survey.specs.declared.surveyor.Step.TheVariants.{Node, Other, Fi
 use Rattle.dump_survey.specs.declared.surveyor.SurveyEnd.{SurveyEnd}
 use Rattle.dump_survey.specs.declared.told.SurveyedNode.{SurveyedNode}
 use Rattle.dump_survey.specs.DumpFindings.{listed_findings}
+use Rattle.dump_survey.specs.DumpTold.{told_at_end}
 use Rattle.dump_survey.specs.Kinds.{dump_kind_line, ending_kind_line, finding_kind, kind_line, kind_lines, prefix_kind, times_in_prefixes, times_told}
 use Rattle.dump_survey.specs.Lines.{node_line, dump_line, ending_line}
 use Rattle.dump_survey.specs.PrefixFindings.{PrefixTold, told_prefixes}
@@ -29,6 +30,7 @@ use Rattle.dump_survey.specs.steps.Steps.{SurveyStep}
 use Rattle.dump_survey.specs.steps.Surveyed.{told_of_node}
 use Rattle.dump_survey.specs.steps.Surveying.{Surveying}
 use Rattle.dump_survey.specs.LinesBehind.{TakesSome}
+use Rattle.dump_survey.proofs.PlaceLemmas.{findings_at_end}
 use Rattle.dump_survey.proofs.KindLemmas.{counts_with_node, low_with_node, none_counted, same_lines}
 use Rattle.dump_survey.proofs.SurveyLemmas.{HaveTold, node_told, nothing_told, node_nearer, other_nearer, all_told}
 use Rattle.dump_survey.proofs.SurveyTextLemmas.{begins_text}
@@ -171,7 +173,7 @@ module _ (settings : Settings) (dump : List ℕ) (state after : Surveying) (old 
 
   module _ (end : SurveyEnd) (step : SurveyStep state (Finished end) after) (prefixes : List PrefixTold)
       (prefixes_are : prefixes ≡ told_prefixes so_far.have.before settings.prefixes) (lines : List ℕ)
-      (lines_are : lines ≡ flat_map dump_line (listed_findings end.dump)
+      (lines_are : lines ≡ flat_map dump_line (told_at_end end)
       ++ (prefix_lines prefixes ++ (ending_line count (survey_ending end.end)
       ++ kind_lines (count_in counts) (listed_findings end.dump) prefixes (survey_ending end.end)))) where
     -- with the lines of its end the text is whole
@@ -184,24 +186,29 @@ module _ (settings : Settings) (dump : List ℕ) (state after : Surveying) (old 
           has = all.0;
           told = so_far.told;
           are_told = so_far.have.told;
-          of_dump = listed_findings end.dump;
+          of_dump = told_at_end end;
           are_of_dump = all.1;
           text_is = ap (λ l. flat_map node_line so_far.told ++ l)
-              (lines_are ∙ (ap (λ ps. flat_map dump_line (listed_findings end.dump)
+              (lines_are ∙ (ap (λ ps. flat_map dump_line (told_at_end end)
               ++ (prefix_lines ps ++ (ending_line count (survey_ending end.end)
               ++ kind_lines (count_in counts) (listed_findings end.dump) ps (survey_ending end.end)))) prefixes_are
-              ∙ (ap (λ n. flat_map dump_line (listed_findings end.dump)
+              ∙ (ap (λ n. flat_map dump_line (told_at_end end)
               ++ (prefix_lines (told_prefixes so_far.have.before settings.prefixes)
               ++ (ending_line n (survey_ending end.end) ++ kind_lines (count_in counts) (listed_findings end.dump)
               (told_prefixes so_far.have.before settings.prefixes) (survey_ending end.end))))
               (so_far.counted ∙ sym so_far.have.count)
-              ∙ ap (λ ks. flat_map dump_line (listed_findings end.dump)
+              ∙ (ap (λ ks. flat_map dump_line (told_at_end end)
               ++ (prefix_lines (told_prefixes so_far.have.before settings.prefixes)
               ++ (ending_line (length so_far.have.before) (survey_ending end.end) ++ (ks
               ++ kinds_behind (listed_findings end.dump)
               (told_prefixes so_far.have.before settings.prefixes) (survey_ending end.end)))))
               (same_lines (λ n f. kind_line n (finding_kind f)) (count_in counts) (times_told so_far.told)
-              so_far.counts_are every_finding))));
+              so_far.counts_are every_finding)
+              ∙ ap (λ fs. flat_map dump_line (told_at_end end)
+              ++ (prefix_lines (told_prefixes so_far.have.before settings.prefixes)
+              ++ (ending_line (length so_far.have.before) (survey_ending end.end)
+              ++ kind_lines (times_told so_far.told) fs (told_prefixes so_far.have.before settings.prefixes)
+              (survey_ending end.end)))) (sym (findings_at_end end))))));
           found_is = refl;
         }
 

@@ -1,6 +1,7 @@
 pub mod AsWellLines
 pub mod CuttingPrefix
 pub mod DumpFindings
+pub mod DumpTold
 pub mod Folders
 pub mod KeepAsWell
 pub mod Kinds

@@ -1,11 +1,13 @@
 -- The lines of a survey, word for word.
-use Rattle.std.specs.Prelude.{ℕ, ◌+◌, ◌/◌, ◌%◌, Bool, true, false, ◌||◌, ◌==◌, List, [], ◌∷◌, Option, Some, None, flat_map, nat_lt, codes, decimal, if◌then◌else◌}
+use Rattle.std.specs.Prelude.{ℕ, ◌+◌, ◌/◌, ◌%◌, Bool, true, false, ◌||◌, ◌==◌, List, [], ◌∷◌, ◌++◌, Option, Some, None, flat_map, nat_lt, codes, decimal, if◌then◌else◌}
 use Rattle.std.specs.List.{concat}
 use Rattle.dump_text.specs.FaultTable.{fault_code}
 use Rattle.dump_text.specs.FaultNames.{fault_name}
 use Rattle.dump_records.specs.DumpText.{Ending}
 use Rattle.dump_rules.specs.Prefix.{bare_path}
 use Rattle.dump_history.specs.Findings.{Finding, DumpFinding}
+use Rattle.dump_survey.specs.declared.places.Place.{Place}
+use Rattle.dump_survey.specs.DumpTold.{DumpTold}
 use Rattle.dump_survey.specs.Told.{NodeTold}
 
 -- a digit of base 16, with small letters
@@ -71,15 +73,24 @@ node_line t = concat (place_text t.number t.place ∷ codes ", r" ∷ decimal t.
     ∷ (if tells_source t.finding then source_text t else [])
     ∷ finding_words t.finding ∷ cut_words t.prefix ∷ codes "\n" ∷ [])
 
--- the line of a finding in the dump as a whole
-unfoldable pub dump_line : DumpFinding → List ℕ
-dump_line DumpFinding.NoRevision = codes "the dump has no revision\n"
-dump_line DumpFinding.OtherNumbers = codes "the revisions of the dump are not numbered one by one\n"
-dump_line DumpFinding.NodeInFirst = codes "revision 0 of the dump has a node\n"
-dump_line DumpFinding.SourceBefore = codes "a node of the dump is copied from before its first revision\n"
-dump_line DumpFinding.NodeOutside = codes "a node of the dump stands in no revision: fault 8\n"
-dump_line DumpFinding.NumbersLeft =
+-- what the line of a finding in the dump as a whole says
+unfoldable pub dump_words : DumpFinding → List ℕ
+dump_words DumpFinding.NoRevision = codes "the dump has no revision\n"
+dump_words DumpFinding.OtherNumbers = codes "the revisions of the dump are not numbered one by one\n"
+dump_words DumpFinding.NodeInFirst = codes "revision 0 of the dump has a node\n"
+dump_words DumpFinding.SourceBefore = codes "a node of the dump is copied from before its first revision\n"
+dump_words DumpFinding.NodeOutside = codes "a node of the dump stands in no revision: fault 8\n"
+dump_words DumpFinding.NumbersLeft =
     codes "a revision is left out, and a copy or mergeinfo behind it names revisions by their old numbers: give --renumber-revs\n"
+
+-- where the record is with which it comes up, if one is told
+unfoldable pub at_words : Option Place → List ℕ
+at_words None = []
+at_words (Some p) = place_text p.number p.place ++ codes ": "
+
+-- its line
+abbrev pub dump_line : DumpTold → List ℕ
+dump_line t = at_words t.at ++ dump_words t.finding
 
 -- the line of what ends the list of so many records before the dump's end
 unfoldable pub ending_line : ℕ → Ending → List ℕ

@@ -1,11 +1,11 @@
 -- What a survey writes: one line for each finding, in the dump's order, and behind them one for each kind.
-use Rattle.std.specs.Prelude.{◌≡◌, ℕ, Bool, not, ◌==◌, List, [], ◌++◌, flat_map, length, Option, None}
+use Rattle.std.specs.Prelude.{◌≡◌, ℕ, Bool, not, ◌==◌, List, [], ◌++◌, flat_map, length, map, Option, None}
 use Rattle.std.specs.Io.KnownBytes.{Appends}
 use Rattle.dump_records.specs.RecordText.{DumpRecord}
 use Rattle.dump_records.specs.DumpText.{Ending, HasRecords}
 use Rattle.dump_rules.specs.Settings.{Settings}
 use Rattle.dump_writer.specs.SinkWords.{IsPrefixOf}
-use Rattle.dump_history.specs.Findings.{DumpFinding, AreDumpFindingsOf}
+use Rattle.dump_survey.specs.DumpTold.{DumpTold, AreDumpTold}
 use Rattle.dump_survey.specs.Told.{NodeTold, AreTold}
 use Rattle.dump_survey.specs.Kinds.{kind_lines, times_told}
 use Rattle.dump_survey.specs.Lines.{node_line, dump_line, ending_line}
@@ -14,11 +14,11 @@ use Rattle.dump_survey.specs.PrefixLines.{prefix_lines}
 
 -- the lines of what is told of nodes, of the findings of the whole dump, of what is told of prefixes, of what ends the
 -- list of records, and of the kinds of all these
-abbrev pub survey_lines : Settings → List NodeTold → List DumpFinding → List DumpRecord → Ending → List ℕ
+abbrev pub survey_lines : Settings → List NodeTold → List DumpTold → List DumpRecord → Ending → List ℕ
 survey_lines settings told of_dump records ending = flat_map node_line told
     ++ (flat_map dump_line of_dump
     ++ (prefix_lines (told_prefixes records settings.prefixes) ++ (ending_line (length records) ending
-    ++ kind_lines (times_told told) of_dump (told_prefixes records settings.prefixes) ending)))
+    ++ kind_lines (times_told told) (map (λ (t : DumpTold). t.finding) of_dump) (told_prefixes records settings.prefixes) ending)))
 
 -- this is the text of the survey of a dump, and whether something is found
 pub record IsSurveyText (settings : Settings) (dump text : List ℕ) (found : Bool) : Type 0 where
@@ -27,8 +27,8 @@ pub record IsSurveyText (settings : Settings) (dump text : List ℕ) (found : Bo
   pub has : HasRecords dump records ending
   pub told : List NodeTold
   pub are_told : AreTold settings [] None records told
-  pub of_dump : List DumpFinding
-  pub are_of_dump : AreDumpFindingsOf settings records of_dump
+  pub of_dump : List DumpTold
+  pub are_of_dump : AreDumpTold settings records of_dump
   pub text_is : text ≡ survey_lines settings told of_dump records ending
   pub found_is : found ≡ not (length text == 0)
 

@@ -4,9 +4,8 @@ use Rattle.std.specs.Prelude.{◌≡◌, ℕ, List, [], map, None}
 use Rattle.dump_records.specs.RecordText.{DumpRecord}
 use Rattle.dump_records.specs.DumpText.{HasRecords}
 use Rattle.dump_rules.specs.Settings.{Settings}
-use Rattle.dump_history.specs.Findings.{AreDumpFindingsOf}
 use Rattle.dump_survey.specs.declared.survey.Survey.{Survey}
-use Rattle.dump_survey.specs.DumpFindings.{listed_findings}
+use Rattle.dump_survey.specs.DumpTold.{told_at_end, AreDumpTold}
 use Rattle.dump_survey.specs.PrefixFindings.{prefix_view, told_prefixes}
 use Rattle.dump_survey.specs.SurveyEnds.{survey_ending}
 use Rattle.dump_survey.specs.Told.{told_view, AreTold}
@@ -16,5 +15,5 @@ pub record IsSurveyOf (settings : Settings) (dump : List ℕ) (survey : Survey) 
   pub records : List DumpRecord
   pub has : HasRecords dump records (survey_ending survey.end.end)
   pub told : AreTold settings [] None records (map told_view survey.told.items)
-  pub found : AreDumpFindingsOf settings records (listed_findings survey.end.dump)
+  pub found : AreDumpTold settings records (told_at_end survey.end)
   pub prefixes : map prefix_view survey.prefixes.items ≡ told_prefixes records settings.prefixes

@@ -8,6 +8,7 @@ pub mod Losses
 pub mod Names
 pub mod Naming
 pub mod Needs
+pub mod Places
 pub mod Prefixes
 pub mod RevisionNumbers
 pub mod Steps

@@ -4,10 +4,11 @@ ghost use Rattle.dump_records.specs.steps.RecordViews.{record_item};
 ghost use Rattle.dump_digest.specs.RecordParts.{is_node};
 ghost use Rattle.dump_survey.specs.AsWellLines.{as_well_line, as_well_lines, as_well_words};
 ghost use Rattle.dump_survey.specs.DumpFindings.{listed_findings};
+ghost use Rattle.dump_survey.specs.DumpTold.{told_at_end};
 ghost use Rattle.dump_survey.specs.Kinds.{kind_lines};
 ghost use Rattle.dump_survey.specs.LeftOutLine.{left_out_line, left_out_words};
 ghost use Rattle.dump_survey.specs.LinesBehind.{folder_line, folder_lines};
-ghost use Rattle.dump_survey.specs.Lines.{cut_words, dump_line, ending_line, finding_words, node_line, place_text, shown_byte, shown_path, small_digit, source_text, tells_source};
+ghost use Rattle.dump_survey.specs.Lines.{at_words, cut_words, dump_line, ending_line, finding_words, node_line, place_text, shown_byte, shown_path, small_digit, source_text, tells_source};
 ghost use Rattle.dump_survey.specs.Meaning.{meaning};
 ghost use Rattle.dump_survey.specs.PrefixFindings.{prefix_view};
 ghost use Rattle.dump_survey.specs.PrefixLines.{prefix_lines};
@@ -20,11 +21,11 @@ use crate::counts::Counts;
 use crate::finding::{EVERY_FINDING, NodeFinding};
 use crate::kind_lines::push_kind_lines;
 use crate::memory::Memory;
+use crate::places::Place;
 use crate::prefix_findings::ToldPrefix;
 use crate::prefix_lines::push_prefix_lines;
 use crate::slashes::bare_path;
 use crate::surveyor::{End, SurveyEnd};
-use crate::tally::DumpFindings;
 use crate::told::{SurveyedNode, Told};
 use dump_rules::Side;
 use dump_text::spell;
@@ -199,34 +200,65 @@ pub(crate) fn push_if(lines: &mut Vec<u8>, found: bool, line: &[u8]) -> Result<(
     Ok(())
 }
 
-/// Adds the lines of what is found in the dump as a whole.
-fn push_dump_lines(lines: &mut Vec<u8>, found: &DumpFindings) -> Result<(), Memory>
-    ensures { OnOk result (lines.new.items ≡ lines.old.items ++ flat_map dump_line (listed_findings found.now)) }
+/// Adds the line of a finding in the dump as a whole, if it is found, with the record with which it comes up.
+#[tactic(auto, unfolding(crate::specs::Lines::at_words))]
+fn push_dump_line(
+    lines: &mut Vec<u8>,
+    found: bool,
+    at: Option<Place>,
+    words: &[u8],
+) -> Result<(), Memory>
+    ensures { OnOk result (lines.new.items ≡ lines.old.items ++ (if found then at_words at ++ words.now else [])) }
 {
-    push_if(lines, found.no_revision, b"the dump has no revision\n")?;
-    push_if(
+    if !found {
+        return Ok(());
+    }
+    if let Some(at) = at {
+        push_place(lines, at.number, at.place)?;
+        lines.extend_from_slice(b": ")?;
+    }
+    Ok(lines.extend_from_slice(words)?)
+}
+
+/// Adds the lines of what is found in the dump as a whole.
+fn push_dump_lines(lines: &mut Vec<u8>, end: &SurveyEnd) -> Result<(), Memory>
+    ensures { OnOk result (lines.new.items ≡ lines.old.items ++ flat_map dump_line (told_at_end end.now)) }
+{
+    let (found, at) = (end.dump, end.places);
+    push_dump_line(
+        lines,
+        found.no_revision,
+        None,
+        b"the dump has no revision\n",
+    )?;
+    push_dump_line(
         lines,
         found.other_numbers,
+        at.other_numbers,
         b"the revisions of the dump are not numbered one by one\n",
     )?;
-    push_if(
+    push_dump_line(
         lines,
         found.node_in_first,
+        at.node_in_first,
         b"revision 0 of the dump has a node\n",
     )?;
-    push_if(
+    push_dump_line(
         lines,
         found.source_before,
+        at.source_before,
         b"a node of the dump is copied from before its first revision\n",
     )?;
-    push_if(
+    push_dump_line(
         lines,
         found.node_outside,
+        at.node_outside,
         b"a node of the dump stands in no revision: fault 8\n",
     )?;
-    push_if(
+    push_dump_line(
         lines,
         found.numbers_left,
+        at.numbers_left,
         b"a revision is left out, and a copy or mergeinfo behind it names revisions by their old numbers: give --renumber-revs\n",
     )?;
     Ok(())
@@ -256,13 +288,13 @@ pub(crate) fn end_lines(
     prefixes: &[ToldPrefix<'_>],
     counts: &Counts,
 ) -> Result<Vec<u8>, Memory>
-    ensures { IfOk result (λ lines. lines.items ≡ flat_map dump_line (listed_findings end.now.dump)
+    ensures { IfOk result (λ lines. lines.items ≡ flat_map dump_line (told_at_end end.now)
         ++ (prefix_lines (map prefix_view prefixes.now) ++ (ending_line count (survey_ending end.now.end)
         ++ kind_lines (count_in counts.now) (listed_findings end.now.dump) (map prefix_view prefixes.now)
         (survey_ending end.now.end)))) }
 {
     let mut lines = Vec::new(alloc);
-    push_dump_lines(&mut lines, &end.dump)?;
+    push_dump_lines(&mut lines, end)?;
     push_prefix_lines(&mut lines, prefixes)?;
     push_ending_line(&mut lines, count, end.end)?;
     push_kind_lines(&mut lines, counts, end, prefixes)?;

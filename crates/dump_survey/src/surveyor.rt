@@ -1,6 +1,6 @@
 //! Surveys a dump, record by record.
 ghost use Rattle.std.specs.Prelude.{◌≡◌, ◌+◌, ◌<◌, ◌^◌, IfOk, map};
-ghost use Rattle.dump_records.specs.steps.RecordViews.{record_item};
+ghost use Rattle.dump_records.specs.steps.RecordViews.{record_item, record_number};
 ghost use Rattle.dump_rules.specs.Prefix.{bare_prefix};
 ghost use Rattle.dump_survey.specs.PrefixFindings.{prefix_view};
 ghost use Rattle.dump_survey.specs.steps.Steps.{IsStepOf, TellsEnd};
@@ -8,6 +8,7 @@ ghost use Rattle.dump_survey.specs.steps.Steps.{IsStepOf, TellsEnd};
 use crate::memory::Memory;
 use crate::naming::leaves_number;
 use crate::node::find;
+use crate::places::{DumpPlaces, Place};
 use crate::prefix_findings::{ToldPrefix, leave_touched, told_prefixes};
 use crate::prefix_set::PrefixSet;
 use crate::prefixes::{Prefixes, given_prefixes};
@@ -33,6 +34,8 @@ pub enum End {
 pub struct SurveyEnd {
     /// What is found in the dump as a whole, up to its end.
     pub dump: DumpFindings,
+    /// With which record each of these comes up.
+    pub places: DumpPlaces,
     pub end: End,
 }
 
@@ -58,6 +61,8 @@ pub struct Surveyor<'o, 'a> {
     tally: Tally,
     /// Whether a kept node named a revision behind a dropped one, and revisions aren't renumbered.
     numbers_left: bool,
+    /// Where what is found in the dump as a whole came up.
+    places: DumpPlaces,
 }
 
 impl<'o, 'a> Model for Surveyor<'o, 'a> {
@@ -67,7 +72,17 @@ impl<'o, 'a> Model for Surveyor<'o, 'a> {
 
     ghost view = { λ s. record { dump = s.cutter.dump; settings = s.options.now; number = s.cutter.number } };
 
-    ghost invariant = { λ s. Surveys s.options.now s.prefixes s.idle s.tally s.numbers_left s.cutter };
+    ghost invariant = { λ s. Surveys s.options.now s.prefixes s.idle s.tally s.numbers_left s.places s.cutter };
+}
+
+/// Where a record is.
+fn place_of(item: &Record<'_>) -> Place
+    ensures { result ≡ record { number = record_number item.now; place = (record_item item.now).place } }
+{
+    Place {
+        number: item.number(),
+        place: item.place(),
+    }
 }
 
 /// What is found in the next record, behind those of this tally.
@@ -96,12 +111,13 @@ fn step_of<'o, 'a>(
     }))
 }
 
-/// What is known behind the records of this tally, which end so, and leave numbers or not.
-fn finished(tally: &Tally, numbers_left: bool, end: End) -> SurveyEnd
-    ensures { TellsEnd tally.now numbers_left end result }
+/// What is known behind the records of this tally, which end so, and leave numbers or not; these are the places.
+fn finished(tally: &Tally, numbers_left: bool, places: DumpPlaces, end: End) -> SurveyEnd
+    ensures { TellsEnd tally.now numbers_left places end result }
 {
     SurveyEnd {
         dump: tally.findings(numbers_left),
+        places,
         end,
     }
 }
@@ -127,6 +143,7 @@ impl<'o, 'a> Surveyor<'o, 'a> {
             idle,
             tally: Tally::new(),
             numbers_left: false,
+            places: DumpPlaces::new(),
         })
     }
 
@@ -138,11 +155,12 @@ impl<'o, 'a> Surveyor<'o, 'a> {
         let item = match self.cutter.next() {
             Cut::Item(item) => item,
             Cut::Finished => {
-                let end = finished(&self.tally, self.numbers_left, End::Whole);
+                let end = finished(&self.tally, self.numbers_left, self.places, End::Whole);
                 return Ok(Step::Finished(end));
             }
             Cut::Fault { kind, place } => {
-                let end = finished(&self.tally, self.numbers_left, End::Broken { kind, place });
+                let end = End::Broken { kind, place };
+                let end = finished(&self.tally, self.numbers_left, self.places, end);
                 return Ok(Step::Finished(end));
             }
         };
@@ -150,6 +168,8 @@ impl<'o, 'a> Surveyor<'o, 'a> {
         let before = self.tally;
         self.numbers_left = self.numbers_left || leaves_number(&item, self.options, &before);
         self.tally = before.with(&item, self.options);
+        let found = self.tally.findings(self.numbers_left);
+        self.places = self.places.with(&found, place_of(&item));
         step_of(alloc, item, self.options, &self.prefixes, &before)
     }
 

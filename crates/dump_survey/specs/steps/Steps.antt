@@ -6,14 +6,15 @@ use Rattle.dump_records.specs.DumpText.{BeginsWithRecords, HasRecords}
 use Rattle.dump_records.specs.steps.RecordViews.{record_item, record_number}
 use Rattle.dump_rules.specs.Settings.{Settings}
 use Rattle.dump_digest.specs.RecordParts.{is_node}
-use Rattle.dump_history.specs.Findings.{AreDumpFindingsOf}
 use Rattle.dump_survey.specs.declared.tally.Present.{Present}
 use Rattle.dump_survey.specs.declared.tally.Tally.{Tally}
 use Rattle.dump_survey.specs.declared.surveyor.End.{End}
 use Rattle.dump_survey.specs.declared.surveyor.SurveyEnd.{SurveyEnd}
 use Rattle.dump_survey.specs.declared.surveyor.Step.{Step}
 use Rattle.dump_survey.specs.declared.surveyor.Step.TheVariants.{Node, Other, Finished}
+use Rattle.dump_survey.specs.declared.places.DumpPlaces.{DumpPlaces}
 use Rattle.dump_survey.specs.DumpFindings.{listed_findings}
+use Rattle.dump_survey.specs.DumpTold.{told_at_end, AreDumpTold}
 use Rattle.dump_survey.specs.steps.Found.{IsFoundIn}
 use Rattle.dump_survey.specs.PrefixFindings.{PrefixTold, told_prefixes}
 use Rattle.dump_survey.specs.Told.{present_after, IsToldOf}
@@ -31,9 +32,10 @@ IsStepOf settings item tally (Node node) = (node.item ≡ item)
 IsStepOf settings item tally Other = (tally.present ≡ None) ⊎ (is_node (record_item item) ≡ false)
 IsStepOf settings item tally (Finished end) = ⊥
 
--- this end is told, and what is found behind the records of the tally, which leave numbers or not
-abbrev pub TellsEnd : Tally → Bool → End → SurveyEnd → Type 0
-TellsEnd tally left end told = (told.end ≡ end) × (listed_findings told.dump ≡ tally_findings tally left)
+-- this end is told, and what is found behind the records of the tally, which leave numbers or not, with these places
+abbrev pub TellsEnd : Tally → Bool → DumpPlaces → End → SurveyEnd → Type 0
+TellsEnd tally left places end told =
+    (told.end ≡ end) × (told.places ≡ places) × (listed_findings told.dump ≡ tally_findings tally left)
 
 -- the revision that a node belongs to which comes behind these records, where it would have belonged to this one
 abbrev pub open_behind : Option ℕ → List DumpRecord → Option ℕ
@@ -55,7 +57,7 @@ SurveyStep old Other new = (before : List DumpRecord) × (r : DumpRecord) × Com
     × IsToldOf old.settings before (open_behind None before) r []
 SurveyStep old (Finished end) new = (records : List DumpRecord) × HasRecords old.dump records (survey_ending end.end)
     × (length records ≡ old.number)
-    × AreDumpFindingsOf old.settings records (listed_findings end.dump)
+    × AreDumpTold old.settings records (told_at_end end)
     × (new ≡ old)
 
 -- this is told of the prefixes by the records that the surveyor has given

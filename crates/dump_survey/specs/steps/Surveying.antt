@@ -7,7 +7,9 @@ use Rattle.dump_rules.specs.Settings.{Settings}
 use Rattle.dump_rules.specs.Prefix.{bare_prefix}
 use Rattle.dump_survey.specs.declared.tally.Tally.{Tally}
 use Rattle.dump_survey.specs.steps.IdlePrefixes.{AreIdle}
+use Rattle.dump_survey.specs.declared.places.DumpPlaces.{DumpPlaces}
 use Rattle.dump_survey.specs.steps.Naming.{LeaveNumber}
+use Rattle.dump_survey.specs.steps.Places.{ArePlaces}
 use Rattle.dump_survey.specs.steps.Tally.{no_tally, tally_behind}
 
 -- a surveyor: its dump, the filter's options, and how many records it has given
@@ -16,10 +18,10 @@ pub record Surveying : Type 0 where
   pub settings : Settings
   pub number : ℕ
 
--- it holds the options' prefixes, those of them that the records that the cutter has given leave idle, their tally, and
--- whether they leave numbers
+-- it holds the options' prefixes, those of them that the records that the cutter has given leave idle, their tally,
+-- whether they leave numbers, and with which of them what is found in the dump as a whole comes up
 pub record Surveys (settings : Settings) (prefixes idle : List (List ℕ)) (tally : Tally) (left : Bool)
-    (cutter : CutterState) : Type 0 where
+    (places : DumpPlaces) (cutter : CutterState) : Type 0 where
   pub prefixes_are : prefixes ≡ map bare_prefix settings.prefixes
   pub before : List DumpRecord
   pub begins : BeginsWithRecords cutter.dump before
@@ -27,3 +29,4 @@ pub record Surveys (settings : Settings) (prefixes idle : List (List ℕ)) (tall
   pub idle_are : AreIdle before settings.prefixes idle
   pub tallied : tally ≡ tally_behind settings no_tally before
   pub left_is : LeaveNumber settings before left
+  pub places_are : ArePlaces settings before places

@@ -1,9 +1,12 @@
 use Rattle.std.proofs.Common.{◌++◌, ◌∙◌, refl, ap, sym}
-use Rattle.dump_survey.specs.Lines.{dump_line}
-use Rattle.dump_survey.proofs.LineLemmas.{all_added, dump_lines, lines_if}
+use Rattle.dump_survey.specs.DumpTold.{place_in}
+use Rattle.dump_survey.specs.Lines.{at_words, dump_words}
+use Rattle.dump_survey.proofs.LineLemmas.{all_added, lines_if, told_lines}
 use Rattle.dump_survey.proofs.survey_lines.push_dump_lines.Goals as goal
 
 pub returns : goal.returns
-unfolding dump_line
-returns c = all_added c.args.lines.now.items c.push_if-6.new.lines.items (lines_if dump_line c.args.found.now) (c.push_if.new.lines.items, c.in_ok-push_if.ensures, (c.push_if-2.new.lines.items, c.in_ok-push_if-2.ensures, (c.push_if-3.new.lines.items, c.in_ok-push_if-3.ensures, (c.push_if-4.new.lines.items, c.in_ok-push_if-4.ensures, (c.push_if-5.new.lines.items, c.in_ok-push_if-5.ensures, (c.push_if-6.new.lines.items, c.in_ok-push_if-6.ensures, refl))))))
-    ∙ ap (λ l. c.args.lines.now.items ++ l) (sym (dump_lines dump_line c.args.found.now))
+unfolding dump_words at_words
+returns c = all_added c.args.lines.now.items c.push_dump_line-6.new.lines.items
+    (lines_if (λ f. at_words (place_in c.args.end.now.places f) ++ dump_words f) c.args.end.now.dump)
+    (c.push_dump_line.new.lines.items, c.in_ok-push_dump_line.ensures, (c.push_dump_line-2.new.lines.items, c.in_ok-push_dump_line-2.ensures, (c.push_dump_line-3.new.lines.items, c.in_ok-push_dump_line-3.ensures, (c.push_dump_line-4.new.lines.items, c.in_ok-push_dump_line-4.ensures, (c.push_dump_line-5.new.lines.items, c.in_ok-push_dump_line-5.ensures, (c.push_dump_line-6.new.lines.items, c.in_ok-push_dump_line-6.ensures, refl))))))
+    ∙ ap (λ l. c.args.lines.now.items ++ l) (sym (told_lines c.args.end.now))

@@ -135,6 +135,11 @@ returns-in_err-found-in-Finished-clause-part g c =
     c.in_ok-lines-in-Finished.lines.items
     c.in_ok-lines-in-Finished.ensures c.in_err-found-in-Finished.ensures.part)
 
+pub returns-in_err-found-in-Finished-clause-failed : goal.returns-in_err-found-in-Finished-clause-failed
+returns-in_err-found-in-Finished-clause-failed g c = λ is.
+    subst (λ (n : ℕ). HasFailedSince n (g.S.Sink.failure_count c.write_lines-in-Finished.new.sink))
+    c.loop-surveyor.invariant.failures (c.in_err-found-in-Finished.ensures.failed (search rules))
+
 pub returns-in-Finished-clause-whole : goal.returns-in-Finished-clause-whole
 returns-in-Finished-clause-whole g c =
     let step = subst

@@ -17,20 +17,20 @@ pub returns-in-Finished : goal.returns-in-Finished
 returns-in-Finished c =
     let step = subst (λ (x : Cut). CutStep c.self.inside.cutter x c.next.new.self) c.in-Finished.is c.next.ensures in
     rw (← c.self.view_is) (ended c.self.inside.options.now c.self.inside.prefixes c.self.inside.idle c.self.inside.tally c.self.inside.numbers_left
-    c.self.inside.cutter c.next.new.self c.self.invariant ends.Whole c.finished-end.result step.0 step.1 c.finished-end.ensures)
+    c.self.inside.places c.self.inside.cutter c.next.new.self c.self.invariant ends.Whole c.finished-end.result step.0 step.1 c.finished-end.ensures)
 
 pub returns-in-Fault : goal.returns-in-Fault
 returns-in-Fault c =
     let step = subst (λ (x : Cut). CutStep c.self.inside.cutter x c.next.new.self) c.in-Fault.is c.next.ensures in
     rw (← c.self.view_is) (ended c.self.inside.options.now c.self.inside.prefixes c.self.inside.idle c.self.inside.tally c.self.inside.numbers_left
-    c.self.inside.cutter c.next.new.self c.self.invariant (ends.Broken c.in-Fault.kind c.in-Fault.place)
+    c.self.inside.places c.self.inside.cutter c.next.new.self c.self.invariant (ends.Broken c.in-Fault.kind c.in-Fault.place)
     c.finished-end-in-Fault.result step.0 step.1 c.finished-end-in-Fault.ensures)
 
 pub with-self-inside-requires : goal.with-self-inside-requires
 with-self-inside-requires c =
     let step = subst (λ (x : Cut). CutStep c.self.inside.cutter x c.next.new.self) c.in-Item.is c.next.ensures in
-    room c.self.inside.options.now c.self.inside.prefixes c.self.inside.idle c.self.inside.tally c.self.inside.numbers_left c.self.inside.cutter c.next.new.self
-    c.self.invariant c.in-Item.item step
+    room c.self.inside.options.now c.self.inside.prefixes c.self.inside.idle c.self.inside.tally c.self.inside.numbers_left c.self.inside.places
+    c.self.inside.cutter c.next.new.self c.self.invariant c.in-Item.item step
 
 pub invariant_of-self-2 : goal.invariant_of-self-2
 invariant_of-self-2 c =
@@ -45,9 +45,9 @@ invariant_of-self-2 c =
           (record_item c.in-Item.item)) w.if-self.false))
     ] in
     goes_on c.self.inside.options.now c.self.inside.prefixes c.self.inside.idle c.self.inside.tally
-    c.self.inside.numbers_left c.self.inside.cutter c.next.new.self c.self.invariant c.in-Item.item step
+    c.self.inside.numbers_left c.self.inside.places c.self.inside.cutter c.next.new.self c.self.invariant c.in-Item.item step
     c.leave_touched.new.idle c.with-self-inside.result c.if-self.self c.leave_touched.ensures c.with-self-inside.ensures
-    still
+    still c.findings-found.result c.findings-found.ensures c.place_of.result c.place_of.ensures c.with-self-inside-2.result c.with-self-inside-2.ensures
 
 pub returns : goal.returns
 returns c =
@@ -58,5 +58,5 @@ returns c =
       number = c.next.new.self.number;
     } in
     subst (λ (s : Surveying). IfOk c.step_of.result (λ told. SurveyStep s told seen)) c.self.view_is
-    (stepped_ok c.self.inside.options.now c.self.inside.prefixes c.self.inside.idle c.self.inside.tally c.self.inside.numbers_left c.self.inside.cutter
+    (stepped_ok c.self.inside.options.now c.self.inside.prefixes c.self.inside.idle c.self.inside.tally c.self.inside.numbers_left c.self.inside.places c.self.inside.cutter
     c.next.new.self c.self.invariant c.in-Item.item step c.step_of.result c.step_of.ensures)

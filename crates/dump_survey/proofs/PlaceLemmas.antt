@@ -1,0 +1,332 @@
+-- The records with which the findings of a dump as a whole come up.
+use Rattle.std.proofs.Common.{◌≡◌, ◌⊎◌, ◌↔◌, ℕ, ◌==◌, Bool, true, false, not, ◌&&◌, ◌||◌, List, [], ◌∷◌, ◌++◌, length, get_or, map, filter, cond, Contains, Option, Some, None, MatchBool, IsTrue, refl, sym, ap, ◌∙◌, subst, inl, inr, append-nil, append_assoc}
+use Rattle.std.specs.List.{AllZip, list_any}
+use Rattle.std.proofs.lemmas.Bool.{eqb-true}
+use Rattle.dump_records.specs.RecordText.{DumpRecord}
+use Rattle.dump_rules.specs.Settings.{Settings}
+use Rattle.dump_rules.proofs.faults.FaultLemmas.{found, finds}
+use Rattle.dump_history.specs.Findings.{DumpFinding, every_dump_finding, AreDumpFindingsOf}
+use Rattle.dump_history.proofs.survey.NamingTest.{dump_findings_once}
+use Rattle.dump_survey.specs.declared.places.DumpPlaces.{DumpPlaces}
+use Rattle.dump_survey.specs.declared.places.Place.{Place}
+use Rattle.dump_survey.specs.declared.surveyor.SurveyEnd.{SurveyEnd}
+use Rattle.dump_survey.specs.declared.tally.DumpFindings.{DumpFindings}
+use Rattle.dump_survey.specs.DumpFindings.{has_dump_finding, listed_findings}
+use Rattle.dump_survey.specs.DumpTold.{DumpTold, place_in, told_at_end, IsDumpFinding, comes_up, ComesUpAt, IsDumpTold, AreDumpTold}
+use Rattle.dump_survey.specs.steps.Places.{no_places, first_place, AreNextPlaces, CameUp, ArePlaces}
+
+-- the place of a finding among all of them
+abbrev place_among : DumpFinding → ℕ
+place_among DumpFinding.NoRevision = 0
+place_among DumpFinding.OtherNumbers = 1
+place_among DumpFinding.NodeInFirst = 2
+place_among DumpFinding.SourceBefore = 3
+place_among DumpFinding.NodeOutside = 4
+place_among DumpFinding.NumbersLeft = 5
+
+-- the finding of a place
+abbrev at_place : ℕ → DumpFinding
+at_place n = get_or every_dump_finding n DumpFinding.NoRevision
+
+back : (f : DumpFinding) → at_place (place_among f) ≡ f
+back DumpFinding.NoRevision = refl
+back DumpFinding.OtherNumbers = refl
+back DumpFinding.NodeInFirst = refl
+back DumpFinding.SourceBefore = refl
+back DumpFinding.NodeOutside = refl
+back DumpFinding.NumbersLeft = refl
+
+every_there : (f : DumpFinding) → list_any (λ g. place_among g == place_among f) every_dump_finding ≡ true
+every_there DumpFinding.NoRevision = refl
+every_there DumpFinding.OtherNumbers = refl
+every_there DumpFinding.NodeInFirst = refl
+every_there DumpFinding.SourceBefore = refl
+every_there DumpFinding.NodeOutside = refl
+every_there DumpFinding.NumbersLeft = refl
+
+same_place : (f g : DumpFinding) → (place_among g == place_among f) ≡ true → g ≡ f
+same_place f g is = sym (back g) ∙ (ap at_place (eqb-true (place_among g) (place_among f) is) ∙ back f)
+
+refl_place : (f : DumpFinding) → (place_among f == place_among f) ≡ true
+refl_place DumpFinding.NoRevision = refl
+refl_place DumpFinding.OtherNumbers = refl
+refl_place DumpFinding.NodeInFirst = refl
+refl_place DumpFinding.SourceBefore = refl
+refl_place DumpFinding.NodeOutside = refl
+refl_place DumpFinding.NumbersLeft = refl
+
+-- whether a finding is among some
+abbrev is_among : DumpFinding → List DumpFinding → Bool
+is_among f fs = list_any (λ g. place_among g == place_among f) fs
+
+among_there : (f : DumpFinding) (fs : List DumpFinding) → is_among f fs ≡ true → Contains fs f
+among_there f fs some =
+    let (g, there, same) = found (λ g. place_among g == place_among f) fs some in
+    subst (Contains fs) (same_place f g same) there
+
+among_back : (f : DumpFinding) (fs : List DumpFinding) → Contains fs f → is_among f fs ≡ true
+among_back f fs there = finds (λ g. place_among g == place_among f) fs f there (refl_place f)
+
+-- each dump has the finding or hasn't
+has_or_not : (settings : Settings) (records : List DumpRecord) (f : DumpFinding)
+    → IsDumpFinding settings records f ⊎ ¬ IsDumpFinding settings records f
+has_or_not settings records f =
+    let (fs, are, once) = dump_findings_once settings records in
+    by fs are once (is_among f fs) refl
+  where
+    by : (fs : List DumpFinding) → AreDumpFindingsOf settings records fs
+        → ((others : List DumpFinding) → AreDumpFindingsOf settings records others → others ≡ fs)
+        → (b : Bool) → is_among f fs ≡ b → IsDumpFinding settings records f ⊎ ¬ IsDumpFinding settings records f
+    by fs are once true some = inl (fs, are, among_there f fs some)
+    by fs are once false none = inr (λ (others, are_too, there).
+        let some = among_back f fs (subst (λ l. Contains l f) (once others are_too) there) in
+        let bad : true ≡ false = sym some ∙ none in cc)
+
+-- without a record there is no revision, and nothing else is found
+one_alone : (f : DumpFinding) → Contains (DumpFinding.NoRevision ∷ []) f → comes_up f ≡ true → ⊥
+one_alone f there up =
+    let same = same_place f DumpFinding.NoRevision (by (among_back f (DumpFinding.NoRevision ∷ []) there)) in
+    let bad : false ≡ true = ap comes_up same ∙ up in cc
+  where
+    by : (place_among DumpFinding.NoRevision == place_among f || false) ≡ true
+        → (place_among DumpFinding.NoRevision == place_among f) ≡ true
+    by some = sides (place_among DumpFinding.NoRevision == place_among f) some
+      where
+        sides : (b : Bool) → (b || false) ≡ true → b ≡ true
+        sides true is = refl
+        sides false is = is
+
+none_of_none : (settings : Settings) (f : DumpFinding) → comes_up f ≡ true → ¬ IsDumpFinding settings [] f
+none_of_none settings f up (fs, (named, told, same), there) =
+    by named (λ some. told.0 some) settings.renumber same
+  where
+    by : (b : Bool) → (b ≡ true → ⊥) → (renumber : Bool)
+        → fs ≡ DumpFinding.NoRevision ∷ (cond (not renumber && b) (DumpFinding.NumbersLeft ∷ []) []) → ⊥
+    by true none renumber is = none refl
+    by false none true is = one_alone f (subst (λ l. Contains l f) is there) up
+    by false none false is = one_alone f (subst (λ l. Contains l f) is there) up
+
+-- so a finding comes up with some record
+comes_up_in : (settings : Settings) (f : DumpFinding) (before rest : List DumpRecord)
+    → ¬ IsDumpFinding settings before f → IsDumpFinding settings (before ++ rest) f
+    → (p : Place) × ComesUpAt settings (before ++ rest) f p
+comes_up_in settings f before [] none some =
+    absurd (none (subst (λ rs. IsDumpFinding settings rs f) (append-nil before) some))
+comes_up_in settings f before (r ∷ rest) none some =
+    by (has_or_not settings (before ++ r ∷ []) f) (comes_up_in settings f (before ++ r ∷ []) rest)
+  where
+    More : Type 0
+    More = ¬ IsDumpFinding settings (before ++ r ∷ []) f
+        → IsDumpFinding settings ((before ++ r ∷ []) ++ rest) f
+        → (p : Place) × ComesUpAt settings ((before ++ r ∷ []) ++ rest) f p
+
+    same : (before ++ r ∷ []) ++ rest ≡ before ++ r ∷ rest
+    same = append_assoc before (r ∷ []) rest
+
+    by : IsDumpFinding settings (before ++ r ∷ []) f ⊎ ¬ IsDumpFinding settings (before ++ r ∷ []) f → More
+        → (p : Place) × ComesUpAt settings (before ++ r ∷ rest) f p
+    by (inl here) more = (
+      record { number = length before; place = r.place },
+      record { before = before; r = r; after = rest; are = refl; none = none; found = here; is = refl },
+    )
+    by (inr still) more =
+        let (p, at) = more still (subst (λ rs. IsDumpFinding settings rs f) (sym same) some) in
+        (p, subst (λ rs. ComesUpAt settings rs f p) same at)
+
+-- so of each dump something is told, if only nothing
+told_of_each : (settings : Settings) (records : List DumpRecord) (fs : List DumpFinding)
+    → ((f : DumpFinding) → Contains fs f → IsDumpFinding settings records f)
+    → (told : List DumpTold) × AllZip (IsDumpTold settings records) fs told
+told_of_each settings records [] all = ([], tt)
+told_of_each settings records (f ∷ fs) all =
+    let (others, more) = told_of_each settings records fs (λ g there. all g (later g there)) in
+    let (t, is) = one (comes_up f) refl in
+    (t ∷ others, (is, more))
+  where
+    later : (g : DumpFinding) → Contains fs g → Contains (f ∷ fs) g
+    later g there = among_there g (f ∷ fs) (behind (place_among f == place_among g) (among_back g fs there))
+      where
+        behind : (b : Bool) → is_among g fs ≡ true → (b || is_among g fs) ≡ true
+        behind true some = refl
+        behind false some = some
+
+    first : Contains (f ∷ fs) f
+    first = among_there f (f ∷ fs) (ap (λ b. b || is_among f fs) (refl_place f))
+
+    -- this place is told, or none
+    At : Option Place → Bool → Type 0
+    At at b = MatchBool b ((q : Place) × (at ≡ Some q) × ComesUpAt settings records f q) (at ≡ None)
+
+    one : (b : Bool) → comes_up f ≡ b → (t : DumpTold) × IsDumpTold settings records f t
+    one true up =
+        let (p, at) = comes_up_in settings f [] records (none_of_none settings f up) (all f first) in (
+          record { finding = f; at = Some p },
+          record { finding = refl; at = subst (At (Some p)) (sym up) (p, refl, at) },
+        )
+    one false up = (
+      record { finding = f; at = None },
+      record { finding = refl; at = subst (At None) (sym up) refl },
+    )
+
+pub each_dump_told : (settings : Settings) (records : List DumpRecord)
+    → (told : List DumpTold) × AreDumpTold settings records told
+each_dump_told settings records =
+    let (fs, are, once) = dump_findings_once settings records in
+    let (told, all) = told_of_each settings records fs (λ f there. (fs, are, there)) in
+    (told, (fs, are, all))
+
+-- where nothing is told nothing is found
+pub nothing_found : (settings : Settings) (records : List DumpRecord) → AreDumpTold settings records []
+    → AreDumpFindingsOf settings records []
+nothing_found settings records ([], are, all) = are
+nothing_found settings records (f ∷ fs, are, all) = absurd all
+
+-- what the program has
+
+-- the findings of what is told at the end
+pub findings_at_end : (end : SurveyEnd) → map (λ (t : DumpTold). t.finding) (told_at_end end) ≡ listed_findings end.dump
+findings_at_end end = those (listed_findings end.dump)
+  where
+    those : (fs : List DumpFinding)
+        → map (λ (t : DumpTold). t.finding) (map (λ f. record { finding = f; at = place_in end.places f }) fs) ≡ fs
+    those [] = refl
+    those (f ∷ fs) = ap (λ l. f ∷ l) (those fs)
+
+-- a finding that the program has is found
+module _ (settings : Settings) (records : List DumpRecord) (flags : DumpFindings)
+    (are : AreDumpFindingsOf settings records (listed_findings flags)) where
+  listed_there : (f : DumpFinding) (fs : List DumpFinding) → is_among f fs ≡ true → has_dump_finding flags f ≡ true
+      → is_among f (filter (λ g. has_dump_finding flags g) fs) ≡ true
+  listed_there f [] some has = some
+  listed_there f (g ∷ fs) some has =
+      by (has_dump_finding flags g) refl (place_among g == place_among f) refl some (λ more. listed_there f fs more has)
+    where
+      those : List DumpFinding
+      those = filter (λ h. has_dump_finding flags h) fs
+
+      by : (h : Bool) → has_dump_finding flags g ≡ h → (s : Bool) → (place_among g == place_among f) ≡ s
+          → (s || is_among f fs) ≡ true → (is_among f fs ≡ true → is_among f those ≡ true)
+          → is_among f (cond h (g ∷ those) those) ≡ true
+      by true has_it true same any more = ap (λ b. b || is_among f those) same
+      by true has_it false other any more = ap (λ b. b || is_among f those) other ∙ more any
+      by false absent true same any more =
+          let bad : true ≡ false = sym (ap (has_dump_finding flags) (same_place f g same) ∙ has) ∙ absent in cc
+      by false absent false other any more = more any
+
+  pub flag_holds : (f : DumpFinding) → has_dump_finding flags f ≡ true → IsDumpFinding settings records f
+  flag_holds f has = (
+    listed_findings flags,
+    are,
+    among_there f (listed_findings flags) (listed_there f every_dump_finding (every_there f) has),
+  )
+
+  listed_has : (f : DumpFinding) (fs : List DumpFinding)
+      → is_among f (filter (λ g. has_dump_finding flags g) fs) ≡ true → has_dump_finding flags f ≡ true
+  listed_has f [] bad = let worse : false ≡ true = bad in cc
+  listed_has f (g ∷ fs) some = by (has_dump_finding flags g) refl some (listed_has f fs)
+    where
+      those : List DumpFinding
+      those = filter (λ h. has_dump_finding flags h) fs
+
+      first : (s : Bool) → (place_among g == place_among f) ≡ s → has_dump_finding flags g ≡ true
+          → (s || is_among f those) ≡ true → (is_among f those ≡ true → has_dump_finding flags f ≡ true)
+          → has_dump_finding flags f ≡ true
+      first true same has_it any more = ap (has_dump_finding flags) (sym (same_place f g same)) ∙ has_it
+      first false other has_it any more = more any
+
+      by : (h : Bool) → has_dump_finding flags g ≡ h → is_among f (cond h (g ∷ those) those) ≡ true
+          → (is_among f those ≡ true → has_dump_finding flags f ≡ true) → has_dump_finding flags f ≡ true
+      by true has_it any more = first (place_among g == place_among f) refl has_it any more
+      by false absent any more = more any
+
+  flag_back : (f : DumpFinding) → IsDumpFinding settings records f → has_dump_finding flags f ≡ true
+  flag_back f (fs, are_too, there) =
+      let (all, all_are, once) = dump_findings_once settings records in
+      listed_has f every_dump_finding (among_back f (listed_findings flags)
+      (subst (λ l. Contains l f) (once fs are_too ∙ sym (once (listed_findings flags) are)) there))
+
+  pub flag_denies : (f : DumpFinding) → has_dump_finding flags f ≡ false → ¬ IsDumpFinding settings records f
+  flag_denies f absent some = let bad : true ≡ false = sym (flag_back f some) ∙ absent in cc
+
+-- before the first record nothing came up
+pub no_places_yet : (settings : Settings) → ArePlaces settings [] no_places
+no_places_yet settings DumpFinding.NoRevision up = cc
+no_places_yet settings DumpFinding.OtherNumbers up = none_of_none settings DumpFinding.OtherNumbers refl
+no_places_yet settings DumpFinding.NodeInFirst up = none_of_none settings DumpFinding.NodeInFirst refl
+no_places_yet settings DumpFinding.SourceBefore up = none_of_none settings DumpFinding.SourceBefore refl
+no_places_yet settings DumpFinding.NodeOutside up = none_of_none settings DumpFinding.NodeOutside refl
+no_places_yet settings DumpFinding.NumbersLeft up = none_of_none settings DumpFinding.NumbersLeft refl
+
+-- the places go on to one more record
+pub places_next : (settings : Settings) (before : List DumpRecord) (r : DumpRecord) (old new : DumpPlaces)
+    (flags : DumpFindings) (here : Place) → ArePlaces settings before old
+    → AreDumpFindingsOf settings (before ++ r ∷ []) (listed_findings flags)
+    → here ≡ record { number = length before; place = r.place } → AreNextPlaces old flags here new
+    → ArePlaces settings (before ++ r ∷ []) new
+places_next settings before r old new flags here are found_are here_is next f up =
+    subst (CameUp settings (before ++ r ∷ []) f) (sym (next f up))
+    (by (place_in old f) (are f up) (has_dump_finding flags f) refl)
+  where
+    by : (o : Option Place) → CameUp settings before f o → (b : Bool) → has_dump_finding flags f ≡ b
+        → CameUp settings (before ++ r ∷ []) f (first_place o b here)
+    by (Some p) at b is = record {
+      before = at.before;
+      r = at.r;
+      after = at.after ++ r ∷ [];
+      are = ap (λ rs. rs ++ r ∷ []) at.are ∙ append_assoc at.before (at.r ∷ at.after) (r ∷ []);
+      none = at.none;
+      found = at.found;
+      is = at.is;
+    }
+    by None none true is = record {
+      before = before;
+      r = r;
+      after = [];
+      are = refl;
+      none = none;
+      found = flag_holds settings (before ++ r ∷ []) flags found_are f is;
+      is = here_is;
+    }
+    by None none false is = flag_denies settings (before ++ r ∷ []) flags found_are f is
+
+-- so what the program has is told at the end
+pub told_where_ended : (settings : Settings) (records : List DumpRecord) (end : SurveyEnd)
+    → AreDumpFindingsOf settings records (listed_findings end.dump) → ArePlaces settings records end.places
+    → AreDumpTold settings records (told_at_end end)
+told_where_ended settings records end are places =
+    (listed_findings end.dump, are, those (listed_findings end.dump)
+    (λ f there. (listed_findings end.dump, are, there)))
+  where
+    one : (f : DumpFinding) → IsDumpFinding settings records f → (b : Bool) → comes_up f ≡ b
+        → MatchBool b ((p : Place) × (place_in end.places f ≡ Some p) × ComesUpAt settings records f p)
+        (place_in end.places f ≡ None)
+    one f some true up = came (place_in end.places f) (places f up)
+      where
+        came : (o : Option Place) → CameUp settings records f o
+            → (p : Place) × (o ≡ Some p) × ComesUpAt settings records f p
+        came None none = absurd (none some)
+        came (Some p) at = (p, refl, at)
+    one DumpFinding.NoRevision some false up = refl
+    one DumpFinding.OtherNumbers some false up = cc
+    one DumpFinding.NodeInFirst some false up = cc
+    one DumpFinding.SourceBefore some false up = cc
+    one DumpFinding.NodeOutside some false up = cc
+    one DumpFinding.NumbersLeft some false up = cc
+
+    those : (fs : List DumpFinding) → ((f : DumpFinding) → Contains fs f → IsDumpFinding settings records f)
+        → AllZip (IsDumpTold settings records) fs (map (λ f. record { finding = f; at = place_in end.places f }) fs)
+    those [] all = tt
+    those (f ∷ fs) all = (
+      record { finding = refl; at = one f (all f (first f fs)) (comes_up f) refl },
+      those fs (λ g there. all g (later f fs g there)),
+    )
+      where
+        first : (f : DumpFinding) (fs : List DumpFinding) → Contains (f ∷ fs) f
+        first f fs = among_there f (f ∷ fs) (ap (λ b. b || is_among f fs) (refl_place f))
+
+        later : (f : DumpFinding) (fs : List DumpFinding) (g : DumpFinding) → Contains fs g → Contains (f ∷ fs) g
+        later f fs g there = among_there g (f ∷ fs) (behind (place_among f == place_among g) (among_back g fs there))
+          where
+            behind : (b : Bool) → is_among g fs ≡ true → (b || is_among g fs) ≡ true
+            behind true some = refl
+            behind false some = some

@@ -1,0 +1,58 @@
+-- What a survey tells of a dump as a whole: each finding, and the first record with which it comes up.
+use Rattle.std.specs.Prelude.{◌≡◌, Bool, true, false, List, [], ◌∷◌, ◌++◌, length, map, Contains, Option, Some, None, MatchBool}
+use Rattle.std.specs.List.{AllZip}
+use Rattle.dump_records.specs.RecordText.{DumpRecord}
+use Rattle.dump_rules.specs.Settings.{Settings}
+use Rattle.dump_history.specs.Findings.{DumpFinding, AreDumpFindingsOf}
+use Rattle.dump_survey.specs.declared.places.DumpPlaces.{DumpPlaces}
+use Rattle.dump_survey.specs.declared.places.Place.{Place}
+use Rattle.dump_survey.specs.declared.surveyor.SurveyEnd.{SurveyEnd}
+use Rattle.dump_survey.specs.DumpFindings.{listed_findings}
+
+-- a finding, and where the record is with which it comes up, if one is told
+pub record DumpTold : Type 0 where
+  pub finding : DumpFinding
+  pub at : Option Place
+
+-- the place that the program has for a finding
+abbrev pub place_in : DumpPlaces → DumpFinding → Option Place
+place_in places DumpFinding.NoRevision = None
+place_in places DumpFinding.OtherNumbers = places.other_numbers
+place_in places DumpFinding.NodeInFirst = places.node_in_first
+place_in places DumpFinding.SourceBefore = places.source_before
+place_in places DumpFinding.NodeOutside = places.node_outside
+place_in places DumpFinding.NumbersLeft = places.numbers_left
+
+-- what is told at the end, as the program has it
+abbrev pub told_at_end : SurveyEnd → List DumpTold
+told_at_end end = map (λ f. record { finding = f; at = place_in end.places f }) (listed_findings end.dump)
+
+-- this is found in the dump with these records
+abbrev pub IsDumpFinding : Settings → List DumpRecord → DumpFinding → Type 0
+IsDumpFinding settings records f =
+    (found : List DumpFinding) × AreDumpFindingsOf settings records found × Contains found f
+
+-- whether the finding comes up with a record; that there is no revision doesn't
+abbrev pub comes_up : DumpFinding → Bool
+comes_up DumpFinding.NoRevision = false
+comes_up _ = true
+
+-- with the record there the finding comes up: it is found with the records up to it, and isn't with those before it
+pub record ComesUpAt (settings : Settings) (records : List DumpRecord) (f : DumpFinding) (p : Place) : Type 0 where
+  pub before : List DumpRecord
+  pub r : DumpRecord
+  pub after : List DumpRecord
+  pub are : records ≡ before ++ r ∷ after
+  pub none : ¬ IsDumpFinding settings before f
+  pub found : IsDumpFinding settings (before ++ r ∷ []) f
+  pub is : p ≡ record { number = length before; place = r.place }
+
+-- this is told of the finding
+pub record IsDumpTold (settings : Settings) (records : List DumpRecord) (f : DumpFinding) (t : DumpTold) : Type 0 where
+  pub finding : t.finding ≡ f
+  pub at : MatchBool (comes_up f) ((p : Place) × (t.at ≡ Some p) × ComesUpAt settings records f p) (t.at ≡ None)
+
+-- this is told of the dump with these records: of each finding, in order
+abbrev pub AreDumpTold : Settings → List DumpRecord → List DumpTold → Type 0
+AreDumpTold settings records told = (found : List DumpFinding) × AreDumpFindingsOf settings records found
+    × AllZip (IsDumpTold settings records) found told

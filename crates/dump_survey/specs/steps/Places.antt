@@ -1,0 +1,40 @@
+-- Where what is found in a dump as a whole comes up first, record by record.
+use Rattle.std.specs.Prelude.{◌≡◌, Bool, List, Option, Some, None, IsTrue, if◌then◌else◌}
+use Rattle.dump_records.specs.RecordText.{DumpRecord}
+use Rattle.dump_rules.specs.Settings.{Settings}
+use Rattle.dump_history.specs.Findings.{DumpFinding}
+use Rattle.dump_survey.specs.declared.places.DumpPlaces.{DumpPlaces}
+use Rattle.dump_survey.specs.declared.places.Place.{Place}
+use Rattle.dump_survey.specs.declared.tally.DumpFindings.{DumpFindings}
+use Rattle.dump_survey.specs.DumpFindings.{has_dump_finding}
+use Rattle.dump_survey.specs.DumpTold.{place_in, IsDumpFinding, comes_up, ComesUpAt}
+
+-- before the first record
+abbrev pub no_places : DumpPlaces
+no_places = record {
+  other_numbers = None;
+  node_in_first = None;
+  source_before = None;
+  node_outside = None;
+  numbers_left = None;
+}
+
+-- the place of a finding that came up there, if it did, and is found with the record here or not
+abbrev pub first_place : Option Place → Bool → Place → Option Place
+first_place (Some p) found here = Some p
+first_place None found here = if found then Some here else None
+
+-- the new places are those with one more record, which is here
+abbrev pub AreNextPlaces : DumpPlaces → DumpFindings → Place → DumpPlaces → Type 0
+AreNextPlaces old found here new = (f : DumpFinding) → IsTrue (comes_up f)
+    → place_in new f ≡ first_place (place_in old f) (has_dump_finding found f) here
+
+-- with the record there the finding came up; where none is told, it didn't
+abbrev pub CameUp : Settings → List DumpRecord → DumpFinding → Option Place → Type 0
+CameUp settings records f None = ¬ IsDumpFinding settings records f
+CameUp settings records f (Some p) = ComesUpAt settings records f p
+
+-- these are the places of the findings with these records
+abbrev pub ArePlaces : Settings → List DumpRecord → DumpPlaces → Type 0
+ArePlaces settings records places =
+    (f : DumpFinding) → IsTrue (comes_up f) → CameUp settings records f (place_in places f)

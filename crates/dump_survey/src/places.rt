@@ -1,0 +1,63 @@
+//! Where what is found in a dump as a whole comes up first.
+ghost use Rattle.std.specs.Prelude.{◌≡◌};
+ghost use Rattle.dump_survey.specs.steps.Places.{AreNextPlaces, first_place, no_places};
+
+use crate::tally::DumpFindings;
+
+/// Where a record is in a dump.
+#[derive(Clone, Copy, Debug, PartialEq, Eq)]
+pub struct Place {
+    /// Its number, from 0.
+    pub number: u64,
+    /// The byte of the dump at which it begins.
+    pub place: usize,
+}
+
+/// The first record with which each of the findings comes up, where one does. Want of a revision has none.
+#[derive(Clone, Copy, Debug, PartialEq, Eq)]
+pub struct DumpPlaces {
+    pub other_numbers: Option<Place>,
+    pub node_in_first: Option<Place>,
+    pub source_before: Option<Place>,
+    pub node_outside: Option<Place>,
+    pub numbers_left: Option<Place>,
+}
+
+/// The place of a finding that came up there, if it did, and is found with the record here or not.
+fn first_place(before: Option<Place>, found: bool, here: Place) -> Option<Place>
+    ensures { result ≡ first_place before found here }
+{
+    match before {
+        Some(place) => Some(place),
+        None if found => Some(here),
+        None => None,
+    }
+}
+
+impl DumpPlaces {
+    /// Those of no record.
+    pub(crate) fn new() -> DumpPlaces
+        ensures { result ≡ no_places }
+    {
+        DumpPlaces {
+            other_numbers: None,
+            node_in_first: None,
+            source_before: None,
+            node_outside: None,
+            numbers_left: None,
+        }
+    }
+
+    /// Those of one more record, which is here, and up to which this is found.
+    pub(crate) fn with(&self, found: &DumpFindings, here: Place) -> DumpPlaces
+        ensures { AreNextPlaces self.now found.now here result }
+    {
+        DumpPlaces {
+            other_numbers: first_place(self.other_numbers, found.other_numbers, here),
+            node_in_first: first_place(self.node_in_first, found.node_in_first, here),
+            source_before: first_place(self.source_before, found.source_before, here),
+            node_outside: first_place(self.node_outside, found.node_outside, here),
+            numbers_left: first_place(self.numbers_left, found.numbers_left, here),
+        }
+    }
+}
