@@ -8,9 +8,9 @@
 //! [`DumpFindings`], and whether they end with the dump; then
 //! [`Surveyor::told_prefixes`] tells the prefixes by which the filter does nothing, each with its [`PrefixFinding`].
 //! [`survey_dump`] keeps all this in a [`Survey`]; [`write_survey`] writes a line for each finding as it is found, and
-//! keeps nothing. [`folders_to_make`] tells which folders the load wants, [`keep_as_well`] which prefixes more let the
-//! filter stop at no copy, and [`write_behind`] writes a line for each. [`write_map`] writes the old and the new number of
-//! each revision that the filter keeps.
+//! keeps nothing. [`left_out_lines`] tells how many lines of mergeinfo the filter leaves out, [`folders_to_make`] which
+//! folders the load wants, [`keep_as_well`] which prefixes more let the filter stop at no copy, and [`write_behind`]
+//! writes the lines of all three. [`write_map`] writes the old and the new number of each revision that the filter keeps.
 //!
 //! ```
 //! let survey = survey_dump(rt.alloc(), dump.as_slice(), &options)?;
