@@ -12,7 +12,8 @@ use Rattle.dump_trees.specs.Restriction.{given, IsRestricted}
 use Rattle.dump_trees.specs.Revisions.{loaded_over, stays_numbered, kept_of, AreFiltered}
 use Rattle.dump_trees.specs.HistoryLaws.{ImagesRestrict}
 use Rattle.dump_trees.specs.Quiet.{are_quiet, nowhere_is_over}
-use Rattle.dump_trees.proofs.values.ValueParts.{including, excluding, none_more, as_it_was, folder, file, copy, deletion, setting, writing, property, same_folder, same_file, same_copy}
+use Rattle.dump_trees.proofs.quiet.QuietLemmas.{quiet_history}
+use Rattle.dump_trees.proofs.values.ValueParts.{including, excluding, none_more, as_it_was, entries_stay, folder, file, copy, deletion, setting, writing, property, same_folder, same_file, same_copy}
 
 -- the premises of a dump: its revisions stay numbered, it loads, no change gives an alarm, and no copy that loses its
 -- source is made over something
@@ -130,6 +131,45 @@ only_numbers_fail = refl
 numbers_are_needed : ¬ HasLaw left_numbers behind_dropped behind_dropped_part
 numbers_are_needed law =
     let bad : false ≡ true = both_load left_numbers behind_dropped behind_dropped_part refl law in cc
+
+-- where the only copy behind the dropped revision is left out, the law holds without new numbers
+
+abbrev plain_behind : List (List Change)
+plain_behind = (folder (codes "a") ∷ file (codes "a/f") (codes "1") ∷ [])
+    ∷ (folder (codes "c") ∷ [])
+    ∷ (file (codes "a/g") (codes "2") ∷ [])
+    ∷ (copy 3 (codes "a/g") (codes "c/g") ∷ [])
+    ∷ []
+
+abbrev plain_behind_part : List (List Change)
+plain_behind_part = (folder (codes "a") ∷ file (codes "a/f") (codes "1") ∷ [])
+    ∷ (file (codes "a/g") (codes "2") ∷ [])
+    ∷ []
+
+plain_behind_is_part : AreFiltered left_numbers as_it_was none_more plain_behind plain_behind_part
+plain_behind_is_part = (
+  folder (codes "a") ∷ file (codes "a/f") (codes "1") ∷ [],
+  _,
+  refl,
+  (
+    folder (codes "a"),
+    _,
+    refl,
+    same_folder _ _ (codes "a"),
+    (file (codes "a/f") (codes "1"), [], refl, same_file _ _ (codes "a/f") (codes "1"), refl),
+  ),
+  (
+    file (codes "a/g") (codes "2") ∷ [],
+    [],
+    refl,
+    (file (codes "a/g") (codes "2"), [], refl, same_file _ _ (codes "a/g") (codes "2"), refl),
+    refl,
+  ),
+)
+
+gap_has_law : HasLaw left_numbers plain_behind plain_behind_part
+gap_has_law trees at = quiet_history left_numbers as_it_was entries_stay none_more plain_behind plain_behind_part trees
+    refl at refl refl plain_behind_is_part
 
 -- a copy of trunk, below which something is excluded: branch lacks it, where it is kept
 
