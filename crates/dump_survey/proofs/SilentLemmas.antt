@@ -94,6 +94,8 @@ unfolding dump_line
 no_dump_lines [] none = refl
 no_dump_lines (DumpFinding.NoRevision ∷ found) none = cc
 no_dump_lines (DumpFinding.OtherNumbers ∷ found) none = cc
+no_dump_lines (DumpFinding.NumberFalls ∷ found) none = cc
+no_dump_lines (DumpFinding.UnreadRevision ∷ found) none = cc
 no_dump_lines (DumpFinding.NodeInFirst ∷ found) none = cc
 no_dump_lines (DumpFinding.SourceBefore ∷ found) none = cc
 no_dump_lines (DumpFinding.NodeOutside ∷ found) none = cc

@@ -1,5 +1,5 @@
 -- What a surveyor knows goes on to one more record, and tells what is found where the records end.
-use Rattle.std.proofs.Common.{◌≡◌, ℕ, ◌+◌, ◌^◌, ◌<◌, ◌≤◌, Bool, true, false, not, ◌&&◌, ◌||◌, List, [], ◌∷◌, ◌++◌, length, length-append, map, filter, cond, Option, Some, None, refl, sym, ap, ap₂, ◌∙◌, subst, arith, inl, inr, Result, Ok, Err, MatchBool}
+use Rattle.std.proofs.Common.{◌≡◌, ◌⊎◌, ◌↔◌, ℕ, ◌+◌, ◌^◌, ◌<◌, ◌≤◌, Bool, true, false, not, ◌&&◌, ◌||◌, List, [], ◌∷◌, ◌++◌, length, length-append, map, filter, cond, Option, Some, None, refl, sym, ap, ap₂, ◌∙◌, subst, arith, inl, inr, Result, Ok, Err, IsTrue, MatchBool}
 use Rattle.std.specs.Result.{IfOk}
 use Rattle.std.specs.List.{list_all}
 use Rattle.std.proofs.lemmas.Bool.{and_from}
@@ -20,7 +20,7 @@ use Rattle.dump_filter.proofs.groups.KindLemmas.{alone}
 use Rattle.dump_survey.specs.declared.tally.Tally.{Tally}
 use Rattle.dump_survey.specs.steps.Naming.{leaves_number}
 use Rattle.dump_survey.specs.steps.Tally.{no_tally, next_tally, numbers_of, tally_findings}
-use Rattle.dump_history.specs.Findings.{Finding, every_finding, is_found, AreFindingsOf, AreDumpFindingsOf}
+use Rattle.dump_history.specs.Findings.{Finding, every_finding, is_found, AreFindingsOf, IsUnreadRevision, HasUnreadRevision, AreDumpFindingsOf}
 use Rattle.dump_history.specs.steps.NamingTests.{TellsNaming}
 use Rattle.dump_history.proofs.survey.FindingLemmas.{findings_once}
 use Rattle.dump_survey.specs.declared.finding.Found.{Found}
@@ -45,6 +45,7 @@ use Rattle.dump_survey.specs.steps.Steps.{IsStepOf, TellsEnd, ComesNext, open_be
 use Rattle.dump_survey.proofs.IdleLemmas.{all_idle, idle_more, told_by_idle}
 use Rattle.dump_survey.proofs.TallyLemmas.{is_single, filter_same, tally_more, count_within, present_number, present_is}
 use Rattle.dump_survey.proofs.LeftLemmas.{leave_more, tally_tells}
+use Rattle.dump_survey.proofs.UnreadLemmas.{none_unread, unread_more}
 use Rattle.dump_survey.proofs.NumberLemmas.{numbers_behind}
 
 -- a lawful record is no node that is a revision too
@@ -100,11 +101,11 @@ begins_with_none dump =
     begins_prefix dump [] records (has.0, has.1, has.2)
 
 -- before the first record
-pub at_first : (dump : List ℕ) (settings : Settings) (prefixes idle : List (List ℕ)) (tally : Tally) (left : Bool)
+pub at_first : (dump : List ℕ) (settings : Settings) (prefixes idle : List (List ℕ)) (tally : Tally) (left unread : Bool)
     (cutter : CutterState) → cutter ≡ record { dump = dump; number = 0 } → prefixes ≡ map bare_prefix settings.prefixes
     → HaveSame idle (map bare_prefix settings.prefixes) → tally ≡ no_tally → left ≡ false
-    → Surveys settings prefixes idle tally left cutter
-at_first dump settings prefixes idle tally left cutter is same all none not_left = record {
+    → unread ≡ false → Surveys settings prefixes idle tally left unread cutter
+at_first dump settings prefixes idle tally left unread cutter is same all none not_left no_unread = record {
   prefixes_are = same;
   before = [];
   begins = begins_with_none cutter.dump;
@@ -112,6 +113,7 @@ at_first dump settings prefixes idle tally left cutter is same all none not_left
   idle_are = all_idle settings.prefixes idle all;
   tallied = none;
   left_is = λ names tells. not_left;
+  unread_is = subst (λ b. IsTrue b ↔ HasUnreadRevision []) (sym no_unread) none_unread;
 }
 
 -- what is found is what is found in the node
@@ -162,15 +164,15 @@ told_of settings before revision r found told node are is =
     subst (λ (b : Bool). MatchBool b (IsToldOfNode settings before revision r told) (told ≡ []))
     (sym node) (found, are, is)
 
-module _ (settings : Settings) (prefixes idle : List (List ℕ)) (tally : Tally) (left : Bool)
-    (cutter after : CutterState) (knows : Surveys settings prefixes idle tally left cutter) where
+module _ (settings : Settings) (prefixes idle : List (List ℕ)) (tally : Tally) (left unread : Bool)
+    (cutter after : CutterState) (knows : Surveys settings prefixes idle tally left unread cutter) where
   -- the surveyor as callers see it
   abbrev seen : CutterState → Surveying
   seen c = record { dump = c.dump; settings = settings; number = c.number }
 
   -- what is known where the records end
   pub ended : (end : End) (told : SurveyEnd) → EndsAfter cutter.dump cutter.number (survey_ending end)
-      → after ≡ cutter → TellsEnd tally left end told
+      → after ≡ cutter → TellsEnd tally left unread end told
       → SurveyStep (seen cutter) (Finished told) (seen after)
   ended end told ends same (end_is, found) =
       let begins = knows.begins in
@@ -180,8 +182,9 @@ module _ (settings : Settings) (prefixes idle : List (List ℕ)) (tally : Tally)
         subst (λ e. HasRecords cutter.dump knows.before (survey_ending e)) (sym end_is) has,
         knows.count,
         subst (AreDumpFindingsOf settings knows.before)
-            (sym (found ∙ ap (λ (t : Tally). tally_findings t left) knows.tallied))
-            (tally_tells settings knows.before left (begun_single cutter.dump knows.before begins) knows.left_is),
+            (sym (found ∙ ap (λ (t : Tally). tally_findings t left unread) knows.tallied))
+            (tally_tells settings knows.before left unread (begun_single cutter.dump knows.before begins) knows.left_is
+            knows.unread_is),
         ap seen same,
       )
 
@@ -200,13 +203,14 @@ module _ (settings : Settings) (prefixes idle : List (List ℕ)) (tally : Tally)
         omega arith
 
     -- and goes on with the record
-    pub goes_on : (others : List (List ℕ)) (next : Tally) (still : Bool)
+    pub goes_on : (others : List (List ℕ)) (next : Tally) (still unread_still : Bool)
         → AreWithout (is_touched_by (record_item item)) idle others
         → next ≡ next_tally settings tally (record_item item)
         → ((names : DumpRecord → Bool) → TellsNaming names
         → still ≡ (left || leaves_number settings names tally (record_item item)))
-        → Surveys settings prefixes others next still after
-    goes_on others next still without is still_is = record {
+        → IsTrue unread_still ↔ (IsTrue unread ⊎ IsUnreadRevision (record_item item))
+        → Surveys settings prefixes others next still unread_still after
+    goes_on others next still unread_still without is still_is unread_so = record {
       prefixes_are = knows.prefixes_are;
       before = knows.before ++ record_item item ∷ [];
       begins = subst (λ (c : CutterState). BeginsWithRecords c.dump (knows.before ++ record_item item ∷ []))
@@ -220,6 +224,7 @@ module _ (settings : Settings) (prefixes idle : List (List ℕ)) (tally : Tally)
           ∙ (ap₂ (λ b (t : Tally). b || leaves_number settings names t (record_item item)) (knows.left_is names tells)
           knows.tallied
           ∙ sym (leave_more settings names no_tally knows.before (record_item item)));
+      unread_is = unread_more knows.before (record_item item) unread unread_still knows.unread_is unread_so;
     }
 
     comes : ComesNext (seen cutter) knows.before (record_item item) (seen after)
@@ -286,14 +291,14 @@ module _ (settings : Settings) (prefixes idle : List (List ℕ)) (tally : Tally)
     stepped_ok (Err e) is = tt
 
 -- what is told of the prefixes, where there was memory
-pub told_so_far : (settings : Settings) (prefixes idle : List (List ℕ)) (tally : Tally) (left : Bool)
-    (cutter : CutterState) → Surveys settings prefixes idle tally left cutter → (given : List (List ℕ)) → given ≡ settings.prefixes
+pub told_so_far : (settings : Settings) (prefixes idle : List (List ℕ)) (tally : Tally) (left unread : Bool)
+    (cutter : CutterState) → Surveys settings prefixes idle tally left unread cutter → (given : List (List ℕ)) → given ≡ settings.prefixes
     → {V : Type 0} (view : V → List PrefixTold) (result : Result V Memory)
     → IfOk result (λ told. view told ≡ prefixes_by idle given)
     → IfOk result (λ told. ArePrefixesTold (record { dump = cutter.dump; settings = settings; number = cutter.number })
     (view told))
-told_so_far settings prefixes idle tally left cutter knows given same view (Err e) is = tt
-told_so_far settings prefixes idle tally left cutter knows given same view (Ok told) is = (
+told_so_far settings prefixes idle tally left unread cutter knows given same view (Err e) is = tt
+told_so_far settings prefixes idle tally left unread cutter knows given same view (Ok told) is = (
   knows.before,
   knows.begins,
   knows.count,

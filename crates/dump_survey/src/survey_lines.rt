@@ -211,6 +211,16 @@ fn push_dump_lines(lines: &mut Vec<u8>, found: &DumpFindings) -> Result<(), Memo
     )?;
     push_if(
         lines,
+        found.number_falls,
+        b"the number of a revision is not above the one before: fault 8\n",
+    )?;
+    push_if(
+        lines,
+        found.unread_revision,
+        b"the properties of a revision can't be read: fault 9\n",
+    )?;
+    push_if(
+        lines,
         found.node_in_first,
         b"revision 0 of the dump has a node\n",
     )?;

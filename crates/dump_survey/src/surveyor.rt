@@ -8,6 +8,7 @@ ghost use Rattle.dump_survey.specs.steps.Steps.{IsStepOf, TellsEnd};
 use crate::memory::Memory;
 use crate::naming::leaves_number;
 use crate::node::find;
+use crate::plain::is_unread_revision;
 use crate::prefix_findings::{ToldPrefix, leave_touched, told_prefixes};
 use crate::prefix_set::PrefixSet;
 use crate::prefixes::{Prefixes, given_prefixes};
@@ -58,6 +59,8 @@ pub struct Surveyor<'o, 'a> {
     tally: Tally,
     /// Whether a kept node named a revision behind a dropped one, and revisions aren't renumbered.
     numbers_left: bool,
+    /// Whether a revision came whose properties can't be read.
+    unread_revision: bool,
 }
 
 impl<'o, 'a> Model for Surveyor<'o, 'a> {
@@ -67,7 +70,7 @@ impl<'o, 'a> Model for Surveyor<'o, 'a> {
 
     ghost view = { λ s. record { dump = s.cutter.dump; settings = s.options.now; number = s.cutter.number } };
 
-    ghost invariant = { λ s. Surveys s.options.now s.prefixes s.idle s.tally s.numbers_left s.cutter };
+    ghost invariant = { λ s. Surveys s.options.now s.prefixes s.idle s.tally s.numbers_left s.unread_revision s.cutter };
 }
 
 /// What is found in the next record, behind those of this tally.
@@ -96,12 +99,13 @@ fn step_of<'o, 'a>(
     }))
 }
 
-/// What is known behind the records of this tally, which end so, and leave numbers or not.
-fn finished(tally: &Tally, numbers_left: bool, end: End) -> SurveyEnd
-    ensures { TellsEnd tally.now numbers_left end result }
+/// What is known behind the records of this tally, which end so, leave numbers or not, and have a revision whose
+/// properties can't be read or none.
+fn finished(tally: &Tally, numbers_left: bool, unread_revision: bool, end: End) -> SurveyEnd
+    ensures { TellsEnd tally.now numbers_left unread_revision end result }
 {
     SurveyEnd {
-        dump: tally.findings(numbers_left),
+        dump: tally.findings(numbers_left, unread_revision),
         end,
     }
 }
@@ -127,6 +131,7 @@ impl<'o, 'a> Surveyor<'o, 'a> {
             idle,
             tally: Tally::new(),
             numbers_left: false,
+            unread_revision: false,
         })
     }
 
@@ -138,17 +143,23 @@ impl<'o, 'a> Surveyor<'o, 'a> {
         let item = match self.cutter.next() {
             Cut::Item(item) => item,
             Cut::Finished => {
-                let end = finished(&self.tally, self.numbers_left, End::Whole);
+                let end = finished(&self.tally, self.numbers_left, self.unread_revision, End::Whole);
                 return Ok(Step::Finished(end));
             }
             Cut::Fault { kind, place } => {
-                let end = finished(&self.tally, self.numbers_left, End::Broken { kind, place });
+                let end = finished(
+                    &self.tally,
+                    self.numbers_left,
+                    self.unread_revision,
+                    End::Broken { kind, place },
+                );
                 return Ok(Step::Finished(end));
             }
         };
         leave_touched(&mut self.idle, &item);
         let before = self.tally;
         self.numbers_left = self.numbers_left || leaves_number(&item, self.options, &before);
+        self.unread_revision = self.unread_revision || is_unread_revision(&item);
         self.tally = before.with(&item, self.options);
         step_of(alloc, item, self.options, &self.prefixes, &before)
     }
