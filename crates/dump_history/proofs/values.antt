@@ -8,6 +8,7 @@ pub mod WorkedDelta
 pub mod NodeValues
 pub mod DeltaValues
 pub mod DumpValues
+pub mod UnreadValues
 pub mod GapValues
 pub mod PartValues
 pub mod RaisedValues

@@ -1,7 +1,7 @@
 -- What a survey finds in a dump before it is filtered: where the loaded repository may not be the one that is meant. A
 -- program can tell all of it in one pass, node by node, by header lines, properties and prefixes alone; no text of a
 -- file and no tree is asked for, so what is found may do no harm: nothing may stand where a prefix points.
-use Rattle.std.specs.Prelude.{◌≡◌, ◌↔◌, ℕ, Bool, true, false, not, ◌&&◌, ◌==◌, List, [], ◌∷◌, length, filter, nat_lt, Option, Some, None, unwrap_or, is_none, IsTrue}
+use Rattle.std.specs.Prelude.{◌≡◌, ◌↔◌, ℕ, Bool, true, false, not, ◌&&◌, ◌==◌, List, [], ◌∷◌, length, filter, nat_lt, Option, Some, None, unwrap_or, is_none, Contains, IsTrue}
 use Rattle.std.specs.List.{list_any}
 use Rattle.dump_text.specs.declared.fault.FaultKind.TheVariants.{CopyRevision, MergeInfo, MergeSource, MergeRange}
 use Rattle.dump_text.specs.Names.{property_length_name}
@@ -11,7 +11,7 @@ use Rattle.dump_records.specs.RecordText.{DumpRecord}
 use Rattle.dump_rules.specs.declared.options.Side.{Side}
 use Rattle.dump_rules.specs.declared.options.Side.TheVariants.{Include, Exclude}
 use Rattle.dump_rules.specs.Settings.{Settings, keeps_path}
-use Rattle.dump_digest.specs.RecordParts.{is_copy, node_path, has_lost_source, HasPropertyList, HasPropertyBlock}
+use Rattle.dump_digest.specs.RecordParts.{is_copy, is_revision_record, node_path, has_lost_source, HasPropertyList, HasPropertyBlock}
 use Rattle.dump_filter.specs.Groups.{Group, groups, revision_numbers, first_number, is_bare}
 use Rattle.dump_filter.specs.NewHeaders.{is_whole_file, becomes_plain}
 use Rattle.dump_filter.specs.RecordFaults.{HoldsOfRecord}
@@ -20,7 +20,7 @@ use Rattle.dump_trees.specs.Restriction.{is_above_some}
 use Rattle.dump_trees.specs.Quiet.{cuts_alike}
 use Rattle.dump_history.specs.RecordChanges.{copy_path, copy_revision, deletes, makes, has_known_action, has_odd_delta, has_plain_texts}
 use Rattle.dump_history.specs.DumpChanges.{counts_from, has_ordered_nodes}
-use Rattle.dump_history.specs.NumberGaps.{NamesRevisionBehind}
+use Rattle.dump_history.specs.NumberGaps.{go_up, NamesRevisionBehind}
 
 -- what can be found in a node
 pub data Finding : Type 0 where
@@ -170,6 +170,10 @@ pub data DumpFinding : Type 0 where
   NoRevision : DumpFinding
   -- its revisions aren't numbered on, one by one, from the number of the first one
   OtherNumbers : DumpFinding
+  -- a revision's number isn't above that of the revision before it, at which the filter stops
+  NumberFalls : DumpFinding
+  -- the properties of a revision can't be read, at which the filter stops
+  UnreadRevision : DumpFinding
   -- its first revision is revision 0, and has a node
   NodeInFirst : DumpFinding
   -- a node of a revision is a copy from one before the first revision
@@ -182,8 +186,21 @@ pub data DumpFinding : Type 0 where
 -- each of them, in order
 abbrev pub every_dump_finding : List DumpFinding
 every_dump_finding =
-    DumpFinding.NoRevision ∷ DumpFinding.OtherNumbers ∷ DumpFinding.NodeInFirst ∷ DumpFinding.SourceBefore
-    ∷ DumpFinding.NodeOutside ∷ DumpFinding.NumbersLeft ∷ []
+    DumpFinding.NoRevision ∷ DumpFinding.OtherNumbers ∷ DumpFinding.NumberFalls ∷ DumpFinding.UnreadRevision
+    ∷ DumpFinding.NodeInFirst ∷ DumpFinding.SourceBefore ∷ DumpFinding.NodeOutside ∷ DumpFinding.NumbersLeft ∷ []
+
+-- whether each of the numbers is above the one before
+abbrev pub rise : List ℕ → Bool
+rise [] = true
+rise (n ∷ numbers) = go_up n numbers
+
+-- the record is a revision whose properties can't be read
+abbrev pub IsUnreadRevision : DumpRecord → Type 0
+IsUnreadRevision r = IsTrue (is_revision_record r) × ¬ HasPropertyBlock r
+
+-- one of the records is
+abbrev pub HasUnreadRevision : List DumpRecord → Type 0
+HasUnreadRevision records = (r : DumpRecord) × Contains records r × IsUnreadRevision r
 
 -- whether the first group, if there is one, has a node
 abbrev pub first_has_node : List Group → Bool
@@ -202,23 +219,27 @@ copies_from_before first r = makes_copy r && nat_lt (copy_revision r) first
 abbrev pub has_source_before : ℕ → List Group → Bool
 has_source_before first gs = list_any (λ (g : Group). list_any (copies_from_before first) g.nodes) gs
 
--- whether this is found in the dump; named tells whether a kept node behind the first dropped revision names one
-abbrev pub is_found_in_dump : Settings → List DumpRecord → (named : Bool) → DumpFinding → Bool
-is_found_in_dump settings records named DumpFinding.NoRevision = length (groups records) == 0
-is_found_in_dump settings records named DumpFinding.OtherNumbers =
+-- whether this is found in the dump; named tells whether a kept node behind the first dropped revision names one, and
+-- unread whether the properties of a revision can't be read
+abbrev pub is_found_in_dump : Settings → List DumpRecord → (named unread : Bool) → DumpFinding → Bool
+is_found_in_dump settings records named unread DumpFinding.NoRevision = length (groups records) == 0
+is_found_in_dump settings records named unread DumpFinding.OtherNumbers =
     not (counts_from (begins_at records) (revision_numbers records))
-is_found_in_dump settings records named DumpFinding.NodeInFirst =
+is_found_in_dump settings records named unread DumpFinding.NumberFalls = not (rise (revision_numbers records))
+is_found_in_dump settings records named unread DumpFinding.UnreadRevision = unread
+is_found_in_dump settings records named unread DumpFinding.NodeInFirst =
     begins_at records == 0 && first_has_node (groups records)
-is_found_in_dump settings records named DumpFinding.SourceBefore =
+is_found_in_dump settings records named unread DumpFinding.SourceBefore =
     has_source_before (begins_at records) (groups records)
-is_found_in_dump settings records named DumpFinding.NodeOutside = not (has_ordered_nodes Bool.false records)
-is_found_in_dump settings records named DumpFinding.NumbersLeft = not settings.renumber && named
+is_found_in_dump settings records named unread DumpFinding.NodeOutside = not (has_ordered_nodes Bool.false records)
+is_found_in_dump settings records named unread DumpFinding.NumbersLeft = not settings.renumber && named
 
 -- what is found in the dump, in order
-abbrev pub dump_findings : Settings → List DumpRecord → (named : Bool) → List DumpFinding
-dump_findings settings records named = filter (λ f. is_found_in_dump settings records named f) every_dump_finding
+abbrev pub dump_findings : Settings → List DumpRecord → (named unread : Bool) → List DumpFinding
+dump_findings settings records named unread = filter (λ f. is_found_in_dump settings records named unread f) every_dump_finding
 
 -- this is what is found in the dump as a whole
 abbrev pub AreDumpFindingsOf : Settings → List DumpRecord → List DumpFinding → Type 0
 AreDumpFindingsOf settings records found = (named : Bool)
-    × (IsTrue named ↔ NamesRevisionBehind settings records) × (found ≡ dump_findings settings records named)
+    × (IsTrue named ↔ NamesRevisionBehind settings records) × (unread : Bool)
+    × (IsTrue unread ↔ HasUnreadRevision records) × (found ≡ dump_findings settings records named unread)

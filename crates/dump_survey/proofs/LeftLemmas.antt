@@ -7,7 +7,7 @@ use Rattle.dump_records.specs.RecordText.{DumpRecord}
 use Rattle.dump_rules.specs.Settings.{Settings, keeps_path}
 use Rattle.dump_digest.specs.RecordParts.{is_revision_record, is_node, is_kept_node, node_path}
 use Rattle.dump_filter.specs.Groups.{Group, group_of, groups, keeps_group, keeps_empty}
-use Rattle.dump_history.specs.Findings.{every_dump_finding, copies_from_before, is_found_in_dump, AreDumpFindingsOf}
+use Rattle.dump_history.specs.Findings.{every_dump_finding, copies_from_before, is_found_in_dump, HasUnreadRevision, AreDumpFindingsOf}
 use Rattle.dump_history.specs.NumberGaps.{NamesRevision}
 use Rattle.dump_history.specs.steps.NamingTests.{TellsNaming, nodes_name, groups_name, groups_name_behind}
 use Rattle.dump_history.proofs.survey.FindingLemmas.{same_truth}
@@ -164,15 +164,18 @@ left_named settings t r named plain behind kept told names tells =
     ∙ sym (λ i. not (plain i) && (behind i && (kept i && names r)))
 
 -- so the tally tells what is found in the dump
-pub tally_tells : (settings : Settings) (records : List DumpRecord) (left : Bool) → list_all is_single records ≡ true
-    → LeaveNumber settings records left
-    → AreDumpFindingsOf settings records (tally_findings (tally_behind settings no_tally records) left)
-tally_tells settings records left single tells =
+pub tally_tells : (settings : Settings) (records : List DumpRecord) (left unread : Bool)
+    → list_all is_single records ≡ true → LeaveNumber settings records left
+    → IsTrue unread ↔ HasUnreadRevision records
+    → AreDumpFindingsOf settings records (tally_findings (tally_behind settings no_tally records) left unread)
+tally_tells settings records left unread single tells unread_is =
     let named = groups_name_behind settings names_test (groups records) in (
       named,
       behind_told settings names_test test_tells (groups records),
-      filter_same (λ f. is_tallied (tally_behind settings no_tally records) left f)
-          (λ f. is_found_in_dump settings records named f)
-          (each_tallied settings records single left named
+      unread,
+      unread_is,
+      filter_same (λ f. is_tallied (tally_behind settings no_tally records) left unread f)
+          (λ f. is_found_in_dump settings records named unread f)
+          (each_tallied settings records single left named unread
           (tells names_test test_tells ∙ left_is settings names_test no_tally records single)) every_dump_finding,
     )

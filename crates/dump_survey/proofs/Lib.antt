@@ -31,4 +31,5 @@ pub mod SurveyorLemmas
 pub mod TallyLemmas
 pub mod TieLemmas
 pub mod ToldLemmas
+pub mod UnreadLemmas
 pub mod WritingLemmas

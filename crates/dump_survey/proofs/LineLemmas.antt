@@ -25,6 +25,8 @@ lines_of_those test line (f ∷ fs) = by (test f) (lines_of_those test line fs)
 abbrev pub lines_if : (DumpFinding → List ℕ) → DumpFindings → List (List ℕ)
 lines_if line found = cond found.no_revision (line DumpFinding.NoRevision) []
     ∷ cond found.other_numbers (line DumpFinding.OtherNumbers) []
+    ∷ cond found.number_falls (line DumpFinding.NumberFalls) []
+    ∷ cond found.unread_revision (line DumpFinding.UnreadRevision) []
     ∷ cond found.node_in_first (line DumpFinding.NodeInFirst) []
     ∷ cond found.source_before (line DumpFinding.SourceBefore) []
     ∷ cond found.node_outside (line DumpFinding.NodeOutside) []

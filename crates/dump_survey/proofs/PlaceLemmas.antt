@@ -1,11 +1,11 @@
 -- The records with which the findings of a dump as a whole come up.
-use Rattle.std.proofs.Common.{◌≡◌, ◌⊎◌, ◌↔◌, ℕ, ◌==◌, Bool, true, false, not, ◌&&◌, ◌||◌, List, [], ◌∷◌, ◌++◌, length, get_or, map, filter, cond, Contains, Option, Some, None, MatchBool, IsTrue, refl, sym, ap, ◌∙◌, subst, inl, inr, append-nil, append_assoc}
+use Rattle.std.proofs.Common.{◌≡◌, ◌⊎◌, ◌↔◌, ℕ, ◌==◌, Bool, true, false, not, ◌&&◌, ◌||◌, List, [], ◌∷◌, ◌++◌, length, get_or, map, filter, cond, Contains, Option, Some, None, MatchBool, IsTrue, refl, sym, ap, ◌∙◌, subst, inl, inr, append-nil, append_assoc, arith}
 use Rattle.std.specs.List.{AllZip, list_any}
 use Rattle.std.proofs.lemmas.Bool.{eqb-true}
 use Rattle.dump_records.specs.RecordText.{DumpRecord}
 use Rattle.dump_rules.specs.Settings.{Settings}
 use Rattle.dump_rules.proofs.faults.FaultLemmas.{found, finds}
-use Rattle.dump_history.specs.Findings.{DumpFinding, every_dump_finding, AreDumpFindingsOf}
+use Rattle.dump_history.specs.Findings.{DumpFinding, every_dump_finding, HasUnreadRevision, AreDumpFindingsOf}
 use Rattle.dump_history.proofs.survey.NamingTest.{dump_findings_once}
 use Rattle.dump_survey.specs.declared.places.DumpPlaces.{DumpPlaces}
 use Rattle.dump_survey.specs.declared.places.Place.{Place}
@@ -19,10 +19,12 @@ use Rattle.dump_survey.specs.steps.Places.{no_places, first_place, AreNextPlaces
 abbrev place_among : DumpFinding → ℕ
 place_among DumpFinding.NoRevision = 0
 place_among DumpFinding.OtherNumbers = 1
-place_among DumpFinding.NodeInFirst = 2
-place_among DumpFinding.SourceBefore = 3
-place_among DumpFinding.NodeOutside = 4
-place_among DumpFinding.NumbersLeft = 5
+place_among DumpFinding.NumberFalls = 2
+place_among DumpFinding.UnreadRevision = 3
+place_among DumpFinding.NodeInFirst = 4
+place_among DumpFinding.SourceBefore = 5
+place_among DumpFinding.NodeOutside = 6
+place_among DumpFinding.NumbersLeft = 7
 
 -- the finding of a place
 abbrev at_place : ℕ → DumpFinding
@@ -31,6 +33,8 @@ at_place n = get_or every_dump_finding n DumpFinding.NoRevision
 back : (f : DumpFinding) → at_place (place_among f) ≡ f
 back DumpFinding.NoRevision = refl
 back DumpFinding.OtherNumbers = refl
+back DumpFinding.NumberFalls = refl
+back DumpFinding.UnreadRevision = refl
 back DumpFinding.NodeInFirst = refl
 back DumpFinding.SourceBefore = refl
 back DumpFinding.NodeOutside = refl
@@ -39,6 +43,8 @@ back DumpFinding.NumbersLeft = refl
 every_there : (f : DumpFinding) → list_any (λ g. place_among g == place_among f) every_dump_finding ≡ true
 every_there DumpFinding.NoRevision = refl
 every_there DumpFinding.OtherNumbers = refl
+every_there DumpFinding.NumberFalls = refl
+every_there DumpFinding.UnreadRevision = refl
 every_there DumpFinding.NodeInFirst = refl
 every_there DumpFinding.SourceBefore = refl
 every_there DumpFinding.NodeOutside = refl
@@ -50,6 +56,8 @@ same_place f g is = sym (back g) ∙ (ap at_place (eqb-true (place_among g) (pla
 refl_place : (f : DumpFinding) → (place_among f == place_among f) ≡ true
 refl_place DumpFinding.NoRevision = refl
 refl_place DumpFinding.OtherNumbers = refl
+refl_place DumpFinding.NumberFalls = refl
+refl_place DumpFinding.UnreadRevision = refl
 refl_place DumpFinding.NodeInFirst = refl
 refl_place DumpFinding.SourceBefore = refl
 refl_place DumpFinding.NodeOutside = refl
@@ -97,14 +105,22 @@ one_alone f there up =
         sides false is = is
 
 none_of_none : (settings : Settings) (f : DumpFinding) → comes_up f ≡ true → ¬ IsDumpFinding settings [] f
-none_of_none settings f up (fs, (named, told, same), there) =
-    by named (λ some. told.0 some) settings.renumber same
+none_of_none settings f up (fs, (named, told, unread, unread_told, same), there) =
+    by unread (λ some. none_there (unread_told.0 some)) named (λ some. told.0 some) settings.renumber same
   where
-    by : (b : Bool) → (b ≡ true → ⊥) → (renumber : Bool)
-        → fs ≡ DumpFinding.NoRevision ∷ (cond (not renumber && b) (DumpFinding.NumbersLeft ∷ []) []) → ⊥
-    by true none renumber is = none refl
-    by false none true is = one_alone f (subst (λ l. Contains l f) is there) up
-    by false none false is = one_alone f (subst (λ l. Contains l f) is there) up
+    none_there : HasUnreadRevision [] → ⊥
+    none_there (r, (i, within, is), unread) = absurd (omega (arith, within))
+
+    -- what is found, where no revision is unread
+    rest : Bool → Bool → List DumpFinding
+    rest renumber b = cond (not renumber && b) (DumpFinding.NumbersLeft ∷ []) []
+
+    by : (u : Bool) → (u ≡ true → ⊥) → (b : Bool) → (b ≡ true → ⊥) → (renumber : Bool)
+        → fs ≡ DumpFinding.NoRevision ∷ cond u (DumpFinding.UnreadRevision ∷ rest renumber b) (rest renumber b) → ⊥
+    by true none b unnamed renumber is = none refl
+    by false none true unnamed renumber is = unnamed refl
+    by false none false unnamed true is = one_alone f (subst (λ l. Contains l f) is there) up
+    by false none false unnamed false is = one_alone f (subst (λ l. Contains l f) is there) up
 
 -- so a finding comes up with some record
 comes_up_in : (settings : Settings) (f : DumpFinding) (before rest : List DumpRecord)
@@ -252,6 +268,8 @@ module _ (settings : Settings) (records : List DumpRecord) (flags : DumpFindings
 pub no_places_yet : (settings : Settings) → ArePlaces settings [] no_places
 no_places_yet settings DumpFinding.NoRevision up = cc
 no_places_yet settings DumpFinding.OtherNumbers up = none_of_none settings DumpFinding.OtherNumbers refl
+no_places_yet settings DumpFinding.NumberFalls up = none_of_none settings DumpFinding.NumberFalls refl
+no_places_yet settings DumpFinding.UnreadRevision up = none_of_none settings DumpFinding.UnreadRevision refl
 no_places_yet settings DumpFinding.NodeInFirst up = none_of_none settings DumpFinding.NodeInFirst refl
 no_places_yet settings DumpFinding.SourceBefore up = none_of_none settings DumpFinding.SourceBefore refl
 no_places_yet settings DumpFinding.NodeOutside up = none_of_none settings DumpFinding.NodeOutside refl
@@ -308,6 +326,8 @@ told_where_ended settings records end are places =
         came (Some p) at = (p, refl, at)
     one DumpFinding.NoRevision some false up = refl
     one DumpFinding.OtherNumbers some false up = cc
+    one DumpFinding.NumberFalls some false up = cc
+    one DumpFinding.UnreadRevision some false up = cc
     one DumpFinding.NodeInFirst some false up = cc
     one DumpFinding.SourceBefore some false up = cc
     one DumpFinding.NodeOutside some false up = cc

@@ -96,6 +96,8 @@ some_words : (f : DumpFinding) → dump_words f ≡ [] → ⊥
 unfolding dump_words
 some_words DumpFinding.NoRevision none = cc
 some_words DumpFinding.OtherNumbers none = cc
+some_words DumpFinding.NumberFalls none = cc
+some_words DumpFinding.UnreadRevision none = cc
 some_words DumpFinding.NodeInFirst none = cc
 some_words DumpFinding.SourceBefore none = cc
 some_words DumpFinding.NodeOutside none = cc

@@ -1,5 +1,5 @@
 -- What a surveyor knows goes on to one more record, and tells what is found where the records end.
-use Rattle.std.proofs.Common.{◌≡◌, ℕ, ◌+◌, ◌^◌, ◌<◌, ◌≤◌, Bool, true, false, not, ◌&&◌, ◌||◌, List, [], ◌∷◌, ◌++◌, length, length-append, map, filter, cond, Option, Some, None, refl, sym, ap, ap₂, ◌∙◌, subst, arith, inl, inr, Result, Ok, Err, MatchBool}
+use Rattle.std.proofs.Common.{◌≡◌, ◌⊎◌, ◌↔◌, ℕ, ◌+◌, ◌^◌, ◌<◌, ◌≤◌, Bool, true, false, not, ◌&&◌, ◌||◌, List, [], ◌∷◌, ◌++◌, length, length-append, map, filter, cond, Option, Some, None, refl, sym, ap, ap₂, ◌∙◌, subst, arith, inl, inr, Result, Ok, Err, IsTrue, MatchBool}
 use Rattle.std.specs.Result.{IfOk}
 use Rattle.std.specs.List.{list_all}
 use Rattle.std.proofs.lemmas.Bool.{and_from}
@@ -24,7 +24,7 @@ use Rattle.dump_survey.specs.declared.tally.Tally.{Tally}
 use Rattle.dump_survey.specs.steps.Naming.{leaves_number, LeaveNumber}
 use Rattle.dump_survey.specs.steps.Tally.{no_tally, next_tally, numbers_of, tally_behind, tally_findings}
 use Rattle.dump_survey.specs.steps.Places.{no_places, AreNextPlaces, ArePlaces}
-use Rattle.dump_history.specs.Findings.{Finding, every_finding, is_found, AreFindingsOf, AreDumpFindingsOf}
+use Rattle.dump_history.specs.Findings.{Finding, every_finding, is_found, AreFindingsOf, IsUnreadRevision, HasUnreadRevision, AreDumpFindingsOf}
 use Rattle.dump_history.specs.steps.NamingTests.{TellsNaming}
 use Rattle.dump_history.proofs.survey.FindingLemmas.{findings_once}
 use Rattle.dump_survey.specs.declared.finding.Found.{Found}
@@ -50,6 +50,7 @@ use Rattle.dump_survey.specs.steps.Steps.{IsStepOf, TellsEnd, ComesNext, open_be
 use Rattle.dump_survey.proofs.IdleLemmas.{all_idle, idle_more, told_by_idle}
 use Rattle.dump_survey.proofs.TallyLemmas.{is_single, filter_same, tally_more, count_within, present_number, present_is}
 use Rattle.dump_survey.proofs.LeftLemmas.{leave_more, tally_tells}
+use Rattle.dump_survey.proofs.UnreadLemmas.{none_unread, unread_more}
 use Rattle.dump_survey.proofs.NumberLemmas.{numbers_behind}
 use Rattle.dump_survey.proofs.PlaceLemmas.{no_places_yet, places_next, told_where_ended}
 
@@ -106,12 +107,12 @@ begins_with_none dump =
     begins_prefix dump [] records (has.0, has.1, has.2)
 
 -- before the first record
-pub at_first : (dump : List ℕ) (settings : Settings) (prefixes idle : List (List ℕ)) (tally : Tally) (left : Bool)
+pub at_first : (dump : List ℕ) (settings : Settings) (prefixes idle : List (List ℕ)) (tally : Tally) (left unread : Bool)
     (places : DumpPlaces) (cutter : CutterState) → cutter ≡ record { dump = dump; number = 0 }
     → prefixes ≡ map bare_prefix settings.prefixes
-    → HaveSame idle (map bare_prefix settings.prefixes) → tally ≡ no_tally → left ≡ false → places ≡ no_places
-    → Surveys settings prefixes idle tally left places cutter
-at_first dump settings prefixes idle tally left places cutter is same all none not_left no_place = record {
+    → HaveSame idle (map bare_prefix settings.prefixes) → tally ≡ no_tally → left ≡ false → unread ≡ false
+    → places ≡ no_places → Surveys settings prefixes idle tally left unread places cutter
+at_first dump settings prefixes idle tally left unread places cutter is same all none not_left no_unread no_place = record {
   prefixes_are = same;
   before = [];
   begins = begins_with_none cutter.dump;
@@ -119,6 +120,7 @@ at_first dump settings prefixes idle tally left places cutter is same all none n
   idle_are = all_idle settings.prefixes idle all;
   tallied = none;
   left_is = λ names tells. not_left;
+  unread_is = subst (λ b. IsTrue b ↔ HasUnreadRevision []) (sym no_unread) none_unread;
   places_are = subst (ArePlaces settings []) (sym no_place) (no_places_yet settings);
 }
 
@@ -170,15 +172,16 @@ told_of settings before revision r found told node are is =
     subst (λ (b : Bool). MatchBool b (IsToldOfNode settings before revision r told) (told ≡ []))
     (sym node) (found, are, is)
 
-module _ (settings : Settings) (prefixes idle : List (List ℕ)) (tally : Tally) (left : Bool) (places : DumpPlaces)
-    (cutter after : CutterState) (knows : Surveys settings prefixes idle tally left places cutter) where
+module _ (settings : Settings) (prefixes idle : List (List ℕ)) (tally : Tally) (left unread : Bool)
+    (places : DumpPlaces) (cutter after : CutterState)
+    (knows : Surveys settings prefixes idle tally left unread places cutter) where
   -- the surveyor as callers see it
   abbrev seen : CutterState → Surveying
   seen c = record { dump = c.dump; settings = settings; number = c.number }
 
   -- what is known where the records end
   pub ended : (end : End) (told : SurveyEnd) → EndsAfter cutter.dump cutter.number (survey_ending end)
-      → after ≡ cutter → TellsEnd tally left places end told
+      → after ≡ cutter → TellsEnd tally left unread places end told
       → SurveyStep (seen cutter) (Finished told) (seen after)
   ended end told ends same (end_is, places_is, found) =
       let begins = knows.begins in
@@ -189,8 +192,9 @@ module _ (settings : Settings) (prefixes idle : List (List ℕ)) (tally : Tally)
         knows.count,
         told_where_ended settings knows.before told
             (subst (AreDumpFindingsOf settings knows.before)
-            (sym (found ∙ ap (λ (t : Tally). tally_findings t left) knows.tallied))
-            (tally_tells settings knows.before left (begun_single cutter.dump knows.before begins) knows.left_is))
+            (sym (found ∙ ap (λ (t : Tally). tally_findings t left unread) knows.tallied))
+            (tally_tells settings knows.before left unread (begun_single cutter.dump knows.before begins) knows.left_is
+            knows.unread_is))
             (subst (ArePlaces settings knows.before) (sym places_is) knows.places_are),
         ap seen same,
       )
@@ -225,28 +229,30 @@ module _ (settings : Settings) (prefixes idle : List (List ℕ)) (tally : Tally)
         ∙ sym (leave_more settings names no_tally knows.before (record_item item)))
 
     -- so this is found with the record
-    next_found : (next : Tally) (still : Bool) (flags : DumpFindings)
+    next_found : (next : Tally) (still unread_still : Bool) (flags : DumpFindings)
         → next ≡ next_tally settings tally (record_item item)
         → LeaveNumber settings (knows.before ++ record_item item ∷ []) still
-        → listed_findings flags ≡ tally_findings next still
+        → IsTrue unread_still ↔ HasUnreadRevision (knows.before ++ record_item item ∷ [])
+        → listed_findings flags ≡ tally_findings next still unread_still
         → AreDumpFindingsOf settings (knows.before ++ record_item item ∷ []) (listed_findings flags)
-    next_found next still flags is left_is flags_are =
+    next_found next still unread_still flags is left_is unread_is flags_are =
         subst (AreDumpFindingsOf settings (knows.before ++ record_item item ∷ []))
-        (sym (flags_are ∙ ap (λ (t : Tally). tally_findings t still) (next_tallied next is)))
-        (tally_tells settings (knows.before ++ record_item item ∷ []) still
-        (begun_single cutter.dump (knows.before ++ record_item item ∷ []) next_begins) left_is)
+        (sym (flags_are ∙ ap (λ (t : Tally). tally_findings t still unread_still) (next_tallied next is)))
+        (tally_tells settings (knows.before ++ record_item item ∷ []) still unread_still
+        (begun_single cutter.dump (knows.before ++ record_item item ∷ []) next_begins) left_is unread_is)
 
     -- and the surveyor goes on
-    pub goes_on : (others : List (List ℕ)) (next : Tally) (still : Bool)
+    pub goes_on : (others : List (List ℕ)) (next : Tally) (still unread_still : Bool)
         → AreWithout (is_touched_by (record_item item)) idle others
         → next ≡ next_tally settings tally (record_item item)
         → ((names : DumpRecord → Bool) → TellsNaming names
         → still ≡ (left || leaves_number settings names tally (record_item item)))
-        → (flags : DumpFindings) → listed_findings flags ≡ tally_findings next still
+        → IsTrue unread_still ↔ (IsTrue unread ⊎ IsUnreadRevision (record_item item))
+        → (flags : DumpFindings) → listed_findings flags ≡ tally_findings next still unread_still
         → (here : Place) → here ≡ record { number = record_number item; place = (record_item item).place }
         → (new : DumpPlaces) → AreNextPlaces places flags here new
-        → Surveys settings prefixes others next still new after
-    goes_on others next still without is still_is flags flags_are here here_is new new_are = record {
+        → Surveys settings prefixes others next still unread_still new after
+    goes_on others next still unread_still without is still_is unread_so flags flags_are here here_is new new_are = record {
       prefixes_are = knows.prefixes_are;
       before = knows.before ++ record_item item ∷ [];
       begins = subst (λ (c : CutterState). BeginsWithRecords c.dump (knows.before ++ record_item item ∷ []))
@@ -256,8 +262,10 @@ module _ (settings : Settings) (prefixes idle : List (List ℕ)) (tally : Tally)
       idle_are = idle_more knows.before (record_item item) settings.prefixes idle others knows.idle_are without;
       tallied = next_tallied next is;
       left_is = next_left still still_is;
+      unread_is = unread_more knows.before (record_item item) unread unread_still knows.unread_is unread_so;
       places_are = places_next settings knows.before (record_item item) places new flags here knows.places_are
-          (next_found next still flags is (next_left still still_is) flags_are)
+          (next_found next still unread_still flags is (next_left still still_is)
+          (unread_more knows.before (record_item item) unread unread_still knows.unread_is unread_so) flags_are)
           (here_is ∙ ap (λ n. record { number = n; place = (record_item item).place }) (step.1 ∙ sym knows.count))
           new_are;
     }
@@ -326,14 +334,14 @@ module _ (settings : Settings) (prefixes idle : List (List ℕ)) (tally : Tally)
     stepped_ok (Err e) is = tt
 
 -- what is told of the prefixes, where there was memory
-pub told_so_far : (settings : Settings) (prefixes idle : List (List ℕ)) (tally : Tally) (left : Bool)
-    (places : DumpPlaces) (cutter : CutterState) → Surveys settings prefixes idle tally left places cutter → (given : List (List ℕ)) → given ≡ settings.prefixes
+pub told_so_far : (settings : Settings) (prefixes idle : List (List ℕ)) (tally : Tally) (left unread : Bool)
+    (places : DumpPlaces) (cutter : CutterState) → Surveys settings prefixes idle tally left unread places cutter → (given : List (List ℕ)) → given ≡ settings.prefixes
     → {V : Type 0} (view : V → List PrefixTold) (result : Result V Memory)
     → IfOk result (λ told. view told ≡ prefixes_by idle given)
     → IfOk result (λ told. ArePrefixesTold (record { dump = cutter.dump; settings = settings; number = cutter.number })
     (view told))
-told_so_far settings prefixes idle tally left places cutter knows given same view (Err e) is = tt
-told_so_far settings prefixes idle tally left places cutter knows given same view (Ok told) is = (
+told_so_far settings prefixes idle tally left unread places cutter knows given same view (Err e) is = tt
+told_so_far settings prefixes idle tally left unread places cutter knows given same view (Ok told) is = (
   knows.before,
   knows.begins,
   knows.count,

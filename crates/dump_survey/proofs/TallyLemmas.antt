@@ -9,11 +9,12 @@ use Rattle.dump_rules.specs.Settings.{Settings}
 use Rattle.dump_digest.specs.RecordParts.{is_revision_record, is_node, is_kept_node}
 use Rattle.dump_filter.specs.Groups.{group_of, groups, group_number, first_number, revision_number, revision_numbers, keeps_empty}
 use Rattle.dump_history.specs.DumpChanges.{counts_from, has_ordered_nodes}
-use Rattle.dump_history.specs.Findings.{DumpFinding, begins_at, copies_from_before, has_source_before, is_found_in_dump, first_has_node}
+use Rattle.dump_history.specs.NumberGaps.{go_up}
+use Rattle.dump_history.specs.Findings.{DumpFinding, rise, begins_at, copies_from_before, has_source_before, is_found_in_dump, first_has_node}
 use Rattle.dump_survey.specs.declared.tally.Present.{Present}
 use Rattle.dump_survey.specs.declared.tally.Tally.{Tally}
 use Rattle.dump_survey.specs.steps.Steps.{open_behind}
-use Rattle.dump_survey.specs.steps.Tally.{no_tally, keeps_open, first_with, revision_tally, node_tally, other_tally, next_tally, tally_behind, is_tallied}
+use Rattle.dump_survey.specs.steps.Tally.{no_tally, keeps_open, first_with, is_above_last, revision_tally, node_tally, other_tally, next_tally, tally_behind, is_tallied}
 
 -- one more record
 pub tally_more : (settings : Settings) (t : Tally) (records : List DumpRecord) (r : DumpRecord)
@@ -174,6 +175,48 @@ numbered_is settings t (r ∷ records) = by (λ u. numbered_is settings u record
         ∙ ap₂ (λ b c. b && counts_from c (revision_numbers records))
         (node_numbered t (is_kept_node settings r) (copies_from_before t.first r) t.present)
         (ap₂ (λ c f. first_of c f (revision_numbers records) + c) count first)
+    by more false false = more (other_tally settings t)
+
+node_rising : (t : Tally) (kept early : Bool) (p : Option Present)
+    → ((node_tally t kept early p).last ≡ t.last) × ((node_tally t kept early p).rising ≡ t.rising)
+node_rising t kept early None = (refl, refl)
+node_rising t kept early (Some p) = (refl, refl)
+
+-- whether these numbers rise, behind the last one before them, if there is one
+abbrev rise_behind : Option ℕ → List ℕ → Bool
+rise_behind None numbers = rise numbers
+rise_behind (Some last) numbers = go_up last numbers
+
+none_behind : (last : Option ℕ) → rise_behind last [] ≡ true
+none_behind None = refl
+none_behind (Some last) = refl
+
+number_behind : (last : Option ℕ) (number : ℕ) (numbers : List ℕ)
+    → (is_above_last last number && go_up number numbers) ≡ rise_behind last (number ∷ numbers)
+number_behind None number numbers = refl
+number_behind (Some last) number numbers = refl
+
+-- whether they rise
+rising_is : (settings : Settings) (t : Tally) (records : List DumpRecord)
+    → (tally_behind settings t records).rising ≡ (t.rising && rise_behind t.last (revision_numbers records))
+rising_is settings t [] = sym (ap (λ b. t.rising && b) (none_behind t.last) ∙ and-true t.rising)
+rising_is settings t (r ∷ records) = by (λ u. rising_is settings u records) (is_revision_record r) (is_node r)
+  where
+    by : ((u : Tally) → (tally_behind settings u records).rising
+        ≡ (u.rising && rise_behind u.last (revision_numbers records))) → (v n : Bool)
+        → (tally_behind settings (if v then revision_tally settings t r
+        else if n then node_tally t (is_kept_node settings r) (copies_from_before t.first r) t.present
+        else other_tally settings t) records).rising
+        ≡ (t.rising && rise_behind t.last (map group_number
+        (if v then group_of r records ∷ groups records else groups records)))
+    by more true n = more (revision_tally settings t r)
+        ∙ (and_assoc t.rising (is_above_last t.last (revision_number r))
+        (go_up (revision_number r) (revision_numbers records))
+        ∙ ap (λ b. t.rising && b) (number_behind t.last (revision_number r) (revision_numbers records)))
+    by more false true =
+        let same = node_rising t (is_kept_node settings r) (copies_from_before t.first r) t.present in
+        more (node_tally t (is_kept_node settings r) (copies_from_before t.first r) t.present)
+        ∙ ap₂ (λ b l. b && rise_behind l (revision_numbers records)) same.1 same.0
     by more false false = more (other_tally settings t)
 
 -- the nodes that follow
@@ -425,19 +468,23 @@ zero_more n = omega arith
 
 -- what the tally of all records tells is found in the dump, finding by finding, where numbers are left so
 pub each_tallied : (settings : Settings) (records : List DumpRecord) → list_all is_single records ≡ true
-    → (left named : Bool) → left ≡ (not settings.renumber && named) → (f : DumpFinding)
-    → is_tallied (tally_behind settings no_tally records) left f ≡ is_found_in_dump settings records named f
-each_tallied settings records single left named left_is DumpFinding.NoRevision =
+    → (left named unread : Bool) → left ≡ (not settings.renumber && named) → (f : DumpFinding)
+    → is_tallied (tally_behind settings no_tally records) left unread f
+    ≡ is_found_in_dump settings records named unread f
+each_tallied settings records single left named unread left_is DumpFinding.NoRevision =
     ap (λ c. c == 0) (count_is settings no_tally records ∙ zero_more (length (groups records)))
-each_tallied settings records single left named left_is DumpFinding.OtherNumbers = ap not (numbered_is settings no_tally records
+each_tallied settings records single left named unread left_is DumpFinding.OtherNumbers = ap not (numbered_is settings no_tally records
     ∙ ap (λ n. counts_from n (revision_numbers records))
     (let same : begins_at records + 0 ≡ begins_at records = omega arith in same))
-each_tallied settings records single left named left_is DumpFinding.NodeInFirst =
+each_tallied settings records single left named unread left_is DumpFinding.NumberFalls =
+    ap not (rising_is settings no_tally records)
+each_tallied settings records single left named unread left_is DumpFinding.UnreadRevision = refl
+each_tallied settings records single left named unread left_is DumpFinding.NodeInFirst =
     ap₂ (λ f b. f == 0 && b) (begins_at_is settings records)
     (first_is settings no_tally records single 0 refl)
-each_tallied settings records single left named left_is DumpFinding.SourceBefore = source_is settings no_tally records single
-each_tallied settings records single left named left_is DumpFinding.NodeOutside = outside_is settings no_tally records single
-each_tallied settings records single left named left_is DumpFinding.NumbersLeft = left_is
+each_tallied settings records single left named unread left_is DumpFinding.SourceBefore = source_is settings no_tally records single
+each_tallied settings records single left named unread left_is DumpFinding.NodeOutside = outside_is settings no_tally records single
+each_tallied settings records single left named unread left_is DumpFinding.NumbersLeft = left_is
 
 -- tests that are the same leave the same
 pub filter_same : {X : Type 0} (p q : X → Bool) → ((x : X) → p x ≡ q x) → (xs : List X) → filter p xs ≡ filter q xs

@@ -7,6 +7,8 @@ use Rattle.dump_survey.specs.declared.tally.DumpFindings.{DumpFindings}
 abbrev pub has_dump_finding : DumpFindings → DumpFinding → Bool
 has_dump_finding found DumpFinding.NoRevision = found.no_revision
 has_dump_finding found DumpFinding.OtherNumbers = found.other_numbers
+has_dump_finding found DumpFinding.NumberFalls = found.number_falls
+has_dump_finding found DumpFinding.UnreadRevision = found.unread_revision
 has_dump_finding found DumpFinding.NodeInFirst = found.node_in_first
 has_dump_finding found DumpFinding.SourceBefore = found.source_before
 has_dump_finding found DumpFinding.NodeOutside = found.node_outside

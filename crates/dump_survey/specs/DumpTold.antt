@@ -18,6 +18,8 @@ pub record DumpTold : Type 0 where
 abbrev pub place_in : DumpPlaces → DumpFinding → Option Place
 place_in places DumpFinding.NoRevision = None
 place_in places DumpFinding.OtherNumbers = places.other_numbers
+place_in places DumpFinding.NumberFalls = places.number_falls
+place_in places DumpFinding.UnreadRevision = places.unread_revision
 place_in places DumpFinding.NodeInFirst = places.node_in_first
 place_in places DumpFinding.SourceBefore = places.source_before
 place_in places DumpFinding.NodeOutside = places.node_outside

@@ -74,6 +74,10 @@ unfoldable pub dump_kind_line : DumpFinding → List ℕ
 dump_kind_line DumpFinding.NoRevision = codes "in all 1: a dump without a revision. There is nothing to load\n"
 dump_kind_line DumpFinding.OtherNumbers =
     codes "in all 1: numbers that do not rise by one. Renumber the dump first: svndumpfilter include --renumber-revs /\n"
+dump_kind_line DumpFinding.NumberFalls =
+    codes "in all 1: fault 8, revisions whose numbers do not rise. Have the dump made again\n"
+dump_kind_line DumpFinding.UnreadRevision =
+    codes "in all 1: fault 9, properties of a revision that can't be read. Have the dump made again\n"
 dump_kind_line DumpFinding.NodeInFirst = codes "in all 1: a node in revision 0. Have the dump made again\n"
 dump_kind_line DumpFinding.SourceBefore =
     codes "in all 1: copies from before the first revision. Dump from an earlier revision on\n"

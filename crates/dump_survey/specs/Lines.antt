@@ -77,6 +77,8 @@ node_line t = concat (place_text t.number t.place ∷ codes ", r" ∷ decimal t.
 unfoldable pub dump_words : DumpFinding → List ℕ
 dump_words DumpFinding.NoRevision = codes "the dump has no revision\n"
 dump_words DumpFinding.OtherNumbers = codes "the revisions of the dump are not numbered one by one\n"
+dump_words DumpFinding.NumberFalls = codes "the number of a revision is not above the one before: fault 8\n"
+dump_words DumpFinding.UnreadRevision = codes "the properties of a revision can't be read: fault 9\n"
 dump_words DumpFinding.NodeInFirst = codes "revision 0 of the dump has a node\n"
 dump_words DumpFinding.SourceBefore = codes "a node of the dump is copied from before its first revision\n"
 dump_words DumpFinding.NodeOutside = codes "a node of the dump stands in no revision: fault 8\n"

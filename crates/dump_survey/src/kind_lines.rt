@@ -127,6 +127,16 @@ fn push_dump_kinds(lines: &mut Vec<u8>, found: &DumpFindings) -> Result<(), Memo
     )?;
     push_if(
         lines,
+        found.number_falls,
+        b"in all 1: fault 8, revisions whose numbers do not rise. Have the dump made again\n",
+    )?;
+    push_if(
+        lines,
+        found.unread_revision,
+        b"in all 1: fault 9, properties of a revision that can't be read. Have the dump made again\n",
+    )?;
+    push_if(
+        lines,
         found.node_in_first,
         b"in all 1: a node in revision 0. Have the dump made again\n",
     )?;

@@ -17,6 +17,8 @@ pub struct Place {
 #[derive(Clone, Copy, Debug, PartialEq, Eq)]
 pub struct DumpPlaces {
     pub other_numbers: Option<Place>,
+    pub number_falls: Option<Place>,
+    pub unread_revision: Option<Place>,
     pub node_in_first: Option<Place>,
     pub source_before: Option<Place>,
     pub node_outside: Option<Place>,
@@ -41,6 +43,8 @@ impl DumpPlaces {
     {
         DumpPlaces {
             other_numbers: None,
+            number_falls: None,
+            unread_revision: None,
             node_in_first: None,
             source_before: None,
             node_outside: None,
@@ -54,6 +58,8 @@ impl DumpPlaces {
     {
         DumpPlaces {
             other_numbers: first_place(self.other_numbers, found.other_numbers, here),
+            number_falls: first_place(self.number_falls, found.number_falls, here),
+            unread_revision: first_place(self.unread_revision, found.unread_revision, here),
             node_in_first: first_place(self.node_in_first, found.node_in_first, here),
             source_before: first_place(self.source_before, found.source_before, here),
             node_outside: first_place(self.node_outside, found.node_outside, here),

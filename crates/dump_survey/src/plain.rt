@@ -1,5 +1,5 @@
 //! Whether the load reads the texts of a node as they stand.
-ghost use Rattle.std.specs.Prelude.{◌≡◌, ◌↔◌, List, Option, not, unwrap_or, IsSome, IfSome};
+ghost use Rattle.std.specs.Prelude.{◌≡◌, ◌↔◌, List, Option, not, unwrap_or, IsSome, IfSome, IsTrue};
 ghost use Rattle.std.specs.List.{list_all};
 ghost use Rattle.dump_text.specs.HeaderLine.{has_byte};
 ghost use Rattle.dump_text.specs.PropertyList.{IsPropertyBlock, Property};
@@ -8,7 +8,7 @@ ghost use Rattle.dump_records.specs.steps.RecordViews.{record_item};
 ghost use Rattle.dump_digest.specs.RecordParts.{HasPropertyBlock, is_node, takes_deletes};
 ghost use Rattle.dump_digest.specs.steps.ContentViews.{ArePropertiesOf};
 ghost use Rattle.dump_history.specs.RecordChanges.{is_plain_line, has_plain_texts};
-ghost use Rattle.dump_history.specs.Findings.{IsReadBlock};
+ghost use Rattle.dump_history.specs.Findings.{IsReadBlock, IsUnreadRevision};
 
 use dump_records::Record;
 use dump_text::Props;
@@ -38,6 +38,13 @@ pub(crate) fn properties_of<'a>(item: &Record<'a>) -> Option<Props<'a>>
     } else {
         Props::read(bytes)
     }
+}
+
+/// Whether the record is a revision whose properties can't be read.
+pub(crate) fn is_unread_revision(item: &Record<'_>) -> bool
+    ensures { IsTrue result ↔ IsUnreadRevision (record_item item.now) }
+{
+    item.revision().is_some() && properties_of(item).is_none()
 }
 
 /// Whether no zero byte stands in the header lines.

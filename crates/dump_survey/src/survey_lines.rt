@@ -239,6 +239,18 @@ fn push_dump_lines(lines: &mut Vec<u8>, end: &SurveyEnd) -> Result<(), Memory>
     )?;
     push_dump_line(
         lines,
+        found.number_falls,
+        at.number_falls,
+        b"the number of a revision is not above the one before: fault 8\n",
+    )?;
+    push_dump_line(
+        lines,
+        found.unread_revision,
+        at.unread_revision,
+        b"the properties of a revision can't be read: fault 9\n",
+    )?;
+    push_dump_line(
+        lines,
         found.node_in_first,
         at.node_in_first,
         b"revision 0 of the dump has a node\n",

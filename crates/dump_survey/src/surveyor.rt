@@ -9,6 +9,7 @@ use crate::memory::Memory;
 use crate::naming::leaves_number;
 use crate::node::find;
 use crate::places::{DumpPlaces, Place};
+use crate::plain::is_unread_revision;
 use crate::prefix_findings::{ToldPrefix, leave_touched, told_prefixes};
 use crate::prefix_set::PrefixSet;
 use crate::prefixes::{Prefixes, given_prefixes};
@@ -61,6 +62,8 @@ pub struct Surveyor<'o, 'a> {
     tally: Tally,
     /// Whether a kept node named a revision behind a dropped one, and revisions aren't renumbered.
     numbers_left: bool,
+    /// Whether a revision came whose properties can't be read.
+    unread_revision: bool,
     /// Where what is found in the dump as a whole came up.
     places: DumpPlaces,
 }
@@ -72,7 +75,8 @@ impl<'o, 'a> Model for Surveyor<'o, 'a> {
 
     ghost view = { λ s. record { dump = s.cutter.dump; settings = s.options.now; number = s.cutter.number } };
 
-    ghost invariant = { λ s. Surveys s.options.now s.prefixes s.idle s.tally s.numbers_left s.places s.cutter };
+    ghost invariant = { λ s. Surveys s.options.now s.prefixes s.idle s.tally s.numbers_left s.unread_revision
+        s.places s.cutter };
 }
 
 /// Where a record is.
@@ -111,12 +115,19 @@ fn step_of<'o, 'a>(
     }))
 }
 
-/// What is known behind the records of this tally, which end so, and leave numbers or not; these are the places.
-fn finished(tally: &Tally, numbers_left: bool, places: DumpPlaces, end: End) -> SurveyEnd
-    ensures { TellsEnd tally.now numbers_left places end result }
+/// What is known behind the records of this tally, which end so, leave numbers or not, and have a revision whose
+/// properties can't be read or none; these are the places.
+fn finished(
+    tally: &Tally,
+    numbers_left: bool,
+    unread_revision: bool,
+    places: DumpPlaces,
+    end: End,
+) -> SurveyEnd
+    ensures { TellsEnd tally.now numbers_left unread_revision places end result }
 {
     SurveyEnd {
-        dump: tally.findings(numbers_left),
+        dump: tally.findings(numbers_left, unread_revision),
         places,
         end,
     }
@@ -143,6 +154,7 @@ impl<'o, 'a> Surveyor<'o, 'a> {
             idle,
             tally: Tally::new(),
             numbers_left: false,
+            unread_revision: false,
             places: DumpPlaces::new(),
         })
     }
@@ -155,20 +167,34 @@ impl<'o, 'a> Surveyor<'o, 'a> {
         let item = match self.cutter.next() {
             Cut::Item(item) => item,
             Cut::Finished => {
-                let end = finished(&self.tally, self.numbers_left, self.places, End::Whole);
+                let end = finished(
+                    &self.tally,
+                    self.numbers_left,
+                    self.unread_revision,
+                    self.places,
+                    End::Whole,
+                );
                 return Ok(Step::Finished(end));
             }
             Cut::Fault { kind, place } => {
-                let end = End::Broken { kind, place };
-                let end = finished(&self.tally, self.numbers_left, self.places, end);
+                let end = finished(
+                    &self.tally,
+                    self.numbers_left,
+                    self.unread_revision,
+                    self.places,
+                    End::Broken { kind, place },
+                );
                 return Ok(Step::Finished(end));
             }
         };
         leave_touched(&mut self.idle, &item);
         let before = self.tally;
         self.numbers_left = self.numbers_left || leaves_number(&item, self.options, &before);
+        self.unread_revision = self.unread_revision || is_unread_revision(&item);
         self.tally = before.with(&item, self.options);
-        let found = self.tally.findings(self.numbers_left);
+        let found = self
+            .tally
+            .findings(self.numbers_left, self.unread_revision);
         self.places = self.places.with(&found, place_of(&item));
         step_of(alloc, item, self.options, &self.prefixes, &before)
     }

@@ -3,7 +3,7 @@ ghost use Rattle.std.specs.Prelude.{◌≡◌, ◌+◌, ◌<◌, ◌==◌, ◌^�
 ghost use Rattle.dump_records.specs.steps.RecordViews.{record_item};
 ghost use Rattle.dump_digest.specs.RecordParts.{is_kept_node, is_node};
 ghost use Rattle.dump_history.specs.Findings.{copies_from_before};
-ghost use Rattle.dump_survey.specs.steps.Tally.{first_with, least_behind, lesser, no_tally, keeps_open, keeps_present, node_tally, next_tally, numbers_of, tally_findings};
+ghost use Rattle.dump_survey.specs.steps.Tally.{first_with, is_above_last, least_behind, lesser, no_tally, keeps_open, keeps_present, node_tally, next_tally, numbers_of, tally_findings};
 ghost use Rattle.dump_survey.specs.steps.Naming.{is_behind_dropped};
 ghost use Rattle.dump_survey.specs.DumpFindings.{listed_findings};
 
@@ -20,6 +20,10 @@ pub struct DumpFindings {
     pub no_revision: bool,
     /// Its revisions aren't numbered on, one by one, from the number of the first one.
     pub other_numbers: bool,
+    /// A revision's number isn't above that of the revision before it.
+    pub number_falls: bool,
+    /// The properties of a revision can't be read.
+    pub unread_revision: bool,
     /// Its first revision is revision 0, and has a node.
     pub node_in_first: bool,
     /// A node of a revision is a copy from one before the first revision.
@@ -61,6 +65,16 @@ fn is_above(first: u64, count: u64, number: u64) -> bool
     number >= first && number - first == count
 }
 
+/// Whether the number is above the last one, if there is one.
+fn is_above_last(last: Option<u64>, number: u64) -> bool
+    ensures { result ≡ is_above_last last number }
+{
+    match last {
+        Some(last) => last < number,
+        None => true,
+    }
+}
+
 /// The lesser of two numbers, the first of which there may not be.
 fn lesser(least: Option<u64>, number: u64) -> u64
     ensures { result ≡ lesser least number }
@@ -88,6 +102,10 @@ pub(crate) struct Tally {
     pub(crate) first: u64,
     /// Whether they are numbered on from that, one by one.
     numbered: bool,
+    /// The number of the last one.
+    last: Option<u64>,
+    /// Whether each number is above the one before.
+    rising: bool,
     /// Whether the first one has a node.
     node_in_first: bool,
     /// Whether a node of one of them is a copy from before the first one.
@@ -110,6 +128,8 @@ impl Tally {
             count: 0,
             first: 0,
             numbered: true,
+            last: None,
+            rising: true,
             node_in_first: false,
             source_before: false,
             node_outside: false,
@@ -168,6 +188,8 @@ impl Tally {
                 count: self.count + 1,
                 first,
                 numbered: self.numbered && is_above(first, self.count, number),
+                last: Some(number),
+                rising: self.rising && is_above_last(self.last, number),
                 all_kept: self.keeps_all(options),
                 least: self.least_kept(options),
                 present: Some(Present {
@@ -222,13 +244,16 @@ impl Tally {
         self.present.is_some() && !self.all_kept
     }
 
-    /// What is found in the dump, where it ends here, and numbers are left or not.
-    pub(crate) fn findings(&self, numbers_left: bool) -> DumpFindings
-        ensures { listed_findings result ≡ tally_findings self.now numbers_left }
+    /// What is found in the dump, where it ends here, numbers are left or not, and the properties of a revision can't be
+    /// read or all can.
+    pub(crate) fn findings(&self, numbers_left: bool, unread_revision: bool) -> DumpFindings
+        ensures { listed_findings result ≡ tally_findings self.now numbers_left unread_revision }
     {
         DumpFindings {
             no_revision: self.count == 0,
             other_numbers: !self.numbered,
+            number_falls: !self.rising,
+            unread_revision,
             node_in_first: self.first == 0 && self.node_in_first,
             source_before: self.source_before,
             node_outside: self.node_outside,

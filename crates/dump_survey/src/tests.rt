@@ -24,6 +24,8 @@ fn rules(alloc: Global, side: Side, prefix: &str) -> Result<Options, Fail> {
 const NOTHING: DumpFindings = DumpFindings {
     no_revision: false,
     other_numbers: false,
+    number_falls: false,
+    unread_revision: false,
     node_in_first: false,
     source_before: false,
     node_outside: false,
@@ -125,6 +127,37 @@ fn a_part_of_a_history_is_told_where_its_load_goes_wrong(rt: HostRuntime) -> Res
     for (records, found) in rows {
         let dump = format!(in rt.alloc();
             "SVN-fs-dump-format-version: 2\n\nRevision-number: 5\n\n{records}"
+        )?;
+        let survey = survey_dump(rt.alloc(), dump.as_bytes(), &options)?;
+        assert!(rt; ends_with(&survey, found, End::Whole), "{records}");
+    }
+    Ok(())
+}
+
+#[test]
+fn a_revision_at_which_the_filter_stops_is_told(rt: HostRuntime) -> Result<(), Fail> {
+    let falls = DumpFindings {
+        other_numbers: true,
+        number_falls: true,
+        ..NOTHING
+    };
+    let unread = DumpFindings {
+        unread_revision: true,
+        ..NOTHING
+    };
+    let rows = [
+        ("\nRevision-number: 5\n\n", falls),
+        ("\nRevision-number: 4\n\n", falls),
+        ("Prop-content-length: 2\n\nx\n", unread),
+        (
+            "\nNode-path: a\nNode-action: add\nProp-content-length: 2\n\nx\n\n\n",
+            NOTHING,
+        ),
+    ];
+    let options = rules(rt.alloc(), Side::Include, "trunk")?;
+    for (records, found) in rows {
+        let dump = format!(in rt.alloc();
+            "SVN-fs-dump-format-version: 2\n\nRevision-number: 5\n{records}"
         )?;
         let survey = survey_dump(rt.alloc(), dump.as_bytes(), &options)?;
         assert!(rt; ends_with(&survey, found, End::Whole), "{records}");

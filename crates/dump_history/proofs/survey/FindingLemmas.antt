@@ -130,9 +130,12 @@ module _ (settings : Settings) (before : List DumpRecord) (r : DumpRecord) where
   copy_holds : copy_refused settings before r ≡ true → HasBadCopyRevision settings before r
   copy_holds is =
       let (number, at, missing) = by (header_number copy_revision_name r.headers) refl
-      (second_true asked (is_missing_number (header_number copy_revision_name r.headers) kept.numbers present) is) in
-      (first_true asked (is_missing_number (header_number copy_revision_name r.headers) kept.numbers present) is,
-      number, at, missing)
+      (second_true asked (is_missing_number (header_number copy_revision_name r.headers) kept.numbers present) is) in (
+        first_true asked (is_missing_number (header_number copy_revision_name r.headers) kept.numbers present) is,
+        number,
+        at,
+        missing,
+      )
     where
       sides : (number : ℕ) → (not (has_up_to number kept.numbers) || nat_lt present number) ≡ true
           → (image kept number ≡ None) ⊎ (present < number)
@@ -231,7 +234,7 @@ module _ (settings : Settings) (before : List DumpRecord) (r : DumpRecord) (keep
   outside_known (value, (kept, qs, other, p, within, is, same), names) =
       let revisions = kept_revisions settings (before ++ r ∷ []) in
       let here : HasForeignNumber settings revisions last (value_of p)
-          = subst (HasForeignNumber settings revisions last) (sym same) names in
+      = subst (HasForeignNumber settings revisions last) (sym same) names in
       finds (names_outside settings first last) ps p (within_own qs other p within)
       (both_true (is_mergeinfo p) _ is (both_true (value_reads (value_of p)) _
       ((reads_exactly (value_of p)).1 (here.1, here.2)) (foreign_back settings revisions last (value_of p) here)))

@@ -1,5 +1,5 @@
 -- Whether a kept node names a revision can be told, node by node, and so whether one behind a dropped revision does.
-use Rattle.std.proofs.Common.{◌≡◌, ◌↔◌, Bool, true, false, ◌&&◌, ◌||◌, List, [], ◌∷◌, if◌then◌else◌, IsTrue, MatchBool, refl, ap, ◌∙◌, inl, inr}
+use Rattle.std.proofs.Common.{◌≡◌, ◌↔◌, Bool, true, false, ◌&&◌, ◌||◌, List, [], ◌∷◌, if◌then◌else◌, IsTrue, MatchBool, refl, ap, ap₂, ◌∙◌, inl, inr}
 use Rattle.std.specs.List.{list_any}
 use Rattle.std.proofs.lemmas.Bool.{or_cases, or_left, or_right, and_parts, and_from}
 use Rattle.dump_records.specs.RecordText.{DumpRecord}
@@ -14,6 +14,7 @@ use Rattle.dump_history.specs.Findings.{dump_findings}
 use Rattle.dump_history.specs.steps.NamingTests.{TellsNaming, nodes_name, groups_name, groups_name_behind}
 use Rattle.dump_history.specs.SurveyLaws.{DumpFindingsAreOnce}
 use Rattle.dump_history.proofs.survey.FindingLemmas.{same_truth}
+use Rattle.dump_history.proofs.survey.UnreadTest.{unread_in}
 
 -- whether the node sets mergeinfo
 pub merge_told : (r : DumpRecord) → (b : Bool) × (IsTrue b ↔ SetsMergeinfo r)
@@ -81,9 +82,11 @@ module _ (settings : Settings) (names : DumpRecord → Bool) (tells : TellsNamin
 pub dump_findings_once : DumpFindingsAreOnce
 dump_findings_once settings records =
     let named = groups_name_behind settings names_test (groups records) in
-    let told = behind_told settings names_test test_tells (groups records) in (
-      dump_findings settings records named,
-      (named, told, refl),
-      λ others (other, other_told, same). same
-          ∙ ap (λ b. dump_findings settings records b) (same_truth other named other_told told),
+    let told = behind_told settings names_test test_tells (groups records) in
+    let (unread, unread_told) = unread_in records in (
+      dump_findings settings records named unread,
+      (named, told, unread, unread_told, refl),
+      λ others (other, other_told, bad, bad_told, same). same
+          ∙ ap₂ (λ b c. dump_findings settings records b c) (same_truth other named other_told told)
+          (same_truth bad unread bad_told unread_told),
     )

@@ -16,7 +16,7 @@ use Rattle.dump_history.specs.RecordChanges.{Patching, MakesChange}
 use Rattle.dump_history.specs.DumpChanges.{counts_from, has_ordered_nodes, MakeChanges, MakeRevisions}
 use Rattle.dump_history.specs.NumberGaps.{NamesRevisionBehind, KeepsNamedNumbers}
 use Rattle.dump_history.specs.PartLaws.{MakePartRevisions}
-use Rattle.dump_history.specs.Findings.{Finding, begins_at, has_source_before, AreFindingsOf, is_obstacle, is_alarm, every_dump_finding, first_has_node, is_found_in_dump, AreDumpFindingsOf}
+use Rattle.dump_history.specs.Findings.{Finding, begins_at, has_source_before, AreFindingsOf, is_obstacle, is_alarm, every_dump_finding, rise, first_has_node, is_found_in_dump, AreDumpFindingsOf}
 use Rattle.dump_history.specs.SurveyLaws.{AreFindingsBehind, HaveFindingsBehind, none_is, RestrictsFrom, SurveyedDumpRestricts, SurveyedDumpFrontRestricts}
 use Rattle.dump_history.proofs.survey.FindingLemmas.{obstacles_exact, alarms_exact}
 use Rattle.dump_history.proofs.survey.PartLemmas.{groups_lowered, lowered_quiet}
@@ -183,10 +183,12 @@ module _ (settings : Settings) (all : List DumpRecord) (free : AreFaultFree sett
 -- nothing is found in the dump as a whole
 module _ (settings : Settings) (records : List DumpRecord) (nothing : AreDumpFindingsOf settings records []) where
   each_none : (length (groups records) == 0 || (not (counts_from (begins_at records) (revision_numbers records))
+      || (not (rise (revision_numbers records)) || (nothing.2
       || ((begins_at records == 0 && first_has_node (groups records))
       || (has_source_before (begins_at records) (groups records) || (not (has_ordered_nodes false records)
-      || ((not settings.renumber && nothing.0) || false)))))) ≡ false
-  each_none = none_passes (λ f. is_found_in_dump settings records nothing.0 f) every_dump_finding (sym nothing.2)
+      || ((not settings.renumber && nothing.0) || false)))))))) ≡ false
+  each_none = none_passes (λ f. is_found_in_dump settings records nothing.0 nothing.2 f) every_dump_finding
+      (sym nothing.4)
 
   denied : (b : Bool) → not b ≡ false → b ≡ true
   denied true is = refl
@@ -203,8 +205,9 @@ module _ (settings : Settings) (records : List DumpRecord) (nothing : AreDumpFin
   behind_numbers : ((begins_at records == 0 && first_has_node (groups records))
       || (has_source_before (begins_at records) (groups records) || (not (has_ordered_nodes false records)
       || ((not settings.renumber && nothing.0) || false)))) ≡ false
-  behind_numbers = second_false (not (counts_from (begins_at records) (revision_numbers records))) _
-      (second_false (length (groups records) == 0) _ each_none)
+  behind_numbers = second_false nothing.2 _ (second_false (not (rise (revision_numbers records))) _
+      (second_false (not (counts_from (begins_at records) (revision_numbers records))) _
+      (second_false (length (groups records) == 0) _ each_none)))
 
   is_first_bare : begins_at records ≡ 0 → first_has_node (groups records) ≡ false
   is_first_bare zero_first = sym (ap (λ n. n == 0 && first_has_node (groups records)) zero_first)

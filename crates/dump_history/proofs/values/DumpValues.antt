@@ -108,28 +108,28 @@ over_begun = record { makes = bare; loads = refl }
 -- nodes that make no change, whatever it is
 
 -- a record of these property bytes
-abbrev with_props : DumpRecord → List ℕ → DumpRecord
+abbrev pub with_props : DumpRecord → List ℕ → DumpRecord
 with_props r bytes = record r { props = bytes }
 
 -- a byte that begins no entry can't be read
-unreadable : ¬ HasPropertyBlock (with_props trunk (codes "x"))
-unreadable (ps, (inl (empty, none), deletes)) = let bad : codes "x" ≡ [] = empty in cc
-unreadable ([], (inr same, deletes)) = let bad : codes "x" ≡ codes "PROPS-END\n" = same in cc
-unreadable (p ∷ ps, (inr (entry, rest, split, inl (value, is, (names, values, n, v, text)), more), deletes)) =
+pub unreadable : (r : DumpRecord) → ¬ HasPropertyBlock (with_props r (codes "x"))
+unreadable r (ps, (inl (empty, none), deletes)) = let bad : codes "x" ≡ [] = empty in cc
+unreadable r ([], (inr same, deletes)) = let bad : codes "x" ≡ codes "PROPS-END\n" = same in cc
+unreadable r (p ∷ ps, (inr (entry, rest, split, inl (value, is, (names, values, n, v, text)), more), deletes)) =
     let bad : codes "x" ≡ _ = split ∙ ap (λ e. e ++ rest) text in cc
-unreadable (p ∷ ps, (inr (entry, rest, split, inr (none, (digits, n, text)), more), deletes)) =
+unreadable r (p ∷ ps, (inr (entry, rest, split, inr (none, (digits, n, text)), more), deletes)) =
     let bad : codes "x" ≡ _ = split ∙ ap (λ e. e ++ rest) text in cc
 
 makes_none_unread : (c : Change) → ¬ MakesChange refused (with_props trunk (codes "x")) c
-makes_none_unread c (ps, list, plain, is) = unreadable (ps, list)
+makes_none_unread c (ps, list, plain, is) = unreadable trunk (ps, list)
 
 -- it is found, and nothing else is
 unread_found : AreFindingsOf settings [] (with_props trunk (codes "x")) (Finding.UnreadBlock ∷ [])
 unread_found = (
   None,
   no_node_faults,
-  unreadable,
-  faults_of_unread settings [] (with_props trunk (codes "x")) unreadable,
+  unreadable trunk,
+  faults_of_unread settings [] (with_props trunk (codes "x")) (unreadable trunk),
   refl,
 )
 

@@ -193,43 +193,43 @@ padded = record worked_settings { empty = Pad; renumber = false }
 
 -- nothing is found in the worked dump, be it renumbered or padded
 
-nothing_renumbered : dump_findings worked_settings records true ≡ []
+nothing_renumbered : dump_findings worked_settings records true false ≡ []
 nothing_renumbered = refl
 
-nothing_padded : dump_findings padded records false ≡ []
+nothing_padded : dump_findings padded records false false ≡ []
 nothing_padded = refl
 
 -- a revision is dropped, and a kept node names one behind it
-dropped_not_renumbered : dump_findings (record worked_settings { renumber = false }) records true
+dropped_not_renumbered : dump_findings (record worked_settings { renumber = false }) records true false
     ≡ DumpFinding.NumbersLeft ∷ []
 dropped_not_renumbered = refl
 
 -- where none is named, no number matters
-none_named : dump_findings (record worked_settings { renumber = false }) records false ≡ []
+none_named : dump_findings (record worked_settings { renumber = false }) records false false ≡ []
 none_named = refl
 
 -- where none is dropped, none needs a new number
-none_dropped : dump_findings (record worked_settings { renumber = false }) (version ∷ zero ∷ one ∷ trunk ∷ []) false ≡ []
+none_dropped : dump_findings (record worked_settings { renumber = false }) (version ∷ zero ∷ one ∷ trunk ∷ []) false false ≡ []
 none_dropped = refl
 
-no_revision : dump_findings padded (version ∷ []) false ≡ DumpFinding.NoRevision ∷ []
+no_revision : dump_findings padded (version ∷ []) false false ≡ DumpFinding.NoRevision ∷ []
 no_revision = refl
 
 -- a part of a history begins at a higher number, and has a node in its first revision; but revision 0 has none
-numbers_from_two : dump_findings padded (version ∷ two ∷ trunk ∷ three ∷ []) false ≡ []
+numbers_from_two : dump_findings padded (version ∷ two ∷ trunk ∷ three ∷ []) false false ≡ []
 numbers_from_two = refl
 
-number_left_out : dump_findings padded (version ∷ zero ∷ two ∷ []) false ≡ DumpFinding.OtherNumbers ∷ []
+number_left_out : dump_findings padded (version ∷ zero ∷ two ∷ []) false false ≡ DumpFinding.OtherNumbers ∷ []
 number_left_out = refl
 
-node_in_first : dump_findings padded (version ∷ zero ∷ trunk ∷ []) false ≡ DumpFinding.NodeInFirst ∷ []
+node_in_first : dump_findings padded (version ∷ zero ∷ trunk ∷ []) false false ≡ DumpFinding.NodeInFirst ∷ []
 node_in_first = refl
 
 -- a node before any revision, and one behind a record that is none
-node_outside : dump_findings padded (version ∷ trunk ∷ zero ∷ []) false ≡ DumpFinding.NodeOutside ∷ []
+node_outside : dump_findings padded (version ∷ trunk ∷ zero ∷ []) false false ≡ DumpFinding.NodeOutside ∷ []
 node_outside = refl
 
-node_behind_another : dump_findings padded (zero ∷ one ∷ version ∷ trunk ∷ []) false ≡ DumpFinding.NodeOutside ∷ []
+node_behind_another : dump_findings padded (zero ∷ one ∷ version ∷ trunk ∷ []) false false ≡ DumpFinding.NodeOutside ∷ []
 node_behind_another = refl
 
 -- where nodes may stand

@@ -16,6 +16,7 @@ use Rattle.dump_history.specs.Findings.{DumpFinding, AreDumpFindingsOf}
 use Rattle.dump_history.proofs.survey.NamingTest.{names_test, test_tells, behind_told}
 use Rattle.dump_history.proofs.values.WorkedDump.{line, record_at, version, one, two, three, trunk, other, copy, records, settings, folder, none_of, makes_trunk}
 use Rattle.dump_history.proofs.values.WorkedDump.{zero as revision_0}
+use Rattle.dump_history.proofs.values.UnreadValues.{told_read}
 
 -- changes that name a revision
 
@@ -212,13 +213,19 @@ copy_before names = let bad : false ≡ true =
 -- what is found
 
 numbers_found : AreDumpFindingsOf left_numbers records (DumpFinding.NumbersLeft ∷ [])
-numbers_found = (true, (λ so. copy_behind, λ names. refl), refl)
+numbers_found = (true, (λ so. copy_behind, λ names. refl), false, told_read records refl, refl)
 
 none_found : AreDumpFindingsOf left_numbers (behind trunk) []
-none_found = (false, (λ bad. let worse : false ≡ true = bad in cc, λ names. absurd (folder_behind names)), refl)
+none_found = (
+  false,
+  (λ bad. let worse : false ≡ true = bad in cc, λ names. absurd (folder_behind names)),
+  false,
+  told_read (behind trunk) refl,
+  refl,
+)
 
 renumbered : AreDumpFindingsOf settings records []
-renumbered = (true, (λ so. copy_behind, λ names. refl), refl)
+renumbered = (true, (λ so. copy_behind, λ names. refl), false, told_read records refl, refl)
 
 -- and what the law asks
 kept_by_name : KeepsNamedNumbers left_numbers (behind trunk)

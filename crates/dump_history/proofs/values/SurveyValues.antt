@@ -4,7 +4,7 @@ use Rattle.dump_records.specs.RecordText.{DumpRecord}
 use Rattle.dump_rules.specs.declared.options.Side.TheVariants.{Include, Exclude}
 use Rattle.dump_rules.specs.declared.options.Empty.TheVariants.{DropAll}
 use Rattle.dump_rules.specs.Settings.{Settings}
-use Rattle.dump_history.specs.Findings.{Finding, every_finding, findings_of, is_obstacle, is_alarm, DumpFinding, every_dump_finding, dump_findings}
+use Rattle.dump_history.specs.Findings.{Finding, every_finding, findings_of, is_obstacle, is_alarm, DumpFinding, every_dump_finding, rise, dump_findings}
 use Rattle.dump_history.specs.SurveyLaws.{none_is}
 use Rattle.dump_history.proofs.values.WorkedDump.{line, record_at, version, zero, one, two, trunk, three, copy}
 use Rattle.dump_history.specs.steps.NodeReading.{no_node_faults}
@@ -111,46 +111,69 @@ root_of_prefix = refl
 
 -- of a dump
 
-all_dump_findings : every_dump_finding ≡ DumpFinding.NoRevision ∷ DumpFinding.OtherNumbers ∷ DumpFinding.NodeInFirst
-    ∷ DumpFinding.SourceBefore ∷ DumpFinding.NodeOutside ∷ DumpFinding.NumbersLeft ∷ []
+all_dump_findings : every_dump_finding ≡ DumpFinding.NoRevision ∷ DumpFinding.OtherNumbers ∷ DumpFinding.NumberFalls
+    ∷ DumpFinding.UnreadRevision ∷ DumpFinding.NodeInFirst ∷ DumpFinding.SourceBefore ∷ DumpFinding.NodeOutside
+    ∷ DumpFinding.NumbersLeft ∷ []
 all_dump_findings = refl
 
 -- a number that comes twice
-number_again : dump_findings include_a (version ∷ zero ∷ one ∷ one ∷ []) false ≡ DumpFinding.OtherNumbers ∷ []
+number_again : dump_findings include_a (version ∷ zero ∷ one ∷ one ∷ []) false false
+    ≡ DumpFinding.OtherNumbers ∷ DumpFinding.NumberFalls ∷ []
 number_again = refl
 
+-- one below that of the revision before it, behind a node, and one below the first number
+number_falls : dump_findings include_a (version ∷ one ∷ two ∷ trunk ∷ one ∷ []) false false
+    ≡ DumpFinding.OtherNumbers ∷ DumpFinding.NumberFalls ∷ []
+number_falls = refl
+
+below_first : dump_findings include_a (version ∷ two ∷ one ∷ two ∷ []) false false
+    ≡ DumpFinding.OtherNumbers ∷ DumpFinding.NumberFalls ∷ []
+below_first = refl
+
+none_rises : rise [] ≡ true
+none_rises = refl
+
+one_rises : rise (7 ∷ []) ≡ true
+one_rises = refl
+
+gap_rises : rise (3 ∷ 7 ∷ 8 ∷ []) ≡ true
+gap_rises = refl
+
+last_stays : rise (3 ∷ 7 ∷ 7 ∷ []) ≡ false
+last_stays = refl
+
 -- nodes of later revisions don't count
-node_in_second : dump_findings include_a (version ∷ zero ∷ one ∷ trunk ∷ two ∷ []) false ≡ []
+node_in_second : dump_findings include_a (version ∷ zero ∷ one ∷ trunk ∷ two ∷ []) false false ≡ []
 node_in_second = refl
 
 -- three of them in one dump: a node in revision 0, and behind it revision 2, which is dropped, and a kept copy
 three_in_dump : dump_findings (record (cut_by Include (codes "trunk" ∷ [])) { empty = DropAll })
-    (version ∷ zero ∷ trunk ∷ two ∷ three ∷ copy ∷ []) true
+    (version ∷ zero ∷ trunk ∷ two ∷ three ∷ copy ∷ []) true false
     ≡ DumpFinding.OtherNumbers ∷ DumpFinding.NodeInFirst ∷ DumpFinding.NumbersLeft ∷ []
 three_in_dump = refl
 
 -- a copy of revision 2 is from before a dump that begins at revision 3, and isn't in one that begins at 2
 
-copied_from_before : dump_findings include_trunk (version ∷ three ∷ copy ∷ []) false ≡ DumpFinding.SourceBefore ∷ []
+copied_from_before : dump_findings include_trunk (version ∷ three ∷ copy ∷ []) false false ≡ DumpFinding.SourceBefore ∷ []
 copied_from_before = refl
 
-copied_from_first : dump_findings include_trunk (version ∷ two ∷ three ∷ copy ∷ []) false ≡ []
+copied_from_first : dump_findings include_trunk (version ∷ two ∷ three ∷ copy ∷ []) false false ≡ []
 copied_from_first = refl
 
 -- a copy that isn't kept is told too, and one behind the first revision; under a change a copy source doesn't count
 
-dropped_from_before : dump_findings include_a (version ∷ three ∷ copy ∷ []) false ≡ DumpFinding.SourceBefore ∷ []
+dropped_from_before : dump_findings include_a (version ∷ three ∷ copy ∷ []) false false ≡ DumpFinding.SourceBefore ∷ []
 dropped_from_before = refl
 
-later_from_before : dump_findings include_trunk (version ∷ three ∷ trunk ∷ four ∷ copy ∷ []) false
+later_from_before : dump_findings include_trunk (version ∷ three ∷ trunk ∷ four ∷ copy ∷ []) false false
     ≡ DumpFinding.SourceBefore ∷ []
 later_from_before = refl
 
-changed_from_before : dump_findings include_trunk (version ∷ three ∷ changed ∷ []) false ≡ []
+changed_from_before : dump_findings include_trunk (version ∷ three ∷ changed ∷ []) false false ≡ []
 changed_from_before = refl
 
 -- a copy behind another node of its revision is told too
-second_from_before : dump_findings include_trunk (version ∷ three ∷ trunk ∷ copy ∷ []) false ≡ DumpFinding.SourceBefore ∷ []
+second_from_before : dump_findings include_trunk (version ∷ three ∷ trunk ∷ copy ∷ []) false false ≡ DumpFinding.SourceBefore ∷ []
 second_from_before = refl
 
 -- none of the findings of a dump's nodes

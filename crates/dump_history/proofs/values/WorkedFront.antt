@@ -34,9 +34,19 @@ abbrev behind : List (List (List Finding))
 behind = ([] ∷ []) ∷ []
 
 found : HaveFindings settings records ([] ∷ before ++ behind)
-found =
-    ([], _, refl, refl, (_, _, refl, one_node before_trunk trunk in_trunk,
-    (_, _, refl, one_node before_other other in_other, (_, _, refl, one_node before_copy copy in_copy, refl))))
+found = (
+  [],
+  _,
+  refl,
+  refl,
+  (
+    _,
+    _,
+    refl,
+    one_node before_trunk trunk in_trunk,
+    (_, _, refl, one_node before_other other in_other, (_, _, refl, one_node before_copy copy in_copy, refl)),
+  ),
+)
 
 -- the trees of the first two
 abbrev first_trees : List Tree

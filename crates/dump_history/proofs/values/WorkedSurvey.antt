@@ -1,5 +1,5 @@
 -- The law of surveyed dumps, applied to the worked dump: nothing is found in it.
-use Rattle.std.proofs.Common.{◌≡◌, List, [], ◌∷◌, Some, refl, ap, ◌∙◌}
+use Rattle.std.proofs.Common.{◌≡◌, false, List, [], ◌∷◌, Some, refl, ap, ◌∙◌}
 use Rattle.dump_records.specs.RecordText.{DumpRecord}
 use Rattle.dump_filter.specs.Groups.{groups}
 use Rattle.dump_trees.specs.Trees.{root_alone}
@@ -16,6 +16,7 @@ use Rattle.dump_history.proofs.survey.FindingLemmas.{faults_of_kept, faults_of_l
 use Rattle.dump_history.proofs.survey.NamingTest.{names_test, test_tells, behind_told}
 use Rattle.dump_history.proofs.survey.SurveyLemmas.{surveyed_dump}
 use Rattle.dump_history.proofs.values.WorkedDump.{records, dump, settings, version, zero, one, trunk, two, other, three, copy, none_of, revisions, trees, loads}
+use Rattle.dump_history.proofs.values.UnreadValues.{told_read}
 use Rattle.dump_history.proofs.values.WorkedFilter.{text, clean, lengths}
 
 -- nothing is found in any of its nodes, group by group
@@ -34,8 +35,13 @@ before_copy = version ∷ zero ∷ one ∷ trunk ∷ two ∷ other ∷ three ∷
 
 -- nothing is found in the kept folder
 pub in_trunk : AreFindingsOf settings before_trunk trunk []
-in_trunk = (Some [], no_node_faults, none_of trunk refl,
-    faults_of_kept settings before_trunk trunk refl [] (none_of trunk refl), refl)
+in_trunk = (
+  Some [],
+  no_node_faults,
+  none_of trunk refl,
+  faults_of_kept settings before_trunk trunk refl [] (none_of trunk refl),
+  refl,
+)
 
 -- nothing is found in the dropped folder
 pub in_other : AreFindingsOf settings before_other other []
@@ -43,8 +49,13 @@ in_other = (Some [], no_node_faults, none_of other refl, faults_of_left settings
 
 -- nothing is found in the copy
 pub in_copy : AreFindingsOf settings before_copy copy []
-in_copy = (Some [], no_node_faults, none_of copy refl,
-    faults_of_kept settings before_copy copy refl [] (none_of copy refl), refl)
+in_copy = (
+  Some [],
+  no_node_faults,
+  none_of copy refl,
+  faults_of_kept settings before_copy copy refl [] (none_of copy refl),
+  refl,
+)
 
 -- so nothing is found in the one node of a group
 pub one_node : (before : List DumpRecord) (r : DumpRecord) → AreFindingsOf settings before r []
@@ -52,15 +63,27 @@ pub one_node : (before : List DumpRecord) (r : DumpRecord) → AreFindingsOf set
 one_node before r none = ([], [], refl, none, refl)
 
 none_found : HaveFindings settings records nothing
-none_found =
-    ([], _, refl, refl, (_, _, refl, one_node before_trunk trunk in_trunk,
-    (_, _, refl, one_node before_other other in_other, (_, _, refl, one_node before_copy copy in_copy, refl))))
+none_found = (
+  [],
+  _,
+  refl,
+  refl,
+  (
+    _,
+    _,
+    refl,
+    one_node before_trunk trunk in_trunk,
+    (_, _, refl, one_node before_other other in_other, (_, _, refl, one_node before_copy copy in_copy, refl)),
+  ),
+)
 
 -- with renumbering nothing is found in the dump as a whole, whatever its nodes name
 pub none_in_dump : AreDumpFindingsOf settings records []
 none_in_dump = (
   groups_name_behind settings names_test (groups records),
   behind_told settings names_test test_tells (groups records),
+  false,
+  told_read records refl,
   refl,
 )
 

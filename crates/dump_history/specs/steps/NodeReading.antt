@@ -12,7 +12,7 @@ use Rattle.dump_digest.specs.RecordParts.{is_kept_node, is_mergeinfo, value_of}
 use Rattle.dump_filter.specs.Groups.{kept_revisions}
 use Rattle.dump_filter.specs.NewHeaders.{stays_copy}
 use Rattle.dump_filter.specs.RecordFaults.{present_number}
-use Rattle.dump_history.specs.Findings.{begins_at, NodeFaults}
+use Rattle.dump_history.specs.Findings.{NodeFaults}
 
 -- whether the property is mergeinfo that can't be read
 abbrev pub is_unread_value : Property → Bool

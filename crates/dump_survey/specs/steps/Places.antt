@@ -13,6 +13,8 @@ use Rattle.dump_survey.specs.DumpTold.{place_in, IsDumpFinding, comes_up, ComesU
 abbrev pub no_places : DumpPlaces
 no_places = record {
   other_numbers = None;
+  number_falls = None;
+  unread_revision = None;
   node_in_first = None;
   source_before = None;
   node_outside = None;

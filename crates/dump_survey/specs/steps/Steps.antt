@@ -32,10 +32,11 @@ IsStepOf settings item tally (Node node) = (node.item ≡ item)
 IsStepOf settings item tally Other = (tally.present ≡ None) ⊎ (is_node (record_item item) ≡ false)
 IsStepOf settings item tally (Finished end) = ⊥
 
--- this end is told, and what is found behind the records of the tally, which leave numbers or not, with these places
-abbrev pub TellsEnd : Tally → Bool → DumpPlaces → End → SurveyEnd → Type 0
-TellsEnd tally left places end told =
-    (told.end ≡ end) × (told.places ≡ places) × (listed_findings told.dump ≡ tally_findings tally left)
+-- this end is told, and what is found behind the records of the tally, which leave numbers or not, and have a revision
+-- whose properties can't be read or none, with these places
+abbrev pub TellsEnd : Tally → (left unread : Bool) → DumpPlaces → End → SurveyEnd → Type 0
+TellsEnd tally left unread places end told =
+    (told.end ≡ end) × (told.places ≡ places) × (listed_findings told.dump ≡ tally_findings tally left unread)
 
 -- the revision that a node belongs to which comes behind these records, where it would have belonged to this one
 abbrev pub open_behind : Option ℕ → List DumpRecord → Option ℕ

@@ -1,10 +1,11 @@
 -- What the contracts see of a surveyor, and what it knows.
-use Rattle.std.specs.Prelude.{◌≡◌, ℕ, Bool, List, length, map}
+use Rattle.std.specs.Prelude.{◌≡◌, ◌↔◌, ℕ, Bool, List, length, map, IsTrue}
 use Rattle.dump_records.specs.RecordText.{DumpRecord}
 use Rattle.dump_records.specs.DumpText.{BeginsWithRecords}
 use Rattle.dump_records.specs.steps.CutterState.{CutterState}
 use Rattle.dump_rules.specs.Settings.{Settings}
 use Rattle.dump_rules.specs.Prefix.{bare_prefix}
+use Rattle.dump_history.specs.Findings.{HasUnreadRevision}
 use Rattle.dump_survey.specs.declared.tally.Tally.{Tally}
 use Rattle.dump_survey.specs.steps.IdlePrefixes.{AreIdle}
 use Rattle.dump_survey.specs.declared.places.DumpPlaces.{DumpPlaces}
@@ -19,8 +20,9 @@ pub record Surveying : Type 0 where
   pub number : ℕ
 
 -- it holds the options' prefixes, those of them that the records that the cutter has given leave idle, their tally,
--- whether they leave numbers, and with which of them what is found in the dump as a whole comes up
-pub record Surveys (settings : Settings) (prefixes idle : List (List ℕ)) (tally : Tally) (left : Bool)
+-- whether they leave numbers, and have a revision whose properties can't be read, and with which of them what is found
+-- in the dump as a whole comes up
+pub record Surveys (settings : Settings) (prefixes idle : List (List ℕ)) (tally : Tally) (left unread : Bool)
     (places : DumpPlaces) (cutter : CutterState) : Type 0 where
   pub prefixes_are : prefixes ≡ map bare_prefix settings.prefixes
   pub before : List DumpRecord
@@ -29,4 +31,5 @@ pub record Surveys (settings : Settings) (prefixes idle : List (List ℕ)) (tall
   pub idle_are : AreIdle before settings.prefixes idle
   pub tallied : tally ≡ tally_behind settings no_tally before
   pub left_is : LeaveNumber settings before left
+  pub unread_is : IsTrue unread ↔ HasUnreadRevision before
   pub places_are : ArePlaces settings before places

@@ -1,5 +1,5 @@
 -- What is known of the revisions of a dump, record by record.
-use Rattle.std.specs.Prelude.{ℕ, ◌+◌, ◌==◌, Bool, true, false, not, ◌&&◌, ◌||◌, List, [], ◌∷◌, filter, Option, Some, None, nat_le, if◌then◌else◌}
+use Rattle.std.specs.Prelude.{ℕ, ◌+◌, ◌==◌, Bool, true, false, not, ◌&&◌, ◌||◌, List, [], ◌∷◌, filter, Option, Some, None, nat_le, nat_lt, if◌then◌else◌}
 use Rattle.dump_records.specs.RecordText.{DumpRecord}
 use Rattle.dump_rules.specs.Settings.{Settings}
 use Rattle.dump_digest.specs.RecordParts.{is_revision_record, is_node, is_kept_node}
@@ -15,6 +15,8 @@ no_tally = record {
   count = 0;
   first = 0;
   numbered = true;
+  last = None;
+  rising = true;
   node_in_first = false;
   source_before = false;
   node_outside = false;
@@ -50,12 +52,19 @@ numbers_of t present = record { first = t.first; least = t.least; present = pres
 abbrev pub first_with : Tally → ℕ → ℕ
 first_with t number = if t.count == 0 then number else t.first
 
+-- whether the number is above that of the last revision, if there is one
+abbrev pub is_above_last : Option ℕ → ℕ → Bool
+is_above_last None number = true
+is_above_last (Some last) number = nat_lt last number
+
 -- behind a revision
 abbrev pub revision_tally : Settings → Tally → DumpRecord → Tally
 revision_tally settings t r = record {
   count = t.count + 1;
   first = first_with t (revision_number r);
   numbered = t.numbered && revision_number r == first_with t (revision_number r) + t.count;
+  last = Some (revision_number r);
+  rising = t.rising && is_above_last t.last (revision_number r);
   node_in_first = t.node_in_first;
   source_before = t.source_before;
   node_outside = t.node_outside;
@@ -94,15 +103,18 @@ abbrev pub tally_behind : Settings → Tally → List DumpRecord → Tally
 tally_behind settings t [] = t
 tally_behind settings t (r ∷ records) = tally_behind settings (next_tally settings t r) records
 
--- whether this is found in the dump, where it ends here, and numbers are left or not
-abbrev pub is_tallied : Tally → Bool → DumpFinding → Bool
-is_tallied t left DumpFinding.NoRevision = t.count == 0
-is_tallied t left DumpFinding.OtherNumbers = not t.numbered
-is_tallied t left DumpFinding.NodeInFirst = t.first == 0 && t.node_in_first
-is_tallied t left DumpFinding.SourceBefore = t.source_before
-is_tallied t left DumpFinding.NodeOutside = t.node_outside
-is_tallied t left DumpFinding.NumbersLeft = left
+-- whether this is found in the dump, where it ends here, numbers are left or not, and the properties of a revision can't
+-- be read or all can
+abbrev pub is_tallied : Tally → (left unread : Bool) → DumpFinding → Bool
+is_tallied t left unread DumpFinding.NoRevision = t.count == 0
+is_tallied t left unread DumpFinding.OtherNumbers = not t.numbered
+is_tallied t left unread DumpFinding.NumberFalls = not t.rising
+is_tallied t left unread DumpFinding.UnreadRevision = unread
+is_tallied t left unread DumpFinding.NodeInFirst = t.first == 0 && t.node_in_first
+is_tallied t left unread DumpFinding.SourceBefore = t.source_before
+is_tallied t left unread DumpFinding.NodeOutside = t.node_outside
+is_tallied t left unread DumpFinding.NumbersLeft = left
 
 -- what is found in the dump, where it ends here
-abbrev pub tally_findings : Tally → Bool → List DumpFinding
-tally_findings t left = filter (λ f. is_tallied t left f) every_dump_finding
+abbrev pub tally_findings : Tally → (left unread : Bool) → List DumpFinding
+tally_findings t left unread = filter (λ f. is_tallied t left unread f) every_dump_finding

@@ -1,35 +1,37 @@
-use Rattle.std.proofs.Common.{◌≡◌, Bool, ◌||◌, sym, ap, ◌∙◌, subst}
+use Rattle.std.proofs.Common.{◌≡◌, ◌⊎◌, ◌↔◌, Bool, ◌||◌, IsTrue, sym, ap, ◌∙◌, subst}
 use Rattle.std.proofs.lemmas.Bool.{or_left}
 use Rattle.std.specs.Result.{IfOk}
 use Rattle.dump_records.specs.declared.cutter.Cut.{Cut}
 use Rattle.dump_records.specs.RecordText.{DumpRecord}
 use Rattle.dump_records.specs.steps.RecordViews.{record_item, CutStep}
+use Rattle.dump_history.specs.Findings.{IsUnreadRevision}
 use Rattle.dump_history.specs.steps.NamingTests.{TellsNaming}
 use Rattle.dump_survey.specs.declared.surveyor.End.TheVariants as ends
 use Rattle.dump_survey.specs.steps.Naming.{leaves_number}
 use Rattle.dump_survey.specs.steps.Steps.{SurveyStep}
 use Rattle.dump_survey.specs.steps.Surveying.{Surveying}
 use Rattle.dump_survey.proofs.SurveyorLemmas.{ended, room, goes_on, stepped_ok}
+use Rattle.dump_survey.proofs.UnreadLemmas.{still_unread, now_unread}
 use Rattle.dump_survey.proofs.surveyor.Surveyor.next.Goals as goal
-use Rattle.dump_survey.proofs.surveyor.Surveyor.next.Goals.{then-self, else-self}
+use Rattle.dump_survey.proofs.surveyor.Surveyor.next.Goals.{then-self, else-self, then-self-2, else-self-2}
 
 pub returns-in-Finished : goal.returns-in-Finished
 returns-in-Finished c =
     let step = subst (λ (x : Cut). CutStep c.self.inside.cutter x c.next.new.self) c.in-Finished.is c.next.ensures in
     rw (← c.self.view_is) (ended c.self.inside.options.now c.self.inside.prefixes c.self.inside.idle c.self.inside.tally c.self.inside.numbers_left
-    c.self.inside.places c.self.inside.cutter c.next.new.self c.self.invariant ends.Whole c.finished-end.result step.0 step.1 c.finished-end.ensures)
+    c.self.inside.unread_revision c.self.inside.places c.self.inside.cutter c.next.new.self c.self.invariant ends.Whole c.finished-end.result step.0 step.1 c.finished-end.ensures)
 
 pub returns-in-Fault : goal.returns-in-Fault
 returns-in-Fault c =
     let step = subst (λ (x : Cut). CutStep c.self.inside.cutter x c.next.new.self) c.in-Fault.is c.next.ensures in
     rw (← c.self.view_is) (ended c.self.inside.options.now c.self.inside.prefixes c.self.inside.idle c.self.inside.tally c.self.inside.numbers_left
-    c.self.inside.places c.self.inside.cutter c.next.new.self c.self.invariant (ends.Broken c.in-Fault.kind c.in-Fault.place)
+    c.self.inside.unread_revision c.self.inside.places c.self.inside.cutter c.next.new.self c.self.invariant (ends.Broken c.in-Fault.kind c.in-Fault.place)
     c.finished-end-in-Fault.result step.0 step.1 c.finished-end-in-Fault.ensures)
 
 pub with-self-inside-requires : goal.with-self-inside-requires
 with-self-inside-requires c =
     let step = subst (λ (x : Cut). CutStep c.self.inside.cutter x c.next.new.self) c.in-Item.is c.next.ensures in
-    room c.self.inside.options.now c.self.inside.prefixes c.self.inside.idle c.self.inside.tally c.self.inside.numbers_left c.self.inside.places
+    room c.self.inside.options.now c.self.inside.prefixes c.self.inside.idle c.self.inside.tally c.self.inside.numbers_left c.self.inside.unread_revision c.self.inside.places
     c.self.inside.cutter c.next.new.self c.self.invariant c.in-Item.item step
 
 pub invariant_of-self-2 : goal.invariant_of-self-2
@@ -44,10 +46,18 @@ invariant_of-self-2 c =
           ∙ sym (ap (λ b. b || leaves_number c.self.inside.options.now names c.self.inside.tally
           (record_item c.in-Item.item)) w.if-self.false))
     ] in
+    let unread_still : IsTrue c.if-self-2.self
+    ↔ (IsTrue c.self.inside.unread_revision ⊎ IsUnreadRevision (record_item c.in-Item.item)) =
+    elim c.if-self-2.branch [
+      | then-self-2 w ↦ still_unread (record_item c.in-Item.item) c.self.inside.unread_revision c.if-self-2.self w.self-is
+          w.if-self-2.true
+      | else-self-2 w ↦ now_unread (record_item c.in-Item.item) c.self.inside.unread_revision c.if-self-2.self
+          w.is_unread_revision-self-inside.result w.self-is w.if-self-2.false w.is_unread_revision-self-inside.ensures
+    ] in
     goes_on c.self.inside.options.now c.self.inside.prefixes c.self.inside.idle c.self.inside.tally
-    c.self.inside.numbers_left c.self.inside.places c.self.inside.cutter c.next.new.self c.self.invariant c.in-Item.item step
-    c.leave_touched.new.idle c.with-self-inside.result c.if-self.self c.leave_touched.ensures c.with-self-inside.ensures
-    still c.findings-found.result c.findings-found.ensures c.place_of.result c.place_of.ensures c.with-self-inside-2.result c.with-self-inside-2.ensures
+    c.self.inside.numbers_left c.self.inside.unread_revision c.self.inside.places c.self.inside.cutter c.next.new.self c.self.invariant c.in-Item.item step
+    c.leave_touched.new.idle c.with-self-inside.result c.if-self.self c.if-self-2.self c.leave_touched.ensures
+    c.with-self-inside.ensures still unread_still c.findings-found.result c.findings-found.ensures c.place_of.result c.place_of.ensures c.with-self-inside-2.result c.with-self-inside-2.ensures
 
 pub returns : goal.returns
 returns c =
@@ -58,5 +68,5 @@ returns c =
       number = c.next.new.self.number;
     } in
     subst (λ (s : Surveying). IfOk c.step_of.result (λ told. SurveyStep s told seen)) c.self.view_is
-    (stepped_ok c.self.inside.options.now c.self.inside.prefixes c.self.inside.idle c.self.inside.tally c.self.inside.numbers_left c.self.inside.places c.self.inside.cutter
+    (stepped_ok c.self.inside.options.now c.self.inside.prefixes c.self.inside.idle c.self.inside.tally c.self.inside.numbers_left c.self.inside.unread_revision c.self.inside.places c.self.inside.cutter
     c.next.new.self c.self.invariant c.in-Item.item step c.step_of.result c.step_of.ensures)

@@ -1,0 +1,25 @@
+-- Whether the properties of a revision can't be read can be told, record by record.
+use Rattle.std.proofs.Common.{◌↔◌, Bool, false, List, IsTrue, inl, inr}
+use Rattle.std.specs.List.{list_any}
+use Rattle.dump_records.specs.RecordText.{DumpRecord}
+use Rattle.dump_rules.proofs.faults.FaultLemmas.{found, finds}
+use Rattle.dump_digest.specs.RecordParts.{is_revision_record}
+use Rattle.dump_digest.proofs.PropertyBlocks.{block_or_not}
+use Rattle.dump_history.specs.Findings.{IsUnreadRevision, HasUnreadRevision}
+
+-- whether it is a revision whose properties can't be read
+unread_told : (r : DumpRecord) → (b : Bool) × (IsTrue b ↔ IsUnreadRevision r)
+unread_told r = elim (block_or_not r) [
+  | inl block ↦ (false, (λ bad. cc, λ (is, unread). absurd (unread block)))
+  | inr unread ↦ (is_revision_record r, (λ is. (is, unread), λ (is, none). is))
+]
+
+-- so of each of these records, and whether one of them is
+pub unread_in : (records : List DumpRecord) → (b : Bool) × (IsTrue b ↔ HasUnreadRevision records)
+unread_in records = let test : DumpRecord → Bool = λ r. (unread_told r).0 in (
+  list_any test records,
+  (
+    λ some. let (r, there, is) = found test records some in (r, there, (unread_told r).1.0 is),
+    λ (r, there, is). finds test records r there ((unread_told r).1.1 is),
+  ),
+)

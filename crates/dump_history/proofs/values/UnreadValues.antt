@@ -1,0 +1,79 @@
+-- Worked values of revisions whose properties can't be read.
+use Rattle.std.proofs.Common.{◌↔◌, ℕ, Bool, true, false, ◌≡◌, ◌&&◌, List, [], ◌∷◌, IsTrue, refl, ap, arith, codes}
+use Rattle.std.specs.List.{list_any}
+use Rattle.std.proofs.lemmas.Bool.{and_from, both_ways}
+use Rattle.dump_records.specs.RecordText.{DumpRecord}
+use Rattle.dump_rules.proofs.faults.FaultLemmas.{finds}
+use Rattle.dump_digest.specs.RecordParts.{is_revision_record}
+use Rattle.dump_filter.specs.Groups.{groups}
+use Rattle.dump_history.specs.NumberGaps.{NamesRevisionBehind}
+use Rattle.dump_history.specs.Findings.{DumpFinding, HasUnreadRevision, AreDumpFindingsOf}
+use Rattle.dump_history.specs.steps.NamingTests.{groups_name_behind}
+use Rattle.dump_history.proofs.survey.NamingTest.{names_test, test_tells, behind_told}
+use Rattle.dump_history.proofs.values.WorkedDump.{version, zero, one, two, trunk, settings, none_of}
+use Rattle.dump_history.proofs.values.DumpValues.{with_props, unreadable}
+
+abbrev pub has_bytes : List ℕ → Bool
+has_bytes [] = false
+has_bytes (b ∷ bytes) = true
+
+-- the record is a revision with property bytes
+abbrev pub may_be_unread : DumpRecord → Bool
+may_be_unread r = is_revision_record r && has_bytes r.props
+
+-- where no revision has property bytes the properties of each can be read
+pub none_unread : (rs : List DumpRecord) → list_any may_be_unread rs ≡ false → ¬ HasUnreadRevision rs
+none_unread rs none (r, there, (is, unread)) = by r.props refl
+  where
+    by : (props : List ℕ) → r.props ≡ props → ⊥
+    by [] empty = unread ([], none_of r empty)
+    by (b ∷ bytes) some = both_ways (list_any may_be_unread rs) none
+        (finds may_be_unread rs r there (and_from (is_revision_record r) (has_bytes r.props) is (ap has_bytes some)))
+
+-- and so it is told
+pub told_read : (rs : List DumpRecord) → list_any may_be_unread rs ≡ false → IsTrue false ↔ HasUnreadRevision rs
+told_read rs none = (λ bad. cc, λ has. absurd (none_unread rs none has))
+
+abbrev unread_one : DumpRecord
+unread_one = with_props one (codes "x")
+
+-- whether a kept node names a revision, which doesn't matter where revisions are renumbered
+abbrev named : List DumpRecord → Bool
+named rs = groups_name_behind settings names_test (groups rs)
+
+named_told : (rs : List DumpRecord) → IsTrue (named rs) ↔ NamesRevisionBehind settings rs
+named_told rs = behind_told settings names_test test_tells (groups rs)
+
+-- a revision whose properties can't be read, before another one and behind one
+abbrev with_unread : List DumpRecord
+with_unread = version ∷ zero ∷ unread_one ∷ two ∷ []
+
+unread_found : AreDumpFindingsOf settings with_unread (DumpFinding.UnreadRevision ∷ [])
+unread_found = (
+  named with_unread,
+  named_told with_unread,
+  true,
+  (λ so. (unread_one, (2, omega arith, refl), (refl, unreadable one)), λ has. refl),
+  refl,
+)
+
+-- one whose number is that of the revision before it
+abbrev unread_again : List DumpRecord
+unread_again = version ∷ zero ∷ one ∷ unread_one ∷ []
+
+both_found : AreDumpFindingsOf settings unread_again
+    (DumpFinding.OtherNumbers ∷ DumpFinding.NumberFalls ∷ DumpFinding.UnreadRevision ∷ [])
+both_found = (
+  named unread_again,
+  named_told unread_again,
+  true,
+  (λ so. (unread_one, (3, omega arith, refl), (refl, unreadable one)), λ has. refl),
+  refl,
+)
+
+-- a node whose properties can't be read is none
+abbrev unread_node : List DumpRecord
+unread_node = version ∷ zero ∷ one ∷ with_props trunk (codes "x") ∷ []
+
+none_found : AreDumpFindingsOf settings unread_node []
+none_found = (named unread_node, named_told unread_node, false, told_read unread_node refl, refl)

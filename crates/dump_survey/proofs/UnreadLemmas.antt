@@ -1,0 +1,41 @@
+-- Record by record it is told whether a revision has properties that can't be read.
+use Rattle.std.proofs.Common.{◌≡◌, ◌⊎◌, ◌↔◌, ℕ, Bool, true, false, List, [], ◌∷◌, ◌++◌, IsTrue, is_some, sym, subst, ◌∙◌, inl, inr, arith}
+use Rattle.std.proofs.lemmas.List.Elements.{Contains-append_left, Contains-push, Contains-push_cases}
+use Rattle.dump_records.specs.RecordText.{DumpRecord}
+use Rattle.dump_digest.specs.RecordParts.{is_revision_record, HasPropertyBlock}
+use Rattle.dump_history.specs.Findings.{IsUnreadRevision, HasUnreadRevision}
+
+-- before the first record there is none
+pub none_unread : IsTrue false ↔ HasUnreadRevision []
+none_unread = (λ bad. let worse : false ≡ true = bad in cc, λ (r, (i, within, is), unread). absurd (omega arith))
+
+-- one of these records is, or the one behind them
+pub unread_more : (before : List DumpRecord) (r : DumpRecord) (unread still : Bool)
+    → IsTrue unread ↔ HasUnreadRevision before → IsTrue still ↔ (IsTrue unread ⊎ IsUnreadRevision r)
+    → IsTrue still ↔ HasUnreadRevision (before ++ r ∷ [])
+unread_more before r unread still told either = (
+  λ so. elim (either.0 so) [
+    | inl earlier ↦ (let (s, there, is) = told.0 earlier in (s, Contains-append_left before (r ∷ []) s there, is))
+    | inr now ↦ (r, Contains-push before r, now)
+  ],
+  λ (s, there, is). elim (Contains-push_cases before r s there) [
+    | inl earlier ↦ either.1 (inl (told.1 (s, earlier, is)))
+    | inr same ↦ either.1 (inr (subst IsUnreadRevision (sym same) is))
+  ],
+)
+
+-- where one came before, the next record isn't asked
+pub still_unread : (r : DumpRecord) (unread still : Bool) → still ≡ unread → unread ≡ true
+    → IsTrue still ↔ (IsTrue unread ⊎ IsUnreadRevision r)
+still_unread r unread still same so = (λ e. inl so, λ e. same ∙ so)
+
+-- where none did it alone is asked
+pub now_unread : (r : DumpRecord) (unread still now : Bool) → still ≡ now → unread ≡ false
+    → IsTrue now ↔ IsUnreadRevision r → IsTrue still ↔ (IsTrue unread ⊎ IsUnreadRevision r)
+now_unread r unread still now same none told = (
+  λ so. inr (told.0 (sym same ∙ so)),
+  λ either. elim either [
+    | inl so ↦ (let bad : false ≡ true = sym none ∙ so in cc)
+    | inr is ↦ same ∙ told.1 is
+  ],
+)
