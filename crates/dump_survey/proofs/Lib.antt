@@ -1,5 +1,6 @@
 pub mod CutLemmas
 mod CutValues
+pub mod DigestLemmas
 pub mod FolderLemmas
 pub mod GivenLemmas
 pub mod GrowthLemmas

@@ -14,10 +14,14 @@ use Rattle.dump_history.specs.Findings.{Finding, DumpFinding, AreDumpFindingsOf,
 use Rattle.dump_history.specs.SurveyLaws.{none_is, DumpRestricts}
 use Rattle.dump_history.proofs.survey.SurveyLemmas.{surveyed_dump}
 use Rattle.dump_survey.specs.DumpTold.{DumpTold, place_in, AreDumpTold}
-use Rattle.dump_survey.specs.Lines.{node_line, at_words, dump_words, dump_line, place_text}
+use Rattle.dump_survey.specs.Lines.{node_line, at_words, dump_words, dump_line, ending_line, place_text}
+use Rattle.dump_survey.specs.PrefixFindings.{told_prefixes}
+use Rattle.dump_survey.specs.PrefixLines.{prefix_lines}
 use Rattle.dump_survey.specs.Told.{NodeTold, told_view, AreTold}
 use Rattle.dump_survey.specs.SurveyEnds.{survey_ending}
-use Rattle.dump_survey.specs.SurveyTies.{all_findings, none_told, SilentSurveyRestricts, SilentTextRestricts}
+use Rattle.dump_survey.specs.SurveyTies.{all_findings, none_told, SilentSurveyRestricts, SilentTextRestricts, SilentTextLeavesDigests}
+use Rattle.dump_survey.specs.SurveyText.{IsSurveyText}
+use Rattle.dump_survey.proofs.DigestLemmas.{digests_alone}
 use Rattle.dump_survey.proofs.PlaceLemmas.{nothing_found}
 use Rattle.dump_survey.proofs.TieLemmas.{told_are_findings}
 
@@ -103,23 +107,57 @@ some_words DumpFinding.SourceBefore none = cc
 some_words DumpFinding.NodeOutside none = cc
 some_words DumpFinding.NumbersLeft none = cc
 
+-- and so has what ends the list of records
+no_ending : (count : ℕ) (ending : Ending) → ending_line count ending ≡ [] → ending ≡ Ending.Whole
+unfolding ending_line place_text
+no_ending count Ending.Whole none = refl
+no_ending count (Ending.Broken kind place) none = cc
+
 no_dump_lines : (told : List DumpTold) → flat_map dump_line told ≡ [] → told ≡ []
 no_dump_lines [] none = refl
 no_dump_lines (t ∷ told) none = absurd (some_words t.finding
     (both_none (at_words t.at) (dump_words t.finding)
     (both_none (at_words t.at ++ dump_words t.finding) (flat_map dump_line told) none).0).1)
 
--- where no line is written nothing is told, and so nothing that matters
+-- where no line is written nothing is told
+module _ (settings : Settings) (dump said : List ℕ) (is : IsSurveyText settings dump said false) where
+  each_part : (flat_map node_line is.told ≡ []) × (flat_map dump_line is.of_dump ≡ [])
+      × (ending_line (length is.records) is.ending ≡ [])
+  each_part =
+      let nothing = sym is.text_is ∙ no_bytes said is.found_is in
+      let parts = both_none (flat_map node_line is.told) _ nothing in
+      let behind = both_none (flat_map dump_line is.of_dump) _ parts.1 in
+      let prefixes = both_none (prefix_lines (told_prefixes is.records settings.prefixes)) _ behind.1 in
+      (parts.0, behind.0, (both_none (ending_line (length is.records) is.ending) _ prefixes.1).0)
+
+  none_told_of_nodes : is.told ≡ []
+  none_told_of_nodes = no_lines is.told each_part.0
+
+  none_found_in_dump : AreDumpFindingsOf settings is.records []
+  none_found_in_dump = nothing_found settings is.records
+      (subst (AreDumpTold settings is.records) (no_dump_lines is.of_dump each_part.1) is.are_of_dump)
+
+  whole : is.ending ≡ Ending.Whole
+  whole = no_ending (length is.records) is.ending each_part.2
+
+-- so nothing that matters
 pub silent_text_restricts : SilentTextRestricts
 silent_text_restricts patched settings dump text said records clean fit is =
-    let nothing = sym is.text_is ∙ no_bytes said is.found_is in
-    let parts = both_none (flat_map node_line is.told) _ nothing in
-    let told = no_lines is.told parts.0 in
-    let found = nothing_found settings is.records (subst (AreDumpTold settings is.records)
-    (no_dump_lines is.of_dump (both_none (flat_map dump_line is.of_dump) _ parts.1).0) is.are_of_dump) in
-    silent patched settings dump text records clean fit is.records is.ending is.told is.has is.are_told found
+    let told = none_told_of_nodes settings dump said is in
+    silent patched settings dump text records clean fit is.records is.ending is.told is.has is.are_told
+    (none_found_in_dump settings dump said is)
     (none is.told told is_obstacle) (none is.told told is_alarm)
   where
     none : (told : List NodeTold) → told ≡ [] → (test : Finding → Bool) → IsTrue (none_told test told)
     none [] same test = refl
     none (t ∷ told) same test = cc
+
+-- and the filter stops for a digest alone
+pub silent_text_leaves_digests : SilentTextLeavesDigests
+silent_text_leaves_digests settings dump said is = (
+  is.records,
+  subst (HasRecords dump is.records) (whole settings dump said is) is.has,
+  λ before after r kind are holds. digests_alone settings is.records before after r kind
+      (none_found_in_dump settings dump said is)
+      (subst (AreTold settings [] None is.records) (none_told_of_nodes settings dump said is) is.are_told) are holds,
+)

@@ -1,10 +1,13 @@
 -- What a survey tells is what is found in the dump's nodes, group by group; and what follows where it tells nothing.
-use Rattle.std.specs.Prelude.{◌≡◌, ℕ, Bool, true, false, not, List, [], map, flat_map, None, is_some, IsTrue}
+use Rattle.std.specs.Prelude.{◌≡◌, ℕ, Bool, true, false, not, List, [], ◌∷◌, ◌++◌, map, flat_map, None, is_some, IsTrue}
 use Rattle.std.specs.List.{list_any}
+use Rattle.dump_text.specs.declared.fault.FaultKind.{FaultKind}
+use Rattle.dump_text.specs.declared.fault.FaultKind.TheVariants.{Md5, Sha1}
 use Rattle.dump_records.specs.RecordText.{DumpRecord}
 use Rattle.dump_records.specs.DumpText.{Ending, HasRecords}
 use Rattle.dump_rules.specs.Settings.{Settings}
 use Rattle.dump_filter.specs.FilterLaws.{LengthsFit}
+use Rattle.dump_filter.specs.RecordFaults.{HoldsOfRecord}
 use Rattle.dump_filter.specs.WholeText.{IsCleanText}
 use Rattle.dump_history.specs.RecordChanges.{Patching}
 use Rattle.dump_history.specs.Findings.{Finding, is_obstacle, is_alarm}
@@ -63,3 +66,17 @@ abbrev pub SilentTextRestricts : Type 0
 SilentTextRestricts = (patched : Patching) (settings : Settings) (dump text said : List ℕ) (records : List DumpRecord) →
     IsCleanText settings dump records text → LengthsFit settings records → IsSurveyText settings dump said false
     → DumpRestricts patched settings records text
+
+-- whether the fault is that of a digest
+abbrev pub is_digest_fault : FaultKind → Bool
+is_digest_fault Md5 = true
+is_digest_fault Sha1 = true
+is_digest_fault _ = false
+
+-- where the text of a survey says that nothing is found, the dump is records to its end, of which none has a fault but
+-- that of a digest
+abbrev pub SilentTextLeavesDigests : Type 0
+SilentTextLeavesDigests = (settings : Settings) (dump said : List ℕ) → IsSurveyText settings dump said false →
+    (records : List DumpRecord) × HasRecords dump records Ending.Whole
+    × ((before after : List DumpRecord) (r : DumpRecord) (kind : FaultKind) → records ≡ before ++ r ∷ after
+    → HoldsOfRecord settings before r kind → IsTrue (is_digest_fault kind))

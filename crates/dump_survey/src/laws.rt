@@ -1,5 +1,5 @@
 //! Laws of surveys, each the contract of a function that does nothing.
-ghost use Rattle.dump_survey.specs.SurveyTies.{EachCutNamesPrefix, SilentSurveyRestricts, SilentTextRestricts, ToldAreFindings, ToldOnce};
+ghost use Rattle.dump_survey.specs.SurveyTies.{EachCutNamesPrefix, SilentSurveyRestricts, SilentTextLeavesDigests, SilentTextRestricts, ToldAreFindings, ToldOnce};
 
 /// What is told of a dump's nodes is one list, and it is what is found in them, in order. With a copy that is cut
 /// otherwise than its source it tells a prefix that cuts.
@@ -14,4 +14,10 @@ pub fn each_told_is_found()
 pub fn each_silent_survey_restricts()
     ensures survey { SilentSurveyRestricts }
     ensures text { SilentTextRestricts }
+{}
+
+/// Where the text of a survey says that nothing is found, the filter stops for the digest of a text alone, if it stops at
+/// a record: the dump is records to its end, and none of them has another fault.
+pub fn each_silent_survey_leaves_digests()
+    ensures { SilentTextLeavesDigests }
 {}

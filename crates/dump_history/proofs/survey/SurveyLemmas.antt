@@ -16,7 +16,7 @@ use Rattle.dump_history.specs.RecordChanges.{Patching, MakesChange}
 use Rattle.dump_history.specs.DumpChanges.{counts_from, has_ordered_nodes, MakeChanges, MakeRevisions}
 use Rattle.dump_history.specs.NumberGaps.{NamesRevisionBehind, KeepsNamedNumbers}
 use Rattle.dump_history.specs.PartLaws.{MakePartRevisions}
-use Rattle.dump_history.specs.Findings.{Finding, begins_at, has_source_before, AreFindingsOf, is_obstacle, is_alarm, every_dump_finding, rise, first_has_node, is_found_in_dump, AreDumpFindingsOf}
+use Rattle.dump_history.specs.Findings.{Finding, begins_at, has_source_before, AreFindingsOf, is_obstacle, is_alarm, every_dump_finding, rise, first_has_node, is_found_in_dump, HasUnreadRevision, AreDumpFindingsOf}
 use Rattle.dump_history.specs.SurveyLaws.{AreFindingsBehind, HaveFindingsBehind, none_is, RestrictsFrom, SurveyedDumpRestricts, SurveyedDumpFrontRestricts}
 use Rattle.dump_history.proofs.survey.FindingLemmas.{obstacles_exact, alarms_exact}
 use Rattle.dump_history.proofs.survey.PartLemmas.{groups_lowered, lowered_quiet}
@@ -202,6 +202,17 @@ module _ (settings : Settings) (records : List DumpRecord) (nothing : AreDumpFin
       (first_false (not (counts_from (begins_at records) (revision_numbers records))) _
       (second_false (length (groups records) == 0) _ each_none))
 
+  pub numbers_rise : rise (revision_numbers records) ≡ true
+  numbers_rise = denied (rise (revision_numbers records))
+      (first_false (not (rise (revision_numbers records))) _
+      (second_false (not (counts_from (begins_at records) (revision_numbers records))) _
+      (second_false (length (groups records) == 0) _ each_none)))
+
+  pub all_read : ¬ HasUnreadRevision records
+  all_read some = both_ways nothing.2 (first_false nothing.2 _ (second_false (not (rise (revision_numbers records))) _
+      (second_false (not (counts_from (begins_at records) (revision_numbers records))) _
+      (second_false (length (groups records) == 0) _ each_none)))) (nothing.3.1 some)
+
   behind_numbers : ((begins_at records == 0 && first_has_node (groups records))
       || (has_source_before (begins_at records) (groups records) || (not (has_ordered_nodes false records)
       || ((not settings.renumber && nothing.0) || false)))) ≡ false
@@ -219,6 +230,10 @@ module _ (settings : Settings) (records : List DumpRecord) (nothing : AreDumpFin
 
   no_source_before : has_source_before (begins_at records) (groups records) ≡ false
   no_source_before = first_false (has_source_before (begins_at records) (groups records)) _ behind_first
+
+  pub nodes_stand : has_ordered_nodes false records ≡ true
+  nodes_stand = denied (has_ordered_nodes false records) (first_false (not (has_ordered_nodes false records)) _
+      (second_false (has_source_before (begins_at records) (groups records)) _ behind_first))
 
   none_left : (not settings.renumber && nothing.0) ≡ false
   none_left = first_false (not settings.renumber && nothing.0) false
