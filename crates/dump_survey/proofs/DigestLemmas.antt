@@ -1,5 +1,5 @@
 -- Where a survey tells nothing, a record has no fault but that of a digest.
-use Rattle.std.proofs.Common.{◌≡◌, ◌⊎◌, ℕ, ◌<◌, ◌≤◌, Bool, true, false, not, ◌&&◌, ◌||◌, List, [], ◌∷◌, ◌++◌, length, map, filter, cond, Option, Some, None, is_some, is_none, if◌then◌else◌, MatchBool, Contains, IsTrue, refl, sym, ap, ◌∙◌, subst, inl, inr, arith, append-nil, append_assoc}
+use Rattle.std.proofs.Common.{◌≡◌, ℕ, ◌<◌, Bool, true, false, not, ◌&&◌, ◌||◌, List, [], ◌∷◌, ◌++◌, length, map, filter, cond, Option, Some, None, is_some, is_none, if◌then◌else◌, MatchBool, Contains, refl, sym, ap, ◌∙◌, subst, inl, inr, arith, append-nil, append_assoc}
 use Rattle.std.specs.Prelude.{nat_lt}
 use Rattle.std.specs.List.{list_any, last_or}
 use Rattle.std.proofs.lemmas.Bool.{both_ways, and_parts, or_cases}
@@ -9,11 +9,10 @@ use Rattle.dump_text.specs.declared.fault.FaultKind.TheVariants as faults
 use Rattle.dump_text.specs.PropertyList.{Property}
 use Rattle.dump_text.proofs.BoolLemmas.{first_true, second_true}
 use Rattle.dump_records.specs.RecordText.{DumpRecord}
-use Rattle.dump_records.specs.DumpText.{Ending, HasRecords}
 use Rattle.dump_rules.specs.Settings.{Settings}
 use Rattle.dump_rules.proofs.faults.FaultLemmas.{finds}
 use Rattle.dump_digest.specs.RecordParts.{is_revision_record, is_node, is_kept_node, has_lost_source, HasPropertyBlock}
-use Rattle.dump_filter.specs.Groups.{group_of, groups, group_number, revision_number, revision_numbers, present_revision}
+use Rattle.dump_filter.specs.Groups.{group_of, groups, group_number, revision_number, revision_numbers}
 use Rattle.dump_filter.specs.NewHeaders.{is_whole_file, stays_copy}
 use Rattle.dump_filter.specs.RecordFaults.{ends_in_group, HoldsOfRecord}
 use Rattle.dump_history.specs.DumpChanges.{has_ordered_nodes}
@@ -165,9 +164,11 @@ module _ (settings : Settings) (before : List DumpRecord) (r : DumpRecord) (none
   node_digests faults.CopySource h order =
       let lost = first_true (is_kept_node settings r && has_lost_source settings r) (not (is_whole_file r)) h in
       absurd (absent Finding.NoWholeFile (4, omega arith, refl)
-      (rw (second_true (is_node r) (has_kept_path settings r) (first_true (is_kept_node settings r) (has_lost_source settings r) lost),
-      second_true (is_kept_node settings r) (has_lost_source settings r) lost,
-      second_true (is_kept_node settings r && has_lost_source settings r) (not (is_whole_file r)) h) refl))
+      (rw (
+        second_true (is_node r) (has_kept_path settings r) (first_true (is_kept_node settings r) (has_lost_source settings r) lost),
+        second_true (is_kept_node settings r) (has_lost_source settings r) lost,
+        second_true (is_kept_node settings r && has_lost_source settings r) (not (is_whole_file r)) h,
+      ) refl))
   node_digests faults.CopyRevision h order =
       absurd (absent Finding.MissingCopyRevision (5, omega arith, refl) (none.3.copy_revision.1 h))
   node_digests faults.MergeInfo h order =
@@ -239,9 +240,12 @@ digests_alone settings records before after r kind nothing told are holds = by (
         omega (arith, low, above)
 
     read : IsUnreadRevision r → ⊥
-    read unread = all_read settings records nothing
-        (r, subst (λ rs. Contains rs r) (sym are)
-        (Contains-append_right before (r ∷ after) r (0, omega arith, refl)), unread)
+    read unread = all_read settings records nothing (
+      r,
+      subst (λ rs. Contains rs r) (sym are)
+          (Contains-append_right before (r ∷ after) r (0, omega arith, refl)),
+      unread,
+    )
 
     by : (b : Bool) → is_node r ≡ b → is_digest_fault kind ≡ true
     by true node = node_digests settings before r

@@ -1,5 +1,5 @@
 -- The records with which the findings of a dump as a whole come up.
-use Rattle.std.proofs.Common.{◌≡◌, ◌⊎◌, ◌↔◌, ℕ, ◌==◌, Bool, true, false, not, ◌&&◌, ◌||◌, List, [], ◌∷◌, ◌++◌, length, get_or, map, filter, cond, Contains, Option, Some, None, MatchBool, IsTrue, refl, sym, ap, ◌∙◌, subst, inl, inr, append-nil, append_assoc, arith}
+use Rattle.std.proofs.Common.{◌≡◌, ◌⊎◌, ℕ, ◌==◌, Bool, true, false, not, ◌&&◌, ◌||◌, List, [], ◌∷◌, ◌++◌, length, get_or, map, filter, cond, Contains, Option, Some, None, MatchBool, refl, sym, ap, ◌∙◌, subst, inl, inr, append-nil, append_assoc, arith}
 use Rattle.std.specs.List.{AllZip, list_any}
 use Rattle.std.proofs.lemmas.Bool.{eqb-true}
 use Rattle.dump_records.specs.RecordText.{DumpRecord}
@@ -311,9 +311,12 @@ places_next settings before r old new flags here are found_are here_is next f up
 pub told_where_ended : (settings : Settings) (records : List DumpRecord) (end : SurveyEnd)
     → AreDumpFindingsOf settings records (listed_findings end.dump) → ArePlaces settings records end.places
     → AreDumpTold settings records (told_at_end end)
-told_where_ended settings records end are places =
-    (listed_findings end.dump, are, those (listed_findings end.dump)
-    (λ f there. (listed_findings end.dump, are, there)))
+told_where_ended settings records end are places = (
+  listed_findings end.dump,
+  are,
+  those (listed_findings end.dump)
+      (λ f there. (listed_findings end.dump, are, there)),
+)
   where
     one : (f : DumpFinding) → IsDumpFinding settings records f → (b : Bool) → comes_up f ≡ b
         → MatchBool b ((p : Place) × (place_in end.places f ≡ Some p) × ComesUpAt settings records f p)

@@ -192,9 +192,7 @@ impl<'o, 'a> Surveyor<'o, 'a> {
         self.numbers_left = self.numbers_left || leaves_number(&item, self.options, &before);
         self.unread_revision = self.unread_revision || is_unread_revision(&item);
         self.tally = before.with(&item, self.options);
-        let found = self
-            .tally
-            .findings(self.numbers_left, self.unread_revision);
+        let found = self.tally.findings(self.numbers_left, self.unread_revision);
         self.places = self.places.with(&found, place_of(&item));
         step_of(alloc, item, self.options, &self.prefixes, &before)
     }
