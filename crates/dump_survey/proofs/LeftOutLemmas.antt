@@ -1,6 +1,6 @@
 -- How many lines of mergeinfo are left out, of a value, of properties and of records, and that there is one such number.
-use Rattle.std.proofs.Common.{◌≡◌, ◌≢◌, ◌⊎◌, ◌↔◌, ℕ, ◌+◌, ◌-◌, ◌<◌, ◌≤◌, Bool, true, false, not, ◌==◌, List, [], ◌∷◌, ◌++◌, length, length-append, map, take, drop, filter, get_or, bytes_eq, codes, sum, sum_by, count_by, cond, Option, Some, None, IsSome, is_some, unwrap_or, MatchBool, refl, sym, ap, ap₂, ◌∙◌, subst, arith, inl, inr, zero-add}
-use Rattle.std.specs.List.{AllZip, suffix_len, slice_split}
+use Rattle.std.proofs.Common.{◌≡◌, ◌≢◌, ◌↔◌, ℕ, ◌+◌, ◌-◌, ◌<◌, ◌≤◌, Bool, true, false, not, ◌==◌, List, [], ◌∷◌, ◌++◌, length, length-append, map, take, drop, filter, get_or, bytes_eq, codes, sum, sum_by, count_by, cond, Option, Some, None, IsSome, is_some, unwrap_or, MatchBool, refl, sym, ap, ap₂, ◌∙◌, subst, arith, inl, inr, zero-add}
+use Rattle.std.specs.List.{AllZip, slice_split}
 use Rattle.std.proofs.lemmas.Bool.Decides.{eqb_tells}
 use Rattle.std.proofs.lemmas.List.{length-take}
 use Rattle.std.proofs.lemmas.List.Splits.{length-slice_split}
@@ -23,10 +23,8 @@ use Rattle.dump_rules.specs.steps.ReadMergeinfo.{colon_end, value_reads, without
 use Rattle.dump_rules.specs.steps.NewLines.{line_path, line_misses, text_lines}
 use Rattle.dump_rules.proofs.reading.MergeinfoLemmas.{reads_exactly}
 use Rattle.dump_rules.proofs.new_values.ValueLemmas.{line_parts, texts_are}
-use Rattle.dump_digest.specs.RecordParts.{is_kept_node, is_mergeinfo, value_of, HasPropertyBlock, HasPropertyList}
-use Rattle.dump_digest.proofs.PropertyBlocks.{property_list_once, block_or_not}
-use Rattle.dump_history.specs.Findings.{IsReadBlock}
-use Rattle.dump_survey.specs.LeftOutMergeinfo.{IsReadValue, leaving_lines, AreLeftOutOfValue, AddUpTo, mergeinfo_values, AreLeftOutOfProperties, AreLeftOutOf, AreLeftOutOfRecords}
+use Rattle.dump_digest.specs.RecordParts.{is_kept_node, is_mergeinfo, value_of, HasPropertyBlock}
+use Rattle.dump_survey.specs.LeftOutMergeinfo.{leaving_lines, AreLeftOutOfValue, AddUpTo, mergeinfo_values, AreLeftOutOfProperties, AreLeftOutOf, AreLeftOutOfRecords}
 use Rattle.dump_survey.specs.steps.LeftOutCounts.{text_lines_count, value_count, property_count, properties_count}
 use Rattle.dump_survey.proofs.SurveyorLemmas.{begins_next, begins_with_none, nearer_by_one}
 

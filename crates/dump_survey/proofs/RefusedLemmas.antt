@@ -1,5 +1,5 @@
 -- What is refused of a kept node: of its copy's revision, and of the mergeinfo among its properties, one by one.
-use Rattle.std.proofs.Common.{◌≡◌, ℕ, Bool, true, false, not, ◌&&◌, ◌||◌, List, [], ◌∷◌, ◌++◌, Bor, Option, Some, None, refl, sym, ap, ap₂, ◌∙◌, subst}
+use Rattle.std.proofs.Common.{◌≡◌, ℕ, Bool, true, false, not, ◌&&◌, ◌||◌, List, [], ◌∷◌, ◌++◌, Option, Some, None, refl, sym, ap, ap₂, ◌∙◌, subst}
 use Rattle.std.specs.Prelude.{nat_lt}
 use Rattle.std.proofs.Math.Bool.{or-false, or_assoc}
 use Rattle.std.specs.List.{list_any}
@@ -25,7 +25,7 @@ use Rattle.dump_history.specs.steps.NodeReading.{is_unread_value, names_missing_
 use Rattle.dump_history.proofs.survey.FindingLemmas.{faults_of_kept, faults_of_unread}
 use Rattle.dump_survey.specs.declared.revision_numbers.Numbers.{Numbers}
 use Rattle.dump_survey.specs.steps.Found.{AreFaultsBy}
-use Rattle.dump_survey.specs.steps.RevisionNumbers.{reaches, is_missing, misses_revision, AreNumbersBehind}
+use Rattle.dump_survey.specs.steps.RevisionNumbers.{is_missing, misses_revision, AreNumbersBehind}
 
 abbrev made : Bool → Bool → Bool → Bool → NodeFaults
 made copy unread missing outside =

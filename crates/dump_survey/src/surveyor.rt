@@ -143,7 +143,12 @@ impl<'o, 'a> Surveyor<'o, 'a> {
         let item = match self.cutter.next() {
             Cut::Item(item) => item,
             Cut::Finished => {
-                let end = finished(&self.tally, self.numbers_left, self.unread_revision, End::Whole);
+                let end = finished(
+                    &self.tally,
+                    self.numbers_left,
+                    self.unread_revision,
+                    End::Whole,
+                );
                 return Ok(Step::Finished(end));
             }
             Cut::Fault { kind, place } => {

@@ -1,4 +1,4 @@
-use Rattle.std.proofs.Common.{◌≡◌, ◌+◌, ◌∙◌, List, [], length, ap, arith, inr, refl, sym, length-append, zero-add, add-zero}
+use Rattle.std.proofs.Common.{◌≡◌, ◌+◌, ◌∙◌, List, [], length, ap, arith, inr, sym, length-append, zero-add, add-zero}
 use Rattle.dump_text.specs.PropertyList.{Property}
 use Rattle.dump_text.specs.steps.PropertyViews.{entry_property, entries_text}
 use Rattle.dump_text.proofs.PropertyLemmas.{entry_parts, left_of, property_block_once}

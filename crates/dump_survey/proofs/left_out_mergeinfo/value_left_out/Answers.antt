@@ -1,5 +1,4 @@
-use Rattle.std.proofs.Common.{◌∙◌, ap, sym, cond}
-use Rattle.dump_rules.specs.steps.ReadMergeinfo.{without_lf}
+use Rattle.std.proofs.Common.{◌∙◌, ap, sym}
 use Rattle.dump_digest.proofs.MergeLemmas.{read_is}
 use Rattle.dump_survey.specs.steps.LeftOutCounts.{text_lines_count}
 use Rattle.dump_survey.proofs.LeftOutLemmas.{unread_count, read_count}
