@@ -18,6 +18,7 @@ use Rattle.dump_filter.specs.RecordFaults.{ends_in_group, HoldsOfRecord}
 use Rattle.dump_history.specs.DumpChanges.{has_ordered_nodes}
 use Rattle.dump_history.specs.NumberGaps.{go_up}
 use Rattle.dump_history.specs.Findings.{Finding, every_finding, NodeFaults, is_found, has_kept_path, IsReadBlock, AreFindingsOf, rise, IsUnreadRevision, AreDumpFindingsOf}
+use Rattle.dump_history.proofs.survey.FindingLemmas.{none_passes}
 use Rattle.dump_history.proofs.survey.SurveyLemmas.{numbers_rise, all_read, nodes_stand}
 use Rattle.dump_survey.specs.Told.{NodeTold, told_in, present_after, IsToldOfNode, IsToldOf, AreTold}
 use Rattle.dump_survey.specs.steps.Steps.{open_behind}
@@ -130,15 +131,6 @@ none_of_node settings before (Some revision) r some node told =
     none [] is = refl
     none (f ∷ fs) is = cc
 
-none_passes : {X : Type 0} (p : X → Bool) (xs : List X) → [] ≡ filter p xs → list_any p xs ≡ false
-none_passes p [] none = refl
-none_passes p (x ∷ xs) none = by (none_passes p xs) (p x) none
-  where
-    by : ([] ≡ filter p xs → list_any p xs ≡ false) → (b : Bool) → [] ≡ cond b (x ∷ filter p xs) (filter p xs)
-        → (b || list_any p xs) ≡ false
-    by rest true bad = cc
-    by rest false fine = rest fine
-
 module _ (settings : Settings) (before : List DumpRecord) (r : DumpRecord) (none : AreFindingsOf settings before r []) where
   abbrev block : Option (List Property)
   block = none.0
@@ -147,7 +139,7 @@ module _ (settings : Settings) (before : List DumpRecord) (r : DumpRecord) (none
   those = none.1
 
   absent : (f : Finding) → Contains every_finding f → is_found settings r block those f ≡ true → ⊥
-  absent f there so = both_ways _ (none_passes (λ g. is_found settings r block those g) every_finding none.4)
+  absent f there so = both_ways _ (none_passes (λ g. is_found settings r block those g) every_finding (sym none.4))
       (finds (λ g. is_found settings r block those g) every_finding f there so)
 
   read_there : (o : Option (List Property)) → IsReadBlock r o → (is_none o ≡ true → ⊥) → HasPropertyBlock r

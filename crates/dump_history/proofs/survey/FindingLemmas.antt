@@ -88,24 +88,25 @@ none_last : (xs : List ℕ) → last_or None xs ≡ None → xs ≡ []
 none_last [] none = refl
 none_last (x ∷ xs) none = absurd (last_some x xs none)
 
+-- where no element is left by a test, none passes it
+pub none_passes : {X : Type 0} (p : X → Bool) (xs : List X) → filter p xs ≡ [] → list_any p xs ≡ false
+none_passes p [] none = refl
+none_passes p (x ∷ xs) none = by (none_passes p xs) (p x) none
+  where
+    by : (filter p xs ≡ [] → list_any p xs ≡ false) → (b : Bool) → cond b (x ∷ filter p xs) (filter p xs) ≡ []
+        → (b || list_any p xs) ≡ false
+    by rest true bad = absurd (let worse : x ∷ filter p xs ≡ [] = bad in cc)
+    by rest false fine = rest fine
+
 -- there is no image where no kept number is at most the number
 none_up_to : (kept : KeptRevisions) (number : ℕ) → image kept number ≡ None
     → has_up_to number kept.numbers ≡ false
-none_up_to kept number none = nothing_passes (λ k. nat_le k number) kept.numbers
+none_up_to kept number none = none_passes (λ k. nat_le k number) kept.numbers
     (none_last (filter (λ k. nat_le k number) kept.numbers) (no_last (last_kept kept number) none))
   where
     no_last : (last : Option ℕ) → option_map (new_number kept) last ≡ None → last ≡ None
     no_last None none = refl
     no_last (Some n) bad = cc
-
-    nothing_passes : (p : ℕ → Bool) (xs : List ℕ) → filter p xs ≡ [] → list_any p xs ≡ false
-    nothing_passes p [] none = refl
-    nothing_passes p (x ∷ xs) none = by (nothing_passes p xs) (p x) none
-      where
-        by : (filter p xs ≡ [] → list_any p xs ≡ false) → (b : Bool) → cond b (x ∷ filter p xs) (filter p xs) ≡ []
-            → (b || list_any p xs) ≡ false
-        by rest true bad = cc
-        by rest false fine = rest fine
 
 no_image : (kept : KeptRevisions) (number : ℕ) → has_up_to number kept.numbers ≡ false → image kept number ≡ None
 no_image kept number none =

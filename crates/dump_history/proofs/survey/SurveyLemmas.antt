@@ -1,5 +1,5 @@
 -- Where a survey finds nothing, the law of filtered dumps has its premise.
-use Rattle.std.proofs.Common.{◌≡◌, ℕ, zero, suc, Bool, true, false, not, ◌&&◌, ◌||◌, ◌==◌, List, [], ◌∷◌, ◌++◌, length, filter, take_while, cond, if◌then◌else◌, MatchBool, Option, Some, None, refl, sym, ap, ◌∙◌, subst, inl, append_assoc}
+use Rattle.std.proofs.Common.{◌≡◌, ℕ, zero, suc, Bool, true, false, not, ◌&&◌, ◌||◌, ◌==◌, List, [], ◌∷◌, ◌++◌, length, take_while, if◌then◌else◌, MatchBool, Option, Some, None, refl, sym, ap, ◌∙◌, subst, inl, append_assoc}
 use Rattle.std.specs.List.{AllZip, list_all, list_any, last_or}
 use Rattle.std.proofs.lemmas.Bool.{eqb-true, both_ways}
 use Rattle.std.proofs.lemmas.List.{nil_from_length}
@@ -18,7 +18,7 @@ use Rattle.dump_history.specs.NumberGaps.{NamesRevisionBehind, KeepsNamedNumbers
 use Rattle.dump_history.specs.PartLaws.{MakePartRevisions}
 use Rattle.dump_history.specs.Findings.{Finding, begins_at, has_source_before, AreFindingsOf, is_obstacle, is_alarm, every_dump_finding, rise, first_has_node, is_found_in_dump, HasUnreadRevision, AreDumpFindingsOf}
 use Rattle.dump_history.specs.SurveyLaws.{AreFindingsBehind, HaveFindingsBehind, none_is, RestrictsFrom, SurveyedDumpRestricts, SurveyedDumpFrontRestricts}
-use Rattle.dump_history.proofs.survey.FindingLemmas.{obstacles_exact, alarms_exact}
+use Rattle.dump_history.proofs.survey.FindingLemmas.{none_passes, obstacles_exact, alarms_exact}
 use Rattle.dump_history.proofs.survey.PartLemmas.{groups_lowered, lowered_quiet}
 use Rattle.dump_history.proofs.restricted.FilteredLaw.{quiet_dump_restricts, quiet_front_restricts}
 use Rattle.dump_history.proofs.restricted.PartLaw.{quiet_part_restricts}
@@ -143,16 +143,6 @@ module _ (patched : Patching) (settings : Settings) where
       )
 
 -- what is found in the dump
-
--- where no element passes, none does
-none_passes : {X : Type 0} (p : X → Bool) (xs : List X) → filter p xs ≡ [] → list_any p xs ≡ false
-none_passes p [] none = refl
-none_passes p (x ∷ xs) none = cases (none_passes p xs) (p x) none
-  where
-    cases : (filter p xs ≡ [] → list_any p xs ≡ false) → (b : Bool) → cond b (x ∷ filter p xs) (filter p xs) ≡ []
-        → (b || list_any p xs) ≡ false
-    cases rest true bad = absurd (let worse : x ∷ filter p xs ≡ [] = bad in cc)
-    cases rest false fine = rest fine
 
 -- the last element of a list with one more
 last_pushed : {A : Type 0} (o : Option A) (xs : List A) (x : A) → last_or o (xs ++ x ∷ []) ≡ Some x
