@@ -1,5 +1,5 @@
 -- The records with which the findings of a dump as a whole come up.
-use Rattle.std.proofs.Common.{◌≡◌, ◌⊎◌, ℕ, ◌==◌, Bool, true, false, not, ◌&&◌, ◌||◌, List, [], ◌∷◌, ◌++◌, length, get_or, map, filter, cond, Contains, Option, Some, None, MatchBool, refl, sym, ap, ◌∙◌, subst, inl, inr, append-nil, append_assoc, arith}
+use Rattle.std.proofs.Common.{◌≡◌, ◌⊎◌, ℕ, ◌==◌, Bool, true, false, not, ◌&&◌, ◌||◌, List, [], ◌∷◌, ◌++◌, length, get_or, map, filter, cond, Contains, Option, Some, None, MatchBool, refl, sym, ap, ap₂, ◌∙◌, subst, inl, inr, append-nil, append_assoc, arith}
 use Rattle.std.specs.List.{AllZip, list_any}
 use Rattle.std.proofs.lemmas.Bool.{eqb-true}
 use Rattle.dump_records.specs.RecordText.{DumpRecord}
@@ -12,8 +12,8 @@ use Rattle.dump_survey.specs.declared.places.Place.{Place}
 use Rattle.dump_survey.specs.declared.surveyor.SurveyEnd.{SurveyEnd}
 use Rattle.dump_survey.specs.declared.tally.DumpFindings.{DumpFindings}
 use Rattle.dump_survey.specs.DumpFindings.{has_dump_finding, listed_findings}
-use Rattle.dump_survey.specs.DumpTold.{DumpTold, place_in, told_at_end, IsDumpFinding, comes_up, ComesUpAt, IsDumpTold, AreDumpTold}
-use Rattle.dump_survey.specs.steps.Places.{no_places, first_place, AreNextPlaces, CameUp, ArePlaces}
+use Rattle.dump_survey.specs.DumpTold.{DumpTold, place_in, told_at_end, IsDumpFinding, comes_up, IsNeverFound, ComesUpAt, CameUp, ArePlaces, IsDumpTold, AreDumpTold}
+use Rattle.dump_survey.specs.steps.Places.{no_places, first_place, AreNextPlaces}
 
 -- the place of a finding among all of them
 abbrev place_among : DumpFinding → ℕ
@@ -122,17 +122,46 @@ none_of_none settings f up (fs, (named, told, unread, unread_told, same), there)
     by false none false unnamed true is = one_alone f (subst (λ l. Contains l f) is there) up
     by false none false unnamed false is = one_alone f (subst (λ l. Contains l f) is there) up
 
+never_at_first : (settings : Settings) (f : DumpFinding) → comes_up f ≡ true → IsNeverFound settings [] f
+never_at_first settings f up [] rest is = none_of_none settings f up
+never_at_first settings f up (r ∷ front) rest is = absurd (let bad : [] ≡ r ∷ front ++ rest = is in cc)
+
+-- the first ones of some records and one more are first ones of those, or all
+splits : (rs : List DumpRecord) (r : DumpRecord) (front rest : List DumpRecord) → rs ++ r ∷ [] ≡ front ++ rest
+    → ((more : List DumpRecord) × (rs ≡ front ++ more)) ⊎ (front ≡ rs ++ r ∷ [])
+splits rs r [] rest is = inl (rs, refl)
+splits [] r (x ∷ []) rest is = inr (let same : r ≡ x = cc in ap (λ y. y ∷ []) (sym same))
+splits [] r (x ∷ y ∷ front) rest is = absurd (let bad : r ∷ [] ≡ x ∷ y ∷ front ++ rest = is in cc)
+splits (z ∷ rs) r (x ∷ front) rest is =
+    let first : z ≡ x = cc in
+    let later : rs ++ r ∷ [] ≡ front ++ rest = cc in
+    elim (splits rs r front rest later) [
+      | inl some ↦ inl (some.0, ap₂ (λ a l. a ∷ l) first some.1)
+      | inr all ↦ inr (ap₂ (λ a l. a ∷ l) (sym first) all)
+    ]
+
+module _ (settings : Settings) (f : DumpFinding) (before : List DumpRecord) where
+  not_now : IsNeverFound settings before f → ¬ IsDumpFinding settings before f
+  not_now never = never before [] (sym (append-nil before))
+
+  never_more : (r : DumpRecord) → IsNeverFound settings before f → ¬ IsDumpFinding settings (before ++ r ∷ []) f
+      → IsNeverFound settings (before ++ r ∷ []) f
+  never_more r never still front rest is = elim (splits before r front rest is) [
+    | inl some ↦ never front some.0 some.1
+    | inr all ↦ subst (λ rs. ¬ IsDumpFinding settings rs f) (sym all) still
+  ]
+
 -- so a finding comes up with some record
 comes_up_in : (settings : Settings) (f : DumpFinding) (before rest : List DumpRecord)
-    → ¬ IsDumpFinding settings before f → IsDumpFinding settings (before ++ rest) f
+    → IsNeverFound settings before f → IsDumpFinding settings (before ++ rest) f
     → (p : Place) × ComesUpAt settings (before ++ rest) f p
-comes_up_in settings f before [] none some =
-    absurd (none (subst (λ rs. IsDumpFinding settings rs f) (append-nil before) some))
-comes_up_in settings f before (r ∷ rest) none some =
+comes_up_in settings f before [] never some =
+    absurd (not_now settings f before never (subst (λ rs. IsDumpFinding settings rs f) (append-nil before) some))
+comes_up_in settings f before (r ∷ rest) never some =
     by (has_or_not settings (before ++ r ∷ []) f) (comes_up_in settings f (before ++ r ∷ []) rest)
   where
     More : Type 0
-    More = ¬ IsDumpFinding settings (before ++ r ∷ []) f
+    More = IsNeverFound settings (before ++ r ∷ []) f
         → IsDumpFinding settings ((before ++ r ∷ []) ++ rest) f
         → (p : Place) × ComesUpAt settings ((before ++ r ∷ []) ++ rest) f p
 
@@ -143,10 +172,11 @@ comes_up_in settings f before (r ∷ rest) none some =
         → (p : Place) × ComesUpAt settings (before ++ r ∷ rest) f p
     by (inl here) more = (
       record { number = length before; place = r.place },
-      record { before = before; r = r; after = rest; are = refl; none = none; found = here; is = refl },
+      record { before = before; r = r; after = rest; are = refl; none = never; found = here; is = refl },
     )
     by (inr still) more =
-        let (p, at) = more still (subst (λ rs. IsDumpFinding settings rs f) (sym same) some) in
+        let (p, at) = more (never_more settings f before r never still)
+        (subst (λ rs. IsDumpFinding settings rs f) (sym same) some) in
         (p, subst (λ rs. ComesUpAt settings rs f p) same at)
 
 -- so of each dump something is told, if only nothing
@@ -175,7 +205,7 @@ told_of_each settings records (f ∷ fs) all =
 
     one : (b : Bool) → comes_up f ≡ b → (t : DumpTold) × IsDumpTold settings records f t
     one true up =
-        let (p, at) = comes_up_in settings f [] records (none_of_none settings f up) (all f first) in (
+        let (p, at) = comes_up_in settings f [] records (never_at_first settings f up) (all f first) in (
           record { finding = f; at = Some p },
           record { finding = refl; at = subst (At (Some p)) (sym up) (p, refl, at) },
         )
@@ -267,13 +297,13 @@ module _ (settings : Settings) (records : List DumpRecord) (flags : DumpFindings
 -- before the first record nothing came up
 pub no_places_yet : (settings : Settings) → ArePlaces settings [] no_places
 no_places_yet settings DumpFinding.NoRevision up = cc
-no_places_yet settings DumpFinding.OtherNumbers up = none_of_none settings DumpFinding.OtherNumbers refl
-no_places_yet settings DumpFinding.NumberFalls up = none_of_none settings DumpFinding.NumberFalls refl
-no_places_yet settings DumpFinding.UnreadRevision up = none_of_none settings DumpFinding.UnreadRevision refl
-no_places_yet settings DumpFinding.NodeInFirst up = none_of_none settings DumpFinding.NodeInFirst refl
-no_places_yet settings DumpFinding.SourceBefore up = none_of_none settings DumpFinding.SourceBefore refl
-no_places_yet settings DumpFinding.NodeOutside up = none_of_none settings DumpFinding.NodeOutside refl
-no_places_yet settings DumpFinding.NumbersLeft up = none_of_none settings DumpFinding.NumbersLeft refl
+no_places_yet settings DumpFinding.OtherNumbers up = never_at_first settings DumpFinding.OtherNumbers refl
+no_places_yet settings DumpFinding.NumberFalls up = never_at_first settings DumpFinding.NumberFalls refl
+no_places_yet settings DumpFinding.UnreadRevision up = never_at_first settings DumpFinding.UnreadRevision refl
+no_places_yet settings DumpFinding.NodeInFirst up = never_at_first settings DumpFinding.NodeInFirst refl
+no_places_yet settings DumpFinding.SourceBefore up = never_at_first settings DumpFinding.SourceBefore refl
+no_places_yet settings DumpFinding.NodeOutside up = never_at_first settings DumpFinding.NodeOutside refl
+no_places_yet settings DumpFinding.NumbersLeft up = never_at_first settings DumpFinding.NumbersLeft refl
 
 -- the places go on to one more record
 pub places_next : (settings : Settings) (before : List DumpRecord) (r : DumpRecord) (old new : DumpPlaces)
@@ -305,7 +335,8 @@ places_next settings before r old new flags here are found_are here_is next f up
       found = flag_holds settings (before ++ r ∷ []) flags found_are f is;
       is = here_is;
     }
-    by None none false is = flag_denies settings (before ++ r ∷ []) flags found_are f is
+    by None none false is = never_more settings f before r none
+        (flag_denies settings (before ++ r ∷ []) flags found_are f is)
 
 -- so what the program has is told at the end
 pub told_where_ended : (settings : Settings) (records : List DumpRecord) (end : SurveyEnd)
@@ -325,7 +356,7 @@ told_where_ended settings records end are places = (
       where
         came : (o : Option Place) → CameUp settings records f o
             → (p : Place) × (o ≡ Some p) × ComesUpAt settings records f p
-        came None none = absurd (none some)
+        came None none = absurd (not_now settings f records none some)
         came (Some p) at = (p, refl, at)
     one DumpFinding.NoRevision some false up = refl
     one DumpFinding.OtherNumbers some false up = cc

@@ -8,7 +8,7 @@ use Rattle.dump_rules.specs.Settings.{Settings}
 use Rattle.dump_survey.specs.declared.surveyor.Step.TheVariants.{Node, Other, Finished}
 use Rattle.dump_survey.specs.declared.told.SurveyedNode.{SurveyedNode}
 use Rattle.dump_survey.specs.declared.surveyor.SurveyEnd.{SurveyEnd}
-use Rattle.dump_survey.specs.DumpTold.{told_at_end, AreDumpTold}
+use Rattle.dump_survey.specs.DumpTold.{told_at_end, ArePlaces, AreDumpTold}
 use Rattle.dump_survey.specs.Told.{NodeTold, present_after, IsToldOf, AreTold}
 use Rattle.dump_survey.specs.steps.Surveyed.{told_of_node}
 use Rattle.dump_survey.specs.PrefixFindings.{PrefixTold, told_prefixes}
@@ -102,7 +102,7 @@ module _ (settings : Settings) (dump : List ℕ) (state after : Surveying) (told
   -- where they end the prefixes are told by those that were told
   pub prefixes_told : (end : SurveyEnd) (told : List PrefixTold) → SurveyStep state (Finished end) after
       → ArePrefixesTold after told → told ≡ told_prefixes so_far.before settings.prefixes
-  prefixes_told end told (all, has, all_count, found, same) are =
+  prefixes_told end told (all, has, all_count, found, places, same) are =
       let (records, begins, count, is) = subst (λ s. ArePrefixesTold s told) same are in
       is ∙ ap₂ (λ (s : Settings) (rs : List DumpRecord). told_prefixes rs s.prefixes) so_far.settings_is
       (begins_once dump records so_far.before (count ∙ sym so_far.count)
@@ -111,12 +111,14 @@ module _ (settings : Settings) (dump : List ℕ) (state after : Surveying) (told
   -- where the records end all are told
   pub all_told : (end : SurveyEnd) → SurveyStep state (Finished end) after
       → HasRecords dump so_far.before (survey_ending end.end)
-      × AreDumpTold settings so_far.before (told_at_end end)
-  all_told end (records, has, count, found, next) =
+      × AreDumpTold settings so_far.before (told_at_end end) × ArePlaces settings so_far.before end.places
+  all_told end (records, has, count, found, places, next) =
       let here = subst (λ d. HasRecords d records (survey_ending end.end)) so_far.dump_is has in
       let all : records ≡ so_far.before = begins_once dump records so_far.before (count ∙ sym so_far.count)
       (here.0, here.1, here.2) so_far.begins in (
         subst (λ l. HasRecords dump l (survey_ending end.end)) all here,
         subst (λ (s : Settings). AreDumpTold s so_far.before (told_at_end end)) so_far.settings_is
             (subst (λ (l : List DumpRecord). AreDumpTold state.settings l (told_at_end end)) all found),
+        subst (λ (s : Settings). ArePlaces s so_far.before end.places) so_far.settings_is
+            (subst (λ (l : List DumpRecord). ArePlaces state.settings l end.places) all places),
       )

@@ -23,7 +23,8 @@ use Rattle.dump_survey.specs.declared.tally.DumpFindings.{DumpFindings}
 use Rattle.dump_survey.specs.declared.tally.Tally.{Tally}
 use Rattle.dump_survey.specs.steps.Naming.{leaves_number, LeaveNumber}
 use Rattle.dump_survey.specs.steps.Tally.{no_tally, next_tally, numbers_of, tally_behind, tally_findings}
-use Rattle.dump_survey.specs.steps.Places.{no_places, AreNextPlaces, ArePlaces}
+use Rattle.dump_survey.specs.steps.Places.{no_places, AreNextPlaces}
+use Rattle.dump_survey.specs.DumpTold.{ArePlaces}
 use Rattle.dump_history.specs.Findings.{Finding, every_finding, is_found, AreFindingsOf, IsUnreadRevision, HasUnreadRevision, AreDumpFindingsOf}
 use Rattle.dump_history.specs.steps.NamingTests.{TellsNaming}
 use Rattle.dump_history.proofs.survey.FindingLemmas.{findings_once}
@@ -196,6 +197,7 @@ module _ (settings : Settings) (prefixes idle : List (List ℕ)) (tally : Tally)
             (tally_tells settings knows.before left unread (begun_single cutter.dump knows.before begins) knows.left_is
             knows.unread_is))
             (subst (ArePlaces settings knows.before) (sym places_is) knows.places_are),
+        subst (ArePlaces settings knows.before) (sym places_is) knows.places_are,
         ap seen same,
       )
 

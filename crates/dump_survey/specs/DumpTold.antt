@@ -1,5 +1,5 @@
 -- What a survey tells of a dump as a whole: each finding, and the first record with which it comes up.
-use Rattle.std.specs.Prelude.{◌≡◌, Bool, true, false, List, [], ◌∷◌, ◌++◌, length, map, Contains, Option, Some, None, MatchBool}
+use Rattle.std.specs.Prelude.{◌≡◌, Bool, true, false, List, [], ◌∷◌, ◌++◌, length, map, Contains, Option, Some, None, IsTrue, MatchBool}
 use Rattle.std.specs.List.{AllZip}
 use Rattle.dump_records.specs.RecordText.{DumpRecord}
 use Rattle.dump_rules.specs.Settings.{Settings}
@@ -39,15 +39,30 @@ abbrev pub comes_up : DumpFinding → Bool
 comes_up DumpFinding.NoRevision = false
 comes_up _ = true
 
--- with the record there the finding comes up: it is found with the records up to it, and isn't with those before it
+-- the finding isn't found with these records, and with no first ones of them
+abbrev pub IsNeverFound : Settings → List DumpRecord → DumpFinding → Type 0
+IsNeverFound settings records f = (front rest : List DumpRecord) → records ≡ front ++ rest →
+    ¬ IsDumpFinding settings front f
+
+-- with the record there the finding comes up first: it is found with the records up to it, and with no fewer
 pub record ComesUpAt (settings : Settings) (records : List DumpRecord) (f : DumpFinding) (p : Place) : Type 0 where
   pub before : List DumpRecord
   pub r : DumpRecord
   pub after : List DumpRecord
   pub are : records ≡ before ++ r ∷ after
-  pub none : ¬ IsDumpFinding settings before f
+  pub none : IsNeverFound settings before f
   pub found : IsDumpFinding settings (before ++ r ∷ []) f
   pub is : p ≡ record { number = length before; place = r.place }
+
+-- with the record there the finding came up; where none is told, it didn't
+abbrev pub CameUp : Settings → List DumpRecord → DumpFinding → Option Place → Type 0
+CameUp settings records f None = IsNeverFound settings records f
+CameUp settings records f (Some p) = ComesUpAt settings records f p
+
+-- these are the places of the findings with these records
+abbrev pub ArePlaces : Settings → List DumpRecord → DumpPlaces → Type 0
+ArePlaces settings records places =
+    (f : DumpFinding) → IsTrue (comes_up f) → CameUp settings records f (place_in places f)
 
 -- this is told of the finding
 pub record IsDumpTold (settings : Settings) (records : List DumpRecord) (f : DumpFinding) (t : DumpTold) : Type 0 where

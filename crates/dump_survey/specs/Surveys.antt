@@ -5,7 +5,7 @@ use Rattle.dump_records.specs.RecordText.{DumpRecord}
 use Rattle.dump_records.specs.DumpText.{HasRecords}
 use Rattle.dump_rules.specs.Settings.{Settings}
 use Rattle.dump_survey.specs.declared.survey.Survey.{Survey}
-use Rattle.dump_survey.specs.DumpTold.{told_at_end, AreDumpTold}
+use Rattle.dump_survey.specs.DumpTold.{told_at_end, ArePlaces, AreDumpTold}
 use Rattle.dump_survey.specs.PrefixFindings.{prefix_view, told_prefixes}
 use Rattle.dump_survey.specs.SurveyEnds.{survey_ending}
 use Rattle.dump_survey.specs.Told.{told_view, AreTold}
@@ -16,4 +16,5 @@ pub record IsSurveyOf (settings : Settings) (dump : List ℕ) (survey : Survey) 
   pub has : HasRecords dump records (survey_ending survey.end.end)
   pub told : AreTold settings [] None records (map told_view survey.told.items)
   pub found : AreDumpTold settings records (told_at_end survey.end)
+  pub places : ArePlaces settings records survey.end.places
   pub prefixes : map prefix_view survey.prefixes.items ≡ told_prefixes records settings.prefixes

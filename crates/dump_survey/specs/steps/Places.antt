@@ -1,13 +1,11 @@
 -- Where what is found in a dump as a whole comes up first, record by record.
-use Rattle.std.specs.Prelude.{◌≡◌, Bool, List, Option, Some, None, IsTrue, if◌then◌else◌}
-use Rattle.dump_records.specs.RecordText.{DumpRecord}
-use Rattle.dump_rules.specs.Settings.{Settings}
+use Rattle.std.specs.Prelude.{◌≡◌, Bool, Option, Some, None, IsTrue, if◌then◌else◌}
 use Rattle.dump_history.specs.Findings.{DumpFinding}
 use Rattle.dump_survey.specs.declared.places.DumpPlaces.{DumpPlaces}
 use Rattle.dump_survey.specs.declared.places.Place.{Place}
 use Rattle.dump_survey.specs.declared.tally.DumpFindings.{DumpFindings}
 use Rattle.dump_survey.specs.DumpFindings.{has_dump_finding}
-use Rattle.dump_survey.specs.DumpTold.{place_in, IsDumpFinding, comes_up, ComesUpAt}
+use Rattle.dump_survey.specs.DumpTold.{place_in, comes_up}
 
 -- before the first record
 abbrev pub no_places : DumpPlaces
@@ -30,13 +28,3 @@ first_place None found here = if found then Some here else None
 abbrev pub AreNextPlaces : DumpPlaces → DumpFindings → Place → DumpPlaces → Type 0
 AreNextPlaces old found here new = (f : DumpFinding) → IsTrue (comes_up f)
     → place_in new f ≡ first_place (place_in old f) (has_dump_finding found f) here
-
--- with the record there the finding came up; where none is told, it didn't
-abbrev pub CameUp : Settings → List DumpRecord → DumpFinding → Option Place → Type 0
-CameUp settings records f None = ¬ IsDumpFinding settings records f
-CameUp settings records f (Some p) = ComesUpAt settings records f p
-
--- these are the places of the findings with these records
-abbrev pub ArePlaces : Settings → List DumpRecord → DumpPlaces → Type 0
-ArePlaces settings records places =
-    (f : DumpFinding) → IsTrue (comes_up f) → CameUp settings records f (place_in places f)

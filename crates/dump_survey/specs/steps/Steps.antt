@@ -14,7 +14,7 @@ use Rattle.dump_survey.specs.declared.surveyor.Step.{Step}
 use Rattle.dump_survey.specs.declared.surveyor.Step.TheVariants.{Node, Other, Finished}
 use Rattle.dump_survey.specs.declared.places.DumpPlaces.{DumpPlaces}
 use Rattle.dump_survey.specs.DumpFindings.{listed_findings}
-use Rattle.dump_survey.specs.DumpTold.{told_at_end, AreDumpTold}
+use Rattle.dump_survey.specs.DumpTold.{told_at_end, ArePlaces, AreDumpTold}
 use Rattle.dump_survey.specs.steps.Found.{IsFoundIn}
 use Rattle.dump_survey.specs.PrefixFindings.{PrefixTold, told_prefixes}
 use Rattle.dump_survey.specs.Told.{present_after, IsToldOf}
@@ -58,7 +58,7 @@ SurveyStep old Other new = (before : List DumpRecord) × (r : DumpRecord) × Com
     × IsToldOf old.settings before (open_behind None before) r []
 SurveyStep old (Finished end) new = (records : List DumpRecord) × HasRecords old.dump records (survey_ending end.end)
     × (length records ≡ old.number)
-    × AreDumpTold old.settings records (told_at_end end)
+    × AreDumpTold old.settings records (told_at_end end) × ArePlaces old.settings records end.places
     × (new ≡ old)
 
 -- this is told of the prefixes by the records that the surveyor has given

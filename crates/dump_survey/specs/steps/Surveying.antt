@@ -10,7 +10,7 @@ use Rattle.dump_survey.specs.declared.tally.Tally.{Tally}
 use Rattle.dump_survey.specs.steps.IdlePrefixes.{AreIdle}
 use Rattle.dump_survey.specs.declared.places.DumpPlaces.{DumpPlaces}
 use Rattle.dump_survey.specs.steps.Naming.{LeaveNumber}
-use Rattle.dump_survey.specs.steps.Places.{ArePlaces}
+use Rattle.dump_survey.specs.DumpTold.{ArePlaces}
 use Rattle.dump_survey.specs.steps.Tally.{no_tally, tally_behind}
 
 -- a surveyor: its dump, the filter's options, and how many records it has given

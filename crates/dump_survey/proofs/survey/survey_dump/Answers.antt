@@ -43,6 +43,7 @@ returns-in-Finished c =
       has = all.0;
       told = c.loop-told.invariant.told;
       found = all.1;
+      places = all.2;
       prefixes = prefixes_told c.args.options.now c.args.dump.now c.loop-told.surveyor c.next.new.self
           (map told_view c.loop-told.told.items) c.loop-told.invariant c.in-Finished.end
           (map prefix_view c.in_ok-prefixes-in-Finished.prefixes.items) step c.in_ok-prefixes-in-Finished.ensures;
