@@ -26,7 +26,12 @@ SURVEY := build/svndumpsurvey
 PLAIN := build/run_plain
 INSTALLED := PREFIX="$(PREFIX)" DESTDIR="$(DESTDIR)" NAME="$(NAME)" FORCE="$(FORCE)" tools/installed
 SOURCES := $(shell tools/sources)
+# a suite that calls make itself takes none of this make's jobs
+ALONE := env -u MAKEFLAGS -u MFLAGS
+SUITES := $(addprefix suite-,refusals meaning hostile cases surveys stock install pages trusted words)
 
+# a target for each suite of tests/
+.PHONY: $(SUITES)
 .PHONY: all survey toolchain test suites gate check case bench soak install uninstall deb clean
 .DELETE_ON_ERROR:
 
@@ -36,7 +41,7 @@ toolchain:
 	$(if $(shell command -v rt),@:,$(error the Rattle toolchain (rt) isn't on the PATH))
 
 $(PROGRAM): $(SOURCES) | toolchain
-	@echo "make: proving and building $@; from nothing this takes some 36 minutes of processor time"
+	@echo "make: proving and building $@; from nothing this takes 36 to 46 minutes of processor time"
 	@tools/build
 	@echo "make: $@ is built"
 
@@ -48,30 +53,55 @@ $(SURVEY): $(SOURCES) | toolchain $(PROGRAM)
 	@tools/build svndumpsurvey
 	@echo "make: $@ is built"
 
-test: $(PROGRAM) | toolchain
+# the survey is built first, so that no crate is proved once for its tests and once more for the program
+test: $(PROGRAM) $(SURVEY) | toolchain
 	@echo "make: proving and running the tests of every crate"
 	tools/tests
 	@$(MAKE) --no-print-directory suites
 
+# each suite works in folders of its own, so they run beside each other; what one says comes together
 suites: $(PROGRAM) $(SURVEY)
-	@echo "make: running tests/cases on $(PROGRAM)"
-	tests/run $(PROGRAM)
-	@echo "make: running tests/survey on $(SURVEY)"
-	tests/run --survey $(SURVEY)
+	@echo "make: running tests/ on both programs"
+	@$(MAKE) --no-print-directory --jobs=$(shell nproc) --output-sync=target --keep-going $(SUITES)
+
+# the longest come first
+suite-refusals:
 	@echo "make: refusing each growth of memory and each start of a thread in turn"
 	tests/refusals $(PROGRAM)
-	@echo "make: running $(PROGRAM) on hostile input, streams and limits"
-	tests/hostile $(PROGRAM)
-	@echo "make: installing both programs into an empty root"
-	tests/install
-	@echo "make: running the examples of the manual pages and of the README"
-	tests/pages $(PROGRAM)
-	@echo "make: comparing $(PROGRAM) with the stock svndumpfilter"
-	tests/stock $(PROGRAM)
+
+suite-meaning:
 	@echo "make: loading what $(PROGRAM) writes, and comparing it with what is meant where $(SURVEY) is silent"
 	tests/meaning $(PROGRAM) $(SURVEY)
+
+suite-cases:
+	@echo "make: running tests/cases on $(PROGRAM)"
+	tests/run $(PROGRAM)
+
+suite-surveys:
+	@echo "make: running tests/survey on $(SURVEY)"
+	tests/run --survey $(SURVEY)
+
+suite-hostile:
+	@echo "make: running $(PROGRAM) on hostile input, streams and limits"
+	tests/hostile $(PROGRAM)
+
+suite-stock:
+	@echo "make: comparing $(PROGRAM) with the stock svndumpfilter"
+	tests/stock $(PROGRAM)
+
+suite-install:
+	@echo "make: installing both programs into an empty root"
+	$(ALONE) tests/install
+
+suite-pages:
+	@echo "make: running the examples of the manual pages and of the README"
+	$(ALONE) tests/pages $(PROGRAM)
+
+suite-trusted:
 	@echo "make: looking whether the README lists the definitions of the statement"
 	tests/trusted
+
+suite-words:
 	@echo "make: looking whether each definition's name stands in one crate"
 	tests/words
 

@@ -1,6 +1,7 @@
 //! What no clause says: readers that fail or drip, and the lines as users see them.
 
 mod drive;
+mod runs;
 mod words;
 
 use crate::input::{Unread, read_all};

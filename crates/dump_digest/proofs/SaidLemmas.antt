@@ -1,21 +1,23 @@
 -- What the mergeinfo of some properties says, property by property.
-use Rattle.std.proofs.Common.{◌≡◌, ◌↔◌, ℕ, Bool, true, false, ◌&&◌, ◌||◌, List, [], ◌∷◌, refl, sym, ap, subst, ◌∙◌, Option, Some, None, IsSome, IsNone, IfSome, is_some, unwrap_or, if◌then◌else◌, MatchOption, IsTrue, IsFalse}
-use Rattle.std.proofs.lemmas.Bool.{or_right}
+use Rattle.std.proofs.Common.{◌≡◌, ◌↔◌, ◌<◌, ◌^◌, ℕ, Bool, true, false, ◌&&◌, ◌||◌, List, [], ◌∷◌, refl, sym, ap, subst, ◌∙◌, Option, Some, None, IsSome, IsNone, IfSome, is_some, unwrap_or, if◌then◌else◌, MatchOption, IsTrue, IsFalse}
+use Rattle.std.proofs.lemmas.Bool.{or_right, false≢true}
 use Rattle.std.specs.List.{list_any}
 use Rattle.std.specs.Option.{ForSome}
 use Rattle.dump_text.specs.declared.props.Props.{Props}
+use Rattle.dump_text.specs.declared.props.PropsReading.{PropsReading}
 use Rattle.dump_text.specs.PropertyList.{Property, IsPropertyBlock}
 use Rattle.dump_text.specs.declared.props.Entry.{Entry}
-use Rattle.dump_text.specs.steps.PropertyViews.{props_bytes, entry_property}
+use Rattle.dump_text.specs.steps.PropertyViews.{props_bytes, entry_property, IsReadingOf}
 use Rattle.dump_text.proofs.BoolLemmas.{absurd_bool, both_true, second_true}
 use Rattle.dump_records.specs.RecordText.{DumpRecord}
+use Rattle.dump_rules.specs.declared.merged.Bounds.{Bounds}
 use Rattle.dump_rules.specs.declared.merged.Merged.{Merged}
 use Rattle.dump_rules.specs.Settings.{Settings}
 use Rattle.dump_rules.specs.Mergeinfo.{HasMergeLines}
-use Rattle.dump_rules.specs.steps.Merged.{is_outside, nothing_merged}
+use Rattle.dump_rules.specs.steps.Merged.{is_outside, no_bounds, nothing_merged}
 use Rattle.dump_rules.specs.steps.NewLines.{value_misses, value_foreign}
 use Rattle.dump_rules.specs.steps.ReadMergeinfo.{value_reads}
-use Rattle.dump_rules.proofs.faults.MergedMeaning.{or_false, or_or}
+use Rattle.dump_rules.proofs.faults.MergedMeaning.{or_false, or_or, none_outside}
 use Rattle.dump_digest.specs.declared.content.Content.{Content}
 use Rattle.dump_digest.specs.declared.verdict.Verdict.{Verdict}
 use Rattle.dump_digest.specs.steps.VerdictMeaning.{IsVerdict}
@@ -33,7 +35,7 @@ pub record IsSaidUpTo (s : Settings) (ps qs : List Property) (found : Bool) (sai
   pub read : properties_read ps ≡ properties_read qs
   pub found_is : list_any is_mergeinfo ps ≡ (found || list_any is_mergeinfo qs)
   pub sources : list_any (misses s) ps ≡ (said.misses || list_any (misses s) qs)
-  pub numbers : (first present : ℕ) → list_any (is_foreign s first present) ps
+  pub numbers : (first present : ℕ) → first < 2 ^ 64 → list_any (is_foreign s first present) ps
       ≡ (is_outside s first present said.numbers || list_any (is_foreign s first present) qs)
 
 -- before the first property nothing is said
@@ -43,8 +45,8 @@ said_at_first s ps said is = record {
   read = refl;
   found_is = refl;
   sources = ap (λ (m : Merged). m.misses || list_any (misses s) ps) (sym is);
-  numbers = λ first present. ap (λ (m : Merged). is_outside s first present m.numbers || list_any
-      (is_foreign s first present) ps) (sym is);
+  numbers = λ first present fits. ap (λ b. b || list_any (is_foreign s first present) ps)
+      (sym (ap (λ (m : Merged). is_outside s first present m.numbers) is ∙ none_outside s first present fits));
 }
 
 or_true : (a c : Bool) → (a || (true || c)) ≡ true
@@ -59,7 +61,7 @@ said_of_other s ps qs others p found said is other up = record {
   read = up.read ∙ ap properties_read is ∙ rw other refl;
   found_is = up.found_is ∙ ap (λ (l : List Property). found || list_any is_mergeinfo l) is ∙ rw other refl;
   sources = up.sources ∙ ap (λ (l : List Property). said.misses || list_any (misses s) l) is ∙ rw other refl;
-  numbers = λ first present. up.numbers first present
+  numbers = λ first present fits. up.numbers first present fits
       ∙ ap (λ (l : List Property). is_outside s first present said.numbers || list_any
       (is_foreign s first present) l) is
       ∙ rw other refl;
@@ -80,7 +82,7 @@ said_of_value s ps qs others p found said next is named reads sources numbers up
   sources = up.sources ∙ ap (λ (l : List Property). said.misses || list_any (misses s) l) is
       ∙ rw named (sym (or_or said.misses (value_misses s (value_of p)) (list_any (misses s) others)))
       ∙ ap (λ b. b || list_any (misses s) others) (sym sources);
-  numbers = λ first present. up.numbers first present
+  numbers = λ first present fits. up.numbers first present fits
       ∙ ap (λ (l : List Property). is_outside s first present said.numbers || list_any
       (is_foreign s first present) l) is
       ∙ rw named (sym (or_or (is_outside s first present said.numbers) (value_foreign s first present (value_of p))
@@ -102,7 +104,7 @@ said_at_last s ps found said up = record {
   read = up.read;
   found = sym (up.found_is ∙ sym (or_false found));
   sources = sym (up.sources ∙ sym (or_false said.misses));
-  numbers = λ first present. sym (up.numbers first present ∙ sym (or_false (is_outside s first present said.numbers)));
+  numbers = λ first present fits. sym (up.numbers first present fits ∙ sym (or_false (is_outside s first present said.numbers)));
 }
 
 -- the value of an entry is that of its property
@@ -162,47 +164,70 @@ values_told s r (Some p) o means is said ps list =
     by_option None bad = λ m e. absurd (let no : None ≡ Some m = e in cc)
     by_option (Some m) told = λ n e. subst (IsSaidBy s ps) (let one : m ≡ n = cc in one) told
 
--- a block's bytes are the record's
-pub bytes_told : (r : DumpRecord) (found : Option Props) → IfSome found (λ p. props_bytes p ≡ r.props)
-    → ForSome found (λ p. props_bytes p ≡ r.props)
-bytes_told r None is = λ p e. absurd (let no : None ≡ Some p = e in cc)
-bytes_told r (Some p) is = λ q e. ap props_bytes (let one : q ≡ p = cc in one) ∙ is
-
 -- a kept node's properties are asked
-pub asked_kept : (s : Settings) (r : DumpRecord) (found : Option Props) (ok : Bool) → IsTrue (is_kept_node s r)
+pub asked_kept : (s : Settings) (r : DumpRecord) (found : Option PropsReading) (ok : Bool) → IsTrue (is_kept_node s r)
     → ok ≡ is_some found
     → is_some found ≡ (is_asked s r && ok)
 asked_kept s r found ok kept is = sym is ∙ ap (λ b. b && ok)
     (sym (or_right (is_revision_record r) (is_kept_node s r) kept))
 
+-- what was read of the values is said, where each can be read
+pub said_read : (s : Settings) (ps : List Property) (o : Option Mergeinfo) (none m : Mergeinfo)
+    → ForSome o (λ m. IsSaidBy s ps m)
+    → is_some o ≡ true → m ≡ unwrap_or o none → IsSaidBy s ps m
+said_read s ps None none m said ok is = absurd (false≢true ok)
+said_read s ps (Some n) none m said ok is = subst (IsSaidBy s ps) (sym is) (said n refl)
+
+-- mergeinfo whose parts are told apart
+pub same_mergeinfo : (m : Mergeinfo) (missed : Bool) (numbers : Bounds) → missed ≡ m.said.misses
+    → numbers ≡ m.said.numbers
+    → record { found = m.found; said = record { misses = missed; numbers = numbers } } ≡ m
+same_mergeinfo m missed numbers is same = rw (is, same) refl
+
 -- of another record no mergeinfo is read, and no copy source
-pub content_of_other : (s : Settings) (r : DumpRecord) (v : Verdict) (found : Option Props) → IsFalse (is_kept_node s r)
-    → IsVerdict s r v
-    → is_some found ≡ (is_asked s r && v.props_ok) → ForSome found (λ p. props_bytes p ≡ r.props)
-    → IsContent s r (record { verdict = v; kept = false; props = found; mergeinfo = None; lost_source = false })
-content_of_other s r v found other verdict asked bytes = record {
+pub content_of_other : (s : Settings) (r : DumpRecord) (v : Verdict) (found : Option PropsReading)
+    → IsFalse (is_kept_node s r) → IsVerdict s r v
+    → is_some found ≡ (is_asked s r && v.props_ok)
+    → ForSome found (λ reading. IsReadingOf reading r.props)
+    → IsContent s r (record {
+      verdict = v;
+      kept = false;
+      lost_source = false;
+      props = found;
+      has_mergeinfo = false;
+      misses_source = false;
+      numbers = no_bounds;
+    })
+content_of_other s r v found other verdict asked reading = record {
   verdict_is = verdict;
   kept_is = sym other;
   asked = asked;
-  bytes = bytes;
-  read = λ kept. absurd (absurd_bool (is_kept_node s r) kept other);
+  reading = reading;
   said = λ kept. absurd (absurd_bool (is_kept_node s r) kept other);
   lost = λ kept. absurd (absurd_bool (is_kept_node s r) kept other);
 }
+
+-- the bytes of a block that was found are these
+pub bytes_told : (bytes : List ℕ) (found : Props) → props_bytes found ≡ bytes
+    → ForSome (Some found) (λ props. props_bytes props ≡ bytes)
+bytes_told bytes found is = λ props e. ap props_bytes (let one : props ≡ found = cc in one) ∙ is
 
 not_so_false : (b : Bool) → (b ≡ false → ⊥) → b ≡ true
 not_so_false true bad = refl
 not_so_false false bad = absurd (bad refl)
 
 -- what was read of a record that is asked for its properties is them
-pub properties_of : (s : Settings) (r : DumpRecord) (c : Content) → IsContent s r c → IsTrue (is_asked s r)
-    → ArePropertiesOf r c.props
-properties_of s r c is asked = record {
-  bytes = is.bytes;
+pub properties_of : (s : Settings) (r : DumpRecord) (c : Content) (found : Option Props) → IsContent s r c
+    → is_some found ≡ is_some c.props → ForSome found (λ props. props_bytes props ≡ r.props)
+    → IsTrue (is_asked s r)
+    → ArePropertiesOf r found
+properties_of s r c found is same bytes asked = record {
+  bytes = bytes;
   there = (
     λ some. block_stable r (λ none. absurd_bool c.verdict.props_ok
-        (second_true (is_asked s r) c.verdict.props_ok (sym is.asked ∙ some)) (is.verdict_is.props.1 (asked, none))),
-    λ has. is.asked ∙ both_true (is_asked s r) c.verdict.props_ok asked
+        (second_true (is_asked s r) c.verdict.props_ok (sym is.asked ∙ sym same ∙ some))
+        (is.verdict_is.props.1 (asked, none))),
+    λ has. same ∙ is.asked ∙ both_true (is_asked s r) c.verdict.props_ok asked
         (not_so_false c.verdict.props_ok (λ bad. (is.verdict_is.props.0 bad).1 has)),
   );
 }

@@ -1,8 +1,9 @@
 //! What a check reads of a record: its verdict, and what the filter asks of its properties and its copy source.
-ghost use Rattle.std.specs.Prelude.{◌≡◌, ◌↔◌, false, List, Some, MatchOption, IsFalse, IsTrue, IsNone, IsSome, IfSome};
+ghost use Rattle.std.specs.Prelude.{◌≡◌, ◌↔◌, ℕ, false, List, is_some, Some, MatchOption, IsFalse, IsTrue, IsNone, IsSome, IfSome};
+ghost use Rattle.std.specs.Option.{ForSome};
 ghost use Rattle.dump_text.specs.declared.props.Props.{Props};
 ghost use Rattle.dump_text.specs.PropertyList.{IsPropertyBlock, Property};
-ghost use Rattle.dump_text.specs.steps.PropertyViews.{props_bytes};
+ghost use Rattle.dump_text.specs.steps.PropertyViews.{props_bytes, IsReadingOf};
 ghost use Rattle.dump_records.specs.RecordText.{DumpRecord};
 ghost use Rattle.dump_records.specs.steps.RecordViews.{record_item};
 ghost use Rattle.dump_rules.specs.Settings.{Settings};
@@ -15,21 +16,39 @@ use crate::kept::is_kept;
 use crate::node_mergeinfo::Mergeinfo;
 use crate::verdict::Verdict;
 use dump_records::Record;
-use dump_rules::{Options, keeps};
-use dump_text::Props;
+use dump_rules::{Bounds, Options, keeps};
+use dump_text::{Props, PropsReading};
 
-/// What was read of a record.
+/// What was read of a record. What a kept node's mergeinfo says stands side by side with the rest, so that it is small;
+/// it counts where the verdict says that each value of it can be read.
 #[derive(Clone, Copy)]
-pub(crate) struct Content<'a> {
+pub(crate) struct Content {
     pub(crate) verdict: Verdict,
     /// Whether it is a node that the options keep.
     pub(crate) kept: bool,
-    /// The properties of a revision or of a kept node, where they are a property block.
-    pub(crate) props: Option<Props<'a>>,
-    /// The mergeinfo of a kept node, where each value of it can be read.
-    pub(crate) mergeinfo: Option<Mergeinfo>,
     /// Whether it is a kept node that is copied from a path that isn't kept.
     pub(crate) lost_source: bool,
+    /// What was found in the properties of a revision or of a kept node, where they are a property block.
+    pub(crate) props: Option<PropsReading>,
+    /// Whether a kept node has mergeinfo.
+    pub(crate) has_mergeinfo: bool,
+    /// Whether a kept node's mergeinfo misses a source.
+    pub(crate) misses_source: bool,
+    /// The bounds of the numbers in a kept node's mergeinfo.
+    pub(crate) numbers: Bounds,
+}
+
+impl Content {
+    /// What is read of a record that is neither a revision nor a kept node.
+    const NOTHING: Content = Content {
+        verdict: Verdict::UNASKED,
+        kept: false,
+        lost_source: false,
+        props: None,
+        has_mergeinfo: false,
+        misses_source: false,
+        numbers: Bounds::NONE,
+    };
 }
 
 /// Whether the node is copied from a path that the options don't keep.
@@ -76,14 +95,27 @@ fn properties_of<'a>(item: &Record<'a>) -> Option<Props<'a>>
     }
 }
 
+/// What was found in the properties, where they are a property block.
+fn reading_of(props: &Option<Props<'_>>) -> Option<PropsReading>
+    ensures found { is_some result ≡ is_some props.now }
+    ensures reading { (bytes : List ℕ) → IfSome props.now (λ p. props_bytes p ≡ bytes)
+        → ForSome result (λ reading. IsReadingOf reading bytes) }
+{
+    match props {
+        Some(props) => Some(props.reading()),
+        None => None,
+    }
+}
+
 /// What is read of a node that is kept.
-fn read_kept<'a>(item: &Record<'a>, options: &Options) -> Content<'a>
+fn read_kept(item: &Record<'_>, options: &Options) -> Content
     requires { IsTrue (is_kept_node options.now (record_item item.now)) }
     ensures { IsContent options.now (record_item item.now) result }
 {
     let text = text_check(item);
     let props = properties_of(item);
     let mergeinfo = mergeinfo_of(&props, options);
+    let said = mergeinfo.unwrap_or(Mergeinfo::none());
     Content {
         verdict: Verdict {
             props_ok: props.is_some(),
@@ -93,14 +125,16 @@ fn read_kept<'a>(item: &Record<'a>, options: &Options) -> Content<'a>
             checked: text.checked,
         },
         kept: true,
-        props,
-        mergeinfo,
         lost_source: has_lost_source(item, options),
+        props: reading_of(&props),
+        has_mergeinfo: said.found,
+        misses_source: said.said.misses_source(),
+        numbers: said.said.numbers(),
     }
 }
 
 /// What is read of a revision.
-fn read_revision<'a>(item: &Record<'a>) -> Content<'a>
+fn read_revision(item: &Record<'_>) -> Content
     requires { IsTrue (is_revision_record (record_item item.now)) }
     ensures { (settings : Settings) → IsFalse (is_kept_node settings (record_item item.now))
         → IsContent settings (record_item item.now) result }
@@ -111,29 +145,21 @@ fn read_revision<'a>(item: &Record<'a>) -> Content<'a>
             props_ok: props.is_some(),
             ..Verdict::UNASKED
         },
-        kept: false,
-        props,
-        mergeinfo: None,
-        lost_source: false,
+        props: reading_of(&props),
+        ..Content::NOTHING
     }
 }
 
 /// What is read of a record that is neither a revision nor a kept node.
-fn read_nothing<'a>() -> Content<'a>
+fn read_nothing() -> Content
     ensures { (settings : Settings) (r : DumpRecord) → IsFalse (is_revision_record r) → IsFalse (is_kept_node settings r)
         → IsContent settings r result }
 {
-    Content {
-        verdict: Verdict::UNASKED,
-        kept: false,
-        props: None,
-        mergeinfo: None,
-        lost_source: false,
-    }
+    Content::NOTHING
 }
 
 /// What is read of a record under these options, each thing once.
-pub(crate) fn read_content<'a>(item: &Record<'a>, options: &Options) -> Content<'a>
+pub(crate) fn read_content(item: &Record<'_>, options: &Options) -> Content
     ensures { IsContent options.now (record_item item.now) result }
 {
     if is_kept(item, options) {

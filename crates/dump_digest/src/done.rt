@@ -7,15 +7,16 @@ use crate::verdict::Verdict;
 use dump_records::Record;
 use dump_rules::Options;
 use dump_text::{FaultKind, Props};
+use std::snapshot::Snapshot;
 
-/// A record with its verdict, the options that it was judged under, and what was read for it. Who filters it reads none
-/// of its properties to find out what the check knew.
-#[derive(Clone, Copy)]
+/// A record with its verdict and what was read for it. Who filters it reads none of its properties to find out what the
+/// check knew. It keeps in its type alone which options it was judged under.
+#[derive(Drop)]
 pub struct Done<'a> {
     item: Record<'a>,
-    options: &'a Options,
-    content: Content<'a>,
-    pub ghost judged: { IsContent options.now (record_item item) content },
+    options: Snapshot<Options>,
+    content: Content,
+    pub ghost judged: { IsContent options.value (record_item item) content },
 }
 
 impl<'a> Done<'a> {
@@ -36,7 +37,7 @@ impl<'a> Done<'a> {
     {
         Done {
             item,
-            options,
+            options: Snapshot::of(options),
             content: read_content(&item, options),
         }
     }
@@ -71,7 +72,10 @@ impl<'a> Done<'a> {
         ensures read { let r = record_item (done_record self.now) in
             IsTrue (is_asked (done_settings self.now) r) → ArePropertiesOf r result }
     {
-        self.content.props
+        match self.content.props {
+            Some(reading) => Some(Props::of_reading(self.item.property_bytes(), reading)),
+            None => None,
+        }
     }
 
     /// Whether a kept node has mergeinfo; its verdict says whether all of it can be read.
@@ -80,28 +84,23 @@ impl<'a> Done<'a> {
             → IsTrue (done_verdict self.now).merge_ok → (ps : List Property) → HasPropertyList r ps
             → result ≡ list_any is_mergeinfo ps }
     {
-        match self.content.mergeinfo {
-            Some(mergeinfo) => mergeinfo.found,
-            None => false,
-        }
+        self.content.has_mergeinfo
     }
 
     /// The fault of a kept node's mergeinfo, in a dump whose first revision has the number `first`, at the present
-    /// revision `present`.
-    pub fn merge_fault(&self, first: u64, present: u64) -> Option<FaultKind>
+    /// revision `present`. The options are those that it was judged under.
+    pub fn merge_fault(&self, options: &Options, first: u64, present: u64) -> Option<FaultKind>
+        requires { options.now ≡ done_settings self.now }
         ensures { let r = record_item (done_record self.now) in IsTrue (is_kept_node (done_settings self.now) r)
             → (ps : List Property) → HasPropertyList r ps
             → result ≡ merge_fault (done_settings self.now) first present (done_verdict self.now).merge_ok ps }
     {
-        let Some(mergeinfo) = self.content.mergeinfo else {
-            return Some(FaultKind::MergeInfo);
-        };
-        if mergeinfo.said.misses_source() {
+        let content = &self.content;
+        if !content.verdict.merge_ok {
+            Some(FaultKind::MergeInfo)
+        } else if content.misses_source {
             Some(FaultKind::MergeSource)
-        } else if mergeinfo
-            .said
-            .has_foreign_number(self.options, first, present)
-        {
+        } else if content.numbers.has_foreign_number(options, first, present) {
             Some(FaultKind::MergeRange)
         } else {
             None

@@ -1,4 +1,7 @@
 //! Each call once, worked digests of either kind, and whose parts a verdict tells of.
+ghost use Rattle.std.specs.Prelude.{◌≡◌};
+ghost use Rattle.dump_digest.specs.steps.DoneViews.{done_settings};
+
 use crate::{Done, Verdict, check, is_kept, is_mergeinfo};
 use dump_records::{Cut, Cutter, Record};
 use dump_rules::{Empty, Options, Side};
@@ -459,14 +462,16 @@ fn deleted_mergeinfo_is_none(rt: HostRuntime) -> Result<(), Fail> {
 const COPY: &str = "Node-path: trunk\nNode-copyfrom-rev: 1\nNode-copyfrom-path: tags\n\
 Prop-content-length: 45\nContent-length: 45\n\nK 13\nsvn:mergeinfo\nV 10\n/trunk:2-4\nPROPS-END\n\n\n";
 
-fn is_read(done: &Done<'_>) -> bool {
+fn is_read(done: &Done<'_>, options: &Options) -> bool
+    requires { done_settings done.now ≡ options.now }
+{
     let range = Some(FaultKind::MergeRange);
     done.is_kept()
         && done.has_mergeinfo()
         && done.has_lost_source()
-        && done.merge_fault(2, 4).is_none()
-        && done.merge_fault(3, 4) == range
-        && done.merge_fault(2, 3) == range
+        && done.merge_fault(options, 2, 4).is_none()
+        && done.merge_fault(options, 3, 4) == range
+        && done.merge_fault(options, 2, 3) == range
 }
 
 fn has_copied_mergeinfo(done: &Done<'_>) -> bool {
@@ -489,7 +494,7 @@ fn a_done_tells_what_its_check_read(rt: HostRuntime) -> Result<(), Fail> {
     let (side, prefixes) = (Side::Include, [b"trunk".as_slice()]);
     let options = Options::new(rt.alloc(), side, &prefixes, Empty::Pad, true, false, false)?;
     let done = Done::of(kept, &options);
-    assert!(rt; is_read(&done) && has_copied_mergeinfo(&done));
+    assert!(rt; is_read(&done, &options) && has_copied_mergeinfo(&done));
     assert!(rt; is_dropped(&Done::of(other, &options)));
     Ok(())
 }

@@ -1,12 +1,12 @@
 //! Carries out the fate of a record: what is written of it, what is held behind it, and what is counted.
-ghost use Rattle.std.specs.Prelude.{◌≡◌, ◌<◌, ◌+◌, ◌^◌, Some, IfOk, IsTrue, OnOk, OnErr};
+ghost use Rattle.std.specs.Prelude.{◌≡◌, ◌<◌, ◌+◌, ◌^◌, [], Some, IfOk, IsTrue, OnOk, OnErr};
 ghost use Rattle.dump_records.specs.steps.RecordViews.{record_item};
 ghost use Rattle.dump_records.specs.RecordText.{DumpRecord};
 ghost use Rattle.dump_rules.specs.Settings.{Settings};
 ghost use Rattle.dump_digest.specs.steps.DoneViews.{done_record, done_verdict};
 ghost use Rattle.dump_digest.specs.RecordParts.{is_revision_record};
 ghost use Rattle.dump_filter.specs.steps.NewProperties.{IsReadNode};
-ghost use Rattle.dump_filter.specs.steps.State.{view_pending, view_group, view_state, revision_count};
+ghost use Rattle.dump_filter.specs.steps.State.{CanCountMore, view_pending, view_group, view_state, revision_count};
 ghost use Rattle.dump_filter.specs.steps.State.PresentGroup.{Pending as IsPending};
 ghost use Rattle.dump_filter.specs.steps.Advance.{IsOwnRevision, IsEndText, IsFrontText, IsPiece, with_kept, with_kept_revision, opened, ended, text_count, fate_state, next_state};
 ghost use Rattle.dump_filter.specs.steps.Knowledge.{AreKept};
@@ -21,6 +21,7 @@ use dump_records::Record;
 use dump_rules::Options;
 use dump_writer::{Memory, Piece};
 use std::alloc::Global;
+use std::mem;
 
 impl<'a> State<'a> {
     /// Writes a pending revision, padded or not, and keeps it.
@@ -59,9 +60,7 @@ impl<'a> State<'a> {
         ensures state { OnOk result (view_state self.new ≡ opened (view_state self.old)) }
         ensures last { self.new.last ≡ self.old.last }
     {
-        let group = self.group;
-        self.group = Group::Written;
-        match group {
+        match mem::replace(&mut self.group, Group::Written) {
             Group::Pending(pending) => self.write_pending(alloc, options, &pending, false),
             Group::None | Group::Written => Ok(Piece::new(alloc)),
         }
@@ -80,9 +79,7 @@ impl<'a> State<'a> {
         ensures state { OnOk result (view_state self.new ≡ ended options.now (view_state self.old)) }
         ensures last { self.new.last ≡ self.old.last }
     {
-        let group = self.group;
-        self.group = Group::None;
-        match group {
+        match mem::replace(&mut self.group, Group::None) {
             Group::Pending(pending) => {
                 if pending.stays(options) {
                     self.write_pending(alloc, options, &pending, pending.pads(options))
@@ -104,8 +101,7 @@ impl<'a> State<'a> {
         copy: CopyChange,
     ) -> Result<Piece<'a>, Memory>
         requires kept { AreKept self.old.revisions (view_group self.old.group) }
-        requires room { revision_count (view_state self.old) < 2 ^ 64 }
-        requires nodes { self.old.report.nodes_kept + 1 < 2 ^ 64 }
+        requires room { CanCountMore (view_state self.old) }
         requires node { IsReadNode done.now }
         ensures piece { let r = record_item (done_record done.now) in
             IfOk result (λ piece. IsPiece options.now (view_state self.old) r (Fate.Keep copy) piece) }
@@ -120,15 +116,17 @@ impl<'a> State<'a> {
         Ok(piece)
     }
 
-    /// Leaves a node out.
-    fn drop_node(&mut self)
-        requires { self.old.report.nodes_dropped + 1 < 2 ^ 64 }
+    /// Leaves a node out, of which nothing is written.
+    fn drop_node(&mut self, alloc: Global) -> Piece<'a>
+        requires { CanCountMore (view_state self.old) }
+        ensures piece { result ≡ [] }
         ensures state { (settings : Settings) (r : DumpRecord)
             → view_state self.new ≡ fate_state settings (view_state self.old) r Fate.Drop }
         ensures last { self.new.last ≡ self.old.last }
     {
-        self.group = self.group.emptied();
+        self.group.empty();
         self.report.nodes_dropped += 1;
+        Piece::new(alloc)
     }
 
     /// Ends the present group, and holds the revision that begins the next.
@@ -139,7 +137,7 @@ impl<'a> State<'a> {
         done: Done<'a>,
     ) -> Result<Piece<'a>, Memory>
         requires kept { AreKept self.old.revisions (view_group self.old.group) }
-        requires room { revision_count (view_state self.old) < 2 ^ 64 }
+        requires room { CanCountMore (view_state self.old) }
         requires revision { IsTrue (is_revision_record (record_item (done_record done))) }
         ensures piece { let r = record_item (done_record done.entry) in
             IfOk result (λ piece. IsPiece options.now (view_state self.old) r Fate.Hold piece) }
@@ -164,7 +162,7 @@ impl<'a> State<'a> {
         item: &Record<'a>,
     ) -> Result<Piece<'a>, Memory>
         requires kept { AreKept self.old.revisions (view_group self.old.group) }
-        requires room { revision_count (view_state self.old) < 2 ^ 64 }
+        requires room { CanCountMore (view_state self.old) }
         ensures piece { let r = record_item item.now in
             IfOk result (λ piece. IsPiece options.now (view_state self.old) r Fate.Pass piece) }
         ensures state { let r = record_item item.now in
@@ -176,40 +174,9 @@ impl<'a> State<'a> {
         Ok(piece)
     }
 
-    /// Carries out the fate of a record.
-    fn carry_out(
-        &mut self,
-        alloc: Global,
-        options: &Options,
-        done: Done<'a>,
-        fate: Fate,
-    ) -> Result<Piece<'a>, Memory>
-        requires kept { AreKept self.old.revisions (view_group self.old.group) }
-        requires room { revision_count (view_state self.old) < 2 ^ 64 }
-        requires nodes_kept { self.old.report.nodes_kept + 1 < 2 ^ 64 }
-        requires nodes_dropped { self.old.report.nodes_dropped + 1 < 2 ^ 64 }
-        requires node { (copy : Change) → fate ≡ Fate.Keep copy → IsReadNode done }
-        requires revision { fate ≡ Fate.Hold → IsTrue (is_revision_record (record_item (done_record done))) }
-        ensures piece { let r = record_item (done_record done.entry) in
-            IfOk result (λ piece. IsPiece options.now (view_state self.old) r fate piece) }
-        ensures state { let r = record_item (done_record done.entry) in
-            OnOk result (view_state self.new ≡ fate_state options.now (view_state self.old) r fate) }
-        ensures last { self.new.last ≡ self.old.last }
-    {
-        match fate {
-            Fate::Keep(copy) => self.keep_node(alloc, options, &done, copy),
-            Fate::Drop => {
-                self.drop_node();
-                Ok(Piece::new(alloc))
-            }
-            Fate::Hold => self.hold_revision(alloc, options, done),
-            Fate::Pass => self.pass_lines(alloc, options, &done.item()),
-        }
-    }
-
     /// The count of checked texts with one more, if it was checked.
     fn text_count(&self, checked: bool) -> u64
-        requires { self.now.report.texts_checked + 1 < 2 ^ 64 }
+        requires { CanCountMore (view_state self.now) }
         ensures { result ≡ text_count checked self.now.report }
     {
         if checked {
@@ -228,10 +195,7 @@ impl<'a> State<'a> {
         fate: Fate,
     ) -> Result<Piece<'a>, Memory>
         requires kept { AreKept self.old.revisions (view_group self.old.group) }
-        requires room { revision_count (view_state self.old) < 2 ^ 64 }
-        requires nodes_kept { self.old.report.nodes_kept + 1 < 2 ^ 64 }
-        requires nodes_dropped { self.old.report.nodes_dropped + 1 < 2 ^ 64 }
-        requires texts { self.old.report.texts_checked + 1 < 2 ^ 64 }
+        requires room { CanCountMore (view_state self.old) }
         requires node { (copy : Change) → fate ≡ Fate.Keep copy → IsReadNode done }
         requires revision { fate ≡ Fate.Hold → IsTrue (is_revision_record (record_item (done_record done))) }
         ensures piece { let r = record_item (done_record done.entry) in
@@ -243,9 +207,15 @@ impl<'a> State<'a> {
         ensures err { OnErr result (self.new.last ≡ self.old.last) }
     {
         let texts_checked = self.text_count(done.verdict().checked);
-        let piece = self.carry_out(alloc, options, done, fate)?;
+        let item = done.item();
+        let piece = match fate {
+            Fate::Keep(copy) => self.keep_node(alloc, options, &done, copy)?,
+            Fate::Drop => self.drop_node(alloc),
+            Fate::Hold => self.hold_revision(alloc, options, done)?,
+            Fate::Pass => self.pass_lines(alloc, options, &item)?,
+        };
         self.report.texts_checked = texts_checked;
-        self.last = Some(done.item());
+        self.last = Some(item);
         Ok(piece)
     }
 }

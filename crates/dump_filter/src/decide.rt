@@ -38,7 +38,7 @@ fn node_fate(options: &Options, state: &State<'_>, done: &Done<'_>) -> Result<Fa
 {
     let copy = copy_change(options, state, done)?;
     let present = state.revisions.node_revision();
-    match done.merge_fault(state.revisions.kept.first(), present) {
+    match done.merge_fault(options, state.revisions.kept.first(), present) {
         Some(fault) => Err(fault),
         None => Ok(Fate::Keep(copy)),
     }

@@ -7,7 +7,7 @@ ghost use Rattle.dump_digest.specs.RecordParts.{is_revision_record};
 use dump_digest::Done;
 
 /// A revision that isn't written yet: its group has no kept node so far.
-#[derive(Clone, Copy)]
+#[derive(Drop)]
 pub(crate) struct Pending<'a> {
     pub(crate) revision: Done<'a>,
     /// Whether the group has no node at all.

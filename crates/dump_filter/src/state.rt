@@ -13,7 +13,7 @@ use dump_rules::{Empty, Options};
 use std::alloc::Global;
 
 /// The group of a node that comes next.
-#[derive(Clone, Copy)]
+#[derive(Drop)]
 pub(crate) enum Group<'a> {
     /// There is none: no node may come next.
     None,
@@ -71,17 +71,13 @@ impl<'a> Group<'a> {
         }
     }
 
-    /// The group behind a dropped node.
-    pub(crate) fn emptied(self) -> Group<'a>
-        ensures { view_group result ≡ emptied (view_group self.entry) }
+    /// Notes that a node of it was dropped.
+    pub(crate) fn empty(&mut self)
+        ensures { view_group self.new ≡ emptied (view_group self.old) }
     {
         match self {
-            Group::Pending(pending) => Group::Pending(Pending {
-                revision: pending.revision,
-                bare: false,
-            }),
-            Group::None => Group::None,
-            Group::Written => Group::Written,
+            Group::Pending(pending) => pending.bare = false,
+            Group::None | Group::Written => {}
         }
     }
 }

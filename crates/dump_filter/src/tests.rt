@@ -200,7 +200,7 @@ fn pass<'a>(
         }
         Err(fault) => {
             out.note(filter.expected() == record.number());
-            let again = filter.step(alloc, done).err();
+            let again = filter.step(alloc, Done::of(record, options)).err();
             out.note(again == Some(StepFault::Closed));
             Err(Some(fault))
         }

@@ -56,7 +56,7 @@ module _ {D : Type 0} {run : Ghosts D} where
   -- the cutter puts one more job
   pub put_more : (count : ℕ) (old a b c : CutterSide (Job D run)) (job : Job D run) → HasPut count old a
       → b ≡ record a { drawn = b.drawn } → a.drawn < b.drawn → c ≡ record b { put = b.put ++ job ∷ [] }
-      → job.number ≡ count → HasPut (count + 1) old c
+      → job_number job ≡ count → HasPut (count + 1) old c
   put_more count old a b c job h drew more put is = subst (HasPut (count + 1) old) (sym put) at_b
     where
       put_is : b.put ≡ a.put
@@ -68,8 +68,8 @@ module _ {D : Type 0} {run : Ghosts D} where
         workers = ap (λ (x : CutterSide (Job D run)). x.workers) drew ∙ h.workers;
         open_ = ap (λ (x : CutterSide (Job D run)). x.marks) drew ∙ h.open_;
         numbers = map-append job_number b.put (job ∷ [])
-            ∙ (ap (λ (l : List (Job D run)). job_numbers l ++ job.number ∷ []) put_is
-            ∙ (ap (λ (l : List ℕ). l ++ job.number ∷ []) h.numbers
+            ∙ (ap (λ (l : List (Job D run)). job_numbers l ++ job_number job ∷ []) put_is
+            ∙ (ap (λ (l : List ℕ). l ++ job_number job ∷ []) h.numbers
             ∙ (ap (λ (n : ℕ). first_numbers count ++ n ∷ []) is ∙ sym (first_more count))));
         credits = let k = h.credits in omega arith;
       }
@@ -101,7 +101,7 @@ module _ {D : Type 0} {run : Ghosts D} where
       (empty_row checked_number w))
 
   numbers_more : (taken : List (Checked D run)) (done : Checked D run)
-      → checked_numbers (taken ++ done ∷ []) ≡ checked_numbers taken ++ done.number ∷ []
+      → checked_numbers (taken ++ done ∷ []) ≡ checked_numbers taken ++ checked_number done ∷ []
   numbers_more taken done = map-append checked_number taken (done ∷ [])
 
   -- nothing was lifted
@@ -114,7 +114,7 @@ module _ {D : Type 0} {run : Ghosts D} where
   -- the next was lifted
   pub row_lifted : (w r : ℕ) (arrived : List ℕ) (old new : List (Option (Checked D run))) (o : Option (Checked D run))
       (done : Checked D run) → 0 < length old
-      → Row checked_number w r arrived old → o ≡ slot_item old r → o ≡ Some done → done.number ≡ r
+      → Row checked_number w r arrived old → o ≡ slot_item old r → o ≡ Some done → checked_number done ≡ r
       → new ≡ with_slot_item old r None
       → Row checked_number w (r + 1) arrived new
   row_lifted w r arrived old new o done some h is stands same set =
@@ -124,7 +124,7 @@ module _ {D : Type 0} {run : Ghosts D} where
   -- another than the next was lifted
   pub lifted_wrong : (w r : ℕ) (arrived : List ℕ) (old : List (Option (Checked D run))) (o : Option (Checked D run))
       (done : Checked D run) → 0 < length old
-      → Row checked_number w r arrived old → o ≡ slot_item old r → o ≡ Some done → done.number ≢ r → Clash w r arrived
+      → Row checked_number w r arrived old → o ≡ slot_item old r → o ≡ Some done → checked_number done ≢ r → Clash w r arrived
   lifted_wrong w r arrived old o done some h is stands other = wrong_item checked_number w r arrived old done some h
       (sym is ∙ stands) other
 
@@ -132,19 +132,19 @@ module _ {D : Type 0} {run : Ghosts D} where
   pub row_placed : (w r : ℕ) (taken taken' : List (Checked D run)) (old new : List (Option (Checked D run)))
       (done : Checked D run) → 0 < length old
       → Row checked_number w r (checked_numbers taken) old → taken' ≡ taken ++ done ∷ []
-      → IsNone (slot_item old done.number)
-      → new ≡ with_slot_item old done.number (Some done) → Row checked_number w r (checked_numbers taken') new
+      → IsNone (slot_item old (checked_number done))
+      → new ≡ with_slot_item old (checked_number done) (Some done) → Row checked_number w r (checked_numbers taken') new
   row_placed w r taken taken' old new done some h more free set =
       subst (λ (l : List ℕ). Row checked_number w r l new)
       (sym (ap (λ (t : List (Checked D run)). checked_numbers t) more ∙ numbers_more taken done))
-      (subst (Row checked_number w r (checked_numbers taken ++ done.number ∷ [])) (sym set)
+      (subst (Row checked_number w r (checked_numbers taken ++ checked_number done ∷ [])) (sym set)
       (arrived_more checked_number w r (checked_numbers taken) old done some h
-      (is_none_so (slot_item old done.number) free)))
+      (is_none_so (slot_item old (checked_number done)) free)))
 
   -- the next item was taken, and has no place in the row
   pub row_passed : (w r : ℕ) (taken taken' : List (Checked D run)) (places : List (Option (Checked D run)))
       (done : Checked D run) → Row checked_number w r (checked_numbers taken) places → taken' ≡ taken ++ done ∷ []
-      → done.number ≡ r → Row checked_number w (r + 1) (checked_numbers taken') places
+      → checked_number done ≡ r → Row checked_number w (r + 1) (checked_numbers taken') places
   row_passed w r taken taken' places done h more is =
       subst (λ (l : List ℕ). Row checked_number w (r + 1) l places)
       (sym (ap (λ (t : List (Checked D run)). checked_numbers t) more ∙ numbers_more taken done
@@ -155,10 +155,10 @@ module _ {D : Type 0} {run : Ghosts D} where
   pub place_clash : (w r : ℕ) (taken taken' : List (Checked D run)) (old : List (Option (Checked D run)))
       (done : Checked D run) → 0 < length old
       → Row checked_number w r (checked_numbers taken) old → taken' ≡ taken ++ done ∷ []
-      → (IsNone (slot_item old done.number) → ⊥)
+      → (IsNone (slot_item old (checked_number done)) → ⊥)
       → Clash w r (checked_numbers taken')
   place_clash w r taken taken' old done some h more full =
-      let stands = not_none_so (slot_item old done.number) full in
+      let stands = not_none_so (slot_item old (checked_number done)) full in
       subst (Clash w r) (sym (ap (λ (t : List (Checked D run)). checked_numbers t) more ∙ numbers_more taken done))
       (taken_place checked_number w r (checked_numbers taken) old done stands.0 some h stands.1)
 
@@ -200,10 +200,10 @@ module _ {D : Type 0} {run : Ghosts D} where
       × (checked_numbers taken ≡ old ++ more)
       → taken' ≡ taken ++ done ∷ [] → (more : List ℕ) × (checked_numbers taken' ≡ old ++ more)
   more_taken old taken taken' done (more, is) longer = (
-    more ++ done.number ∷ [],
+    more ++ checked_number done ∷ [],
     ap (λ (t : List (Checked D run)). checked_numbers t) longer
-        ∙ (numbers_more taken done ∙ (ap (λ (l : List ℕ). l ++ done.number ∷ []) is
-        ∙ append_assoc old more (done.number ∷ []))),
+        ∙ (numbers_more taken done ∙ (ap (λ (l : List ℕ). l ++ checked_number done ∷ []) is
+        ∙ append_assoc old more (checked_number done ∷ []))),
   )
 
 -- a piece was released
@@ -232,12 +232,12 @@ count_released next old new piece put is = ap (λ (x : Sending NumberedPiece). l
 
 -- with one more piece put, under the next number, their numbers are still the first ones
 pub numbers_released : (next : ℕ) (old new : Sending NumberedPiece) (piece : NumberedPiece)
-    → new ≡ record old { put = old.put ++ piece ∷ [] } → piece.number ≡ next
+    → new ≡ record old { put = old.put ++ piece ∷ [] } → piece.number.value ≡ next
     → piece_numbers old.put ≡ first_numbers next → piece_numbers new.put ≡ first_numbers (next + 1)
 numbers_released next old new piece put is h =
     ap (λ (x : Sending NumberedPiece). piece_numbers x.put) put
-    ∙ (map-append (λ (p : NumberedPiece). p.number) old.put (piece ∷ [])
-    ∙ (ap (λ (l : List ℕ). l ++ piece.number ∷ []) h
+    ∙ (map-append (λ (p : NumberedPiece). p.number.value) old.put (piece ∷ [])
+    ∙ (ap (λ (l : List ℕ). l ++ piece.number.value ∷ []) h
     ∙ (ap (λ (n : ℕ). first_numbers next ++ n ∷ []) is ∙ sym (first_more next))))
 
 -- how far it has come tells what it ended with

@@ -17,8 +17,8 @@
 //! }
 //! ```
 //!
-//! `tests::want_of_memory_leaves_a_first_part` runs this, and
-//! `tests::running::want_of_memory_leaves_a_first_part_over_threads` the same by [`run`].
+//! `tests::runs::out_of_memory_leaves_a_first_part` of `dump_cli`, where the tests of whole runs stand, runs this, and
+//! `tests::runs::running::out_of_memory_leaves_a_first_part_over_threads` the same by [`run`].
 #![tactic(auto)]
 
 mod answer;
@@ -44,6 +44,3 @@ pub use gate::{FreeGate, Gate};
 pub use pipeline::run;
 pub use plain::run_plain;
 pub use plan::Plan;
-
-#[cfg(test)]
-mod tests;

@@ -1,7 +1,8 @@
 //! The messages between a run's threads, and what each keeps.
 //!
 //! What comes out of a queue may come from anywhere, so a message keeps in its type that it is of this run:
-//! a job is item `number` of this dump, a checked one has its verdict under these options.
+//! a job is an item of this dump, a checked one has its verdict under these options. No message has a number beside a
+//! record, which has its own.
 ghost use Rattle.std.specs.Prelude.{◌≡◌, ◌+◌, ◌<◌, ◌≤◌, ◌^◌, ℕ, List, length, Ok, Err};
 ghost use Rattle.std.specs.Result.{ForOk, ForErr};
 ghost use Rattle.dump_records.specs.steps.CutRecords.{EndsAfter};
@@ -18,6 +19,7 @@ use dump_rules::Options;
 use dump_text::FaultKind;
 use dump_writer::Piece;
 use std::marker::{Brand, PhantomData};
+use std::snapshot::Snapshot;
 
 /// What all messages of one run speak of.
 pub trait Run {
@@ -48,48 +50,52 @@ impl Run for Brand {
 /// The cutter's last word: the fault that ends the list of records and its place, or none where the dump ends it.
 pub type Last = Option<(FaultKind, usize)>;
 
-/// Item `number` of this run on its way to a worker: a record, or the cutter's last word behind all of them.
+/// The cutter's last word behind so many records.
+#[derive(Clone, Copy)]
+pub struct LastWord {
+    pub number: u64,
+    pub end: Last,
+}
+
+/// An item of this run on its way to a worker: a record, or the cutter's last word behind all of them.
 #[derive(Drop)]
 pub struct Job<'a, D: Run> {
-    pub number: u64,
-    pub what: Result<Record<'a>, Last>,
+    pub what: Result<Record<'a>, LastWord>,
     pub credit: Credit,
     of: PhantomData<D>,
-    pub ghost item: { ForOk what (λ r. (record_dump r ≡ D.dump) × (record_number r ≡ number)) },
-    pub ghost last: { ForErr what (λ end. ∥ EndsAfter D.dump number (ending_of end) ∥₁) },
-    pub ghost counted: { number + 1 < 2 ^ 64 },
+    pub ghost item: { ForOk what (λ r. record_dump r ≡ D.dump) },
+    pub ghost last: { ForErr what (λ word. ∥ EndsAfter D.dump word.number (ending_of word.end) ∥₁) },
+    pub ghost counted: { ForErr what (λ word. word.number + 1 < 2 ^ 64) },
 }
 
 /// The same item on its way to the sequencer, the record checked.
 #[derive(Drop)]
 pub struct Checked<'a, D: Run> {
-    pub number: u64,
-    pub what: Result<Done<'a>, Last>,
+    pub what: Result<Done<'a>, LastWord>,
     pub credit: Credit,
     of: PhantomData<D>,
-    pub ghost item: { ForOk what (λ d. (record_dump (done_record d) ≡ D.dump)
-        × (record_number (done_record d) ≡ number)
-        × (done_settings d ≡ D.settings)) },
-    pub ghost last: { ForErr what (λ end. ∥ EndsAfter D.dump number (ending_of end) ∥₁) },
-    pub ghost counted: { number + 1 < 2 ^ 64 },
+    pub ghost item: { ForOk what (λ d. (record_dump (done_record d) ≡ D.dump) × (done_settings d ≡ D.settings)) },
+    pub ghost last: { ForErr what (λ word. ∥ EndsAfter D.dump word.number (ending_of word.end) ∥₁) },
+    pub ghost counted: { ForErr what (λ word. word.number + 1 < 2 ^ 64) },
 }
 
-/// What is written of an item, with its number, on its way to the writer.
+/// What is written of an item, on its way to the writer, which knows its number from its type alone.
 #[derive(Drop)]
 pub struct NumberedPiece<'a> {
-    pub number: u64,
+    pub number: Snapshot<u64>,
     pub piece: Piece<'a>,
     pub credit: Credit,
 }
 
 impl<'a, D: Run> Job<'a, D> {
+    ghost use Rattle.dump_pipeline.specs.steps.Messages.{job_number};
+
     /// The job of a record.
     pub fn item(item: Record<'a>, credit: Credit) -> Job<'a, D>
         requires { record_dump item ≡ D.dump }
-        ensures { result.number ≡ record_number item.entry }
+        ensures { job_number result ≡ record_number item.entry }
     {
         Job {
-            number: item.number(),
             what: Ok(item),
             credit,
             of: PhantomData,
@@ -100,11 +106,10 @@ impl<'a, D: Run> Job<'a, D> {
     pub fn last(number: u64, end: Last, credit: Credit) -> Job<'a, D>
         requires ends { ∥ EndsAfter D.dump number (ending_of end) ∥₁ }
         requires few { number + 1 < 2 ^ 64 }
-        ensures { result.number ≡ number }
+        ensures { job_number result ≡ number }
     {
         Job {
-            number,
-            what: Err(end),
+            what: Err(LastWord { number, end }),
             credit,
             of: PhantomData,
         }
@@ -112,29 +117,32 @@ impl<'a, D: Run> Job<'a, D> {
 }
 
 impl<'a, D: Run> Checked<'a, D> {
+    ghost use Rattle.dump_pipeline.specs.steps.Messages.{checked_number, job_number};
+
+    /// Its number in the dump, from 0.
+    pub fn number(&self) -> u64
+        ensures number { result ≡ checked_number self.now }
+        ensures counted { result + 1 < 2 ^ 64 }
+    {
+        match &self.what {
+            Ok(done) => done.item().number(),
+            Err(last) => last.number,
+        }
+    }
+
     /// Checks the record of a job behind the gate. The last word needs no check.
     pub fn of<G: Gate>(job: Job<'a, D>, options: &'a Options, gate: &G) -> Checked<'a, D>
         requires { options.now ≡ D.settings }
-        ensures { result.number ≡ job.entry.number }
+        ensures { checked_number result ≡ job_number job.entry }
     {
-        let Job {
-            number,
-            what,
-            credit,
-            of,
-        } = job;
+        let Job { what, credit, of } = job;
         let what = match what {
             Ok(record) => {
-                gate.pass(number);
+                gate.pass(record.number());
                 Ok(Done::of(record, options))
             }
-            Err(end) => Err(end),
+            Err(last) => Err(last),
         };
-        Checked {
-            number,
-            what,
-            credit,
-            of,
-        }
+        Checked { what, credit, of }
     }
 }

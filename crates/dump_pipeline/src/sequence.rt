@@ -7,7 +7,7 @@ ghost use Rattle.dump_lanes.specs.steps.LaneViews.{sending, sent};
 ghost use Rattle.dump_lanes.specs.steps.PortViews.{done_port};
 ghost use Rattle.dump_lanes.specs.steps.SlotViews.{slot_places};
 ghost use Rattle.dump_pipeline.specs.steps.Endings.{ending_of};
-ghost use Rattle.dump_pipeline.specs.steps.Messages.{checked_numbers, text_of};
+ghost use Rattle.dump_pipeline.specs.steps.Messages.{checked_number, checked_numbers, text_of};
 ghost use Rattle.dump_pipeline.specs.declared.stage.Stage.{Stage as Stages};
 ghost use Rattle.dump_pipeline.specs.steps.Parts.{HasFiltered, HasReleased, HasSequenced, HasSequencedFrom, IsEndOf, IsFreshSequencer, is_failure, stage_end};
 
@@ -21,6 +21,7 @@ use dump_rules::Options;
 use dump_writer::Piece;
 use std::alloc::Global;
 use std::mem;
+use std::snapshot::Snapshot;
 use std::sync::Wait;
 
 /// The sequencer's port.
@@ -167,20 +168,16 @@ fn step<'o, 'a, D: Run>(
     word: &StopWord,
     seat: &mut StopSeat,
 ) -> NumberedPiece<'a>
-    requires released { (text : List ℕ) × HasReleased D.settings D.dump stage.old checked.number text }
+    requires released { (text : List ℕ) × HasReleased D.settings D.dump stage.old (checked_number checked) text }
     requires this_word { seat.old.word ≡ word.now }
     requires raised { seat.old.raised ≡ is_failure (stage_end stage.old) }
     ensures seat { seat.new ≡ record seat.old { raised = is_failure (stage_end stage.new) } }
-    ensures number { result.number ≡ checked.entry.number }
-    ensures text { (text : List ℕ) → HasReleased D.settings D.dump stage.old checked.entry.number text
-        → HasReleased D.settings D.dump stage.new (checked.entry.number + 1) (text ++ result.piece) }
+    ensures number { result.number.value ≡ checked_number checked.entry }
+    ensures text { (text : List ℕ) → HasReleased D.settings D.dump stage.old (checked_number checked.entry) text
+        → HasReleased D.settings D.dump stage.new (checked_number checked.entry + 1) (text ++ result.piece) }
 {
-    let Checked {
-        number,
-        what,
-        credit,
-        ..
-    } = checked;
+    let number = Snapshot::of(&checked.number());
+    let Checked { what, credit, .. } = checked;
     if let Stage::Ended(_) = stage {
         let piece = Piece::new(alloc);
         return NumberedPiece {
@@ -191,7 +188,7 @@ fn step<'o, 'a, D: Run>(
     }
     let piece = match what {
         Ok(done) => step_record::<D>(alloc, stage, done),
-        Err(last) => step_end::<D>(alloc, stage, number, last),
+        Err(last) => step_end::<D>(alloc, stage, last.number, last.end),
     };
     raise_at_failure(stage, word, seat);
     NumberedPiece {
@@ -251,14 +248,14 @@ fn release_all<'a, D: Run, R: Wait>(
     for _ in rt.forever() {
         let checked = match ends.slots.lift(next) {
             Some(checked) => {
-                if checked.number != next {
+                if checked.number() != next {
                     return (stage.end(), true);
                 }
                 checked
             }
             None => match ends.port.take(rt) {
                 Some(checked) => {
-                    let number = checked.number;
+                    let number = checked.number();
                     if number != next {
                         match ends.slots.place(number, checked) {
                             Ok(()) => continue,

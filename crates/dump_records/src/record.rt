@@ -43,11 +43,11 @@ pub struct Record<'a> {
 }
 
 impl<'a> Record<'a> {
-    ghost use Rattle.std.specs.Prelude.{◌≡◌, ◌==◌, ◌&&◌, ◌++◌, List, [], IfSome, is_some, option_copied, slice_range, bytes_eq, unwrap_or, codes, drop};
+    ghost use Rattle.std.specs.Prelude.{◌≡◌, ◌==◌, ◌&&◌, ◌||◌, ◌++◌, List, [], IfSome, is_some, option_copied, slice_range, bytes_eq, unwrap_or, codes, drop};
     ghost use Rattle.std.specs.List.{starts_with};
-    ghost use Rattle.dump_text.specs.Names.{path_name, revision_name, copy_path_name, copy_revision_name, property_length_name, text_length_name, node_kind_name, md5_name, sha1_name};
+    ghost use Rattle.dump_text.specs.Names.{path_name, revision_name, copy_path_name, copy_revision_name, property_length_name, text_length_name, node_kind_name, md5_name, sha1_name, text_delta_name, prop_delta_name};
     ghost use Rattle.dump_text.specs.HeaderLine.{has_header, header_value};
-    ghost use Rattle.dump_records.specs.HeaderRules.{header_number};
+    ghost use Rattle.dump_records.specs.HeaderRules.{header_number, says_true};
     ghost use Rattle.dump_records.specs.steps.RecordKinds.{kind_of};
     ghost use Rattle.dump_records.specs.RecordText.{has_text_delta, has_prop_delta};
     ghost use Rattle.dump_records.specs.steps.KindReading.{copy_in};
@@ -179,6 +179,14 @@ impl<'a> Record<'a> {
         ensures { result ≡ has_prop_delta (record_item self.now) }
     {
         self.may_have_delta() && self.header.prop_delta
+    }
+
+    /// Whether its lines say that its text or its property block is a delta, whatever it is and under any version.
+    pub fn says_delta(&self) -> bool
+        ensures { let r = record_item self.now in
+            result ≡ (says_true prop_delta_name r.headers || says_true text_delta_name r.headers) }
+    {
+        self.header.prop_delta || self.header.text_delta
     }
 
     /// Whether it is a node under version 3, which a delta may be part of.

@@ -92,7 +92,7 @@ mod rewriting;
 mod runs;
 
 pub use memory::Memory;
-pub use merged::Merged;
+pub use merged::{Bounds, Merged};
 pub use mergeinfo::merge_reads;
 pub use options::{Empty, Options, Side};
 pub use paths::keeps;

@@ -13,42 +13,42 @@ use crate::ranges::{Span, list_reads, range};
 use crate::runs::cut_at;
 use dump_text::find;
 
-/// The least and the greatest number of some ranges.
+/// The least and the greatest number of some ranges, as far as they are any: no number lies outside of none.
 #[derive(Clone, Copy, Debug, PartialEq, Eq)]
-pub(crate) struct Bounds {
-    pub least: u64,
-    pub greatest: u64,
+pub struct Bounds {
+    least: u64,
+    greatest: u64,
 }
 
 impl Bounds {
+    /// Those of no range: whatever range comes first has its own.
+    pub const NONE: Bounds = Bounds {
+        least: u64::MAX,
+        greatest: 0,
+    };
+
     /// The bounds with those of a range.
-    fn widened(bounds: Option<Bounds>, span: Span) -> Bounds
+    fn widened(bounds: Bounds, span: Span) -> Bounds
         ensures { result ≡ widened bounds (span_range span) }
     {
-        match bounds {
-            Some(bounds) => Bounds {
-                least: bounds.least.min(span.from),
-                greatest: bounds.greatest.max(span.to),
-            },
-            None => Bounds {
-                least: span.from,
-                greatest: span.to,
-            },
+        Bounds {
+            least: bounds.least.min(span.from),
+            greatest: bounds.greatest.max(span.to),
         }
     }
 
     /// The bounds with those of a part, if it is a range.
-    fn widened_by(bounds: Option<Bounds>, part: &[u8]) -> Option<Bounds>
+    fn widened_by(bounds: Bounds, part: &[u8]) -> Bounds
         ensures { result ≡ widened_by bounds (range_of part.now) }
     {
         match range(part) {
-            Some(span) => Some(Bounds::widened(bounds, span)),
+            Some(span) => Bounds::widened(bounds, span),
             None => bounds,
         }
     }
 
     /// The bounds with those of a list.
-    fn widened_by_list(bounds: Option<Bounds>, list: &[u8]) -> Option<Bounds>
+    fn widened_by_list(bounds: Bounds, list: &[u8]) -> Bounds
         ensures { result ≡ list_bounds bounds list.now }
     {
         if list.is_empty() {
@@ -63,6 +63,14 @@ impl Bounds {
         }
         Bounds::widened_by(bounds, rest)
     }
+
+    /// Whether a number is above `present`, the present revision, or one below `first`, the dump's first, where such
+    /// numbers may not be left out. `options` are those that the numbers were read under.
+    pub fn has_foreign_number(&self, options: &Options, first: u64, present: u64) -> bool
+        ensures { result ≡ is_outside options.now first present self.now }
+    {
+        self.greatest > present || !options.skip_missing() && self.least < first
+    }
 }
 
 /// What values of svn:mergeinfo say under some options, each read once. It takes no memory.
@@ -71,7 +79,7 @@ pub struct Merged {
     /// Whether a line's path isn't kept, and such lines may not be left out.
     misses: bool,
     /// The bounds of the numbers in lines that stay, where revisions are renumbered.
-    numbers: Option<Bounds>,
+    numbers: Bounds,
 }
 
 impl Merged {
@@ -81,7 +89,7 @@ impl Merged {
     {
         Merged {
             misses: false,
-            numbers: None,
+            numbers: Bounds::NONE,
         }
     }
 
@@ -150,17 +158,19 @@ impl Merged {
         self.misses
     }
 
+    /// The bounds of the numbers in lines that stay, where revisions are renumbered.
+    pub fn numbers(&self) -> Bounds
+        ensures { result ≡ self.now.numbers }
+    {
+        self.numbers
+    }
+
     /// Whether revisions are renumbered and a line that stays has a number above `present`, the present revision, or
     /// one below `first`, the dump's first, where such numbers may not be left out. `options` are those that the values
     /// were read under.
     pub fn has_foreign_number(&self, options: &Options, first: u64, present: u64) -> bool
         ensures { result ≡ is_outside options.now first present self.now.numbers }
     {
-        match self.numbers {
-            Some(numbers) => {
-                numbers.greatest > present || !options.skip_missing() && numbers.least < first
-            }
-            None => false,
-        }
+        self.numbers.has_foreign_number(options, first, present)
     }
 }

@@ -1,12 +1,17 @@
 -- Where nothing that matters is told, nothing that matters is found in the groups.
-use Rattle.std.proofs.Common.{◌≡◌, ℕ, Bool, true, false, not, ◌||◌, ◌==◌, List, [], ◌∷◌, ◌++◌, length, flat_map, map, None, IsTrue, refl, sym, ap, ◌∙◌, subst, arith}
+use Rattle.std.proofs.Common.{◌≡◌, ℕ, Bool, true, false, not, ◌&&◌, ◌||◌, ◌==◌, List, [], ◌∷◌, ◌++◌, length, flat_map, map, None, IsTrue, IsFalse, refl, sym, ap, ◌∙◌, subst, arith, append-nil, append_assoc}
 use Rattle.std.specs.List.{list_all, list_any}
 use Rattle.std.proofs.lemmas.Bool.{and_from, ne_eqb}
-use Rattle.dump_text.proofs.BoolLemmas.{first_false, second_false, not_true, not_false}
+use Rattle.dump_text.proofs.BoolLemmas.{first_true, second_true, both_true, first_false, second_false, not_true, not_false, not_so, false_true}
 use Rattle.dump_records.proofs.Unique.{records_once}
 use Rattle.dump_records.specs.RecordText.{DumpRecord}
 use Rattle.dump_records.specs.DumpText.{Ending, HasRecords}
-use Rattle.dump_rules.specs.Settings.{Settings}
+use Rattle.dump_text.specs.declared.fault.FaultKind.{FaultKind}
+use Rattle.dump_text.specs.declared.fault.FaultKind.TheVariants.{CopySource}
+use Rattle.dump_rules.specs.Settings.{Settings, keeps_path}
+use Rattle.dump_digest.specs.RecordParts.{is_node, node_path, has_lost_source}
+use Rattle.dump_filter.specs.NewHeaders.{is_whole_file}
+use Rattle.dump_filter.specs.RecordFaults.{HoldsOfRecord}
 use Rattle.dump_filter.specs.FilterLaws.{LengthsFit}
 use Rattle.dump_filter.specs.WholeText.{IsCleanText}
 use Rattle.dump_history.specs.RecordChanges.{Patching}
@@ -19,8 +24,10 @@ use Rattle.dump_survey.specs.PrefixFindings.{told_prefixes}
 use Rattle.dump_survey.specs.PrefixLines.{prefix_lines}
 use Rattle.dump_survey.specs.Told.{NodeTold, told_view, AreTold}
 use Rattle.dump_survey.specs.SurveyEnds.{survey_ending}
-use Rattle.dump_survey.specs.SurveyTies.{all_findings, none_told, SilentSurveyRestricts, SilentTextRestricts, SilentTextLeavesDigests}
-use Rattle.dump_survey.specs.SurveyText.{IsSurveyText}
+use Rattle.dump_survey.specs.SurveyTies.{all_findings, none_told, SilentSurveyRestricts, SilentTextRestricts, SilentTextLeavesDigests, is_digest_fault}
+use Rattle.dump_survey.specs.SurveyText.{IsSurveyText, FindsNothing}
+use Rattle.dump_survey.specs.KeepAsWell.{stops_at, stops_somewhere, wanted_path, matches_itself, AreKeptAsWellIn}
+use Rattle.dump_survey.specs.AsWellLines.{AreAsWellLines}
 use Rattle.dump_survey.proofs.DigestLemmas.{digests_alone}
 use Rattle.dump_survey.proofs.PlaceLemmas.{nothing_found}
 use Rattle.dump_survey.proofs.TieLemmas.{told_are_findings}
@@ -161,3 +168,64 @@ silent_text_leaves_digests settings dump said is = (
       (none_found_in_dump settings dump said is)
       (subst (AreTold settings [] None is.records) (none_told_of_nodes settings dump said is) is.are_told) are holds,
 )
+
+-- and nothing is to be kept as well
+module _ (settings : Settings) (records : List DumpRecord)
+    (digests : (before after : List DumpRecord) (r : DumpRecord) (kind : FaultKind) → records ≡ before ++ r ∷ after
+    → HoldsOfRecord settings before r kind → IsTrue (is_digest_fault kind)) where
+  goes_on : (before after : List DumpRecord) (r : DumpRecord) → records ≡ before ++ r ∷ after
+      → stops_at settings r ≡ false
+  goes_on before after r are = not_so (stops_at settings r)
+      (λ stops. false_true (digests before after r CopySource are (lacks stops)))
+    where
+      kept : Bool
+      kept = keeps_path settings (node_path r)
+
+      lost : Bool
+      lost = has_lost_source settings r
+
+      changed : Bool
+      changed = not (is_whole_file r)
+
+      lacks : stops_at settings r ≡ true → HoldsOfRecord settings before r CopySource
+      lacks stops =
+          let node = first_true (is_node r) ((kept && lost) && changed) stops in
+          let rest = second_true (is_node r) ((kept && lost) && changed) stops in
+          let both = first_true (kept && lost) changed rest in
+          both_true ((is_node r && kept) && lost) changed
+          (both_true (is_node r && kept) lost (both_true (is_node r) kept node (first_true kept lost both))
+          (second_true kept lost both))
+          (second_true (kept && lost) changed rest)
+
+  goes_on_from : (before rest : List DumpRecord) → records ≡ before ++ rest → stops_somewhere settings rest ≡ false
+  goes_on_from before [] are = refl
+  goes_on_from before (r ∷ rest) are =
+      ap (λ b. b && matches_itself (wanted_path settings.side r) || stops_somewhere settings rest)
+      (goes_on before rest r are)
+      ∙ goes_on_from (before ++ r ∷ []) rest (are ∙ sym (append_assoc before (r ∷ []) rest))
+
+pub nothing_is_kept_as_well : (settings : Settings) (dump : List ℕ) → FindsNothing settings dump
+    → AreKeptAsWellIn settings dump []
+nothing_is_kept_as_well settings dump (said, is) =
+    let (records, has, digests) = silent_text_leaves_digests settings dump said is in (
+      records,
+      Ending.Whole,
+      has,
+      record {
+        wanted = [];
+        are_wanted = tt;
+        paths_are = refl;
+        apart = refl;
+        stops_nowhere = subst (λ (ps : List (List ℕ)). IsFalse (stops_somewhere (record settings { prefixes = ps }) records))
+            (sym (append-nil settings.prefixes)) (goes_on_from settings records digests [] records refl);
+      },
+    )
+
+-- so there is no line
+pub no_lines_as_well : (settings : Settings) (dump : List ℕ) → FindsNothing settings dump
+    → AreAsWellLines settings dump []
+no_lines_as_well settings dump nothing = record {
+  paths = [];
+  are_kept = nothing_is_kept_as_well settings dump nothing;
+  lines_are = refl;
+}

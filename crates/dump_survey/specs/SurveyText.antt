@@ -1,5 +1,5 @@
 -- What a survey writes: one line for each finding, in the dump's order, and behind them one for each kind.
-use Rattle.std.specs.Prelude.{◌≡◌, ℕ, Bool, not, ◌==◌, List, [], ◌++◌, flat_map, length, map, Option, None}
+use Rattle.std.specs.Prelude.{◌≡◌, ℕ, Bool, false, not, ◌==◌, List, [], ◌++◌, flat_map, length, map, Option, None}
 use Rattle.std.specs.Io.KnownBytes.{Appends}
 use Rattle.dump_records.specs.RecordText.{DumpRecord}
 use Rattle.dump_records.specs.DumpText.{Ending, HasRecords}
@@ -31,6 +31,10 @@ pub record IsSurveyText (settings : Settings) (dump text : List ℕ) (found : Bo
   pub are_of_dump : AreDumpTold settings records of_dump
   pub text_is : text ≡ survey_lines settings told of_dump records ending
   pub found_is : found ≡ not (length text == 0)
+
+-- the text of the survey of a dump says that nothing is found
+abbrev pub FindsNothing : Settings → List ℕ → Type 0
+FindsNothing settings dump = (text : List ℕ) × IsSurveyText settings dump text false
 
 -- the sink took a first part of the text of the survey, perhaps all
 pub record BreaksOffSurvey (settings : Settings) (dump : List ℕ) (old new : Option (List ℕ)) : Type 0 where

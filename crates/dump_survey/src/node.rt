@@ -126,7 +126,7 @@ pub(crate) fn makes_copy(item: &Record<'_>) -> bool
     requires { IsTrue (is_node (record_item item.now)) }
     ensures { result ≡ makes_copy (record_item item.now) }
 {
-    makes(item) && is_copy(item)
+    is_copy(item) && makes(item)
 }
 
 /// Whether the node has a copy source.

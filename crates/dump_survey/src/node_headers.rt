@@ -5,7 +5,7 @@ ghost use Rattle.dump_text.specs.Names.{action_name};
 ghost use Rattle.dump_text.specs.HeaderLine.{header_value};
 ghost use Rattle.dump_text.specs.steps.KnownValues.{name_text};
 ghost use Rattle.dump_records.specs.steps.RecordViews.{record_item};
-ghost use Rattle.dump_history.specs.RecordChanges.{says, has_odd_delta};
+ghost use Rattle.dump_history.specs.RecordChanges.{has_odd_delta};
 
 use dump_records::Record;
 use dump_text::HeaderName;
@@ -28,20 +28,11 @@ fn value_of<'a>(item: &Record<'a>, name: HeaderName) -> &'a [u8]
     }
 }
 
-/// Whether the line of this name has this value.
-fn says(item: &Record<'_>, name: HeaderName, value: &[u8]) -> bool
-    ensures { result ≡ says (name_text name) value.now (record_item item.now) }
-{
-    value_of(item, name) == value
-}
-
 /// Whether the node says that a part of it is a delta, where version 3 isn't in force.
 pub(crate) fn has_odd_delta(item: &Record<'_>) -> bool
     ensures { result ≡ has_odd_delta (record_item item.now) }
 {
-    item.version() != 3
-        && (says(item, HeaderName::PropDelta, b"true")
-            || says(item, HeaderName::TextDelta, b"true"))
+    item.version() != 3 && item.says_delta()
 }
 
 /// The word that says what the node does; no bytes where there is none.

@@ -47,17 +47,11 @@ pub(crate) fn is_unread_revision(item: &Record<'_>) -> bool
     item.revision().is_some() && properties_of(item).is_none()
 }
 
-/// Whether no zero byte stands in the header lines.
+/// Whether no zero byte stands in the header lines, that is in their block, whose other bytes are colons, blanks and LFs.
 pub(crate) fn are_lines_plain(item: &Record<'_>) -> bool
     ensures { result ≡ list_all is_plain_line (record_item item.now).headers }
 {
-    let mut lines = item.block().lines();
-    while let Some(line) = lines.next() {
-        if has_zero(line.name) || has_zero(line.value) {
-            return false;
-        }
-    }
-    true
+    !has_zero(item.block().bytes())
 }
 
 /// Whether no zero byte stands in the names of the properties.

@@ -1,9 +1,10 @@
 //! The survey of a dump, written as it is found, and what stands behind it.
-ghost use Rattle.std.specs.Prelude.{◌≡◌, ◌≢◌, ◌==◌, List, ℕ, Err, IfOk, OnErr, OnOk, length, not};
+ghost use Rattle.std.specs.Prelude.{◌≡◌, ◌≢◌, ◌==◌, List, ℕ, Err, IfOk, IsFalse, OnErr, OnOk, length, not};
 ghost use Rattle.std.specs.Io.KnownBytes.{Appends};
 ghost use Rattle.dump_writer.specs.SinkWords.{HasFailedSince};
 ghost use Rattle.dump_survey.specs.declared.survey_text.SurveyFailure.TheVariants as failures;
-ghost use Rattle.dump_survey.specs.SurveyText.{IsSurveyText, BreaksOffSurvey};
+ghost use Rattle.dump_survey.specs.SurveyText.{IsSurveyText, FindsNothing, BreaksOffSurvey};
+ghost use Rattle.dump_survey.specs.AsWellLines.{AreAsWellLines};
 ghost use Rattle.dump_survey.specs.LinesBehind.{AreLinesBehind, TakesSome, TakesSomeBehind};
 
 use crate::as_well::keep_as_well;
@@ -104,17 +105,39 @@ pub fn write_survey<S: Sink>(
     }
 }
 
+/// The lines of what is to be kept as well. Where the survey found nothing there are none, and the dump isn't read again.
+fn lines_as_well(
+    alloc: Global,
+    dump: &[u8],
+    options: &Options,
+    found: bool,
+) -> Result<Vec<u8>, Memory>
+    requires { IsFalse found → FindsNothing options.now dump.now }
+    ensures { IfOk result (λ lines. AreAsWellLines options.now dump.now lines.items) }
+{
+    if !found {
+        return Ok(Vec::new(alloc));
+    }
+    let paths = keep_as_well(alloc, dump, options)?;
+    as_well_lines(alloc, options.side(), &paths)
+}
+
 /// The lines of how many lines of mergeinfo are left out, of the folders to make before what is filtered under these
 /// options is loaded, and of what is to be kept as well.
-fn lines_behind(alloc: Global, dump: &[u8], options: &Options) -> Result<Vec<u8>, Memory>
+fn lines_behind(
+    alloc: Global,
+    dump: &[u8],
+    options: &Options,
+    found: bool,
+) -> Result<Vec<u8>, Memory>
+    requires { IsFalse found → FindsNothing options.now dump.now }
     ensures { IfOk result (λ lines. AreLinesBehind options.now dump.now lines.items) }
 {
     let folders = folders_to_make(alloc, options)?;
-    let paths = keep_as_well(alloc, dump, options)?;
+    let as_well = lines_as_well(alloc, dump, options, found)?;
     let mut lines = left_out_line(alloc, left_out_lines(dump, options))?;
     let to_make = folder_lines(alloc, &folders)?;
     lines.extend_from_slice(&to_make)?;
-    let as_well = as_well_lines(alloc, options.side(), &paths)?;
     lines.extend_from_slice(&as_well)?;
     Ok(lines)
 }
@@ -122,13 +145,16 @@ fn lines_behind(alloc: Global, dump: &[u8], options: &Options) -> Result<Vec<u8>
 /// Writes what stands behind the findings where a dump is filtered under these options: a line with the number of
 /// [`left_out_lines`], where that isn't 0, then one for each folder to make before the load, in the order of
 /// [`folders_to_make`], and one for each path that is to be kept as well, in that of [`keep_as_well`]: none where the
-/// filter stops at no copy. Nothing is written before all is known.
+/// filter stops at no copy. Nothing is written before all is known. The caller tells whether the survey found something:
+/// where it didn't, nothing is to be kept as well, and that isn't sought.
 pub fn write_behind<S: Sink>(
     alloc: Global,
     dump: &[u8],
     options: &Options,
+    found: bool,
     sink: &mut S,
 ) -> Result<(), SurveyFailure>
+    requires { IsFalse found → FindsNothing options.now dump.now }
     ensures whole { OnOk result ((lines : List ℕ) × AreLinesBehind options.now dump.now lines
         × Appends (S.taken sink.old) (S.taken sink.new) lines) }
     ensures part { OnErr result (TakesSomeBehind options.now dump.now (S.taken sink.old) (S.taken sink.new)) }
@@ -137,7 +163,7 @@ pub fn write_behind<S: Sink>(
         → HasFailedSince (S.failure_count sink.old) (S.failure_count sink.new) }
     ensures through { S.through sink.new ≡ S.through sink.old }
 {
-    let lines = lines_behind(alloc, dump, options)?;
+    let lines = lines_behind(alloc, dump, options, found)?;
     write_lines(alloc, sink, lines)?;
     Ok(())
 }

@@ -34,8 +34,39 @@ pub struct Props<'a> {
     pub ghost deleting: { (ps : List Property) → IsPropertyBlock bytes.now ps → deletes ≡ has_deletes ps },
 }
 
+/// What was found in a property block, without its bytes.
+#[derive(Clone, Copy)]
+pub struct PropsReading {
+    /// Whether the bytes are as they are written.
+    spelled: bool,
+    /// Whether a property is deleted.
+    deletes: bool,
+}
+
 impl<'a> Props<'a> {
-    ghost use Rattle.dump_text.specs.steps.PropertyViews.{props_bytes, entries_text, HasEntriesLeft};
+    ghost use Rattle.dump_text.specs.steps.PropertyViews.{props_bytes, entries_text, HasEntriesLeft, IsReadingOf};
+
+    /// The property block that these bytes are, where this was found in them.
+    pub fn of_reading(bytes: &'a [u8], reading: PropsReading) -> Props<'a>
+        requires { IsReadingOf reading bytes.now }
+        ensures { props_bytes result ≡ bytes.now }
+    {
+        Props {
+            bytes,
+            spelled: reading.spelled,
+            deletes: reading.deletes,
+        }
+    }
+
+    /// What was found in the block, for who has its bytes anyway.
+    pub fn reading(&self) -> PropsReading
+        ensures { IsReadingOf result (props_bytes self.now) }
+    {
+        PropsReading {
+            spelled: self.spelled,
+            deletes: self.deletes,
+        }
+    }
 
     /// The property block that the bytes are, from the first to the last, with no deleted property in it; no bytes at
     /// all are the empty list.

@@ -132,7 +132,7 @@ fn write_front<W: Write>(
     ensures loan { loan_of sink.new ≡ loan_of sink.old }
 {
     let found = write_survey(alloc, dump, options, sink)?;
-    write_behind(alloc, dump, options, sink)?;
+    write_behind(alloc, dump, options, found, sink)?;
     Ok(found)
 }
 

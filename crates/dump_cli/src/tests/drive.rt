@@ -253,7 +253,7 @@ fn leaves_first_part<R: Threads + Wait + Sync>(rt: &R, alloc: Global, dump: &[u8
 
 // Run with each allocation refused in turn.
 #[test]
-fn want_of_memory_leaves_a_first_part(rt: HostRuntime) {
+fn out_of_memory_leaves_a_first_part(rt: HostRuntime) {
     let Ok(dump) = dump(rt.alloc()) else {
         return;
     };

@@ -1,10 +1,10 @@
 -- What a check reads of a record beside its verdict.
-use Rattle.std.specs.Prelude.{◌≡◌, ◌↔◌, ℕ, Bool, true, ◌&&◌, ◌||◌, List, Option, is_some, IsSome, IsTrue}
+use Rattle.std.specs.Prelude.{◌≡◌, ◌↔◌, ◌<◌, ◌^◌, ℕ, Bool, true, ◌&&◌, ◌||◌, List, Option, is_some, IsSome, IsTrue}
 use Rattle.std.specs.List.{list_any}
 use Rattle.std.specs.Option.{ForSome}
 use Rattle.dump_text.specs.declared.props.Props.{Props}
 use Rattle.dump_text.specs.PropertyList.{Property}
-use Rattle.dump_text.specs.steps.PropertyViews.{props_bytes}
+use Rattle.dump_text.specs.steps.PropertyViews.{props_bytes, IsReadingOf}
 use Rattle.dump_records.specs.RecordText.{DumpRecord}
 use Rattle.dump_rules.specs.Settings.{Settings}
 use Rattle.dump_rules.specs.steps.Merged.{is_outside}
@@ -20,7 +20,7 @@ pub record IsSaidBy (settings : Settings) (ps : List Property) (m : Mergeinfo) :
   pub read : properties_read ps ≡ true
   pub found : m.found ≡ list_any is_mergeinfo ps
   pub sources : m.said.misses ≡ list_any (misses settings) ps
-  pub numbers : (first present : ℕ) →
+  pub numbers : (first present : ℕ) → first < 2 ^ 64 →
       is_outside settings first present m.said.numbers ≡ list_any (is_foreign settings first present) ps
 
 -- whether the properties of the record are read: those of a revision and of a kept node
@@ -32,13 +32,16 @@ pub record ArePropertiesOf (r : DumpRecord) (found : Option Props) : Type 0 wher
   pub bytes : ForSome found (λ props. props_bytes props ≡ r.props)
   pub there : IsSome found ↔ HasPropertyBlock r
 
+-- the mergeinfo that was read, whose parts stand side by side
+abbrev pub mergeinfo_in : Content → Mergeinfo
+mergeinfo_in c = record { found = c.has_mergeinfo; said = record { misses = c.misses_source; numbers = c.numbers } }
+
 -- what was read is the record's: its verdict, whether it is kept, its properties, its mergeinfo and its copy source
 pub record IsContent (settings : Settings) (r : DumpRecord) (c : Content) : Type 0 where
   pub verdict_is : IsVerdict settings r c.verdict
   pub kept_is : c.kept ≡ is_kept_node settings r
   pub asked : is_some c.props ≡ (is_asked settings r && c.verdict.props_ok)
-  pub bytes : ForSome c.props (λ props. props_bytes props ≡ r.props)
-  pub read : IsTrue (is_kept_node settings r) → is_some c.mergeinfo ≡ c.verdict.merge_ok
-  pub said : IsTrue (is_kept_node settings r) → (ps : List Property) → HasPropertyList r ps
-      → ForSome c.mergeinfo (λ m. IsSaidBy settings ps m)
+  pub reading : ForSome c.props (λ reading. IsReadingOf reading r.props)
+  pub said : IsTrue (is_kept_node settings r) → IsTrue c.verdict.merge_ok → (ps : List Property) → HasPropertyList r ps
+      → IsSaidBy settings ps (mergeinfo_in c)
   pub lost : IsTrue (is_kept_node settings r) → c.lost_source ≡ has_lost_source settings r

@@ -1,5 +1,5 @@
 -- A filter's step and end, by what it knows of the records that it has accepted.
-use Rattle.std.proofs.Common.{◌≡◌, ◌↔◌, ◌⊎◌, ℕ, ◌+◌, ◌≤◌, Bool, true, false, not, ◌&&◌, List, [], ◌∷◌, ◌++◌, length, refl, sym, ap, ◌∙◌, subst, arith, length-append, filter, inl, inr, Option, Some, None, option_map, IsTrue, Result, Ok, Err}
+use Rattle.std.proofs.Common.{◌≡◌, ◌↔◌, ◌⊎◌, ℕ, ◌+◌, ◌^◌, ◌<◌, ◌≤◌, Bool, true, false, not, ◌&&◌, List, [], ◌∷◌, ◌++◌, length, refl, sym, ap, ◌∙◌, subst, arith, length-append, filter, inl, inr, Option, Some, None, option_map, IsTrue, Result, Ok, Err}
 use Rattle.std.proofs.lemmas.Bool.{or_right, not-false}
 use Rattle.std.proofs.lemmas.List.{length-map}
 use Rattle.std.proofs.lemmas.List.Sums.{count_by-le-length, length-filter}
@@ -32,7 +32,7 @@ use Rattle.dump_filter.specs.RecordFaults.{HoldsOfRecord, IsRecordFault, AreFaul
 use Rattle.dump_filter.specs.Written.{IsWrittenText}
 use Rattle.dump_filter.specs.Counts.{report_of}
 use Rattle.dump_filter.specs.steps.FilterState.{Seen, FilterState, count_up_to, AreAccepted, IsOfSameDump, Accepts, Refuses, Finishes}
-use Rattle.dump_filter.specs.steps.State.{State, view_state, new_state, revision_count}
+use Rattle.dump_filter.specs.steps.State.{State, CanCountMore, view_state, new_state, revision_count}
 use Rattle.dump_filter.specs.steps.Advance.{IsEndText, IsPiece, ended, next_state}
 use Rattle.dump_filter.specs.steps.Decision.{decided, AreAsked}
 use Rattle.dump_filter.specs.steps.Knowledge.{Stands, AreUpTo, KnowsAccepted}
@@ -261,20 +261,26 @@ module _ {f : Inside} {state : FilterState} (h : Holds f state) where
             texts_checked = t i;
           }
 
-  -- no count is above that of the records
-  pub counts_fit : (revision_count s ≤ count_up_to state.last) × (s.report.nodes_kept ≤ count_up_to state.last)
-      × (s.report.nodes_dropped ≤ count_up_to state.last) × (s.report.texts_checked ≤ count_up_to state.last)
-  counts_fit =
+  -- no count is above that of the records, so each has room for one more where the next record's number has
+  pub has_room : (number : ℕ) → number ≡ count_up_to state.last → number + 1 < 2 ^ 64 → CanCountMore s
+  has_room number is small =
       let count = count_of in
       let room = h.knows.room in
       let kept = h.knows.kept_is in
       let dropped = h.knows.dropped_is in
-      let texts = h.knows.texts_is in (
-        omega (arith, count, room),
-        omega (arith, count, kept, count_by-le-length (is_kept_node settings) before),
-        omega (arith, count, dropped, count_by-le-length (λ x. is_node x && not (is_kept_node settings x)) before),
-        omega (arith, count, texts, count_by-le-length (is_checked_text settings) before),
-      )
+      let texts = h.knows.texts_is in record {
+        revisions = omega (arith, count, is, small, room);
+        nodes_kept = omega (arith, count, is, small, kept, count_by-le-length (is_kept_node settings) before);
+        nodes_dropped = omega (
+          arith,
+          count,
+          is,
+          small,
+          dropped,
+          count_by-le-length (λ x. is_node x && not (is_kept_node settings x)) before,
+        );
+        texts = omega (arith, count, is, small, texts, count_by-le-length (is_checked_text settings) before);
+      }
 
   -- a step with a record that was checked under the filter's options
   module _ (done : Done) (asked : done_settings done ≡ state.settings) where

@@ -1,5 +1,5 @@
 -- What a filter holds of the records that it has accepted.
-use Rattle.std.specs.Prelude.{ℕ, ◌+◌, Bool, [], None, unwrap_or}
+use Rattle.std.specs.Prelude.{ℕ, ◌+◌, ◌<◌, ◌^◌, Bool, [], None, unwrap_or}
 use Rattle.dump_records.specs.RecordText.{DumpRecord}
 use Rattle.dump_records.specs.steps.RecordViews.{record_item}
 use Rattle.dump_digest.specs.steps.DoneViews.{done_record}
@@ -63,3 +63,10 @@ pending_count _ = 0
 -- the revisions that are counted, with the pending one
 abbrev pub revision_count : State → ℕ
 revision_count s = s.report.revisions_kept + s.report.revisions_dropped + pending_count s.group
+
+-- each count has room for one more record; a pending revision is counted where its group ends
+pub record CanCountMore (s : State) : Type 0 where
+  pub revisions : revision_count s < 2 ^ 64
+  pub nodes_kept : s.report.nodes_kept + 1 < 2 ^ 64
+  pub nodes_dropped : s.report.nodes_dropped + 1 < 2 ^ 64
+  pub texts : s.report.texts_checked + 1 < 2 ^ 64

@@ -7,10 +7,10 @@ use Rattle.dump_rules.specs.steps.ReadRanges.{range_of, range_parts}
 use Rattle.dump_rules.specs.steps.Merged.{widened_by, parts_bounds, list_bounds, line_merged, lines_merged}
 
 -- one part more
-pub bounds_first : (bounds next : Option Bounds) (part : List ℕ) (others all : List (List ℕ)) → all ≡ part ∷ others
+pub bounds_first : (bounds next : Bounds) (part : List ℕ) (others all : List (List ℕ)) → all ≡ part ∷ others
     → next ≡ widened_by bounds (range_of part) → parts_bounds bounds all ≡ parts_bounds next others
 bounds_first bounds next part others all is made =
-    ap (parts_bounds bounds) is ∙ ap (λ (b : Option Bounds). parts_bounds b others) (sym made)
+    ap (parts_bounds bounds) is ∙ ap (λ (b : Bounds). parts_bounds b others) (sym made)
 
 -- one line more
 pub lines_first : (settings : Settings) (said next : Merged) (line : List ℕ) (others all : List (List ℕ))
@@ -33,7 +33,7 @@ lines_last settings said line = last (line_merged settings said line)
     last (Some next) = refl
 
 -- a list's bounds are those of its parts
-pub list_bounds_is : (bounds : Option Bounds) (list : List ℕ) → list_bounds bounds list ≡ parts_bounds bounds
+pub list_bounds_is : (bounds : Bounds) (list : List ℕ) → list_bounds bounds list ≡ parts_bounds bounds
     (range_parts list)
 list_bounds_is bounds [] = refl
 list_bounds_is bounds (b ∷ list) = refl

@@ -1,5 +1,5 @@
 -- What values of mergeinfo say together: whether each is mergeinfo, a source is missing, a number is foreign.
-use Rattle.std.proofs.Common.{◌≡◌, ℕ, Bool, true, false, not, ◌&&◌, ◌||◌, nat_lt, min, max, List, [], ◌∷◌, refl, sym, ap, ◌∙◌, arith, Some, None, Option, IfSome, is_some}
+use Rattle.std.proofs.Common.{◌≡◌, ℕ, ◌-◌, ◌^◌, ◌<◌, Bool, true, false, not, ◌&&◌, ◌||◌, nat_lt, min, max, List, [], ◌∷◌, refl, sym, ap, ◌∙◌, arith, Some, None, Option, IfSome, is_some}
 use Rattle.std.specs.List.{list_all, list_any}
 use Rattle.std.proofs.lemmas.Bool.Decides.{nat_tests}
 use Rattle.dump_rules.specs.declared.merged.Bounds.{Bounds}
@@ -9,7 +9,7 @@ use Rattle.dump_rules.specs.RangeList.{Range}
 use Rattle.dump_rules.specs.steps.ReadRanges.{range_of, range_parts}
 use Rattle.dump_rules.specs.steps.ReadMergeinfo.{line_reads, lines_read, value_reads, without_lf}
 use Rattle.dump_rules.specs.steps.NewLines.{line_list, line_path, text_lines, line_misses, range_foreign, part_foreign, list_foreign, line_foreign, value_misses, value_foreign}
-use Rattle.dump_rules.specs.steps.Merged.{widened, widened_by, parts_bounds, list_bounds, is_outside, nothing_merged, line_said, lines_merged, text_merged}
+use Rattle.dump_rules.specs.steps.Merged.{widened, widened_by, parts_bounds, list_bounds, is_outside, no_bounds, nothing_merged, line_said, lines_merged, text_merged}
 
 -- the bounds of numbers
 
@@ -53,21 +53,19 @@ spread false true x y = refl
 spread false false x y = refl
 
 module _ (s : Settings) (first now : ℕ) where
-  outside_widened : (bounds : Option Bounds) (r : Range)
-      → is_outside s first now (Some (widened bounds r)) ≡
-      (is_outside s first now bounds || range_foreign s first now r)
-  outside_widened None r = refl
-  outside_widened (Some b) r =
+  outside_widened : (b : Bounds) (r : Range)
+      → is_outside s first now (widened b r) ≡ (is_outside s first now b || range_foreign s first now r)
+  outside_widened b r =
       rw (below_greater now b.greatest r.to, lesser_below b.least r.from first)
       (two_of_each (nat_lt now b.greatest) (nat_lt now r.to) (nat_lt b.least first) (nat_lt r.from first)
       (not s.skip_missing))
 
-  outside_part : (bounds : Option Bounds) (o : Option Range)
+  outside_part : (bounds : Bounds) (o : Option Range)
       → is_outside s first now (widened_by bounds o) ≡ (is_outside s first now bounds || part_foreign s first now o)
   outside_part bounds None = or_false (is_outside s first now bounds)
   outside_part bounds (Some r) = outside_widened bounds r
 
-  outside_parts : (bounds : Option Bounds) (parts : List (List ℕ)) → is_outside s first now (parts_bounds bounds parts)
+  outside_parts : (bounds : Bounds) (parts : List (List ℕ)) → is_outside s first now (parts_bounds bounds parts)
       ≡ (is_outside s first now bounds || list_any (λ part. part_foreign s first now (range_of part)) parts)
   outside_parts bounds [] = or_false (is_outside s first now bounds)
   outside_parts bounds (part ∷ parts) =
@@ -76,7 +74,7 @@ module _ (s : Settings) (first now : ℕ) where
       ∙ or_or (is_outside s first now bounds) (part_foreign s first now (range_of part))
       (list_any (λ p. part_foreign s first now (range_of p)) parts)
 
-  outside_list : (bounds : Option Bounds) (list : List ℕ) → is_outside s first now (list_bounds bounds list)
+  outside_list : (bounds : Bounds) (list : List ℕ) → is_outside s first now (list_bounds bounds list)
       ≡ (is_outside s first now bounds || list_foreign s first now list)
   outside_list bounds [] = or_false (is_outside s first now bounds)
   outside_list bounds (b ∷ list) = outside_parts bounds (range_parts (b ∷ list))
@@ -200,9 +198,25 @@ pub first_sources : (s : Settings) (said last : Merged) (value : List ℕ) → s
     → last.misses ≡ (said.misses || value_misses s value) → last.misses ≡ value_misses s value
 first_sources s said last value none is = is ∙ ap (λ (m : Merged). m.misses || value_misses s value) none
 
+-- no number lies outside of no bounds
+pub none_outside : (s : Settings) (first now : ℕ) → first < 2 ^ 64 → is_outside s first now no_bounds ≡ false
+none_outside s first now fits = rw (above_none, below_none) (by_skip s.skip_missing)
+  where
+    above_none : nat_lt now 0 ≡ false
+    above_none = grind (arith, nat_tests)
+
+    below_none : nat_lt (2 ^ 64 - 1) first ≡ false
+    below_none = grind (arith, nat_tests)
+
+    by_skip : (skip : Bool) → (false || (not skip && false)) ≡ false
+    by_skip true = refl
+    by_skip false = refl
+
 -- where no value said anything before, a number is outside where this value has a foreign one
-pub first_numbers : (s : Settings) (first now : ℕ) (said last : Merged) (value : List ℕ) → said ≡ nothing_merged
+pub first_numbers : (s : Settings) (first now : ℕ) (said last : Merged) (value : List ℕ) → first < 2 ^ 64
+    → said ≡ nothing_merged
     → is_outside s first now last.numbers ≡ (is_outside s first now said.numbers || value_foreign s first now value)
     → is_outside s first now last.numbers ≡ value_foreign s first now value
-first_numbers s first now said last value none is =
+first_numbers s first now said last value fits none is =
     is ∙ ap (λ (m : Merged). is_outside s first now m.numbers || value_foreign s first now value) none
+    ∙ ap (λ b. b || value_foreign s first now value) (none_outside s first now fits)

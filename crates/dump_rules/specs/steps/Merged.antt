@@ -1,5 +1,5 @@
 -- What values of mergeinfo say to the filter, read line by line: missing sources, and the bounds of their numbers.
-use Rattle.std.specs.Prelude.{ℕ, Bool, false, not, ◌&&◌, ◌||◌, nat_lt, min, max, List, [], ◌∷◌, Option, Some, None, option_and_then, if◌then◌else◌}
+use Rattle.std.specs.Prelude.{ℕ, ◌-◌, ◌^◌, Bool, false, not, ◌&&◌, ◌||◌, nat_lt, min, max, List, [], ◌∷◌, Option, Some, None, option_and_then, if◌then◌else◌}
 use Rattle.dump_rules.specs.declared.merged.Bounds.{Bounds}
 use Rattle.dump_rules.specs.declared.merged.Merged.{Merged}
 use Rattle.dump_rules.specs.Settings.{Settings, keeps_path}
@@ -8,34 +8,36 @@ use Rattle.dump_rules.specs.steps.ReadRanges.{range_of, range_parts}
 use Rattle.dump_rules.specs.steps.ReadMergeinfo.{line_reads, without_lf}
 use Rattle.dump_rules.specs.steps.NewLines.{line_list, line_path, text_lines}
 
+-- the bounds of no range
+abbrev pub no_bounds : Bounds
+no_bounds = record { least = 2 ^ 64 - 1; greatest = 0 }
+
 -- the bounds with those of a range
-abbrev pub widened : Option Bounds → Range → Bounds
-widened None r = record { least = r.from; greatest = r.to }
-widened (Some b) r = record { least = min b.least r.from; greatest = max b.greatest r.to }
+abbrev pub widened : Bounds → Range → Bounds
+widened b r = record { least = min b.least r.from; greatest = max b.greatest r.to }
 
 -- the bounds with those of a part, if it is a range
-abbrev pub widened_by : Option Bounds → Option Range → Option Bounds
+abbrev pub widened_by : Bounds → Option Range → Bounds
 widened_by bounds None = bounds
-widened_by bounds (Some r) = Some (widened bounds r)
+widened_by bounds (Some r) = widened bounds r
 
 -- the bounds with those of some parts
-abbrev pub parts_bounds : Option Bounds → List (List ℕ) → Option Bounds
+abbrev pub parts_bounds : Bounds → List (List ℕ) → Bounds
 parts_bounds bounds [] = bounds
 parts_bounds bounds (part ∷ parts) = parts_bounds (widened_by bounds (range_of part)) parts
 
 -- the bounds with those of a range list
-abbrev pub list_bounds : Option Bounds → List ℕ → Option Bounds
+abbrev pub list_bounds : Bounds → List ℕ → Bounds
 list_bounds bounds [] = bounds
 list_bounds bounds (b ∷ list) = parts_bounds bounds (range_parts (b ∷ list))
 
 -- whether a number between the bounds is above the present revision, or below the first where those count
-abbrev pub is_outside : Settings → ℕ → ℕ → Option Bounds → Bool
-is_outside settings first now None = false
-is_outside settings first now (Some b) = nat_lt now b.greatest || (not settings.skip_missing && nat_lt b.least first)
+abbrev pub is_outside : Settings → ℕ → ℕ → Bounds → Bool
+is_outside settings first now b = nat_lt now b.greatest || (not settings.skip_missing && nat_lt b.least first)
 
 -- what no value says
 abbrev pub nothing_merged : Merged
-nothing_merged = record { misses = false; numbers = None }
+nothing_merged = record { misses = false; numbers = no_bounds }
 
 -- what is said with a line whose path isn't kept, and with one whose path is
 abbrev pub line_said : Settings → Merged → List ℕ → Merged

@@ -87,7 +87,7 @@ fn lines_behind_the_findings_or_no_memory(rt: HostRuntime) -> Result<(), Fail> {
         return Ok(());
     };
     let mut sink = MemorySink::new(rt.alloc(), 8, Trouble::Never);
-    match write_behind(rt.alloc(), CHAIN, &options, &mut sink) {
+    match write_behind(rt.alloc(), CHAIN, &options, true, &mut sink) {
         Ok(()) => {
             let lines = b"make before the load: /x\nkeep as well: /b\nkeep as well: /a\n";
             assert!(rt; sink.taken() == lines.as_slice());

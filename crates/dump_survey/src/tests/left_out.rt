@@ -59,7 +59,7 @@ Node-path: a/b\nProp-content-length: 43\n\nK 13\nsvn:mergeinfo\nV 9\n/branch:1\n
 fn the_number_stands_before_the_folders(rt: HostRuntime) -> Result<(), Fail> {
     let options = skipping(rt.alloc(), "a/b")?;
     let mut sink = MemorySink::new(rt.alloc(), 8, Trouble::Never);
-    let written = write_behind(rt.alloc(), MERGED, &options, &mut sink);
+    let written = write_behind(rt.alloc(), MERGED, &options, true, &mut sink);
     assert!(rt; written == Ok(()));
     let lines =
         b"left out of mergeinfo: 1 line of a path that is not kept\nmake before the load: /a\n";
@@ -71,7 +71,7 @@ fn the_number_stands_before_the_folders(rt: HostRuntime) -> Result<(), Fail> {
 fn without_the_option_nothing_is_left_out(rt: HostRuntime) -> Result<(), Fail> {
     let options = rules(rt.alloc(), Side::Include, "a/b")?;
     let mut sink = MemorySink::new(rt.alloc(), 8, Trouble::Never);
-    let written = write_behind(rt.alloc(), MERGED, &options, &mut sink);
+    let written = write_behind(rt.alloc(), MERGED, &options, true, &mut sink);
     assert!(rt; written == Ok(()));
     assert!(rt; sink.taken() == b"make before the load: /a\n".as_slice());
     Ok(())

@@ -1,13 +1,22 @@
 -- What the contracts see of property blocks.
-use Rattle.std.specs.Prelude.{◌≡◌, ℕ, List, [], ◌++◌, Option, Some, None, if◌then◌else◌}
+use Rattle.std.specs.Prelude.{◌≡◌, ℕ, bytes_eq, List, [], ◌++◌, Option, Some, None, if◌then◌else◌}
 use Rattle.dump_text.specs.declared.props.Props.{Props}
+use Rattle.dump_text.specs.declared.props.PropsReading.{PropsReading}
 use Rattle.dump_text.specs.declared.props.Entry.{Entry}
 use Rattle.dump_text.specs.declared.props.Entries.{Entries}
-use Rattle.dump_text.specs.PropertyList.{Property, IsEntry, IsPropertyBlock}
+use Rattle.dump_text.specs.PropertyList.{Property, IsEntry, IsPropertyBlock, has_deletes, property_block_text}
+use Rattle.dump_text.specs.steps.PropertyReading.{HasPropertyChanges}
 
 -- the bytes of a property block
 abbrev pub props_bytes : Props → List ℕ
 props_bytes p = p.bytes.now
+
+-- this was found in the property block that the bytes are
+pub record IsReadingOf (reading : PropsReading) (bytes : List ℕ) : Type 0 where
+  pub reads : ∥ HasPropertyChanges bytes ∥₁
+  pub written : (ps : List Property) → IsPropertyBlock bytes ps
+      → reading.spelled ≡ bytes_eq bytes (property_block_text ps)
+  pub deleting : (ps : List Property) → IsPropertyBlock bytes ps → reading.deletes ≡ has_deletes ps
 
 -- an entry as its name and value, if it has one
 abbrev pub entry_property : Entry → Property

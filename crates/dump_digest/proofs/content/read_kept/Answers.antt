@@ -1,10 +1,10 @@
-use Rattle.std.proofs.Common.{◌↔◌, Bool, IsFalse, subst, sym}
+use Rattle.std.proofs.Common.{◌∙◌, ◌↔◌, Bool, IsFalse, subst, sym}
 use Rattle.dump_records.specs.steps.RecordViews.{record_item}
 use Rattle.dump_text.proofs.BoolLemmas.{first_true}
 use Rattle.dump_digest.specs.RecordParts.{is_node}
 use Rattle.dump_digest.specs.ContentFaults.{HasBadMergeinfo}
 use Rattle.dump_digest.proofs.VerdictLemmas.{kept_verdict, found_properties}
-use Rattle.dump_digest.proofs.SaidLemmas.{merge_told, values_told, bytes_told, asked_kept}
+use Rattle.dump_digest.proofs.SaidLemmas.{merge_told, values_told, asked_kept, said_read, same_mergeinfo}
 use Rattle.dump_digest.proofs.content.read_kept.Goals as goal
 
 pub has_lost_source-requires : goal.has_lost_source-requires
@@ -27,9 +27,12 @@ returns c =
           (subst (λ (b : Bool). IsFalse b ↔ ∥ HasBadMergeinfo s r ∥₁) (sym c.is_some-2.ensures) told)
           c.text_check-text.ensures.checked;
       kept_is = sym kept;
-      asked = asked_kept s r found c.is_some.result kept c.is_some.ensures;
-      bytes = bytes_told r found read.bytes;
-      read = λ k. sym c.is_some-2.ensures;
-      said = λ k ps block. values_told s r found c.mergeinfo_of-mergeinfo.result read.found read.bytes said.some ps block;
+      asked = asked_kept s r c.reading_of.result c.is_some.result kept (c.is_some.ensures ∙ sym c.reading_of.ensures.found);
+      reading = c.reading_of.ensures.reading r.props read.bytes;
+      said = λ k ok ps block. said_read s ps c.mergeinfo_of-mergeinfo.result c.none.result _
+          (values_told s r found c.mergeinfo_of-mergeinfo.result read.found read.bytes said.some ps block)
+          (sym c.is_some-2.ensures ∙ ok)
+          (same_mergeinfo c.unwrap_or-said.result c.misses_source.result c.numbers.result c.misses_source.ensures c.numbers.ensures
+          ∙ c.unwrap_or-said.ensures);
       lost = λ k. c.has_lost_source.ensures;
     }

@@ -2,7 +2,7 @@ use Rattle.std.proofs.Common.{◌&&◌, ◌||◌, sym, ap, ◌∙◌}
 use Rattle.dump_records.specs.steps.RecordViews.{record_item}
 use Rattle.dump_digest.specs.RecordParts.{is_kept_node}
 use Rattle.dump_digest.proofs.VerdictLemmas.{other_verdict, asked}
-use Rattle.dump_digest.proofs.SaidLemmas.{content_of_other, bytes_told}
+use Rattle.dump_digest.proofs.SaidLemmas.{content_of_other}
 use Rattle.dump_digest.proofs.content.read_revision.Goals as goal
 
 pub returns : goal.returns
@@ -10,8 +10,9 @@ returns c settings other =
     let r = record_item c.args.item.now in
     let found = c.properties_of-props.result in
     let read = c.properties_of-props.ensures in
-    content_of_other settings r _ found other
+    content_of_other settings r _ c.reading_of.result other
     (other_verdict settings r c.is_some.result other
     (asked r c.is_some.result found c.requires c.is_some.ensures read.found))
-    (sym c.is_some.ensures ∙ ap (λ b. (b || is_kept_node settings r) && c.is_some.result) (sym c.requires))
-    (bytes_told r found read.bytes)
+    (c.reading_of.ensures.found ∙ sym c.is_some.ensures
+    ∙ ap (λ b. (b || is_kept_node settings r) && c.is_some.result) (sym c.requires))
+    (c.reading_of.ensures.reading r.props read.bytes)

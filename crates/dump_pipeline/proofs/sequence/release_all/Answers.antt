@@ -1,4 +1,4 @@
-use Rattle.std.proofs.Common.{rules, refl, sym, ap, subst, ◌≡◌, ◌∙◌, ◌+◌, ◌++◌, ◌∷◌, [], ℕ, List, length, true, false}
+use Rattle.std.proofs.Common.{rules, refl, sym, ap, subst, ◌≡◌, ◌∙◌, ◌+◌, ◌++◌, ◌∷◌, [], ℕ, List, length, true, false, IsNone, Some}
 use Rattle.std.proofs.lemmas.Bool.{false≢true}
 use Rattle.dump_lanes.specs.Arrivals.{IsWaiting}
 use Rattle.dump_lanes.specs.steps.ArrivalRows.{Row}
@@ -6,6 +6,7 @@ use Rattle.dump_lanes.specs.steps.LaneEnds.{Sending}
 use Rattle.dump_lanes.specs.steps.LaneViews.{sending}
 use Rattle.dump_lanes.specs.steps.PortSides.{SequencerSide}
 use Rattle.dump_lanes.specs.steps.PortViews.{done_port}
+use Rattle.dump_lanes.specs.steps.SlotRow.{slot_item, with_slot_item}
 use Rattle.dump_lanes.specs.steps.SlotViews.{slot_places}
 use Rattle.dump_pipeline.specs.declared.message.Checked.{Checked}
 use Rattle.dump_pipeline.specs.declared.message.Job.{Job}
@@ -17,7 +18,7 @@ use Rattle.dump_pipeline.specs.steps.Parts.{HasReleased}
 use Rattle.dump_pipeline.proofs.Released.{begins_with}
 use Rattle.dump_pipeline.proofs.Steps.{row_first, row_unlifted, row_lifted, row_passed, lifted_wrong, row_placed, place_clash, none_lifted, sequenced_so, text_released, count_released, numbers_released, ended_so, numbers_at_first}
 use Rattle.dump_pipeline.proofs.sequence.release_all.Goals as goal
-use Rattle.dump_pipeline.proofs.sequence.release_all.Goals.{in-Some-lift+else-checked-next, in-None-lift+in-Some-take+else-number-next}
+use Rattle.dump_pipeline.proofs.sequence.release_all.Goals.{in-Some-lift+else-number-next, in-None-lift+in-Some-take+else-number-next-2}
 
 pub loop-init : goal.loop-init
 loop-init g c = record {
@@ -32,8 +33,8 @@ loop-init g c = record {
       (slot_places c.args.ends.now.slots) c.requires.fresh.nothing_taken c.requires.fresh.empty;
 }
 
-pub returns-then-checked-next-clause-sequenced : goal.returns-then-checked-next-clause-sequenced
-returns-then-checked-next-clause-sequenced g c =
+pub returns-then-number-next-clause-sequenced : goal.returns-then-number-next-clause-sequenced
+returns-then-number-next-clause-sequenced g c =
     sequenced_so g.D.Run.settings g.D.Run.dump (length (slot_places c.args.ends.now.slots)) c.loop.next
     (done_port c.loop.ends.port).taken (sending c.loop.ends.to).put c.end.result true
     (ended_so g.D.Run.settings g.D.Run.dump c.loop.stage c.end.result c.loop.next
@@ -41,13 +42,15 @@ returns-then-checked-next-clause-sequenced g c =
     c.loop.invariant.numbered c.loop.invariant.count
     (lifted_wrong (length (slot_places c.args.ends.now.slots)) c.loop.next (checked_numbers (done_port c.loop.ends.port).taken)
     (slot_places c.loop.ends.slots) c.lift.result c.in-Some-lift.checked
-    c.loop.ends.slots.some_places c.loop.invariant.row c.lift.ensures.value c.in-Some-lift.is c.if-checked-next.true)
+    c.loop.ends.slots.some_places c.loop.invariant.row c.lift.ensures.value c.in-Some-lift.is
+    (λ same. c.if-number-next.true (c.number.ensures.number ∙ same)))
 
 pub step-piece-requires-clause-released : goal.step-piece-requires-clause-released
 step-piece-requires-clause-released g c =
-    let number : c.match-lift.checked.number ≡ c.loop.next = elim c.match-lift.branch [
-      | in-Some-lift+else-checked-next w ↦ ap checked_number w.checked-is ∙ w.if-checked-next.false
-      | in-None-lift+in-Some-take+else-number-next w ↦ ap checked_number w.checked-is ∙ w.if-number-next.false
+    let number : checked_number c.match-lift.checked ≡ c.loop.next = elim c.match-lift.branch [
+      | in-Some-lift+else-number-next w ↦ ap checked_number w.checked-is ∙ sym w.number.ensures.number ∙ w.if-number-next.false
+      | in-None-lift+in-Some-take+else-number-next-2 w ↦
+          ap checked_number w.checked-is ∙ sym w.number-number.ensures.number ∙ w.if-number-next-2.false
     ] in (
       text_of (sending c.loop.ends.to).put,
       subst (λ (n : ℕ). HasReleased g.D.Run.settings g.D.Run.dump c.loop.stage n (text_of (sending c.loop.ends.to).put))
@@ -61,28 +64,29 @@ loop-preserved g c =
     let w : ℕ = length (slot_places c.args.ends.now.slots) in
     let next : ℕ = c.loop.next in
     let arrived : List ℕ = checked_numbers (done_port c.loop.ends.port).taken in
-    let number : c.match-lift.checked.number ≡ next = elim c.match-lift.branch [
-      | in-Some-lift+else-checked-next w ↦ ap checked_number w.checked-is ∙ w.if-checked-next.false
-      | in-None-lift+in-Some-take+else-number-next w ↦ ap checked_number w.checked-is ∙ w.if-number-next.false
+    let number : checked_number c.match-lift.checked ≡ next = elim c.match-lift.branch [
+      | in-Some-lift+else-number-next w ↦ ap checked_number w.checked-is ∙ sym w.number.ensures.number ∙ w.if-number-next.false
+      | in-None-lift+in-Some-take+else-number-next-2 w ↦
+          ap checked_number w.checked-is ∙ sym w.number-number.ensures.number ∙ w.if-number-next-2.false
     ] in
     let same_lane : c.match-lift.ends.to ≡ c.loop.ends.to = elim c.match-lift.branch [
-      | in-Some-lift+else-checked-next l ↦ ap (λ (ends : Ends). ends.to) l.ends-is
-      | in-None-lift+in-Some-take+else-number-next t ↦ ap (λ (ends : Ends). ends.to) t.ends-is
+      | in-Some-lift+else-number-next l ↦ ap (λ (ends : Ends). ends.to) l.ends-is
+      | in-None-lift+in-Some-take+else-number-next-2 t ↦ ap (λ (ends : Ends). ends.to) t.ends-is
     ] in
     let released = subst
     (λ (to : LaneIn NumberedPiece). sending c.release.new.to ≡ record (sending to) { put = (sending to).put ++ c.step-piece.result ∷ [] })
     same_lane c.release.ensures in
-    let given : c.step-piece.result.number ≡ next = c.step-piece.ensures.number ∙ number in
+    let given : c.step-piece.result.number.value ≡ next = c.step-piece.ensures.number ∙ number in
     record {
       pool = elim c.match-lift.branch [
-        | in-Some-lift+else-checked-next l ↦ ap (λ (ends : Ends). (done_port ends.port).pool) l.ends-is ∙ c.loop.invariant.pool
-        | in-None-lift+in-Some-take+else-number-next t ↦ ap (λ (ends : Ends). (done_port ends.port).pool) t.ends-is
+        | in-Some-lift+else-number-next l ↦ ap (λ (ends : Ends). (done_port ends.port).pool) l.ends-is ∙ c.loop.invariant.pool
+        | in-None-lift+in-Some-take+else-number-next-2 t ↦ ap (λ (ends : Ends). (done_port ends.port).pool) t.ends-is
             ∙ ap (λ (x : SequencerSide E). x.pool) t.in-Some-take.ensures.1
             ∙ c.loop.invariant.pool
       ];
       lane = ap (λ (x : Sending NumberedPiece). x.lane) released ∙ c.loop.invariant.lane;
       seat = search rules;
-      text = text_released g.D.Run.settings g.D.Run.dump c.step-piece.new.stage next c.match-lift.checked.number
+      text = text_released g.D.Run.settings g.D.Run.dump c.step-piece.new.stage next (checked_number c.match-lift.checked)
           (sending c.loop.ends.to) (sending c.release.new.to) c.step-piece.result released number
           (c.step-piece.ensures.text (text_of (sending c.loop.ends.to).put)
           (subst (λ (n : ℕ). HasReleased g.D.Run.settings g.D.Run.dump c.loop.stage n (text_of (sending c.loop.ends.to).put))
@@ -92,13 +96,13 @@ loop-preserved g c =
       count = count_released next (sending c.loop.ends.to) (sending c.release.new.to) c.step-piece.result released
           c.loop.invariant.count;
       row = elim c.match-lift.branch [
-        | in-Some-lift+else-checked-next l ↦
+        | in-Some-lift+else-number-next l ↦
             subst (λ (ends : Ends). Row checked_number w (next + 1) (checked_numbers (done_port ends.port).taken) (slot_places ends.slots))
             (sym l.ends-is)
             (row_lifted w next arrived (slot_places c.loop.ends.slots) (slot_places c.lift.new.self) c.lift.result
             l.in-Some-lift.checked c.loop.ends.slots.some_places c.loop.invariant.row c.lift.ensures.value l.in-Some-lift.is
-            l.if-checked-next.false c.lift.ensures.emptied)
-        | in-None-lift+in-Some-take+else-number-next t ↦
+            (sym l.number.ensures.number ∙ l.if-number-next.false) c.lift.ensures.emptied)
+        | in-None-lift+in-Some-take+else-number-next-2 t ↦
             subst (λ (ends : Ends). Row checked_number w (next + 1) (checked_numbers (done_port ends.port).taken) (slot_places ends.slots))
             (sym t.ends-is)
             (row_passed w next (done_port c.loop.ends.port).taken (done_port t.take.new.self).taken
@@ -106,7 +110,7 @@ loop-preserved g c =
             (row_unlifted w next arrived (slot_places c.loop.ends.slots) (slot_places c.lift.new.self) c.lift.result
             c.loop.invariant.row c.lift.ensures.value t.in-None-lift.is c.lift.ensures.emptied)
             (ap (λ (x : SequencerSide E). x.taken) t.in-Some-take.ensures.1)
-            t.if-number-next.false)
+            (sym t.number-number.ensures.number ∙ t.if-number-next-2.false))
       ];
     }
 
@@ -128,7 +132,11 @@ loop-preserved-in-Ok g c =
           (slot_places c.lift.new.self) c.lift.result c.loop.invariant.row
           c.lift.ensures.value c.in-None-lift.is c.lift.ensures.emptied)
           (ap (λ (x : SequencerSide (Checked g.row.D.Denot g.D.Run)). x.taken) took)
-          (c.in-Ok.ensures.free.0 refl) c.in-Ok.ensures.placed;
+          (subst (λ (n : ℕ). IsNone (slot_item (slot_places c.lift.new.self) n)) c.number-number.ensures.number
+          (c.in-Ok.ensures.free.0 refl))
+          (c.in-Ok.ensures.placed
+          ∙ ap (λ (n : ℕ). with_slot_item (slot_places c.lift.new.self) n (Some c.in-Some-take.checked))
+          c.number-number.ensures.number);
     }
 
 pub returns-in-Err-clause-sequenced : goal.returns-in-Err-clause-sequenced
@@ -147,7 +155,8 @@ returns-in-Err-clause-sequenced g c =
     (slot_places c.lift.new.self) c.lift.result c.loop.invariant.row
     c.lift.ensures.value c.in-None-lift.is c.lift.ensures.emptied)
     (ap (λ (x : SequencerSide (Checked g.row.D.Denot g.D.Run)). x.taken) took)
-    (λ h. false≢true (c.in-Err.ensures.free.1 h)))
+    (λ h. false≢true (c.in-Err.ensures.free.1
+    (subst (λ (n : ℕ). IsNone (slot_item (slot_places c.lift.new.self) n)) (sym c.number-number.ensures.number) h))))
 
 pub returns-in-None-take-clause-sequenced : goal.returns-in-None-take-clause-sequenced
 returns-in-None-take-clause-sequenced g c =

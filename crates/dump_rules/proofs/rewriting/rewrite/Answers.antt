@@ -1,4 +1,4 @@
-use Rattle.std.proofs.Common.{ℕ, true, false, ◌≡◌, refl, sym, ap, ◌∙◌, Result, Ok, Err}
+use Rattle.std.proofs.Common.{arith, ℕ, true, false, ◌≡◌, refl, sym, ap, ◌∙◌, Result, Ok, Err}
 use Rattle.std.specs.Result.{IsErrAnd}
 use Rattle.dump_rules.specs.declared.rewriting.RewriteFault.{RewriteFault}
 use Rattle.dump_rules.specs.declared.rewriting.RewriteFault.TheVariants as faults
@@ -8,7 +8,7 @@ use Rattle.dump_rules.proofs.faults.MergeFaults.{misses_means, foreign_means}
 use Rattle.dump_rules.proofs.faults.MergedMeaning.{first_sources, first_numbers}
 use Rattle.dump_rules.proofs.rewriting.rewrite.Goals as goal
 
--- want of memory is no fault of the value
+-- running out of memory is no fault of the value
 only_memory : {T : Type 0} (r : Result T RewriteFault) → IsErrAnd r (λ e. e ≡ faults.Memory) → (fault : RewriteFault)
     → r ≡ Err fault
     → (fault ≡ faults.Memory → ⊥) → ⊥
@@ -44,8 +44,8 @@ returns-then-has_foreign_number-clause-range c =
     let none : ¬ HasMissingSource c.args.options.now c.args.value.now = λ h. let bad : true ≡ false = sym (means.1 h)
     ∙ kept in cc in
     let first = c.args.reach.now.first in
-    let numbers = first_numbers c.args.options.now first c.args.now c.new.result c.in-Some.said c.args.value.now c.new.ensures
-    (c.in-Some.ensures.numbers first c.args.now) in
+    let numbers = first_numbers c.args.options.now first c.args.now c.new.result c.in-Some.said c.args.value.now
+    (omega (arith, c.first.type_inv, c.first.ensures.first)) c.new.ensures (c.in-Some.ensures.numbers first c.args.now) in
     let asked = λ (e : c.first.result ≡ first). ap
     (λ (n : ℕ). is_outside c.args.options.now n c.args.now c.in-Some.said.numbers) e in
     let range_means = foreign_means c.args.options.now c.args.reach.now c.args.now c.args.value.now c.requires.reads in
@@ -67,8 +67,8 @@ returns-in_err-new_value-clause-source c =
 pub returns-in_err-new_value-clause-range : goal.returns-in_err-new_value-clause-range
 returns-in_err-new_value-clause-range c =
     let first = c.args.reach.now.first in
-    let numbers = first_numbers c.args.options.now first c.args.now c.new.result c.in-Some.said c.args.value.now c.new.ensures
-    (c.in-Some.ensures.numbers first c.args.now) in
+    let numbers = first_numbers c.args.options.now first c.args.now c.new.result c.in-Some.said c.args.value.now
+    (omega (arith, c.first.type_inv, c.first.ensures.first)) c.new.ensures (c.in-Some.ensures.numbers first c.args.now) in
     let asked = λ (e : c.first.result ≡ first). ap
     (λ (n : ℕ). is_outside c.args.options.now n c.args.now c.in-Some.said.numbers) e in
     let means = foreign_means c.args.options.now c.args.reach.now c.args.now c.args.value.now c.requires.reads in (
@@ -89,8 +89,8 @@ returns-clause-source c =
 pub returns-clause-range : goal.returns-clause-range
 returns-clause-range c =
     let first = c.args.reach.now.first in
-    let numbers = first_numbers c.args.options.now first c.args.now c.new.result c.in-Some.said c.args.value.now c.new.ensures
-    (c.in-Some.ensures.numbers first c.args.now) in
+    let numbers = first_numbers c.args.options.now first c.args.now c.new.result c.in-Some.said c.args.value.now
+    (omega (arith, c.first.type_inv, c.first.ensures.first)) c.new.ensures (c.in-Some.ensures.numbers first c.args.now) in
     let asked = λ (e : c.first.result ≡ first). ap
     (λ (n : ℕ). is_outside c.args.options.now n c.args.now c.in-Some.said.numbers) e in
     let means = foreign_means c.args.options.now c.args.reach.now c.args.now c.args.value.now c.requires.reads in (

@@ -1,7 +1,8 @@
-use Rattle.std.proofs.Common.{◌∙◌, ◌||◌, sym, ap}
+use Rattle.std.proofs.Common.{arith, ◌∙◌, ◌||◌, sym, ap}
 use Rattle.dump_rules.specs.declared.merged.Merged.{Merged}
 use Rattle.dump_rules.specs.steps.Merged.{is_outside}
 use Rattle.dump_rules.specs.steps.NewLines.{value_foreign, value_misses}
+use Rattle.dump_rules.proofs.faults.MergedMeaning.{none_outside}
 use Rattle.dump_digest.proofs.SaidLemmas.{unread_value, reads_value}
 use Rattle.dump_survey.proofs.RefusedLemmas.{refused_of_unread, refused_of_value}
 use Rattle.dump_survey.proofs.refused.entry_refused.Goals as goal
@@ -24,4 +25,6 @@ returns-in-Some c =
     ∙ c.in-Some.ensures.numbers c.args.numbers.now.first c.args.numbers.now.present
     ∙ ap (λ (said : Merged). is_outside c.args.options.now c.args.numbers.now.first c.args.numbers.now.present said.numbers
     || value_foreign c.args.options.now c.args.numbers.now.first c.args.numbers.now.present c.args.entry.now.value.now)
-    c.new.ensures)
+    c.new.ensures
+    ∙ ap (λ b. b || value_foreign c.args.options.now c.args.numbers.now.first c.args.numbers.now.present c.args.entry.now.value.now)
+    (none_outside c.args.options.now c.args.numbers.now.first c.args.numbers.now.present (omega arith)))

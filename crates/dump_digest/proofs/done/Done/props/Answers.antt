@@ -1,6 +1,10 @@
-use Rattle.dump_digest.proofs.SaidLemmas.{properties_of}
+use Rattle.std.proofs.Common.{◌∙◌, sym, ap, is_some}
+use Rattle.dump_records.specs.steps.RecordViews.{record_item}
+use Rattle.dump_digest.proofs.SaidLemmas.{properties_of, bytes_told}
 use Rattle.dump_digest.proofs.done.Done.props.Goals as goal
 
-pub returns-clause-read : goal.returns-clause-read
-returns-clause-read c asked =
-    properties_of c.args.self.now.options.now _ c.args.self.now.content c.args.self.now.judged asked
+pub returns-in-Some-clause-read : goal.returns-in-Some-clause-read
+returns-in-Some-clause-read c asked =
+    let d = c.args.self.now in
+    properties_of d.options.value _ d.content _ d.judged (sym (ap is_some c.in-Some.is))
+    (bytes_told (record_item d.item).props c.of_reading.result (c.of_reading.ensures ∙ c.property_bytes.ensures)) asked

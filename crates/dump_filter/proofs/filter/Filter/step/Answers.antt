@@ -1,7 +1,8 @@
-use Rattle.std.proofs.Common.{◌≡◌, sym, ap, ◌∙◌, arith}
+use Rattle.std.proofs.Common.{◌≡◌, sym, ap, ◌∙◌}
+use Rattle.dump_records.specs.steps.RecordViews.{record_number}
 use Rattle.dump_digest.specs.steps.DoneViews.{done_record}
 use Rattle.dump_filter.specs.steps.FilterState.{FilterState}
-use Rattle.dump_filter.proofs.knowing.FilterLemmas.{holds, counts_fit, fault_told, never_refuses, node_is_read, held_is_revision, accepts, next_knows, knows_as}
+use Rattle.dump_filter.proofs.knowing.FilterLemmas.{holds, has_room, fault_told, never_refuses, node_is_read, held_is_revision, accepts, next_knows, knows_as}
 use Rattle.dump_filter.proofs.filter.Filter.step.Goals as goal
 
 pub returns-in-Err-clause-rule : goal.returns-in-Err-clause-rule
@@ -31,29 +32,10 @@ returns-clause-rule c = λ kind.
       λ (active, bad). absurd (none bad),
     )
 
-pub advance-requires-clause-nodes_kept : goal.advance-requires-clause-nodes_kept
-advance-requires-clause-nodes_kept c =
+pub advance-requires-clause-room : goal.advance-requires-clause-room
+advance-requires-clause-room c =
     let h = holds c.self.inside c.args.self.now c.self.invariant c.self.view_is c.if-not-self.false in
-    let fit = (counts_fit h).1 in
-    let number = c.requires.number in
-    let counted = (done_record c.args.done).counted in
-    omega (arith, fit, number, counted)
-
-pub advance-requires-clause-nodes_dropped : goal.advance-requires-clause-nodes_dropped
-advance-requires-clause-nodes_dropped c =
-    let h = holds c.self.inside c.args.self.now c.self.invariant c.self.view_is c.if-not-self.false in
-    let fit = (counts_fit h).2 in
-    let number = c.requires.number in
-    let counted = (done_record c.args.done).counted in
-    omega (arith, fit, number, counted)
-
-pub advance-requires-clause-texts : goal.advance-requires-clause-texts
-advance-requires-clause-texts c =
-    let h = holds c.self.inside c.args.self.now c.self.invariant c.self.view_is c.if-not-self.false in
-    let fit = (counts_fit h).3 in
-    let number = c.requires.number in
-    let counted = (done_record c.args.done).counted in
-    omega (arith, fit, number, counted)
+    has_room h (record_number (done_record c.args.done)) c.requires.number (done_record c.args.done).counted
 
 pub decide-requires-clause-options : goal.decide-requires-clause-options
 decide-requires-clause-options c = c.requires.options ∙ ap (λ (f : FilterState). f.settings) (sym c.self.view_is)

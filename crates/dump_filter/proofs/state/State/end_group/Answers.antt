@@ -13,7 +13,7 @@ returns-then-stays-clause-piece c =
     let r = record_item (done_record c.in-Pending.pending.revision) in
     let stay = sym c.stays.ensures ∙ c.if-stays.true in
     subst (λ (group : PresentGroup). IfOk c.write_pending.result (λ piece. IsEndText options kept group piece))
-    (sym (ap view_group c.in-Pending.is))
+    (sym (ap view_group (sym c.replace.ensures.value ∙ c.in-Pending.is)))
     (if_ok c.write_pending.result _ _ (λ piece text. rw stay
     (subst (λ (padded : Bool). IsOwnRevision options kept r padded piece) c.pads.ensures text))
     c.write_pending.ensures.piece)

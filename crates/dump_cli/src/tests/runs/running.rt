@@ -1,0 +1,376 @@
+//! Runs over threads: several plans, records that are held back, sinks that break off, stops that end the cutting.
+
+use super::gates::{Counting, Holding, Telling, Watching};
+use super::{DUMP, TRUNK2, is_first_part, options, report, write_group, write_revision};
+use dump_filter::Report;
+use dump_pipeline::{Answer, Failure, FreeGate, Gate, Plan, run};
+use dump_rules::{Empty, Options, Side};
+use dump_text::FaultKind;
+use dump_writer::{MemorySink, Trouble};
+use std::alloc::{AllocError, Global};
+use std::io::Write;
+use std::process::Abort;
+use std::sync::Wait;
+use std::sync::atomic::{AtomicU64, Ordering};
+use std::test::*;
+use std::thread::Threads;
+
+pub const VERSION: &[u8] = b"SVN-fs-dump-format-version: 2\n\n";
+
+pub fn plan(workers: usize, window: usize) -> Result<Plan, Fail> {
+    match Plan::new(workers, window) {
+        Some(plan) => Ok(plan),
+        None => Err(AllocError.into()),
+    }
+}
+
+pub fn everything(alloc: Global) -> Result<Options, Fail> {
+    let prefixes = [b"/".as_slice()];
+    Ok(Options::new(
+        alloc,
+        Side::Include,
+        prefixes.as_slice(),
+        Empty::Pad,
+        false,
+        false,
+        false,
+    )?)
+}
+
+/// Whether a run over threads into a sink that takes all gives this answer and these bytes.
+pub fn is_run<R: Threads + Wait + Sync, G: Gate>(
+    rt: &R,
+    alloc: Global,
+    dump: &[u8],
+    options: &Options,
+    plan: Plan,
+    gate: &G,
+    wanted: (Answer, &[u8]),
+) -> bool {
+    let mut sink = MemorySink::new(alloc, 1000, Trouble::Never);
+    let answer = run(rt, alloc, dump, options, plan, gate, &mut sink);
+    answer == wanted.0 && sink.taken() == wanted.1
+}
+
+// Whether the dump is cut down to what is under `trunk`.
+fn is_cut_down<R: Threads + Wait + Sync, G: Gate>(
+    rt: &R,
+    alloc: Global,
+    plan: Plan,
+    gate: &G,
+) -> Result<bool, Fail> {
+    let options = options(alloc, Side::Include, Empty::Pad)?;
+    let wanted = (report(2, 1), &DUMP[..TRUNK2]);
+    Ok(is_run(rt, alloc, DUMP, &options, plan, gate, wanted))
+}
+
+#[test]
+fn each_plan_gives_the_same(rt: HostRuntime) -> Result<(), Fail> {
+    for (workers, window) in [(1, 1), (2, 4), (4, 64), (64, 4096)] {
+        let plan = plan(workers, window)?;
+        assert!(rt; is_cut_down(&rt, rt.alloc(), plan, &FreeGate)?);
+    }
+    Ok(())
+}
+
+// Record 0 waits for record 1: one thread alone would wait for ever.
+#[test]
+fn records_are_checked_at_the_same_time(rt: HostRuntime) -> Result<(), Fail> {
+    let gate = Holding::new(0, 0b10, 0);
+    assert!(rt; is_cut_down(&rt, rt.alloc(), plan(2, 64)?, &gate)?);
+    assert!(rt; !gate.is_late());
+    assert!(rt; gate.passed() == 0b111111);
+    Ok(())
+}
+
+// Whether the dump is cut down into a sink that tells how many bytes it took.
+fn is_told<R: Threads + Wait + Sync, G: Gate>(
+    rt: &R,
+    alloc: Global,
+    gate: &G,
+    count: &AtomicU64,
+) -> Result<bool, Fail> {
+    let options = options(alloc, Side::Include, Empty::Pad)?;
+    let plan = plan(2, 64)?;
+    let mut sink = Telling {
+        sink: MemorySink::new(alloc, 1000, Trouble::Never),
+        count,
+    };
+    Ok(run(rt, alloc, DUMP, &options, plan, gate, &mut sink) == report(2, 1))
+}
+
+// The last record waits until the first piece was written.
+#[test]
+fn pieces_are_written_while_records_are_checked(rt: HostRuntime) -> Result<(), Fail> {
+    let count = AtomicU64::new(0);
+    let gate = Watching {
+        count: &count,
+        last: 5,
+        at_first: AtomicU64::new(0),
+        late: AtomicU64::new(0),
+    };
+    assert!(rt; is_told(&rt, rt.alloc(), &gate, &count)?);
+    assert!(rt; gate.at_first.load(Ordering::SeqCst) == 1);
+    assert!(rt; gate.late.load(Ordering::SeqCst) == 0);
+    Ok(())
+}
+
+const FOLDER: &[u8] = b"Node-path: a\n\
+Node-kind: dir\n\
+Node-action: add\n\
+Prop-content-length: 10\n\
+Content-length: 10\n\
+\n\
+PROPS-END\n\
+\n\
+\n\
+";
+
+// Files whose digest headers are wrong.
+const WRONG_SHA1: &[u8] = b"Node-path: a/x\n\
+Node-kind: file\n\
+Node-action: add\n\
+Text-content-length: 3\n\
+Text-content-sha1: a9993e364706816aba3e25717850c26c9cd0d89e\n\
+Content-length: 3\n\
+\n\
+abc\n\
+\n\
+";
+
+const WRONG_MD5: &[u8] = b"Node-path: a/y\n\
+Node-kind: file\n\
+Node-action: add\n\
+Text-content-length: 3\n\
+Text-content-md5: 900150983cd24fb0d6963f7d28e17f73\n\
+Content-length: 3\n\
+\n\
+abc\n\
+\n\
+";
+
+// The wrong digest in record 2 is the answer.
+const SHA1_IN_RECORD_2: Answer = Answer::Fault {
+    kind: FaultKind::Sha1,
+    number: 2,
+    place: 151,
+};
+
+/// Records 2 and 5 have wrong digests.
+pub fn wrong_in_2_and_5(alloc: Global) -> Result<Vec<u8>, Fail> {
+    let mut dump = Vec::from_slice(alloc, VERSION)?;
+    write_revision(&mut dump, 0)?;
+    dump.extend_from_slice(WRONG_SHA1)?;
+    write_revision(&mut dump, 1)?;
+    dump.extend_from_slice(FOLDER)?;
+    dump.extend_from_slice(WRONG_MD5)?;
+    Ok(dump)
+}
+
+/// Whether the wrong digest in record 2 is the answer, and nothing behind the version is written.
+pub fn is_first_fault<R: Threads + Wait + Sync, G: Gate>(
+    rt: &R,
+    alloc: Global,
+    dump: &[u8],
+    plan: Plan,
+    gate: &G,
+) -> Result<bool, Fail> {
+    let options = everything(alloc)?;
+    let wanted = (SHA1_IN_RECORD_2, VERSION);
+    Ok(is_run(rt, alloc, dump, &options, plan, gate, wanted))
+}
+
+// The fault of record 2 is the answer, though that of record 5 is found before it.
+#[test]
+fn the_first_fault_is_answered_and_not_the_one_found_first(rt: HostRuntime) -> Result<(), Fail> {
+    let dump = wrong_in_2_and_5(rt.alloc())?;
+    let gate = Holding::new(2, 1 << 5, 0);
+    assert!(rt; is_first_fault(&rt, rt.alloc(), &dump, plan(4, 64)?, &gate)?);
+    assert!(rt; !gate.is_late());
+    Ok(())
+}
+
+/// The dump, and behind it a header that is cut.
+pub fn with_junk(alloc: Global) -> Result<Vec<u8>, Fail> {
+    let mut dump = Vec::from_slice(alloc, DUMP)?;
+    dump.extend_from_slice(b"junk")?;
+    Ok(dump)
+}
+
+// Whether a sink that fails once gets a first part.
+fn is_broken_off<R: Threads + Wait + Sync>(rt: &R, alloc: Global) -> Result<bool, Fail> {
+    let plan = plan(4, 64)?;
+    let options = options(alloc, Side::Include, Empty::Pad)?;
+    let dump = with_junk(alloc)?;
+    let mut sink = MemorySink::new(alloc, 1000, Trouble::Once(100));
+    let failed = Answer::Failed {
+        failure: Failure::Sink,
+        written: 100,
+    };
+    let answer = run(rt, alloc, &dump, &options, plan, &FreeGate, &mut sink);
+    Ok(answer == failed && sink.taken() == &DUMP[..100])
+}
+
+#[test]
+fn a_broken_sink_gets_a_first_part(rt: HostRuntime) -> Result<(), Fail> {
+    assert!(rt; is_broken_off(&rt, rt.alloc())?);
+    Ok(())
+}
+
+// Whether all before a header that is cut is written.
+fn is_cut_header<R: Threads + Wait + Sync>(rt: &R, alloc: Global) -> Result<bool, Fail> {
+    let plan = plan(4, 64)?;
+    let options = options(alloc, Side::Include, Empty::Pad)?;
+    let dump = with_junk(alloc)?;
+    let fault = Answer::Fault {
+        kind: FaultKind::HeaderCut,
+        number: 6,
+        place: 589,
+    };
+    let wanted = (fault, &DUMP[..TRUNK2]);
+    Ok(is_run(rt, alloc, &dump, &options, plan, &FreeGate, wanted))
+}
+
+#[test]
+fn what_stands_before_a_cut_header_is_written(rt: HostRuntime) -> Result<(), Fail> {
+    assert!(rt; is_cut_header(&rt, rt.alloc())?);
+    Ok(())
+}
+
+/// A hundred revisions, of which every second is kept.
+pub fn hundred(alloc: Global) -> Result<Vec<u8>, Fail> {
+    let mut dump = Vec::from_slice(alloc, VERSION)?;
+    write_revision(&mut dump, 0)?;
+    for number in 1..100 {
+        write_group(&mut dump, number)?;
+    }
+    Ok(dump)
+}
+
+pub fn renumbering(alloc: Global) -> Result<Options, Fail> {
+    let prefixes = [b"trunk".as_slice()];
+    Ok(Options::new(
+        alloc,
+        Side::Include,
+        prefixes.as_slice(),
+        Empty::DropEmptied,
+        true,
+        false,
+        false,
+    )?)
+}
+
+/// What comes of it.
+pub const HALF: Answer = Answer::Clean(Report {
+    revisions_kept: 50,
+    revisions_dropped: 50,
+    nodes_kept: 49,
+    nodes_dropped: 50,
+    texts_checked: 0,
+});
+
+// Whether a run over it, through a gate, keeps half of it.
+fn is_halved<R: Threads + Wait + Sync, G: Gate>(
+    rt: &R,
+    alloc: Global,
+    plan: Plan,
+    gate: &G,
+) -> Result<bool, Fail> {
+    let options = renumbering(alloc)?;
+    let dump = hundred(alloc)?;
+    let mut sink = MemorySink::new(alloc, 1000, Trouble::Never);
+    let answer = run(rt, alloc, &dump, &options, plan, gate, &mut sink);
+    Ok(answer == HALF && sink.taken().len() == 11_359)
+}
+
+#[test]
+fn each_record_passes_the_gate_once(rt: HostRuntime) -> Result<(), Fail> {
+    for (workers, window) in [(1, 1), (4, 64), (64, 4096)] {
+        let gate = Counting::new();
+        assert!(rt; is_halved(&rt, rt.alloc(), plan(workers, window)?, &gate)?);
+        assert!(rt; gate.words() == [u64::MAX, u64::MAX, u64::MAX, 0xff]);
+        assert!(rt; gate.others() == 0);
+    }
+    Ok(())
+}
+
+// A worker that holds record 0 holds no other record.
+#[test]
+fn any_worker_takes_any_record(rt: HostRuntime) -> Result<(), Fail> {
+    let gate = Holding::new(0, 0b11_1111_1110, 0);
+    assert!(rt; is_halved(&rt, rt.alloc(), plan(4, 64)?, &gate)?);
+    assert!(rt; !gate.is_late());
+    Ok(())
+}
+
+// While record 0 is held, only the window's records are under way.
+#[test]
+fn no_more_are_under_way_than_the_window_has(rt: HostRuntime) -> Result<(), Fail> {
+    let gate = Holding::new(0, 0b1110, 100_000);
+    assert!(rt; is_halved(&rt, rt.alloc(), plan(2, 4)?, &gate)?);
+    assert!(rt; !gate.is_late());
+    assert!(rt; gate.before() == 0b1110);
+    Ok(())
+}
+
+/// A wrong digest in record 2, and a thousand records behind it.
+pub fn early_fault(alloc: Global) -> Result<Vec<u8>, Fail> {
+    let mut dump = Vec::from_slice(alloc, VERSION)?;
+    write_revision(&mut dump, 0)?;
+    dump.extend_from_slice(WRONG_SHA1)?;
+    for _ in 0..1000 {
+        dump.extend_from_slice(FOLDER)?;
+    }
+    Ok(dump)
+}
+
+#[test]
+fn a_fault_stops_the_cutting(rt: HostRuntime) -> Result<(), Fail> {
+    let dump = early_fault(rt.alloc())?;
+    let gate = Holding::new(u64::MAX, 0, 0);
+    assert!(rt; is_first_fault(&rt, rt.alloc(), &dump, plan(1, 1)?, &gate)?);
+    assert!(rt; gate.passed() == 0b111);
+    Ok(())
+}
+
+// Whether a run into a sink that takes nothing fails at once.
+fn is_refused<R: Threads + Wait + Sync, G: Gate>(
+    rt: &R,
+    alloc: Global,
+    gate: &G,
+) -> Result<bool, Fail> {
+    let plan = plan(1, 1)?;
+    let options = everything(alloc)?;
+    let dump = early_fault(alloc)?;
+    let mut sink = MemorySink::new(alloc, 1000, Trouble::From(0));
+    let failed = Answer::Failed {
+        failure: Failure::Sink,
+        written: 0,
+    };
+    Ok(run(rt, alloc, &dump, &options, plan, gate, &mut sink) == failed)
+}
+
+#[test]
+fn a_broken_sink_stops_the_cutting(rt: HostRuntime) -> Result<(), Fail> {
+    let gate = Holding::new(u64::MAX, 0, 0);
+    assert!(rt; is_refused(&rt, rt.alloc(), &gate)?);
+    assert!(rt; gate.passed() == 0b1);
+    Ok(())
+}
+
+// Run with each allocation refused in turn: the answer is out of memory, a thread that wasn't started, or the usual one.
+#[test]
+fn out_of_memory_leaves_a_first_part_over_threads(rt: HostRuntime) {
+    let alloc = rt.alloc();
+    let (side, prefixes) = (Side::Include, [b"trunk".as_slice()]);
+    let Ok(options) = Options::new(alloc, side, &prefixes, Empty::Pad, false, true, false) else {
+        return;
+    };
+    let Some(plan) = Plan::new(2, 4) else {
+        return;
+    };
+    let mut sink = MemorySink::new(alloc, 1000, Trouble::Never);
+    let answer = run(&rt, alloc, DUMP, &options, plan, &FreeGate, &mut sink);
+    let clean = (report(2, 1), &DUMP[..TRUNK2]);
+    assert!(rt; is_first_part(answer, sink.taken(), clean));
+}

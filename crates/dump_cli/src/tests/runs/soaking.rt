@@ -1,0 +1,117 @@
+//! Many runs over threads, each beside the same run on one thread.
+
+use super::running::{early_fault, everything, hundred, plan, renumbering};
+use super::{DUMP, options};
+use dump_pipeline::{Gate, run, run_plain};
+use dump_rules::{Empty, Options, Side};
+use dump_writer::{MemorySink, Trouble};
+use std::alloc::Global;
+use std::ops::Range;
+use std::sync::Wait;
+use std::test::Fail;
+use std::thread;
+use std::thread::Threads;
+
+// What looks like chance, and is the same in each run of the tests.
+fn scatter(seed: u64) -> u64 {
+    let mixed = (seed ^ (seed >> 30)).wrapping_mul(0xbf58476d1ce4e5b9);
+    let mixed = (mixed ^ (mixed >> 27)).wrapping_mul(0x94d049bb133111eb);
+    mixed ^ (mixed >> 31)
+}
+
+/// Lets each record give its turn away some times.
+#[derive(Drop)]
+struct Delaying {
+    seed: u64,
+}
+
+impl Gate for Delaying {
+    fn pass(&self, number: u64) {
+        for _ in 0..scatter(self.seed ^ number) % 4 {
+            thread::yield_now();
+        }
+    }
+}
+
+// A sink that breaks off at some byte, or doesn't.
+fn sink_of(alloc: Global, seed: u64, len: usize) -> MemorySink {
+    let at = scatter(seed) % (len as u64).max(1);
+    let trouble = match scatter(seed.wrapping_add(1)) % 3 {
+        0 => Trouble::Never,
+        1 => Trouble::Once(at),
+        _ => Trouble::From(at),
+    };
+    MemorySink::new(
+        alloc,
+        1 + (scatter(seed.wrapping_add(2)) % 512) as usize,
+        trouble,
+    )
+}
+
+// Whether a run over threads answers and writes what one on one thread does, for so many seeds.
+fn agree<R: Threads + Wait + Sync>(
+    rt: &R,
+    alloc: Global,
+    dump: &[u8],
+    options: &Options,
+    seeds: Range<u64>,
+) -> Result<bool, Fail> {
+    for seed in seeds {
+        let most = if seed % 16 == 0 { 64 } else { 6 };
+        let workers = 1 + (scatter(seed.wrapping_add(3)) % most) as usize;
+        let window = 1 + (scatter(seed.wrapping_add(4)) % 40) as usize;
+        let mut plain = sink_of(alloc, seed, dump.len());
+        let mut sink = sink_of(alloc, seed, dump.len());
+        let gate = Delaying { seed };
+        let wanted = run_plain(alloc, dump, options, &mut plain);
+        let answer = run(
+            rt,
+            alloc,
+            dump,
+            options,
+            plan(workers, window)?,
+            &gate,
+            &mut sink,
+        );
+        if answer != wanted || sink.taken() != plain.taken() {
+            return Ok(false);
+        }
+    }
+    Ok(true)
+}
+
+#[test]
+fn clean_dumps_are_filtered_as_on_one_thread(rt: HostRuntime) -> Result<(), Fail> {
+    let alloc = rt.alloc();
+    let dump = hundred(alloc)?;
+    assert!(rt; agree(&rt, alloc, &dump, &renumbering(alloc)?, 0..60)?);
+    assert!(rt;
+        agree(
+            &rt,
+            alloc,
+            DUMP,
+            &options(alloc, Side::Include, Empty::Pad)?,
+            1000..2500
+        )?
+    );
+    Ok(())
+}
+
+#[test]
+fn dumps_with_a_fault_are_filtered_as_on_one_thread(rt: HostRuntime) -> Result<(), Fail> {
+    let alloc = rt.alloc();
+    let dump = early_fault(alloc)?;
+    assert!(rt; agree(&rt, alloc, &dump, &everything(alloc)?, 3000..3200)?);
+    let mut dump = Vec::from_slice(alloc, DUMP)?;
+    dump.extend_from_slice(b"junk")?;
+    assert!(rt;
+        agree(
+            &rt,
+            alloc,
+            &dump,
+            &options(alloc, Side::Include, Empty::Pad)?,
+            5000..6500
+        )?
+    );
+    Ok(())
+}
