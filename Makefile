@@ -28,7 +28,7 @@ INSTALLED := PREFIX="$(PREFIX)" DESTDIR="$(DESTDIR)" NAME="$(NAME)" FORCE="$(FOR
 SOURCES := $(shell tools/sources)
 # a suite that calls make itself takes none of this make's jobs
 ALONE := env -u MAKEFLAGS -u MFLAGS
-SUITES := $(addprefix suite-,refusals meaning hostile cases surveys stock install pages trusted words)
+SUITES := $(addprefix suite-,refusals meaning hostile cases surveys stock install pages trusted words edits)
 
 # a target for each suite of tests/
 .PHONY: $(SUITES)
@@ -104,6 +104,10 @@ suite-trusted:
 suite-words:
 	@echo "make: looking whether each definition's name stands in one crate"
 	tests/words
+
+suite-edits:
+	@echo "make: looking whether each wrong body fits the sources as they stand"
+	tests/wrong --fit
 
 gate: | toolchain
 	@echo "make: proving every crate from nothing, with its tests and the named wrong bodies"

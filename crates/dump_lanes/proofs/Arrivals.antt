@@ -8,7 +8,7 @@ use Rattle.std.proofs.Math.Nat.{mod-lt}
 use Rattle.std.proofs.lemmas.List.Sums.{sum_by-cons, sum_by-append, sum_by_push, sum_by-set}
 use Rattle.dump_lanes.specs.Arrivals.{WeighsSame, first_numbers, Lacks, IsWaiting, Clash}
 use Rattle.dump_lanes.specs.steps.SlotRow.{slot_item, with_slot_item}
-use Rattle.dump_lanes.proofs.core.Weights.{weigh, weigh-append, only, only_itself, only_other, within_range, above_range}
+use Rattle.dump_lanes.proofs.core.Weights.{weigh, weigh-append, only, only_itself, only_other, within_range, above_range, range_next}
 use Rattle.dump_lanes.proofs.core.Slots.{near}
 use Rattle.dump_lanes.specs.steps.ArrivalRows.{held, Row}
 use Rattle.dump_lanes.specs.Arrivals.Clash.{Taken, Wrong}
@@ -132,17 +132,6 @@ still_clash window released arrived more (Wrong m rest same turn other) = Wrong 
         ∙ (sym (sum_by-append f (first_numbers released ++ others) more)
         ∙ ap (sum_by f) (append_assoc (first_numbers released) others more)))
 
-ends_more : (a n : ℕ) → range_with_len a (suc n) ≡ range_with_len a n ++ (a + n) ∷ []
-ends_more a zero = ap (λ k. k ∷ []) (omega arith)
-ends_more a (suc n) = ap (λ l. a ∷ l) (ends_more (a + 1) n ∙ ap (λ k. range_with_len (a + 1) n ++ k ∷ []) (omega arith))
-
--- one more number
-pub first_more : (n : ℕ) → first_numbers (n + 1) ≡ first_numbers n ++ n ∷ []
-first_more n =
-    let a : n + 1 ≡ suc n = omega arith in
-    let b : 0 + n ≡ n = omega arith in
-    ap first_numbers a ∙ (ends_more 0 n ∙ ap (λ (k : ℕ). first_numbers n ++ k ∷ []) b)
-
 module _ {T : Type 0} (number : T → ℕ) where
   -- what an item in a place weighs
   abbrev at_place : (ℕ → ℕ) → Option T → ℕ
@@ -259,7 +248,7 @@ module _ {T : Type 0} (number : T → ℕ) where
             let c = sum_by-append f (first_numbers released) (places_of places) in
             let d = sum_by-append f (first_numbers (released + 1)) (places_of (slice_set places i None)) in
             let e = taken_out f places i item lt stands in
-            let g = ap (sum_by f) (first_more released) ∙ sum_by_push f (first_numbers released) released in
+            let g = ap (sum_by f) (range_next released) ∙ sum_by_push f (first_numbers released) released in
             let h : f (number item) ≡ f released = ap f is in omega arith;
       }
 
@@ -275,7 +264,7 @@ module _ {T : Type 0} (number : T → ℕ) where
         let b = r.same f in
         let c = sum_by-append f (first_numbers released) (places_of places) in
         let d = sum_by-append f (first_numbers (released + 1)) (places_of places) in
-        let e = ap (sum_by f) (first_more released) ∙ sum_by_push f (first_numbers released) released in omega arith;
+        let e = ap (sum_by f) (range_next released) ∙ sum_by_push f (first_numbers released) released in omega arith;
   }
 
   -- nothing is released

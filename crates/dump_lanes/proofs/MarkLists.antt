@@ -1,5 +1,5 @@
 -- The items among marks, as marks join the list.
-use Rattle.std.proofs.Common.{◌≡◌, ◌≢◌, Bool, true, false, List, [], ◌∷◌, ◌++◌, map, sym, refl, ap, ◌∙◌}
+use Rattle.std.proofs.Common.{◌≡◌, ◌≢◌, Bool, true, false, List, [], ◌∷◌, ◌++◌, map, drop, sym, refl, ap, ◌∙◌}
 use Rattle.std.proofs.lemmas.List.{append-nil, map-append}
 use Rattle.dump_lanes.specs.declared.protocol.Mark.{Mark}
 use Rattle.dump_lanes.specs.declared.protocol.Mark.TheVariants.{Item, End}
@@ -46,10 +46,6 @@ module _ {T : Type 0} where
       → put ≡ taken ++ left → items_of put ≡ items_of taken ++ items_of left
   is_prefix put taken left e = ap items_of e ∙ items_of-append taken left
 
-  abbrev rest_of : List (Mark T) → List (Mark T)
-  rest_of [] = []
-  rest_of (m ∷ ms) = ms
-
   closes : (put taken : List T) (marked : Bool) (left : List (Mark T))
       → map Item put ++ mark_if marked ≡ (map Item taken ++ End ∷ []) ++ left → taken ≡ put
   closes [] [] marked left e = refl
@@ -57,14 +53,14 @@ module _ {T : Type 0} where
   closes [] (y ∷ taken) false left e = absurd (cc)
   closes (x ∷ put) [] marked left e = absurd (cc)
   closes (x ∷ put) (y ∷ taken) marked left e =
-      let rest = closes put taken marked left (ap rest_of e) in
+      let rest = closes put taken marked left (ap (λ l. drop 1 l) e) in
       let items = ap items_of e in cc
 
   unmarked : (put taken : List T) (left : List (Mark T)) → map Item put ++ [] ≢ (map Item taken ++ End ∷ []) ++ left
   unmarked [] [] left e = absurd (cc)
   unmarked [] (y ∷ taken) left e = absurd (cc)
   unmarked (x ∷ put) [] left e = absurd (cc)
-  unmarked (x ∷ put) (y ∷ taken) left e = unmarked put taken left (ap rest_of e)
+  unmarked (x ∷ put) (y ∷ taken) left e = unmarked put taken left (ap (λ l. drop 1 l) e)
 
   -- the end mark was taken only where it was put
   pub is_marked : (put taken : List (Mark T)) (marked : Bool) (left : List (Mark T))

@@ -1,5 +1,5 @@
 -- What the passes of all ports say together.
-use Rattle.std.proofs.Common.{◌≡◌, ◌⊎◌, inl, inr, ◌+◌, ◌<◌, ◌==◌, ℕ, zero, suc, Bool, true, false, List, [], ◌∷◌, ◌++◌, length, map, replicate, cond, flat_map, sum_by, sym, refl, ap, ◌∙◌, subst, ⊎_elim, append_assoc, eq-eqb, arith}
+use Rattle.std.proofs.Common.{◌≡◌, ◌⊎◌, inl, inr, ◌+◌, ◌<◌, ◌==◌, ℕ, zero, suc, Bool, true, false, List, [], ◌∷◌, ◌++◌, length, map, drop, replicate, cond, flat_map, sum_by, sym, refl, ap, ◌∙◌, subst, ⊎_elim, append_assoc, eq-eqb, arith}
 use Rattle.std.specs.List.{range_with_len}
 use Rattle.std.proofs.lemmas.List.{append-nil, map-append}
 use Rattle.std.proofs.lemmas.List.Elements.{filter-append}
@@ -46,20 +46,6 @@ module _ {X Y : Type 0} where
       let b = sum_by-cons (λ x. weight (f x)) x xs in
       let t = sum_by-map f weight xs in omega arith
 
--- one more number
-range-then : (a n : ℕ) → range_with_len a (suc n) ≡ range_with_len a n ++ (a + n) ∷ []
-range-then a zero = ap (λ k. k ∷ []) (omega arith)
-range-then a (suc n) =
-    let e : a + 1 + n ≡ a + suc n = omega arith in
-    ap (λ l. a ∷ l) (range-then (a + 1) n ∙ ap (λ k. range_with_len (a + 1) n ++ k ∷ []) e)
-
--- the numbers below one more are those below n, and then n
-pub range-more : (n : ℕ) → range_with_len 0 (n + 1) ≡ range_with_len 0 n ++ n ∷ []
-range-more n =
-    let more : n + 1 ≡ suc n = omega arith in
-    let same : 0 + n ≡ n = omega arith in
-    ap (range_with_len 0) more ∙ (range-then 0 n ∙ ap (λ k. range_with_len 0 n ++ k ∷ []) same)
-
 module _ {T : Type 0} where
   abbrev end_weight : Mark T → ℕ
   end_weight (Item x) = 0
@@ -94,10 +80,6 @@ module _ {T : Type 0} where
       ap count_ends h ∙ (let a = count_ends-append (map {B = Mark T} Item (items_of marks))
       (End ∷ []) in let b = ends_of_items (items_of marks) in omega arith)
 
-  abbrev rest_of : List (Mark T) → List (Mark T)
-  rest_of [] = []
-  rest_of (x ∷ xs) = xs
-
   no_rest : (gone items : List (Mark T)) → [] ≡ gone ++ items → items ≡ []
   no_rest [] items e = sym e
   no_rest (x ∷ gone) items e = absurd (cc)
@@ -106,8 +88,8 @@ module _ {T : Type 0} where
   no_tail : (ys gone items : List (Mark T)) → ys ++ End ∷ [] ≡ gone ++ items → count_ends items ≡ 0 → items ≡ []
   no_tail ys [] items e none = let t = ap count_ends e in let a = count_ends-append ys (End ∷ []) in absurd
       (omega arith)
-  no_tail [] (x ∷ gone) items e none = no_rest gone items (ap rest_of e)
-  no_tail (y ∷ ys) (x ∷ gone) items e none = no_tail ys gone items (ap rest_of e) none
+  no_tail [] (x ∷ gone) items e none = no_rest gone items (ap (λ l. drop 1 l) e)
+  no_tail (y ∷ ys) (x ∷ gone) items e none = no_tail ys gone items (ap (λ l. drop 1 l) e) none
 
   ends_then : (n : ℕ) → replicate {A = Mark T} (suc n) End ≡ replicate n End ++ End ∷ []
   ends_then zero = refl

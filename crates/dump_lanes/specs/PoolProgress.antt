@@ -64,7 +64,7 @@ AreNextMoves size w [] = Unit {0}
 AreNextMoves size w (event ∷ events) =
     (event ≡ next_move size w) × AreNextMoves size (after_event size w event) events
 
--- the next moves in turn lead to the end; with at most one more cut, so there are no more of them than are left
+-- the next moves in turn lead to the end; there are no more of them than are left where one more item is cut
 pub record ComesToEnd (size : PoolSize) (w : World) : Type 0 where
   pub events : List Event
   pub new : World

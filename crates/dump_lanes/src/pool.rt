@@ -75,15 +75,9 @@ impl<J: Drop, D: Drop> Pool<J, D> {
         ensures window { IfOk result (λ pool. (pool_state pool).window ≡ window) }
         ensures unopened { IfOk result (λ pool. (pool_state pool).opened ≡ false) }
     {
-        let Ok((jobs, first_job)) = JobQueue::ruled(alloc, window + workers) else {
-            return Err(Memory);
-        };
-        let Ok((dones, first_done)) = DoneQueue::ruled(alloc, window + workers) else {
-            return Err(Memory);
-        };
-        let Ok((credits, mut first_credit)) = CreditQueue::ruled(alloc, window) else {
-            return Err(Memory);
-        };
+        let (jobs, first_job) = JobQueue::ruled(alloc, window + workers)?;
+        let (dones, first_done) = DoneQueue::ruled(alloc, window + workers)?;
+        let (credits, mut first_credit) = CreditQueue::ruled(alloc, window)?;
         let credit_bells = Bells::new();
         put_first(rt, &credits, &credit_bells, &mut first_credit, window);
         let queues = Queues {
@@ -101,9 +95,7 @@ impl<J: Drop, D: Drop> Pool<J, D> {
             dones: first_done,
             credits: first_credit,
         };
-        let Ok(queues) = Arc::new(alloc, queues) else {
-            return Err(Memory);
-        };
+        let queues = Arc::new(alloc, queues)?;
         Ok(Pool {
             queues,
             passes: Some(passes),
@@ -122,12 +114,8 @@ impl<J: Drop, D: Drop> Pool<J, D> {
         ensures opened { OnOk result (pool_state self.new ≡ record (pool_state self.old) { opened = true }) }
         ensures unchanged { OnErr result (pool_state self.new ≡ pool_state self.old) }
     {
-        let Ok(room) = Vec::with_capacity(alloc, self.queues.workers) else {
-            return Err(Memory);
-        };
-        let Some(shares) = share(alloc, &self.queues) else {
-            return Err(Memory);
-        };
+        let room = Vec::with_capacity(alloc, self.queues.workers)?;
+        let shares = share(alloc, &self.queues)?;
         let Some(passes) = self.passes.take() else {
             unreachable!()
         };

@@ -40,9 +40,7 @@ impl<T: Drop> Slots<T> {
         requires most { window ≤ MOST_WINDOW }
         ensures { IfOk result (λ slots. slot_places slots ≡ replicate window None) }
     {
-        let Some(places) = empty_places(alloc, window) else {
-            return Err(Memory);
-        };
+        let places = empty_places(alloc, window)?;
         Ok(Slots { places })
     }
 
@@ -85,16 +83,12 @@ fn place_of(number: u64, window: usize) -> usize
 }
 
 // A row with nothing in it, unless memory runs out.
-fn empty_places<T: Drop>(alloc: Global, window: usize) -> Option<Vec<Option<T>>>
-    ensures { IfSome result (λ places. places.items ≡ replicate window None) }
+fn empty_places<T: Drop>(alloc: Global, window: usize) -> Result<Vec<Option<T>>, Memory>
+    ensures { IfOk result (λ places. places.items ≡ replicate window None) }
 {
-    let Ok(mut places) = Vec::<Option<T>>::with_capacity(alloc, window) else {
-        return None;
-    };
+    let mut places = Vec::<Option<T>>::with_capacity(alloc, window)?;
     for _ in 0..window {
-        if places.push(None).is_err() {
-            return None;
-        }
+        places.push(None)?;
     }
-    Some(places)
+    Ok(places)
 }

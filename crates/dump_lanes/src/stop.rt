@@ -49,9 +49,7 @@ impl StopWord {
     pub fn new(alloc: Global) -> Result<(StopWord, StopSeat), Memory>
         ensures { IfOk result (λ made. made.1 ≡ first_seat made.0) }
     {
-        let Ok((table, seat)) = Table::of_words(alloc, &[0], &()) else {
-            return Err(Memory);
-        };
+        let (table, seat) = Table::of_words(alloc, &[0], &())?;
         Ok((StopWord { table }, StopSeat { seat }))
     }
 

@@ -3,10 +3,7 @@ ghost use Rattle.dump_lanes.specs.steps.LaneViews.{sending, sent, receiving};
 
 mod drawing;
 mod pooling;
-mod running;
-mod starting;
 mod stopping;
-mod threads;
 
 use super::{LaneIn, LaneOut, Memory, Sent, Taken, lane};
 use std::alloc::{AllocError, Global};

@@ -1,6 +1,6 @@
 -- What the threads brought back, put together.
 use Rattle.std.proofs.Common.{◌≡◌, ◌≢◌, ◌⊎◌, inl, inr, ◌∙◌, ℕ, suc, ◌+◌, ◌≤◌, Bool, true, false, ◌||◌, List, [], ◌∷◌, ◌++◌, length, Option, Some, None, refl, sym, ap, subst, arith, map, sum_by, All, MatchBool}
-use Rattle.std.proofs.lemmas.Bool.{false≢true}
+use Rattle.std.proofs.lemmas.Bool.{false≢true, or_left, or_cases}
 use Rattle.std.proofs.lemmas.List.{map-append}
 use Rattle.std.proofs.lemmas.List.Sums.{sum_by-cons}
 use Rattle.std.proofs.KnownBytes.{Appends-nil}
@@ -127,14 +127,6 @@ module _ {D : Type 0} {run : Ghosts D} where
       let most = within dump records ending has p.before p.begins in
       let released = p.count in absurd (omega arith)
 
-true_or : (a b : Bool) → a ≡ true → (a || b) ≡ true
-true_or true b e = refl
-true_or false b e = absurd (false≢true e)
-
-either_true : (a b : Bool) → (a || b) ≡ true → (a ≡ true) ⊎ (b ≡ true)
-either_true true b e = inl refl
-either_true false b e = inr e
-
 -- a stop that the cutter saw was raised by the sequencer or by the writer
 pub stop_was_raised : (cuts sequences writes all : Seat) → all ≡ joined_seat (joined_seat cuts sequences) writes
     → SeesOnlyRaised all
@@ -143,10 +135,10 @@ pub stop_was_raised : (cuts sequences writes all : Seat) → all ≡ joined_seat
 stop_was_raised cuts sequences writes all is only shares c e =
     let whole : all.share ≡ 4 = ap (λ (x : Seat). x.share) is ∙ shares in
     let seen : all.seen ≡ true = ap (λ (x : Seat). x.seen) is
-    ∙ true_or (cuts.seen || sequences.seen) writes.seen (true_or cuts.seen sequences.seen e) in
+    ∙ or_left (cuts.seen || sequences.seen) writes.seen (or_left cuts.seen sequences.seen e) in
     let raised : ((cuts.raised || sequences.raised) || writes.raised) ≡ true =
     sym (ap (λ (x : Seat). x.raised) is) ∙ only whole seen in
-    either_true sequences.raised writes.raised
+    or_cases sequences.raised writes.raised
     (sym (ap (λ (b : Bool). (b || sequences.raised) || writes.raised) c) ∙ raised)
 
 -- so where neither raised it, the cutter saw none
@@ -176,7 +168,7 @@ unshut shut shuts all is only shares a b = by shut.seen refl
     by : (b : Bool) → shut.seen ≡ b → shut.seen ≡ false
     by false e = e
     by true e = absurd (false≢true (sym not_raised ∙ only (ap (λ (x : Seat). x.share) is ∙ shares)
-        (ap (λ (x : Seat). x.seen) is ∙ true_or shut.seen shuts.seen e)))
+        (ap (λ (x : Seat). x.seen) is ∙ or_left shut.seen shuts.seen e)))
 
 -- what was released begins the filter's text of the dump
 pub begins_text : (settings : Settings) (dump : List ℕ) (end : Option End) (released : ℕ) (text received : List ℕ)

@@ -8,7 +8,8 @@ use Rattle.dump_lanes.specs.steps.ArrivalRows.{Row}
 use Rattle.dump_lanes.specs.steps.LaneEnds.{Sending}
 use Rattle.dump_lanes.specs.steps.PortSides.{CutterSide}
 use Rattle.dump_lanes.specs.steps.SlotRow.{slot_item, with_slot_item}
-use Rattle.dump_lanes.proofs.Arrivals.{first_more, empty_row, arrived_more, released_more, passed_on, same_row, next_is_missing, wrong_item, taken_place, still_clash}
+use Rattle.dump_lanes.proofs.core.Weights.{range_next}
+use Rattle.dump_lanes.proofs.Arrivals.{empty_row, arrived_more, released_more, passed_on, same_row, next_is_missing, wrong_item, taken_place, still_clash}
 use Rattle.dump_lanes.proofs.PortsTogether.{all_then}
 use Rattle.dump_records.specs.steps.CutterState.{CutterState}
 use Rattle.dump_records.specs.DumpText.{Ending}
@@ -70,7 +71,7 @@ module _ {D : Type 0} {run : Ghosts D} where
         numbers = map-append job_number b.put (job ∷ [])
             ∙ (ap (λ (l : List (Job D run)). job_numbers l ++ job_number job ∷ []) put_is
             ∙ (ap (λ (l : List ℕ). l ++ job_number job ∷ []) h.numbers
-            ∙ (ap (λ (n : ℕ). first_numbers count ++ n ∷ []) is ∙ sym (first_more count))));
+            ∙ (ap (λ (n : ℕ). first_numbers count ++ n ∷ []) is ∙ sym (range_next count))));
         credits = let k = h.credits in omega arith;
       }
 
@@ -238,7 +239,7 @@ numbers_released next old new piece put is h =
     ap (λ (x : Sending NumberedPiece). piece_numbers x.put) put
     ∙ (map-append (λ (p : NumberedPiece). p.number.value) old.put (piece ∷ [])
     ∙ (ap (λ (l : List ℕ). l ++ piece.number.value ∷ []) h
-    ∙ (ap (λ (n : ℕ). first_numbers next ++ n ∷ []) is ∙ sym (first_more next))))
+    ∙ (ap (λ (n : ℕ). first_numbers next ++ n ∷ []) is ∙ sym (range_next next))))
 
 -- how far it has come tells what it ended with
 pub ended_so : (settings : Settings) (dump : List ℕ) (stage : Stage) (end : Option End) (next : ℕ) (text : List ℕ)

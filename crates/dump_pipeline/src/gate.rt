@@ -2,6 +2,7 @@
 
 /// What a worker passes before it checks the record with this number.
 pub trait Gate: Sync {
+    /// Returns when the record may be checked.
     fn pass(&self, number: u64);
 }
 

@@ -152,7 +152,7 @@ pub fn conclude<'a, D: Run>(words: &Words, joined: Joined<'a, D>) -> Answer
     } = joined;
     let both = words.stop.join(cutter.seat, sequences);
     let _all = words.stop.join(both, writes);
-    let _door = words.shut.join(cutter.shut, shuts);
+    let _shut = words.shut.join(cutter.shut, shuts);
     let ports = Ports {
         cutter: cutter.port,
         workers,

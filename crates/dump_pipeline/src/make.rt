@@ -73,10 +73,10 @@ fn make_seats(alloc: Global) -> Result<Seats, Memory>
     ensures shuts { IfOk result (λ seats. seats.shuts ≡ half_seat (first_seat seats.words.shut)) }
 {
     let (stop, seat) = StopWord::new(alloc)?;
-    let (shut_word, door) = StopWord::new(alloc)?;
+    let (shut_word, shut_seat) = StopWord::new(alloc)?;
     let (cuts, other) = stop.split(seat);
     let (sequences, writes) = stop.split(other);
-    let (shut, shuts) = shut_word.split(door);
+    let (shut, shuts) = shut_word.split(shut_seat);
     let words = Words {
         stop,
         shut: shut_word,
@@ -103,12 +103,8 @@ fn make_room<'a, D: Run>(alloc: Global, workers: usize) -> Result<Room<'a, D>, M
     ensures threads { IfOk result (λ room. (length room.threads.items ≡ 0) × (workers ≤ vec_capacity room.threads)) }
     ensures ports { IfOk result (λ room. (length room.ports.items ≡ 0) × (workers ≤ vec_capacity room.ports)) }
 {
-    let Ok(threads) = Vec::with_capacity(alloc, workers) else {
-        return Err(Memory);
-    };
-    let Ok(ports) = Vec::with_capacity(alloc, workers) else {
-        return Err(Memory);
-    };
+    let threads = Vec::with_capacity(alloc, workers)?;
+    let ports = Vec::with_capacity(alloc, workers)?;
     Ok(Room { threads, ports })
 }
 

@@ -114,6 +114,7 @@ fn run_scoped<'s, 'a, 'b, D: Run + Send + Sync, S: Sink, G: Gate, R: Threads + W
     )
 }
 
+// Runs a task by a plan: makes all that it needs, and runs its threads.
 fn run_of<'a, D: Run + Send + Sync, S: Sink, G: Gate, R: Threads + Wait + Sync>(
     rt: &R,
     alloc: Global,

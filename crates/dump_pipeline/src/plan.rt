@@ -31,12 +31,14 @@ impl Plan {
         Some(Plan { workers, window })
     }
 
+    /// How many workers check records.
     pub fn workers(&self) -> usize
         ensures { result ≡ worker_count self.now }
     {
         self.workers
     }
 
+    /// How many records are under way at most.
     pub fn window(&self) -> usize
         ensures { result ≡ window_size self.now }
     {

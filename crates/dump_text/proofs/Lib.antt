@@ -1,5 +1,6 @@
 pub mod BoolLemmas
 pub mod NumberLemmas
+pub mod SpellingLemmas
 pub mod Unique
 pub mod ScanLemmas
 pub mod BlockLemmas

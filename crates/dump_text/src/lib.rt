@@ -66,7 +66,7 @@ pub use fault::FaultKind;
 pub use headers::Headers;
 pub use lines::{Line, Lines};
 pub use names::HeaderName;
-pub use numbers::{Digits, number, spell};
+pub use numbers::{Digits, is_shortest, number, spell};
 pub use props::{Entries, Entry, Props, PropsReading};
 pub use scan::find;
 pub use writing::{push_block_end, push_deletion, push_header, push_property};

@@ -1,5 +1,5 @@
 //! Numbers as headers, property lengths and mergeinfo have them.
-ghost use Rattle.std.specs.Prelude.{◌≡◌, ◌<◌, ◌^◌, IfSome};
+ghost use Rattle.std.specs.Prelude.{◌≡◌, ◌<◌, ◌^◌, ℕ, IfSome, Some, bytes_eq};
 ghost use Rattle.dump_text.specs.Number.{number_of, spelled_number};
 
 use std::marker::Model;
@@ -23,6 +23,13 @@ pub fn number(bytes: &[u8]) -> Option<u64>
         value = value * 10 + u64::from(*digit - b'0');
     }
     Some(value)
+}
+
+/// Whether the digits of a number are those that the filter writes: none of them is a leading zero.
+pub fn is_shortest(digits: &[u8]) -> bool
+    ensures { (n : ℕ) → number_of digits.now ≡ Some n → result ≡ bytes_eq digits.now (spelled_number n) }
+{
+    digits.len() < 2 || digits[0] != b'0'
 }
 
 /// How many digits the greatest `u64` has.

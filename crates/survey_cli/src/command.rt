@@ -14,6 +14,7 @@ fn plain_flag<'a>(alloc: Global, name: &'a str) -> Arg<'a>
     Arg::new(alloc, name).long(name).action(ArgAction::SetTrue)
 }
 
+// The words behind the flags, of which there is at least one.
 fn prefix_words<'a>(alloc: Global) -> Arg<'a>
     ensures rule { rule_of result ≡ prefix_words }
     ensures local { result.global ≡ false }

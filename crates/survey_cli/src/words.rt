@@ -66,6 +66,7 @@ fn side_in(line: &[&str]) -> Option<Side>
     }
 }
 
+// The side of this name.
 fn named_side(word: &str) -> Option<Side>
     ensures { result ≡ named_side word.now }
 {
@@ -116,6 +117,7 @@ fn read_call(alloc: Global, side: Side, matches: &ArgMatches<'_>) -> Result<Call
     }
 }
 
+// Whether the flag stands among the words.
 fn is_flag_set(matches: &ArgMatches<'_>, name: &str) -> bool
     ensures { result ≡ is_flag_set name.now (rows_of (found_of matches.now)) }
 {
@@ -137,6 +139,7 @@ fn read_empty(matches: &ArgMatches<'_>) -> Option<Empty>
     }
 }
 
+// The prefixes as they were given.
 fn read_prefixes<'a>(alloc: Global, matches: &ArgMatches<'a>) -> Result<Vec<&'a [u8]>, Usage>
     ensures { IfOk result (λ texts. map (λ text. text.now) texts.items ≡ unwrap_or (all_of (codes "PREFIX") (rows_of (found_of matches.now))) []) }
 {

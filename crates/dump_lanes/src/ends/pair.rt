@@ -8,7 +8,7 @@ use super::{LaneIn, LaneOut, Told};
 use crate::passes::{Roles, View};
 use crate::protocol::{InOrder, Mark};
 use crossbeam_channel::bounded_with;
-use std::alloc::Global;
+use std::alloc::{AllocError, AllocFailed, Global};
 
 /// Makes a lane. Its channel has `capacity` places and one more, so that the end mark has room where
 /// no more than `capacity` items are ever in the lane at once.
@@ -21,12 +21,10 @@ pub fn lane<T: Drop>(alloc: Global, capacity: usize) -> Result<(LaneIn<T>, LaneO
     ensures nothing_taken { IfOk result (λ ends. (receiving ends.1).taken ≡ []) }
     ensures nothing_told { IfOk result (λ ends. (receiving ends.1).told ≡ LaneEnd.MayCome) }
 {
-    let Ok((sender, receiver, mut pass)) = bounded_with::<Mark<T>, View<Mark<T>>, InOrder, Global>(
+    let (sender, receiver, mut pass) = bounded_with::<Mark<T>, View<Mark<T>>, InOrder, Global>(
         alloc,
         capacity + 1,
-    ) else {
-        return Err(Memory);
-    };
+    )?;
     let other = sender.another::<Roles>(&mut pass);
     let told = Told::MayCome;
     Ok((
@@ -42,3 +40,15 @@ pub fn lane<T: Drop>(alloc: Global, capacity: usize) -> Result<(LaneIn<T>, LaneO
 /// Memory ran out.
 #[derive(Clone, Copy, Debug, PartialEq, Eq)]
 pub struct Memory;
+
+impl From<AllocError> for Memory {
+    fn from(_error: AllocError) -> Memory {
+        Memory
+    }
+}
+
+impl<T: Drop> From<AllocFailed<T>> for Memory {
+    fn from(_error: AllocFailed<T>) -> Memory {
+        Memory
+    }
+}

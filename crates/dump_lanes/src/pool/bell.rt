@@ -42,6 +42,7 @@ pub struct Patience {
 }
 
 impl Patience {
+    /// Nothing was waited for so far.
     pub fn new() -> Patience {
         Patience {
             looks: 0,
@@ -58,6 +59,7 @@ pub struct Bell {
 }
 
 impl Bell {
+    // A bell that nobody has rung, in a cache line of its own.
     fn new() -> CachePadded<Bell> {
         CachePadded::new(Bell {
             rings: AtomicU64::new(0),
@@ -96,6 +98,7 @@ impl Bell {
         }
     }
 
+    // Sleeps until the bell has rung more often than was heard, or for so long at most.
     fn sleep<R: Wait>(&self, rt: &R, heard: u64, most: Option<Duration>) {
         match most {
             Some(most) => self.rings.park_timeout(rt, low_half(heard), most),
@@ -124,6 +127,7 @@ pub struct Bells {
 }
 
 impl Bells {
+    /// Bells that nobody has rung.
     pub fn new() -> Bells {
         Bells {
             puts: Bell::new(),

@@ -1,9 +1,10 @@
 //! The queues of a pool, shared by its ports.
-ghost use Rattle.std.specs.Prelude.{◌≡◌, length, All, IfSome};
+ghost use Rattle.std.specs.Prelude.{◌≡◌, length, All, IfOk};
 ghost use Rattle.std.specs.Arc.{arc_value};
 ghost use Rattle.dump_lanes.specs.steps.PoolNames.{AreShares};
 
 use super::queues::Queues;
+use crate::ends::Memory;
 use std::alloc::Global;
 use std::sync::Arc;
 
@@ -17,28 +18,32 @@ pub struct Shares<J: Drop, D: Drop> {
 }
 
 /// Shares the queues among as many ports as there will be, unless memory runs out.
-pub fn share<J: Drop, D: Drop>(alloc: Global, queues: &Arc<Queues<J, D>>) -> Option<Shares<J, D>>
-    ensures { IfSome result (λ shares. AreShares (arc_value queues.now) shares) }
+pub fn share<J: Drop, D: Drop>(
+    alloc: Global,
+    queues: &Arc<Queues<J, D>>,
+) -> Result<Shares<J, D>, Memory>
+    ensures { IfOk result (λ shares. AreShares (arc_value queues.now) shares) }
 {
     let workers = share_with_workers(alloc, queues)?;
-    Some(Shares {
-        cutter: Arc::try_clone(queues).ok()?,
+    Ok(Shares {
+        cutter: Arc::try_clone(queues)?,
         workers,
-        sequencer: Arc::try_clone(queues).ok()?,
-        writer: Arc::try_clone(queues).ok()?,
+        sequencer: Arc::try_clone(queues)?,
+        writer: Arc::try_clone(queues)?,
     })
 }
 
+// Shares them with the workers.
 fn share_with_workers<J: Drop, D: Drop>(
     alloc: Global,
     queues: &Arc<Queues<J, D>>,
-) -> Option<Vec<Arc<Queues<J, D>>>>
-    ensures same { IfSome result (λ v. All (λ a. arc_value a ≡ arc_value queues.now) v.items) }
-    ensures as_many { IfSome result (λ v. length v.items ≡ (arc_value queues.now).workers) }
+) -> Result<Vec<Arc<Queues<J, D>>>, Memory>
+    ensures same { IfOk result (λ v. All (λ a. arc_value a ≡ arc_value queues.now) v.items) }
+    ensures as_many { IfOk result (λ v. length v.items ≡ (arc_value queues.now).workers) }
 {
-    let mut workers = Vec::with_capacity(alloc, queues.workers).ok()?;
+    let mut workers = Vec::with_capacity(alloc, queues.workers)?;
     for _ in 0..queues.workers {
-        workers.push_reserved(Arc::try_clone(queues).ok()?);
+        workers.push_reserved(Arc::try_clone(queues)?);
     }
-    Some(workers)
+    Ok(workers)
 }

@@ -34,6 +34,7 @@ impl<J: Drop, D: Drop> WorkerPort<J, D> {
     ghost use Rattle.dump_lanes.specs.steps.PortSides.{new_worker};
     ghost use Rattle.dump_lanes.specs.steps.PortViews.{worker_port, JobStep};
 
+    /// The port of the worker with this index.
     pub(super) fn new(
         queues: Arc<Queues<J, D>>,
         index: usize,

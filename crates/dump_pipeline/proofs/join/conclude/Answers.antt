@@ -48,7 +48,7 @@ returns-then-failed-clause-none_astray g c =
     (λ (p : WorkerPort J E). worker_port p) joined.workers.items c.requires.worked in
     let back : (credit_port joined.writer).back ≡ length (sent joined.put.value).put = c.requires.back
     ∙ ap (λ (l : List NumberedPiece). length l) c.requires.all in
-    let open_ = unshut joined.cutter.shut c.args.joined.shuts c.join-door.result c.join-door.ensures.joined c.join-door.ensures.whole c.requires.shut_shares c.requires.unshut.0 c.requires.unshut.1 in
+    let open_ = unshut joined.cutter.shut c.args.joined.shuts c.join-shut.result c.join-shut.ensures.joined c.join-shut.ensures.whole c.requires.shut_shares c.requires.unshut.0 c.requires.unshut.1 in
     none_astray g.D.Run.settings g.D.Run.dump (job_port joined.cutter.port) sides (credit_port joined.writer).window
     (credit_port joined.writer).back (done_port joined.sequencer).taken
     (sent joined.put.value).put joined.end joined.stray joined.cutter.seat.seen
@@ -66,7 +66,7 @@ returns-clause-none_astray g c =
     (λ (p : WorkerPort J E). worker_port p) joined.workers.items c.requires.worked in
     let back : (credit_port joined.writer).back ≡ length (sent joined.put.value).put = c.requires.back
     ∙ ap (λ (l : List NumberedPiece). length l) c.requires.all in
-    let open_ = unshut joined.cutter.shut c.args.joined.shuts c.join-door.result c.join-door.ensures.joined c.join-door.ensures.whole c.requires.shut_shares c.requires.unshut.0 c.requires.unshut.1 in
+    let open_ = unshut joined.cutter.shut c.args.joined.shuts c.join-shut.result c.join-shut.ensures.joined c.join-shut.ensures.whole c.requires.shut_shares c.requires.unshut.0 c.requires.unshut.1 in
     none_astray g.D.Run.settings g.D.Run.dump (job_port joined.cutter.port) sides (credit_port joined.writer).window
     (credit_port joined.writer).back (done_port joined.sequencer).taken
     (sent joined.put.value).put joined.end joined.stray joined.cutter.seat.seen
@@ -84,7 +84,7 @@ unreachable-requires g c =
     (λ (p : WorkerPort J E). worker_port p) joined.workers.items c.requires.worked in
     let back : (credit_port joined.writer).back ≡ length (sent joined.put.value).put = c.requires.back
     ∙ ap (λ (l : List NumberedPiece). length l) c.requires.all in
-    let open_ = unshut joined.cutter.shut c.args.joined.shuts c.join-door.result c.join-door.ensures.joined c.join-door.ensures.whole c.requires.shut_shares c.requires.unshut.0 c.requires.unshut.1 in
+    let open_ = unshut joined.cutter.shut c.args.joined.shuts c.join-shut.result c.join-shut.ensures.joined c.join-shut.ensures.whole c.requires.shut_shares c.requires.unshut.0 c.requires.unshut.1 in
     let never = unseen joined.cutter.seat joined.sequences joined.writes c.join-all.result
     (c.join-all.ensures.joined ∙ ap (λ (s : Seat). joined_seat s joined.writes) c.join-both.ensures.joined)
     c.join-all.ensures.whole c.requires.shares c.requires.raised.0

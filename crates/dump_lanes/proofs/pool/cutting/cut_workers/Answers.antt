@@ -20,7 +20,8 @@ use Rattle.dump_lanes.specs.steps.PortViews.{worker_port}
 use Rattle.dump_lanes.proofs.DoneSteps.{sequencer_apart}
 use Rattle.dump_lanes.proofs.JobSteps.{cutter_apart}
 use Rattle.dump_lanes.proofs.QueueSteps.{forks}
-use Rattle.dump_lanes.proofs.Settling.{map-then, range-more}
+use Rattle.dump_lanes.proofs.core.Weights.{range_next}
+use Rattle.dump_lanes.proofs.Settling.{map-then}
 use Rattle.dump_lanes.proofs.pool.cutting.cut_workers.Goals as goal
 
 -- what all elements of a list have, the one at this place has
@@ -98,7 +99,7 @@ loop-share-preserved g c =
     ap (map (λ p. worker_port p)) c.push_reserved.ensures.items
     ∙ (map-then (λ p. worker_port p) c.loop-share.workers.items c.new.result
     ∙ ((λ i. inv.4 i ++ new i ∷ []) ∙ (sym (map-then side (range_with_len 0 (length c.loop-share.yielded))
-    (length c.loop-share.yielded)) ∙ ap (map side) (sym (range-more (length c.loop-share.yielded)))))) in
+    (length c.loop-share.yielded)) ∙ ap (map side) (sym (range_next (length c.loop-share.yielded)))))) in
     let fewer : PARTS - length c.loop-share.yielded - 1 ≡ PARTS - length
     (c.loop-share.yielded ++ c.in-Some.share ∷ []) = omega (arith, longer) in
     let takes = c.another-takes.ensures.rule.0 ∙ (ap (λ (v : View (Mark g.row.J.Denot)). after_fork v) inv.2
