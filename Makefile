@@ -32,7 +32,7 @@ SUITES := $(addprefix suite-,refusals meaning hostile cases surveys stock instal
 
 # a target for each suite of tests/
 .PHONY: $(SUITES)
-.PHONY: all survey toolchain test suites gate check case bench soak install uninstall deb clean
+.PHONY: all survey both toolchain test suites gate check case bench soak install uninstall deb clean
 .DELETE_ON_ERROR:
 
 all: $(PROGRAM)
@@ -47,14 +47,17 @@ $(PROGRAM): $(SOURCES) | toolchain
 
 survey: $(SURVEY)
 
-# the crates that both programs stand on are proved once, by the first
-$(SURVEY): $(SOURCES) | toolchain $(PROGRAM)
-	@echo "make: proving and building $@"
+$(SURVEY): $(SOURCES) | toolchain
+	@echo "make: proving and building $@; its own four crates take some 20 minutes of processor time from nothing"
 	@tools/build svndumpsurvey
 	@echo "make: $@ is built"
 
-# the survey is built first, so that no crate is proved once for its tests and once more for the program
-test: $(PROGRAM) $(SURVEY) | toolchain
+# both programs in one go: crates that don't stand on each other are proved beside each other, and each once
+both: | toolchain
+	@echo "make: proving and building what isn't current of both programs"
+	@tools/build --old $(notdir $(PROGRAM) $(SURVEY))
+
+test: both
 	@echo "make: proving and running the tests of every crate"
 	tools/tests
 	@$(MAKE) --no-print-directory suites
