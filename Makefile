@@ -47,9 +47,9 @@ $(PROGRAM): $(SOURCES) | toolchain
 
 survey: $(SURVEY)
 
-# the crates that both programs stand on are proved once, by the first
-$(SURVEY): $(SOURCES) | toolchain $(PROGRAM)
-	@echo "make: proving and building $@"
+# both programs stand on six of the crates: tools/build makes one at a time, and the other takes what that one proved
+$(SURVEY): $(SOURCES) | toolchain
+	@echo "make: proving and building $@; its own four crates take some 20 minutes of processor time from nothing"
 	@tools/build svndumpsurvey
 	@echo "make: $@ is built"
 
