@@ -47,6 +47,7 @@ $(PROGRAM): $(SOURCES) | toolchain
 
 survey: $(SURVEY)
 
+# a build waits for another one, and takes what that one proved
 $(SURVEY): $(SOURCES) | toolchain
 	@echo "make: proving and building $@; its own four crates take some 20 minutes of processor time from nothing"
 	@tools/build svndumpsurvey

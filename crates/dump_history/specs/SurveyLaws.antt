@@ -13,7 +13,7 @@ use Rattle.dump_trees.specs.Quiet.{is_quiet, nowhere_is_over}
 use Rattle.dump_trees.specs.Revisions.{loaded_over}
 use Rattle.dump_history.specs.RecordChanges.{Patching, MakesChange}
 use Rattle.dump_history.specs.DumpChanges.{MakeRevisions}
-use Rattle.dump_history.specs.DumpLaws.{LoadsRestricted, FrontLoadsRestricted}
+use Rattle.dump_history.specs.DumpLaws.{LoadsRestricted, LoadsBehindFolders, FrontLoadsRestricted}
 use Rattle.dump_history.specs.PartLaws.{MakePartRevisions, PartLoadsRestricted}
 use Rattle.dump_history.specs.Findings.{begins_at, Finding, NodeFaults, findings_of, IsReadBlock, AreFindingsOf, is_obstacle, is_alarm, DumpFinding, AreDumpFindingsOf}
 
@@ -67,13 +67,13 @@ abbrev pub none_is : (Finding → Bool) → List (List (List Finding)) → Bool
 none_is test found = list_all (λ fs. list_all (λ node. not (list_any test node)) fs) found
 
 -- the dump, which begins at this number, makes revisions; and if it loads and makes no copy that loses its source over
--- something, what is written of it has the restricted trees
+-- something, what is written of it has the restricted trees, over the given folders and behind a revision that made them
 abbrev pub RestrictsFrom : Patching → Settings → List DumpRecord → List ℕ → ℕ → Type 0
 RestrictsFrom patched settings records text zero =
     (revisions : List (List Change)) × MakeRevisions patched records revisions
     × ((trees : List Tree) → loaded_over root_alone revisions ≡ Some trees
     → IsTrue (nowhere_is_over settings (root_alone ∷ []) root_alone revisions)
-    → LoadsRestricted patched settings records trees text)
+    → LoadsRestricted patched settings records trees text × LoadsBehindFolders patched settings records trees text)
 RestrictsFrom patched settings records text (suc before) =
     (revisions : List (List Change)) × MakePartRevisions patched before records revisions
     × ((trees : List Tree) → loaded_over root_alone revisions ≡ Some trees

@@ -57,7 +57,7 @@ finding_kind Finding.UnreadMergeinfo =
 finding_kind Finding.MissingMergeSource =
     codes ": fault 15, mergeinfo of paths that are not kept. Give --skip-missing-merge-sources, or keep these paths too\n"
 finding_kind Finding.MissingMergeRevision =
-    codes ": fault 16, mergeinfo of revisions outside of the dump. Give --skip-missing-merge-sources, or leave --renumber-revs out\n"
+    codes ": fault 16, mergeinfo of revisions outside of the dump. Leave --renumber-revs out, or, if all are before the dump's first, give --skip-missing-merge-sources\n"
 finding_kind Finding.PropertiesLost = codes ": properties that may be lost with their source. Include the source too\n"
 finding_kind Finding.CopyLoses =
     codes ": copies that may lose a part. Leave the same path out below the copy, or keep it below the source too\n"
@@ -73,7 +73,7 @@ finding_kind Finding.TextComesIn =
 unfoldable pub dump_kind_line : DumpFinding → List ℕ
 dump_kind_line DumpFinding.NoRevision = codes "in all 1: a dump without a revision. There is nothing to load\n"
 dump_kind_line DumpFinding.OtherNumbers =
-    codes "in all 1: numbers that do not rise by one. Renumber the dump first: svndumpfilter include --renumber-revs /\n"
+    codes "in all 1: numbers that do not rise by one. Renumber the dump first, by this survey's filter: include --renumber-revs /\n"
 dump_kind_line DumpFinding.NumberFalls =
     codes "in all 1: fault 8, revisions whose numbers do not rise. Have the dump made again\n"
 dump_kind_line DumpFinding.UnreadRevision =
@@ -86,7 +86,7 @@ dump_kind_line DumpFinding.NumbersLeft = codes "in all 1: numbers with a gap. Gi
 
 -- what the line of a kind that is found in prefixes says behind the number
 unfoldable pub prefix_kind : PrefixFinding → List ℕ
-prefix_kind NotShort = codes ": prefixes that are not in their short form. Write them without empty names and dots\n"
+prefix_kind NotShort = codes ": prefixes that are not in their short form. Write them without empty names and lone dots\n"
 prefix_kind Idle = codes ": prefixes by which nothing is done. Look whether they are spelled as in the dump\n"
 
 -- the line of what ends the list of records before the dump's end

@@ -42,7 +42,7 @@ fn finding_kind(finding: NodeFinding) -> &'static [u8]
             b": fault 15, mergeinfo of paths that are not kept. Give --skip-missing-merge-sources, or keep these paths too\n"
         }
         NodeFinding::MissingMergeRevision => {
-            b": fault 16, mergeinfo of revisions outside of the dump. Give --skip-missing-merge-sources, or leave --renumber-revs out\n"
+            b": fault 16, mergeinfo of revisions outside of the dump. Leave --renumber-revs out, or, if all are before the dump's first, give --skip-missing-merge-sources\n"
         }
         NodeFinding::PropertiesLost => {
             b": properties that may be lost with their source. Include the source too\n"
@@ -72,7 +72,7 @@ fn prefix_kind(finding: PrefixFinding) -> &'static [u8]
 {
     match finding {
         PrefixFinding::NotShort => {
-            b": prefixes that are not in their short form. Write them without empty names and dots\n"
+            b": prefixes that are not in their short form. Write them without empty names and lone dots\n"
         }
         PrefixFinding::Idle => {
             b": prefixes by which nothing is done. Look whether they are spelled as in the dump\n"
@@ -123,7 +123,7 @@ fn push_dump_kinds(lines: &mut Vec<u8>, found: &DumpFindings) -> Result<(), Memo
     push_if(
         lines,
         found.other_numbers,
-        b"in all 1: numbers that do not rise by one. Renumber the dump first: svndumpfilter include --renumber-revs /\n",
+        b"in all 1: numbers that do not rise by one. Renumber the dump first, by this survey's filter: include --renumber-revs /\n",
     )?;
     push_if(
         lines,

@@ -21,6 +21,7 @@ use Rattle.dump_history.specs.SurveyLaws.{AreFindingsBehind, HaveFindingsBehind,
 use Rattle.dump_history.proofs.survey.FindingLemmas.{none_passes, obstacles_exact, alarms_exact}
 use Rattle.dump_history.proofs.survey.PartLemmas.{groups_lowered, lowered_quiet}
 use Rattle.dump_history.proofs.restricted.FilteredLaw.{quiet_dump_restricts, quiet_front_restricts}
+use Rattle.dump_history.proofs.restricted.FolderLaw.{quiet_dump_restricts_behind}
 use Rattle.dump_history.proofs.restricted.PartLaw.{quiet_part_restricts}
 
 -- what is found in the nodes
@@ -307,8 +308,12 @@ surveyed_dump patched settings dump text records found clean fit nothing have no
         ap (are_quiet settings) (sym bare.1) ∙ whole.2 no_alarm in (
           bare.0,
           makes,
-          λ trees loads over. quiet_dump_restricts patched settings dump text records bare.0 trees clean fit
-              (keeps_numbers settings records nothing) (record { makes = makes; loads = loads }) quiet over,
+          λ trees loads over. (
+            quiet_dump_restricts patched settings dump text records bare.0 trees clean fit
+                (keeps_numbers settings records nothing) (record { makes = makes; loads = loads }) quiet over,
+            quiet_dump_restricts_behind patched settings dump text records bare.0 trees clean fit
+                (keeps_numbers settings records nothing) (record { makes = makes; loads = loads }) quiet over,
+          ),
         )
 
     from_later : Made → (before : ℕ) → begins_at records ≡ suc before

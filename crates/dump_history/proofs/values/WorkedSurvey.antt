@@ -6,7 +6,7 @@ use Rattle.dump_trees.specs.Trees.{root_alone}
 use Rattle.dump_trees.specs.Quiet.{nowhere_is_over}
 use Rattle.dump_trees.specs.Revisions.{loaded_over}
 use Rattle.dump_history.specs.RecordChanges.{Patching}
-use Rattle.dump_history.specs.DumpLaws.{LoadsRestricted}
+use Rattle.dump_history.specs.DumpLaws.{LoadsRestricted, LoadsBehindFolders}
 use Rattle.dump_history.specs.Findings.{Finding, AreFindingsOf, AreDumpFindingsOf}
 use Rattle.dump_history.specs.SurveyLaws.{AreFindingsBehind, HaveFindings}
 use Rattle.dump_history.proofs.restricted.LoadsOnce.{later_once}
@@ -89,6 +89,7 @@ none_in_dump = (
 
 -- so the law applies: the revisions that the survey's law speaks of are those of the dump
 restricts : (patched : Patching) → LoadsRestricted patched settings records trees text
+    × LoadsBehindFolders patched settings records trees text
 restricts patched =
     let (found, made, law) =
     surveyed_dump patched settings dump text records nothing clean lengths none_in_dump none_found refl refl in

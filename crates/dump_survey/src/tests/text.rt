@@ -9,7 +9,7 @@ const ODD: &[u8] =
     b"record 3, byte 71, r7: /trunk//a has a path, a copy source or another text that the load reads otherwise\n\
 record 2, byte 51: the revisions of the dump are not numbered one by one\n\
 in all 1: texts that the load reads otherwise. Mend the dump: no prefix may match what the load makes of them\n\
-in all 1: numbers that do not rise by one. Renumber the dump first: svndumpfilter include --renumber-revs /\n";
+in all 1: numbers that do not rise by one. Renumber the dump first, by this survey's filter: include --renumber-revs /\n";
 
 #[test]
 fn a_survey_is_written_line_by_line(rt: HostRuntime) -> Result<(), Fail> {

@@ -74,6 +74,26 @@ both_load settings whole part there law = by_load (loaded_over root_alone whole)
     by_load (Some trees) loads some =
         let (others, other_loads, size, images) = law trees loads in ap (λ o. is_some o) other_loads
 
+-- the whole dump is refused, since its folder stands in none; so is what is written of it
+
+abbrev misses : List (List Change)
+misses = (folder (codes "a/b") ∷ []) ∷ []
+
+misses_is_part : AreFiltered (including (codes "a")) as_it_was none_more misses misses
+misses_is_part = (
+  folder (codes "a/b") ∷ [],
+  [],
+  refl,
+  (folder (codes "a/b"), [], refl, same_folder _ _ (codes "a/b"), refl),
+  refl,
+)
+
+only_misses_fails : premises (including (codes "a")) misses ≡ true ∷ false ∷ true ∷ true ∷ []
+only_misses_fails = refl
+
+misses_is_refused : is_some (loaded_over (given (including (codes "a"))) misses) ≡ false
+misses_is_refused = refl
+
 -- a revision is dropped, and the others aren't renumbered: the copy names a number that the filtered dump doesn't have
 
 abbrev left_numbers : Settings
