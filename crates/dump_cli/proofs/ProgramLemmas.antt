@@ -15,6 +15,7 @@ use Rattle.clap.specs.declared.builder.command.Command.TheOpen.{Command-F}
 use Rattle.clap.specs.declared.builder.command.Command.TheViews.{out-Command}
 use Rattle.clap.specs.declared.parser.matches.ArgMatches.{ArgMatches}
 use Rattle.clap.proofs.OnLiterals.{clap_on_literals}
+use Rattle.dump_text.proofs.BoolLemmas.{first_true, not_true}
 use Rattle.dump_cli.specs.CommandLine.{program}
 use Rattle.dump_cli.specs.steps.FilledFlags.{AreFilled}
 use Rattle.dump_cli.proofs.NumberLemmas.{Each, IsNumbered, IsOwn, number_given}
@@ -94,14 +95,6 @@ own_window : IsOwn (codes "window")
 own_window x (inl is) same = clash (subst (λ t. bytes_eq t (codes "window") ≡ true) is same)
 own_window x (inr is) same = clash (subst (λ t. bytes_eq t (codes "window") ≡ true) is same)
 
-is_not : (b : Bool) → not b ≡ true → b ≡ false
-is_not true e = cc
-is_not false e = refl
-
-first : (a b : Bool) → (a && b) ≡ true → a ≡ true
-first true b e = refl
-first false b e = cc
-
 third : (a b c d : Bool) → (a && (b && (c && d))) ≡ true → c ≡ true
 third true true true d e = refl
 third true true false d e = cc
@@ -110,7 +103,7 @@ third false b c d e = cc
 
 -- a plain command has no global argument
 local : (c : Command-F Command) → has_plain_fields c ≡ true → c.has_globals ≡ false
-local c plain = is_not c.has_globals (third (is_empty c.groups.items) (not c.allow_external_subcommands)
+local c plain = not_true c.has_globals (third (is_empty c.groups.items) (not c.allow_external_subcommands)
     (not c.has_globals)
     (not c.infer_long_args && (not c.allow_missing_positional && (not c.infer_subcommands
     && (not c.args_conflicts_with_subcommands && (not c.subcommand_precedence_over_arg
@@ -138,7 +131,7 @@ filled c m is parsed = record {
     plain = ap (λ a. a.top.is_plain) is
 
     groups : groups_of c ≡ []
-    groups = nil_from_length (groups_of c) (eqb-true (length (groups_of c)) 0 (first _ _ plain))
+    groups = nil_from_length (groups_of c) (eqb-true (length (groups_of c)) 0 (first_true _ _ plain))
 
     globals : (out-Command c).has_globals ≡ false
     globals = local (out-Command c) plain

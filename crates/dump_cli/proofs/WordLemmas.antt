@@ -79,11 +79,6 @@ number_is E G m name most r only number reads = go r (reads text (one_text-rows 
 
 -- ---- the parse
 
--- the second of two facts that both hold
-pub second_holds : (a b : Bool) → (a && b) ≡ true → b ≡ true
-second_holds true b e = e
-second_holds false b e = cc
-
 -- a list with an element isn't empty
 is_filled : {X : Type 0} (x : X) (xs : List X) → is_empty (x ∷ xs) ≡ false
 is_filled x xs = ne_eqb _ _ (λ e. omega (arith, e))

@@ -111,6 +111,7 @@ fn read_order(alloc: Global, name: &str, inner: &ArgMatches<'_>) -> Result<Order
     }
 }
 
+// The side that this word names.
 fn side_named(name: &str) -> Side
     ensures { result ≡ side_of name.now }
 {
@@ -120,6 +121,7 @@ fn side_named(name: &str) -> Side
     }
 }
 
+// Whether the flag of this name is given.
 fn is_set(inner: &ArgMatches<'_>, name: &str) -> bool
     ensures { result ≡ is_set name.now (rows_of (found_of inner.now)) }
 {
@@ -141,6 +143,7 @@ fn read_empty(inner: &ArgMatches<'_>) -> Option<Empty>
     }
 }
 
+// How many workers there are, and how wide their window is.
 fn read_plan(inner: &ArgMatches<'_>) -> Plan
     requires workers { IsNumber (codes "workers") 64 (rows_of (found_of inner.now)) }
     requires window { IsNumber (codes "window") 4096 (rows_of (found_of inner.now)) }
@@ -153,6 +156,7 @@ fn read_plan(inner: &ArgMatches<'_>) -> Plan
     plan
 }
 
+// The number that the flag of this name gives.
 fn read_number(inner: &ArgMatches<'_>, name: &str) -> usize
     requires { (most : ℕ) × IsNumber name.now most (rows_of (found_of inner.now)) }
     ensures value { result ≡ flag_number name.now (rows_of (found_of inner.now)) }
@@ -164,6 +168,7 @@ fn read_number(inner: &ArgMatches<'_>, name: &str) -> usize
     number
 }
 
+// The bytes of the path prefixes.
 fn read_prefixes<'a>(alloc: Global, inner: &ArgMatches<'a>) -> Result<Vec<&'a [u8]>, Usage>
     ensures { IfOk result (λ texts. map (λ text. text.now) texts.items ≡ unwrap_or (all_of (codes "PREFIX") (rows_of (found_of inner.now))) []) }
 {

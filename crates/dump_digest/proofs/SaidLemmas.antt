@@ -15,7 +15,7 @@ use Rattle.dump_rules.specs.declared.merged.Merged.{Merged}
 use Rattle.dump_rules.specs.Settings.{Settings}
 use Rattle.dump_rules.specs.Mergeinfo.{HasMergeLines}
 use Rattle.dump_rules.specs.steps.Merged.{is_outside, no_bounds, nothing_merged}
-use Rattle.dump_rules.specs.steps.NewLines.{value_misses, value_foreign}
+use Rattle.dump_rules.specs.steps.RewrittenLines.{value_misses, value_foreign}
 use Rattle.dump_rules.specs.steps.ReadMergeinfo.{value_reads}
 use Rattle.dump_rules.proofs.faults.MergedMeaning.{or_false, or_or, none_outside}
 use Rattle.dump_digest.specs.declared.content.Content.{Content}

@@ -12,7 +12,6 @@ ghost use Rattle.dump_digest.specs.steps.ContentViews.{IsContent, IsSaidBy};
 ghost use Rattle.dump_digest.specs.RecordParts.{HasPropertyBlock, has_lost_source, is_kept_node, is_node, is_revision_record, takes_deletes};
 
 use crate::digests::text_check;
-use crate::kept::is_kept;
 use crate::node_mergeinfo::Mergeinfo;
 use crate::verdict::Verdict;
 use dump_records::Record;
@@ -49,6 +48,16 @@ impl Content {
         misses_source: false,
         numbers: Bounds::NONE,
     };
+}
+
+/// Whether the record is a node that the options keep.
+pub fn is_kept(item: &Record<'_>, options: &Options) -> bool
+    ensures { result ≡ is_kept_node options.now (record_item item.now) }
+{
+    match item.path() {
+        Some(path) => keeps(options, path),
+        None => false,
+    }
 }
 
 /// Whether the node is copied from a path that the options don't keep.

@@ -24,12 +24,11 @@
 mod content;
 mod digests;
 mod done;
-mod kept;
 mod node_mergeinfo;
 mod verdict;
 
+pub use content::is_kept;
 pub use done::Done;
-pub use kept::is_kept;
 pub use node_mergeinfo::is_mergeinfo;
 pub use verdict::{Verdict, check};
 

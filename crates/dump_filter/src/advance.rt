@@ -15,7 +15,7 @@ ghost use Rattle.dump_filter.specs.declared.fate.CopyChange.{CopyChange as Chang
 use crate::fate::{CopyChange, Fate};
 use crate::output::{push_lines, push_node, push_revision};
 use crate::pending::Pending;
-use crate::state::{Group, State};
+use crate::state::{PresentGroup, State};
 use dump_digest::Done;
 use dump_records::Record;
 use dump_rules::Options;
@@ -60,9 +60,9 @@ impl<'a> State<'a> {
         ensures state { OnOk result (view_state self.new ≡ opened (view_state self.old)) }
         ensures last { self.new.last ≡ self.old.last }
     {
-        match mem::replace(&mut self.group, Group::Written) {
-            Group::Pending(pending) => self.write_pending(alloc, options, &pending, false),
-            Group::None | Group::Written => Ok(Piece::new(alloc)),
+        match mem::replace(&mut self.group, PresentGroup::Written) {
+            PresentGroup::Pending(pending) => self.write_pending(alloc, options, &pending, false),
+            PresentGroup::None | PresentGroup::Written => Ok(Piece::new(alloc)),
         }
     }
 
@@ -79,8 +79,8 @@ impl<'a> State<'a> {
         ensures state { OnOk result (view_state self.new ≡ ended options.now (view_state self.old)) }
         ensures last { self.new.last ≡ self.old.last }
     {
-        match mem::replace(&mut self.group, Group::None) {
-            Group::Pending(pending) => {
+        match mem::replace(&mut self.group, PresentGroup::None) {
+            PresentGroup::Pending(pending) => {
                 if pending.stays(options) {
                     self.write_pending(alloc, options, &pending, pending.pads(options))
                 } else {
@@ -88,7 +88,7 @@ impl<'a> State<'a> {
                     Ok(Piece::new(alloc))
                 }
             }
-            Group::None | Group::Written => Ok(Piece::new(alloc)),
+            PresentGroup::None | PresentGroup::Written => Ok(Piece::new(alloc)),
         }
     }
 
@@ -147,7 +147,7 @@ impl<'a> State<'a> {
     {
         let piece = self.end_group(alloc, options)?;
         self.revisions.begin(alloc, &done.item());
-        self.group = Group::Pending(Pending {
+        self.group = PresentGroup::Pending(Pending {
             revision: done,
             bare: true,
         });

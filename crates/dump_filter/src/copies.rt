@@ -6,7 +6,7 @@ ghost use Rattle.dump_digest.specs.steps.DoneViews.{done_record, done_settings};
 ghost use Rattle.dump_digest.specs.RecordParts.{is_kept_node};
 ghost use Rattle.dump_filter.specs.steps.State.{view_group, node_revision};
 ghost use Rattle.dump_filter.specs.steps.Advance.{front_kept};
-ghost use Rattle.dump_filter.specs.steps.Decision.{source_change, copy_change};
+ghost use Rattle.dump_filter.specs.steps.Decision.{takes_node, source_change, copy_change};
 ghost use Rattle.dump_filter.specs.steps.Knowledge.{AreKept};
 
 use crate::fate::CopyChange;
@@ -29,7 +29,8 @@ fn source_change(
     state: &State<'_>,
     source: Option<u64>,
 ) -> Result<CopyChange, FaultKind>
-    requires { AreKept state.now.revisions (view_group state.now.group) }
+    requires kept { AreKept state.now.revisions (view_group state.now.group) }
+    requires taken { IsTrue (takes_node (view_group state.now.group)) }
     ensures { let kept = front_kept state.now.revisions.kept (view_group state.now.group) in
         result ≡ source_change options.now kept (node_revision state.now.revisions) source }
 {
@@ -55,6 +56,7 @@ pub(crate) fn copy_change(
     done: &Done<'_>,
 ) -> Result<CopyChange, FaultKind>
     requires kept { AreKept state.now.revisions (view_group state.now.group) }
+    requires taken { IsTrue (takes_node (view_group state.now.group)) }
     requires options { done_settings done.now ≡ options.now }
     requires node { IsTrue (is_kept_node options.now (record_item (done_record done.now))) }
     ensures { let kept = front_kept state.now.revisions.kept (view_group state.now.group) in

@@ -5,7 +5,7 @@ ghost use Rattle.dump_records.specs.steps.RecordViews.{record_item};
 ghost use Rattle.dump_digest.specs.RecordParts.{is_node, is_kept_node, HasPropertyList};
 ghost use Rattle.dump_digest.specs.steps.DoneViews.{done_record, done_settings, done_verdict};
 ghost use Rattle.dump_filter.specs.steps.State.{view_group, view_state};
-ghost use Rattle.dump_filter.specs.steps.Decision.{is_in_order, node_fate, fate_of, decided, AreAsked};
+ghost use Rattle.dump_filter.specs.steps.Decision.{takes_node, is_in_order, node_fate, fate_of, decided, AreAsked};
 ghost use Rattle.dump_filter.specs.steps.Knowledge.{AreKept};
 
 use crate::copies::copy_change;
@@ -22,7 +22,7 @@ fn is_in_order(state: &State<'_>, item: &Record<'_>) -> bool
     ensures { result ≡ is_in_order (view_state state.now) (record_item item.now) }
 {
     match item.kind() {
-        RecordKind::Node => state.group.is_open(),
+        RecordKind::Node => state.group.takes_node(),
         RecordKind::Revision => state.revisions.rises(revision_number(item)),
         RecordKind::Version | RecordKind::Uuid => true,
     }
@@ -31,6 +31,7 @@ fn is_in_order(state: &State<'_>, item: &Record<'_>) -> bool
 /// The fate of a node that the options keep, or the fault of its copy source or of its mergeinfo.
 fn node_fate(options: &Options, state: &State<'_>, done: &Done<'_>) -> Result<Fate, FaultKind>
     requires kept { AreKept state.now.revisions (view_group state.now.group) }
+    requires taken { IsTrue (takes_node (view_group state.now.group)) }
     requires options { done_settings done.now ≡ options.now }
     requires node { IsTrue (is_kept_node options.now (record_item (done_record done.now))) }
     ensures { let r = record_item (done_record done.now) in (ps : List Property) → HasPropertyList r ps
@@ -47,6 +48,8 @@ fn node_fate(options: &Options, state: &State<'_>, done: &Done<'_>) -> Result<Fa
 /// The fate of a record in order that can be read, or its fault.
 fn fate_of(options: &Options, state: &State<'_>, done: &Done<'_>) -> Result<Fate, FaultKind>
     requires kept { AreKept state.now.revisions (view_group state.now.group) }
+    requires taken { IsTrue (is_kept_node options.now (record_item (done_record done.now)))
+        → IsTrue (takes_node (view_group state.now.group)) }
     requires options { done_settings done.now ≡ options.now }
     ensures { let r = record_item (done_record done.now) in
         (ps : List Property) → (IsTrue (is_kept_node options.now r) → HasPropertyList r ps)

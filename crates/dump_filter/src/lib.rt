@@ -3,7 +3,7 @@
 //! A [`Filter`] takes the records of a dump one after another, each [`Done`](dump_digest::Done) under
 //! the filter's options, and gives for each the piece that is to be written: nothing, or the record,
 //! or the revision that waited for it and the record. [`Filter::finish`] gives what is left, and the
-//! [`Report`]. A step that finds a fault, or wants memory, closes the filter.
+//! [`Report`]. A step that finds a fault, or runs out of memory, closes the filter.
 //!
 //! ```
 //! let Cut::Item(record) = cutter.next() else {

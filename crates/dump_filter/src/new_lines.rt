@@ -1,10 +1,10 @@
 //! The header lines of a record that is written: the old ones with new numbers, and lengths that were missing.
-ghost use Rattle.std.specs.Prelude.{◌≡◌, ◌++◌, ◌∷◌, [], ℕ, Some, OnOk, IfOk, IsTrue};
+ghost use Rattle.std.specs.Prelude.{◌≡◌, ◌++◌, ◌∷◌, [], List, ℕ, Some, OnOk, IfOk, IsTrue};
 ghost use Rattle.dump_text.specs.Names.{revision_name};
 ghost use Rattle.dump_text.specs.steps.KnownValues.{name_text};
-ghost use Rattle.dump_text.specs.HeaderLine.{header_text};
+ghost use Rattle.dump_text.specs.HeaderLine.{Header, has_header, header_text};
 ghost use Rattle.dump_text.specs.HeaderBlock.{lines_bytes, block_text};
-ghost use Rattle.dump_text.specs.steps.Views.{block_headers, line_header};
+ghost use Rattle.dump_text.specs.steps.Views.{line_header};
 ghost use Rattle.dump_records.specs.HeaderRules.{header_number};
 ghost use Rattle.dump_records.specs.steps.RecordViews.{record_item};
 ghost use Rattle.dump_filter.specs.steps.MadeBytes.{made_or};
@@ -12,7 +12,7 @@ ghost use Rattle.dump_filter.specs.steps.NewLines.{AreLengths, StaysCopied, copy
 
 use crate::fate::CopyChange;
 use dump_records::Record;
-use dump_text::{Block, HeaderName, Line, push_header};
+use dump_text::{HeaderName, Line, push_header};
 use dump_writer::Memory;
 use std::alloc::Global;
 
@@ -88,16 +88,12 @@ fn push_line(out: &mut Vec<u8>, line: &Line<'_>, number: Option<u64>) -> Result<
     }
 }
 
-/// Adds a length that isn't 0 where the block has no line for it.
-fn push_missing(
-    out: &mut Vec<u8>,
-    block: &Block<'_>,
-    name: HeaderName,
-    n: u64,
-) -> Result<(), Memory>
-    ensures { OnOk result (out.new.items ≡ out.old.items ++ lines_bytes (added (name_text name) n (block_headers block.now))) }
+/// Adds a length that isn't 0 where no line for it is there.
+fn push_missing(out: &mut Vec<u8>, is_there: bool, name: HeaderName, n: u64) -> Result<(), Memory>
+    ensures { (headers : List Header) → is_there ≡ has_header (name_text name) headers
+        → OnOk result (out.new.items ≡ out.old.items ++ lines_bytes (added (name_text name) n headers)) }
 {
-    if n == 0 || block.has(name.bytes()) {
+    if n == 0 || is_there {
         return Ok(());
     }
     Ok(push_header(out, name.bytes(), n)?)
@@ -152,16 +148,17 @@ pub(crate) fn new_lines(
     if block_stays(item, changes) {
         return Ok(None);
     }
-    let bytes = write_block(alloc, &item.block(), changes)?;
+    let bytes = write_block(alloc, item, changes)?;
     Ok(Some(bytes))
 }
 
 /// The lines of a record, written anew.
-fn write_block(alloc: Global, block: &Block<'_>, changes: &Changes) -> Result<Vec<u8>, Memory>
-    ensures { IfOk result (λ bytes. bytes.items ≡ block_text (new_headers changes.now (block_headers block.now))) }
+fn write_block(alloc: Global, item: &Record<'_>, changes: &Changes) -> Result<Vec<u8>, Memory>
+    ensures { let headers = (record_item item.now).headers in
+        IfOk result (λ bytes. bytes.items ≡ block_text (new_headers changes.now headers)) }
 {
     let mut out = Vec::new(alloc);
-    let mut lines = block.lines();
+    let mut lines = item.block().lines();
     while let Some(line) = lines.next() {
         if !is_dropped(changes, line.name) {
             push_line(&mut out, &line, number_for(changes, line.name))?;
@@ -169,11 +166,16 @@ fn write_block(alloc: Global, block: &Block<'_>, changes: &Changes) -> Result<Ve
     }
     push_missing(
         &mut out,
-        block,
+        item.has_props(),
         HeaderName::PropContentLength,
         changes.props,
     )?;
-    push_missing(&mut out, block, HeaderName::ContentLength, changes.content)?;
+    push_missing(
+        &mut out,
+        item.has_content(),
+        HeaderName::ContentLength,
+        changes.content,
+    )?;
     out.extend_from_slice(b"\n")?;
     Ok(out)
 }

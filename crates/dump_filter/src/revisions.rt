@@ -1,5 +1,5 @@
 //! The kept revisions, with the present one.
-ghost use Rattle.std.specs.Prelude.{◌≡◌, ◌<◌, ◌+◌, ◌^◌, OnOk, Some, length, IsTrue};
+ghost use Rattle.std.specs.Prelude.{◌≡◌, ◌<◌, ◌+◌, ◌^◌, OnOk, IsSome, Some, length, IsTrue};
 ghost use Rattle.dump_records.specs.steps.RecordViews.{record_item};
 ghost use Rattle.dump_digest.specs.steps.DoneViews.{done_record};
 ghost use Rattle.dump_digest.specs.RecordParts.{is_revision_record};
@@ -12,7 +12,7 @@ ghost use Rattle.dump_filter.specs.steps.Decision.{rises};
 ghost use Rattle.dump_filter.specs.steps.Knowledge.{AreKept};
 
 use crate::pending::Pending;
-use crate::state::Group;
+use crate::state::PresentGroup;
 use dump_records::Record;
 use dump_rules::{Options, Reach};
 use dump_writer::Memory;
@@ -47,12 +47,15 @@ impl Revisions {
         }
     }
 
-    /// The number of the revision that a node belongs to which comes next. Where there is none the node is out of
-    /// order, and 0 stands in its place.
+    /// The number of the revision that a node belongs to which comes next.
     pub(crate) fn node_revision(&self) -> u64
+        requires { IsSome self.now.present }
         ensures { result ≡ node_revision self.now }
     {
-        self.present.unwrap_or(0)
+        let Some(number) = self.present else {
+            unreachable!()
+        };
+        number
     }
 
     /// Whether a revision of this number may follow the present one.
@@ -66,7 +69,7 @@ impl Revisions {
     }
 
     /// The number that the next kept revision gets with renumbering.
-    fn next_image(&self) -> u64
+    fn next_new_number(&self) -> u64
         requires { self.now.kept.first + length self.now.kept.numbers < 2 ^ 64 }
         ensures { result ≡ self.now.kept.first + length self.now.kept.numbers }
     {
@@ -80,26 +83,26 @@ impl Revisions {
     {
         let number = revision_number(&pending.revision.item());
         if options.renumber() {
-            self.next_image()
+            self.next_new_number()
         } else {
             number
         }
     }
 
     /// The new number of a copy's revision, where a pending revision counts as kept already.
-    pub(crate) fn image(&self, group: &Group<'_>, number: u64) -> Option<u64>
+    pub(crate) fn image(&self, group: &PresentGroup<'_>, number: u64) -> Option<u64>
         requires { AreKept self.now (view_group group.now) }
         ensures { result ≡ image (front_kept self.now.kept (view_group group.now)) number }
     {
         match group {
-            Group::Pending(pending) => {
+            PresentGroup::Pending(pending) => {
                 if revision_number(&pending.revision.item()) <= number {
-                    Some(self.next_image())
+                    Some(self.next_new_number())
                 } else {
                     self.kept.reach(number)
                 }
             }
-            Group::None | Group::Written => self.kept.reach(number),
+            PresentGroup::None | PresentGroup::Written => self.kept.reach(number),
         }
     }
 

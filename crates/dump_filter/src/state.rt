@@ -3,7 +3,7 @@ ghost use Rattle.std.specs.Prelude.{◌≡◌, None};
 ghost use Rattle.dump_filter.specs.Groups.{keeps_empty};
 ghost use Rattle.dump_filter.specs.steps.State.{view_pending, view_group, view_state, new_state};
 ghost use Rattle.dump_filter.specs.steps.Advance.{stays, pads, emptied};
-ghost use Rattle.dump_filter.specs.steps.Decision.{is_open};
+ghost use Rattle.dump_filter.specs.steps.Decision.{takes_node};
 
 use crate::pending::Pending;
 use crate::report::Report;
@@ -14,7 +14,7 @@ use std::alloc::Global;
 
 /// The group of a node that comes next.
 #[derive(Drop)]
-pub(crate) enum Group<'a> {
+pub(crate) enum PresentGroup<'a> {
     /// There is none: no node may come next.
     None,
     /// Its revision isn't written yet.
@@ -28,7 +28,7 @@ pub(crate) enum Group<'a> {
 pub(crate) struct State<'a> {
     /// The last record.
     pub(crate) last: Option<Record<'a>>,
-    pub(crate) group: Group<'a>,
+    pub(crate) group: PresentGroup<'a>,
     pub(crate) revisions: Revisions,
     pub(crate) report: Report,
 }
@@ -60,14 +60,14 @@ impl<'a> Pending<'a> {
     }
 }
 
-impl<'a> Group<'a> {
+impl<'a> PresentGroup<'a> {
     /// Whether a node may come next.
-    pub(crate) fn is_open(&self) -> bool
-        ensures { result ≡ is_open (view_group self.now) }
+    pub(crate) fn takes_node(&self) -> bool
+        ensures { result ≡ takes_node (view_group self.now) }
     {
         match self {
-            Group::None => false,
-            Group::Pending(_) | Group::Written => true,
+            PresentGroup::None => false,
+            PresentGroup::Pending(_) | PresentGroup::Written => true,
         }
     }
 
@@ -76,8 +76,8 @@ impl<'a> Group<'a> {
         ensures { view_group self.new ≡ emptied (view_group self.old) }
     {
         match self {
-            Group::Pending(pending) => pending.bare = false,
-            Group::None | Group::Written => {}
+            PresentGroup::Pending(pending) => pending.bare = false,
+            PresentGroup::None | PresentGroup::Written => {}
         }
     }
 }
@@ -90,7 +90,7 @@ impl<'a> State<'a> {
     {
         State {
             last: None,
-            group: Group::None,
+            group: PresentGroup::None,
             revisions: Revisions::new(alloc),
             report: Report {
                 revisions_kept: 0,

@@ -9,11 +9,10 @@ use Rattle.dump_records.specs.RecordText.{DumpRecord, record_text, BeginsWithRec
 use Rattle.dump_records.specs.DumpText.{Ending, line_feeds, IsCutInto, HaveVersions}
 use Rattle.dump_records.specs.steps.CutRecords.{EndsAfter, IsRecordOf}
 use Rattle.dump_records.specs.steps.CutterState.{last_version, IsCutUpTo}
-use Rattle.dump_records.specs.steps.Standing.{IsGap, AreInside, StandsAt}
-use Rattle.dump_records.specs.declared.parts.Parts.{Parts}
+use Rattle.dump_records.specs.steps.Standing.{IsGap, StandsAt, FollowsRecords}
 use Rattle.dump_records.specs.steps.RecordPlaces.{record_between}
 use Rattle.dump_records.proofs.Versions.{last_append, versions_append}
-use Rattle.dump_text.specs.steps.ReadHeaders.{headers_between}
+use Rattle.dump_text.specs.declared.block.Block.{Block}
 use Rattle.dump_text.specs.steps.Views.{block_dump, block_place, block_after}
 
 lfs_add : (m n : ℕ) → line_feeds m ++ line_feeds n ≡ line_feeds (m + n)
@@ -269,65 +268,41 @@ pub gap_in : (dump : List ℕ) (place gap : ℕ) → IsGap (take (length dump - 
     → IsGap (drop place dump) gap
 gap_in dump place gap lfs = subst (λ (t : List ℕ). IsGap t gap) (take_rest dump place) lfs
 
--- the record of the parts that stand at a place of a dump, in the dump of its own block
-abbrev pub item_of : Parts → DumpRecord
-item_of parts =
-    record_between (block_dump parts.block) (block_place parts.block)
-    (block_after parts.block) parts.text_from parts.after
-    parts.version
+-- a record that stands behind the others of a dump
+module _ (dump : List ℕ) (number place before : ℕ) (b : Block) (text_from after version : ℕ)
+    (follows : FollowsRecords dump number place before) (dump_is : block_dump b ≡ dump)
+    (place_is : block_place b ≡ place) (s : StandsAt number before b text_from after version) where
+  abbrev pub item : DumpRecord
+  item = record_between (block_dump b) (block_place b) (block_after b) text_from after version
 
-module _ (dump : List ℕ) (place number before : ℕ) (parts : Parts) (at : StandsAt dump place number before parts) where
-  -- the places of the record's parts rise and lie in its block's dump
-  pub own_inside : AreInside (block_dump parts.block) (block_after parts.block) parts.text_from parts.after
-  own_inside = subst (λ (d : List ℕ). AreInside d (block_after parts.block) parts.text_from parts.after)
-      (sym at.dump_is) at.inside
+  own : FollowsRecords (block_dump b) number place before
+  own = subst (λ (d : List ℕ). FollowsRecords d number place before) (sym dump_is) follows
 
-  -- the record stands at its place in its block's dump
-  pub own_stands : BeginsWithRecord number (drop (block_place parts.block) (block_dump parts.block)) (item_of parts)
-      (drop parts.after (block_dump parts.block))
-  own_stands =
-      subst (λ (d : List ℕ). BeginsWithRecord number (drop (block_place parts.block) d)
-      (record_between d (block_place parts.block) (block_after parts.block) parts.text_from parts.after parts.version)
-      (drop parts.after d)) (sym at.dump_is)
-      (subst (λ (p : ℕ). BeginsWithRecord number (drop p dump)
-      (record_between dump p (block_after parts.block) parts.text_from parts.after parts.version)
-      (drop parts.after dump)) (sym at.place_is) at.stands)
+  behind_lfs : BeginsWithRecord number (drop (own.from + own.gap) (block_dump b)) item (drop after (block_dump b))
+  behind_lfs = subst (λ (p : ℕ). BeginsWithRecord number (drop p (block_dump b)) item (drop after (block_dump b)))
+      (place_is ∙ own.place_is) s.stands
 
-  pub item_is : record_between dump place (block_after parts.block) parts.text_from parts.after parts.version
-      ≡ item_of parts
-  item_is =
-      ap (λ p. record_between dump p (block_after parts.block) parts.text_from parts.after parts.version)
-      (sym at.place_is)
-      ∙ ap (λ d. record_between d (block_place parts.block) (block_after parts.block) parts.text_from parts.after
-      parts.version) (sym at.dump_is)
+  -- it is the record of its block's dump with this number
+  pub own_record : IsRecordOf (block_dump b) number item
+  own_record = is_record (block_dump b) number own.from before own.gap own.up_to own.lfs item after
+      (place_is ∙ own.place_is) s.version_is behind_lfs
 
-  -- a record of the dump with its number is one of its block's dump, too
-  pub own_number : IsRecordOf dump number (item_of parts) → IsRecordOf (block_dump parts.block) number (item_of parts)
-  own_number is = subst (λ (d : List ℕ). IsRecordOf d number (item_of parts)) (sym at.dump_is) is
+  -- and so of the dump
+  pub item_record : IsRecordOf dump number item
+  item_record = subst (λ (d : List ℕ). IsRecordOf d number item) dump_is own_record
 
-module _ (dump : List ℕ) (number place version gap : ℕ) (parts : Parts) (up : IsCutUpTo dump number place version)
-    (lfs : IsGap (drop place dump) gap) (at : StandsAt dump (place + gap) number version parts) where
-  stands_as : record_between dump (place + gap) (block_after parts.block) parts.text_from parts.after parts.version
-      ≡ item_of parts
-  stands_as = item_is dump (place + gap) number version parts at
-
-  in_force : parts.version ≡ version_from version (headers_between dump (place + gap) (block_after parts.block))
-  in_force = at.version_is ∙ ap (λ (r : DumpRecord). version_from version r.headers) (sym stands_as)
-
-  -- the record behind the LFs is the dump's record of this number
-  pub item_record : IsRecordOf dump number (item_of parts)
-  item_record = subst (IsRecordOf dump number) stands_as
-      (is_record dump number place version gap up lfs _ parts.after refl in_force at.stands)
-
-  -- the dump is cut up to behind the record, one record more
-  pub item_cut : IsCutUpTo dump (number + 1) parts.after parts.version
-  item_cut = cut_on dump number place version gap up lfs _ parts.after refl in_force at.stands at.inside.end
+  -- the dump is cut up to behind it, one record more
+  pub item_cut : IsCutUpTo dump (number + 1) after version
+  item_cut = subst (λ (d : List ℕ). IsCutUpTo d (number + 1) after version) dump_is
+      (cut_on (block_dump b) number own.from before own.gap own.up_to own.lfs item after (place_is ∙ own.place_is)
+      s.version_is behind_lfs s.inside.end)
 
   -- the records with this one are no more than the dump's bytes
   pub item_room : number + 1 ≤ length dump
   item_room =
-      let fits = number_fits dump (number + 1) parts.after parts.version item_cut in
-      let end = at.inside.end in
+      let fits = number_fits dump (number + 1) after version item_cut in
+      let end = s.inside.end in
+      let size = ap length dump_is in
       omega arith
 
 -- the LFs behind the records end within the dump

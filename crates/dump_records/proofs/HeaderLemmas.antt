@@ -1,13 +1,13 @@
 -- What lawful header lines tell of their record's kind and numbers.
-use Rattle.std.proofs.Common.{◌≡◌, ℕ, ◌==◌, ◌&&◌, not, Bool, true, false, List, [], ◌∷◌, refl, sym, ap, ◌∙◌, Option, Some, None, is_some, is_none, count_by, option_and_then, unwrap_or}
+use Rattle.std.proofs.Common.{◌≡◌, ℕ, ◌+◌, ◌==◌, ◌&&◌, ◌||◌, not, Bool, true, false, List, [], ◌∷◌, refl, sym, ap, ◌∙◌, Option, Some, None, is_some, is_none, count_by, option_and_then, unwrap_or}
 use Rattle.std.proofs.lemmas.Option.{none-some}
-use Rattle.dump_text.specs.Names.{version_name, uuid_name, revision_name, path_name, copy_revision_name, copy_path_name, deciding_names, length_names}
+use Rattle.dump_text.specs.Names.{version_name, uuid_name, revision_name, path_name, copy_revision_name, copy_path_name, content_length_name, deciding_names, length_names}
 use Rattle.std.specs.List.{list_any}
 use Rattle.dump_text.specs.Number.{number_of}
 use Rattle.dump_text.specs.HeaderLine.{Header, has_header, header_value}
 use Rattle.dump_text.proofs.BoolLemmas.{first_false, second_false, false_true}
 use Rattle.dump_text.proofs.BlockLemmas.{has_value}
-use Rattle.dump_records.specs.HeaderRules.{header_number, version_from, is_one_alone, has_bad_kind, is_read_version, has_bad_version, has_bad_number}
+use Rattle.dump_records.specs.HeaderRules.{header_number, header_length, property_length, text_length, version_from, is_one_alone, has_bad_kind, is_read_version, has_bad_version, has_bad_number}
 use Rattle.dump_records.specs.declared.kind.KindParts.{KindParts}
 use Rattle.dump_records.specs.declared.kind.KindParts.TheVariants.{Version, Uuid, Revision, Node}
 use Rattle.dump_records.specs.steps.KindReading.{version_in, IsKindOf}
@@ -117,6 +117,37 @@ number_there name headers good = cases (has_header name headers) refl (header_nu
     cases true has None number = absurd (false_true (sym good ∙ rw (has, number) refl))
     cases false has None number = refl
     cases false has (Some n) number = absurd (none-some n (no_number name headers has ∙ number))
+
+-- a line has the name that gives a number
+number_from : (name : List ℕ) (headers : List Header) (n : ℕ) → header_number name headers ≡ Some n
+    → has_header name headers ≡ true
+number_from name headers n is = cases (has_header name headers) refl
+  where
+    cases : (b : Bool) → has_header name headers ≡ b → b ≡ true
+    cases true has = refl
+    cases false has = absurd (none-some n (no_number name headers has ∙ is))
+
+-- a version that is a number is bad where it isn't read
+pub bad_version_is : (number n : ℕ) (headers : List Header) → header_number version_name headers ≡ Some n
+    → has_bad_version number headers ≡ not (is_read_version n)
+bad_version_is number n headers is =
+    let has : has_header version_name headers ≡ true = number_from version_name headers n is in
+    rw (has, is) (second (number == 0) (not (is_read_version n)))
+  where
+    second : (a b : Bool) → ((a && false) || b) ≡ b
+    second true b = refl
+    second false b = refl
+
+-- a content length that is a number is bad where it isn't the sum of the other two
+pub bad_sum_is : (headers : List Header) (content props text : ℕ)
+    → header_number content_length_name headers ≡ Some content
+    → props ≡ property_length headers → text ≡ text_length headers
+    → (has_header content_length_name headers
+    && not (header_length content_length_name headers == property_length headers + text_length headers))
+    ≡ not (content == props + text)
+bad_sum_is headers content props text is props_is text_is =
+    let has : has_header content_length_name headers ≡ true = number_from content_length_name headers content is in
+    rw (has, is, ← props_is, ← text_is) refl
 
 -- the numbers of a revision and of a copy source are there where their lines are
 module _ (headers : List Header) (good : has_bad_number headers ≡ false) where

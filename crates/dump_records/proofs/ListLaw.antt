@@ -12,6 +12,7 @@ use Rattle.dump_text.specs.HeaderBlock.{is_block, lines_bytes, block_text, Begin
 use Rattle.dump_text.specs.steps.Scanning.{IsFirstLine, IsCutAtColon, IsNoHeader, HasLines}
 use Rattle.dump_text.proofs.Splits.{Split, split}
 use Rattle.dump_text.proofs.Splits.Split.{Cut, Lacks}
+use Rattle.dump_text.proofs.PropertyChoice.{first_of}
 use Rattle.dump_text.proofs.Unique.{lawful, split_once, lawful_lines, lines_once, regroup}
 use Rattle.dump_text.proofs.ScanLemmas.{clash, lines_behind, no_line_here, header_text-is, is_line}
 use Rattle.dump_records.specs.HeaderRules.{version_from, property_length, text_length}
@@ -23,9 +24,6 @@ use Rattle.dump_records.proofs.Unique.{EndsWith, records_once}
 use Rattle.dump_records.proofs.PartLemmas.{no_block, unlawful, cut_short}
 use Rattle.dump_records.proofs.CutLemmas.{Stripped, strip, lfs_length, record_some}
 use Rattle.dump_text.proofs.BlockLemmas.{no_block-lines}
-
-head_of : (a b : ℕ) (x y : List ℕ) → a ∷ x ≡ b ∷ y → a ≡ b
-head_of a b x y e = cc
 
 -- a line without LF is a header line or none
 data Judged (whole : List ℕ) : Type 0 where
@@ -64,7 +62,7 @@ judge whole none = by_colon (split 58 whole)
             let l = lawful h good in
             let same = split_once 58 (c ∷ name) h.name (d ∷ value) (32 ∷ h.value) no_colon l.no_colon
             (sym cut ∙ at ∙ header_text-is h) in
-            let e : d ≡ 32 = head_of d 32 value h.value same.1 in
+            let e : d ≡ 32 = first_of d 32 value h.value same.1 in
             eqb-false d 32 is e)
 
 -- the header lines before an empty line, or that there are none

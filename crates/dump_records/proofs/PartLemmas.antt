@@ -224,24 +224,19 @@ module _ (dump : List ℕ) (place number : ℕ) (b : Block) (dump_is : block_dum
       cut_short number (drop place dump) headers (drop (block_after b) dump) here.block
       (ap (is_lawful number) (sym headers_here) ∙ found.lawful) (omega arith)
 
-  -- the parts that were read at this place stand there
-  pub stands_here : (header : RecordHeader) (lengths : Lengths) (before version text_from after : ℕ)
-      → IsHeaderOf (block_headers b) header → LengthsOf number (block_headers b) lengths
-      → version ≡ unwrap_or (version_in header.parts) before
-      → lengths.props + lengths.text ≤ length dump - block_after b
-      → text_from ≡ block_after b + lengths.props → after ≡ text_from + lengths.text
-      → StandsAt dump place number before
-      (record { block = b; header = header; version = version; text_from = text_from; after = after })
-  stands_here header lengths before version text_from after says found in_force fits text_at after_at =
-      let inside = here.inside in
-      record {
-        dump_is = dump_is;
-        place_is = place_is;
-        header = says;
-        version_is = in_force ∙ version_said (block_headers b) header.parts before says.kind;
-        inside = record { props = omega arith; text = omega arith; end = omega arith };
-        stands = standing dump number place (block_after b) text_from after version lengths.props lengths.text here
-            (ap (is_lawful number) (sym headers_here) ∙ found.lawful)
-            (found.props_is ∙ ap property_length headers_here) (found.text_is ∙ ap text_length headers_here)
-            text_at after_at (omega arith);
-      }
+-- the record of a block with these lines and lengths stands at its place
+pub stands_here : (number : ℕ) (b : Block) (header : RecordHeader) (lengths : Lengths)
+    (before version text_from after : ℕ)
+    → IsHeaderOf (block_headers b) header → LengthsOf number (block_headers b) lengths
+    → version ≡ unwrap_or (version_in header.parts) before
+    → lengths.props + lengths.text ≤ length (block_dump b) - block_after b
+    → text_from ≡ block_after b + lengths.props → after ≡ text_from + lengths.text
+    → StandsAt number before b text_from after version
+stands_here number b header lengths before version text_from after says found in_force fits text_at after_at =
+    let bound = b.stands.inside in
+    record {
+      version_is = in_force ∙ version_said (block_headers b) header.parts before says.kind;
+      inside = record { props = omega arith; text = omega arith; end = omega arith };
+      stands = standing (block_dump b) number (block_place b) (block_after b) text_from after version lengths.props
+          lengths.text b.stands found.lawful found.props_is found.text_is text_at after_at (omega arith);
+    }

@@ -1,5 +1,5 @@
 -- What a record lends of its block.
-use Rattle.std.proofs.Common.{◌≡◌, ℕ, ◌-◌, ◌≤◌, Bool, true, false, if◌then◌else◌, List, Option, Some, None, Bor, length, drop, sym, ◌∙◌, subst, arith}
+use Rattle.std.proofs.Common.{◌≡◌, ℕ, ◌-◌, Bool, true, false, if◌then◌else◌, List, Option, Some, None, Bor, drop, sym, ◌∙◌, subst, arith}
 use Rattle.std.specs.Option.{option_copied, IfSome}
 use Rattle.std.proofs.lemmas.List.{length-take, length-drop}
 use Rattle.dump_text.specs.HeaderLine.{header_value}

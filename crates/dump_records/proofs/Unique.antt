@@ -1,6 +1,6 @@
 -- A dump has at most one list of records.
 use Rattle.std.proofs.Common.{◌≡◌, ◌≢◌, ◌⊎◌, ℕ, ◌+◌, ◌<◌, refl, sym, ◌∙◌, ap, subst, Bool, true, false, ◌&&◌, not, List, [], ◌∷◌, ◌++◌, length, arith, append_assoc, length-append, inl, inr, ◌==◌, if◌then◌else◌}
-use Rattle.dump_text.proofs.BoolLemmas.{first_true, second_true}
+use Rattle.dump_text.proofs.BoolLemmas.{first_true, second_true, neither_below}
 use Rattle.dump_text.specs.declared.fault.FaultKind.{FaultKind}
 use Rattle.dump_text.specs.declared.fault.FaultKind.TheVariants as faults
 use Rattle.dump_text.specs.FaultTable.{fault_code, IsLeastFault}
@@ -161,12 +161,9 @@ pub least_once : (Holds : FaultKind → Type 0) (a b : FaultKind) → IsLeastFau
 least_once Holds a b x y =
     let not_below = x.least b in
     let not_above = y.least a in
-    let code : fault_code a ≡ fault_code b = neither (fault_code a) (fault_code b) (λ lt. not_above lt x.holds)
+    let code : fault_code a ≡ fault_code b = neither_below (fault_code a) (fault_code b) (λ lt. not_above lt x.holds)
     (λ lt. not_below lt y.holds) in
     code_once a b code
-  where
-    neither : (m n : ℕ) → (m < n → ⊥) → (n < m → ⊥) → m ≡ n
-    neither m n p q = grind arith
 
 -- how a list of this many records ends before the rest
 abbrev pub EndsWith : ℕ → ℕ → List ℕ → Ending → Type 0

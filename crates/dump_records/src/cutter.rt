@@ -1,7 +1,12 @@
 //! Cuts a dump into its records, from place to place.
-use crate::parts::{count_line_feeds, parts_at};
+ghost use Rattle.std.specs.Prelude.{◌≡◌, IfOk, IfErr, drop};
+ghost use Rattle.dump_records.specs.RecordText.{IsCutFault};
+ghost use Rattle.dump_records.specs.steps.Standing.{IsGap, FollowsRecords};
+ghost use Rattle.dump_records.specs.steps.RecordViews.{IsNextRecord};
+
+use crate::header_reading::read_header;
 use crate::record::Record;
-use dump_text::FaultKind;
+use dump_text::{FaultKind, Headers};
 use std::marker::Model;
 
 /// What a cutter gives: the next record, or how the list of records ends.
@@ -58,22 +63,52 @@ impl<'a> Cutter<'a> {
         if place == self.dump.len() && self.number > 0 {
             return Cut::Finished;
         }
-        match parts_at(self.dump, place, self.number, self.version) {
-            Ok(parts) => {
-                let record = Record {
-                    block: parts.block,
-                    number: self.number,
-                    header: parts.header,
-                    version: parts.version,
-                    text_from: parts.text_from,
-                    after: parts.after,
-                };
-                self.place = parts.after;
-                self.version = parts.version;
+        match record_at(self.dump, place, self.number, self.version) {
+            Ok(record) => {
+                self.place = record.after;
+                self.version = record.version;
                 self.number += 1;
                 Cut::Item(record)
             }
             Err(kind) => Cut::Fault { kind, place },
         }
     }
+}
+
+/// How many LFs a text begins with.
+fn count_line_feeds(text: &[u8]) -> usize
+    ensures { IsGap text.now result }
+{
+    for (i, byte) in text.iter().enumerate() {
+        if *byte != b'\n' {
+            return i;
+        }
+    }
+    text.len()
+}
+
+/// The record with this number at a place of the dump, where this format version was in force before; or the first
+/// fault that holds there.
+fn record_at(dump: &[u8], place: usize, number: u64, version: u64) -> Result<Record<'_>, FaultKind>
+    requires { FollowsRecords dump.now number place version }
+    ensures next { IfOk result (IsNextRecord dump.now number) }
+    ensures fault { IfErr result (IsCutFault number (drop place dump.now)) }
+{
+    let headers = Headers::read(dump, place)?;
+    let found = read_header(&headers, number)?;
+    let lengths = found.1;
+    let block = headers.block();
+    let left = dump.len() - block.after();
+    if (left as u64) < lengths.props + lengths.text {
+        return Err(FaultKind::ContentCut);
+    }
+    let text_from = block.after() + lengths.props as usize;
+    Ok(Record {
+        block,
+        number,
+        header: found.0,
+        version: found.0.parts.version_from(version),
+        text_from,
+        after: text_from + lengths.text as usize,
+    })
 }

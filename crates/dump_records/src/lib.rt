@@ -33,10 +33,9 @@
 #![tactic(auto)]
 
 mod cutter;
-mod headers;
+mod header_reading;
 mod kind;
 pub mod laws;
-mod parts;
 mod readings;
 mod record;
 

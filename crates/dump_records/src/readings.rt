@@ -19,15 +19,16 @@ pub(crate) struct Lengths {
     pub(crate) text: u64,
 }
 
-/// What the header lines of a record say.
+/// What the header lines of a record say. What is small stands side by side, since a record is sent between threads.
 #[derive(Clone, Copy)]
 pub(crate) struct RecordHeader<'a> {
     pub(crate) parts: KindParts<'a>,
+    pub(crate) md5: Option<&'a [u8]>,
+    pub(crate) sha1: Option<&'a [u8]>,
     pub(crate) is_file: bool,
     pub(crate) has_props: bool,
     pub(crate) has_text: bool,
-    pub(crate) md5: Option<&'a [u8]>,
-    pub(crate) sha1: Option<&'a [u8]>,
+    pub(crate) has_content: bool,
     /// Whether the header of a delta says `true`, which counts in a node under version 3 alone.
     pub(crate) text_delta: bool,
     /// The same of the property block.

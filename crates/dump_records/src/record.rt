@@ -45,7 +45,7 @@ pub struct Record<'a> {
 impl<'a> Record<'a> {
     ghost use Rattle.std.specs.Prelude.{◌≡◌, ◌==◌, ◌&&◌, ◌||◌, ◌++◌, List, [], IfSome, is_some, option_copied, slice_range, bytes_eq, unwrap_or, codes, drop};
     ghost use Rattle.std.specs.List.{starts_with};
-    ghost use Rattle.dump_text.specs.Names.{path_name, revision_name, copy_path_name, copy_revision_name, property_length_name, text_length_name, node_kind_name, md5_name, sha1_name, text_delta_name, prop_delta_name};
+    ghost use Rattle.dump_text.specs.Names.{path_name, revision_name, copy_path_name, copy_revision_name, property_length_name, text_length_name, content_length_name, node_kind_name, md5_name, sha1_name, text_delta_name, prop_delta_name};
     ghost use Rattle.dump_text.specs.HeaderLine.{has_header, header_value};
     ghost use Rattle.dump_records.specs.HeaderRules.{header_number, says_true};
     ghost use Rattle.dump_records.specs.steps.RecordKinds.{kind_of};
@@ -227,6 +227,13 @@ impl<'a> Record<'a> {
         ensures { result ≡ has_header text_length_name (record_item self.now).headers }
     {
         self.header.has_text
+    }
+
+    /// Whether it has a length for its content.
+    pub fn has_content(&self) -> bool
+        ensures { result ≡ has_header content_length_name (record_item self.now).headers }
+    {
+        self.header.has_content
     }
 
     /// Whether its block, under the numbers and lengths that it has, is written as it stands: no number has a leading

@@ -213,10 +213,10 @@ image_pushed kept n r low =
       | inr within ↦ ap Some (new_number_pushed kept n last (omega arith))
     ]
 
--- behind one more number that is the last
-pub last_or_pushed : (before : Option ℕ) (numbers : List ℕ) (n : ℕ) → last_or before (numbers ++ n ∷ []) ≡ Some n
-last_or_pushed before [] n = refl
-last_or_pushed before (k ∷ numbers) n = last_or_pushed (Some k) numbers n
+-- behind one more element that is the last
+pub last_or_pushed : {A : Type 0} (before : Option A) (xs : List A) (x : A) → last_or before (xs ++ x ∷ []) ≡ Some x
+last_or_pushed before [] x = refl
+last_or_pushed before (y ∷ xs) x = last_or_pushed (Some y) xs x
 
 -- from its own number on it gives the image
 pub image_at_pushed : (kept : KeptRevisions) (n r : ℕ) → All (λ k. k < n) kept.numbers → n ≤ r

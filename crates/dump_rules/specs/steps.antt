@@ -3,7 +3,7 @@ pub mod Blocks
 pub mod ReadMergeinfo
 pub mod Runs
 pub mod NewRanges
-pub mod NewLines
+pub mod RewrittenLines
 pub mod Merged
 pub mod PrefixSearch
 pub mod RisingNumbers

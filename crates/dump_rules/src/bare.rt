@@ -61,8 +61,8 @@ impl BarePrefixes {
         if self.has(b"") || self.has(path) {
             return true;
         }
-        let near = self.longest.saturating_add(1).min(path.len());
-        for (place, byte) in path[..near].iter().enumerate() {
+        let search_end = self.longest.saturating_add(1).min(path.len());
+        for (place, byte) in path[..search_end].iter().enumerate() {
             if *byte == b'/' && self.has(&path[..place]) {
                 return true;
             }

@@ -84,7 +84,6 @@ mod memory;
 mod merged;
 mod mergeinfo;
 mod options;
-mod paths;
 mod prefix;
 mod ranges;
 mod reach;
@@ -94,8 +93,7 @@ mod runs;
 pub use memory::Memory;
 pub use merged::{Bounds, Merged};
 pub use mergeinfo::merge_reads;
-pub use options::{Empty, Options, Side};
-pub use paths::keeps;
+pub use options::{Empty, Options, Side, keeps};
 pub use reach::Reach;
 pub use rewriting::{RewriteFault, new_value, rewrite};
 

@@ -3,12 +3,11 @@ ghost use Rattle.std.specs.Prelude.{◌≡◌, ◌↔◌, ◌==◌, ◌||◌, �
 ghost use Rattle.std.specs.List.{slice_split};
 ghost use Rattle.dump_rules.specs.steps.Merged.{is_outside, line_merged, lines_merged, list_bounds, nothing_merged, widened, widened_by};
 ghost use Rattle.dump_rules.specs.Mergeinfo.{HasMergeLines};
-ghost use Rattle.dump_rules.specs.steps.NewLines.{text_lines, value_foreign, value_misses};
+ghost use Rattle.dump_rules.specs.steps.RewrittenLines.{text_lines, value_foreign, value_misses};
 ghost use Rattle.dump_rules.specs.steps.ReadRanges.{range_of, span_range};
 
 use crate::mergeinfo::{colon_end, cut_lf};
-use crate::options::Options;
-use crate::paths::keeps;
+use crate::options::{Options, keeps};
 use crate::ranges::{Span, list_reads, range};
 use crate::runs::cut_at;
 use dump_text::find;

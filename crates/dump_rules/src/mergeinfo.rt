@@ -2,7 +2,7 @@
 ghost use Rattle.std.specs.Prelude.{◌≡◌, ◌↔◌, ◌==◌, IsTrue};
 ghost use Rattle.std.specs.List.{list_all, slice_split};
 ghost use Rattle.dump_rules.specs.Mergeinfo.{HasMergeLines};
-ghost use Rattle.dump_rules.specs.steps.NewLines.{line_list, line_path};
+ghost use Rattle.dump_rules.specs.steps.RewrittenLines.{line_list, line_path};
 ghost use Rattle.dump_rules.specs.steps.ReadMergeinfo.{colon_end, line_reads, lines_read, without_lf};
 
 use crate::ranges::list_reads;

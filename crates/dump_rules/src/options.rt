@@ -1,7 +1,8 @@
-//! The filter's options.
+//! The filter's options, and which paths they keep.
 ghost use Rattle.std.specs.Prelude.{◌≡◌, IfOk, map, option_copied, slice_get};
 ghost use Rattle.std.specs.List.{list_any};
 ghost use Rattle.dump_rules.specs.Prefix.{matches_path};
+ghost use Rattle.dump_rules.specs.Settings.{keeps_path};
 
 use crate::bare::BarePrefixes;
 use crate::memory::Memory;
@@ -154,5 +155,15 @@ impl Options {
         ensures { result ≡ self.now.skip_missing }
     {
         self.skip_missing
+    }
+}
+
+/// Whether the options keep the path of a node, a copy source or a merge source.
+pub fn keeps(options: &Options, path: &[u8]) -> bool
+    ensures { result ≡ keeps_path options.now path.now }
+{
+    match options.side() {
+        Side::Include => options.has_match(path),
+        Side::Exclude => !options.has_match(path),
     }
 }

@@ -1,7 +1,7 @@
 //! The ranges of svn:mergeinfo, read where they lie.
 ghost use Rattle.std.specs.Prelude.{◌≡◌, ◌==◌, not, option_map, position};
 ghost use Rattle.dump_rules.specs.steps.Blocks.{parts_agree};
-ghost use Rattle.dump_rules.specs.steps.ReadRanges.{ends_in_star, climbed, ends_of, list_reads, raised, raised_by, range_parts, range_of, span_range, without_star};
+ghost use Rattle.dump_rules.specs.steps.ReadRanges.{ends_in_star, highest_numbers, ends_of, list_reads, raised, raised_by, range_parts, range_of, span_range, without_star};
 
 use crate::blocks::each_part_agrees;
 use dump_text::{find, number};
@@ -61,21 +61,21 @@ pub(crate) fn range(text: &[u8]) -> Option<Span>
 
 /// The highest numbers of each kind.
 #[derive(Clone, Copy)]
-struct Tops {
+struct HighestNumbers {
     inheritable: u64,
     starred: u64,
 }
 
-impl Tops {
+impl HighestNumbers {
     /// The highest numbers with those of a range, which has to begin above those of the other kind.
-    fn raised(self, span: Span) -> Option<Tops>
+    fn raised(self, span: Span) -> Option<HighestNumbers>
         ensures { result ≡ raised self (span_range span) }
     {
         if span.inheritable {
             if self.starred >= span.from {
                 return None;
             }
-            Some(Tops {
+            Some(HighestNumbers {
                 inheritable: self.inheritable.max(span.to),
                 starred: self.starred,
             })
@@ -83,7 +83,7 @@ impl Tops {
             if self.inheritable >= span.from {
                 return None;
             }
-            Some(Tops {
+            Some(HighestNumbers {
                 inheritable: self.inheritable,
                 starred: self.starred.max(span.to),
             })
@@ -91,7 +91,7 @@ impl Tops {
     }
 
     /// The same of a part, which has to be a range.
-    fn raised_by(self, part: &[u8]) -> Option<Tops>
+    fn raised_by(self, part: &[u8]) -> Option<HighestNumbers>
         ensures { result ≡ raised_by self (range_of part.now) }
     {
         match range(part) {
@@ -102,22 +102,22 @@ impl Tops {
 }
 
 /// The highest numbers of a list in which each range begins above those of the other kind before it.
-fn climbed(list: &[u8]) -> Option<Tops>
-    ensures { result ≡ climbed (record { inheritable = 0; starred = 0 }) (range_parts list.now) }
+fn highest_numbers(list: &[u8]) -> Option<HighestNumbers>
+    ensures { result ≡ highest_numbers (record { inheritable = 0; starred = 0 }) (range_parts list.now) }
 {
-    let mut tops = Tops {
+    let mut highest = HighestNumbers {
         inheritable: 0,
         starred: 0,
     };
     let mut rest = list;
     while let Some(comma) = find(b',', rest) {
-        let Some(next) = tops.raised_by(&rest[..comma]) else {
+        let Some(next) = highest.raised_by(&rest[..comma]) else {
             return None;
         };
-        tops = next;
+        highest = next;
         rest = &rest[comma + 1..];
     }
-    tops.raised_by(rest)
+    highest.raised_by(rest)
 }
 
 /// Whether all parts of the list are ranges that don't contradict each other. One pass tells it of
@@ -125,7 +125,7 @@ fn climbed(list: &[u8]) -> Option<Tops>
 fn parts_agree(list: &[u8]) -> bool
     ensures { result ≡ parts_agree (range_parts list.now) (range_parts list.now) }
 {
-    climbed(list).is_some() || each_part_agrees(list)
+    highest_numbers(list).is_some() || each_part_agrees(list)
 }
 
 /// Whether the text is a range list without contradictions.

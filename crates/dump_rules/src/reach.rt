@@ -52,14 +52,6 @@ impl Reach {
         Ok(self.numbers.push(revision)?)
     }
 
-    /// The kept revisions rise from the dump's first one on: said to who asks the table nothing else.
-    pub(crate) fn rises(&self)
-        ensures { RiseFrom self.now.first self.now.numbers }
-    {
-        // a read, so that what the table always holds is known behind the call
-        let _first = self.first;
-    }
-
     /// The new number of the last kept revision that is at most this one, if there is one.
     pub fn reach(&self, revision: u64) -> Option<u64>
         ensures { result ≡ image self.now revision }

@@ -3,7 +3,7 @@ ghost use Rattle.std.specs.Prelude.{◌≡◌, ◌==◌, ◌≤◌, ◌↔◌, [
 ghost use Rattle.std.specs.List.{list_all, slice_split};
 ghost use Rattle.dump_rules.specs.declared.rewriting.RewriteFault.TheVariants as faults;
 ghost use Rattle.dump_rules.specs.Mergeinfo.{HasMergeLines};
-ghost use Rattle.dump_rules.specs.steps.NewLines.{text_lines, with_break, with_new_line, with_new_lines, with_runs};
+ghost use Rattle.dump_rules.specs.steps.RewrittenLines.{text_lines, with_break, with_new_line, with_new_lines, with_runs};
 ghost use Rattle.dump_rules.specs.RangeList.{IsConsistent};
 ghost use Rattle.dump_rules.specs.steps.RisingNumbers.{RiseFrom};
 ghost use Rattle.dump_rules.specs.steps.ReadMergeinfo.{line_reads, lines_read};
@@ -14,8 +14,7 @@ ghost use Rattle.dump_rules.specs.steps.Runs.{HaveNumbers, runs_of};
 use crate::memory::Memory;
 use crate::merged::Merged;
 use crate::mergeinfo::{cut_lf, list_of, path_of};
-use crate::options::Options;
-use crate::paths::keeps;
+use crate::options::{Options, keeps};
 use crate::ranges::{Span, range};
 use crate::reach::Reach;
 use crate::runs::{cut_at, new_spans, push_bytes, push_runs, sort};
@@ -136,7 +135,8 @@ pub fn new_value(
     requires reads { ¬ ¬ HasMergeLines value.now }
     ensures { IfOk result (λ v. IsNewMergeinfo options.now reach.now value.now v.items) }
 {
-    reach.rises();
+    // a read, which says that the kept revisions rise
+    let _first = reach.first();
     new_text(alloc, cut_lf(value), options, reach)
 }
 

@@ -20,7 +20,7 @@ use Rattle.dump_records.proofs.Prefixes.{whole_list}
 use Rattle.dump_rules.specs.Settings.{Settings, keeps_path}
 use Rattle.dump_rules.specs.Mergeinfo.{MergeLine, IsMergeLine, IsMergeinfo, HasMergeLines}
 use Rattle.dump_rules.specs.steps.ReadMergeinfo.{colon_end, value_reads, without_lf}
-use Rattle.dump_rules.specs.steps.NewLines.{line_path, line_misses, text_lines}
+use Rattle.dump_rules.specs.steps.RewrittenLines.{line_path, line_misses, text_lines}
 use Rattle.dump_rules.proofs.reading.MergeinfoLemmas.{reads_exactly}
 use Rattle.dump_rules.proofs.new_values.ValueLemmas.{line_parts, texts_are}
 use Rattle.dump_digest.specs.RecordParts.{is_kept_node, is_mergeinfo, value_of, HasPropertyBlock}

@@ -13,7 +13,7 @@ use Rattle.dump_records.specs.HeaderRules.{header_number}
 use Rattle.dump_records.specs.RecordText.{DumpRecord}
 use Rattle.dump_rules.specs.Settings.{Settings}
 use Rattle.dump_rules.specs.steps.ReadMergeinfo.{value_reads}
-use Rattle.dump_rules.specs.steps.NewLines.{value_misses, value_foreign}
+use Rattle.dump_rules.specs.steps.RewrittenLines.{value_misses, value_foreign}
 use Rattle.dump_digest.specs.RecordParts.{is_mergeinfo, is_node, is_kept_node, HasPropertyBlock}
 use Rattle.dump_digest.specs.steps.ContentViews.{ArePropertiesOf}
 use Rattle.dump_digest.proofs.SaidLemmas.{entry_value}

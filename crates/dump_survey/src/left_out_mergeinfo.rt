@@ -4,7 +4,7 @@ ghost use Rattle.dump_text.specs.PropertyList.{IsPropertyBlock, Property};
 ghost use Rattle.dump_text.specs.steps.PropertyViews.{entry_property, props_bytes};
 ghost use Rattle.dump_records.specs.steps.RecordViews.{record_item};
 ghost use Rattle.dump_rules.specs.steps.ReadMergeinfo.{without_lf};
-ghost use Rattle.dump_rules.specs.steps.NewLines.{line_path};
+ghost use Rattle.dump_rules.specs.steps.RewrittenLines.{line_path};
 ghost use Rattle.dump_survey.specs.LeftOutMergeinfo.{AreLeftOutIn, AreLeftOutOf, AreLeftOutOfRecords};
 ghost use Rattle.dump_survey.specs.steps.LeftOutCounts.{properties_count, property_count, text_lines_count, value_count};
 

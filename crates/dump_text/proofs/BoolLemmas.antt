@@ -1,5 +1,5 @@
--- Both, either and not.
-use Rattle.std.proofs.Common.{◌≡◌, ℕ, ◌==◌, arith, Bool, true, false, not, ◌&&◌, ◌||◌, refl}
+-- Both, either and not, and when numbers are equal.
+use Rattle.std.proofs.Common.{◌≡◌, ℕ, ◌<◌, ◌==◌, arith, Bool, true, false, not, ◌&&◌, ◌||◌, refl}
 
 -- where both hold, the first holds
 pub first_true : (a b : Bool) → (a && b) ≡ true → a ≡ true
@@ -54,3 +54,7 @@ not_so false bad = refl
 -- a number is equal to itself
 pub equals_itself : (n : ℕ) → (n == n) ≡ true
 equals_itself n = grind arith
+
+-- numbers of which neither is below the other are one
+pub neither_below : (m n : ℕ) → (m < n → ⊥) → (n < m → ⊥) → m ≡ n
+neither_below m n p q = grind arith

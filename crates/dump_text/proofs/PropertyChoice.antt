@@ -22,7 +22,8 @@ data Sized (letter : ℕ) (text : List ℕ) : Type 0 where
   Part : (digits bytes rest : List ℕ) → IsSized letter text digits bytes rest → Sized letter text
   NoPart : ¬ HasSized letter text → Sized letter text
 
-first_of : (a b : ℕ) (x y : List ℕ) → a ∷ x ≡ b ∷ y → a ≡ b
+-- lists that are one begin with one element
+pub first_of : (a b : ℕ) (x y : List ℕ) → a ∷ x ≡ b ∷ y → a ≡ b
 first_of a b x y e = cc
 
 -- a part begins with its letter and a space

@@ -1,6 +1,6 @@
 //! A block of header lines, found in a dump.
 ghost use Rattle.std.specs.Prelude.{◌≡◌, ◌↔◌, IfOk, IfErr, IfSome, IsOk, option_copied, drop, ◌-◌};
-ghost use Rattle.dump_text.specs.HeaderLine.{header_value, has_header};
+ghost use Rattle.dump_text.specs.HeaderLine.{header_value};
 ghost use Rattle.dump_text.specs.HeaderBlock.{HasBlock, block_fault, block_text};
 ghost use Rattle.dump_text.specs.steps.ReadHeaders.{IsBlockBetween, IsPartBetween};
 
@@ -65,13 +65,6 @@ impl<'a> Block<'a> {
             }
         }
         None
-    }
-
-    /// Whether a line has this name.
-    pub fn has(&self, name: &[u8]) -> bool
-        ensures { result ≡ has_header name.now (block_headers self.now) }
-    {
-        self.get(name).is_some()
     }
 
     /// The block's lines, in their order.

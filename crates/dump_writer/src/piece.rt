@@ -83,7 +83,7 @@ impl<'a> Piece<'a> {
         }
     }
 
-    /// Adds a chunk at the end. Where memory is wanting, the chunk is dropped.
+    /// Adds a chunk at the end. Where there is no memory for it, the chunk is dropped.
     pub fn push(&mut self, chunk: Chunk<'a>) -> Result<(), Memory>
         ensures ok { OnOk result (self.new ≡ self.old ++ chunk_bytes chunk.entry) }
         ensures err { OnErr result (self.new ≡ self.old) }

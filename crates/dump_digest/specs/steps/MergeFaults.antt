@@ -6,7 +6,7 @@ use Rattle.dump_text.specs.declared.fault.FaultKind.TheVariants.{MergeInfo, Merg
 use Rattle.dump_text.specs.PropertyList.{Property, IsPropertyBlock}
 use Rattle.dump_rules.specs.Settings.{Settings}
 use Rattle.dump_rules.specs.Mergeinfo.{HasMergeLines}
-use Rattle.dump_rules.specs.steps.NewLines.{value_misses, value_foreign}
+use Rattle.dump_rules.specs.steps.RewrittenLines.{value_misses, value_foreign}
 use Rattle.dump_digest.specs.RecordParts.{is_mergeinfo, value_of}
 
 -- whether the property is mergeinfo that misses a source

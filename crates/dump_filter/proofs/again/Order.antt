@@ -12,7 +12,6 @@ use Rattle.dump_digest.specs.RecordParts.{is_revision_record, is_node}
 use Rattle.dump_filter.specs.Groups.{revision_number, revision_numbers, present_revision}
 use Rattle.dump_filter.specs.RecordFaults.{ends_in_group, IsOutOfOrder, AreFaultFree}
 use Rattle.dump_text.proofs.BoolLemmas.{absurd_bool}
-use Rattle.dump_filter.proofs.knowing.StandsNext.{last_is}
 
 -- whether a revision of this number may follow the present one
 abbrev pub RisesFrom : Option ℕ → ℕ → Type 0
@@ -61,7 +60,7 @@ present_more before r = ap (last_or None) (numbers_more before r) ∙ cases (is_
 
 ends_more : (before : List DumpRecord) (r : DumpRecord) → ends_in_group (last_or None (before ++ r ∷ [])) ≡
     (is_revision_record r || is_node r)
-ends_more before r = ap ends_in_group (last_is None before r)
+ends_more before r = ap ends_in_group (last_or_pushed None before r)
 
 -- records behind others are in order
 abbrev AreInOrderBehind : List DumpRecord → List DumpRecord → Type 0

@@ -1,6 +1,5 @@
 -- What a filter answers to the record that comes next: its fate, or its fault.
 use Rattle.std.proofs.Common.{◌≡◌, ◌⊎◌, ◌↔◌, ℕ, ◌+◌, ◌<◌, nat_lt, Bool, true, false, not, ◌&&◌, ◌||◌, List, [], ◌∷◌, ◌++◌, refl, sym, ap, ◌∙◌, subst, arith, inl, inr, Option, Some, None, unwrap_or, IsTrue, IsFalse, Result, Ok, Err, if◌then◌else◌}
-use Rattle.std.proofs.lemmas.Bool.{not-false}
 use borrow.Author.Tests.{ltb-true, ltb-false}
 use Rattle.dump_text.specs.declared.fault.FaultKind.{FaultKind}
 use Rattle.dump_text.specs.declared.fault.FaultKind.TheVariants as faults
@@ -28,7 +27,7 @@ use Rattle.dump_digest.specs.steps.MergeFaults.{merge_fault}
 use Rattle.dump_filter.specs.steps.State.{PresentGroup, State, node_revision}
 use Rattle.dump_filter.specs.steps.State.PresentGroup.{NoGroup, Pending, Written}
 use Rattle.dump_filter.specs.steps.Advance.{front_kept}
-use Rattle.dump_filter.specs.steps.Decision.{is_in_order, is_orphan, HasNoSource, copy_change, kept_unless, with_fault, node_fate, fate_of, decided, AreAsked}
+use Rattle.dump_filter.specs.steps.Decision.{takes_node, is_in_order, is_orphan, HasNoSource, copy_change, kept_unless, with_fault, node_fate, fate_of, decided, AreAsked}
 use Rattle.dump_filter.specs.steps.Knowledge.{is_plain, Stands}
 use Rattle.dump_text.proofs.BoolLemmas.{first_true, second_true, both_true, absurd_bool}
 use Rattle.dump_filter.proofs.groups.KindLemmas.{alone}
@@ -387,6 +386,13 @@ node_fate_is settings options s r ok ps first present copy found e f g copied is
     ∙ sym (ap (λ (c : Result CopyChange FaultKind). with_fault c
     (merge_fault options s.revisions.kept.first (node_revision s.revisions) ok ps))
     copied)
+
+-- where a node that is kept may come next, any node may
+pub node_is_taken : (settings : Settings) (s : State) (r : DumpRecord) → is_kept_node settings r ≡ true
+    → is_in_order s r ≡ true → takes_node s.group ≡ true
+node_is_taken settings s r keep good =
+    let node : is_node r ≡ true = first_true (is_node r) _ keep in
+    sym (rw node refl) ∙ good
 
 -- a kept node has the fate of a node, and a revision is held
 pub fate_of_node : (settings : Settings) (s : State) (r : DumpRecord) (ok : Bool) (ps : List Property)

@@ -23,7 +23,7 @@ use Rattle.dump_filter.specs.steps.OwnText.{copied_headers}
 use Rattle.dump_filter.specs.RecordFaults.{ends_in_group, IsOutOfOrder}
 use Rattle.dump_filter.specs.steps.State.{State}
 use Rattle.dump_filter.specs.steps.Advance.{front_kept}
-use Rattle.dump_filter.specs.steps.Decision.{is_open, rises, is_in_order, is_orphan, HasNoSource, imaged, source_change, copy_change}
+use Rattle.dump_filter.specs.steps.Decision.{takes_node, rises, is_in_order, is_orphan, HasNoSource, imaged, source_change, copy_change}
 use Rattle.dump_filter.specs.steps.Knowledge.{is_plain, kept_numbers, Shape, Stands}
 use Rattle.dump_filter.specs.steps.Knowledge.Shape.{Fresh, Idle, Passed, Waits}
 use Rattle.dump_records.proofs.HeaderLemmas.{no_number, both_or_none}
@@ -36,7 +36,7 @@ use Rattle.dump_filter.proofs.knowing.StandsNext.{ends_open}
 module _ (settings : Settings) (before : List DumpRecord) (s : State) (text : List ℕ)
     (st : Stands settings before s text) (r : DumpRecord) where
   -- whether a node may follow is told by the last record, too
-  ends_is : ends_in_group (last_or None before) ≡ is_open s.group
+  ends_is : ends_in_group (last_or None before) ≡ takes_node s.group
   ends_is = ends_open settings before s st.shape
 
   -- a record that may come next isn't out of order
@@ -46,8 +46,8 @@ module _ (settings : Settings) (before : List DumpRecord) (s : State) (text : Li
       let none : ends_in_group (last_or None before) ≡ false =
       not_true (ends_in_group (last_or None before))
       (second_true (is_node r) (not (ends_in_group (last_or None before))) bad) in
-      let some : is_open s.group ≡ true = sym (rw node refl) ∙ good in
-      absurd_bool (is_open s.group) some (sym ends_is ∙ none)
+      let some : takes_node s.group ≡ true = sym (rw node refl) ∙ good in
+      absurd_bool (takes_node s.group) some (sym ends_is ∙ none)
   ordered alone good (inr (rev, present, at, low)) =
       let other : is_node r ≡ false =
       not_so (is_node r) (λ node. absurd_bool (is_revision_record r) rev (alone node)) in
@@ -66,7 +66,7 @@ module _ (settings : Settings) (before : List DumpRecord) (s : State) (text : Li
       by_present rev (Some p) is low = inr (rev, p, sym st.present_is ∙ is, ltb-false p (revision_number r) low)
 
       by_kind : (n v : Bool) → is_node r ≡ n → is_revision_record r ≡ v
-          → (if n then is_open s.group else if v then rises s.revisions.present (revision_number r) else true) ≡ false
+          → (if n then takes_node s.group else if v then rises s.revisions.present (revision_number r) else true) ≡ false
           → IsOutOfOrder before r
       by_kind true v node is none =
           inl (both_true (is_node r) (not (ends_in_group (last_or None before))) node
@@ -83,7 +83,7 @@ above_present s r good other rev p is =
 -- the kept revisions with a kept node's own
 pub kept_with_node : (settings : Settings) (before : List DumpRecord) (s : State) (r : DumpRecord)
     → Shape settings before s → s.revisions.kept.first ≡ first_number (revision_numbers before)
-    → is_plain r ≡ true → is_kept_node settings r ≡ true → is_open s.group ≡ true
+    → is_plain r ≡ true → is_kept_node settings r ≡ true → takes_node s.group ≡ true
     → kept_revisions settings (before ++ r ∷ []) ≡ front_kept s.revisions.kept s.group
 kept_with_node settings before s r (Fresh t c) first_is plain keep ends = absurd (false_true ends)
 kept_with_node settings before s r (Idle t closed y other no_rev c) first_is plain keep ends = absurd (false_true ends)

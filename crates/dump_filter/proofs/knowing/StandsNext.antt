@@ -4,6 +4,7 @@ use Rattle.std.specs.Bool.{⊤}
 use Rattle.std.specs.List.{list_all, list_any, last_or}
 use Rattle.std.proofs.lemmas.List.{append-nil}
 use Rattle.std.proofs.lemmas.List.Elements.{All-cons, All-nil}
+use Rattle.dump_rules.proofs.ReachLemmas.{last_or_pushed}
 use Rattle.dump_text.specs.HeaderBlock.{block_text}
 use Rattle.dump_records.specs.RecordText.{DumpRecord}
 use Rattle.dump_rules.specs.Settings.{Settings}
@@ -20,7 +21,7 @@ use Rattle.dump_filter.specs.Written.{AreOutputs}
 use Rattle.dump_filter.specs.steps.State.{PendingRevision, PresentGroup, State, no_revisions, node_revision}
 use Rattle.dump_filter.specs.steps.State.PresentGroup.{NoGroup, Pending, Written}
 use Rattle.dump_filter.specs.steps.Advance.{stays, pads, IsOwnRevision, IsOwnNode, IsEndText, IsFrontText, with_kept, front_kept, end_kept, with_kept_revision, with_dropped_revision, end_report, opened, ended, emptied, started, begun}
-use Rattle.dump_filter.specs.steps.Decision.{is_open, HasNoSource}
+use Rattle.dump_filter.specs.steps.Decision.{takes_node, HasNoSource}
 use Rattle.dump_filter.specs.steps.Knowledge.{is_plain, kept_numbers, dropped_groups, in_group, Shape, GoesOn, MayBecome, AreRising, AreKept, Stands}
 use Rattle.dump_filter.specs.steps.Knowledge.Shape.{Fresh, Idle, Passed, Waits}
 use Rattle.dump_text.proofs.BoolLemmas.{false_true, first_true, second_true}
@@ -146,12 +147,6 @@ ended_text settings before s text end (Waits t closed y ns other rev all none c)
         (waits_dropped settings whole closed ns y text other rev all (written whole g) none
         (stays_is settings y ns none ∙ is))
 
--- the last of some records and one more is that one
-pub last_is : (first : Option DumpRecord) (closed : List DumpRecord) (y : DumpRecord)
-    → last_or first (closed ++ y ∷ []) ≡ Some y
-last_is first [] y = refl
-last_is first (x ∷ closed) y = last_is (Some x) closed y
-
 -- a list ends in a group behind a revision and plain nodes
 ends_behind : (x : DumpRecord) (ns : List DumpRecord) → ends_in_group (Some x) ≡ true → list_all is_plain ns ≡ true
     → ends_in_group (last_or (Some x) ns) ≡ true
@@ -172,10 +167,10 @@ ends_so first (x ∷ closed) y ns rev all = ends_so (Some x) closed y ns rev all
 
 -- a node may follow where there is a group
 pub ends_open : (settings : Settings) (before : List DumpRecord) (s : State) → Shape settings before s
-    → ends_in_group (last_or None before) ≡ is_open s.group
+    → ends_in_group (last_or None before) ≡ takes_node s.group
 ends_open settings before s (Fresh t c) = refl
 ends_open settings before s (Idle t closed y other no_rev c) =
-    ap ends_in_group (last_is None closed y) ∙ rw (no_rev, other) refl
+    ap ends_in_group (last_or_pushed None closed y) ∙ rw (no_rev, other) refl
 ends_open settings before s (Passed t closed y ns other rev all some c) = ends_so None closed y ns rev all
 ends_open settings before s (Waits t closed y ns other rev all none c) = ends_so None closed y ns rev all
 
@@ -196,7 +191,7 @@ module _ (settings : Settings) (r : DumpRecord) (plain : is_plain r ≡ true) (t
   -- behind a kept node its revision, if it was pending, and the node are written, too
   pub keep_stands : (before : List DumpRecord) (s : State) (copy : CopyChange) (report : Report) (front own : List ℕ)
       → Shape settings before s → Stands settings before s text → is_kept_node settings r ≡ true
-      → is_open s.group ≡ true
+      → takes_node s.group ≡ true
       → report.revisions_dropped ≡ s.report.revisions_dropped → IsReadable s.group
       → HasPropertyBlock r → IsNewCopy settings (front_kept s.revisions.kept s.group) r
       (copied_headers copy r.headers)
@@ -270,7 +265,7 @@ module _ (settings : Settings) (r : DumpRecord) (plain : is_plain r ≡ true) (t
   -- behind a node that isn't kept no more is written
   pub drop_stands : (before : List DumpRecord) (s : State) (report : Report)
       → Shape settings before s → Stands settings before s text → is_kept_node settings r ≡ false
-      → is_open s.group ≡ true
+      → takes_node s.group ≡ true
       → report.revisions_dropped ≡ s.report.revisions_dropped
       → Stands settings (before ++ r ∷ []) (record s { group = emptied s.group; report = report }) text
   drop_stands before s report (Fresh t c) st drop ends same = absurd (false_true ends)

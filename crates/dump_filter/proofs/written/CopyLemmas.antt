@@ -1,12 +1,14 @@
 -- The new copy source of a kept node, and the image of a number behind a pending revision.
-use Rattle.std.proofs.Common.{◌≡◌, ℕ, ◌+◌, ◌<◌, ◌≤◌, length, sym, subst, Option, Some, None, MatchOption}
+use Rattle.std.proofs.Common.{◌≡◌, ℕ, ◌+◌, ◌<◌, ◌≤◌, length, true, refl, sym, ap, subst, Option, Some, None, is_some, MatchOption}
 use Rattle.dump_rules.specs.Renumbering.{KeptRevisions, image}
 use Rattle.dump_rules.proofs.ReachLemmas.{image_pushed, image_at_pushed, length_fits}
 use Rattle.dump_filter.specs.Groups.{revision_number}
 use Rattle.dump_filter.specs.declared.revisions.Revisions.{Revisions}
-use Rattle.dump_filter.specs.steps.State.{PendingRevision, no_revisions}
+use Rattle.dump_filter.specs.steps.State.{PendingRevision, PresentGroup, no_revisions}
 use Rattle.dump_filter.specs.steps.State.PresentGroup.{NoGroup, Pending}
+use Rattle.dump_text.proofs.BoolLemmas.{absurd_bool}
 use Rattle.dump_filter.specs.steps.Advance.{front_kept}
+use Rattle.dump_filter.specs.steps.Decision.{takes_node}
 use Rattle.dump_filter.specs.steps.Knowledge.{AreRising, AreKept}
 use Rattle.dump_filter.proofs.groups.KeptLemmas.{below_pending}
 
@@ -46,3 +48,13 @@ image_at_pending revisions w n kept low =
 pub image_before_pending : (kept : KeptRevisions) (w : PendingRevision) (n : ℕ) → n < revision_number w.revision
     → image (front_kept kept (Pending w)) n ≡ image kept n
 image_before_pending kept w n low = image_pushed kept (revision_number w.revision) n low
+
+-- where a node may come next there is a present revision
+pub present_there : (revisions : Revisions) (group : PresentGroup) → AreKept revisions group → takes_node group ≡ true
+    → is_some revisions.present ≡ true
+present_there revisions group kept taken = cases revisions.present kept
+  where
+    cases : (present : Option ℕ) → MatchOption present ((revisions.kept ≡ no_revisions.kept) × (group ≡ NoGroup))
+        (λ p. AreRising revisions.kept p group) → is_some present ≡ true
+    cases (Some p) up = refl
+    cases None none = absurd (absurd_bool (takes_node group) taken (ap takes_node none.1))

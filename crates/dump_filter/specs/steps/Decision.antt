@@ -24,9 +24,9 @@ use Rattle.dump_filter.specs.steps.State.PresentGroup.{NoGroup}
 use Rattle.dump_filter.specs.steps.Advance.{front_kept}
 
 -- whether a node may come next
-abbrev pub is_open : PresentGroup → Bool
-is_open NoGroup = false
-is_open _ = true
+abbrev pub takes_node : PresentGroup → Bool
+takes_node NoGroup = false
+takes_node _ = true
 
 -- whether a revision of this number may follow the present one
 abbrev pub rises : Option ℕ → ℕ → Bool
@@ -36,7 +36,7 @@ rises (Some present) number = nat_lt present number
 -- whether the record may come next
 abbrev pub is_in_order : State → DumpRecord → Bool
 is_in_order s r =
-    if is_node r then is_open s.group
+    if is_node r then takes_node s.group
     else if is_revision_record r then rises s.revisions.present (revision_number r) else true
 
 -- whether a node is copied from a path that isn't kept, and can't stand alone

@@ -5,8 +5,8 @@ use Rattle.dump_records.specs.steps.RecordViews.{record_item}
 use Rattle.dump_digest.specs.steps.DoneViews.{done_record}
 use Rattle.dump_filter.specs.declared.report.Report.{Report}
 use Rattle.dump_filter.specs.declared.pending.Pending.{Pending as PendingFields}
-use Rattle.dump_filter.specs.declared.state.Group.{Group as GroupFields}
-use Rattle.dump_filter.specs.declared.state.Group.TheVariants as groups
+use Rattle.dump_filter.specs.declared.state.PresentGroup.{PresentGroup as GroupFields}
+use Rattle.dump_filter.specs.declared.state.PresentGroup.TheVariants as groups
 use Rattle.dump_filter.specs.declared.revisions.Revisions.{Revisions}
 use Rattle.dump_filter.specs.declared.state.State.{State as StateFields}
 

@@ -29,7 +29,7 @@ fn is_whole_or_front(
     }
 }
 
-// Run with each allocation refused in turn: the filter wants memory at one call, and is closed behind it.
+// Run with each allocation refused in turn: the filter runs out of memory at one call, and is closed behind it.
 #[test]
 fn a_refused_allocation_closes_the_filter(rt: HostRuntime) {
     let worked = Worked {

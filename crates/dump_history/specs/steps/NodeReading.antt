@@ -7,7 +7,7 @@ use Rattle.dump_records.specs.HeaderRules.{header_number}
 use Rattle.dump_records.specs.RecordText.{DumpRecord}
 use Rattle.dump_rules.specs.Settings.{Settings}
 use Rattle.dump_rules.specs.steps.ReadMergeinfo.{value_reads}
-use Rattle.dump_rules.specs.steps.NewLines.{value_misses, value_foreign}
+use Rattle.dump_rules.specs.steps.RewrittenLines.{value_misses, value_foreign}
 use Rattle.dump_digest.specs.RecordParts.{is_kept_node, is_mergeinfo, value_of}
 use Rattle.dump_filter.specs.Groups.{kept_revisions}
 use Rattle.dump_filter.specs.NewHeaders.{stays_copy}

@@ -49,6 +49,7 @@ pub record IsHeaderOf (headers : List Header) (h : RecordHeader) : Type 0 where
   pub file : h.is_file ≡ bytes_eq (unwrap_or (header_value node_kind_name headers) []) (codes "file")
   pub props : h.has_props ≡ has_header property_length_name headers
   pub text : h.has_text ≡ has_header text_length_name headers
+  pub content : h.has_content ≡ has_header content_length_name headers
   pub md5 : option_copied h.md5 ≡ header_value md5_name headers
   pub sha1 : option_copied h.sha1 ≡ header_value sha1_name headers
   pub text_delta : h.text_delta ≡ says_true text_delta_name headers

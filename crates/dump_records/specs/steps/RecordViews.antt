@@ -10,7 +10,7 @@ use Rattle.dump_records.specs.declared.cutter.Cut.TheVariants.{Item, Finished, F
 use Rattle.dump_records.specs.RecordText.{DumpRecord}
 use Rattle.dump_records.specs.steps.RecordPlaces.{props_place, record_between}
 use Rattle.dump_records.specs.DumpText.{Ending}
-use Rattle.dump_records.specs.steps.CutterState.{CutterState}
+use Rattle.dump_records.specs.steps.CutterState.{CutterState, IsCutUpTo}
 use Rattle.dump_records.specs.steps.CutRecords.{EndsAfter, IsRecordOf}
 
 -- the dump that a record stands in
@@ -37,6 +37,13 @@ part_of_node r part = if has_header path_name r.headers then part else None
 -- the bytes stand in the block of the record
 abbrev pub IsInBlock : Record → List ℕ → Type 0
 IsInBlock r bytes = IsPartBetween (record_dump r) (record_item r).place (props_place (record_item r)) bytes
+
+-- the record is the one with this number in the dump, which is cut up to behind it
+pub record IsNextRecord (dump : List ℕ) (number : ℕ) (r : Record) : Type 0 where
+  pub dump_is : record_dump r ≡ dump
+  pub number_is : record_number r ≡ number
+  pub item : IsRecordOf dump number (record_item r)
+  pub cut : IsCutUpTo dump (number + 1) r.after r.version
 
 -- a cutter gives the next record, or tells again how the list of records ends
 abbrev pub CutStep : CutterState → Cut → CutterState → Type 0

@@ -11,7 +11,7 @@ use Rattle.dump_rules.specs.Mergeinfo.{MergeLine, IsMergeLine, IsMergeinfo, HasM
 use Rattle.dump_rules.specs.steps.ReadMergeinfo.{without_lf, value_reads}
 use Rattle.dump_rules.specs.Rewriting.{staying_lines, HasMissingSource, HasForeignNumber}
 use Rattle.dump_rules.specs.steps.Runs.{HaveNumbers, ranges_of, list_ranges}
-use Rattle.dump_rules.specs.steps.NewLines.{line_list, line_misses, text_misses, range_foreign, part_foreign, list_foreign, line_foreign, text_foreign}
+use Rattle.dump_rules.specs.steps.RewrittenLines.{line_list, line_misses, text_misses, range_foreign, part_foreign, list_foreign, line_foreign, text_foreign}
 use Rattle.dump_rules.proofs.reading.MergeinfoLemmas.{reads_exactly}
 use Rattle.dump_rules.proofs.new_values.RunsLaw.{have_numbers}
 use Rattle.dump_rules.proofs.new_values.ValueLemmas.{line_parts, texts_are}

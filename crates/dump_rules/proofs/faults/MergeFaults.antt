@@ -6,7 +6,7 @@ use Rattle.dump_rules.specs.Renumbering.{KeptRevisions}
 use Rattle.dump_rules.specs.RangeList.{HasNumber}
 use Rattle.dump_rules.specs.Mergeinfo.{MergeLine, IsMergeinfo, HasMergeLines}
 use Rattle.dump_rules.specs.Rewriting.{staying_lines, HasMissingSource, HasForeignNumber}
-use Rattle.dump_rules.specs.steps.NewLines.{value_misses, value_foreign}
+use Rattle.dump_rules.specs.steps.RewrittenLines.{value_misses, value_foreign}
 use Rattle.dump_rules.proofs.faults.FaultLemmas.{missing_there, missing_back, foreign_there, foreign_back, has_lines}
 
 -- the test for missing sources passes of mergeinfo just where one is missing

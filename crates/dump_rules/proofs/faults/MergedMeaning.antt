@@ -8,7 +8,7 @@ use Rattle.dump_rules.specs.Settings.{Settings, keeps_path}
 use Rattle.dump_rules.specs.RangeList.{Range}
 use Rattle.dump_rules.specs.steps.ReadRanges.{range_of, range_parts}
 use Rattle.dump_rules.specs.steps.ReadMergeinfo.{line_reads, lines_read, value_reads, without_lf}
-use Rattle.dump_rules.specs.steps.NewLines.{line_list, line_path, text_lines, line_misses, range_foreign, part_foreign, list_foreign, line_foreign, value_misses, value_foreign}
+use Rattle.dump_rules.specs.steps.RewrittenLines.{line_list, line_path, text_lines, line_misses, range_foreign, part_foreign, list_foreign, line_foreign, value_misses, value_foreign}
 use Rattle.dump_rules.specs.steps.Merged.{widened, widened_by, parts_bounds, list_bounds, is_outside, no_bounds, nothing_merged, line_said, lines_merged, text_merged}
 
 -- the bounds of numbers

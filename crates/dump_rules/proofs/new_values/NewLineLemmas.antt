@@ -10,7 +10,7 @@ use Rattle.dump_rules.specs.steps.RisingNumbers.{RiseFrom}
 use Rattle.dump_rules.specs.Settings.{Settings}
 use Rattle.dump_rules.specs.steps.Runs.{HaveNumbers, ordered_into, ordered, joined, runs_of, list_ranges}
 use Rattle.dump_rules.specs.steps.NewRanges.{new_ranges, list_new}
-use Rattle.dump_rules.specs.steps.NewLines.{line_list, with_break, with_runs, with_new_line, with_new_lines}
+use Rattle.dump_rules.specs.steps.RewrittenLines.{line_list, with_break, with_runs, with_new_line, with_new_lines}
 use Rattle.dump_rules.proofs.reading.RangeLemmas.{position_split, position_whole}
 use Rattle.dump_rules.proofs.reading.RangeListLemmas.{read_is_list}
 use Rattle.dump_rules.proofs.new_values.RunsLaw.{have_numbers, list_is}

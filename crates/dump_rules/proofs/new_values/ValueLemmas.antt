@@ -12,7 +12,7 @@ use Rattle.dump_rules.specs.steps.ReadMergeinfo.{colon_end, without_lf}
 use Rattle.dump_rules.specs.Rewriting.{IsNewLine, IsNewMergeinfo, staying_lines, nonempty_lines}
 use Rattle.dump_rules.specs.steps.Runs.{runs_of, list_ranges}
 use Rattle.dump_rules.specs.steps.NewRanges.{new_ranges, list_new}
-use Rattle.dump_rules.specs.steps.NewLines.{line_path, line_list, text_lines, with_break, with_runs, with_new_line, with_new_lines}
+use Rattle.dump_rules.specs.steps.RewrittenLines.{line_path, line_list, text_lines, with_break, with_runs, with_new_line, with_new_lines}
 use Rattle.dump_rules.proofs.reading.RangeListLemmas.{split_joined, list_lacks}
 use Rattle.dump_rules.proofs.reading.MergeinfoLemmas.{colon_end_is, bare, all_read}
 use Rattle.dump_rules.proofs.new_values.JoinLemmas.{runs_are}

@@ -4,45 +4,45 @@ use Rattle.std.specs.List.{list_all, AllZip}
 use Rattle.std.proofs.lemmas.Bool.Decides.{nat_tests}
 use Rattle.std.proofs.Math.Seq.{take-length}
 use Rattle.std.proofs.lemmas.List.{length-drop}
-use Rattle.dump_rules.specs.declared.ranges.Tops.{Tops}
+use Rattle.dump_rules.specs.declared.ranges.HighestNumbers.{HighestNumbers}
 use Rattle.dump_rules.specs.RangeList.{Range, HasNumber, IsConsistent}
-use Rattle.dump_rules.specs.steps.ReadRanges.{range_of, range_parts, part_agrees, raised, raised_by, climbed}
+use Rattle.dump_rules.specs.steps.ReadRanges.{range_of, range_parts, part_agrees, raised, raised_by, highest_numbers}
 use Rattle.dump_rules.proofs.reading.RangeLemmas.{position_split, position_whole, text_of_range}
 use Rattle.dump_rules.proofs.reading.RangeListLemmas.{Reads, all_agree}
 
 -- the numbers of each kind are above the highest of the other
-abbrev AreAbove : Tops → List Range → Type 0
-AreAbove tops ranges = ((n : ℕ) → HasNumber ranges true n → tops.starred < n)
-    × ((n : ℕ) → HasNumber ranges false n → tops.inheritable < n)
+abbrev AreAbove : HighestNumbers → List Range → Type 0
+AreAbove highest ranges = ((n : ℕ) → HasNumber ranges true n → highest.starred < n)
+    × ((n : ℕ) → HasNumber ranges false n → highest.inheritable < n)
 
-record Climb (tops : Tops) (parts : List (List ℕ)) : Type 0 where
+record Climb (highest : HighestNumbers) (parts : List (List ℕ)) : Type 0 where
   ranges : List Range
   reads : AllZip Reads parts ranges
   consistent : IsConsistent ranges
-  over : AreAbove tops ranges
+  over : AreAbove highest ranges
 
-climb-cons : (tops : Tops) (part : List ℕ) (parts : List (List ℕ)) (r : Range) (next : Tops) → range_of part ≡ Some r
-    → raised tops r ≡ Some next
-    → Climb next parts → Climb tops (part ∷ parts)
-climb-cons tops part parts r next read up rest = kinds r.inheritable refl
+climb-cons : (highest : HighestNumbers) (part : List ℕ) (parts : List (List ℕ)) (r : Range) (next : HighestNumbers) → range_of part ≡ Some r
+    → raised highest r ≡ Some next
+    → Climb next parts → Climb highest (part ∷ parts)
+climb-cons highest part parts r next read up rest = kinds r.inheritable refl
   where
     order : r.from ≤ r.to
     order = (text_of_range part r read).order
 
-    kinds : (kind : Bool) → r.inheritable ≡ kind → Climb tops (part ∷ parts)
-    kinds true kind = low (nat_lt tops.starred r.from) refl
+    kinds : (kind : Bool) → r.inheritable ≡ kind → Climb highest (part ∷ parts)
+    kinds true kind = low (nat_lt highest.starred r.from) refl
       where
-        low : (t : Bool) → nat_lt tops.starred r.from ≡ t → Climb tops (part ∷ parts)
-        low false e = let bad : Path (Option Tops) None (Some next) = rw (kind, e) at up in cc
+        low : (t : Bool) → nat_lt highest.starred r.from ≡ t → Climb highest (part ∷ parts)
+        low false e = let bad : Path (Option HighestNumbers) None (Some next) = rw (kind, e) at up in cc
         low true e =
-            let made : Path (Option Tops)
-            (Some (record { inheritable = max tops.inheritable r.to; starred = tops.starred })) (Some next) = rw
+            let made : Path (Option HighestNumbers)
+            (Some (record { inheritable = max highest.inheritable r.to; starred = highest.starred })) (Some next) = rw
             (kind, e) at up in
-            let one : Path Tops
-            (record { inheritable = max tops.inheritable r.to; starred = tops.starred }) next = cc in
-            let plain = ap (λ (t : Tops). t.inheritable) one in
-            let starred = ap (λ (t : Tops). t.starred) one in
-            let far : tops.starred < r.from = grind (arith, nat_tests) in
+            let one : Path HighestNumbers
+            (record { inheritable = max highest.inheritable r.to; starred = highest.starred }) next = cc in
+            let plain = ap (λ (t : HighestNumbers). t.inheritable) one in
+            let starred = ap (λ (t : HighestNumbers). t.starred) one in
+            let far : highest.starred < r.from = grind (arith, nat_tests) in
             record {
               ranges = r ∷ rest.ranges;
               reads = (read, rest.reads);
@@ -50,34 +50,34 @@ climb-cons tops part parts r next read up rest = kinds r.inheritable refl
               over = (λ n has. plain_over n starred far has, λ n has. starred_over n plain has);
             }
           where
-            apart : (n : ℕ) → max tops.inheritable r.to ≡ next.inheritable → HasNumber (r ∷ rest.ranges) true n
+            apart : (n : ℕ) → max highest.inheritable r.to ≡ next.inheritable → HasNumber (r ∷ rest.ranges) true n
                 → HasNumber (r ∷ rest.ranges) false n → ⊥
             apart n plain first (inl here) = let bad : true ≡ false = sym kind ∙ here.0 in cc
             apart n plain (inl here) (inr later) = let over = rest.over.1 n later in let high = here.2 in omega arith
             apart n plain (inr first) (inr second) = rest.consistent n first second
 
-            plain_over : (n : ℕ) → tops.starred ≡ next.starred → tops.starred < r.from
-                → HasNumber (r ∷ rest.ranges) true n → tops.starred < n
+            plain_over : (n : ℕ) → highest.starred ≡ next.starred → highest.starred < r.from
+                → HasNumber (r ∷ rest.ranges) true n → highest.starred < n
             plain_over n starred far (inl here) = let high = here.1 in omega arith
             plain_over n starred far (inr later) = let over = rest.over.0 n later in omega arith
 
-            starred_over : (n : ℕ) → max tops.inheritable r.to ≡ next.inheritable → HasNumber (r ∷ rest.ranges) false n
-                → tops.inheritable < n
+            starred_over : (n : ℕ) → max highest.inheritable r.to ≡ next.inheritable → HasNumber (r ∷ rest.ranges) false n
+                → highest.inheritable < n
             starred_over n plain (inl here) = let bad : true ≡ false = sym kind ∙ here.0 in cc
             starred_over n plain (inr later) = let over = rest.over.1 n later in omega arith
-    kinds false kind = low (nat_lt tops.inheritable r.from) refl
+    kinds false kind = low (nat_lt highest.inheritable r.from) refl
       where
-        low : (t : Bool) → nat_lt tops.inheritable r.from ≡ t → Climb tops (part ∷ parts)
-        low false e = let bad : Path (Option Tops) None (Some next) = rw (kind, e) at up in cc
+        low : (t : Bool) → nat_lt highest.inheritable r.from ≡ t → Climb highest (part ∷ parts)
+        low false e = let bad : Path (Option HighestNumbers) None (Some next) = rw (kind, e) at up in cc
         low true e =
-            let made : Path (Option Tops)
-            (Some (record { inheritable = tops.inheritable; starred = max tops.starred r.to })) (Some next) = rw
+            let made : Path (Option HighestNumbers)
+            (Some (record { inheritable = highest.inheritable; starred = max highest.starred r.to })) (Some next) = rw
             (kind, e) at up in
-            let one : Path Tops
-            (record { inheritable = tops.inheritable; starred = max tops.starred r.to }) next = cc in
-            let plain = ap (λ (t : Tops). t.inheritable) one in
-            let starred = ap (λ (t : Tops). t.starred) one in
-            let far : tops.inheritable < r.from = grind (arith, nat_tests) in
+            let one : Path HighestNumbers
+            (record { inheritable = highest.inheritable; starred = max highest.starred r.to }) next = cc in
+            let plain = ap (λ (t : HighestNumbers). t.inheritable) one in
+            let starred = ap (λ (t : HighestNumbers). t.starred) one in
+            let far : highest.inheritable < r.from = grind (arith, nat_tests) in
             record {
               ranges = r ∷ rest.ranges;
               reads = (read, rest.reads);
@@ -85,24 +85,24 @@ climb-cons tops part parts r next read up rest = kinds r.inheritable refl
               over = (λ n has. plain_over n starred has, λ n has. starred_over n plain far has);
             }
           where
-            apart : (n : ℕ) → max tops.starred r.to ≡ next.starred → HasNumber (r ∷ rest.ranges) true n
+            apart : (n : ℕ) → max highest.starred r.to ≡ next.starred → HasNumber (r ∷ rest.ranges) true n
                 → HasNumber (r ∷ rest.ranges) false n → ⊥
             apart n starred (inl here) second = let bad : false ≡ true = sym kind ∙ here.0 in cc
             apart n starred (inr later) (inl here) = let over = rest.over.0 n later in let high = here.2 in omega arith
             apart n starred (inr first) (inr second) = rest.consistent n first second
 
-            plain_over : (n : ℕ) → max tops.starred r.to ≡ next.starred → HasNumber (r ∷ rest.ranges) true n
-                → tops.starred < n
+            plain_over : (n : ℕ) → max highest.starred r.to ≡ next.starred → HasNumber (r ∷ rest.ranges) true n
+                → highest.starred < n
             plain_over n starred (inl here) = let bad : false ≡ true = sym kind ∙ here.0 in cc
             plain_over n starred (inr later) = let over = rest.over.0 n later in omega arith
 
-            starred_over : (n : ℕ) → tops.inheritable ≡ next.inheritable → tops.inheritable < r.from
-                → HasNumber (r ∷ rest.ranges) false n → tops.inheritable < n
+            starred_over : (n : ℕ) → highest.inheritable ≡ next.inheritable → highest.inheritable < r.from
+                → HasNumber (r ∷ rest.ranges) false n → highest.inheritable < n
             starred_over n plain far (inl here) = let high = here.1 in omega arith
             starred_over n plain far (inr later) = let over = rest.over.1 n later in omega arith
 
-climbs : (tops : Tops) (parts : List (List ℕ)) (last : Tops) → climbed tops parts ≡ Some last → Climb tops parts
-climbs tops [] last is =
+climbs : (highest : HighestNumbers) (parts : List (List ℕ)) (last : HighestNumbers) → highest_numbers highest parts ≡ Some last → Climb highest parts
+climbs highest [] last is =
     record {
       ranges = [];
       reads = tt;
@@ -110,58 +110,58 @@ climbs tops [] last is =
       over =
           (λ n has. absurd has, λ n has. absurd has);
     }
-climbs tops (part ∷ parts) last is = go (range_of part) refl is (λ next later. climbs next parts last later)
+climbs highest (part ∷ parts) last is = go (range_of part) refl is (λ next later. climbs next parts last later)
   where
-    go : (o : Option Range) → range_of part ≡ o → option_and_then (λ next. climbed next parts)
-        (raised_by tops o) ≡ Some last
-        → ((next : Tops) → climbed next parts ≡ Some last → Climb next parts) → Climb tops (part ∷ parts)
-    go None e is more = let bad : Path (Option Tops) None (Some last) = is in cc
-    go (Some r) e is more = up (raised tops r) refl is
+    go : (o : Option Range) → range_of part ≡ o → option_and_then (λ next. highest_numbers next parts)
+        (raised_by highest o) ≡ Some last
+        → ((next : HighestNumbers) → highest_numbers next parts ≡ Some last → Climb next parts) → Climb highest (part ∷ parts)
+    go None e is more = let bad : Path (Option HighestNumbers) None (Some last) = is in cc
+    go (Some r) e is more = up (raised highest r) refl is
       where
-        up : (o : Option Tops) → raised tops r ≡ o → option_and_then (λ next. climbed next parts) o ≡ Some last
-            → Climb tops (part ∷ parts)
-        up None f is = let bad : Path (Option Tops) None (Some last) = is in cc
-        up (Some next) f is = climb-cons tops part parts r next e f (more next is)
+        up : (o : Option HighestNumbers) → raised highest r ≡ o → option_and_then (λ next. highest_numbers next parts) o ≡ Some last
+            → Climb highest (part ∷ parts)
+        up None f is = let bad : Path (Option HighestNumbers) None (Some last) = is in cc
+        up (Some next) f is = climb-cons highest part parts r next e f (more next is)
 
 -- the parts of such a list agree
-climb_agrees : (tops : Tops) (parts : List (List ℕ)) (last : Tops) → climbed tops parts ≡ Some last
+climb_agrees : (highest : HighestNumbers) (parts : List (List ℕ)) (last : HighestNumbers) → highest_numbers highest parts ≡ Some last
     → list_all (λ part. part_agrees parts (range_of part)) parts ≡ true
-climb_agrees tops parts last is =
-    let up = climbs tops parts last is in
+climb_agrees highest parts last is =
+    let up = climbs highest parts last is in
     all_agree parts up.ranges up.reads up.consistent parts up.ranges up.reads (λ kind n has. has)
 
 -- one part more
 
--- a list with a comma can't be climbed where its first part is no range or begins too low
-pub climb_none : (tops : Tops) (list : List ℕ) (k : ℕ) → position (λ b. b == 44) list ≡ Some k
-    → raised_by tops (range_of (take k list)) ≡ None → climbed tops (range_parts list) ≡ None
-climb_none tops list k here none = ap (climbed tops) (position_split 44 k list here) ∙ rw none refl
+-- a list with a comma can't be highest_numbers where its first part is no range or begins too low
+pub climb_none : (highest : HighestNumbers) (list : List ℕ) (k : ℕ) → position (λ b. b == 44) list ≡ Some k
+    → raised_by highest (range_of (take k list)) ≡ None → highest_numbers highest (range_parts list) ≡ None
+climb_none highest list k here none = ap (highest_numbers highest) (position_split 44 k list here) ∙ rw none refl
 
--- a list is climbed as the parts behind its first comma are, from where its first part leads
-pub climb_some : (tops : Tops) (list : List ℕ) (k : ℕ) (next : Tops) → position (λ b. b == 44) list ≡ Some k
-    → raised_by tops (range_of (take k list)) ≡ Some next
-    → climbed tops (range_parts list) ≡ climbed next (range_parts (take (length list - (k + 1)) (drop (k + 1) list)))
-climb_some tops list k next here some =
+-- a list is highest_numbers as the parts behind its first comma are, from where its first part leads
+pub climb_some : (highest : HighestNumbers) (list : List ℕ) (k : ℕ) (next : HighestNumbers) → position (λ b. b == 44) list ≡ Some k
+    → raised_by highest (range_of (take k list)) ≡ Some next
+    → highest_numbers highest (range_parts list) ≡ highest_numbers next (range_parts (take (length list - (k + 1)) (drop (k + 1) list)))
+climb_some highest list k next here some =
     let size = length-drop (k + 1) list in
     let rest : take (length list - (k + 1)) (drop (k + 1) list) ≡ drop (k + 1) list =
     ap (λ n. take n (drop (k + 1) list)) (sym size) ∙ take-length (drop (k + 1) list) in
-    ap (climbed tops) (position_split 44 k list here) ∙ rw (some, rest) refl
+    ap (highest_numbers highest) (position_split 44 k list here) ∙ rw (some, rest) refl
 
--- a list without a comma is climbed where its one part is
-pub climb_last : (tops : Tops) (list : List ℕ) → position (λ b. b == 44) list ≡ None
-    → climbed tops (range_parts list) ≡ raised_by tops (range_of list)
-climb_last tops list none = ap (climbed tops) (position_whole 44 list none) ∙ last (raised_by tops (range_of list))
+-- a list without a comma is highest_numbers where its one part is
+pub climb_last : (highest : HighestNumbers) (list : List ℕ) → position (λ b. b == 44) list ≡ None
+    → highest_numbers highest (range_parts list) ≡ raised_by highest (range_of list)
+climb_last highest list none = ap (highest_numbers highest) (position_whole 44 list none) ∙ last (raised_by highest (range_of list))
   where
-    last : (o : Option Tops) → option_and_then (λ next. climbed next []) o ≡ o
+    last : (o : Option HighestNumbers) → option_and_then (λ next. highest_numbers next []) o ≡ o
     last None = refl
     last (Some next) = refl
 
--- parts that can be climbed are ranges, and none of them contradicts another
-pub some_agrees : (tops : Tops) (parts : List (List ℕ)) → is_some (climbed tops parts) ≡ true
+-- parts that can be highest_numbers are ranges, and none of them contradicts another
+pub some_agrees : (highest : HighestNumbers) (parts : List (List ℕ)) → is_some (highest_numbers highest parts) ≡ true
     → list_all (λ part. part_agrees parts (range_of part)) parts ≡ true
-some_agrees tops parts some = go (climbed tops parts) refl some
+some_agrees highest parts some = go (highest_numbers highest parts) refl some
   where
-    go : (o : Option Tops) → climbed tops parts ≡ o → is_some o ≡ true
+    go : (o : Option HighestNumbers) → highest_numbers highest parts ≡ o → is_some o ≡ true
         → list_all (λ part. part_agrees parts (range_of part)) parts ≡ true
     go None e some = let bad : false ≡ true = some in cc
-    go (Some last) e some = climb_agrees tops parts last e
+    go (Some last) e some = climb_agrees highest parts last e

@@ -6,7 +6,7 @@ use Rattle.dump_rules.specs.Settings.{Settings, keeps_path}
 use Rattle.dump_rules.specs.RangeList.{Range}
 use Rattle.dump_rules.specs.steps.ReadRanges.{range_of, range_parts}
 use Rattle.dump_rules.specs.steps.ReadMergeinfo.{line_reads, without_lf}
-use Rattle.dump_rules.specs.steps.NewLines.{line_list, line_path, text_lines}
+use Rattle.dump_rules.specs.steps.RewrittenLines.{line_list, line_path, text_lines}
 
 -- the bounds of no range
 abbrev pub no_bounds : Bounds

@@ -3,7 +3,7 @@ use Rattle.std.specs.Prelude.{ℕ, ◌+◌, ◌-◌, Bool, true, false, ◌&&◌
 use Rattle.std.specs.List.{list_all, list_any, slice_split}
 use Rattle.dump_text.specs.Number.{number_of}
 use Rattle.dump_rules.specs.declared.ranges.Span.{Span}
-use Rattle.dump_rules.specs.declared.ranges.Tops.{Tops}
+use Rattle.dump_rules.specs.declared.ranges.HighestNumbers.{HighestNumbers}
 use Rattle.dump_rules.specs.RangeList.{Range}
 
 -- the range that is kept as two ends and a kind
@@ -75,22 +75,22 @@ list_reads (b ∷ list) =
     list_all (λ part. part_agrees (range_parts (b ∷ list)) (range_of part)) (range_parts (b ∷ list))
 
 -- the highest numbers with those of a range, which has to begin above those of the other kind
-abbrev pub raised : Tops → Range → Option Tops
-raised tops r =
+abbrev pub raised : HighestNumbers → Range → Option HighestNumbers
+raised highest r =
     if r.inheritable
-    then (if nat_lt tops.starred r.from
-    then Some (record { inheritable = max tops.inheritable r.to; starred = tops.starred })
+    then (if nat_lt highest.starred r.from
+    then Some (record { inheritable = max highest.inheritable r.to; starred = highest.starred })
     else None)
-    else (if nat_lt tops.inheritable r.from
-    then Some (record { inheritable = tops.inheritable; starred = max tops.starred r.to })
+    else (if nat_lt highest.inheritable r.from
+    then Some (record { inheritable = highest.inheritable; starred = max highest.starred r.to })
     else None)
 
 -- the same of a part, which has to be a range
-abbrev pub raised_by : Tops → Option Range → Option Tops
-raised_by tops None = None
-raised_by tops (Some r) = raised tops r
+abbrev pub raised_by : HighestNumbers → Option Range → Option HighestNumbers
+raised_by highest None = None
+raised_by highest (Some r) = raised highest r
 
 -- the highest numbers after all parts, where each begins above those of the other kind before it
-abbrev pub climbed : Tops → List (List ℕ) → Option Tops
-climbed tops [] = Some tops
-climbed tops (part ∷ parts) = option_and_then (λ next. climbed next parts) (raised_by tops (range_of part))
+abbrev pub highest_numbers : HighestNumbers → List (List ℕ) → Option HighestNumbers
+highest_numbers highest [] = Some highest
+highest_numbers highest (part ∷ parts) = option_and_then (λ next. highest_numbers next parts) (raised_by highest (range_of part))

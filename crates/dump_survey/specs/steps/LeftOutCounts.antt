@@ -3,7 +3,7 @@ use Rattle.std.specs.Prelude.{ℕ, List, count_by, sum_by, if◌then◌else◌}
 use Rattle.dump_text.specs.PropertyList.{Property}
 use Rattle.dump_rules.specs.Settings.{Settings}
 use Rattle.dump_rules.specs.steps.ReadMergeinfo.{value_reads, without_lf}
-use Rattle.dump_rules.specs.steps.NewLines.{line_misses, text_lines}
+use Rattle.dump_rules.specs.steps.RewrittenLines.{line_misses, text_lines}
 use Rattle.dump_digest.specs.RecordParts.{is_mergeinfo, value_of}
 
 -- of the lines of a text

@@ -7,7 +7,8 @@ use Rattle.clap.specs.Words.{takes, Text, fault_of, found_of, is_simple, is_simp
 use Rattle.dump_cli.specs.CommandLine.{program}
 use Rattle.dump_cli.specs.Words.{AnswersTo, meaning_of_line, side_name}
 use Rattle.dump_cli.proofs.ProgramLemmas.{filled, free, simple}
-use Rattle.dump_cli.proofs.WordLemmas.{refusal_answers, refusal_unlawful, never_words, second_holds, taken_answers}
+use Rattle.dump_text.proofs.BoolLemmas.{second_true}
+use Rattle.dump_cli.proofs.WordLemmas.{refusal_answers, refusal_unlawful, never_words, taken_answers}
 use Rattle.dump_cli.proofs.words.options_of.Goals as goal
 
 pub read_order-requires : goal.read_order-requires
@@ -62,7 +63,7 @@ returns-in-Err-clause-lawful c lawful is =
     (λ a. HasKind (fault_of a line) c.in-Err.error) c.in-Ok.ensures
     (c.in-Err.ensures.kinds (ap is_simple_and_free c.in-Ok.ensures ∙ free)) in
     let none : is_empty (fault_of program line) ≡ true =
-    ap (λ l. is_empty (fault_of program l)) (sym behind) ∙ second_holds _ _ lawful in
+    ap (λ l. is_empty (fault_of program l)) (sym behind) ∙ second_true _ _ lawful in
     refusal_unlawful line c.in-Err.error c.refusal.result has c.refusal.ensures.memory none cc
 
 pub returns-in-Err-clause-takes : goal.returns-in-Err-clause-takes
@@ -70,6 +71,6 @@ returns-in-Err-clause-takes c taken is =
     let line : List Text = map (λ w. w.now) c.in-Some.line.now in
     let behind : drop 1 (map (λ w. w.now) c.args.words.now) ≡ line =
     ap (λ (ws : List (Bor Text)). drop 1 (map (λ w. w.now) ws)) c.in-Some.ensures.cases.0 in
-    let passes : takes program line ≡ true = ap (λ l. takes program l) (sym behind) ∙ second_holds _ _ taken in
+    let passes : takes program line ≡ true = ap (λ l. takes program l) (sym behind) ∙ second_true _ _ taken in
     let memory = c.refusal.ensures.memory (c.in-Err.ensures.passes (ap (λ a. takes a line) c.in-Ok.ensures ∙ passes)) in
     cc

@@ -6,8 +6,16 @@ use Rattle.dump_digest.specs.steps.DoneViews.{done_record, done_verdict}
 use Rattle.dump_digest.specs.declared.verdict.Verdict.{Verdict}
 use Rattle.dump_filter.specs.steps.State.{view_state}
 use Rattle.dump_filter.specs.steps.Decision.{is_in_order}
-use Rattle.dump_filter.proofs.answer.DecisionLemmas.{decided_in_order}
+use Rattle.dump_filter.proofs.answer.DecisionLemmas.{node_is_taken, decided_in_order}
 use Rattle.dump_filter.proofs.decide.decide.Goals as goal
+
+pub fate_of-requires-clause-taken : goal.fate_of-requires-clause-taken
+fate_of-requires-clause-taken c = λ keep.
+    let s = view_state c.args.state.now in
+    let order = ap (λ (x : Record). is_in_order s (record_item x)) (sym c.item-item.ensures) ∙ sym c.is_in_order.ensures
+    ∙ c.if-not-is_in_order.false in
+    node_is_taken c.args.options.now s (record_item (done_record c.args.done.now)) keep
+    order
 
 pub returns : goal.returns
 returns c = λ ps asked.

@@ -10,6 +10,12 @@ use Rattle.dump_filter.proofs.groups.KindLemmas.{IsOfKind, of_kind}
 use Rattle.dump_filter.proofs.answer.DecisionLemmas.{fate_of_node, fate_of_revision}
 use Rattle.dump_filter.proofs.decide.fate_of.Goals as goal
 
+pub node_fate-requires-clause-taken : goal.node_fate-requires-clause-taken
+node_fate-requires-clause-taken c =
+    let keep = subst (λ (s : Settings). is_kept_node s (record_item (done_record c.args.done.now)) ≡ true)
+    c.requires.options (sym c.is_kept.ensures ∙ c.if-is_kept.true) in
+    c.requires.taken keep
+
 pub returns-then-is_kept : goal.returns-then-is_kept
 returns-then-is_kept c = λ ps list.
     let d = c.args.done.now in

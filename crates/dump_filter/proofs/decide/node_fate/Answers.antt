@@ -3,10 +3,15 @@ use Rattle.dump_rules.specs.Settings.{Settings}
 use Rattle.dump_records.specs.steps.RecordViews.{record_item}
 use Rattle.dump_digest.specs.RecordParts.{is_kept_node}
 use Rattle.dump_digest.specs.steps.DoneViews.{done_record, done_settings, done_verdict}
-use Rattle.dump_filter.specs.steps.State.{view_state}
+use Rattle.dump_filter.specs.steps.State.{view_group, view_state}
 use Rattle.dump_filter.specs.steps.Decision.{kept_unless}
+use Rattle.dump_filter.proofs.written.CopyLemmas.{present_there}
 use Rattle.dump_filter.proofs.answer.DecisionLemmas.{node_fate_is}
 use Rattle.dump_filter.proofs.decide.node_fate.Goals as goal
+
+pub node_revision-present-requires : goal.node_revision-present-requires
+node_revision-present-requires c =
+    present_there c.args.state.now.revisions (view_group c.args.state.now.group) c.requires.kept c.requires.taken
 
 pub returns-in-Some : goal.returns-in-Some
 returns-in-Some c = λ ps list.

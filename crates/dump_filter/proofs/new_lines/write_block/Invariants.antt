@@ -1,11 +1,12 @@
 use Rattle.std.proofs.Common.{◌≡◌, ◌++◌}
 use Rattle.dump_text.specs.HeaderBlock.{lines_bytes}
-use Rattle.dump_text.specs.steps.Views.{lines_left, block_headers}
+use Rattle.dump_text.specs.steps.Views.{lines_left}
+use Rattle.dump_records.specs.steps.RecordViews.{record_item}
 use Rattle.dump_filter.specs.steps.NewLines.{renewed_lines}
 use Rattle.dump_filter.proofs.new_lines.write_block.Given as goal
 
 abbrev pub invariant-loop-line : goal.invariant-loop-line
 invariant-loop-line l =
     (goal.iterator-loop-line).can_next l.lines × (goal.iterator-loop-line).is_finite l.lines
-    × (lines_bytes (renewed_lines l.changes (block_headers l.block)) ≡ l.out.items ++ lines_bytes
+    × (lines_bytes (renewed_lines l.changes (record_item l.item).headers) ≡ l.out.items ++ lines_bytes
     (renewed_lines l.changes (lines_left l.lines)))

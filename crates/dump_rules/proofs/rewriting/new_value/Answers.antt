@@ -1,7 +1,7 @@
 use Rattle.std.proofs.Common.{ℕ, List, [], sym, ap, subst, ◌∙◌}
 use Rattle.std.proofs.lemmas.Result.{IfOk-weaker}
 use Rattle.dump_rules.specs.steps.ReadMergeinfo.{lines_read}
-use Rattle.dump_rules.specs.steps.NewLines.{text_lines, with_new_lines}
+use Rattle.dump_rules.specs.steps.RewrittenLines.{text_lines, with_new_lines}
 use Rattle.dump_rules.specs.Rewriting.{IsNewMergeinfo}
 use Rattle.dump_rules.proofs.reading.MergeinfoLemmas.{reads_exactly}
 use Rattle.dump_rules.proofs.new_values.ValueLemmas.{new_value}
@@ -19,5 +19,5 @@ returns c =
     (λ v is. subst (IsNewMergeinfo c.args.options.now c.args.reach.now c.args.value.now)
     (sym (is ∙ ap (λ (t : List ℕ). with_new_lines c.args.options.now c.args.reach.now []
     (text_lines t)) c.cut_lf.ensures))
-    (new_value c.args.options.now c.args.reach.now c.rises.ensures c.args.value.now has.0 has.1))
+    (new_value c.args.options.now c.args.reach.now c.first-first.ensures.rising c.args.value.now has.0 has.1))
     c.new_text.ensures

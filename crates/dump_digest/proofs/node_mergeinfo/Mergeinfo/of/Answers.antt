@@ -6,7 +6,7 @@ use Rattle.dump_digest.specs.declared.node_mergeinfo.Mergeinfo.{Mergeinfo}
 use Rattle.dump_digest.specs.steps.Checks.{properties_read}
 use Rattle.dump_digest.specs.steps.ContentViews.{IsSaidBy}
 use Rattle.dump_rules.specs.steps.Merged.{is_outside}
-use Rattle.dump_rules.specs.steps.NewLines.{value_misses, value_foreign}
+use Rattle.dump_rules.specs.steps.RewrittenLines.{value_misses, value_foreign}
 use Rattle.dump_rules.specs.steps.ReadMergeinfo.{value_reads}
 use Rattle.dump_digest.proofs.SaidLemmas.{entry_value, IsSaidUpTo, said_at_first, said_of_other, said_of_value, not_said, said_at_last, unread_value, reads_value}
 use Rattle.dump_digest.proofs.node_mergeinfo.Mergeinfo.of.Goals as goal

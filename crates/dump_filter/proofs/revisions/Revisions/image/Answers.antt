@@ -8,8 +8,8 @@ use Rattle.dump_filter.specs.steps.Knowledge.{AreKept}
 use Rattle.dump_filter.proofs.written.CopyLemmas.{next_fits, image_at_pending, image_before_pending}
 use Rattle.dump_filter.proofs.revisions.Revisions.image.Goals as goal
 
-pub next_image-requires : goal.next_image-requires
-next_image-requires c =
+pub next_new_number-requires : goal.next_new_number-requires
+next_new_number-requires c =
     let up = subst (AreKept c.args.self.now) (ap view_group c.in-Pending.is) c.requires in
     let fits = next_fits c.args.self.now (view_pending c.in-Pending.pending) up in
     let at = c.revision_number.ensures ∙ ap (λ r. revision_number (record_item r)) c.item.ensures in
@@ -22,7 +22,7 @@ returns-then-revision_number-number c =
     let up = subst (AreKept c.args.self.now) is c.requires in
     let at = c.revision_number.ensures ∙ ap (λ r. revision_number (record_item r)) c.item.ensures in
     let low = c.if-revision_number-number.true in
-    ap Some c.next_image.ensures
+    ap Some c.next_new_number.ensures
     ∙ sym (image_at_pending c.args.self.now (view_pending c.in-Pending.pending) c.args.number up
     (omega (arith, at, low)))
     ∙ ap (λ g. image (front_kept c.args.self.now.kept g) c.args.number) (sym is)

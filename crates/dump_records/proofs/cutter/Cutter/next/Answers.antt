@@ -2,7 +2,7 @@ use Rattle.std.proofs.Common.{◌≡◌, ◌+◌, ◌≤◌, length, subst, refl
 use Rattle.dump_records.specs.steps.CutterState.{CutterState}
 use Rattle.dump_records.specs.DumpText.{Ending}
 use Rattle.dump_records.specs.steps.CutRecords.{EndsAfter}
-use Rattle.dump_records.proofs.CutLemmas.{gap_in, own_inside, own_stands, own_number, item_record, item_cut, item_room, room_behind, ends_whole, ends_broken}
+use Rattle.dump_records.proofs.CutLemmas.{gap_in, room_behind, ends_whole, ends_broken}
 use Rattle.dump_records.proofs.cutter.Cutter.next.Goals as goal
 use Rattle.dump_records.proofs.cutter.Cutter.next.Goals.{else-place-self-via-then-place-self+else-self-gt0, else-place-self-via-else-place-self}
 
@@ -15,45 +15,21 @@ returns-then-self-gt0 c =
     subst (λ (v : CutterState). EndsAfter v.dump v.number Ending.Whole × (c.args.self.now ≡ c.args.self.now))
     c.self.view_is (ends, refl)
 
-pub overflow_add-self : goal.overflow_add-self
-overflow_add-self c =
+pub record_at-requires : goal.record_at-requires
+record_at-requires c =
     let s = c.self.inside in
-    let lfs = gap_in s.dump.now s.place c.count_line_feeds.result c.count_line_feeds.ensures in
-    let room = item_room s.dump.now s.number s.place s.version c.count_line_feeds.result c.in-Ok.parts c.self.invariant
-    lfs c.in-Ok.ensures.stands in
-    omega (arith, c.self.told)
-
-pub invariant_of-record : goal.invariant_of-record
-invariant_of-record c =
-    let s = c.self.inside in
-    let gap = c.count_line_feeds.result in
-    let lfs = gap_in s.dump.now s.place gap c.count_line_feeds.ensures in
-    let at = c.in-Ok.ensures.stands in
-    let room = item_room s.dump.now s.number s.place s.version gap c.in-Ok.parts c.self.invariant lfs at in
     record {
-      says = at.header;
-      counted = omega (arith, c.self.told);
-      inside = own_inside s.dump.now (s.place + gap) s.number s.version c.in-Ok.parts at;
-      stands = own_stands s.dump.now (s.place + gap) s.number s.version c.in-Ok.parts at;
-      numbered = ∣ own_number s.dump.now (s.place + gap) s.number s.version c.in-Ok.parts at
-          (item_record s.dump.now s.number s.place s.version gap c.in-Ok.parts c.self.invariant lfs at) ∣₁;
+      from = s.place;
+      gap = c.count_line_feeds.result;
+      up_to = c.self.invariant;
+      lfs = gap_in s.dump.now s.place c.count_line_feeds.result c.count_line_feeds.ensures;
+      place_is = refl;
     }
-
-pub invariant_of-self : goal.invariant_of-self
-invariant_of-self c =
-    let s = c.self.inside in
-    let lfs = gap_in s.dump.now s.place c.count_line_feeds.result c.count_line_feeds.ensures in
-    item_cut s.dump.now s.number s.place s.version c.count_line_feeds.result c.in-Ok.parts c.self.invariant lfs
-    c.in-Ok.ensures.stands
 
 pub returns-in-Ok : goal.returns-in-Ok
 returns-in-Ok c =
-    let s = c.self.inside in
-    let lfs = gap_in s.dump.now s.place c.count_line_feeds.result c.count_line_feeds.ensures in
-    let at = c.in-Ok.ensures.stands in
-    let item = item_record s.dump.now s.number s.place s.version c.count_line_feeds.result c.in-Ok.parts
-    c.self.invariant lfs at in
-    rw (← c.self.view_is) (at.dump_is, refl, item, refl)
+    let next = c.in-Ok.ensures.next in
+    rw (← c.self.view_is) (next.dump_is, next.number_is, next.item, refl)
 
 pub returns-in-Err : goal.returns-in-Err
 returns-in-Err c =

@@ -14,16 +14,16 @@ returns-then-has c =
 
 pub returns-then-has-3 : goal.returns-then-has-3
 returns-then-has-3 c =
-    let near : c.loop-place.place < c.min-near.result = omega (arith, length-take c.min-near.result c.args.path.now) in
+    let near : c.loop-place.place < c.min-search_end.result = omega (arith, length-take c.min-search_end.result c.args.path.now) in
     let low : c.loop-place.place < length c.args.path.now = omega
-    (arith, length-take c.min-near.result c.args.path.now) in
+    (arith, length-take c.min-search_end.result c.args.path.now) in
     sym (cut_begins c.args.path.now c.loop-place.place low
-    (sym (get_or-take c.min-near.result c.args.path.now c.loop-place.place 0 near) ∙ c.if-byte-eq47.true)
+    (sym (get_or-take c.min-search_end.result c.args.path.now c.loop-place.place 0 near) ∙ c.if-byte-eq47.true)
     c.args.self.now (sym c.if-has-3.ensures))
 
 pub returns : goal.returns
 returns c =
     let within : AreWithin c.self.inside.longest c.args.self.now = rw (← c.self.view_is) c.self.invariant in
     sym (none_begins c.args.path.now c.loop-place.place c.self.inside.longest
-    (λ n fits low. omega (arith, length-take c.min-near.result c.args.path.now))
+    (λ n fits low. omega (arith, length-take c.min-search_end.result c.args.path.now))
     c.args.self.now within (sym c.if-has.ensures) (sym c.if-has-2.ensures) c.loop-place.invariant)

@@ -1,7 +1,7 @@
 use Rattle.std.proofs.Common.{sym, ◌∙◌}
 use Rattle.dump_records.specs.steps.RecordViews.{record_item}
 use Rattle.dump_digest.proofs.KeptLemmas.{kept_some, kept_none}
-use Rattle.dump_digest.proofs.kept.is_kept.Goals as goal
+use Rattle.dump_digest.proofs.content.is_kept.Goals as goal
 
 pub returns-in-Some : goal.returns-in-Some
 returns-in-Some c =

@@ -2,7 +2,7 @@ use Rattle.std.proofs.Common.{ap, sym, ◌∙◌, is_some}
 use Rattle.dump_text.specs.Names.{copy_path_name}
 use Rattle.dump_records.specs.steps.HeaderReading.{lines_of}
 use Rattle.dump_records.proofs.HeaderLemmas.{none_of, no_value, value_there}
-use Rattle.dump_records.proofs.headers.copy_source.Goals as goal
+use Rattle.dump_records.proofs.header_reading.copy_source.Goals as goal
 
 pub returns-in_default-clause-revision : goal.returns-in_default-clause-revision
 returns-in_default-clause-revision c =

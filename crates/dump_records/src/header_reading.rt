@@ -1,9 +1,9 @@
 //! What the header lines of a block say of their record, and the rules that they may break.
-ghost use Rattle.std.specs.Prelude.{◌≡◌, ◌<◌, ◌^◌, ◌&&◌, IfSome, IsFalse, MatchResult, is_none, is_some, option_map, bytes_eq, unwrap_or, codes, []};
-ghost use Rattle.dump_text.specs.Names.{version_name, node_kind_name, copy_path_name};
+ghost use Rattle.std.specs.Prelude.{◌≡◌, ◌<◌, ◌+◌, ◌^◌, ◌==◌, ◌&&◌, not, IfSome, IsFalse, MatchResult, is_none, is_some, option_map, bytes_eq, unwrap_or, codes, []};
+ghost use Rattle.dump_text.specs.Names.{version_name, node_kind_name, copy_path_name, content_length_name};
 ghost use Rattle.dump_text.specs.steps.KnownValues.{name_text};
 ghost use Rattle.dump_text.specs.HeaderLine.{has_header, header_value};
-ghost use Rattle.dump_records.specs.HeaderRules.{header_number, says_true, has_bad_kind, has_bad_version, has_bad_number, has_bad_lengths};
+ghost use Rattle.dump_records.specs.HeaderRules.{header_number, header_length, property_length, text_length, says_true, has_bad_kind, has_bad_version, has_bad_number, has_bad_lengths};
 ghost use Rattle.dump_records.specs.steps.KindReading.{IsKindOf};
 ghost use Rattle.dump_records.specs.steps.HeaderReading.{lines_of, AreNumbers, is_spelled, are_written, IsHeaderOf};
 ghost use Rattle.dump_records.specs.steps.Lawful.{LengthsOf, IsUnlawful};
@@ -56,11 +56,9 @@ fn has_bad_version(headers: &Headers<'_>, numbers: &Numbers, number: u64) -> boo
     requires { AreNumbers (lines_of headers.now) numbers.now }
     ensures { result ≡ has_bad_version number (lines_of headers.now) }
 {
-    if headers.has(HeaderName::FormatVersion) {
-        let version = numbers.version.unwrap_or(0);
-        version != 2 && version != 3
-    } else {
-        number == 0
+    match numbers.version {
+        Some(version) => version != 2 && version != 3,
+        None => number == 0 || headers.has(HeaderName::FormatVersion),
     }
 }
 
@@ -96,17 +94,31 @@ fn lengths_of(numbers: &Numbers) -> Lengths
     }
 }
 
+/// Whether the content length isn't the sum of the other two.
+fn has_bad_sum(headers: &Headers<'_>, numbers: &Numbers) -> bool
+    requires numbers { AreNumbers (lines_of headers.now) numbers.now }
+    requires number { IsFalse (has_bad_number (lines_of headers.now)) }
+    ensures { let lines = lines_of headers.now in result ≡ (has_header content_length_name lines
+        && not (header_length content_length_name lines == property_length lines + text_length lines)) }
+{
+    let lengths = lengths_of(numbers);
+    match numbers.content {
+        Some(content) => content != lengths.props + lengths.text,
+        None => false,
+    }
+}
+
 /// Whether the lengths don't add up, or the record may not have one of them.
 fn has_bad_lengths(headers: &Headers<'_>, numbers: &Numbers) -> bool
-    requires { AreNumbers (lines_of headers.now) numbers.now }
+    requires numbers { AreNumbers (lines_of headers.now) numbers.now }
+    requires number { IsFalse (has_bad_number (lines_of headers.now)) }
     ensures { result ≡ has_bad_lengths (lines_of headers.now) }
 {
-    let has_text = headers.has(HeaderName::TextContentLength);
-    let has_content = headers.has(HeaderName::ContentLength);
-    let lengths = lengths_of(numbers);
-    if has_content && numbers.content.unwrap_or(0) != lengths.props + lengths.text {
+    if has_bad_sum(headers, numbers) {
         return true;
     }
+    let has_text = headers.has(HeaderName::TextContentLength);
+    let has_content = headers.has(HeaderName::ContentLength);
     let has_none = headers.has(HeaderName::FormatVersion) || headers.has(HeaderName::Uuid);
     if has_none && (headers.has(HeaderName::PropContentLength) || has_text || has_content) {
         return true;
@@ -219,11 +231,12 @@ pub(crate) fn read_header<'a>(
     }
     let header = RecordHeader {
         parts: parts_of(headers, &numbers),
+        md5: headers.value(HeaderName::TextContentMd5),
+        sha1: headers.value(HeaderName::TextContentSha1),
         is_file: says_file(headers),
         has_props: headers.has(HeaderName::PropContentLength),
         has_text: headers.has(HeaderName::TextContentLength),
-        md5: headers.value(HeaderName::TextContentMd5),
-        sha1: headers.value(HeaderName::TextContentSha1),
+        has_content: headers.has(HeaderName::ContentLength),
         text_delta: says_true(headers, HeaderName::TextDelta),
         prop_delta: says_true(headers, HeaderName::PropDelta),
         is_written: are_written(headers, &numbers),

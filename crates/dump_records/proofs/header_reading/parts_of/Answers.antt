@@ -3,7 +3,7 @@ use Rattle.dump_text.specs.Names.{version_name, revision_name, path_name}
 use Rattle.dump_text.specs.HeaderLine.{has_header}
 use Rattle.dump_records.specs.steps.HeaderReading.{lines_of}
 use Rattle.dump_records.proofs.HeaderLemmas.{deciding, copy_both, copy_there, revision_there, no_number, value_there}
-use Rattle.dump_records.proofs.headers.parts_of.Goals as goal
+use Rattle.dump_records.proofs.header_reading.parts_of.Goals as goal
 
 pub copy_source-copy-requires : goal.copy_source-copy-requires
 copy_source-copy-requires c =

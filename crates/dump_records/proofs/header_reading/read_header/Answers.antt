@@ -1,7 +1,7 @@
 use Rattle.std.proofs.Common.{ap, sym, ◌∙◌, is_some}
 use Rattle.dump_records.specs.steps.HeaderReading.{lines_of}
 use Rattle.dump_records.proofs.HeaderLemmas.{version_there}
-use Rattle.dump_records.proofs.headers.read_header.Goals as goal
+use Rattle.dump_records.proofs.header_reading.read_header.Goals as goal
 
 pub parts_of-requires-clause-version : goal.parts_of-requires-clause-version
 parts_of-requires-clause-version c =
