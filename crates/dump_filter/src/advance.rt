@@ -139,6 +139,7 @@ impl<'a> State<'a> {
         requires kept { AreKept self.old.revisions (view_group self.old.group) }
         requires room { CanCountMore (view_state self.old) }
         requires revision { IsTrue (is_revision_record (record_item (done_record done))) }
+        requires read { IsTrue (done_verdict done).props_ok }
         ensures piece { let r = record_item (done_record done.entry) in
             IfOk result (λ piece. IsPiece options.now (view_state self.old) r Fate.Hold piece) }
         ensures state { let r = record_item (done_record done.entry) in
@@ -198,6 +199,7 @@ impl<'a> State<'a> {
         requires room { CanCountMore (view_state self.old) }
         requires node { (copy : Change) → fate ≡ Fate.Keep copy → IsReadNode done }
         requires revision { fate ≡ Fate.Hold → IsTrue (is_revision_record (record_item (done_record done))) }
+        requires read { IsTrue (done_verdict done).props_ok }
         ensures piece { let r = record_item (done_record done.entry) in
             IfOk result (λ piece. IsPiece options.now (view_state self.old) r fate piece) }
         ensures state { let r = record_item (done_record done.entry) in

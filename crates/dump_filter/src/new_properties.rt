@@ -1,15 +1,13 @@
 //! The property block of a record that is written: made anew, or none where it is written as it stands.
-ghost use Rattle.std.specs.Prelude.{◌≡◌, ◌++◌, List, false, IsTrue, OnOk, IfOk, codes, option_copied};
+ghost use Rattle.std.specs.Prelude.{◌≡◌, ◌++◌, List, false, IsTrue, OnOk, IfOk, option_copied};
 ghost use Rattle.dump_text.specs.PropertyList.{Property, IsPropertyBlock, entry_text, property_block_text};
-ghost use Rattle.dump_text.specs.steps.PropertyReading.{property_value};
 ghost use Rattle.dump_text.specs.steps.PropertyViews.{props_bytes, entry_property};
-ghost use Rattle.dump_records.specs.RecordText.{DumpRecord};
 ghost use Rattle.dump_records.specs.steps.RecordViews.{record_item};
 ghost use Rattle.dump_rules.specs.Mergeinfo.{HasMergeLines};
-ghost use Rattle.dump_digest.specs.steps.ContentViews.{ArePropertiesOf};
-ghost use Rattle.dump_digest.specs.steps.DoneViews.{done_record};
+ghost use Rattle.dump_digest.specs.steps.ContentViews.{is_asked};
+ghost use Rattle.dump_digest.specs.steps.DoneViews.{done_record, done_settings, done_verdict};
 ghost use Rattle.dump_digest.specs.steps.MergeFaults.{HasGoodMergeinfo};
-ghost use Rattle.dump_digest.specs.RecordParts.{is_mergeinfo, value_of, HasPropertyList, HasPropertyBlock};
+ghost use Rattle.dump_digest.specs.RecordParts.{is_mergeinfo, value_of, HasPropertyList};
 ghost use Rattle.dump_filter.specs.NewContent.{revision_properties, IsNewProperty, AreNewProperties, new_block};
 ghost use Rattle.dump_filter.specs.steps.MadeBytes.{made_or};
 ghost use Rattle.dump_filter.specs.steps.NewProperties.{IsReadNode, dated_padding};
@@ -64,17 +62,6 @@ fn respelled(alloc: Global, props: &Props<'_>) -> Result<Option<Vec<u8>>, Memory
     Ok(Some(bytes))
 }
 
-/// The first date among some properties.
-fn date_of<'a>(props: &Option<Props<'a>>) -> Option<&'a [u8]>
-    ensures { (r : DumpRecord) → ArePropertiesOf r props.now → (ps : List Property) → HasPropertyList r ps
-        → option_copied result ≡ property_value (codes "svn:date") ps }
-{
-    match props {
-        Some(props) => props.get(DATE),
-        None => None,
-    }
-}
-
 /// The properties of an empty revision of this date, if it has one.
 fn write_padding(alloc: Global, date: Option<&[u8]>) -> Result<Vec<u8>, Memory>
     ensures { IfOk result (λ out. out.items ≡ property_block_text (dated_padding (option_copied date.entry))) }
@@ -88,25 +75,32 @@ fn write_padding(alloc: Global, date: Option<&[u8]>) -> Result<Vec<u8>, Memory>
     Ok(out)
 }
 
+/// The properties of a revision or of a kept node, which its check found to be a property block.
+pub(crate) fn read_props<'a>(done: &Done<'a>) -> Props<'a>
+    requires asked { IsTrue (is_asked (done_settings done.now) (record_item (done_record done.now))) }
+    requires read { IsTrue (done_verdict done.now).props_ok }
+    ensures { props_bytes result ≡ (record_item (done_record done.now)).props }
+{
+    let Some(props) = done.props() else {
+        unreachable!()
+    };
+    props
+}
+
 /// The property block of a record with these properties as it is written, if it has a length for one.
 fn respelled_block(
     alloc: Global,
     item: &Record<'_>,
-    props: &Option<Props<'_>>,
+    props: &Props<'_>,
 ) -> Result<Option<Vec<u8>>, Memory>
-    requires { ArePropertiesOf (record_item item.now) props.now }
+    requires { props_bytes props.now ≡ (record_item item.now).props }
     ensures { let r = record_item item.now in IfOk result (λ made. (ps : List Property) → HasPropertyList r ps
         → made_or made r.props ≡ new_block false r ps) }
 {
-    match props {
-        Some(props) => {
-            if item.has_props() {
-                respelled(alloc, props)
-            } else {
-                Ok(None)
-            }
-        }
-        None => Ok(None),
+    if item.has_props() {
+        respelled(alloc, props)
+    } else {
+        Ok(None)
     }
 }
 
@@ -114,15 +108,15 @@ fn respelled_block(
 pub(crate) fn revision_properties(
     alloc: Global,
     item: &Record<'_>,
-    props: &Option<Props<'_>>,
+    props: &Props<'_>,
     padded: bool,
 ) -> Result<Option<Vec<u8>>, Memory>
-    requires { ArePropertiesOf (record_item item.now) props.now }
+    requires { props_bytes props.now ≡ (record_item item.now).props }
     ensures { let r = record_item item.now in IfOk result (λ made. (ps : List Property) → HasPropertyList r ps
         → made_or made r.props ≡ new_block padded r (revision_properties padded ps)) }
 {
     if padded {
-        let bytes = write_padding(alloc, date_of(props))?;
+        let bytes = write_padding(alloc, props.get(DATE))?;
         return Ok(Some(bytes));
     }
     respelled_block(alloc, item, props)
@@ -175,23 +169,18 @@ fn rewritten_block(
     options: &Options,
     kept: &Reach,
     item: &Record<'_>,
-    props: &Option<Props<'_>>,
+    props: &Props<'_>,
 ) -> Result<Option<Vec<u8>>, Memory>
-    requires read { ArePropertiesOf (record_item item.now) props.now }
-    requires lines { HasPropertyBlock (record_item item.now) → HasGoodMergeinfo (record_item item.now).props }
+    requires read { props_bytes props.now ≡ (record_item item.now).props }
+    requires lines { HasGoodMergeinfo (props_bytes props.now) }
     ensures { let r = record_item item.now in IfOk result (λ made. (ps : List Property) → HasPropertyList r ps
         → (new : List Property) × AreNewProperties options.now kept.now ps new × (made_or made r.props ≡ new_block false r new)) }
 {
-    match props {
-        Some(props) => {
-            if item.has_props() {
-                let bytes = write_rewritten(alloc, options, kept, props)?;
-                Ok(Some(bytes))
-            } else {
-                Ok(None)
-            }
-        }
-        None => Ok(None),
+    if item.has_props() {
+        let bytes = write_rewritten(alloc, options, kept, props)?;
+        Ok(Some(bytes))
+    } else {
+        Ok(None)
     }
 }
 
@@ -207,7 +196,7 @@ pub(crate) fn node_properties(
         → (new : List Property) × AreNewProperties options.now kept.now ps new × (made_or made r.props ≡ new_block false r new)) }
 {
     let item = done.item();
-    let props = done.props();
+    let props = read_props(done);
     if done.has_mergeinfo() {
         rewritten_block(alloc, options, kept, &item, &props)
     } else {

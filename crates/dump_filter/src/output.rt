@@ -8,14 +8,14 @@ ghost use Rattle.dump_records.specs.steps.RecordViews.{record_item};
 ghost use Rattle.dump_filter.specs.steps.MadeBytes.{made_or};
 ghost use Rattle.dump_filter.specs.steps.OwnText.{revision_own};
 ghost use Rattle.dump_filter.specs.steps.NewLines.{AreLengths, new_record};
-ghost use Rattle.dump_digest.specs.steps.DoneViews.{done_record};
+ghost use Rattle.dump_digest.specs.steps.DoneViews.{done_record, done_verdict};
 ghost use Rattle.dump_digest.specs.RecordParts.{is_revision_record, HasPropertyList};
 ghost use Rattle.dump_filter.specs.steps.NewProperties.{IsReadNode};
 ghost use Rattle.dump_filter.specs.steps.Advance.{IsOwnNode};
 
 use crate::fate::CopyChange;
 use crate::new_lines::{Changes, new_lines};
-use crate::new_properties::{node_properties, revision_properties};
+use crate::new_properties::{node_properties, read_props, revision_properties};
 use dump_digest::Done;
 use dump_records::{Record, RecordPart};
 use dump_rules::{Options, Reach};
@@ -112,12 +112,13 @@ pub(crate) fn push_revision<'a>(
     number: u64,
     padded: bool,
 ) -> Result<(), Memory>
-    requires { IsTrue (is_revision_record (record_item (done_record done.now))) }
+    requires revision { IsTrue (is_revision_record (record_item (done_record done.now))) }
+    requires read { IsTrue (done_verdict done.now).props_ok }
     ensures { let r = record_item (done_record done.now) in OnOk result ((ps : List Property) → HasPropertyList r ps
         → piece.new ≡ piece.old ++ revision_own r number padded ps) }
 {
     let item = done.item();
-    let props = revision_properties(alloc, &item, &done.props(), padded)?;
+    let props = revision_properties(alloc, &item, &read_props(done), padded)?;
     let bytes = made_or(&props, item.property_bytes());
     let changes = changes_of(bytes, item.text_bytes(), Some(number), CopyChange::Same);
     push_record(piece, alloc, &item, &changes, props, b"\n")

@@ -1,7 +1,7 @@
 //! A revision that is held back.
 ghost use Rattle.std.specs.Prelude.{IsTrue};
 ghost use Rattle.dump_records.specs.steps.RecordViews.{record_item};
-ghost use Rattle.dump_digest.specs.steps.DoneViews.{done_record};
+ghost use Rattle.dump_digest.specs.steps.DoneViews.{done_record, done_verdict};
 ghost use Rattle.dump_digest.specs.RecordParts.{is_revision_record};
 
 use dump_digest::Done;
@@ -12,5 +12,6 @@ pub(crate) struct Pending<'a> {
     pub(crate) revision: Done<'a>,
     /// Whether the group has no node at all.
     pub(crate) bare: bool,
+    pub ghost is_read: { IsTrue (done_verdict revision).props_ok },
     pub ghost is_revision: { IsTrue (is_revision_record (record_item (done_record revision))) },
 }

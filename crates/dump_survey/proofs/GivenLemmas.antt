@@ -11,7 +11,7 @@ use Rattle.dump_rules.specs.Prefix.{bare_prefix, begins_path, without_leading_sl
 use Rattle.dump_rules.specs.Settings.{Settings, keeps_path, side_keeps}
 use Rattle.dump_trees.specs.Paths.{NodePath, path_text}
 use Rattle.dump_trees.specs.Restriction.{is_above_some, is_root}
-use Rattle.dump_survey.specs.declared.memory.Memory.{Memory}
+use Rattle.dump_rules.specs.declared.memory.Memory.{Memory}
 use Rattle.dump_survey.specs.Folders.{AreFoldersToMake, each_once, fronts, left_above, paths_above, with_new}
 use Rattle.dump_survey.proofs.FolderLemmas.{any_pushed, left_of}
 

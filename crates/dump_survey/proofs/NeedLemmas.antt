@@ -26,7 +26,7 @@ use Rattle.dump_rules.specs.Settings.{Settings, side_keeps}
 use Rattle.dump_digest.specs.RecordParts.{is_node, is_copy, node_path}
 use Rattle.dump_filter.specs.NewHeaders.{is_whole_file}
 use Rattle.dump_history.specs.RecordChanges.{copy_path}
-use Rattle.dump_survey.specs.declared.memory.Memory.{Memory}
+use Rattle.dump_rules.specs.declared.memory.Memory.{Memory}
 use Rattle.dump_survey.specs.declared.needs.Need.{Need}
 use Rattle.dump_survey.specs.KeepAsWell.{with_prefixes, stops_at, wanted_path, matches_itself, is_wanted, AreWanted, covers, uncovered, are_apart, stops_somewhere, AreKeptAsWell, AreKeptAsWellIn}
 use Rattle.dump_survey.specs.steps.Needs.{PathNeed, need_view, need_of, needs_of, can_not_stand, copy_need, is_matched, is_unmet, AreNeeded, each_matches_itself}

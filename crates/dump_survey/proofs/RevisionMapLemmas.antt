@@ -25,7 +25,7 @@ use Rattle.dump_filter.proofs.again.Output.{header_small}
 use Rattle.dump_history.specs.Findings.{copies_from_before}
 use Rattle.dump_survey.specs.RevisionMap.{map_line}
 use Rattle.dump_survey.specs.declared.map.KeptNumbers.{KeptNumbers}
-use Rattle.dump_survey.specs.declared.memory.Memory.{Memory}
+use Rattle.dump_rules.specs.declared.memory.Memory.{Memory}
 use Rattle.dump_survey.specs.declared.tally.Present.{Present}
 use Rattle.dump_survey.specs.declared.tally.Tally.{Tally}
 use Rattle.dump_survey.specs.steps.Tally.{no_tally, revision_tally, node_tally, other_tally, next_tally, tally_behind}

@@ -33,7 +33,7 @@ use Rattle.dump_survey.specs.declared.surveyor.End.{End}
 use Rattle.dump_survey.specs.declared.surveyor.SurveyEnd.{SurveyEnd}
 use Rattle.dump_survey.specs.declared.surveyor.Step.{Step}
 use Rattle.dump_survey.specs.declared.surveyor.Step.TheVariants.{Node, Other, Finished}
-use Rattle.dump_survey.specs.declared.memory.Memory.{Memory}
+use Rattle.dump_rules.specs.declared.memory.Memory.{Memory}
 use Rattle.dump_survey.specs.declared.revision_numbers.Numbers.{Numbers}
 use Rattle.dump_survey.specs.steps.Found.{has_found, node_faults, IsFoundIn}
 use Rattle.dump_survey.specs.steps.RevisionNumbers.{AreNumbersBehind}

@@ -3,11 +3,10 @@ ghost use Rattle.std.specs.Prelude.{◌≡◌, IfOk, map};
 ghost use Rattle.dump_survey.specs.KeepAsWell.{AreKeptAsWellIn, uncovered};
 
 use crate::growth::wanted_paths;
-use crate::memory::Memory;
 use crate::needs::needs_in;
 use crate::prefix_set::PrefixSet;
 use crate::slashes::bare_prefix;
-use dump_rules::{Options, Side};
+use dump_rules::{Memory, Options, Side};
 use std::alloc::Global;
 
 /// Those of the paths that none behind them covers, in their order.

@@ -3,9 +3,8 @@ ghost use Rattle.std.specs.Prelude.{◌≡◌, [], IfOk, OnOk, filter, flat_map,
 ghost use Rattle.dump_rules.specs.Settings.{keeps_path};
 ghost use Rattle.dump_survey.specs.Folders.{AreFoldersToMake, each_once, fronts, with_new};
 
-use crate::memory::Memory;
 use crate::prefixes::Prefixes;
-use dump_rules::{Options, Side, keeps};
+use dump_rules::{Memory, Options, Side, keeps};
 use std::alloc::Global;
 use std::collections::BTreeSet;
 use std::marker::Model;

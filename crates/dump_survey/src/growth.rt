@@ -3,11 +3,10 @@ ghost use Rattle.std.specs.Prelude.{◌≡◌, ◌++◌, ◌∷◌, [], IfOk, On
 ghost use Rattle.std.specs.List.{list_any};
 ghost use Rattle.dump_survey.specs.steps.Needs.{AreNeeded, IsPass, each_matches_itself, grown_prefixes, is_matched, is_unmet, need_view};
 
-use crate::memory::Memory;
 use crate::needs::Need;
 use crate::prefix_set::PrefixSet;
 use crate::slashes::bare_path;
-use dump_rules::{Options, Side, keeps};
+use dump_rules::{Memory, Options, Side, keeps};
 use std::alloc::Global;
 use std::marker::Model;
 

@@ -9,11 +9,11 @@ ghost use Rattle.dump_survey.specs.steps.Counts.{count_in};
 
 use crate::counts::Counts;
 use crate::finding::{EVERY_FINDING, NodeFinding};
-use crate::memory::Memory;
 use crate::prefix_findings::{PrefixFinding, ToldPrefix};
 use crate::survey_lines::{push_if, push_number};
 use crate::surveyor::{End, SurveyEnd};
 use crate::tally::DumpFindings;
+use dump_rules::Memory;
 
 /// What the line of a kind says behind the number.
 #[tactic(auto, unfolding(crate::specs::Kinds::finding_kind))]

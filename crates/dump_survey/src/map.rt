@@ -9,12 +9,11 @@ ghost use Rattle.dump_writer.specs.SinkWords.{HasFailedSince};
 ghost use Rattle.dump_survey.specs.RevisionMap.{IsRevisionMap, TakesSomeOfMap, map_line, map_lines};
 ghost use Rattle.dump_survey.specs.steps.KeptNumbers.{AreKeptIn, ended_numbers, kept_view, numbers_before};
 
-use crate::memory::Memory;
 use crate::survey_lines::push_number;
 use crate::survey_text::{SurveyFailure, write_lines};
 use crate::tally::Tally;
 use dump_records::{Cut, Cutter, Record};
-use dump_rules::Options;
+use dump_rules::{Memory, Options};
 use dump_writer::Sink;
 use std::alloc::Global;
 

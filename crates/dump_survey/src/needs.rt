@@ -6,12 +6,11 @@ ghost use Rattle.dump_records.specs.steps.RecordViews.{record_item};
 ghost use Rattle.dump_survey.specs.KeepAsWell.{matches_itself};
 ghost use Rattle.dump_survey.specs.steps.Needs.{can_not_stand, need_of, need_view, needs_of};
 
-use crate::memory::Memory;
 use crate::node::{copy_path_of, is_copy, is_whole_file, path_of};
 use crate::prefixes::begins_path;
 use crate::slashes::{bare_path, bare_prefix};
 use dump_records::{Cut, Cutter, Record};
-use dump_rules::Side;
+use dump_rules::{Memory, Side};
 use std::alloc::Global;
 
 /// What a copy needs: where a prefix matches the first path, one has to match the second.

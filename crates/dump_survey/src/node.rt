@@ -16,7 +16,6 @@ ghost use Rattle.dump_survey.specs.steps.Found.{IsFoundIn};
 ghost use Rattle.dump_survey.specs.steps.Losses.{AreObstaclesOf, AreLossesOf};
 
 use crate::finding::{Found, Losses, Obstacles};
-use crate::memory::Memory;
 use crate::node_headers::{ADD, DELETE, REPLACE, action_of, has_odd_delta, is_known_action};
 use crate::plain::{are_lines_plain, are_names_plain, properties_of};
 use crate::prefixes::Prefixes;
@@ -24,7 +23,7 @@ use crate::refused::{Refused, refused_of};
 use crate::revision_numbers::Numbers;
 use crate::short_paths::is_short;
 use dump_records::Record;
-use dump_rules::{Options, Side, keeps};
+use dump_rules::{Memory, Options, Side, keeps};
 use dump_text::Props;
 use std::alloc::Global;
 

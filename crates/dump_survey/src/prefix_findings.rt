@@ -4,12 +4,12 @@ ghost use Rattle.dump_records.specs.steps.RecordViews.{record_item};
 ghost use Rattle.dump_survey.specs.PrefixFindings.{prefix_view};
 ghost use Rattle.dump_survey.specs.steps.IdlePrefixes.{AreWithout, finding_by, is_begun_by, is_below_copy, is_touched_by, prefixes_by};
 
-use crate::memory::Memory;
 use crate::node::{copy_path_of, is_copy, makes_copy, path_of};
 use crate::prefix_set::PrefixSet;
 use crate::short_paths::is_short;
 use crate::slashes::{bare_path, bare_prefix};
 use dump_records::Record;
+use dump_rules::Memory;
 use std::alloc::Global;
 
 /// What can be found in a prefix.

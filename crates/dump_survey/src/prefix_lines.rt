@@ -3,9 +3,9 @@ ghost use Rattle.std.specs.Prelude.{◌≡◌, ◌++◌, OnOk, map};
 ghost use Rattle.dump_survey.specs.PrefixFindings.{prefix_view};
 ghost use Rattle.dump_survey.specs.PrefixLines.{prefix_line, prefix_lines, prefix_line_words};
 
-use crate::memory::Memory;
 use crate::prefix_findings::{PrefixFinding, ToldPrefix};
 use crate::survey_lines::push_shown;
+use dump_rules::Memory;
 
 /// What the line of a prefix says behind it.
 fn prefix_line_words(finding: PrefixFinding) -> &'static [u8]

@@ -6,9 +6,9 @@ ghost use Rattle.dump_rules.specs.steps.PrefixSearch.{BeginSame};
 ghost use Rattle.dump_survey.specs.steps.Folders.{HaveSame};
 ghost use Rattle.dump_survey.specs.steps.IdlePrefixes.{AreWithout, is_among};
 
-use crate::memory::Memory;
 use crate::prefixes::begins_path;
 use crate::slashes::bare_prefix;
+use dump_rules::Memory;
 use std::alloc::Global;
 use std::collections::BTreeSet;
 use std::marker::Model;

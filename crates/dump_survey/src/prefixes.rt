@@ -8,9 +8,8 @@ ghost use Rattle.dump_history.specs.Findings.{cuts};
 ghost use Rattle.dump_survey.specs.CuttingPrefix.{first_cut};
 ghost use Rattle.dump_survey.specs.steps.Prefixes.{behind_slash, is_below, IsRestBelow, cuts_below};
 
-use crate::memory::Memory;
 use crate::slashes::{bare_path, bare_prefix};
-use dump_rules::{Options, Side, keeps};
+use dump_rules::{Memory, Options, Side, keeps};
 use std::alloc::Global;
 use std::marker::Model;
 

@@ -2,11 +2,10 @@
 ghost use Rattle.std.specs.Prelude.{IfOk};
 ghost use Rattle.dump_survey.specs.Surveys.{IsSurveyOf};
 
-use crate::memory::Memory;
 use crate::prefix_findings::ToldPrefix;
 use crate::surveyor::{Step, SurveyEnd, Surveyor};
 use crate::told::Told;
-use dump_rules::Options;
+use dump_rules::{Memory, Options};
 use std::alloc::Global;
 
 /// All that is found in a dump.

@@ -20,14 +20,13 @@ ghost use Rattle.dump_survey.specs.steps.Surveyed.{told_of_node};
 use crate::counts::Counts;
 use crate::finding::{EVERY_FINDING, NodeFinding};
 use crate::kind_lines::push_kind_lines;
-use crate::memory::Memory;
 use crate::places::Place;
 use crate::prefix_findings::ToldPrefix;
 use crate::prefix_lines::push_prefix_lines;
 use crate::slashes::bare_path;
 use crate::surveyor::{End, SurveyEnd};
 use crate::told::{SurveyedNode, Told};
-use dump_rules::Side;
+use dump_rules::{Memory, Side};
 use dump_text::spell;
 use std::alloc::Global;
 

@@ -11,10 +11,9 @@ use crate::as_well::keep_as_well;
 use crate::counts::Counts;
 use crate::folders::folders_to_make;
 use crate::left_out_mergeinfo::left_out_lines;
-use crate::memory::Memory;
 use crate::survey_lines::{as_well_lines, end_lines, folder_lines, left_out_line, node_lines};
 use crate::surveyor::{Step, Surveyor};
-use dump_rules::Options;
+use dump_rules::{Memory, Options};
 use dump_writer::{Chunk, Piece, Sink, write_piece};
 use std::alloc::Global;
 

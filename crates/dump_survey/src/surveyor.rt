@@ -5,7 +5,6 @@ ghost use Rattle.dump_rules.specs.Prefix.{bare_prefix};
 ghost use Rattle.dump_survey.specs.PrefixFindings.{prefix_view};
 ghost use Rattle.dump_survey.specs.steps.Steps.{IsStepOf, TellsEnd};
 
-use crate::memory::Memory;
 use crate::naming::leaves_number;
 use crate::node::find;
 use crate::places::{DumpPlaces, Place};
@@ -16,7 +15,7 @@ use crate::prefixes::{Prefixes, given_prefixes};
 use crate::tally::{DumpFindings, Tally};
 use crate::told::SurveyedNode;
 use dump_records::{Cut, Cutter, Record};
-use dump_rules::Options;
+use dump_rules::{Memory, Options};
 use dump_text::FaultKind;
 use std::alloc::Global;
 use std::marker::Model;

@@ -24,7 +24,7 @@ use Rattle.dump_digest.specs.ContentFaults.{IsMergeinfoValueOf, HasBadMergeinfo}
 use Rattle.dump_digest.proofs.VerdictChoice.{bad_choice}
 use Rattle.dump_digest.specs.steps.MergeFaults.{misses, is_foreign, merge_fault, HasGoodMergeinfo}
 use Rattle.dump_text.proofs.BoolLemmas.{first_true, second_true, both_true, false_true, absurd_bool}
-use Rattle.dump_digest.proofs.PropertyBlocks.{property_list_once}
+use Rattle.dump_digest.proofs.PropertyBlocks.{block_or_not, property_list_once}
 
 -- some element that passes a test
 -- a kept node has mergeinfo that misses a source
@@ -132,15 +132,19 @@ lines_told settings r keep fine (qs, list) ps block p within is none =
 
 -- a kept node's properties are asked for
 pub asked_node : (d : Done) → IsReadNode d → IsTrue (is_asked (done_settings d) (record_item (done_record d)))
-asked_node d (kept, ok) = or_right (is_revision_record (record_item (done_record d)))
+asked_node d (kept, read, ok) = or_right (is_revision_record (record_item (done_record d)))
     (is_kept_node (done_settings d) (record_item (done_record d))) kept
 
 -- each value of its mergeinfo is some lines
-pub read_lines : (d : Done) → IsReadNode d → HasPropertyBlock (record_item (done_record d))
-    → HasGoodMergeinfo (record_item (done_record d)).props
-read_lines d (kept, ok) =
+pub read_lines : (d : Done) → IsReadNode d → HasGoodMergeinfo (record_item (done_record d)).props
+read_lines d (kept, read, ok) =
     lines_told (done_settings d) (record_item (done_record d)) kept
     (λ bad. absurd_bool (done_verdict d).merge_ok ok (d.judged.verdict_is.merge.1 ∣ bad ∣₁))
+    (elim (block_or_not (record_item (done_record d))) [
+      | inl block ↦ block
+      | inr none ↦ absurd (absurd_bool (done_verdict d).props_ok read
+          (d.judged.verdict_is.props.1 (asked_node d (kept, read, ok), none)))
+    ])
 
 -- and those of a revision are
 pub asked_revision : (d : Done) → IsTrue (is_revision_record (record_item (done_record d)))

@@ -338,11 +338,17 @@ module _ {f : Inside} {state : FilterState} (h : Holds f state) where
       next piece text = next_stands settings before s h.knows.text r fate v.checked piece h.knows.stands readable taken
           text
 
+      -- the properties of a record with a fate were read
+      pub is_read : v.props_ok ≡ true
+      is_read = not-false v.props_ok (not_so (not v.props_ok) (λ bad. taken.free faults.Props
+          (means.props.0 (not_true v.props_ok bad))))
+
       -- a node that is kept was read as one
       pub node_is_read : (copy : CopyChange) → fate ≡ fates.Keep copy → IsReadNode done
       node_is_read copy keeps = (
         subst (λ (x : Settings). is_kept_node x r ≡ true) (settings_is ∙ sym asked)
             (subst (IsTaken settings before s r) keeps taken).is.1,
+        is_read,
         not-false v.merge_ok (not_so (not v.merge_ok) (λ bad. ∥∥₁_elim (means.merge.0 (not_true v.merge_ok bad))
             (λ x y. absurd x) (taken.free faults.MergeInfo))),
       )

@@ -1,5 +1,5 @@
 -- What is written of the properties of a record.
-use Rattle.std.proofs.Common.{◌≡◌, ℕ, ◌<◌, ◌^◌, suc, Bool, true, false, List, [], ◌∷◌, ◌++◌, length, flat_map, refl, sym, ap, ◌∙◌, subst, arith, append_assoc, inl, inr, codes, bytes_eq, Option, Some, None, unwrap_or, is_some, IsTrue}
+use Rattle.std.proofs.Common.{◌≡◌, ℕ, ◌<◌, ◌^◌, suc, Bool, true, false, List, [], ◌∷◌, ◌++◌, length, flat_map, refl, sym, ap, ◌∙◌, subst, arith, append_assoc, inl, inr, codes, bytes_eq, Option, Some, None, unwrap_or, IsTrue}
 use Rattle.std.specs.List.{list_any}
 use Rattle.std.proofs.lemmas.List.{append-nil, nil_from_length}
 use Rattle.std.proofs.lemmas.Grind.{flat_map-append}
@@ -21,10 +21,9 @@ use Rattle.dump_digest.specs.RecordParts.{is_mergeinfo, value_of, HasPropertyLis
 use Rattle.dump_filter.specs.NewContent.{padding_log, padding_properties, IsNewProperty, AreNewProperties, new_block}
 use Rattle.dump_filter.specs.steps.NewProperties.{property_of, dated_padding}
 use Rattle.dump_digest.specs.steps.MergeFaults.{HasGoodMergeinfo}
-use Rattle.dump_digest.specs.steps.ContentViews.{ArePropertiesOf}
 use Rattle.dump_text.specs.declared.props.Props.{Props}
 use Rattle.dump_text.specs.steps.PropertyViews.{props_bytes}
-use Rattle.dump_text.proofs.BoolLemmas.{false_true, first_false, second_false}
+use Rattle.dump_text.proofs.BoolLemmas.{first_false, second_false}
 use Rattle.dump_records.proofs.HeaderLemmas.{no_number}
 
 -- the rest of a list is written behind what stands already
@@ -165,17 +164,10 @@ entry_lines block rest front p lines (ps, is) cut one merge =
     let left = left_of block p rest ps (entry_parts block front rest p cut one) is in
     lines (p ∷ left.others) (inr (front, rest, cut, one, left.entries)) p (0, omega arith, refl) merge
 
--- a record with a list of properties was read
-pub none_read : (r : DumpRecord) (found : Option Props) → ArePropertiesOf r found → found ≡ None → (ps : List Property)
-    → HasPropertyList r ps → ⊥
-none_read r found are is ps list = let bad : false ≡ true = sym (ap is_some is)
-    ∙ are.there.1 (ps, list) in false_true bad
-
 -- what was read is a block of the same list
-pub read_block : (r : DumpRecord) (found : Option Props) (p : Props) → ArePropertiesOf r found → found ≡ Some p
-    → (ps : List Property)
-    → HasPropertyList r ps → IsPropertyBlock (props_bytes p) ps
-read_block r found p are is ps list = subst (λ (t : List ℕ). IsPropertyBlock t ps) (sym (are.bytes p is)) list.0
+pub read_block : (r : DumpRecord) (p : Props) → props_bytes p ≡ r.props → (ps : List Property) → HasPropertyList r ps
+    → IsPropertyBlock (props_bytes p) ps
+read_block r p is ps list = subst (λ (t : List ℕ). IsPropertyBlock t ps) (sym is) list.0
 
 -- the block of a record with a length for its properties, and without
 pub block_with : (r : DumpRecord) (ps : List Property) → has_header property_length_name r.headers ≡ true

@@ -16,6 +16,7 @@ abbrev pub dated_padding : Option (List ℕ) → List Property
 dated_padding None = padding_log ∷ []
 dated_padding (Some date) = property_of (codes "svn:date") date ∷ padding_log ∷ []
 
--- a checked record is a kept node, all mergeinfo of which can be read
+-- a checked record is a kept node, the properties and all mergeinfo of which can be read
 abbrev pub IsReadNode : Done → Type 0
-IsReadNode d = IsTrue (is_kept_node (done_settings d) (record_item (done_record d))) × IsTrue (done_verdict d).merge_ok
+IsReadNode d = IsTrue (is_kept_node (done_settings d) (record_item (done_record d)))
+    × IsTrue (done_verdict d).props_ok × IsTrue (done_verdict d).merge_ok

@@ -1,32 +1,33 @@
-use Rattle.std.proofs.Common.{◌≡◌, List, false, IfOk, sym, subst, ◌∙◌}
+use Rattle.std.proofs.Common.{◌≡◌, List, false, IfOk, ap, sym, subst, ◌∙◌}
 use Rattle.dump_text.specs.PropertyList.{Property}
 use Rattle.dump_records.specs.steps.RecordViews.{record_item}
 use Rattle.dump_records.specs.declared.record.Record.{Record}
-use Rattle.dump_digest.specs.steps.ContentViews.{ArePropertiesOf}
 use Rattle.dump_digest.specs.steps.MergeFaults.{HasGoodMergeinfo}
 use Rattle.dump_filter.specs.steps.MadeBytes.{made_or}
 use Rattle.dump_filter.specs.NewContent.{AreNewProperties, new_block}
 use Rattle.dump_filter.proofs.written.OutputLemmas.{if_ok}
 use Rattle.dump_filter.proofs.answer.MergeLemmas.{read_lines, asked_node}
 use Rattle.dump_filter.proofs.written.PropertyOutput.{no_mergeinfo}
-use Rattle.dump_digest.specs.RecordParts.{HasPropertyList, HasPropertyBlock}
+use Rattle.dump_digest.specs.RecordParts.{HasPropertyList}
 use Rattle.dump_filter.proofs.new_properties.node_properties.Goals as goal
+
+pub read_props-props-requires-clause-asked : goal.read_props-props-requires-clause-asked
+read_props-props-requires-clause-asked c = asked_node c.args.done.now c.requires.node
+
+pub read_props-props-requires-clause-read : goal.read_props-props-requires-clause-read
+read_props-props-requires-clause-read c = c.requires.node.1
 
 pub rewritten_block-requires-clause-read : goal.rewritten_block-requires-clause-read
 rewritten_block-requires-clause-read c =
-    subst (λ (r : Record). ArePropertiesOf (record_item r) c.props-props.result) (sym c.item-item.ensures)
-    (c.props-props.ensures.read (asked_node c.args.done.now c.requires.node))
+    c.read_props-props.ensures ∙ ap (λ (r : Record). (record_item r).props) (sym c.item-item.ensures)
 
 pub rewritten_block-requires-clause-lines : goal.rewritten_block-requires-clause-lines
 rewritten_block-requires-clause-lines c =
-    subst (λ (r : Record). HasPropertyBlock (record_item r) → HasGoodMergeinfo (record_item r).props)
-    (sym c.item-item.ensures)
-    (read_lines c.args.done.now c.requires.node)
+    subst HasGoodMergeinfo (sym c.read_props-props.ensures) (read_lines c.args.done.now c.requires.node)
 
 pub respelled_block-requires : goal.respelled_block-requires
 respelled_block-requires c =
-    subst (λ (r : Record). ArePropertiesOf (record_item r) c.props-props.result) (sym c.item-item.ensures)
-    (c.props-props.ensures.read (asked_node c.args.done.now c.requires.node))
+    c.read_props-props.ensures ∙ ap (λ (r : Record). (record_item r).props) (sym c.item-item.ensures)
 
 pub returns-then-has_mergeinfo : goal.returns-then-has_mergeinfo
 returns-then-has_mergeinfo c =
@@ -38,7 +39,7 @@ returns-then-has_mergeinfo c =
 
 pub returns-else-has_mergeinfo : goal.returns-else-has_mergeinfo
 returns-else-has_mergeinfo c =
-    let (kept, ok) = c.requires.node in
+    let (kept, read, ok) = c.requires.node in
     if_ok c.respelled_block.result _ _ (λ made written ps is. (
       ps,
       no_mergeinfo c.args.options.now c.args.kept.now ps

@@ -3,16 +3,15 @@ use Rattle.dump_text.specs.PropertyList.{property_block_text}
 use Rattle.dump_records.specs.steps.RecordViews.{record_item}
 use Rattle.dump_filter.specs.steps.MadeBytes.{made_or}
 use Rattle.dump_filter.proofs.written.OutputLemmas.{if_ok}
-use Rattle.dump_filter.proofs.written.PropertyOutput.{read_block, none_read, block_with, block_without}
+use Rattle.dump_filter.proofs.written.PropertyOutput.{read_block, block_with, block_without}
 use Rattle.dump_filter.proofs.new_properties.respelled_block.Goals as goal
 
 pub returns-then-has_props : goal.returns-then-has_props
 returns-then-has_props c =
     let r = record_item c.args.item.now in
-    let props = c.in-Some.props in
     if_ok c.respelled.result _ _ (λ made written ps is.
-    subst (λ (own : List ℕ). made_or made own ≡ property_block_text ps) (c.requires.bytes props c.in-Some.is)
-    (written ps (read_block r c.args.props.now props c.requires c.in-Some.is ps is))
+    subst (λ (own : List ℕ). made_or made own ≡ property_block_text ps) c.requires
+    (written ps (read_block r c.args.props.now c.requires ps is))
     ∙ block_with r ps (sym c.has_props.ensures ∙ c.if-has_props.true))
     c.respelled.ensures
 
@@ -20,7 +19,3 @@ pub returns-else-has_props : goal.returns-else-has_props
 returns-else-has_props c = λ ps is.
     block_without (record_item c.args.item.now) ps (sym c.has_props.ensures ∙ c.if-has_props.false)
     c.args.item.now.stands.props_fit
-
-pub returns-in-None : goal.returns-in-None
-returns-in-None c = λ ps is. absurd
-    (none_read (record_item c.args.item.now) c.args.props.now c.requires c.in-None.is ps is)

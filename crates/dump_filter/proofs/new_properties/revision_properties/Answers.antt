@@ -2,12 +2,12 @@ use Rattle.std.proofs.Common.{sym, ap, ◌∙◌}
 use Rattle.dump_text.specs.PropertyList.{property_block_text}
 use Rattle.dump_records.specs.steps.RecordViews.{record_item}
 use Rattle.dump_filter.specs.steps.NewProperties.{dated_padding}
-use Rattle.dump_filter.proofs.written.PropertyOutput.{padding_is}
+use Rattle.dump_filter.proofs.written.PropertyOutput.{read_block, padding_is}
 use Rattle.dump_filter.proofs.new_properties.revision_properties.Goals as goal
 
 pub returns-then-padded : goal.returns-then-padded
 returns-then-padded c = λ ps is.
     rw c.if-padded.true
     (c.in_ok-bytes.ensures ∙ ap (λ date. property_block_text (dated_padding date))
-    (c.date_of.ensures (record_item c.args.item.now) c.requires ps is)
+    (c.get.ensures.value ps (read_block (record_item c.args.item.now) c.args.props.now c.requires ps is))
     ∙ sym (ap property_block_text (padding_is ps)))

@@ -2,7 +2,6 @@ use Rattle.std.proofs.Common.{◌≡◌, List, ap, sym, subst, ◌∙◌, ◌++�
 use Rattle.dump_text.specs.PropertyList.{Property}
 use Rattle.dump_records.specs.steps.RecordViews.{record_item}
 use Rattle.dump_records.specs.declared.record.Record.{Record}
-use Rattle.dump_digest.specs.steps.ContentViews.{ArePropertiesOf}
 use Rattle.dump_filter.specs.steps.MadeBytes.{made_or}
 use Rattle.dump_filter.specs.steps.NewLines.{AreLengths}
 use Rattle.dump_filter.specs.steps.OwnText.{revision_own}
@@ -11,10 +10,12 @@ use Rattle.dump_filter.proofs.written.OutputLemmas.{on_ok, revision_is}
 use Rattle.dump_digest.specs.RecordParts.{HasPropertyList}
 use Rattle.dump_filter.proofs.output.push_revision.Goals as goal
 
+pub read_props-requires-clause-asked : goal.read_props-requires-clause-asked
+read_props-requires-clause-asked c = asked_revision c.args.done.now c.requires.revision
+
 pub revision_properties-requires : goal.revision_properties-requires
 revision_properties-requires c =
-    subst (λ (r : Record). ArePropertiesOf (record_item r) c.props.result) (sym c.item-item.ensures)
-    (c.props.ensures.read (asked_revision c.args.done.now c.requires))
+    c.read_props.ensures ∙ ap (λ (r : Record). (record_item r).props) (sym c.item-item.ensures)
 
 pub returns : goal.returns
 returns c =

@@ -2,7 +2,7 @@ use Rattle.std.proofs.Common.{◌≡◌, sym, ap, ◌∙◌}
 use Rattle.dump_records.specs.steps.RecordViews.{record_number}
 use Rattle.dump_digest.specs.steps.DoneViews.{done_record}
 use Rattle.dump_filter.specs.steps.FilterState.{FilterState}
-use Rattle.dump_filter.proofs.knowing.FilterLemmas.{holds, has_room, fault_told, never_refuses, node_is_read, held_is_revision, accepts, next_knows, knows_as}
+use Rattle.dump_filter.proofs.knowing.FilterLemmas.{holds, has_room, fault_told, never_refuses, is_read, node_is_read, held_is_revision, accepts, next_knows, knows_as}
 use Rattle.dump_filter.proofs.filter.Filter.step.Goals as goal
 
 pub returns-in-Err-clause-rule : goal.returns-in-Err-clause-rule
@@ -49,6 +49,11 @@ pub advance-requires-clause-revision : goal.advance-requires-clause-revision
 advance-requires-clause-revision c =
     let h = holds c.self.inside c.args.self.now c.self.invariant c.self.view_is c.if-not-self.false in
     held_is_revision h c.args.done c.requires.options c.in-Ok.fate (λ ps of. sym c.in-Ok.is ∙ c.decide.ensures ps of)
+
+pub advance-requires-clause-read : goal.advance-requires-clause-read
+advance-requires-clause-read c =
+    let h = holds c.self.inside c.args.self.now c.self.invariant c.self.view_is c.if-not-self.false in
+    is_read h c.args.done c.requires.options c.in-Ok.fate (λ ps of. sym c.in-Ok.is ∙ c.decide.ensures ps of)
 
 pub returns-clause-piece : goal.returns-clause-piece
 returns-clause-piece c =
