@@ -65,6 +65,11 @@ pub record IsReadAgain (settings : Settings) (kept : KeptRevisions) (r : DumpRec
   pub clean : IsClean s
   pub output : (again : KeptRevisions) (after : List DumpRecord) → IsOutput keep_all again s after front
 
+-- wherever what is written of the record comes to stand, it is a record again
+abbrev pub StandsAgain : Settings → KeptRevisions → DumpRecord → List DumpRecord → List ℕ → Type 0
+StandsAgain settings kept r after front =
+    (place : ℕ) → (s : DumpRecord) × (s.place ≡ place) × IsReadAgain settings kept r after front s
+
 -- what is written of the records, in order, is the text, and these records again
 abbrev pub AreReadAgain : Settings → KeptRevisions → List DumpRecord → List ℕ → List DumpRecord → Type 0
 AreReadAgain settings kept [] text again = (text ≡ []) × (again ≡ [])

@@ -20,7 +20,7 @@ use Rattle.dump_filter.specs.Written.{is_written, AreOutputs}
 use Rattle.dump_text.proofs.BoolLemmas.{absurd_bool, both_true, not_so}
 use Rattle.dump_filter.proofs.groups.KindLemmas.{IsOfKind, of_kind}
 use Rattle.dump_filter.proofs.knowing.Answered.{AllLawful}
-use Rattle.dump_filter.proofs.again.ReadAgain.{IsReadAgain, AreReadAgain, AtEach}
+use Rattle.dump_filter.proofs.again.ReadAgain.{IsReadAgain, StandsAgain, AreReadAgain, AtEach}
 
 -- of each record
 
@@ -107,8 +107,7 @@ versions_again settings kept before (r ∷ rest) text again lawful (version, hav
 -- what is written of a record, if it is written, is a record again, wherever it comes to stand
 abbrev pub HasAgain : Settings → KeptRevisions → DumpRecord → List DumpRecord → Type 0
 HasAgain settings kept r after = (front : List ℕ) → is_written settings true r after ≡ true
-    → IsOutput settings kept r after front
-    → (place : ℕ) → (s : DumpRecord) × (s.place ≡ place) × IsReadAgain settings kept r after front s
+    → IsOutput settings kept r after front → StandsAgain settings kept r after front
 
 module _ (settings : Settings) (kept : KeptRevisions) where
   -- the text, with LFs before it, is cut into what is written of the records

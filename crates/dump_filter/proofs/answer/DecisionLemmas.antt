@@ -1,6 +1,5 @@
 -- What a filter answers to the record that comes next: its fate, or its fault.
 use Rattle.std.proofs.Common.{◌≡◌, ◌⊎◌, ◌↔◌, ℕ, ◌+◌, ◌<◌, nat_lt, Bool, true, false, not, ◌&&◌, ◌||◌, List, [], ◌∷◌, ◌++◌, refl, sym, ap, ◌∙◌, subst, arith, inl, inr, Option, Some, None, unwrap_or, IsTrue, IsFalse, Result, Ok, Err, if◌then◌else◌}
-use Rattle.std.proofs.lemmas.Bool.{not-false}
 use borrow.Author.Tests.{ltb-true, ltb-false}
 use Rattle.dump_text.specs.declared.fault.FaultKind.{FaultKind}
 use Rattle.dump_text.specs.declared.fault.FaultKind.TheVariants as faults

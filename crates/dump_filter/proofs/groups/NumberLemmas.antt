@@ -1,5 +1,5 @@
 -- The revisions of a list of records: their numbers, the first, the present one, and the kept ones.
-use Rattle.std.proofs.Common.{◌≡◌, ℕ, ◌+◌, ◌==◌, Bool, true, false, ◌||◌, List, [], ◌∷◌, ◌++◌, length, map, filter, refl, ap, ◌∙◌, arith, Option, Some, None, count_by, if◌then◌else◌}
+use Rattle.std.proofs.Common.{◌≡◌, ℕ, ◌+◌, ◌==◌, Bool, true, false, ◌||◌, List, [], ◌∷◌, ◌++◌, length, map, filter, refl, ap, ◌∙◌, arith, Some, None, count_by, if◌then◌else◌}
 use Rattle.dump_rules.proofs.ReachLemmas.{last_or_pushed}
 use Rattle.std.specs.List.{list_all, list_any, last_or}
 use Rattle.std.proofs.lemmas.List.{append-nil, map-append}
