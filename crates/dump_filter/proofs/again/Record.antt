@@ -11,6 +11,7 @@ use Rattle.dump_text.specs.PropertyList.{Property, IsPropertyBlock, has_deletes,
 use Rattle.dump_text.proofs.WrittenLemmas.{short_block}
 use Rattle.dump_records.specs.HeaderRules.{header_number, version_from, property_length, text_length, has_bad_kind, has_bad_version, has_bad_number, has_bad_lengths}
 use Rattle.dump_records.specs.RecordText.{DumpRecord, is_lawful}
+use Rattle.dump_records.proofs.HeaderLemmas.{deciding}
 use Rattle.dump_records.proofs.Unique.{Keeps, keeps}
 use Rattle.dump_digest.specs.RecordParts.{takes_deletes, HasPropertyList}
 use Rattle.dump_filter.specs.NewContent.{new_block}
@@ -50,14 +51,12 @@ any_number number m headers lawful first =
 module _ (headers : List Header) (good : has_bad_kind headers ≡ false) (fine : has_bad_lengths headers ≡ false)
     (no_revision : has_header revision_name headers ≡ false) (no_node : has_header path_name headers ≡ false) where
   one_of : (has_header version_name headers || has_header uuid_name headers) ≡ true
-  one_of = cases (has_header version_name headers) (has_header uuid_name headers) refl refl
+  one_of = cases (has_header version_name headers) refl
     where
-      cases : (v u : Bool) → has_header version_name headers ≡ v → has_header uuid_name headers ≡ u
+      cases : (v : Bool) → has_header version_name headers ≡ v
           → (has_header version_name headers || has_header uuid_name headers) ≡ true
-      cases true u is-v is-u = rw is-v refl
-      cases false true is-v is-u = rw (is-v, is-u) refl
-      cases false false is-v is-u = absurd (absurd_bool (has_bad_kind headers)
-          (rw (is-v, is-u, no_revision, no_node) refl) good)
+      cases true is = rw is refl
+      cases false is = rw is ((deciding headers good).left is no_revision no_node)
 
   no_lengths : (has_header property_length_name headers ||
       (has_header text_length_name headers || (has_header content_length_name headers || false))) ≡ false
