@@ -1,5 +1,5 @@
 -- What is written of records without a fault has none where everything is kept.
-use Rattle.std.proofs.Common.{◌≡◌, ℕ, zero, suc, ◌<◌, Bool, true, false, not, ◌&&◌, ◌||◌, MatchBool, List, [], ◌∷◌, ◌++◌, take_while, refl, sym, ap, ◌∙◌, subst, arith, Option, Some, None, MatchOption, Contains, if◌then◌else◌}
+use Rattle.std.proofs.Common.{◌≡◌, ℕ, zero, suc, ◌<◌, Bool, true, false, not, ◌&&◌, ◌||◌, List, [], ◌∷◌, ◌++◌, take_while, refl, sym, ap, ◌∙◌, subst, arith, Option, Some, None, MatchOption, Contains, if◌then◌else◌}
 use Rattle.dump_filter.proofs.knowing.FilterLemmas.{none_within}
 use Rattle.std.proofs.lemmas.Bool.{or_right, or_left}
 use Rattle.std.specs.Bool.{⊤}
