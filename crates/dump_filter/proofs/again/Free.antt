@@ -1,11 +1,12 @@
 -- What is written of records without a fault has none where everything is kept.
-use Rattle.std.proofs.Common.{◌≡◌, ℕ, zero, suc, ◌<◌, Bool, true, false, not, ◌&&◌, ◌||◌, MatchBool, List, [], ◌∷◌, ◌++◌, take_while, refl, sym, ap, ◌∙◌, subst, arith, Option, Some, None, MatchOption, Contains, if◌then◌else◌}
-use Rattle.dump_filter.proofs.knowing.FilterLemmas.{head_of, tail_of}
+use Rattle.std.proofs.Common.{◌≡◌, ℕ, zero, suc, ◌<◌, Bool, true, false, not, ◌&&◌, ◌||◌, List, [], ◌∷◌, ◌++◌, take_while, refl, sym, ap, ◌∙◌, subst, arith, Option, Some, None, MatchOption, Contains, if◌then◌else◌}
+use Rattle.dump_filter.proofs.knowing.FilterLemmas.{none_within}
 use Rattle.std.proofs.lemmas.Bool.{or_right, or_left}
 use Rattle.std.specs.Bool.{⊤}
 use Rattle.std.specs.List.{list_any, prefix_len}
 use Rattle.dump_text.specs.declared.fault.FaultKind.{FaultKind}
 use Rattle.dump_text.specs.declared.fault.FaultKind.TheVariants as faults
+use Rattle.dump_text.proofs.Unique.{tail-eq}
 use Rattle.dump_records.specs.RecordText.{DumpRecord}
 use Rattle.dump_rules.specs.Settings.{Settings}
 use Rattle.dump_rules.specs.Renumbering.{KeptRevisions, new_number}
@@ -24,7 +25,7 @@ use Rattle.dump_text.proofs.BoolLemmas.{absurd_bool, both_true, first_true}
 use Rattle.dump_filter.proofs.groups.GroupLemmas.{take_cons}
 use Rattle.dump_filter.proofs.groups.KindLemmas.{alone}
 use Rattle.dump_filter.proofs.groups.NumberLemmas.{passed_keeps}
-use Rattle.dump_filter.proofs.again.ReadAgain.{IsClean, IsReadAgain, AreReadAgain}
+use Rattle.dump_filter.proofs.again.ReadAgain.{IsClean, IsReadAgain, IsFirstAgain, AreReadAgain}
 
 -- which records are written
 
@@ -212,10 +213,7 @@ module _ (settings : Settings) (kept : KeptRevisions) where
           )
 
       cases : (w : Bool) → is_written settings true r rest ≡ w
-          → MatchBool w
-          ((s : DumpRecord) × (more : List DumpRecord) × (again ≡ s ∷ more) × IsReadAgain settings kept r rest front s
-          × AreReadAgain settings kept rest behind more)
-          ((front ≡ []) × AreReadAgain settings kept rest behind again)
+          → IsFirstAgain settings kept r rest front (AreReadAgain settings kept rest behind) again w
           → Later → AreInOrder h q again
       cases true written (s, more, same, read, reads) later = by_written s more written same read reads later
       cases false dropped (none, reads) later =
@@ -227,11 +225,8 @@ module _ (settings : Settings) (kept : KeptRevisions) where
 clean_each : (settings : Settings) (kept : KeptRevisions) (records : List DumpRecord) (text : List ℕ)
     (again : List DumpRecord) → AreReadAgain settings kept records text again
     → (before after : List DumpRecord) (s : DumpRecord) → again ≡ before ++ s ∷ after → IsClean s
-clean_each settings kept [] text again (none, no_more) before after s is = absurd (no_record before (sym no_more ∙ is))
-  where
-    no_record : (b : List DumpRecord) → [] ≡ b ++ s ∷ after → ⊥
-    no_record [] e = cc
-    no_record (x ∷ b) e = cc
+clean_each settings kept [] text again (none, no_more) before after s is = absurd
+    (none_within before after s (sym no_more ∙ is))
 clean_each settings kept (r ∷ rest) text again (front, behind, cut, this) before after s is =
     cases (is_written settings true r rest) this before is
     (λ more reads b at. clean_each settings kept rest behind more reads b after s at)
@@ -240,16 +235,14 @@ clean_each settings kept (r ∷ rest) text again (front, behind, cut, this) befo
     Later = (more : List DumpRecord) → AreReadAgain settings kept rest behind more → (b : List DumpRecord)
         → more ≡ b ++ s ∷ after → IsClean s
 
-    cases : (w : Bool)
-        → MatchBool w
-        ((x : DumpRecord) × (more : List DumpRecord) × (again ≡ x ∷ more) × IsReadAgain settings kept r rest front x
-        × AreReadAgain settings kept rest behind more)
-        ((front ≡ []) × AreReadAgain settings kept rest behind again)
+    cases : (w : Bool) → IsFirstAgain settings kept r rest front (AreReadAgain settings kept rest behind) again w
         → (b : List DumpRecord) → again ≡ b ++ s ∷ after → Later → IsClean s
-    cases true (x, more, same, read, reads) [] at later = subst IsClean
-        (head_of x s more after (sym same ∙ at)) read.clean
-    cases true (x, more, same, read, reads) (y ∷ b) at later = later more reads b
-        (tail_of x y more (b ++ s ∷ after) (sym same ∙ at))
+    cases true (x, more, same, read, reads) [] at later =
+        let whole : x ∷ more ≡ s ∷ after = sym same ∙ at in
+        let first : x ≡ s = cc in
+        subst IsClean first read.clean
+    cases true (x, more, same, read, reads) (y ∷ b) at later =
+        later more reads b (tail-eq x y more (b ++ s ∷ after) (sym same ∙ at))
     cases false (none, reads) b at later = later again reads b at
 
 -- no fault is left

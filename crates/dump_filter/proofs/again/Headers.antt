@@ -10,6 +10,7 @@ use Rattle.dump_text.specs.HeaderBlock.{is_block}
 use Rattle.dump_text.proofs.PartLemmas.{spelled_spells}
 use Rattle.dump_records.specs.HeaderRules.{header_number, header_length, property_length, text_length, is_one_alone, has_bad_kind, has_bad_version, has_bad_number, has_bad_lengths}
 use Rattle.dump_records.specs.RecordText.{is_lawful}
+use Rattle.dump_records.proofs.HeaderLemmas.{deciding}
 use Rattle.dump_records.proofs.Unique.{keeps}
 use Rattle.dump_filter.specs.NewHeaders.{with_length, with_lengths}
 use Rattle.dump_text.proofs.BoolLemmas.{equals_itself, first_true, second_true, first_false, second_false, not_so, absurd_bool}
@@ -139,29 +140,15 @@ lengths_again props text headers block told =
 pub no_others : (headers : List Header) → has_bad_kind headers ≡ false
     → (has_header revision_name headers || has_header path_name headers) ≡ true
     → (has_header version_name headers ≡ false) × (has_header uuid_name headers ≡ false)
-no_others headers good either =
-    cases (has_header version_name headers) (has_header uuid_name headers) (has_header revision_name headers)
-    (has_header path_name headers) refl refl refl refl
+no_others headers good either = cases (has_header revision_name headers) refl
   where
-    wrong : has_bad_kind headers ≡ true → (has_header version_name headers ≡ false)
-        × (has_header uuid_name headers ≡ false)
-    wrong is = absurd (absurd_bool (has_bad_kind headers) is good)
-
-    cases : (v u s n : Bool) → has_header version_name headers ≡ v → has_header uuid_name headers ≡ u
-        → has_header revision_name headers ≡ s → has_header path_name headers ≡ n
+    cases : (b : Bool) → has_header revision_name headers ≡ b
         → (has_header version_name headers ≡ false) × (has_header uuid_name headers ≡ false)
-    cases false false s n is-v is-u is-s is-n = (is-v, is-u)
-    cases v u false false is-v is-u is-s is-n = let bad : false ≡ true = sym
-        (ap (λ b. b || has_header path_name headers) is-s ∙ is-n) ∙ either in cc
-    cases true true true true is-v is-u is-s is-n = wrong (rw (is-v, is-u, is-s, is-n) refl)
-    cases true true true false is-v is-u is-s is-n = wrong (rw (is-v, is-u, is-s, is-n) refl)
-    cases true true false true is-v is-u is-s is-n = wrong (rw (is-v, is-u, is-s, is-n) refl)
-    cases true false true true is-v is-u is-s is-n = wrong (rw (is-v, is-u, is-s, is-n) refl)
-    cases true false true false is-v is-u is-s is-n = wrong (rw (is-v, is-u, is-s, is-n) refl)
-    cases true false false true is-v is-u is-s is-n = wrong (rw (is-v, is-u, is-s, is-n) refl)
-    cases false true true true is-v is-u is-s is-n = wrong (rw (is-v, is-u, is-s, is-n) refl)
-    cases false true true false is-v is-u is-s is-n = wrong (rw (is-v, is-u, is-s, is-n) refl)
-    cases false true false true is-v is-u is-s is-n = wrong (rw (is-v, is-u, is-s, is-n) refl)
+    cases true is = let one = (deciding headers good).revision is in (one.0, one.1)
+    cases false is =
+        let node = sym (ap (λ b. b || has_header path_name headers) is) ∙ either in
+        let one = (deciding headers good).node node in
+        (one.0, one.1)
 
 -- what new lines keep of old ones, so that they break no rule either
 pub record StaysLawful (old new : List Header) : Type 0 where

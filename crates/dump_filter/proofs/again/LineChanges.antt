@@ -1,10 +1,15 @@
 -- Header lines that change, join or go, seen name by name.
-use Rattle.std.proofs.Common.{◌≡◌, ℕ, ◌+◌, ◌<◌, ◌≤◌, ◌^◌, ◌==◌, nat_lt, nat_le, Bool, true, false, ◌&&◌, ◌||◌, List, [], ◌∷◌, ◌++◌, length, refl, sym, ap, ◌∙◌, subst, arith, bytes_eq, Some, is_some, is_none, option_and_then, unwrap_or, if◌then◌else◌, MatchBool}
+use Rattle.std.proofs.Common.{◌≡◌, ℕ, ◌+◌, ◌<◌, ◌≤◌, ◌^◌, ◌==◌, nat_lt, nat_le, Bool, true, false, not, ◌&&◌, ◌||◌, filter, find, count_by, Option, None, option_map, List, [], ◌∷◌, ◌++◌, length, refl, sym, ap, ◌∙◌, subst, arith, bytes_eq, Some, is_some, is_none, option_and_then, unwrap_or, if◌then◌else◌, MatchBool}
 use Rattle.std.proofs.Math.Bool.{or-false}
 use Rattle.std.specs.List.{list_all}
+use Rattle.std.specs.Option.{option_or}
 use Rattle.std.proofs.lemmas.Bool.{eqb-true}
 use Rattle.std.proofs.lemmas.Bool.Decides.{nat_tests}
-use Rattle.std.proofs.lemmas.List.Folds.{list_any-append}
+use Rattle.std.proofs.lemmas.List.Elements.{All-filter}
+use Rattle.std.proofs.lemmas.List.Filters.{sum_by-filter_both}
+use Rattle.std.proofs.lemmas.List.Folds.{fold-map, find-append, list_all-map, list_any-append}
+use Rattle.std.proofs.lemmas.List.Sums.{sum_by_push, AllPass-from_list_all, list_all-from_AllPass}
+use Rattle.std.proofs.lemmas.Map.Views.{any-filter_same}
 use Rattle.std.proofs.lemmas.Slice.Eq.{bytes_eq-Decides}
 use Rattle.dump_text.specs.Number.{number_of, spelled_number}
 use Rattle.dump_text.specs.Names.{known_names}
@@ -18,7 +23,7 @@ use Rattle.dump_records.specs.HeaderRules.{header_number, header_length}
 use Rattle.dump_filter.specs.NewHeaders.{with_length, without_copy_headers}
 use Rattle.dump_filter.specs.steps.NewLines.{is_copy_line}
 use Rattle.dump_records.proofs.HeaderLemmas.{no_number}
-use Rattle.dump_text.proofs.BoolLemmas.{first_true, second_true, first_false, second_false, both_true, absurd_bool, not_so}
+use Rattle.dump_text.proofs.BoolLemmas.{second_true, first_false, second_false, both_true, absurd_bool, not_so}
 
 -- the lines changed only under names that are touched; no line and no name came that a block refuses
 pub record IsChange (touches : List ℕ → Bool) (old new : List Header) : Type 0 where
@@ -37,16 +42,11 @@ some_lines : (name : List ℕ) (headers : List Header) → has_header name heade
 some_lines name [] has = cc
 some_lines name (h ∷ headers) has = grind arith
 
-each_once : (old new : List Header) → ((name : List ℕ) → nat_le (count_named name old) 1 ≡ true
-    → nat_le (count_named name new) 1 ≡ true) → (names : List (List ℕ))
-    → list_all (λ name. nat_le (count_named name old) 1) names ≡ true
-    → list_all (λ name. nat_le (count_named name new) 1) names ≡ true
-each_once old new once [] all = refl
-each_once old new once (name ∷ names) all =
-    let test : List ℕ → Bool = λ n. nat_le (count_named n old) 1 in
-    both_true (nat_le (count_named name new) 1) (list_all (λ n. nat_le (count_named n new) 1) names)
-    (once name (first_true (test name) (list_all test names) all))
-    (each_once old new once names (second_true (test name) (list_all test names) all))
+-- where each element that passes a test passes another one, a list that passes the one passes the other
+pub all_implied : {X : Type 0} (p q : X → Bool) → ((x : X) → p x ≡ true → q x ≡ true) → (xs : List X)
+    → list_all p xs ≡ true → list_all q xs ≡ true
+all_implied p q implied xs all =
+    list_all-from_AllPass q xs (λ k d within. implied _ (AllPass-from_list_all p xs all k d within))
 
 -- each known name stands at most once in a block
 pub block_names : (headers : List Header) → is_block headers ≡ true
@@ -64,7 +64,8 @@ block_stays touches old new change name has block =
     (list_all (λ n. nat_le (count_named n new) 1) known_names)
     (both_true (nat_lt 0 (length new)) (list_all is_header new) (some_lines name new has)
     (change.lines (lawful_lines old block)))
-    (each_once old new change.once known_names (block_names old block))
+    (all_implied (λ n. nat_le (count_named n old) 1) (λ n. nat_le (count_named n new) 1) change.once known_names
+    (block_names old block))
 
 -- a change, and then another
 pub both_changes : (touches : List ℕ → Bool) (old mid new : List Header) (others : List ℕ → Bool)
@@ -104,55 +105,41 @@ put_has other name value (h ∷ headers) =
 
 put_count : (other name value : List ℕ) (headers : List Header)
     → count_named other (with_header_value name value headers) ≡ count_named other headers
-put_count other name value [] = refl
-put_count other name value (h ∷ headers) =
-    count_cons other (changed name value h) (with_header_value name value headers)
-    ∙ ap (λ m. (if bytes_eq m other then 1 else 0) + count_named other (with_header_value name value headers))
-    (changed_name name value h)
-    ∙ ap (λ n. (if is_named other h then 1 else 0) + n) (put_count other name value headers)
-    ∙ sym (count_cons other h headers)
+put_count other name value headers =
+    fold-map (λ n h. n + (if is_named other h then 1 else 0)) (changed name value) 0 headers
+    ∙ (λ i. count_by (λ h. bytes_eq (changed_name name value h i) other) headers)
 
 put_lines : (name value : List ℕ) → has_byte 10 value ≡ false → (headers : List Header)
     → list_all is_header headers ≡ true
     → list_all is_header (with_header_value name value headers) ≡ true
-put_lines name value no_lf [] all = refl
-put_lines name value no_lf (h ∷ headers) all =
-    both_true (is_header (changed name value h)) (list_all is_header (with_header_value name value headers))
-    (one (is_named name h) refl) (put_lines name value no_lf headers
-    (second_true (is_header h) (list_all is_header headers) all))
+put_lines name value no_lf headers all =
+    list_all-map is_header (changed name value) headers
+    ∙ all_implied is_header (λ h. is_header (changed name value h)) (λ h good. one h good (is_named name h) refl) headers
+    all
   where
-    good : is_header h ≡ true
-    good = first_true (is_header h) (list_all is_header headers) all
-
-    new_line : is_header (record { name = h.name; value = value }) ≡ true
-    new_line = let l = lawful h good in rw (l.some, l.no_colon, l.no_lf, no_lf) refl
-
-    one : (b : Bool) → is_named name h ≡ b → is_header (changed name value h) ≡ true
-    one true is = rw is (subst (λ (n : List ℕ). is_header (record { name = n; value = value }) ≡ true)
-        ((bytes_eq-Decides h.name name).0 is) new_line)
-    one false is = rw is good
+    one : (h : Header) → is_header h ≡ true → (b : Bool) → is_named name h ≡ b → is_header (changed name value h) ≡ true
+    one h good true is =
+        let l = lawful h good in
+        let renamed : is_header (record { name = h.name; value = value }) ≡ true =
+        rw (l.some, l.no_colon, l.no_lf, no_lf) refl in
+        rw is (subst (λ (n : List ℕ). is_header (record { name = n; value = value }) ≡ true)
+        ((bytes_eq-Decides h.name name).0 is) renamed)
+    one h good false is = rw is good
 
 put_other : (name value other : List ℕ) → bytes_eq name other ≡ false → (headers : List Header)
-    → header_value other (with_header_value name value headers) ≡ header_value other headers
+    → find (is_named other) (with_header_value name value headers) ≡ find (is_named other) headers
 put_other name value other apart [] = refl
 put_other name value other apart (h ∷ headers) = by_name (put_other name value other apart headers)
     (is_named name h) refl
   where
-    by_other : header_value other (with_header_value name value headers) ≡ header_value other headers
-        → is_named name h ≡ false
-        → (b : Bool) → is_named other h ≡ b → header_value other
-        (with_header_value name value (h ∷ headers)) ≡ header_value other (h ∷ headers)
-    by_other more unlike true is = rw (unlike, is) refl
-    by_other more unlike false is = rw (unlike, is) more
-
-    by_name : header_value other (with_header_value name value headers) ≡ header_value other headers → (b : Bool)
+    by_name : find (is_named other) (with_header_value name value headers) ≡ find (is_named other) headers → (b : Bool)
         → is_named name h ≡ b
-        → header_value other (with_header_value name value (h ∷ headers)) ≡ header_value other (h ∷ headers)
+        → find (is_named other) (with_header_value name value (h ∷ headers)) ≡ find (is_named other) (h ∷ headers)
     by_name more true is =
         let unlike : is_named other h ≡ false = ap (λ m. bytes_eq m other) ((bytes_eq-Decides h.name name).0 is)
         ∙ apart in
         rw (is, apart, unlike) more
-    by_name more false is = by_other more is (is_named other h) refl
+    by_name more false is = rw is (ap (λ (o : Option Header). if is_named other h then Some h else o) more)
 
 -- a new value without LF changes only the line of its name
 pub put_change : (name value : List ℕ) (headers : List Header) → has_byte 10 value ≡ false
@@ -160,7 +147,7 @@ pub put_change : (name value : List ℕ) (headers : List Header) → has_byte 10
 put_change name value headers no_lf = record {
   lines = put_lines name value no_lf headers;
   once = λ other few. ap (λ n. nat_le n 1) (put_count other name value headers) ∙ few;
-  same = λ other apart. put_other name value other apart headers;
+  same = λ other apart. ap (option_map (λ (h : Header). h.value)) (put_other name value other apart headers);
 }
 
 same_bytes : (bytes : List ℕ) → bytes_eq bytes bytes ≡ true
@@ -187,30 +174,15 @@ put_absent name value (h ∷ headers) none =
     (ap (λ (l : List Header). h ∷ l) (put_absent name value headers
     (second_false (is_named name h) (has_header name headers) none)))
 
-counted_none : (name : List ℕ) (headers : List Header) → has_header name headers ≡ false → count_named name headers ≡ 0
-counted_none name [] none = refl
-counted_none name (h ∷ headers) none =
-    let size : count_named name (h ∷ headers) ≡ 0 + count_named name headers =
-    count_cons name h headers ∙ ap (λ b. (if b then 1 else 0) + count_named name headers)
-    (first_false (is_named name h) (has_header name headers) none) in
-    let later = counted_none name headers (second_false (is_named name h) (has_header name headers) none) in
-    omega (arith, size, later)
-
-counted_some : (name : List ℕ) (headers : List Header) → has_header name headers ≡ true → 0 < count_named name headers
-counted_some name [] has = cc
-counted_some name (h ∷ headers) has = by_name (counted_some name headers) (is_named name h) refl
+has_count : (name : List ℕ) (headers : List Header) → has_header name headers ≡ nat_lt 0 (count_named name headers)
+has_count name [] = refl
+has_count name (h ∷ headers) =
+    ap (λ b. is_named name h || b) (has_count name headers) ∙ sum (is_named name h) (count_named name headers)
+    ∙ ap (nat_lt 0) (sym (count_cons name h headers))
   where
-    by_name : (has_header name headers ≡ true → 0 < count_named name headers) → (b : Bool) → is_named name h ≡ b
-        → 0 < count_named name (h ∷ headers)
-    by_name more true is =
-        let size : count_named name (h ∷ headers) ≡ 1 + count_named name headers = count_cons name h headers
-        ∙ ap (λ b. (if b then 1 else 0) + count_named name headers) is in
-        omega (arith, size)
-    by_name more false is =
-        let size : count_named name (h ∷ headers) ≡ 0 + count_named name headers = count_cons name h headers
-        ∙ ap (λ b. (if b then 1 else 0) + count_named name headers) is in
-        let later = more (sym (ap (λ b. b || has_header name headers) is) ∙ has) in
-        omega (arith, size)
+    sum : (b : Bool) (n : ℕ) → (b || nat_lt 0 n) ≡ nat_lt 0 ((if b then 1 else 0) + n)
+    sum true n = grind arith
+    sum false n = grind arith
 
 -- the value that a name has, put into its line again, changes nothing
 pub put_same : (name value : List ℕ) (headers : List Header) → nat_le (count_named name headers) 1 ≡ true
@@ -229,7 +201,7 @@ put_same name value (h ∷ headers) few is = by_name (put_same name value header
         let one : Some h.value ≡ Some value = sym (rw named refl) ∙ is in
         let value_is : h.value ≡ value = cc in
         let alone : has_header name headers ≡ false = not_so (has_header name headers)
-        (λ has. let some = counted_some name headers has in let f = few in grind (arith, nat_tests)) in
+        (λ has. let some = sym (has_count name headers) ∙ has in let f = few in grind (arith, nat_tests)) in
         rw named (λ i. record { name = sym same i; value = sym value_is i } ∷ put_absent name value headers alone i)
     by_name more false named =
         let size : count_named name (h ∷ headers) ≡ 0 + count_named name headers = count_cons name h headers
@@ -248,13 +220,13 @@ join_has name h headers = list_any-append (is_named name) headers (h ∷ []) ∙
 
 join_value : (name : List ℕ) (h : Header) (headers : List Header) → is_named name h ≡ false
     → header_value name (headers ++ h ∷ []) ≡ header_value name headers
-join_value name h [] apart = rw apart refl
-join_value name h (g ∷ headers) apart = by_name (join_value name h headers apart) (is_named name g) refl
+join_value name h headers apart =
+    ap (option_map (λ (x : Header). x.value))
+    (find-append (is_named name) headers (h ∷ []) ∙ rw apart (none_behind (find (is_named name) headers)))
   where
-    by_name : header_value name (headers ++ h ∷ []) ≡ header_value name headers → (b : Bool) → is_named name g ≡ b
-        → header_value name (g ∷ (headers ++ h ∷ [])) ≡ header_value name (g ∷ headers)
-    by_name more true is = rw is refl
-    by_name more false is = rw is more
+    none_behind : (o : Option Header) → option_or o None ≡ o
+    none_behind None = refl
+    none_behind (Some x) = refl
 
 join_own : (name : List ℕ) (h : Header) (headers : List Header) → has_header name headers ≡ false
     → is_named name h ≡ true → header_value name (headers ++ h ∷ []) ≡ Some h.value
@@ -263,122 +235,84 @@ join_own name h (g ∷ headers) none is =
     rw (first_false (is_named name g) (has_header name headers) none)
     (join_own name h headers (second_false (is_named name g) (has_header name headers) none) is)
 
-join_count : (name : List ℕ) (h : Header) (headers : List Header) → count_named name (headers ++ h ∷ []) ≡
-    (if is_named name h then 1 else 0) + count_named name headers
-join_count name h [] = count_cons name h []
-join_count name h (g ∷ headers) =
-    let more = join_count name h headers in
-    let first = count_cons name g (headers ++ h ∷ []) in
-    let again = count_cons name g headers in
-    first ∙ swapped (if is_named name g then 1 else 0) (if is_named name h then 1 else 0)
-    (count_named name (headers ++ h ∷ [])) (count_named name headers) more
-    ∙ ap (λ n. (if is_named name h then 1 else 0) + n) (sym again)
-  where
-    swapped : (a b m n : ℕ) → m ≡ b + n → a + m ≡ b + (a + n)
-    swapped a b m n is = omega (arith, is)
-
 pub join_change : (name value : List ℕ) (headers : List Header) → has_header name headers ≡ false
     → is_header (record { name = name; value = value }) ≡ true
     → IsChange (λ other. bytes_eq name other) headers (headers ++ record { name = name; value = value } ∷ [])
 join_change name value headers none good = record {
-  lines = λ all. all_more headers (record { name = name; value = value }) all good;
+  lines = λ all. all_more headers line all good;
   once = λ other few. by_name other few (bytes_eq name other) refl;
-  same = λ other apart. join_value other (record { name = name; value = value }) headers apart;
+  same = λ other apart. join_value other line headers apart;
 }
   where
     line : Header
     line = record { name = name; value = value }
 
+    size : (other : List ℕ) → count_named other (headers ++ line ∷ []) ≡ count_named other headers
+        + (if bytes_eq name other then 1 else 0)
+    size other = sum_by_push (λ h. if is_named other h then 1 else 0) headers line
+
     by_name : (other : List ℕ) → nat_le (count_named other headers) 1 ≡ true → (b : Bool) → bytes_eq name other ≡ b
-        → nat_le (count_named other (headers ++ record { name = name; value = value } ∷ [])) 1 ≡ true
+        → nat_le (count_named other (headers ++ line ∷ [])) 1 ≡ true
     by_name other few true is =
-        let same : name ≡ other = (bytes_eq-Decides name other).0 is in
-        let zero_is : count_named other headers ≡ 0 = subst (λ (n : List ℕ). count_named n headers ≡ 0) same
-        (counted_none name headers none) in
-        let size = join_count other (record { name = name; value = value }) headers
-        ∙ ap (λ b. (if b then 1 else 0) + count_named other headers) is in
-        ap (λ n. nat_le n 1) (size ∙ ap (λ n. 1 + n) zero_is)
+        let some = size other ∙ ap (λ b. count_named other headers + (if b then 1 else 0)) is in
+        let none_yet = subst (λ n. has_header n headers ≡ false) ((bytes_eq-Decides name other).0 is) none in
+        let zero_is = sym (has_count other headers) ∙ none_yet in
+        grind (arith, nat_tests)
     by_name other few false is =
-        let size : count_named other
-        (headers ++ record { name = name; value = value } ∷ []) ≡ 0 + count_named other headers =
-        join_count other (record { name = name; value = value }) headers
-        ∙ ap (λ b. (if b then 1 else 0) + count_named other headers) is in
-        let same : count_named other
-        (headers ++ record { name = name; value = value } ∷ []) ≡ count_named other headers = omega (arith, size) in
-        ap (λ n. nat_le n 1) same ∙ few
+        let same = size other ∙ ap (λ b. count_named other headers + (if b then 1 else 0)) is in
+        grind (arith, nat_tests)
 
 -- lines that go
 
+-- whether the line tells of no copy source
+abbrev is_other_line : Header → Bool
+is_other_line h = not (is_copy_line h.name)
+
+-- what a line of this name is
+copy_like : (name : List ℕ) (b : Bool) → is_copy_line name ≡ b → (h : Header) → is_named name h ≡ true
+    → is_other_line h ≡ not b
+copy_like name b is h named = ap not (ap is_copy_line ((bytes_eq-Decides h.name name).0 named) ∙ is)
+
 go_lines : (headers : List Header) → list_all is_header headers ≡ true
     → list_all is_header (without_copy_headers headers) ≡ true
-go_lines [] all = refl
-go_lines (h ∷ headers) all = by_test (go_lines headers (second_true (is_header h) (list_all is_header headers) all))
-    (is_copy_line h.name) refl
-  where
-    by_test : list_all is_header (without_copy_headers headers) ≡ true → (b : Bool) → is_copy_line h.name ≡ b
-        → list_all is_header (without_copy_headers (h ∷ headers)) ≡ true
-    by_test more true is = rw is more
-    by_test more false is = rw (is, first_true (is_header h) (list_all is_header headers) all) more
+go_lines headers all =
+    list_all-from_AllPass is_header (filter is_other_line headers)
+    (All-filter is_other_line (λ h. is_header h ≡ true) headers (AllPass-from_list_all is_header headers all))
 
 go_count : (name : List ℕ) (headers : List Header)
     → count_named name (without_copy_headers headers) ≤ count_named name headers
-go_count name [] = omega arith
-go_count name (h ∷ headers) = by_test (go_count name headers) (is_copy_line h.name) refl
-  where
-    by_test : count_named name (without_copy_headers headers) ≤ count_named name headers → (b : Bool)
-        → is_copy_line h.name ≡ b
-        → count_named name (without_copy_headers (h ∷ headers)) ≤ count_named name (h ∷ headers)
-    by_test more true is = let size = count_cons name h headers in rw is (omega (arith, size, more))
-    by_test more false is =
-        let size = count_cons name h headers in
-        let left = count_cons name h (without_copy_headers headers) in
-        rw is (omega (arith, size, left, more))
+go_count name headers =
+    let both = sum_by-filter_both is_other_line (λ h. not (is_other_line h)) (λ h. refl)
+    (λ h. if is_named name h then 1 else 0) headers in
+    omega (arith, both)
 
 go_value : (name : List ℕ) → is_copy_line name ≡ false → (headers : List Header)
-    → header_value name (without_copy_headers headers) ≡ header_value name headers
+    → find (is_named name) (without_copy_headers headers) ≡ find (is_named name) headers
 go_value name other [] = refl
 go_value name other (h ∷ headers) = by_test (go_value name other headers) (is_copy_line h.name) refl
   where
-    unlike : is_copy_line h.name ≡ true → (b : Bool) → is_named name h ≡ b → is_named name h ≡ false
-    unlike is true named = absurd (absurd_bool (is_copy_line name)
-        (sym (ap is_copy_line ((bytes_eq-Decides h.name name).0 named)) ∙ is) other)
-    unlike is false named = named
+    unlike : is_copy_line h.name ≡ true → is_named name h ≡ false
+    unlike is = not_so (is_named name h) (λ named. absurd_bool (is_other_line h) (copy_like name false other h named)
+        (ap not is))
 
-    by_name : header_value name (without_copy_headers headers) ≡ header_value name headers → (b : Bool)
-        → is_named name h ≡ b
-        → header_value name (h ∷ without_copy_headers headers) ≡ header_value name (h ∷ headers)
-    by_name more true named = rw named refl
-    by_name more false named = rw named more
-
-    by_test : header_value name (without_copy_headers headers) ≡ header_value name headers → (b : Bool)
+    by_test : find (is_named name) (without_copy_headers headers) ≡ find (is_named name) headers → (b : Bool)
         → is_copy_line h.name ≡ b
-        → header_value name (without_copy_headers (h ∷ headers)) ≡ header_value name (h ∷ headers)
-    by_test more true is = rw (is, unlike is (is_named name h) refl) more
-    by_test more false is = rw is (by_name more (is_named name h) refl)
+        → find (is_named name) (without_copy_headers (h ∷ headers)) ≡ find (is_named name) (h ∷ headers)
+    by_test more true is = rw (is, unlike is) more
+    by_test more false is = rw is (ap (λ (o : Option Header). if is_named name h then Some h else o) more)
 
 -- to leave out a node's copy lines touches only those
 pub go_change : (headers : List Header) → IsChange is_copy_line headers (without_copy_headers headers)
 go_change headers = record {
   lines = go_lines headers;
   once = λ name few. (let less = go_count name headers in grind (arith, nat_tests));
-  same = λ name other. go_value name other headers;
+  same = λ name other. ap (option_map (λ (h : Header). h.value)) (go_value name other headers);
 }
 
 -- where the copy source is left out, no copy line is left
 pub gone : (name : List ℕ) → is_copy_line name ≡ true → (headers : List Header)
     → has_header name (without_copy_headers headers) ≡ false
-gone name copy [] = refl
-gone name copy (h ∷ headers) = by_test (gone name copy headers) (is_copy_line h.name) refl
-  where
-    unlike : is_copy_line h.name ≡ false → (b : Bool) → is_named name h ≡ b → is_named name h ≡ false
-    unlike is true named = absurd (absurd_bool (is_copy_line name) copy
-        (sym (ap is_copy_line ((bytes_eq-Decides h.name name).0 named)) ∙ is))
-    unlike is false named = named
-
-    by_test : has_header name (without_copy_headers headers) ≡ false → (b : Bool) → is_copy_line h.name ≡ b
-        → has_header name (without_copy_headers (h ∷ headers)) ≡ false
-    by_test more true is = rw is more
-    by_test more false is = rw (is, unlike is (is_named name h) refl) more
+gone name copy headers = any-filter_same (is_named name) is_other_line false (copy_like name true copy) headers
 
 -- lengths
 
@@ -390,12 +324,8 @@ IsTold name n headers = MatchBool (has_header name headers) (header_value name h
 -- what a line tells it tells still, where only other names were touched
 pub told_later : (name : List ℕ) (n : ℕ) (touches : List ℕ → Bool) (old new : List Header) → IsChange touches old new
     → touches name ≡ false → IsTold name n old → IsTold name n new
-told_later name n touches old new change free told = by_case (has_header name old) refl told
-  where
-    by_case : (b : Bool) → has_header name old ≡ b → MatchBool b (header_value name old ≡ Some (spelled_number n))
-        (n ≡ 0) → IsTold name n new
-    by_case true is t = rw (same_has touches old new change name free ∙ is) (change.same name free ∙ t)
-    by_case false is t = rw (same_has touches old new change name free ∙ is) t
+told_later name n touches old new change free told =
+    rw (same_has touches old new change name free, change.same name free) told
 
 -- a number put into its line is told, where without a line it is 0
 pub told_put : (name : List ℕ) (n : ℕ) (headers : List Header) → (has_header name headers ≡ false → n ≡ 0)

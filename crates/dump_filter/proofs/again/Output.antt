@@ -4,14 +4,14 @@ use Rattle.std.proofs.lemmas.List.{nil_from_length}
 use Rattle.std.proofs.lemmas.List.Sums.{take_while-cons}
 use Rattle.std.proofs.lemmas.List.Elements.{All-nil, All-cons, All-contains}
 use Rattle.dump_text.specs.Number.{number_of, spelled_number}
-use Rattle.dump_text.specs.Names.{revision_name, path_name, copy_revision_name, copy_path_name, property_length_name, md5_name, sha1_name, text_delta_name}
+use Rattle.dump_text.specs.Names.{revision_name, copy_revision_name, copy_path_name, property_length_name, md5_name, sha1_name, text_delta_name}
 use Rattle.dump_text.specs.HeaderLine.{Header, has_header, header_value, with_header_value}
 use Rattle.dump_text.specs.HeaderBlock.{is_block, block_text}
 use Rattle.dump_text.specs.PropertyList.{Property, has_deletes}
 use Rattle.dump_text.proofs.BlockLemmas.{has_value}
 use Rattle.dump_text.proofs.PartLemmas.{number_of-spelled}
 use Rattle.dump_records.specs.HeaderRules.{header_number, property_length, text_length, has_bad_kind, has_bad_lengths}
-use Rattle.dump_records.specs.RecordText.{DumpRecord, is_lawful}
+use Rattle.dump_records.specs.RecordText.{DumpRecord, BeginsWithRecord}
 use Rattle.dump_records.proofs.Unique.{Keeps, keeps}
 use Rattle.dump_rules.specs.Settings.{Settings}
 use Rattle.dump_rules.specs.Mergeinfo.{HasMergeLines}
@@ -26,16 +26,16 @@ use Rattle.dump_digest.proofs.PropertyBlocks.{property_list_once}
 use Rattle.dump_filter.specs.FilterLaws.{keep_all}
 use Rattle.dump_filter.specs.Groups.{group_of, is_padded, revision_number}
 use Rattle.dump_filter.specs.NewContent.{IsNewProperty, AreNewProperties, is_date, padding_properties, revision_properties, new_block}
-use Rattle.dump_filter.specs.NewHeaders.{with_lengths, written_number, is_whole_file, becomes_plain, without_copy_headers, IsWrittenCopyNumber, IsNewCopy}
+use Rattle.dump_filter.specs.NewHeaders.{written_number, is_whole_file, becomes_plain, without_copy_headers, IsWrittenCopyNumber, IsNewCopy}
 use Rattle.dump_filter.specs.steps.NewLines.{is_copy_line}
 use Rattle.dump_filter.specs.RecordOutput.{whole_text, revision_text, IsRevisionOutput, IsNodeOutput, IsWrittenBlock}
 use Rattle.dump_text.proofs.BoolLemmas.{first_true, second_true, first_false, second_false, not_so, absurd_bool, false_true}
 use Rattle.dump_records.proofs.HeaderLemmas.{no_number}
 use Rattle.dump_filter.proofs.written.HeaderLemmas.{no_length}
-use Rattle.dump_filter.proofs.again.LineChanges.{IsChange, same_has, spelled_line, no_change, put_has, put_change, go_change, gone, IsTold, told_later, told_put, told_reads, told_put_again}
-use Rattle.dump_filter.proofs.again.Headers.{is_length_name, lengths_change, told_lengths, known_once, StaysLawful}
-use Rattle.dump_filter.proofs.again.Record.{any_number, no_content, stays_same, stays_revision, stays_copy_number, stays_plain, again, told, new_stays, new_is_block, new_lawful, new_version_line, reads_list, same_text}
-use Rattle.dump_filter.proofs.again.ReadAgain.{IsReadAgain}
+use Rattle.dump_filter.proofs.again.LineChanges.{same_has, no_change, put_has, go_change, gone, IsTold, told_later, told_put, told_reads, told_put_again}
+use Rattle.dump_filter.proofs.again.Headers.{is_length_name, known_once, StaysLawful}
+use Rattle.dump_filter.proofs.again.Record.{any_number, no_content, stays_same, stays_plain, AreNewLines, numbered_lines, IsRewritten, again, others, lengths_fit, new_stays, new_is_block, new_lawful, new_version_line, reads_list, same_text}
+use Rattle.dump_filter.proofs.again.ReadAgain.{StandsAgain}
 
 -- where everything is kept
 
@@ -85,20 +85,19 @@ same_there : (name : List ℕ) (old new : List Header) → header_value name new
 same_there name old new same = sym (has_value name new) ∙ ap is_some same ∙ has_value name old
 
 -- a version or UUID record
-pub other_again : (settings : Settings) (kept : KeptRevisions) (number : ℕ) (r : DumpRecord)
-    (after : List DumpRecord) (front : List ℕ)
-    → is_block r.headers ≡ true → is_lawful number r.headers ≡ true
-    → is_revision_record r ≡ false → is_node r ≡ false → front ≡ block_text r.headers → (place : ℕ) → (s : DumpRecord)
-    × (s.place ≡ place) × IsReadAgain settings kept r after front s
-other_again settings kept number r after front block lawful no_revision no_node is place = (
+pub other_again : (settings : Settings) (kept : KeptRevisions) {number : ℕ} {text behind : List ℕ} {r : DumpRecord}
+    (after : List DumpRecord) (front : List ℕ) → BeginsWithRecord number text r behind
+    → is_revision_record r ≡ false → is_node r ≡ false → front ≡ block_text r.headers
+    → StandsAgain settings kept r after front
+other_again settings kept {number} {text} {behind} {r} after front b no_revision no_node is place = (
   record { place = place; version = r.version; headers = r.headers; props = []; text = [] },
   refl,
   record {
     feeds = 0;
     spelled = is ∙ sym (append-nil ((block_text r.headers ++ []) ++ []) ∙ append-nil (block_text r.headers ++ [])
         ∙ append-nil (block_text r.headers));
-    block = block;
-    lawful = λ m first. any_number number m r.headers lawful first;
+    block = b.block;
+    lawful = λ m first. any_number number m r.headers b.lawful first;
     props_fit = sym empty.0;
     text_fits = sym empty.1;
     version = refl;
@@ -120,7 +119,7 @@ other_again settings kept number r after front block lawful no_revision no_node 
 )
   where
     k : Keeps number r.headers
-    k = keeps number r.headers lawful
+    k = keeps number r.headers b.lawful
 
     empty : (property_length r.headers ≡ 0) × (text_length r.headers ≡ 0)
     empty = no_content r.headers (not_so (has_bad_kind r.headers) k.kind)
@@ -132,6 +131,12 @@ other_again settings kept number r after front block lawful no_revision no_node 
 -- no bytes are no properties
 no_list : (r : DumpRecord) → r.props ≡ [] → HasPropertyList r []
 no_list r empty = (inl (empty, refl), λ deletes. absurd (false_true deletes))
+
+-- where no property length stands no properties do
+no_props : {number : ℕ} {text behind : List ℕ} {r : DumpRecord} → BeginsWithRecord number text r behind
+    → has_header property_length_name r.headers ≡ false → r.props ≡ []
+no_props {number} {text} {behind} {r} b missing =
+    nil_from_length r.props (b.props_fit ∙ no_length property_length_name r.headers missing)
 
 -- a property that passes such a test isn't deleted
 set_value : (b : Bool) (value : Option (List ℕ)) → (b && is_some value) ≡ true → is_none value ≡ false
@@ -155,45 +160,43 @@ padding_deletes : (padded : Bool) (ps : List Property) → has_deletes (revision
 padding_deletes true ps deletes = absurd (absurd_bool (has_deletes (padding_properties ps)) deletes (padding_keeps ps))
 padding_deletes false ps deletes = deletes
 
+-- the record's new content is below 10 ^ 18 bytes
+abbrev pub IsSmall : Settings → KeptRevisions → DumpRecord → List DumpRecord → Type 0
+IsSmall settings kept r after =
+    (block : List ℕ) → IsWrittenBlock settings kept r after block → length block + length r.text < 10 ^ 18
+
 -- a revision
-pub revision_again : (settings : Settings) (kept : KeptRevisions) (number : ℕ) (r : DumpRecord)
-    (after : List DumpRecord) (front : List ℕ)
-    → is_block r.headers ≡ true → is_lawful number r.headers ≡ true → length r.props ≡ property_length r.headers
-    → length r.text ≡ text_length r.headers
+pub revision_again : (settings : Settings) (kept : KeptRevisions) {number : ℕ} {text behind : List ℕ} {r : DumpRecord}
+    (after : List DumpRecord) (front : List ℕ) → BeginsWithRecord number text r behind
     → is_revision_record r ≡ true → is_node r ≡ false → written_number settings kept (revision_number r) < 10 ^ 18
-    → ((block : List ℕ) → IsWrittenBlock settings kept r after block → length block + length r.text < 10 ^ 18)
-    → IsRevisionOutput settings kept (group_of r after) front → (place : ℕ) → (s : DumpRecord) × (s.place ≡ place)
-    × IsReadAgain settings kept r after front s
-revision_again settings kept number r after front block lawful props_fit text_fits rev no_node n_small fit
-    (ps, is_ps, is) place = (
-      it place,
-      refl,
-      record {
-        feeds = 1;
-        spelled = is;
-        block = new_is_block number r block lawful text_fits either mid
-            (bytes_eq revision_name) change stays props_there padded new small none;
-        lawful = new_lawful number r block lawful text_fits either mid
-            (bytes_eq revision_name) change stays props_there padded new small none;
-        props_fit = lengths.0;
-        text_fits = lengths.1;
-        version = refl;
-        version_line = new_version_line number r block lawful text_fits either mid (bytes_eq revision_name) change stays
-            props_there padded new small none;
-        revision = lifted.revision;
-        node = lifted.node;
-        number = λ rev. number_is;
-        node_again = λ node. absurd (absurd_bool (is_node r) node no_node);
-        revision_again = λ rev. (ps, is_ps, here);
-        clean = record {
-          props = λ bad. bad.1 (new, here);
-          md5 = λ bad. no_kept bad.0;
-          sha1 = λ bad. no_kept bad.0;
-          merge = λ bad. no_kept bad.1.0;
-        };
-        output = λ again after. rw (lifted.revision ∙ rev) (new, here, written again after);
-      },
-    )
+    → IsSmall settings kept r after → IsRevisionOutput settings kept (group_of r after) front
+    → StandsAgain settings kept r after front
+revision_again settings kept {number} {text} {behind} {r} after front b rev no_node n_small fit (ps, is_ps, is) place = (
+  it,
+  refl,
+  record {
+    feeds = 1;
+    spelled = is;
+    block = new_is_block w;
+    lawful = new_lawful w;
+    props_fit = (lengths_fit w).0;
+    text_fits = (lengths_fit w).1;
+    version = refl;
+    version_line = new_version_line w;
+    revision = (new_stays w).revision;
+    node = (new_stays w).node;
+    number = λ rev. number_is;
+    node_again = λ node. absurd (absurd_bool (is_node r) node no_node);
+    revision_again = λ rev. (ps, is_ps, here);
+    clean = record {
+      props = λ bad. bad.1 (new, here);
+      md5 = λ bad. no_kept bad.0;
+      sha1 = λ bad. no_kept bad.0;
+      merge = λ bad. no_kept bad.1.0;
+    };
+    output = λ again after. rw ((new_stays w).revision ∙ rev) (new, here, written again after);
+  },
+)
   where
     padded : Bool
     padded = is_padded settings (group_of r after)
@@ -207,91 +210,63 @@ revision_again settings kept number r after front block lawful props_fit text_fi
     mid : List Header
     mid = with_header_value revision_name (spelled_number n) r.headers
 
-    props : List ℕ
-    props = new_block padded r new
+    w : IsRewritten r mid padded new
+    w = record {
+      number = number;
+      block = b.block;
+      lawful = b.lawful;
+      text_fits = b.text_fits;
+      either = rw rev refl;
+      mid_lines = numbered_lines revision_name r.headers n n_small rev (stays_same number r.headers b.lawful);
+      small = fit (new_block padded r new) (ps, new, is_ps, rw (rev, no_node) refl, rw rev refl);
+      none = λ missing.
+          let plain : padded ≡ false = first_false padded _ missing in
+          let empty = no_props b (second_false padded _ missing) in
+          rw plain (property_list_once r ps [] is_ps (no_list r empty));
+    }
 
-    change : IsChange (bytes_eq revision_name) r.headers mid
-    change = put_change revision_name (spelled_number n) r.headers (spelled_line n n_small)
+    it : DumpRecord
+    it = again w place
 
-    stays : StaysLawful r.headers mid
-    stays = stays_revision r.headers n n_small rev (stays_same number r.headers lawful)
+    here : HasPropertyList it new
+    here = reads_list w (λ deletes. is_ps.1 (padding_deletes padded ps deletes)) place
 
-    props_there : has_header property_length_name mid ≡ has_header property_length_name r.headers
-    props_there = put_has property_length_name revision_name (spelled_number n) r.headers
-
-    either : (has_header revision_name r.headers || has_header path_name r.headers) ≡ true
-    either = rw rev refl
-
-    small : length (new_block padded r new) + length r.text < 10 ^ 18
-    small = fit (new_block padded r new) (ps, new, is_ps, rw (rev, no_node) refl, rw rev refl)
-
-    none : (padded || has_header property_length_name r.headers) ≡ false → new ≡ []
-    none missing =
-        let plain : padded ≡ false = first_false padded _ missing in
-        let empty : r.props ≡ [] = nil_from_length r.props
-        (props_fit ∙ no_length property_length_name r.headers (second_false padded _ missing)) in
-        rw plain (property_list_once r ps [] is_ps (no_list r empty))
-
-    it : ℕ → DumpRecord
-    it = again number r block lawful text_fits either mid
-        (bytes_eq revision_name) change stays props_there padded new small none
-
-    lines : List Header
-    lines = with_lengths props r.text mid
-
-    here : HasPropertyList (it place) new
-    here =
-        reads_list number r block lawful text_fits either mid (bytes_eq revision_name) change stays props_there padded
-        new small none (λ deletes. is_ps.1 (padding_deletes padded ps deletes)) place
-
-    lifted : StaysLawful r.headers lines
-    lifted = new_stays number r block lawful text_fits either mid
-        (bytes_eq revision_name) change stays props_there padded new small none
-
-    lengths : (length props ≡ property_length lines) × (length r.text ≡ text_length lines)
-    lengths = told_lengths props r.text lines small
-        (told number r block lawful text_fits either mid
-        (bytes_eq revision_name) change stays props_there padded new small none)
-
-    number_told : IsTold revision_name n lines
+    number_told : IsTold revision_name n it.headers
     number_told =
-        told_later revision_name n is_length_name mid lines (lengths_change props r.text mid small) refl
-        (told_put revision_name n r.headers (λ missing. absurd
-        (absurd_bool (has_header revision_name r.headers) rev missing)))
+        told_later revision_name n is_length_name mid it.headers (others w) refl (told_put revision_name n r.headers
+        (λ missing. absurd (absurd_bool (has_header revision_name r.headers) rev missing)))
 
-    number_is : revision_number (it place) ≡ n
-    number_is = (told_reads revision_name n lines n_small number_told).0
+    number_is : revision_number it ≡ n
+    number_is = (told_reads revision_name n it.headers n_small number_told).0
 
-    no_kept : is_kept_node keep_all (it place) ≡ true → ⊥
-    no_kept is_kept = absurd_bool (has_header path_name lines) (first_true (has_header path_name lines) _ is_kept)
-        (lifted.node ∙ no_node)
+    no_kept : is_kept_node keep_all it ≡ true → ⊥
+    no_kept is_kept = absurd_bool (is_node it) (first_true (is_node it) _ is_kept) ((new_stays w).node ∙ no_node)
 
-    same_number : with_header_value revision_name (spelled_number (revision_number (it place))) lines ≡ lines
+    same_number : with_header_value revision_name (spelled_number (revision_number it)) it.headers ≡ it.headers
     same_number =
-        ap (λ m. with_header_value revision_name (spelled_number m) lines) number_is
-        ∙ told_put_again revision_name n lines
-        (known_once revision_name refl lines (new_is_block number r block lawful text_fits either mid
-        (bytes_eq revision_name) change stays props_there padded new small none)) number_told
+        ap (λ m. with_header_value revision_name (spelled_number m) it.headers) number_is
+        ∙ told_put_again revision_name n it.headers
+        (known_once revision_name refl it.headers (new_is_block w)) number_told
 
-    written : (again : KeptRevisions) (after : List DumpRecord) → front ≡ revision_text keep_all again
-        (is_padded keep_all (group_of (it place) after)) (it place) new
+    written : (again : KeptRevisions) (after : List DumpRecord)
+        → front ≡ revision_text keep_all again (is_padded keep_all (group_of it after)) it new
     written again after =
-        is ∙ sym (ap (λ p. revision_text keep_all again p (it place) new) (never_padded (it place) after)
-        ∙ ap (λ t. t ++ codes "\n") (same_text number r block lawful text_fits either mid
-        (bytes_eq revision_name) change stays props_there padded new small none
-        (with_header_value revision_name (spelled_number (revision_number (it place))) lines) same_number))
+        is ∙ sym (ap (λ p. revision_text keep_all again p it new) (never_padded it after)
+        ∙ ap (λ t. t ++ codes "\n") (same_text w
+        (with_header_value revision_name (spelled_number (revision_number it)) it.headers) same_number))
+
+-- the lines of a copy tell a number as its source's revision
+abbrev IsCopyTold : List Header → Type 0
+IsCopyTold headers = has_header copy_path_name headers ≡ true
+    → (n : ℕ) × (n < 10 ^ 18) × (has_header copy_revision_name headers ≡ true) × IsTold copy_revision_name n headers
 
 -- the lines of a kept node with its new copy source
 record IsNodeLines (old new : List Header) : Type 0 where
-  touches : List ℕ → Bool
-  change : IsChange touches old new
-  stays : StaysLawful old new
-  props_there : has_header property_length_name new ≡ has_header property_length_name old
+  lines : AreNewLines old new
   md5 : header_value md5_name new ≡ header_value md5_name old
   sha1 : header_value sha1_name new ≡ header_value sha1_name old
   text_delta : header_value text_delta_name new ≡ header_value text_delta_name old
-  copied : has_header copy_path_name new ≡ true
-      → (n : ℕ) × (n < 10 ^ 18) × (has_header copy_revision_name new ≡ true) × IsTold copy_revision_name n new
+  copied : IsCopyTold new
 
 -- a number that a header gives is in a header
 pub number_there : (name : List ℕ) (headers : List Header) (n : ℕ) → header_number name headers ≡ Some n
@@ -315,23 +290,26 @@ number_fits settings kept r rise old n is new_is =
     new_fits true is = (image_fits kept old n rise is).1
     new_fits false is = omega (arith, is)
 
-node_lines : (settings : Settings) (kept : KeptRevisions) (number : ℕ) (r : DumpRecord) (mid : List Header)
-    → RiseFrom kept.first kept.numbers
-    → is_lawful number r.headers ≡ true → IsNewCopy settings kept r mid → IsNodeLines r.headers mid
-node_lines settings kept number r mid rise lawful copy = by_plain (becomes_plain settings r) copy
-  where
-    own : StaysLawful r.headers r.headers
-    own = stays_same number r.headers lawful
+-- the lines tell the copy source's revision, under a number
+abbrev IsRenumbered : Settings → KeptRevisions → List Header → List Header → Type 0
+IsRenumbered settings kept old new = (n m : ℕ) × (header_number copy_revision_name old ≡ Some n)
+    × IsWrittenCopyNumber settings kept n m × (new ≡ with_header_value copy_revision_name (spelled_number m) old)
 
+node_lines : (settings : Settings) (kept : KeptRevisions) (r : DumpRecord) (mid : List Header)
+    → RiseFrom kept.first kept.numbers → StaysLawful r.headers r.headers → IsNewCopy settings kept r mid
+    → IsNodeLines r.headers mid
+node_lines settings kept r mid rise own copy = by_plain (becomes_plain settings r) copy
+  where
     plain : IsNodeLines r.headers (without_copy_headers r.headers)
     plain =
         let change = go_change r.headers in
         record {
-          touches = is_copy_line;
-          change = change;
-          stays = stays_plain r.headers own;
-          props_there = same_has is_copy_line r.headers
-              (without_copy_headers r.headers) change property_length_name refl;
+          lines = record {
+            touches = is_copy_line;
+            change = change;
+            stays = stays_plain r.headers own;
+            props_there = same_has is_copy_line r.headers (without_copy_headers r.headers) change property_length_name refl;
+          };
           md5 = change.same md5_name refl;
           sha1 = change.same sha1_name refl;
           text_delta = change.same text_delta_name refl;
@@ -341,10 +319,12 @@ node_lines settings kept number r mid rise lawful copy = by_plain (becomes_plain
 
     same : is_copy r ≡ false → IsNodeLines r.headers r.headers
     same none = record {
-      touches = λ name. false;
-      change = no_change (λ name. false) r.headers;
-      stays = own;
-      props_there = refl;
+      lines = record {
+        touches = λ name. false;
+        change = no_change (λ name. false) r.headers;
+        stays = own;
+        props_there = refl;
+      };
       md5 = refl;
       sha1 = refl;
       text_delta = refl;
@@ -357,15 +337,12 @@ node_lines settings kept number r mid rise lawful copy = by_plain (becomes_plain
     numbered old n is new_is =
         let small = number_fits settings kept r rise old n is new_is in
         let there = number_there copy_revision_name r.headers old is in
-        let change = put_change copy_revision_name (spelled_number n) r.headers (spelled_line n small) in
+        let lines = numbered_lines copy_revision_name r.headers n small there own in
         record {
-          touches = bytes_eq copy_revision_name;
-          change = change;
-          stays = stays_copy_number r.headers n small there own;
-          props_there = put_has property_length_name copy_revision_name (spelled_number n) r.headers;
-          md5 = change.same md5_name refl;
-          sha1 = change.same sha1_name refl;
-          text_delta = change.same text_delta_name refl;
+          lines = lines;
+          md5 = lines.change.same md5_name refl;
+          sha1 = lines.change.same sha1_name refl;
+          text_delta = lines.change.same text_delta_name refl;
           copied = λ copies. (
             n,
             small,
@@ -375,18 +352,14 @@ node_lines settings kept number r mid rise lawful copy = by_plain (becomes_plain
           );
         }
 
-    by_copy : (b : Bool) → is_copy r ≡ b → MatchBool b
-        ((old n : ℕ) × (header_number copy_revision_name r.headers ≡ Some old) × IsWrittenCopyNumber settings kept old n
-        × (mid ≡ with_header_value copy_revision_name (spelled_number n) r.headers)) (mid ≡ r.headers)
+    by_copy : (b : Bool) → is_copy r ≡ b → MatchBool b (IsRenumbered settings kept r.headers mid) (mid ≡ r.headers)
         → IsNodeLines r.headers mid
     by_copy true is (old, n, read, new_is, lines) = subst (IsNodeLines r.headers) (sym lines)
         (numbered old n read new_is)
     by_copy false is lines = subst (IsNodeLines r.headers) (sym lines) (same is)
 
     by_plain : (b : Bool) → MatchBool b (mid ≡ without_copy_headers r.headers)
-        (MatchBool (is_copy r) ((old n : ℕ) × (header_number copy_revision_name r.headers ≡ Some old)
-        × IsWrittenCopyNumber settings kept old n ×
-        (mid ≡ with_header_value copy_revision_name (spelled_number n) r.headers)) (mid ≡ r.headers))
+        (MatchBool (is_copy r) (IsRenumbered settings kept r.headers mid) (mid ≡ r.headers))
         → IsNodeLines r.headers mid
     by_plain true lines = subst (IsNodeLines r.headers) (sym lines) plain
     by_plain false is = by_copy (is_copy r) refl is
@@ -474,16 +447,12 @@ never_plain s = never (is_copy s) _
     never false w = refl
 
 -- the lines of a copy stay as they stand
-stays_copy : (again : KeptRevisions) (s : DumpRecord) → is_block s.headers ≡ true
-    → (has_header copy_path_name s.headers ≡ true → (n : ℕ) × (n < 10 ^ 18)
-    × (has_header copy_revision_name s.headers ≡ true) × IsTold copy_revision_name n s.headers)
+stays_copy : (again : KeptRevisions) (s : DumpRecord) → is_block s.headers ≡ true → IsCopyTold s.headers
     → IsNewCopy keep_all again s s.headers
 stays_copy again s block copied = rw (never_plain s) (by_copy (is_copy s) refl)
   where
-    by_copy : (b : Bool) → is_copy s ≡ b → MatchBool (is_copy s)
-        ((old new : ℕ) × (header_number copy_revision_name s.headers ≡ Some old)
-        × IsWrittenCopyNumber keep_all again old new
-        × (s.headers ≡ with_header_value copy_revision_name (spelled_number new) s.headers)) (s.headers ≡ s.headers)
+    by_copy : (b : Bool) → is_copy s ≡ b
+        → MatchBool (is_copy s) (IsRenumbered keep_all again s.headers s.headers) (s.headers ≡ s.headers)
     by_copy true is =
         let (n, small, there, told) = copied is in
         let value = chosen (has_header copy_revision_name s.headers)
@@ -504,142 +473,113 @@ same_differs name r s size digest same (there, differs) =
     (sym (same_there name r.headers s.headers same) ∙ there, λ digits is. differs digits (same ∙ is))
 
 -- a kept node
-pub node_again : (settings : Settings) (kept : KeptRevisions) (number : ℕ) (r : DumpRecord) (after : List DumpRecord)
-    (front : List ℕ)
-    → is_block r.headers ≡ true → is_lawful number r.headers ≡ true → length r.props ≡ property_length r.headers
-    → length r.text ≡ text_length r.headers
+pub node_again : (settings : Settings) (kept : KeptRevisions) {number : ℕ} {text behind : List ℕ} {r : DumpRecord}
+    (after : List DumpRecord) (front : List ℕ) → BeginsWithRecord number text r behind
     → is_revision_record r ≡ false → is_kept_node settings r ≡ true → RiseFrom kept.first kept.numbers
-    → OwnValues settings kept
-    → ¬ HasBadMd5 settings r → ¬ HasBadSha1 settings r
+    → OwnValues settings kept → ¬ HasBadMd5 settings r → ¬ HasBadSha1 settings r
     → (has_lost_source settings r ≡ true → is_whole_file r ≡ true)
-    → ((block : List ℕ) → IsWrittenBlock settings kept r after block → length block + length r.text < 10 ^ 18)
-    → IsNodeOutput settings kept r front → (place : ℕ) → (s : DumpRecord) × (s.place ≡ place)
-    × IsReadAgain settings kept r after front s
-node_again settings kept number r after front block lawful props_fit text_fits no_revision is_kept rise values no_md5 no_sha1 whole fit (mid, old, new, copy, is_old, all, is) place = (
-  it place,
-  refl,
-  record {
-    feeds = 2;
-    spelled = is;
-    block = here_block;
-    lawful = new_lawful number r block lawful text_fits either mid l.touches l.change l.stays l.props_there false new small none;
-    props_fit = lengths.0;
-    text_fits = lengths.1;
-    version = refl;
-    version_line = new_version_line number r block lawful text_fits either mid l.touches l.change l.stays l.props_there
-        false new small none;
-    revision = lifted.revision;
-    node = lifted.node;
-    number = λ rev. absurd (absurd_bool (is_revision_record r) rev no_revision);
-    revision_again = λ rev. absurd (absurd_bool (is_revision_record r) rev no_revision);
-    node_again = λ node. record {
-      mid = mid;
-      old = old;
-      new = new;
-      new_copy = copy;
-      whole = whole;
-      old_list = is_old;
-      new_list = here;
-      new_props = all;
-      lines = refl;
-      text = refl;
-      small = small;
-      number_fits = number_fits settings kept r rise;
-    };
-    clean = record {
-      props = λ bad. bad.1 (new, here);
-      md5 = λ bad. no_md5 (is_kept, sym same_whole ∙ bad.1, same_differs md5_name r (it place) _ _ same_md5 bad.2);
-      sha1 = λ bad. no_sha1 (is_kept, sym same_whole ∙ bad.1, same_differs sha1_name r (it place) _ _ same_sha1 bad.2);
-      merge = no_bad_merge;
-    };
-    output = λ again after.
-        second_side (is_revision_record (it place))
-        (IsRevisionOutput keep_all again (group_of (it place) after) front) _
-        (lifted.revision ∙ no_revision)
-        (first_side (is_node (it place)) (IsNodeOutput keep_all again (it place) front) _ (lifted.node ∙ node)
-        (lines, new, new, stays_copy again (it place) here_block copied, here, own.1 again, written));
-  },
-)
+    → IsSmall settings kept r after → IsNodeOutput settings kept r front → StandsAgain settings kept r after front
+node_again settings kept {number} {text} {behind} {r} after front b no_revision is_kept rise values no_md5 no_sha1 whole
+    fit (mid, old, new, copy, is_old, all, is) place = (
+      it,
+      refl,
+      record {
+        feeds = 2;
+        spelled = is;
+        block = new_is_block w;
+        lawful = new_lawful w;
+        props_fit = (lengths_fit w).0;
+        text_fits = (lengths_fit w).1;
+        version = refl;
+        version_line = new_version_line w;
+        revision = (new_stays w).revision;
+        node = (new_stays w).node;
+        number = λ rev. absurd (absurd_bool (is_revision_record r) rev no_revision);
+        revision_again = λ rev. absurd (absurd_bool (is_revision_record r) rev no_revision);
+        node_again = λ node. record {
+          mid = mid;
+          old = old;
+          new = new;
+          new_copy = copy;
+          whole = whole;
+          old_list = is_old;
+          new_list = here;
+          new_props = all;
+          lines = refl;
+          text = refl;
+          small = w.small;
+          number_fits = number_fits settings kept r rise;
+        };
+        clean = record {
+          props = λ bad. bad.1 (new, here);
+          md5 = λ bad. no_md5 (is_kept, sym same_whole ∙ bad.1, same_differs md5_name r it _ _ same_md5 bad.2);
+          sha1 = λ bad. no_sha1 (is_kept, sym same_whole ∙ bad.1, same_differs sha1_name r it _ _ same_sha1 bad.2);
+          merge = no_bad_merge;
+        };
+        output = λ again after.
+            second_side (is_revision_record it) (IsRevisionOutput keep_all again (group_of it after) front) _
+            ((new_stays w).revision ∙ no_revision)
+            (first_side (is_node it) (IsNodeOutput keep_all again it front) _ ((new_stays w).node ∙ node)
+            (it.headers, new, new, stays_copy again it (new_is_block w) copied, here, own.1 again, written));
+      },
+    )
   where
     node : is_node r ≡ true
     node = first_true (is_node r) _ is_kept
 
     l : IsNodeLines r.headers mid
-    l = node_lines settings kept number r mid rise lawful copy
+    l = node_lines settings kept r mid rise (stays_same number r.headers b.lawful) copy
 
-    props : List ℕ
-    props = new_block false r new
+    w : IsRewritten r mid false new
+    w = record {
+      number = number;
+      block = b.block;
+      lawful = b.lawful;
+      text_fits = b.text_fits;
+      either = rw (no_revision, node) refl;
+      mid_lines = l.lines;
+      small = fit (new_block false r new) (old, new, is_old, rw node all, rw no_revision refl);
+      none = λ missing. none_new settings kept old new
+          (property_list_once r old [] is_old (no_list r (no_props b missing))) all;
+    }
 
-    either : (has_header revision_name r.headers || has_header path_name r.headers) ≡ true
-    either = rw (no_revision, node) refl
+    it : DumpRecord
+    it = again w place
 
-    small : length (new_block false r new) + length r.text < 10 ^ 18
-    small = fit (new_block false r new) (old, new, is_old, rw node all, rw no_revision refl)
+    here : HasPropertyList it new
+    here = reads_list w (λ deletes. is_old.1 (sym (same_deletes settings kept old new all) ∙ deletes)) place
 
-    none : (false || has_header property_length_name r.headers) ≡ false → new ≡ []
-    none missing =
-        let empty : r.props ≡ [] = nil_from_length r.props (props_fit ∙ no_length property_length_name r.headers missing) in
-        none_new settings kept old new (property_list_once r old [] is_old (no_list r empty)) all
+    same_md5 : header_value md5_name it.headers ≡ header_value md5_name r.headers
+    same_md5 = (others w).same md5_name refl ∙ l.md5
 
-    it : ℕ → DumpRecord
-    it = again number r block lawful text_fits either mid l.touches l.change l.stays l.props_there false new small none
+    same_sha1 : header_value sha1_name it.headers ≡ header_value sha1_name r.headers
+    same_sha1 = (others w).same sha1_name refl ∙ l.sha1
 
-    lines : List Header
-    lines = with_lengths props r.text mid
+    same_delta : header_value text_delta_name it.headers ≡ header_value text_delta_name r.headers
+    same_delta = (others w).same text_delta_name refl ∙ l.text_delta
 
-    here : HasPropertyList (it place) new
-    here =
-        reads_list number r block lawful text_fits either mid l.touches l.change l.stays l.props_there false new small
-        none (λ deletes. is_old.1 (sym (same_deletes settings kept old new all) ∙ deletes)) place
+    same_whole : has_whole_text it ≡ has_whole_text r
+    same_whole = rw ((new_stays w).text, (new_stays w).node, same_delta) refl
 
-    here_block : is_block lines ≡ true
-    here_block = new_is_block number r block lawful text_fits either mid l.touches l.change l.stays l.props_there false new small none
-
-    lifted : StaysLawful r.headers lines
-    lifted = new_stays number r block lawful text_fits either mid l.touches l.change l.stays l.props_there false new small none
-
-    lengths : (length props ≡ property_length lines) × (length r.text ≡ text_length lines)
-    lengths = told_lengths props r.text lines small
-        (told number r block lawful text_fits either mid l.touches l.change l.stays l.props_there false new small none)
-
-    others : IsChange is_length_name mid lines
-    others = lengths_change props r.text mid small
-
-    same_md5 : header_value md5_name lines ≡ header_value md5_name r.headers
-    same_md5 = others.same md5_name refl ∙ l.md5
-
-    same_sha1 : header_value sha1_name lines ≡ header_value sha1_name r.headers
-    same_sha1 = others.same sha1_name refl ∙ l.sha1
-
-    same_delta : header_value text_delta_name lines ≡ header_value text_delta_name r.headers
-    same_delta = others.same text_delta_name refl ∙ l.text_delta
-
-    same_whole : has_whole_text (it place) ≡ has_whole_text r
-    same_whole = rw (lifted.text, lifted.node, same_delta) refl
-
-    copied : has_header copy_path_name lines ≡ true → (n : ℕ) × (n < 10 ^ 18)
-        × (has_header copy_revision_name lines ≡ true) × IsTold copy_revision_name n lines
+    copied : IsCopyTold it.headers
     copied there =
-        let (n, few, revision, told) = l.copied (sym (same_has is_length_name mid lines others copy_path_name refl)
-        ∙ there) in (
+        let has = same_has is_length_name mid it.headers (others w) in
+        let (n, few, revision, told) = l.copied (sym (has copy_path_name refl) ∙ there) in (
           n,
           few,
-          same_has is_length_name mid lines others copy_revision_name refl
-              ∙ revision,
-          told_later copy_revision_name n is_length_name mid lines others refl told,
+          has copy_revision_name refl ∙ revision,
+          told_later copy_revision_name n is_length_name mid it.headers (others w) refl told,
         )
 
     own : All IsReadable new × ((again : KeptRevisions) → AreNewProperties keep_all again new new)
     own = own_properties settings kept values old new all
 
-    no_bad_merge : ¬ HasBadMergeinfo keep_all (it place)
+    no_bad_merge : ¬ HasBadMergeinfo keep_all it
     no_bad_merge (value, (keep, qs, is_qs, p, within, merge, same), bad) =
-        let list : qs ≡ new = property_list_once (it place) qs new is_qs here in
+        let list : qs ≡ new = property_list_once it qs new is_qs here in
         let good = All-contains IsReadable new p own.0
         (subst (λ (ps : List Property). Contains ps p) list within) merge in
         bad (subst HasMergeLines same good)
 
-    written : front ≡ whole_text lines (new_block false (it place) new) r.text ++ codes "\n\n"
-    written =
-        is ∙ sym (ap (λ t. t ++ codes "\n\n")
-        (same_text number r block lawful text_fits either mid l.touches l.change l.stays l.props_there false new small none lines refl))
+    written : front ≡ whole_text it.headers (new_block false it new) r.text ++ codes "\n\n"
+    written = is ∙ sym (ap (λ t. t ++ codes "\n\n") (same_text w it.headers refl))

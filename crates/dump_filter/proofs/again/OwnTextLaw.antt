@@ -14,14 +14,14 @@ use Rattle.dump_digest.specs.RecordParts.{is_revision_record, is_node, is_kept_n
 use Rattle.dump_filter.specs.FilterLaws.{LengthsFit, keep_all, KeepsItsOwnText}
 use Rattle.dump_filter.specs.Groups.{group_of, has_kept_node, keeps_group, revision_number, kept_revisions}
 use Rattle.dump_filter.specs.NewHeaders.{is_whole_file}
-use Rattle.dump_filter.specs.RecordOutput.{IsRevisionOutput, IsNodeOutput, IsWrittenBlock}
+use Rattle.dump_filter.specs.RecordOutput.{IsRevisionOutput, IsNodeOutput}
 use Rattle.dump_filter.specs.WholeText.{IsCleanText}
 use Rattle.dump_filter.specs.Written.{is_open}
 use Rattle.dump_text.proofs.BoolLemmas.{absurd_bool, not_so}
 use Rattle.dump_filter.proofs.knowing.Answered.{AllLawful, all_lawful}
 use Rattle.dump_filter.proofs.groups.KindLemmas.{alone}
-use Rattle.dump_filter.proofs.again.ReadAgain.{IsReadAgain, AreReadAgain, AtEach}
-use Rattle.dump_filter.proofs.again.Output.{header_small, other_again, revision_again, OwnValues, node_again}
+use Rattle.dump_filter.proofs.again.ReadAgain.{StandsAgain, AreReadAgain, AtEach}
+use Rattle.dump_filter.proofs.again.Output.{header_small, other_again, IsSmall, revision_again, OwnValues, node_again}
 use Rattle.dump_filter.proofs.again.Numbers.{kept_rise, positive, revisions_above}
 use Rattle.dump_filter.proofs.again.RecordList.{at_each, versions_again, HasAgain, records_again, some_again, all_paths, outputs_again}
 use Rattle.dump_filter.proofs.again.Free.{free_again}
@@ -80,8 +80,8 @@ module _ (settings : Settings) (dump text : List ℕ) (records : List DumpRecord
   -- each record that is written is read again
   record_again : (before after : List DumpRecord) (r : DumpRecord) → records ≡ before ++ r ∷ after
       → HasAgain settings kept r after
-  record_again before after r at front written output place = by_kind (is_revision_record r)
-      (is_node r) refl refl written output
+  record_again before after r at front written output = by_kind (is_revision_record r) (is_node r) refl refl written
+      output
     where
       stands : Stands r
       stands = stands_in 0 0 dump [] before after r (subst (λ (l : List DumpRecord). IsCutInto 0 0 dump l []) at cut)
@@ -89,7 +89,7 @@ module _ (settings : Settings) (dump text : List ℕ) (records : List DumpRecord
       b : BeginsWithRecord stands.0 stands.1 r stands.2
       b = stands.3
 
-      sizes : (block : List ℕ) → IsWrittenBlock settings kept r after block → length block + length r.text < 10 ^ 18
+      sizes : IsSmall settings kept r after
       sizes block is = fit before after r block at written is
 
       above : is_revision_record r ≡ true → kept.first ≤ revision_number r
@@ -101,28 +101,28 @@ module _ (settings : Settings) (dump text : List ℕ) (records : List DumpRecord
 
       number_small : is_revision_record r ≡ true → (renumber : Bool)
           → (if renumber then new_number kept (revision_number r) else revision_number r) < 10 ^ 18
-      number_small rev true = let below = new_number_fits kept (revision_number r) rise
-          (above rev) in let small = revision_small r in omega (arith, below, small)
+      number_small rev true =
+          let below = new_number_fits kept (revision_number r) rise (above rev) in
+          let small = revision_small r in
+          omega (arith, below, small)
       number_small rev false = revision_small r
 
       by_kind : (v n : Bool) → is_revision_record r ≡ v → is_node r ≡ n
-          → (if v then keeps_group settings (group_of r after) &&
-          (true || not (is_open after) || has_kept_node settings
-          (group_of r after)) else if n then is_kept_node settings r else true) ≡ true
+          → (if v then keeps_group settings (group_of r after)
+          && (true || not (is_open after) || has_kept_node settings (group_of r after))
+          else if n then is_kept_node settings r else true) ≡ true
           → MatchBool v (IsRevisionOutput settings kept (group_of r after) front)
           (MatchBool n (IsNodeOutput settings kept r front) (front ≡ block_text r.headers))
-          → (s : DumpRecord) × (s.place ≡ place) × IsReadAgain settings kept r after front s
+          → StandsAgain settings kept r after front
       by_kind true n rev node kept_group out =
           let no_node : is_node r ≡ false = not_so (is_node r)
           (λ is. absurd_bool (is_revision_record r) rev (alone stands.0 r b.lawful is)) in
-          revision_again settings kept stands.0 r after front b.block b.lawful b.props_fit b.text_fits rev no_node
-          (number_small rev settings.renumber) sizes out place
+          revision_again settings kept after front b rev no_node (number_small rev settings.renumber) sizes out
       by_kind false true no_rev node keep out =
-          node_again settings kept stands.0 r after front b.block b.lawful b.props_fit b.text_fits no_rev keep rise values
-          (clean.fault_free before after r at faults.Md5)
-          (clean.fault_free before after r at faults.Sha1)
-          (whole_where_lost settings r keep (clean.fault_free before after r at faults.CopySource)) sizes out place
-      by_kind false false no_rev no_node always out = other_again settings kept stands.0 r after front b.block b.lawful no_rev no_node out place
+          node_again settings kept after front b no_rev keep rise values
+          (clean.fault_free before after r at faults.Md5) (clean.fault_free before after r at faults.Sha1)
+          (whole_where_lost settings r keep (clean.fault_free before after r at faults.CopySource)) sizes out
+      by_kind false false no_rev no_node always out = other_again settings kept after front b no_rev no_node out
 
   lawful : AllLawful records
   lawful = all_lawful 0 0 dump [] records cut

@@ -1,5 +1,5 @@
 -- What is written of a record, as the record that it is when it is read again.
-use Rattle.std.proofs.Common.{◌≡◌, ℕ, ◌+◌, ◌<◌, ◌^◌, true, false, List, [], ◌∷◌, ◌++◌, length, Some, MatchBool}
+use Rattle.std.proofs.Common.{◌≡◌, ℕ, ◌+◌, ◌<◌, ◌^◌, Bool, true, false, List, [], ◌∷◌, ◌++◌, length, Some, MatchBool}
 use Rattle.dump_text.specs.Names.{version_name, copy_revision_name}
 use Rattle.dump_text.specs.HeaderLine.{Header, has_header}
 use Rattle.dump_text.specs.HeaderBlock.{is_block}
@@ -65,14 +65,26 @@ pub record IsReadAgain (settings : Settings) (kept : KeptRevisions) (r : DumpRec
   pub clean : IsClean s
   pub output : (again : KeptRevisions) (after : List DumpRecord) → IsOutput keep_all again s after front
 
+-- wherever what is written of the record comes to stand, it is a record again
+abbrev pub StandsAgain : Settings → KeptRevisions → DumpRecord → List DumpRecord → List ℕ → Type 0
+StandsAgain settings kept r after front =
+    (place : ℕ) → (s : DumpRecord) × (s.place ≡ place) × IsReadAgain settings kept r after front s
+
+-- what is written of a record is the first of the records again, before these others, if it is written
+abbrev pub IsFirstAgain : Settings → KeptRevisions → DumpRecord → List DumpRecord → List ℕ
+    → (List DumpRecord → Type 0) → List DumpRecord → Bool → Type 0
+IsFirstAgain settings kept r after front AreOthers again written =
+    MatchBool written
+    ((s : DumpRecord) × (more : List DumpRecord) × (again ≡ s ∷ more) × IsReadAgain settings kept r after front s
+    × AreOthers more)
+    ((front ≡ []) × AreOthers again)
+
 -- what is written of the records, in order, is the text, and these records again
 abbrev pub AreReadAgain : Settings → KeptRevisions → List DumpRecord → List ℕ → List DumpRecord → Type 0
 AreReadAgain settings kept [] text again = (text ≡ []) × (again ≡ [])
 AreReadAgain settings kept (r ∷ after) text again = (front rest : List ℕ) × (text ≡ front ++ rest)
-    × MatchBool (is_written settings true r after)
-    ((s : DumpRecord) × (more : List DumpRecord) × (again ≡ s ∷ more) × IsReadAgain settings kept r after front s
-    × AreReadAgain settings kept after rest more)
-    ((front ≡ []) × AreReadAgain settings kept after rest again)
+    × IsFirstAgain settings kept r after front (AreReadAgain settings kept after rest) again
+    (is_written settings true r after)
 
 -- of each record, with those before it and behind it, this is so
 abbrev pub AtEach : (List DumpRecord → DumpRecord → List DumpRecord → Type 0) → List DumpRecord → List DumpRecord

@@ -1,15 +1,17 @@
 -- What is written of a record is a record again.
-use Rattle.std.proofs.Common.{◌≡◌, ℕ, ◌+◌, ◌<◌, ◌^◌, ◌==◌, Bool, true, false, not, ◌&&◌, ◌||◌, List, [], ◌++◌, length, refl, sym, ap, ◌∙◌, subst, arith, inl, Some, length-append, flat_map, MatchBool, if◌then◌else◌}
+use Rattle.std.proofs.Common.{◌≡◌, ℕ, ◌+◌, ◌<◌, ◌^◌, ◌==◌, Bool, true, false, not, ◌&&◌, ◌||◌, List, [], ◌++◌, length, refl, sym, ap, ◌∙◌, subst, arith, inl, Some, is_none, bytes_eq, length-append, flat_map, MatchBool, if◌then◌else◌}
 use Rattle.std.proofs.Math.Bool.{and-false}
 use Rattle.std.proofs.lemmas.Bool.{eqb-true}
+use Rattle.std.proofs.lemmas.Slice.Eq.{bytes_eq-Decides}
 use Rattle.dump_text.specs.Number.{spelled_number}
 use Rattle.dump_text.specs.Names.{version_name, uuid_name, revision_name, path_name, copy_revision_name, copy_path_name, property_length_name, text_length_name, content_length_name}
 use Rattle.dump_text.specs.HeaderLine.{Header, has_header, header_value, with_header_value}
 use Rattle.dump_text.specs.HeaderBlock.{is_block, block_text}
 use Rattle.dump_text.specs.PropertyList.{Property, IsPropertyBlock, has_deletes, block_end, entry_text, property_block_text}
 use Rattle.dump_text.proofs.WrittenLemmas.{short_block}
-use Rattle.dump_records.specs.HeaderRules.{version_from, property_length, text_length, has_bad_kind, has_bad_version, has_bad_number, has_bad_lengths}
+use Rattle.dump_records.specs.HeaderRules.{header_number, version_from, property_length, text_length, has_bad_kind, has_bad_version, has_bad_number, has_bad_lengths}
 use Rattle.dump_records.specs.RecordText.{DumpRecord, is_lawful}
+use Rattle.dump_records.proofs.HeaderLemmas.{deciding}
 use Rattle.dump_records.proofs.Unique.{Keeps, keeps}
 use Rattle.dump_digest.specs.RecordParts.{takes_deletes, HasPropertyList}
 use Rattle.dump_filter.specs.NewContent.{new_block}
@@ -19,7 +21,7 @@ use Rattle.dump_filter.specs.RecordOutput.{whole_text}
 use Rattle.dump_text.proofs.BoolLemmas.{first_false, second_false, not_so, absurd_bool}
 use Rattle.dump_filter.proofs.written.HeaderLemmas.{no_length}
 use Rattle.dump_filter.proofs.again.LineChanges.{IsChange, spelled_line, same_has, block_stays, both_changes, put_has, put_change, go_change, gone, IsTold, told_put, told_reads}
-use Rattle.dump_filter.proofs.again.Headers.{is_length_name, AreTold, lengths_change, text_stays, props_stay, lengths_told, lengths_again, no_others, StaysLawful, lawful_again}
+use Rattle.dump_filter.proofs.again.Headers.{is_length_name, AreTold, lengths_change, text_stays, props_stay, lengths_told, told_lengths, lengths_again, no_others, StaysLawful, lawful_again}
 
 -- version and UUID records
 
@@ -49,14 +51,12 @@ any_number number m headers lawful first =
 module _ (headers : List Header) (good : has_bad_kind headers ≡ false) (fine : has_bad_lengths headers ≡ false)
     (no_revision : has_header revision_name headers ≡ false) (no_node : has_header path_name headers ≡ false) where
   one_of : (has_header version_name headers || has_header uuid_name headers) ≡ true
-  one_of = cases (has_header version_name headers) (has_header uuid_name headers) refl refl
+  one_of = cases (has_header version_name headers) refl
     where
-      cases : (v u : Bool) → has_header version_name headers ≡ v → has_header uuid_name headers ≡ u
+      cases : (v : Bool) → has_header version_name headers ≡ v
           → (has_header version_name headers || has_header uuid_name headers) ≡ true
-      cases true u is-v is-u = rw is-v refl
-      cases false true is-v is-u = rw (is-v, is-u) refl
-      cases false false is-v is-u = absurd (absurd_bool (has_bad_kind headers)
-          (rw (is-v, is-u, no_revision, no_node) refl) good)
+      cases true is = rw is refl
+      cases false is = rw is ((deciding headers good).left is no_revision no_node)
 
   no_lengths : (has_header property_length_name headers ||
       (has_header text_length_name headers || (has_header content_length_name headers || false))) ≡ false
@@ -92,114 +92,102 @@ stays_same number headers lawful =
       copy_number = first_false _ _ (second_false _ _ numbers);
     }
 
--- a revision's lines under a new number keep what they need to break no rule
-pub stays_revision : (old : List Header) (n : ℕ) → n < 10 ^ 18 → has_header revision_name old ≡ true
-    → StaysLawful old old → StaysLawful old (with_header_value revision_name (spelled_number n) old)
-stays_revision old n small has stays =
-    let v = spelled_number n in
-    let other = (put_change revision_name v old (spelled_line n small)).same in
-    let told = told_put revision_name n old (λ none. absurd (absurd_bool (has_header revision_name old) has none)) in
-    record {
-      version = put_has version_name revision_name v old;
-      uuid = put_has uuid_name revision_name v old;
-      revision = put_has revision_name revision_name v old;
-      node = put_has path_name revision_name v old;
-      text = put_has text_length_name revision_name v old;
-      copies = rw (
-        put_has path_name revision_name v old,
-        put_has copy_revision_name revision_name v old,
-        put_has copy_path_name revision_name v old,
-      ) stays.copies;
-      revision_number = (told_reads revision_name n (with_header_value revision_name v old) small told).1;
-      copy_number = rw (
-        put_has copy_revision_name revision_name v old,
-        other copy_revision_name refl,
-      ) stays.copy_number;
-    }
+-- lines under a new number keep what they need to break no rule
+pub stays_number : (name : List ℕ) (old : List Header) (n : ℕ) → n < 10 ^ 18 → has_header name old ≡ true
+    → StaysLawful old old → StaysLawful old (with_header_value name (spelled_number n) old)
+stays_number name old n small has stays = record {
+  version = there version_name;
+  uuid = there uuid_name;
+  revision = there revision_name;
+  node = there path_name;
+  text = there text_length_name;
+  copies = rw (there path_name, there copy_revision_name, there copy_path_name) stays.copies;
+  revision_number = reads revision_name stays.revision_number (bytes_eq name revision_name) refl;
+  copy_number = reads copy_revision_name stays.copy_number (bytes_eq name copy_revision_name) refl;
+}
+  where
+    new : List Header
+    new = with_header_value name (spelled_number n) old
 
--- a node's lines under a new copy revision keep what they need to break no rule
-pub stays_copy_number : (old : List Header) (n : ℕ) → n < 10 ^ 18 → has_header copy_revision_name old ≡ true
-    → StaysLawful old old
-    → StaysLawful old (with_header_value copy_revision_name (spelled_number n) old)
-stays_copy_number old n small has stays =
-    let v = spelled_number n in
-    let other = (put_change copy_revision_name v old (spelled_line n small)).same in
-    let told = told_put copy_revision_name n old (λ none. absurd
-    (absurd_bool (has_header copy_revision_name old) has none)) in
-    record {
-      version = put_has version_name copy_revision_name v old;
-      uuid = put_has uuid_name copy_revision_name v old;
-      revision = put_has revision_name copy_revision_name v old;
-      node = put_has path_name copy_revision_name v old;
-      text = put_has text_length_name copy_revision_name v old;
-      copies = rw (
-        put_has path_name copy_revision_name v old,
-        put_has copy_revision_name copy_revision_name v old,
-        put_has copy_path_name copy_revision_name v old,
-      ) stays.copies;
-      revision_number = rw (
-        put_has revision_name copy_revision_name v old,
-        other revision_name refl,
-      ) stays.revision_number;
-      copy_number = (told_reads copy_revision_name n (with_header_value copy_revision_name v old) small told).1;
-    }
+    there : (other : List ℕ) → has_header other new ≡ has_header other old
+    there other = put_has other name (spelled_number n) old
+
+    told : IsTold name n new
+    told = told_put name n old (λ none. absurd (absurd_bool (has_header name old) has none))
+
+    reads : (other : List ℕ) → (has_header other old && is_none (header_number other old)) ≡ false → (b : Bool)
+        → bytes_eq name other ≡ b → (has_header other new && is_none (header_number other new)) ≡ false
+    reads other read true is =
+        subst (λ (m : List ℕ). (has_header m new && is_none (header_number m new)) ≡ false)
+        ((bytes_eq-Decides name other).0 is) (told_reads name n new small told).1
+    reads other read false apart =
+        rw (there other, (put_change name (spelled_number n) old (spelled_line n small)).same other apart) read
 
 -- lines without their copy source keep what they need to break no rule
 pub stays_plain : (old : List Header) → StaysLawful old old → StaysLawful old (without_copy_headers old)
 stays_plain old stays =
     let change = go_change old in
+    let has = same_has is_copy_line old (without_copy_headers old) change in
     record {
-      version = same_has is_copy_line old (without_copy_headers old) change version_name refl;
-      uuid = same_has is_copy_line old (without_copy_headers old) change uuid_name refl;
-      revision = same_has is_copy_line old (without_copy_headers old) change revision_name refl;
-      node = same_has is_copy_line old (without_copy_headers old) change path_name refl;
-      text = same_has is_copy_line old (without_copy_headers old) change text_length_name refl;
+      version = has version_name refl;
+      uuid = has uuid_name refl;
+      revision = has revision_name refl;
+      node = has path_name refl;
+      text = has text_length_name refl;
       copies = rw (gone copy_revision_name refl old, gone copy_path_name refl old)
           (and-false (has_header path_name (without_copy_headers old)));
-      revision_number = rw (
-        same_has is_copy_line old (without_copy_headers old) change revision_name refl,
-        change.same revision_name refl,
-      ) stays.revision_number;
+      revision_number = rw (has revision_name refl, change.same revision_name refl) stays.revision_number;
       copy_number = rw (gone copy_revision_name refl old) refl;
     }
 
 stays_lengths : (old mid : List Header) (props text : List ℕ) → length props + length text < 10 ^ 18
     → StaysLawful old mid → StaysLawful old (with_lengths props text mid)
 stays_lengths old mid props text small stays =
-    let new = with_lengths props text mid in
     let change = lengths_change props text mid small in
+    let has = same_has is_length_name mid (with_lengths props text mid) change in
     record {
-      version = same_has is_length_name mid new change version_name refl ∙ stays.version;
-      uuid = same_has is_length_name mid new change uuid_name refl ∙ stays.uuid;
-      revision = same_has is_length_name mid new change revision_name refl ∙ stays.revision;
-      node = same_has is_length_name mid new change path_name refl ∙ stays.node;
+      version = has version_name refl ∙ stays.version;
+      uuid = has uuid_name refl ∙ stays.uuid;
+      revision = has revision_name refl ∙ stays.revision;
+      node = has path_name refl ∙ stays.node;
       text = text_stays props text mid small ∙ stays.text;
-      copies = rw (
-        same_has is_length_name mid new change path_name refl,
-        same_has is_length_name mid new change copy_revision_name refl,
-        same_has is_length_name mid new change copy_path_name refl,
-      ) stays.copies;
-      revision_number = rw (
-        same_has is_length_name mid new change revision_name refl,
-        change.same revision_name refl,
-      ) stays.revision_number;
-      copy_number = rw (
-        same_has is_length_name mid new change copy_revision_name refl,
-        change.same copy_revision_name refl,
-      ) stays.copy_number;
+      copies = rw (has path_name refl, has copy_revision_name refl, has copy_path_name refl) stays.copies;
+      revision_number = rw (has revision_name refl, change.same revision_name refl) stays.revision_number;
+      copy_number = rw (has copy_revision_name refl, change.same copy_revision_name refl) stays.copy_number;
     }
 
--- the record that is written of a revision or node r: under new lines, and with the lengths of its new properties
-module _ (number : ℕ) (r : DumpRecord) (is_lines : is_block r.headers ≡ true)
-    (lawful : is_lawful number r.headers ≡ true) (fits : length r.text ≡ text_length r.headers)
-    (either : (has_header revision_name r.headers || has_header path_name r.headers) ≡ true) (mid : List Header)
-    (touches : List ℕ → Bool) (change : IsChange touches r.headers mid)
-    (stays : StaysLawful r.headers mid)
-    (props_there : has_header property_length_name mid ≡ has_header property_length_name r.headers) (padded : Bool)
-    (new : List Property)
-    (small : length (new_block padded r new) + length r.text < 10 ^ 18)
-    (none : (padded || has_header property_length_name r.headers) ≡ false → new ≡ []) where
-  abbrev pub props : List ℕ
+-- what becomes of a revision's or a node's lines before their lengths are written
+pub record AreNewLines (old new : List Header) : Type 0 where
+  pub touches : List ℕ → Bool
+  pub change : IsChange touches old new
+  pub stays : StaysLawful old new
+  pub props_there : has_header property_length_name new ≡ has_header property_length_name old
+
+-- lines under a new number, as the new lines of a record
+abbrev pub numbered_lines : (name : List ℕ) (old : List Header) (n : ℕ) → n < 10 ^ 18 → has_header name old ≡ true
+    → StaysLawful old old → AreNewLines old (with_header_value name (spelled_number n) old)
+numbered_lines name old n small has stays = record {
+  touches = bytes_eq name;
+  change = put_change name (spelled_number n) old (spelled_line n small);
+  stays = stays_number name old n small has stays;
+  props_there = put_has property_length_name name (spelled_number n) old;
+}
+
+-- a revision or node r under these lines and with these properties, as it is written
+pub record IsRewritten (r : DumpRecord) (mid : List Header) (padded : Bool) (new : List Property) : Type 0 where
+  pub number : ℕ
+  pub block : is_block r.headers ≡ true
+  pub lawful : is_lawful number r.headers ≡ true
+  pub text_fits : length r.text ≡ text_length r.headers
+  pub either : (has_header revision_name r.headers || has_header path_name r.headers) ≡ true
+  pub mid_lines : AreNewLines r.headers mid
+  pub small : length (new_block padded r new) + length r.text < 10 ^ 18
+  pub none : (padded || has_header property_length_name r.headers) ≡ false → new ≡ []
+
+-- the record that is written: under the new lines, with the lengths of its new properties
+module _ {r : DumpRecord} {mid : List Header} {padded : Bool} {new : List Property}
+    (w : IsRewritten r mid padded new) where
+  abbrev props : List ℕ
   props = new_block padded r new
 
   abbrev pub lines : List Header
@@ -209,16 +197,23 @@ module _ (number : ℕ) (r : DumpRecord) (is_lines : is_block r.headers ≡ true
   abbrev pub again : ℕ → DumpRecord
   again place = record { place = place; version = r.version; headers = lines; props = props; text = r.text }
 
+  -- no line but those of lengths differs from the lines before
+  pub others : IsChange is_length_name mid lines
+  others = lengths_change props r.text mid w.small
+
   no_text : has_header text_length_name mid ≡ false → length r.text ≡ 0
-  no_text missing = fits ∙ no_length text_length_name r.headers (sym stays.text ∙ missing)
+  no_text missing = w.text_fits ∙ no_length text_length_name r.headers (sym w.mid_lines.stays.text ∙ missing)
+
+  told : AreTold props r.text lines
+  told = lengths_told props r.text mid w.small no_text
 
   -- the new lines tell the lengths of the properties and of the text
-  pub told : AreTold props r.text lines
-  told = lengths_told props r.text mid small no_text
+  pub lengths_fit : (length props ≡ property_length lines) × (length r.text ≡ text_length lines)
+  lengths_fit = told_lengths props r.text lines w.small told
 
   -- the new lines keep what they need of the old ones to break no rule
   pub new_stays : StaysLawful r.headers lines
-  new_stays = stays_lengths r.headers mid props r.text small stays
+  new_stays = stays_lengths r.headers mid props r.text w.small w.mid_lines.stays
 
   -- the new lines are a block
   pub new_is_block : is_block lines ≡ true
@@ -226,35 +221,34 @@ module _ (number : ℕ) (r : DumpRecord) (is_lines : is_block r.headers ≡ true
     where
       stay : (name : List ℕ) → has_header name lines ≡ true → is_block lines ≡ true
       stay name has =
-          block_stays (λ other. touches other || is_length_name other) r.headers lines
-          (both_changes touches r.headers mid lines is_length_name change
-          (lengths_change props r.text mid small)) name has is_lines
+          block_stays (λ other. w.mid_lines.touches other || is_length_name other) r.headers lines
+          (both_changes w.mid_lines.touches r.headers mid lines is_length_name w.mid_lines.change others) name has w.block
 
       by_revision : (b : Bool) → has_header revision_name r.headers ≡ b → is_block lines ≡ true
       by_revision true is = stay revision_name (new_stays.revision ∙ is)
       by_revision false is = stay path_name (new_stays.node ∙ sym (ap (λ b. b || has_header path_name r.headers) is)
-          ∙ either)
+          ∙ w.either)
 
   -- the new lines break no rule in any place of a dump, but that a version record stands first
   pub new_lawful : (m : ℕ) → (m ≡ 0 → has_header version_name r.headers ≡ true) → is_lawful m lines ≡ true
-  new_lawful = lawful_again number r.headers lines lawful either new_stays props r.text small told
+  new_lawful = lawful_again w.number r.headers lines w.lawful w.either new_stays props r.text w.small told
 
   -- there is no version line, neither before nor now
   pub new_version_line : (before : ℕ) → version_from before lines ≡ version_from before r.headers
   new_version_line before =
-      let good = not_so (has_bad_kind r.headers) (keeps number r.headers lawful).kind in
-      rw (new_stays.version, (no_others r.headers good either).0) refl
+      let good = not_so (has_bad_kind r.headers) (keeps w.number r.headers w.lawful).kind in
+      rw (new_stays.version, (no_others r.headers good w.either).0) refl
 
   -- the block of the new properties is one that is read again, and it stays as it stands
   reads : IsPropertyBlock props new
-  reads = by_block (padded || has_header property_length_name r.headers) refl small
+  reads = by_block (padded || has_header property_length_name r.headers) refl w.small
     where
       by_block : (b : Bool) → (padded || has_header property_length_name r.headers) ≡ b
           → length (if b then property_block_text new else []) + length r.text < 10 ^ 18
           → IsPropertyBlock
           (if padded || has_header property_length_name r.headers then property_block_text new else []) new
       by_block true is few = rw is (short_block new (omega (arith, few)))
-      by_block false is few = rw is (inl (refl, none is))
+      by_block false is few = rw is (inl (refl, w.none is))
 
   -- the new properties are those of the record, if deleted ones may stand among them
   pub reads_list : (has_deletes new ≡ true → takes_deletes r ≡ true) → (place : ℕ) → HasPropertyList (again place) new
@@ -283,8 +277,8 @@ module _ (number : ℕ) (r : DumpRecord) (is_lines : is_block r.headers ≡ true
       by_block false is t =
           let empty : props ≡ [] = rw is refl in
           let missing : has_header property_length_name lines ≡ false =
-          props_stay props r.text mid small (ap length empty)
-          (props_there ∙ second_false padded (has_header property_length_name r.headers) is) in
+          props_stay props r.text mid w.small (ap length empty)
+          (w.mid_lines.props_there ∙ second_false padded (has_header property_length_name r.headers) is) in
           rw missing (sym empty)
 
   same_lines : with_lengths props r.text lines ≡ lines

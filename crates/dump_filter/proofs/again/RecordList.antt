@@ -20,7 +20,7 @@ use Rattle.dump_filter.specs.Written.{is_written, AreOutputs}
 use Rattle.dump_text.proofs.BoolLemmas.{absurd_bool, both_true, not_so}
 use Rattle.dump_filter.proofs.groups.KindLemmas.{IsOfKind, of_kind}
 use Rattle.dump_filter.proofs.knowing.Answered.{AllLawful}
-use Rattle.dump_filter.proofs.again.ReadAgain.{IsReadAgain, AreReadAgain, AtEach}
+use Rattle.dump_filter.proofs.again.ReadAgain.{IsReadAgain, StandsAgain, IsFirstAgain, AreReadAgain, AtEach}
 
 -- of each record
 
@@ -87,10 +87,7 @@ versions_again settings kept before (r ∷ rest) text again lawful (version, hav
     (λ more reads. versions_again settings kept r.version rest behind more lawful.1 have reads)
   where
     cases : (w : Bool) → is_written settings true r rest ≡ w
-        → MatchBool w
-        ((s : DumpRecord) × (more : List DumpRecord) × (again ≡ s ∷ more) × IsReadAgain settings kept r rest front s
-        × AreReadAgain settings kept rest behind more)
-        ((front ≡ []) × AreReadAgain settings kept rest behind again)
+        → IsFirstAgain settings kept r rest front (AreReadAgain settings kept rest behind) again w
         → ((more : List DumpRecord) → AreReadAgain settings kept rest behind more → HaveVersions r.version more)
         → HaveVersions before again
     cases true written (s, more, same, read, reads) later =
@@ -107,8 +104,7 @@ versions_again settings kept before (r ∷ rest) text again lawful (version, hav
 -- what is written of a record, if it is written, is a record again, wherever it comes to stand
 abbrev pub HasAgain : Settings → KeptRevisions → DumpRecord → List DumpRecord → Type 0
 HasAgain settings kept r after = (front : List ℕ) → is_written settings true r after ≡ true
-    → IsOutput settings kept r after front
-    → (place : ℕ) → (s : DumpRecord) × (s.place ≡ place) × IsReadAgain settings kept r after front s
+    → IsOutput settings kept r after front → StandsAgain settings kept r after front
 
 module _ (settings : Settings) (kept : KeptRevisions) where
   -- the text, with LFs before it, is cut into what is written of the records
@@ -230,11 +226,7 @@ outputs_again settings kept [] text again (none, no_more) all = subst
 outputs_again settings kept (r ∷ rest) text again (front, behind, is, this) all =
     cases (is_written settings true r rest) this (λ more read. outputs_again settings kept rest behind more read all)
   where
-    cases : (w : Bool)
-        → MatchBool w
-        ((s : DumpRecord) × (more : List DumpRecord) × (again ≡ s ∷ more) × IsReadAgain settings kept r rest front s
-        × AreReadAgain settings kept rest behind more)
-        ((front ≡ []) × AreReadAgain settings kept rest behind again)
+    cases : (w : Bool) → IsFirstAgain settings kept r rest front (AreReadAgain settings kept rest behind) again w
         → ((more : List DumpRecord) → AreReadAgain settings kept rest behind more
         → AreOutputs keep_all true all more behind)
         → AreOutputs keep_all true all again text

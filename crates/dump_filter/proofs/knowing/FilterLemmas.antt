@@ -7,6 +7,7 @@ use Rattle.dump_text.specs.declared.fault.FaultKind.{FaultKind}
 use Rattle.dump_text.specs.declared.fault.FaultKind.TheVariants as faults
 use Rattle.dump_text.specs.FaultTable.{NoFault}
 use Rattle.dump_text.specs.PropertyList.{Property}
+use Rattle.dump_text.proofs.Unique.{tail-eq}
 use Rattle.dump_digest.proofs.PropertyBlocks.{block_or_not}
 use Rattle.dump_records.specs.declared.record.Record.{Record}
 use Rattle.dump_records.specs.RecordText.{DumpRecord}
@@ -63,33 +64,25 @@ up_to_accepted settings active None rs a = a
 up_to_accepted settings active (Some r) rs a = a
 
 -- no record stands in no list
-no_snoc : (b a : List DumpRecord) (x : DumpRecord) → [] ≡ b ++ x ∷ a → ⊥
-no_snoc [] a x e = cc
-no_snoc (c ∷ b) a x e = cc
+pub none_within : (b a : List DumpRecord) (x : DumpRecord) → [] ≡ b ++ x ∷ a → ⊥
+none_within [] a x e = cc
+none_within (c ∷ b) a x e = cc
 
 -- an empty list of records has no fault
 pub free_none : (settings : Settings) → AreFaultFree settings []
-free_none settings = λ b a x is. absurd (no_snoc b a x is)
+free_none settings = λ b a x is. absurd (none_within b a x is)
 
--- equal lists have equal first records
-pub head_of : (x y : DumpRecord) (xs ys : List DumpRecord) → x ∷ xs ≡ y ∷ ys → x ≡ y
-head_of x y xs ys e = cc
-
--- and what stands behind these is equal
-pub tail_of : (x y : DumpRecord) (xs ys : List DumpRecord) → x ∷ xs ≡ y ∷ ys → xs ≡ ys
-tail_of x y xs ys e = cc
-
--- one more record without a fault
+-- a record of some records and one more is one of these, or that one
 snoc_split : (before b a : List DumpRecord) (r x : DumpRecord) → before ++ r ∷ [] ≡ b ++ x ∷ a
     → ((before ≡ b) × (r ≡ x)) ⊎ ((rest : List DumpRecord) × (before ≡ b ++ x ∷ rest))
 snoc_split [] [] a r x is = inl (refl, cc)
-snoc_split [] (c ∷ b) a r x is = absurd (no_snoc b a x (tail_of r c [] (b ++ x ∷ a) is))
-snoc_split (y ∷ before) [] a r x is =
-    inr (before, (let e : y ≡ x = head_of y x (before ++ r ∷ []) a is in ap (λ z. z ∷ before) e))
+snoc_split [] (c ∷ b) a r x is = absurd (none_within b a x (tail-eq r c [] (b ++ x ∷ a) is))
+snoc_split (y ∷ before) [] a r x is = let same : y ≡ x = cc in inr (before, ap (λ z. z ∷ before) same)
 snoc_split (y ∷ before) (c ∷ b) a r x is =
-    elim (snoc_split before b a r x (tail_of y c (before ++ r ∷ []) (b ++ x ∷ a) is)) [
-      | inl same ↦ inl ((λ i. head_of y c (before ++ r ∷ []) (b ++ x ∷ a) is i ∷ same.0 i), same.1)
-      | inr more ↦ inr (more.0, (λ i. head_of y c (before ++ r ∷ []) (b ++ x ∷ a) is i ∷ more.1 i))
+    let same : y ≡ c = cc in
+    elim (snoc_split before b a r x (tail-eq y c (before ++ r ∷ []) (b ++ x ∷ a) is)) [
+      | inl (l, last) ↦ inl ((λ i. same i ∷ l i), last)
+      | inr (rest, l) ↦ inr (rest, (λ i. same i ∷ l i))
     ]
 
 -- records without a fault, with one more that has none, have no fault
