@@ -116,7 +116,8 @@ pub(crate) fn revision_properties(
         → made_or made r.props ≡ new_block padded r (revision_properties padded ps)) }
 {
     if padded {
-        let bytes = write_padding(alloc, props.get(DATE))?;
+        let date = props.get(DATE);
+        let bytes = write_padding(alloc, date)?;
         return Ok(Some(bytes));
     }
     respelled_block(alloc, item, props)

@@ -10,7 +10,7 @@ use Rattle.dump_filter.proofs.answer.DecisionLemmas.{node_is_taken, decided_in_o
 use Rattle.dump_filter.proofs.decide.decide.Goals as goal
 
 pub fate_of-requires-clause-taken : goal.fate_of-requires-clause-taken
-fate_of-requires-clause-taken c = λ keep.
+fate_of-requires-clause-taken c keep =
     let s = view_state c.args.state.now in
     let order = ap (λ (x : Record). is_in_order s (record_item x)) (sym c.item-item.ensures) ∙ sym c.is_in_order.ensures
     ∙ c.if-not-is_in_order.false in
@@ -18,7 +18,7 @@ fate_of-requires-clause-taken c = λ keep.
     order
 
 pub returns : goal.returns
-returns c = λ ps asked.
+returns c ps asked =
     let options = c.args.options.now in
     let s = view_state c.args.state.now in
     let r = record_item (done_record c.args.done.now) in

@@ -17,7 +17,7 @@ node_fate-requires-clause-taken c =
     c.requires.taken keep
 
 pub returns-then-is_kept : goal.returns-then-is_kept
-returns-then-is_kept c = λ ps list.
+returns-then-is_kept c ps list =
     let d = c.args.done.now in
     let r = record_item (done_record d) in
     let keep = subst (λ (s : Settings). is_kept_node s r ≡ true) c.requires.options
@@ -26,7 +26,7 @@ returns-then-is_kept c = λ ps list.
     ∙ sym (fate_of_node c.args.options.now (view_state c.args.state.now) r (done_verdict d).merge_ok ps keep)
 
 pub returns-in-Revision : goal.returns-in-Revision
-returns-in-Revision c = λ ps list.
+returns-in-Revision c ps list =
     let d = c.args.done.now in
     let item = c.item.result in
     let kind = subst (λ (x : Record). IsOfKind (record_item x) kinds.Revision) c.item.ensures

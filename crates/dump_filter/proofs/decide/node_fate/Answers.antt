@@ -14,7 +14,7 @@ node_revision-present-requires c =
     present_there c.args.state.now.revisions (view_group c.args.state.now.group) c.requires.kept c.requires.taken
 
 pub returns-in-Some : goal.returns-in-Some
-returns-in-Some c = λ ps list.
+returns-in-Some c ps list =
     let d = c.args.done.now in
     let r = record_item (done_record d) in
     let keep = subst (λ (s : Settings). is_kept_node s r ≡ true) (sym c.requires.options) c.requires.node in
@@ -25,7 +25,7 @@ returns-in-Some c = λ ps list.
     c.node_revision-present.ensures (sym c.copy_change.ensures ∙ c.in_ok-copy.was) (c.merge_fault.ensures keep ps list)
 
 pub returns-in-None : goal.returns-in-None
-returns-in-None c = λ ps list.
+returns-in-None c ps list =
     let d = c.args.done.now in
     let r = record_item (done_record d) in
     let keep = subst (λ (s : Settings). is_kept_node s r ≡ true) (sym c.requires.options) c.requires.node in

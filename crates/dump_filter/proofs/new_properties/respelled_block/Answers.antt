@@ -16,6 +16,6 @@ returns-then-has_props c =
     c.respelled.ensures
 
 pub returns-else-has_props : goal.returns-else-has_props
-returns-else-has_props c = λ ps is.
+returns-else-has_props c ps is =
     block_without (record_item c.args.item.now) ps (sym c.has_props.ensures ∙ c.if-has_props.false)
     c.args.item.now.stands.props_fit

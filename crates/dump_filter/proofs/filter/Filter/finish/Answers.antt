@@ -9,6 +9,6 @@ returns-clause-piece c =
     finishes h c.in-Ok.piece c.in-Ok.ensures.piece
 
 pub returns-clause-report : goal.returns-clause-report
-returns-clause-report c = λ records accepted.
+returns-clause-report c records accepted =
     let h = holds c.self.inside c.args.self c.self.invariant c.self.view_is c.if-not-self.false in
     ap (λ (s : State). s.report) c.in-Ok.ensures.state ∙ reports h records accepted

@@ -6,7 +6,7 @@ use Rattle.dump_filter.proofs.knowing.FilterLemmas.{holds, has_room, fault_told,
 use Rattle.dump_filter.proofs.filter.Filter.step.Goals as goal
 
 pub returns-in-Err-clause-rule : goal.returns-in-Err-clause-rule
-returns-in-Err-clause-rule c = λ kind.
+returns-in-Err-clause-rule c kind =
     let h = holds c.self.inside c.args.self.now c.self.invariant c.self.view_is c.if-not-self.false in
     let (there, back) = fault_told h c.args.done c.requires.options c.in-Err.kind
     (λ ps of. sym c.in-Err.is ∙ c.decide.ensures ps of) kind in (
@@ -15,7 +15,7 @@ returns-in-Err-clause-rule c = λ kind.
     )
 
 pub returns-in_default-clause-rule : goal.returns-in_default-clause-rule
-returns-in_default-clause-rule c = λ kind.
+returns-in_default-clause-rule c kind =
     let h = holds c.self.inside c.args.self.now c.self.invariant c.self.view_is c.if-not-self.false in
     let none = never_refuses h c.args.done c.requires.options c.in-Ok.fate
     (λ ps of. sym c.in-Ok.is ∙ c.decide.ensures ps of) kind in (
@@ -24,7 +24,7 @@ returns-in_default-clause-rule c = λ kind.
     )
 
 pub returns-clause-rule : goal.returns-clause-rule
-returns-clause-rule c = λ kind.
+returns-clause-rule c kind =
     let h = holds c.self.inside c.args.self.now c.self.invariant c.self.view_is c.if-not-self.false in
     let none = never_refuses h c.args.done c.requires.options c.in-Ok.fate
     (λ ps of. sym c.in-Ok.is ∙ c.decide.ensures ps of) kind in (
@@ -62,7 +62,7 @@ returns-clause-piece c =
     c.in-Ok-advance.piece c.in-Ok-advance.ensures.piece
 
 pub invariant_of-self-in-Ok-advance : goal.invariant_of-self-in-Ok-advance
-invariant_of-self-in-Ok-advance c = λ active.
+invariant_of-self-in-Ok-advance c active =
     let h = holds c.self.inside c.args.self.now c.self.invariant c.self.view_is c.if-not-self.false in
     let next = next_knows h c.args.done c.requires.options c.in-Ok.fate
     (λ ps of. sym c.in-Ok.is ∙ c.decide.ensures ps of)
