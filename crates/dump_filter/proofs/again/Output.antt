@@ -31,7 +31,9 @@ use Rattle.dump_filter.specs.steps.NewLines.{is_copy_line}
 use Rattle.dump_filter.specs.RecordOutput.{whole_text, revision_text, IsRevisionOutput, IsNodeOutput, IsWrittenBlock}
 use Rattle.dump_text.proofs.BoolLemmas.{first_true, second_true, first_false, second_false, not_so, absurd_bool, false_true}
 use Rattle.dump_records.proofs.HeaderLemmas.{no_number}
+use Rattle.dump_filter.proofs.written.CopyLemmas.{AreCopyLines}
 use Rattle.dump_filter.proofs.written.HeaderLemmas.{no_length}
+use Rattle.dump_filter.proofs.written.PropertyOutput.{IsNewValue}
 use Rattle.dump_filter.proofs.again.LineChanges.{same_has, no_change, put_has, go_change, gone, IsTold, told_later, told_put, told_reads, told_put_again}
 use Rattle.dump_filter.proofs.again.Headers.{is_length_name, known_once, StaysLawful}
 use Rattle.dump_filter.proofs.again.Record.{any_number, no_content, stays_same, stays_plain, AreNewLines, numbered_lines, IsRewritten, again, others, lengths_fit, new_stays, new_is_block, new_lawful, new_version_line, reads_list, same_text}
@@ -290,11 +292,6 @@ number_fits settings kept r rise old n is new_is =
     new_fits true is = (image_fits kept old n rise is).1
     new_fits false is = omega (arith, is)
 
--- the lines tell the copy source's revision, under a number
-abbrev IsRenumbered : Settings → KeptRevisions → List Header → List Header → Type 0
-IsRenumbered settings kept old new = (n m : ℕ) × (header_number copy_revision_name old ≡ Some n)
-    × IsWrittenCopyNumber settings kept n m × (new ≡ with_header_value copy_revision_name (spelled_number m) old)
-
 node_lines : (settings : Settings) (kept : KeptRevisions) (r : DumpRecord) (mid : List Header)
     → RiseFrom kept.first kept.numbers → StaysLawful r.headers r.headers → IsNewCopy settings kept r mid
     → IsNodeLines r.headers mid
@@ -352,14 +349,14 @@ node_lines settings kept r mid rise own copy = by_plain (becomes_plain settings 
           );
         }
 
-    by_copy : (b : Bool) → is_copy r ≡ b → MatchBool b (IsRenumbered settings kept r.headers mid) (mid ≡ r.headers)
+    by_copy : (b : Bool) → is_copy r ≡ b → AreCopyLines settings kept r.headers b mid
         → IsNodeLines r.headers mid
     by_copy true is (old, n, read, new_is, lines) = subst (IsNodeLines r.headers) (sym lines)
         (numbered old n read new_is)
     by_copy false is lines = subst (IsNodeLines r.headers) (sym lines) (same is)
 
     by_plain : (b : Bool) → MatchBool b (mid ≡ without_copy_headers r.headers)
-        (MatchBool (is_copy r) (IsRenumbered settings kept r.headers mid) (mid ≡ r.headers))
+        (AreCopyLines settings kept r.headers (is_copy r) mid)
         → IsNodeLines r.headers mid
     by_plain true lines = subst (IsNodeLines r.headers) (sym lines) plain
     by_plain false is = by_copy (is_copy r) refl is
@@ -373,13 +370,6 @@ OwnValues settings kept = (old new : List ℕ) → IsNewMergeinfo settings kept 
 abbrev IsReadable : Property → Type 0
 IsReadable p = is_mergeinfo p ≡ true → HasMergeLines (value_of p)
 
--- the value is what a property's was or, of mergeinfo, a new value
-abbrev IsNewValue : Settings → KeptRevisions → Property → Property → Bool → Type 0
-IsNewValue settings kept p q b =
-    MatchBool b
-    ((value : List ℕ) × (q.value ≡ Some value) × IsNewMergeinfo settings kept (value_of p) value)
-    (q.value ≡ p.value)
-
 own_property : (settings : Settings) (kept : KeptRevisions) → OwnValues settings kept → (p q : Property)
     → IsNewProperty settings kept p q
     → IsReadable q × ((again : KeptRevisions) → IsNewProperty keep_all again q q)
@@ -388,7 +378,7 @@ own_property settings kept values p q (name, value) = by_case (is_mergeinfo p) r
     kind : is_some q.value ≡ is_some p.value → is_mergeinfo q ≡ is_mergeinfo p
     kind set = λ i. bytes_eq (name i) mergeinfo_name && set i
 
-    by_case : (b : Bool) → is_mergeinfo p ≡ b → IsNewValue settings kept p q b
+    by_case : (b : Bool) → is_mergeinfo p ≡ b → IsNewValue settings kept p q.value b
         → IsReadable q × ((again : KeptRevisions) → IsNewProperty keep_all again q q)
     by_case true is (bytes, set, new) =
         let own = values (value_of p) bytes new in
@@ -409,7 +399,7 @@ same_deleted : (settings : Settings) (kept : KeptRevisions) (p q : Property) →
     → is_none q.value ≡ is_none p.value
 same_deleted settings kept p q (name, value) = by_case (is_mergeinfo p) refl value
   where
-    by_case : (b : Bool) → is_mergeinfo p ≡ b → IsNewValue settings kept p q b → is_none q.value ≡ is_none p.value
+    by_case : (b : Bool) → is_mergeinfo p ≡ b → IsNewValue settings kept p q.value b → is_none q.value ≡ is_none p.value
     by_case true is (bytes, set, new) = ap is_none set ∙ sym (set_value (bytes_eq p.name mergeinfo_name) p.value is)
     by_case false is same = ap is_none same
 
@@ -451,8 +441,7 @@ stays_copy : (again : KeptRevisions) (s : DumpRecord) → is_block s.headers ≡
     → IsNewCopy keep_all again s s.headers
 stays_copy again s block copied = rw (never_plain s) (by_copy (is_copy s) refl)
   where
-    by_copy : (b : Bool) → is_copy s ≡ b
-        → MatchBool (is_copy s) (IsRenumbered keep_all again s.headers s.headers) (s.headers ≡ s.headers)
+    by_copy : (b : Bool) → is_copy s ≡ b → AreCopyLines keep_all again s.headers (is_copy s) s.headers
     by_copy true is =
         let (n, small, there, told) = copied is in
         let value = chosen (has_header copy_revision_name s.headers)

@@ -11,7 +11,6 @@ use Rattle.dump_rules.specs.Settings.{Settings}
 use Rattle.dump_rules.specs.Renumbering.{KeptRevisions}
 use Rattle.dump_rules.specs.steps.RisingNumbers.{RiseFrom}
 use Rattle.dump_rules.specs.Mergeinfo.{HasMergeLines}
-use Rattle.dump_rules.specs.Rewriting.{IsNewMergeinfo}
 use Rattle.dump_rules.proofs.faults.FaultLemmas.{has_lines}
 use Rattle.dump_rules.proofs.new_values.ValueLemmas.{new_value}
 use Rattle.dump_digest.specs.RecordParts.{is_revision_record, is_node, is_kept_node, is_mergeinfo, is_checked_text, value_of, HasPropertyBlock}
@@ -30,6 +29,7 @@ use Rattle.dump_filter.specs.steps.State.PresentGroup.{NoGroup, Pending, Written
 use Rattle.dump_filter.specs.steps.Advance.{stays, pads, next_number, IsOwnRevision, IsOwnNode, IsEndText, IsFrontText, IsPiece, with_kept, front_kept, end_kept, with_kept_revision, with_dropped_revision, front_report, end_report, ended, emptied, started, text_count, next_state}
 use Rattle.dump_filter.specs.steps.Knowledge.{Shape, AreRising, AreKept, Stands}
 use Rattle.dump_filter.specs.steps.Knowledge.Shape.{Fresh, Idle, Passed, Waits}
+use Rattle.dump_filter.proofs.written.PropertyOutput.{IsNewValue}
 use Rattle.dump_filter.proofs.groups.GroupLemmas.{plain_node}
 use Rattle.dump_filter.proofs.groups.KeptLemmas.{front_rising}
 use Rattle.dump_filter.proofs.groups.NumberLemmas.{count_one}
@@ -103,8 +103,7 @@ value_exists : (settings : Settings) (kept : KeptRevisions) → RiseFrom kept.fi
 value_exists settings kept rise p lines =
     let (value, is) = by_case (is_mergeinfo p) refl in (record { name = p.name; value = value }, (refl, is))
   where
-    by_case : (b : Bool) → is_mergeinfo p ≡ b → (value : Option (List ℕ))
-        × MatchBool b ((v : List ℕ) × (value ≡ Some v) × IsNewMergeinfo settings kept (value_of p) v) (value ≡ p.value)
+    by_case : (b : Bool) → is_mergeinfo p ≡ b → (value : Option (List ℕ)) × IsNewValue settings kept p value b
     by_case true is =
         let has = has_lines (value_of p) (lines is) in
         (Some _, (_, refl, new_value settings kept rise (value_of p) has.0 has.1))

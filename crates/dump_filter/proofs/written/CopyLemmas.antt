@@ -1,14 +1,28 @@
 -- The new copy source of a kept node, and the image of a number behind a pending revision.
-use Rattle.std.proofs.Common.{◌≡◌, ℕ, ◌+◌, ◌<◌, ◌≤◌, length, sym, subst, Option, Some, None, MatchOption}
+use Rattle.std.proofs.Common.{◌≡◌, ℕ, ◌+◌, ◌<◌, ◌≤◌, Bool, List, length, sym, subst, Option, Some, None, MatchOption, MatchBool}
+use Rattle.dump_text.specs.Number.{spelled_number}
+use Rattle.dump_text.specs.Names.{copy_revision_name}
+use Rattle.dump_text.specs.HeaderLine.{Header, with_header_value}
+use Rattle.dump_records.specs.HeaderRules.{header_number}
+use Rattle.dump_rules.specs.Settings.{Settings}
 use Rattle.dump_rules.specs.Renumbering.{KeptRevisions, image}
 use Rattle.dump_rules.proofs.ReachLemmas.{image_pushed, image_at_pushed, length_fits}
 use Rattle.dump_filter.specs.Groups.{revision_number}
+use Rattle.dump_filter.specs.NewHeaders.{IsWrittenCopyNumber}
 use Rattle.dump_filter.specs.declared.revisions.Revisions.{Revisions}
 use Rattle.dump_filter.specs.steps.State.{PendingRevision, no_revisions}
 use Rattle.dump_filter.specs.steps.State.PresentGroup.{NoGroup, Pending}
 use Rattle.dump_filter.specs.steps.Advance.{front_kept}
 use Rattle.dump_filter.specs.steps.Knowledge.{AreRising, AreKept}
 use Rattle.dump_filter.proofs.groups.KeptLemmas.{below_pending}
+
+-- the lines of a copy with its source's new number, and those of no copy as they stood
+abbrev pub AreCopyLines : Settings → KeptRevisions → List Header → Bool → List Header → Type 0
+AreCopyLines settings kept old copies new =
+    MatchBool copies
+    ((n m : ℕ) × (header_number copy_revision_name old ≡ Some n) × IsWrittenCopyNumber settings kept n m
+    × (new ≡ with_header_value copy_revision_name (spelled_number m) old))
+    (new ≡ old)
 
 -- a pending revision is that of a group
 no_pending : (w : PendingRevision) → Pending w ≡ NoGroup → ⊥

@@ -1,5 +1,5 @@
 -- What is written of the properties of a record.
-use Rattle.std.proofs.Common.{◌≡◌, ℕ, ◌<◌, ◌^◌, suc, Bool, true, false, List, [], ◌∷◌, ◌++◌, length, flat_map, refl, sym, ap, ◌∙◌, subst, arith, append_assoc, inl, inr, codes, bytes_eq, Option, Some, None, unwrap_or, is_some, IsTrue}
+use Rattle.std.proofs.Common.{◌≡◌, ℕ, ◌<◌, ◌^◌, suc, Bool, true, false, List, [], ◌∷◌, ◌++◌, length, flat_map, refl, sym, ap, ◌∙◌, subst, arith, append_assoc, inl, inr, codes, bytes_eq, Option, Some, None, unwrap_or, is_some, IsTrue, MatchBool}
 use Rattle.std.specs.List.{list_any}
 use Rattle.std.proofs.lemmas.List.{append-nil, nil_from_length}
 use Rattle.std.proofs.lemmas.Grind.{flat_map-append}
@@ -73,6 +73,11 @@ padding_is (p ∷ ps) = cases (padding_is ps) (bytes_eq p.name (codes "svn:date"
         ((bytes_eq-Decides p.name (codes "svn:date")).0 is))
     cases others true is None none = rw (is, none) others
     cases others false is v any = rw is others
+
+-- the value is the property's or, of mergeinfo, a new one
+abbrev pub IsNewValue : Settings → KeptRevisions → Property → Option (List ℕ) → Bool → Type 0
+IsNewValue settings kept p value merge =
+    MatchBool merge ((v : List ℕ) × (value ≡ Some v) × IsNewMergeinfo settings kept (value_of p) v) (value ≡ p.value)
 
 -- the new property of one that isn't mergeinfo, and of one that is
 pub unchanged : (settings : Settings) (kept : KeptRevisions) (p : Property) → is_mergeinfo p ≡ false
