@@ -60,11 +60,6 @@ never_padded s (a ∷ after) = by_node (is_node a) refl
         (never _) in some)
     by_node false is = ap of_nodes (cut false is)
 
--- one side of a choice
-chosen : (b : Bool) (A B : Type 0) → b ≡ true → MatchBool b A B → A
-chosen true A B is a = a
-chosen false A B is b = absurd (false_true is)
-
 -- a choice whose first or second side is so
 first_side : (b : Bool) (A B : Type 0) → b ≡ true → A → MatchBool b A B
 first_side true A B is a = a
@@ -173,32 +168,33 @@ pub revision_again : (settings : Settings) (kept : KeptRevisions) {number : ℕ}
     → is_revision_record r ≡ true → is_node r ≡ false → written_number settings kept (revision_number r) < 10 ^ 18
     → IsSmall settings kept r after → IsRevisionOutput settings kept (group_of r after) front
     → StandsAgain settings kept r after front
-revision_again settings kept {number} {text} {behind} {r} after front b rev no_node n_small fit (ps, is_ps, is) place = (
-  it,
-  refl,
-  record {
-    feeds = 1;
-    spelled = is;
-    block = new_is_block w;
-    lawful = new_lawful w;
-    props_fit = (lengths_fit w).0;
-    text_fits = (lengths_fit w).1;
-    version = refl;
-    version_line = new_version_line w;
-    revision = (new_stays w).revision;
-    node = (new_stays w).node;
-    number = λ rev. number_is;
-    node_again = λ node. absurd (absurd_bool (is_node r) node no_node);
-    revision_again = λ rev. (ps, is_ps, here);
-    clean = record {
-      props = λ bad. bad.1 (new, here);
-      md5 = λ bad. no_kept bad.0;
-      sha1 = λ bad. no_kept bad.0;
-      merge = λ bad. no_kept bad.1.0;
-    };
-    output = λ again after. rw ((new_stays w).revision ∙ rev) (new, here, written again after);
-  },
-)
+revision_again settings kept {number} {text} {behind} {r} after front b rev no_node n_small fit
+    (ps, is_ps, is) place = (
+      it,
+      refl,
+      record {
+        feeds = 1;
+        spelled = is;
+        block = new_is_block w;
+        lawful = new_lawful w;
+        props_fit = (lengths_fit w).0;
+        text_fits = (lengths_fit w).1;
+        version = refl;
+        version_line = new_version_line w;
+        revision = (new_stays w).revision;
+        node = (new_stays w).node;
+        number = λ rev. number_is;
+        node_again = λ node. absurd (absurd_bool (is_node r) node no_node);
+        revision_again = λ rev. (ps, is_ps, here);
+        clean = record {
+          props = λ bad. bad.1 (new, here);
+          md5 = λ bad. no_kept bad.0;
+          sha1 = λ bad. no_kept bad.0;
+          merge = λ bad. no_kept bad.1.0;
+        };
+        output = λ again after. rw ((new_stays w).revision ∙ rev) (new, here, written again after);
+      },
+    )
   where
     padded : Bool
     padded = is_padded settings (group_of r after)
@@ -305,7 +301,8 @@ node_lines settings kept r mid rise own copy = by_plain (becomes_plain settings 
             touches = is_copy_line;
             change = change;
             stays = stays_plain r.headers own;
-            props_there = same_has is_copy_line r.headers (without_copy_headers r.headers) change property_length_name refl;
+            props_there = same_has is_copy_line r.headers (without_copy_headers r.headers) change
+                property_length_name refl;
           };
           md5 = change.same md5_name refl;
           sha1 = change.same sha1_name refl;
@@ -444,8 +441,7 @@ stays_copy again s block copied = rw (never_plain s) (by_copy (is_copy s) refl)
     by_copy : (b : Bool) → is_copy s ≡ b → AreCopyLines keep_all again s.headers (is_copy s) s.headers
     by_copy true is =
         let (n, small, there, told) = copied is in
-        let value = chosen (has_header copy_revision_name s.headers)
-        (header_value copy_revision_name s.headers ≡ Some (spelled_number n)) (n ≡ 0) there told in
+        let value : header_value copy_revision_name s.headers ≡ Some (spelled_number n) = rw there at told in
         rw is (
           n,
           n,

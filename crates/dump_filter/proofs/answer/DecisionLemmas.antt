@@ -369,7 +369,8 @@ node_fate_is settings options s r ok ps first present copy found e f g copied is
 pub fate_of_node : (settings : Settings) (s : State) (r : DumpRecord) (ok : Bool) (ps : List Property)
     → is_kept_node settings r ≡ true → fate_of settings s r ok ps ≡ node_fate settings s r ok ps
 fate_of_node settings s r ok ps keep =
-    let kept : Result Fate FaultKind = if is_kept_node settings r then node_fate settings s r ok ps else Ok fates.Drop in
+    let kept : Result Fate FaultKind =
+    if is_kept_node settings r then node_fate settings s r ok ps else Ok fates.Drop in
     ap (λ b. if b then kept else if is_revision_record r then Ok fates.Hold else Ok fates.Pass)
     (first_true (is_node r) _ keep)
     ∙ ap (λ b. if b then node_fate settings s r ok ps else Ok fates.Drop) keep
@@ -378,7 +379,8 @@ fate_of_node settings s r ok ps keep =
 pub fate_of_revision : (settings : Settings) (s : State) (r : DumpRecord) (ok : Bool) (ps : List Property)
     → is_node r ≡ false → is_revision_record r ≡ true → Ok fates.Hold ≡ fate_of settings s r ok ps
 fate_of_revision settings s r ok ps no_node revision =
-    let kept : Result Fate FaultKind = if is_kept_node settings r then node_fate settings s r ok ps else Ok fates.Drop in
+    let kept : Result Fate FaultKind =
+    if is_kept_node settings r then node_fate settings s r ok ps else Ok fates.Drop in
     sym (ap (λ b. if b then kept else if is_revision_record r then Ok fates.Hold else Ok fates.Pass) no_node
     ∙ ap (λ b. if b then Ok fates.Hold else Ok fates.Pass) revision)
 

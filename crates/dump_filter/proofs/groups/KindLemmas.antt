@@ -40,12 +40,11 @@ of_kind number r lawful =
     cases false false true is-v is-u is-s =
         is_kind kinds.Revision (rw (is-v, is-u, is-s) refl) ((one.revision is-s).2, is-s)
     cases false false false is-v is-u is-s =
-        let node = so (is_node r) (λ none. absurd_bool (has_header uuid_name r.headers) (one.left is-v is-s none) is-u) in
-        is_kind kinds.Node (rw (is-v, is-u, is-s) refl) (node, is-s)
+        is_kind kinds.Node (rw (is-v, is-u, is-s) refl) (node (is_node r) refl, is-s)
       where
-        so : (b : Bool) → (b ≡ false → ⊥) → b ≡ true
-        so true bad = refl
-        so false bad = absurd (bad refl)
+        node : (b : Bool) → is_node r ≡ b → b ≡ true
+        node true is = refl
+        node false is = absurd (absurd_bool (has_header uuid_name r.headers) (one.left is-v is-s is) is-u)
 
 -- a node is no revision
 pub alone : (number : ℕ) (r : DumpRecord) → IsTrue (is_lawful number r.headers) → is_node r ≡ true

@@ -190,7 +190,8 @@ module _ (settings : Settings) (r : DumpRecord) (plain : is_plain r ≡ true) (t
       → AreOutputs settings false whole (closed ++ y ∷ (ns ++ r ∷ [])) new)
       → Stands settings ((closed ++ y ∷ ns) ++ r ∷ []) (in_group u next y) new
   joined t u closed ns y group next new st first shape rising written =
-      let more : closed ++ y ∷ (ns ++ r ∷ []) ≡ (closed ++ y ∷ ns) ++ r ∷ [] = sym (append_assoc closed (y ∷ ns) (r ∷ [])) in
+      let more : closed ++ y ∷ (ns ++ r ∷ []) ≡ (closed ++ y ∷ ns) ++ r ∷ [] =
+      sym (append_assoc closed (y ∷ ns) (r ∷ [])) in
       record {
         present_is = st.present_is ∙ sym (present_other (closed ++ y ∷ ns) r (plain_other r plain));
         first_is = first ∙ st.first_is ∙ sym (first_other (closed ++ y ∷ ns) r (plain_other r plain));

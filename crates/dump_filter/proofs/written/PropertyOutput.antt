@@ -191,7 +191,8 @@ block_with r ps has = rw has refl
 no_bytes : (r : DumpRecord) → has_header property_length_name r.headers ≡ false
     → length r.props ≡ property_length r.headers → r.props ≡ []
 no_bytes r none size =
-    let number : header_number property_length_name r.headers ≡ None = sym (no_number property_length_name r.headers none) in
+    let number : header_number property_length_name r.headers ≡ None =
+    sym (no_number property_length_name r.headers none) in
     nil_from_length r.props (size ∙ ap (λ (n : Option ℕ). unwrap_or n 0) number)
 
 -- a record without a property length that isn't padded gets no property block, and has none
