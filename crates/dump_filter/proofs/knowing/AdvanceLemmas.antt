@@ -1,5 +1,5 @@
 -- One more record of its fate: what then stands, the text that is written, and the counts.
-use Rattle.std.proofs.Common.{◌≡◌, ℕ, ◌+◌, ◌≤◌, Bool, true, false, not, ◌&&◌, ◌||◌, List, [], ◌∷◌, ◌++◌, length, refl, sym, ap, ◌∙◌, subst, length-append, suc, arith, Option, Some, None, Contains, MatchBool, MatchOption, count_by, cond, if◌then◌else◌}
+use Rattle.std.proofs.Common.{◌≡◌, ℕ, ◌+◌, ◌≤◌, Bool, true, false, not, ◌&&◌, ◌||◌, List, [], ◌∷◌, ◌++◌, length, refl, sym, ap, ◌∙◌, subst, length-append, suc, arith, Option, Some, None, Contains, MatchBool, count_by, cond, if◌then◌else◌}
 use Rattle.std.proofs.lemmas.Bool.{or_right}
 use Rattle.std.proofs.lemmas.List.{append-nil}
 use Rattle.dump_text.specs.declared.fault.FaultKind.TheVariants as faults
@@ -24,10 +24,10 @@ use Rattle.dump_filter.specs.NewContent.{IsNewProperty, AreNewProperties}
 use Rattle.dump_digest.specs.steps.MergeFaults.{HasGoodMergeinfo}
 use Rattle.dump_filter.specs.steps.OwnText.{revision_own, node_own}
 use Rattle.dump_filter.specs.Written.{IsWrittenText}
-use Rattle.dump_filter.specs.steps.State.{PresentGroup, State, no_revisions, pending_count, revision_count}
+use Rattle.dump_filter.specs.steps.State.{PresentGroup, State, pending_count, revision_count}
 use Rattle.dump_filter.specs.steps.State.PresentGroup.{NoGroup, Pending, Written}
 use Rattle.dump_filter.specs.steps.Advance.{stays, pads, next_number, IsOwnRevision, IsOwnNode, IsEndText, IsFrontText, IsPiece, with_kept, front_kept, end_kept, with_kept_revision, with_dropped_revision, front_report, end_report, ended, emptied, started, text_count, next_state}
-use Rattle.dump_filter.specs.steps.Knowledge.{Shape, AreRising, AreKept, Stands}
+use Rattle.dump_filter.specs.steps.Knowledge.{Shape, AreKept, Stands}
 use Rattle.dump_filter.specs.steps.Knowledge.Shape.{Fresh, Idle, Passed, Waits}
 use Rattle.dump_filter.proofs.written.PropertyOutput.{IsNewValue}
 use Rattle.dump_filter.proofs.groups.GroupLemmas.{plain_node}
@@ -155,9 +155,7 @@ rising : (s : State) → AreKept s.revisions s.group
     → RiseFrom (front_kept s.revisions.kept s.group).first (front_kept s.revisions.kept s.group).numbers
 rising s = by_present s.revisions.present
   where
-    by_present : (p : Option ℕ)
-        → MatchOption p ((s.revisions.kept ≡ no_revisions.kept) × (s.group ≡ NoGroup))
-        (λ present. AreRising s.revisions.kept present s.group)
+    by_present : (p : Option ℕ) → AreKept (record s.revisions { present = p }) s.group
         → RiseFrom (front_kept s.revisions.kept s.group).first (front_kept s.revisions.kept s.group).numbers
     by_present None (none, free) =
         subst (λ (k : KeptRevisions). RiseFrom k.first k.numbers)
@@ -229,9 +227,7 @@ next_counted settings s r (fates.Keep copy) checked up is = by_group s.group
 next_counted settings s r fates.Drop checked up is = is
 next_counted settings s r fates.Hold checked up is = by_present s.revisions.present up
   where
-    by_present : (p : Option ℕ)
-        → MatchOption p ((s.revisions.kept ≡ no_revisions.kept) × (s.group ≡ NoGroup))
-        (λ present. AreRising s.revisions.kept present s.group)
+    by_present : (p : Option ℕ) → AreKept (record s.revisions { present = p }) s.group
         → (end_report settings s.group s.report).revisions_kept
         ≡ length (started p r (end_kept settings s.revisions.kept s.group)).numbers
     by_present None (none, free) =

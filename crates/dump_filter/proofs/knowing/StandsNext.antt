@@ -302,8 +302,7 @@ module _ (settings : Settings) (before : List DumpRecord) (s : State) (r : DumpR
     (same : report.revisions_dropped ≡ (end_report settings s.group s.report).revisions_dropped) where
   -- the kept revisions by the present one
   abbrev AreKeptAt : Option ℕ → Type 0
-  AreKeptAt p = MatchOption p ((s.revisions.kept ≡ no_revisions.kept) × (s.group ≡ NoGroup))
-      (λ present. AreRising s.revisions.kept present s.group)
+  AreKeptAt p = AreKept (record s.revisions { present = p }) s.group
 
   -- behind a version or UUID record the group's end and the record are written, too
   pub pass_stands : is_revision_record r ≡ false

@@ -1,5 +1,5 @@
 -- The new copy source of a kept node, and the image of a number behind a pending revision.
-use Rattle.std.proofs.Common.{◌≡◌, ℕ, ◌+◌, ◌<◌, ◌≤◌, Bool, List, length, sym, subst, Option, Some, None, MatchOption, MatchBool}
+use Rattle.std.proofs.Common.{◌≡◌, ℕ, ◌+◌, ◌<◌, ◌≤◌, Bool, List, length, sym, subst, Option, Some, None, MatchBool}
 use Rattle.dump_text.specs.Number.{spelled_number}
 use Rattle.dump_text.specs.Names.{copy_revision_name}
 use Rattle.dump_text.specs.HeaderLine.{Header, with_header_value}
@@ -10,7 +10,7 @@ use Rattle.dump_rules.proofs.ReachLemmas.{image_pushed, image_at_pushed, length_
 use Rattle.dump_filter.specs.Groups.{revision_number}
 use Rattle.dump_filter.specs.NewHeaders.{IsWrittenCopyNumber}
 use Rattle.dump_filter.specs.declared.revisions.Revisions.{Revisions}
-use Rattle.dump_filter.specs.steps.State.{PendingRevision, no_revisions}
+use Rattle.dump_filter.specs.steps.State.{PendingRevision}
 use Rattle.dump_filter.specs.steps.State.PresentGroup.{NoGroup, Pending}
 use Rattle.dump_filter.specs.steps.Advance.{front_kept}
 use Rattle.dump_filter.specs.steps.Knowledge.{AreRising, AreKept}
@@ -33,9 +33,7 @@ pub pending_rising : (revisions : Revisions) (w : PendingRevision) → AreKept r
     → AreRising revisions.kept (revision_number w.revision) (Pending w)
 pending_rising revisions w = by_present revisions.present
   where
-    by_present : (p : Option ℕ)
-        → MatchOption p ((revisions.kept ≡ no_revisions.kept) × (Pending w ≡ NoGroup))
-        (λ present. AreRising revisions.kept present (Pending w))
+    by_present : (p : Option ℕ) → AreKept (record revisions { present = p }) (Pending w)
         → AreRising revisions.kept (revision_number w.revision) (Pending w)
     by_present None (none, group) = absurd (no_pending w group)
     by_present (Some p) up = subst (λ n. AreRising revisions.kept n (Pending w)) (sym up.waits) up
