@@ -367,64 +367,61 @@ OwnValues settings kept = (old new : List ℕ) → IsNewMergeinfo settings kept 
 abbrev IsReadable : Property → Type 0
 IsReadable p = is_mergeinfo p ≡ true → HasMergeLines (value_of p)
 
-own_property : (settings : Settings) (kept : KeptRevisions) → OwnValues settings kept → (p q : Property)
-    → IsNewProperty settings kept p q
-    → IsReadable q × ((again : KeptRevisions) → IsNewProperty keep_all again q q)
-own_property settings kept values p q (name, value) = by_case (is_mergeinfo p) refl value
-  where
-    kind : is_some q.value ≡ is_some p.value → is_mergeinfo q ≡ is_mergeinfo p
-    kind set = λ i. bytes_eq (name i) mergeinfo_name && set i
+-- the properties of a kept node, and what is written of them
+module _ (settings : Settings) (kept : KeptRevisions) where
+  own_property : OwnValues settings kept → (p q : Property) → IsNewProperty settings kept p q
+      → IsReadable q × ((again : KeptRevisions) → IsNewProperty keep_all again q q)
+  own_property values p q (name, value) = by_case (is_mergeinfo p) refl value
+    where
+      kind : is_some q.value ≡ is_some p.value → is_mergeinfo q ≡ is_mergeinfo p
+      kind set = λ i. bytes_eq (name i) mergeinfo_name && set i
 
-    by_case : (b : Bool) → is_mergeinfo p ≡ b → IsNewValue settings kept p q.value b
-        → IsReadable q × ((again : KeptRevisions) → IsNewProperty keep_all again q q)
-    by_case true is (bytes, set, new) =
-        let own = values (value_of p) bytes new in
-        let same : value_of q ≡ bytes = ap (λ (o : Option (List ℕ)). unwrap_or o []) set in
-        let had : is_some p.value ≡ true = second_true (bytes_eq p.name mergeinfo_name) (is_some p.value) is in
-        let still = kind (ap is_some set ∙ sym had) ∙ is in
-        let again_new = λ (again : KeptRevisions).
-        subst (λ (old : List ℕ). IsNewMergeinfo keep_all again old bytes) (sym same) (own.1 again) in (
-          (λ merge. subst HasMergeLines (sym same) own.0),
-          (λ again. (refl, rw still (bytes, set, again_new again))),
-        )
-    by_case false is same =
-        let still = kind (ap is_some same) ∙ is in
-        ((λ merge. absurd (absurd_bool (is_mergeinfo q) merge still)), (λ again. (refl, rw still refl)))
+      by_case : (b : Bool) → is_mergeinfo p ≡ b → IsNewValue settings kept p q.value b
+          → IsReadable q × ((again : KeptRevisions) → IsNewProperty keep_all again q q)
+      by_case true is (bytes, set, new) =
+          let own = values (value_of p) bytes new in
+          let same : value_of q ≡ bytes = ap (λ (o : Option (List ℕ)). unwrap_or o []) set in
+          let had : is_some p.value ≡ true = second_true (bytes_eq p.name mergeinfo_name) (is_some p.value) is in
+          let still = kind (ap is_some set ∙ sym had) ∙ is in
+          let again_new = λ (again : KeptRevisions).
+          subst (λ (old : List ℕ). IsNewMergeinfo keep_all again old bytes) (sym same) (own.1 again) in (
+            (λ merge. subst HasMergeLines (sym same) own.0),
+            (λ again. (refl, rw still (bytes, set, again_new again))),
+          )
+      by_case false is same =
+          let still = kind (ap is_some same) ∙ is in
+          ((λ merge. absurd (absurd_bool (is_mergeinfo q) merge still)), (λ again. (refl, rw still refl)))
 
--- a deleted property stays one, and no other becomes one
-same_deleted : (settings : Settings) (kept : KeptRevisions) (p q : Property) → IsNewProperty settings kept p q
-    → is_none q.value ≡ is_none p.value
-same_deleted settings kept p q (name, value) = by_case (is_mergeinfo p) refl value
-  where
-    by_case : (b : Bool) → is_mergeinfo p ≡ b → IsNewValue settings kept p q.value b → is_none q.value ≡ is_none p.value
-    by_case true is (bytes, set, new) = ap is_none set ∙ sym (set_value (bytes_eq p.name mergeinfo_name) p.value is)
-    by_case false is same = ap is_none same
+  -- a deleted property stays one, and no other becomes one
+  same_deleted : (p q : Property) → IsNewProperty settings kept p q → is_none q.value ≡ is_none p.value
+  same_deleted p q (name, value) = by_case (is_mergeinfo p) refl value
+    where
+      by_case : (b : Bool) → is_mergeinfo p ≡ b → IsNewValue settings kept p q.value b
+          → is_none q.value ≡ is_none p.value
+      by_case true is (bytes, set, new) = ap is_none set ∙ sym (set_value (bytes_eq p.name mergeinfo_name) p.value is)
+      by_case false is same = ap is_none same
 
--- what is written of properties deletes one where one was deleted
-pub same_deletes : (settings : Settings) (kept : KeptRevisions) (ps qs : List Property)
-    → AreNewProperties settings kept ps qs → has_deletes qs ≡ has_deletes ps
-same_deletes settings kept [] [] all = refl
-same_deletes settings kept [] (q ∷ qs) all = absurd all
-same_deletes settings kept (p ∷ ps) [] all = absurd all
-same_deletes settings kept (p ∷ ps) (q ∷ qs) all =
-    λ i. same_deleted settings kept p q all.0 i || same_deletes settings kept ps qs all.1 i
+  -- what is written of properties deletes one where one was deleted
+  same_deletes : (ps qs : List Property) → AreNewProperties settings kept ps qs → has_deletes qs ≡ has_deletes ps
+  same_deletes [] [] all = refl
+  same_deletes [] (q ∷ qs) all = absurd all
+  same_deletes (p ∷ ps) [] all = absurd all
+  same_deletes (p ∷ ps) (q ∷ qs) all = λ i. same_deleted p q all.0 i || same_deletes ps qs all.1 i
 
-own_properties : (settings : Settings) (kept : KeptRevisions) → OwnValues settings kept → (ps qs : List Property)
-    → AreNewProperties settings kept ps qs
-    → All IsReadable qs × ((again : KeptRevisions) → AreNewProperties keep_all again qs qs)
-own_properties settings kept values [] [] all = (All-nil IsReadable, λ again. tt)
-own_properties settings kept values [] (q ∷ qs) all = absurd all
-own_properties settings kept values (p ∷ ps) [] all = absurd all
-own_properties settings kept values (p ∷ ps) (q ∷ qs) all =
-    let one = own_property settings kept values p q all.0 in
-    let more = own_properties settings kept values ps qs all.1 in
-    (All-cons IsReadable q qs one.0 more.0, λ again. (one.1 again, more.1 again))
+  own_properties : OwnValues settings kept → (ps qs : List Property) → AreNewProperties settings kept ps qs
+      → All IsReadable qs × ((again : KeptRevisions) → AreNewProperties keep_all again qs qs)
+  own_properties values [] [] all = (All-nil IsReadable, λ again. tt)
+  own_properties values [] (q ∷ qs) all = absurd all
+  own_properties values (p ∷ ps) [] all = absurd all
+  own_properties values (p ∷ ps) (q ∷ qs) all =
+      let one = own_property values p q all.0 in
+      let more = own_properties values ps qs all.1 in
+      (All-cons IsReadable q qs one.0 more.0, λ again. (one.1 again, more.1 again))
 
-none_new : (settings : Settings) (kept : KeptRevisions) (ps qs : List Property) → ps ≡ []
-    → AreNewProperties settings kept ps qs → qs ≡ []
-none_new settings kept [] [] none all = refl
-none_new settings kept [] (q ∷ qs) none all = absurd all
-none_new settings kept (p ∷ ps) qs none all = let bad : p ∷ ps ≡ [] = none in cc
+  none_new : (ps qs : List Property) → ps ≡ [] → AreNewProperties settings kept ps qs → qs ≡ []
+  none_new [] [] none all = refl
+  none_new [] (q ∷ qs) none all = absurd all
+  none_new (p ∷ ps) qs none all = let bad : p ∷ ps ≡ [] = none in cc
 
 never_plain : (s : DumpRecord) → becomes_plain keep_all s ≡ false
 never_plain s = never (is_copy s) _
