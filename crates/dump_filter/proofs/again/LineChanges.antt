@@ -114,8 +114,8 @@ put_lines : (name value : List ℕ) → has_byte 10 value ≡ false → (headers
     → list_all is_header (with_header_value name value headers) ≡ true
 put_lines name value no_lf headers all =
     list_all-map is_header (changed name value) headers
-    ∙ all_implied is_header (λ h. is_header (changed name value h)) (λ h good. one h good (is_named name h) refl) headers
-    all
+    ∙ all_implied is_header (λ h. is_header (changed name value h))
+    (λ h good. one h good (is_named name h) refl) headers all
   where
     one : (h : Header) → is_header h ≡ true → (b : Bool) → is_named name h ≡ b → is_header (changed name value h) ≡ true
     one h good true is =

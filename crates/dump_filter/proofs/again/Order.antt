@@ -3,6 +3,7 @@ use Rattle.std.proofs.Common.{◌≡◌, ℕ, ◌<◌, Bool, true, false, ◌||�
 use Rattle.dump_rules.proofs.ReachLemmas.{last_or_pushed}
 use Rattle.std.specs.Bool.{⊤}
 use Rattle.std.specs.List.{last_or}
+use Rattle.std.proofs.Math.Path.{transport}
 use Rattle.std.proofs.lemmas.Bool.Decides.{leb_tells}
 use Rattle.std.proofs.lemmas.List.{append-nil}
 use Rattle.dump_text.specs.declared.fault.FaultKind.TheVariants as faults
@@ -12,6 +13,8 @@ use Rattle.dump_digest.specs.RecordParts.{is_revision_record, is_node}
 use Rattle.dump_filter.specs.Groups.{revision_number, revision_numbers, present_revision}
 use Rattle.dump_filter.specs.RecordFaults.{ends_in_group, IsOutOfOrder, AreFaultFree}
 use Rattle.dump_text.proofs.BoolLemmas.{absurd_bool}
+use Rattle.dump_filter.proofs.groups.NumberLemmas.{numbers_more}
+use Rattle.dump_rules.proofs.ReachLemmas.{last_or_pushed}
 
 -- whether a revision of this number may follow the present one
 abbrev pub RisesFrom : Option ℕ → ℕ → Type 0
@@ -30,25 +33,6 @@ AreInOrder open_group present (r ∷ rest) = (is_node r ≡ true → open_group 
 
 -- one more record
 
-numbers_more : (before : List DumpRecord) (r : DumpRecord)
-    → revision_numbers (before ++ r ∷ []) ≡ revision_numbers before ++
-    (if is_revision_record r then revision_number r ∷ [] else [])
-numbers_more [] r = cases (is_revision_record r) refl
-  where
-    cases : (b : Bool) → is_revision_record r ≡ b
-        → revision_numbers (r ∷ []) ≡ (if b then revision_number r ∷ [] else [])
-    cases true is = rw is refl
-    cases false is = rw is refl
-numbers_more (x ∷ before) r = cases (is_revision_record x) refl (numbers_more before r)
-  where
-    cases : (b : Bool) → is_revision_record x ≡ b
-        → revision_numbers (before ++ r ∷ []) ≡ revision_numbers before ++
-        (if is_revision_record r then revision_number r ∷ [] else [])
-        → revision_numbers (x ∷ (before ++ r ∷ [])) ≡ revision_numbers (x ∷ before) ++
-        (if is_revision_record r then revision_number r ∷ [] else [])
-    cases true is more = rw is (ap (λ (t : List ℕ). revision_number x ∷ t) more)
-    cases false is more = rw is more
-
 present_more : (before : List DumpRecord) (r : DumpRecord) → present_revision (before ++ r ∷ []) ≡ present_behind
     (present_revision before) r
 present_more before r = ap (last_or None) (numbers_more before r) ∙ cases (is_revision_record r)
@@ -66,22 +50,10 @@ ends_more before r = ap ends_in_group (last_or_pushed None before r)
 abbrev AreInOrderBehind : List DumpRecord → List DumpRecord → Type 0
 AreInOrderBehind before rest = AreInOrder (ends_in_group (last_or None before)) (present_revision before) rest
 
-order_more : (before : List DumpRecord) (r : DumpRecord) (rest : List DumpRecord)
+order_moves : (before : List DumpRecord) (r : DumpRecord) (rest : List DumpRecord)
     → AreInOrderBehind (before ++ r ∷ []) rest
-    → AreInOrder (is_revision_record r || is_node r) (present_behind (present_revision before) r) rest
-order_more before r rest are =
-    subst (λ (g : Bool). AreInOrder g (present_behind (present_revision before) r) rest) (ends_more before r)
-    (subst (λ (p : Option ℕ). AreInOrder (ends_in_group (last_or None (before ++ r ∷ []))) p rest)
-    (present_more before r) are)
-
-order_less : (before : List DumpRecord) (r : DumpRecord) (rest : List DumpRecord)
-    → AreInOrder (is_revision_record r || is_node r) (present_behind (present_revision before) r) rest
-    → AreInOrderBehind (before ++ r ∷ []) rest
-order_less before r rest are =
-    subst (λ (p : Option ℕ). AreInOrder (ends_in_group (last_or None (before ++ r ∷ []))) p rest)
-    (sym (present_more before r))
-    (subst (λ (g : Bool). AreInOrder g (present_behind (present_revision before) r) rest)
-    (sym (ends_more before r)) are)
+    ≡ AreInOrder (is_revision_record r || is_node r) (present_behind (present_revision before) r) rest
+order_moves before r rest = λ i. AreInOrder (ends_more before r i) (present_more before r i) rest
 
 -- from records that aren't out of order
 
@@ -112,7 +84,7 @@ order_behind settings before (r ∷ rest) free =
     let moved : (before ++ r ∷ []) ++ rest ≡ before ++ r ∷ rest = append_assoc before (r ∷ []) rest in (
       node_follows before r fine,
       number_rises before r fine,
-      order_more before r rest (order_behind settings (before ++ r ∷ []) rest
+      transport (order_moves before r rest) (order_behind settings (before ++ r ∷ []) rest
           (subst (AreFaultFree settings) (sym moved) free)),
     )
 
@@ -144,7 +116,7 @@ order_split before [] after r are =
     subst (λ (l : List DumpRecord). ¬ IsOutOfOrder l r) (sym (append-nil before)) (fits_order before r are.0 are.1)
 order_split before (x ∷ mid) after r are =
     subst (λ (l : List DumpRecord). ¬ IsOutOfOrder l r) (append_assoc before (x ∷ []) mid)
-    (order_split (before ++ x ∷ []) mid after r (order_less before x (mid ++ r ∷ after) are.2))
+    (order_split (before ++ x ∷ []) mid after r (transport (sym (order_moves before x (mid ++ r ∷ after))) are.2))
 
 -- no record of a list in order is out of order behind those before it
 pub order_fits : (records : List DumpRecord) → AreInOrder false None records → (before after : List DumpRecord)

@@ -31,7 +31,9 @@ use Rattle.dump_filter.specs.steps.NewLines.{is_copy_line}
 use Rattle.dump_filter.specs.RecordOutput.{whole_text, revision_text, IsRevisionOutput, IsNodeOutput, IsWrittenBlock}
 use Rattle.dump_text.proofs.BoolLemmas.{first_true, second_true, first_false, second_false, not_so, absurd_bool, false_true}
 use Rattle.dump_records.proofs.HeaderLemmas.{no_number}
+use Rattle.dump_filter.proofs.written.CopyLemmas.{AreCopyLines}
 use Rattle.dump_filter.proofs.written.HeaderLemmas.{no_length}
+use Rattle.dump_filter.proofs.written.PropertyOutput.{IsNewValue}
 use Rattle.dump_filter.proofs.again.LineChanges.{same_has, no_change, put_has, go_change, gone, IsTold, told_later, told_put, told_reads, told_put_again}
 use Rattle.dump_filter.proofs.again.Headers.{is_length_name, known_once, StaysLawful}
 use Rattle.dump_filter.proofs.again.Record.{any_number, no_content, stays_same, stays_plain, AreNewLines, numbered_lines, IsRewritten, again, others, lengths_fit, new_stays, new_is_block, new_lawful, new_version_line, reads_list, same_text}
@@ -57,11 +59,6 @@ never_padded s (a ∷ after) = by_node (is_node a) refl
     by_node true is = ap of_nodes (cut true is) ∙ (let some : of_nodes (a ∷ take_while is_node after) ≡ false = rw is
         (never _) in some)
     by_node false is = ap of_nodes (cut false is)
-
--- one side of a choice
-chosen : (b : Bool) (A B : Type 0) → b ≡ true → MatchBool b A B → A
-chosen true A B is a = a
-chosen false A B is b = absurd (false_true is)
 
 -- a choice whose first or second side is so
 first_side : (b : Bool) (A B : Type 0) → b ≡ true → A → MatchBool b A B
@@ -171,32 +168,33 @@ pub revision_again : (settings : Settings) (kept : KeptRevisions) {number : ℕ}
     → is_revision_record r ≡ true → is_node r ≡ false → written_number settings kept (revision_number r) < 10 ^ 18
     → IsSmall settings kept r after → IsRevisionOutput settings kept (group_of r after) front
     → StandsAgain settings kept r after front
-revision_again settings kept {number} {text} {behind} {r} after front b rev no_node n_small fit (ps, is_ps, is) place = (
-  it,
-  refl,
-  record {
-    feeds = 1;
-    spelled = is;
-    block = new_is_block w;
-    lawful = new_lawful w;
-    props_fit = (lengths_fit w).0;
-    text_fits = (lengths_fit w).1;
-    version = refl;
-    version_line = new_version_line w;
-    revision = (new_stays w).revision;
-    node = (new_stays w).node;
-    number = λ rev. number_is;
-    node_again = λ node. absurd (absurd_bool (is_node r) node no_node);
-    revision_again = λ rev. (ps, is_ps, here);
-    clean = record {
-      props = λ bad. bad.1 (new, here);
-      md5 = λ bad. no_kept bad.0;
-      sha1 = λ bad. no_kept bad.0;
-      merge = λ bad. no_kept bad.1.0;
-    };
-    output = λ again after. rw ((new_stays w).revision ∙ rev) (new, here, written again after);
-  },
-)
+revision_again settings kept {number} {text} {behind} {r} after front b rev no_node n_small fit
+    (ps, is_ps, is) place = (
+      it,
+      refl,
+      record {
+        feeds = 1;
+        spelled = is;
+        block = new_is_block w;
+        lawful = new_lawful w;
+        props_fit = (lengths_fit w).0;
+        text_fits = (lengths_fit w).1;
+        version = refl;
+        version_line = new_version_line w;
+        revision = (new_stays w).revision;
+        node = (new_stays w).node;
+        number = λ rev. number_is;
+        node_again = λ node. absurd (absurd_bool (is_node r) node no_node);
+        revision_again = λ rev. (ps, is_ps, here);
+        clean = record {
+          props = λ bad. bad.1 (new, here);
+          md5 = λ bad. no_kept bad.0;
+          sha1 = λ bad. no_kept bad.0;
+          merge = λ bad. no_kept bad.1.0;
+        };
+        output = λ again after. rw ((new_stays w).revision ∙ rev) (new, here, written again after);
+      },
+    )
   where
     padded : Bool
     padded = is_padded settings (group_of r after)
@@ -290,11 +288,6 @@ number_fits settings kept r rise old n is new_is =
     new_fits true is = (image_fits kept old n rise is).1
     new_fits false is = omega (arith, is)
 
--- the lines tell the copy source's revision, under a number
-abbrev IsRenumbered : Settings → KeptRevisions → List Header → List Header → Type 0
-IsRenumbered settings kept old new = (n m : ℕ) × (header_number copy_revision_name old ≡ Some n)
-    × IsWrittenCopyNumber settings kept n m × (new ≡ with_header_value copy_revision_name (spelled_number m) old)
-
 node_lines : (settings : Settings) (kept : KeptRevisions) (r : DumpRecord) (mid : List Header)
     → RiseFrom kept.first kept.numbers → StaysLawful r.headers r.headers → IsNewCopy settings kept r mid
     → IsNodeLines r.headers mid
@@ -308,7 +301,8 @@ node_lines settings kept r mid rise own copy = by_plain (becomes_plain settings 
             touches = is_copy_line;
             change = change;
             stays = stays_plain r.headers own;
-            props_there = same_has is_copy_line r.headers (without_copy_headers r.headers) change property_length_name refl;
+            props_there = same_has is_copy_line r.headers (without_copy_headers r.headers) change
+                property_length_name refl;
           };
           md5 = change.same md5_name refl;
           sha1 = change.same sha1_name refl;
@@ -352,14 +346,14 @@ node_lines settings kept r mid rise own copy = by_plain (becomes_plain settings 
           );
         }
 
-    by_copy : (b : Bool) → is_copy r ≡ b → MatchBool b (IsRenumbered settings kept r.headers mid) (mid ≡ r.headers)
+    by_copy : (b : Bool) → is_copy r ≡ b → AreCopyLines settings kept r.headers b mid
         → IsNodeLines r.headers mid
     by_copy true is (old, n, read, new_is, lines) = subst (IsNodeLines r.headers) (sym lines)
         (numbered old n read new_is)
     by_copy false is lines = subst (IsNodeLines r.headers) (sym lines) (same is)
 
     by_plain : (b : Bool) → MatchBool b (mid ≡ without_copy_headers r.headers)
-        (MatchBool (is_copy r) (IsRenumbered settings kept r.headers mid) (mid ≡ r.headers))
+        (AreCopyLines settings kept r.headers (is_copy r) mid)
         → IsNodeLines r.headers mid
     by_plain true lines = subst (IsNodeLines r.headers) (sym lines) plain
     by_plain false is = by_copy (is_copy r) refl is
@@ -373,71 +367,61 @@ OwnValues settings kept = (old new : List ℕ) → IsNewMergeinfo settings kept 
 abbrev IsReadable : Property → Type 0
 IsReadable p = is_mergeinfo p ≡ true → HasMergeLines (value_of p)
 
--- the value is what a property's was or, of mergeinfo, a new value
-abbrev IsNewValue : Settings → KeptRevisions → Property → Property → Bool → Type 0
-IsNewValue settings kept p q b =
-    MatchBool b
-    ((value : List ℕ) × (q.value ≡ Some value) × IsNewMergeinfo settings kept (value_of p) value)
-    (q.value ≡ p.value)
+-- the properties of a kept node, and what is written of them
+module _ (settings : Settings) (kept : KeptRevisions) where
+  own_property : OwnValues settings kept → (p q : Property) → IsNewProperty settings kept p q
+      → IsReadable q × ((again : KeptRevisions) → IsNewProperty keep_all again q q)
+  own_property values p q (name, value) = by_case (is_mergeinfo p) refl value
+    where
+      kind : is_some q.value ≡ is_some p.value → is_mergeinfo q ≡ is_mergeinfo p
+      kind set = λ i. bytes_eq (name i) mergeinfo_name && set i
 
-own_property : (settings : Settings) (kept : KeptRevisions) → OwnValues settings kept → (p q : Property)
-    → IsNewProperty settings kept p q
-    → IsReadable q × ((again : KeptRevisions) → IsNewProperty keep_all again q q)
-own_property settings kept values p q (name, value) = by_case (is_mergeinfo p) refl value
-  where
-    kind : is_some q.value ≡ is_some p.value → is_mergeinfo q ≡ is_mergeinfo p
-    kind set = λ i. bytes_eq (name i) mergeinfo_name && set i
+      by_case : (b : Bool) → is_mergeinfo p ≡ b → IsNewValue settings kept p q.value b
+          → IsReadable q × ((again : KeptRevisions) → IsNewProperty keep_all again q q)
+      by_case true is (bytes, set, new) =
+          let own = values (value_of p) bytes new in
+          let same : value_of q ≡ bytes = ap (λ (o : Option (List ℕ)). unwrap_or o []) set in
+          let had : is_some p.value ≡ true = second_true (bytes_eq p.name mergeinfo_name) (is_some p.value) is in
+          let still = kind (ap is_some set ∙ sym had) ∙ is in
+          let again_new = λ (again : KeptRevisions).
+          subst (λ (old : List ℕ). IsNewMergeinfo keep_all again old bytes) (sym same) (own.1 again) in (
+            (λ merge. subst HasMergeLines (sym same) own.0),
+            (λ again. (refl, rw still (bytes, set, again_new again))),
+          )
+      by_case false is same =
+          let still = kind (ap is_some same) ∙ is in
+          ((λ merge. absurd (absurd_bool (is_mergeinfo q) merge still)), (λ again. (refl, rw still refl)))
 
-    by_case : (b : Bool) → is_mergeinfo p ≡ b → IsNewValue settings kept p q b
-        → IsReadable q × ((again : KeptRevisions) → IsNewProperty keep_all again q q)
-    by_case true is (bytes, set, new) =
-        let own = values (value_of p) bytes new in
-        let same : value_of q ≡ bytes = ap (λ (o : Option (List ℕ)). unwrap_or o []) set in
-        let had : is_some p.value ≡ true = second_true (bytes_eq p.name mergeinfo_name) (is_some p.value) is in
-        let still = kind (ap is_some set ∙ sym had) ∙ is in
-        let again_new = λ (again : KeptRevisions).
-        subst (λ (old : List ℕ). IsNewMergeinfo keep_all again old bytes) (sym same) (own.1 again) in (
-          (λ merge. subst HasMergeLines (sym same) own.0),
-          (λ again. (refl, rw still (bytes, set, again_new again))),
-        )
-    by_case false is same =
-        let still = kind (ap is_some same) ∙ is in
-        ((λ merge. absurd (absurd_bool (is_mergeinfo q) merge still)), (λ again. (refl, rw still refl)))
+  -- a deleted property stays one, and no other becomes one
+  same_deleted : (p q : Property) → IsNewProperty settings kept p q → is_none q.value ≡ is_none p.value
+  same_deleted p q (name, value) = by_case (is_mergeinfo p) refl value
+    where
+      by_case : (b : Bool) → is_mergeinfo p ≡ b → IsNewValue settings kept p q.value b
+          → is_none q.value ≡ is_none p.value
+      by_case true is (bytes, set, new) = ap is_none set ∙ sym (set_value (bytes_eq p.name mergeinfo_name) p.value is)
+      by_case false is same = ap is_none same
 
--- a deleted property stays one, and no other becomes one
-same_deleted : (settings : Settings) (kept : KeptRevisions) (p q : Property) → IsNewProperty settings kept p q
-    → is_none q.value ≡ is_none p.value
-same_deleted settings kept p q (name, value) = by_case (is_mergeinfo p) refl value
-  where
-    by_case : (b : Bool) → is_mergeinfo p ≡ b → IsNewValue settings kept p q b → is_none q.value ≡ is_none p.value
-    by_case true is (bytes, set, new) = ap is_none set ∙ sym (set_value (bytes_eq p.name mergeinfo_name) p.value is)
-    by_case false is same = ap is_none same
+  -- what is written of properties deletes one where one was deleted
+  same_deletes : (ps qs : List Property) → AreNewProperties settings kept ps qs → has_deletes qs ≡ has_deletes ps
+  same_deletes [] [] all = refl
+  same_deletes [] (q ∷ qs) all = absurd all
+  same_deletes (p ∷ ps) [] all = absurd all
+  same_deletes (p ∷ ps) (q ∷ qs) all = λ i. same_deleted p q all.0 i || same_deletes ps qs all.1 i
 
--- what is written of properties deletes one where one was deleted
-pub same_deletes : (settings : Settings) (kept : KeptRevisions) (ps qs : List Property)
-    → AreNewProperties settings kept ps qs → has_deletes qs ≡ has_deletes ps
-same_deletes settings kept [] [] all = refl
-same_deletes settings kept [] (q ∷ qs) all = absurd all
-same_deletes settings kept (p ∷ ps) [] all = absurd all
-same_deletes settings kept (p ∷ ps) (q ∷ qs) all =
-    λ i. same_deleted settings kept p q all.0 i || same_deletes settings kept ps qs all.1 i
+  own_properties : OwnValues settings kept → (ps qs : List Property) → AreNewProperties settings kept ps qs
+      → All IsReadable qs × ((again : KeptRevisions) → AreNewProperties keep_all again qs qs)
+  own_properties values [] [] all = (All-nil IsReadable, λ again. tt)
+  own_properties values [] (q ∷ qs) all = absurd all
+  own_properties values (p ∷ ps) [] all = absurd all
+  own_properties values (p ∷ ps) (q ∷ qs) all =
+      let one = own_property values p q all.0 in
+      let more = own_properties values ps qs all.1 in
+      (All-cons IsReadable q qs one.0 more.0, λ again. (one.1 again, more.1 again))
 
-own_properties : (settings : Settings) (kept : KeptRevisions) → OwnValues settings kept → (ps qs : List Property)
-    → AreNewProperties settings kept ps qs
-    → All IsReadable qs × ((again : KeptRevisions) → AreNewProperties keep_all again qs qs)
-own_properties settings kept values [] [] all = (All-nil IsReadable, λ again. tt)
-own_properties settings kept values [] (q ∷ qs) all = absurd all
-own_properties settings kept values (p ∷ ps) [] all = absurd all
-own_properties settings kept values (p ∷ ps) (q ∷ qs) all =
-    let one = own_property settings kept values p q all.0 in
-    let more = own_properties settings kept values ps qs all.1 in
-    (All-cons IsReadable q qs one.0 more.0, λ again. (one.1 again, more.1 again))
-
-none_new : (settings : Settings) (kept : KeptRevisions) (ps qs : List Property) → ps ≡ []
-    → AreNewProperties settings kept ps qs → qs ≡ []
-none_new settings kept [] [] none all = refl
-none_new settings kept [] (q ∷ qs) none all = absurd all
-none_new settings kept (p ∷ ps) qs none all = let bad : p ∷ ps ≡ [] = none in cc
+  none_new : (ps qs : List Property) → ps ≡ [] → AreNewProperties settings kept ps qs → qs ≡ []
+  none_new [] [] none all = refl
+  none_new [] (q ∷ qs) none all = absurd all
+  none_new (p ∷ ps) qs none all = let bad : p ∷ ps ≡ [] = none in cc
 
 never_plain : (s : DumpRecord) → becomes_plain keep_all s ≡ false
 never_plain s = never (is_copy s) _
@@ -451,12 +435,10 @@ stays_copy : (again : KeptRevisions) (s : DumpRecord) → is_block s.headers ≡
     → IsNewCopy keep_all again s s.headers
 stays_copy again s block copied = rw (never_plain s) (by_copy (is_copy s) refl)
   where
-    by_copy : (b : Bool) → is_copy s ≡ b
-        → MatchBool (is_copy s) (IsRenumbered keep_all again s.headers s.headers) (s.headers ≡ s.headers)
+    by_copy : (b : Bool) → is_copy s ≡ b → AreCopyLines keep_all again s.headers (is_copy s) s.headers
     by_copy true is =
         let (n, small, there, told) = copied is in
-        let value = chosen (has_header copy_revision_name s.headers)
-        (header_value copy_revision_name s.headers ≡ Some (spelled_number n)) (n ≡ 0) there told in
+        let value : header_value copy_revision_name s.headers ≡ Some (spelled_number n) = rw there at told in
         rw is (
           n,
           n,

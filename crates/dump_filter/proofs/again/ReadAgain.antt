@@ -42,9 +42,9 @@ pub record IsNodeAgain (settings : Settings) (kept : KeptRevisions) (r s : DumpR
   pub number_fits : (number n : ℕ) → header_number copy_revision_name r.headers ≡ Some number
       → IsWrittenCopyNumber settings kept number n → n < 10 ^ 18
 
--- what is written of a record r, which these records follow, is this record s, and some LFs; where everything is kept it
--- stays as it stands. As the first record of a dump it is lawful where r is a version record. The version in force for
--- it is that for r
+-- what is written of a record r, which these records follow, is this record s, and some LFs; where everything is kept
+-- it stays as it stands. As the first record of a dump it is lawful where r is a version record. The version in force
+-- for it is that for r
 pub record IsReadAgain (settings : Settings) (kept : KeptRevisions) (r : DumpRecord) (after : List DumpRecord)
     (front : List ℕ) (s : DumpRecord) : Type 0 where
   pub feeds : ℕ

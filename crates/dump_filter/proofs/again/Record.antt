@@ -222,7 +222,8 @@ module _ {r : DumpRecord} {mid : List Header} {padded : Bool} {new : List Proper
       stay : (name : List ℕ) → has_header name lines ≡ true → is_block lines ≡ true
       stay name has =
           block_stays (λ other. w.mid_lines.touches other || is_length_name other) r.headers lines
-          (both_changes w.mid_lines.touches r.headers mid lines is_length_name w.mid_lines.change others) name has w.block
+          (both_changes w.mid_lines.touches r.headers mid lines is_length_name w.mid_lines.change others)
+          name has w.block
 
       by_revision : (b : Bool) → has_header revision_name r.headers ≡ b → is_block lines ≡ true
       by_revision true is = stay revision_name (new_stays.revision ∙ is)

@@ -20,7 +20,7 @@ use Rattle.dump_filter.specs.Written.{is_written, AreOutputs}
 use Rattle.dump_text.proofs.BoolLemmas.{absurd_bool, both_true, not_so}
 use Rattle.dump_filter.proofs.groups.KindLemmas.{IsOfKind, of_kind}
 use Rattle.dump_filter.proofs.knowing.Answered.{AllLawful}
-use Rattle.dump_filter.proofs.again.ReadAgain.{IsReadAgain, StandsAgain, IsFirstAgain, AreReadAgain, AtEach}
+use Rattle.dump_filter.proofs.again.ReadAgain.{StandsAgain, IsFirstAgain, AreReadAgain, AtEach}
 
 -- of each record
 
@@ -117,50 +117,6 @@ module _ (settings : Settings) (kept : KeptRevisions) where
   AreLater old rest behind = (number place pending : ℕ) → (number ≡ 0 → old ≡ 0)
       → IsAgain number place pending rest behind
 
-  again_written : (r s : DumpRecord) (rest : List DumpRecord) (front behind text : List ℕ)
-      (old number place pending : ℕ) → is_lawful old r.headers ≡ true
-      → (number ≡ 0 → old ≡ 0) → is_written settings true r rest ≡ true → text ≡ front ++ behind
-      → s.place ≡ place + pending
-      → IsReadAgain settings kept r rest front s → AreLater (old + 1) rest behind → IsAgain number place pending
-      (r ∷ rest) text
-  again_written r s rest front behind text old number place pending lawful low written is at read later =
-      let next = later (number + 1) (s.place + length (record_text s)) read.feeds (λ none. absurd (omega arith)) in
-      let stands : BeginsWithRecord number text s (line_feeds read.feeds ++ behind) = record {
-        block = read.block;
-        lawful = read.lawful number (λ none. version_first r
-            (subst (λ (n : ℕ). is_lawful n r.headers ≡ true) (low none) lawful));
-        props_fit = read.props_fit;
-        text_fits = read.text_fits;
-        spelled = is ∙ ap (λ t. t ++ behind) read.spelled ∙ append_assoc (record_text s) (line_feeds read.feeds) behind;
-      } in (
-        s ∷ next.0,
-        (pending, text, line_feeds read.feeds ++ behind, refl, at, stands, next.1),
-        (front, behind, is, rw written (s, next.0, refl, read, next.2)),
-      )
-
-  read_dropped : (r : DumpRecord) (rest : List DumpRecord) (front behind text : List ℕ) (again : List DumpRecord)
-      → is_written settings true r rest ≡ false
-      → text ≡ front ++ behind → front ≡ [] → AreReadAgain settings kept rest behind again
-      → AreReadAgain settings kept (r ∷ rest) text again
-  read_dropped r rest front behind text again dropped is none reads = (front, behind, is, rw dropped (none, reads))
-
-  again_dropped : (r : DumpRecord) (rest : List DumpRecord) (front behind text : List ℕ) (old number place pending : ℕ)
-      → is_lawful old r.headers ≡ true
-      → (number ≡ 0 → old ≡ 0) → is_written settings true r rest ≡ false → text ≡ front ++ behind → front ≡ []
-      → AreLater (old + 1) rest behind → IsAgain number place pending (r ∷ rest) text
-  again_dropped r rest front behind text old number place pending lawful low dropped is none later =
-      let next = later number place pending (λ first. first_stays first) in
-      let same : text ≡ behind = is ∙ ap (λ t. t ++ behind) none in (
-        next.0,
-        subst (λ (t : List ℕ). IsCutInto number place (line_feeds pending ++ t) next.0 []) (sym same) next.1,
-        read_dropped r rest front behind text next.0 dropped is none next.2,
-      )
-    where
-      first_stays : number ≡ 0 → old + 1 ≡ 0
-      first_stays first =
-          absurd (absurd_bool (is_written settings true r rest)
-          (first_written settings r rest (subst (λ (n : ℕ). is_lawful n r.headers ≡ true) (low first) lawful)) dropped)
-
   records_behind : (old old_place : ℕ) (dump : List ℕ) (before records : List DumpRecord)
       → IsCutInto old old_place dump records []
       → AtEach (λ done r after. HasAgain settings kept r after) before records → (text : List ℕ)
@@ -173,20 +129,49 @@ module _ (settings : Settings) (kept : KeptRevisions) where
       cases (is_written settings true r rest) refl this
       (records_behind (old + 1) (r.place + length (record_text r)) end (before ++ r ∷ []) rest cut each.1 behind more)
     where
+      lawful_first : number ≡ 0 → is_lawful 0 r.headers ≡ true
+      lawful_first first = subst (λ (n : ℕ). is_lawful n r.headers ≡ true) (low first) b.lawful
+
       cases : (w : Bool) → is_written settings true r rest ≡ w → MatchBool w (IsOutput settings kept r rest front)
           (front ≡ [])
           → AreLater (old + 1) rest behind → IsAgain number place pending (r ∷ rest) text
       cases true written output later =
-          let found = each.0 front written output (place + pending) in
-          again_written r found.0 rest front behind text old number place pending b.lawful low written is found.1 found.2 later
-      cases false dropped none later = again_dropped r rest front behind text old number place pending b.lawful low dropped is none later
+          let (s, place_is, read) = each.0 front written output (place + pending) in
+          let next = later (number + 1) (s.place + length (record_text s)) read.feeds (λ none. absurd (omega arith)) in
+          let stands : BeginsWithRecord number text s (line_feeds read.feeds ++ behind) = record {
+            block = read.block;
+            lawful = read.lawful number (λ none. version_first r (lawful_first none));
+            props_fit = read.props_fit;
+            text_fits = read.text_fits;
+            spelled = is ∙ ap (λ t. t ++ behind) read.spelled
+                ∙ append_assoc (record_text s) (line_feeds read.feeds) behind;
+          } in (
+            s ∷ next.0,
+            (pending, text, line_feeds read.feeds ++ behind, refl, place_is, stands, next.1),
+            (front, behind, is, rw written (s, next.0, refl, read, next.2)),
+          )
+      cases false dropped none later =
+          let next = later number place pending (λ first. absurd (absurd_bool (is_written settings true r rest)
+          (first_written settings r rest (lawful_first first)) dropped)) in
+          let same : text ≡ behind = is ∙ ap (λ t. t ++ behind) none in (
+            next.0,
+            subst (λ (t : List ℕ). IsCutInto number place (line_feeds pending ++ t) next.0 []) (sym same) next.1,
+            (
+              front,
+              behind,
+              is,
+              subst (IsFirstAgain settings kept r rest front (AreReadAgain settings kept rest behind) next.0)
+                  (sym dropped) (none, next.2),
+            ),
+          )
 
 -- where each record that is written is a record again, the whole text is cut into those records
 pub records_again : (settings : Settings) (kept : KeptRevisions) (dump text : List ℕ) (records : List DumpRecord)
     → IsCutInto 0 0 dump records []
     → AtEach (λ before r after. HasAgain settings kept r after) [] records → AreOutputs settings true kept records text
     → (again : List DumpRecord) × IsCutInto 0 0 text again [] × AreReadAgain settings kept records text again
-records_again settings kept dump text records cut each outputs = records_behind settings kept 0 0 dump [] records cut each text outputs 0 0 0 (λ first. refl)
+records_again settings kept dump text records cut each outputs =
+    records_behind settings kept 0 0 dump [] records cut each text outputs 0 0 0 (λ first. refl)
 
 -- a dump that has a record has one again
 pub some_again : (settings : Settings) (kept : KeptRevisions) (dump text : List ℕ) (records again : List DumpRecord)

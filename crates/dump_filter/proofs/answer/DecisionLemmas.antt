@@ -97,21 +97,7 @@ none_more settings before r fault below here other small = by_code (nat_lt (faul
 
 code_small : (fault : FaultKind) → fault_code fault < 17
 code_small faults.HeaderCut = omega arith
-code_small faults.Header = omega arith
-code_small faults.Kind = omega arith
-code_small faults.Version = omega arith
-code_small faults.Number = omega arith
-code_small faults.Lengths = omega arith
-code_small faults.ContentCut = omega arith
-code_small faults.Order = omega arith
-code_small faults.Props = omega arith
-code_small faults.Md5 = omega arith
-code_small faults.Sha1 = omega arith
-code_small faults.CopySource = omega arith
-code_small faults.CopyRevision = omega arith
-code_small faults.MergeInfo = omega arith
-code_small faults.MergeSource = omega arith
-code_small faults.MergeRange = omega arith
+code_small fault = omega arith
 
 none_at_all : (settings : Settings) (before : List DumpRecord) (r : DumpRecord) → NoneBelow settings before r 17
     → NoFault (HoldsOfRecord settings before r)
@@ -121,15 +107,6 @@ none_at_all settings before r none other = none other (code_small other)
 other_none : (settings : Settings) (before : List DumpRecord) (r : DumpRecord) → is_kept_node settings r ≡ false
     → NoneBelow settings before r 10
     → NoFault (HoldsOfRecord settings before r)
-other_none settings before r drop below faults.HeaderCut = below faults.HeaderCut (omega arith)
-other_none settings before r drop below faults.Header = below faults.Header (omega arith)
-other_none settings before r drop below faults.Kind = below faults.Kind (omega arith)
-other_none settings before r drop below faults.Version = below faults.Version (omega arith)
-other_none settings before r drop below faults.Number = below faults.Number (omega arith)
-other_none settings before r drop below faults.Lengths = below faults.Lengths (omega arith)
-other_none settings before r drop below faults.ContentCut = below faults.ContentCut (omega arith)
-other_none settings before r drop below faults.Order = below faults.Order (omega arith)
-other_none settings before r drop below faults.Props = below faults.Props (omega arith)
 other_none settings before r drop below faults.Md5 = λ h. absurd_bool (is_kept_node settings r) h.0 drop
 other_none settings before r drop below faults.Sha1 = λ h. absurd_bool (is_kept_node settings r) h.0 drop
 other_none settings before r drop below faults.CopySource = λ h.
@@ -143,6 +120,7 @@ other_none settings before r drop below faults.CopyRevision = λ h.
 other_none settings before r drop below faults.MergeInfo = λ h. absurd_bool (is_kept_node settings r) h.1.0 drop
 other_none settings before r drop below faults.MergeSource = λ h. absurd_bool (is_kept_node settings r) h.1.0 drop
 other_none settings before r drop below faults.MergeRange = λ h. absurd_bool (is_kept_node settings r) h.1.0 drop
+other_none settings before r drop below fault = below fault (omega arith)
 
 readable_is : (settings : Settings) (before : List DumpRecord) (r : DumpRecord) → NoneBelow settings before r 10
     → (is_revision_record r || is_kept_node settings r) ≡ true → HasPropertyBlock r
@@ -398,7 +376,8 @@ node_is_taken settings s r keep good =
 pub fate_of_node : (settings : Settings) (s : State) (r : DumpRecord) (ok : Bool) (ps : List Property)
     → is_kept_node settings r ≡ true → fate_of settings s r ok ps ≡ node_fate settings s r ok ps
 fate_of_node settings s r ok ps keep =
-    let kept : Result Fate FaultKind = if is_kept_node settings r then node_fate settings s r ok ps else Ok fates.Drop in
+    let kept : Result Fate FaultKind =
+    if is_kept_node settings r then node_fate settings s r ok ps else Ok fates.Drop in
     ap (λ b. if b then kept else if is_revision_record r then Ok fates.Hold else Ok fates.Pass)
     (first_true (is_node r) _ keep)
     ∙ ap (λ b. if b then node_fate settings s r ok ps else Ok fates.Drop) keep
@@ -407,7 +386,8 @@ fate_of_node settings s r ok ps keep =
 pub fate_of_revision : (settings : Settings) (s : State) (r : DumpRecord) (ok : Bool) (ps : List Property)
     → is_node r ≡ false → is_revision_record r ≡ true → Ok fates.Hold ≡ fate_of settings s r ok ps
 fate_of_revision settings s r ok ps no_node revision =
-    let kept : Result Fate FaultKind = if is_kept_node settings r then node_fate settings s r ok ps else Ok fates.Drop in
+    let kept : Result Fate FaultKind =
+    if is_kept_node settings r then node_fate settings s r ok ps else Ok fates.Drop in
     sym (ap (λ b. if b then kept else if is_revision_record r then Ok fates.Hold else Ok fates.Pass) no_node
     ∙ ap (λ b. if b then Ok fates.Hold else Ok fates.Pass) revision)
 

@@ -1,13 +1,13 @@
 -- Which fault a record has behind others.
-use Rattle.std.proofs.Common.{◌≡◌, ◌⊎◌, ℕ, ◌==◌, ◌<◌, nat_lt, Bool, true, false, not, ◌&&◌, ◌||◌, List, [], ◌∷◌, ◌++◌, refl, sym, ap, ◌∙◌, subst, arith, append_assoc, inl, inr, Option, Some, None, IsTrue, MatchBool, Result, Ok, Err, is_none, is_some, count_by, if◌then◌else◌}
-use Rattle.std.specs.List.{last_or, list_any}
+use Rattle.std.proofs.Common.{◌≡◌, ◌⊎◌, ℕ, ◌<◌, nat_lt, Bool, true, false, not, ◌&&◌, ◌||◌, List, [], ◌∷◌, ◌++◌, refl, sym, ap, ◌∙◌, subst, arith, append_assoc, inl, inr, Option, Some, None, IsTrue, MatchBool, Result, Ok, Err, is_some, if◌then◌else◌}
+use Rattle.std.specs.List.{last_or, list_all, list_any}
 use borrow.Author.Tests.{ltb-true, ltb-false}
 use Rattle.dump_text.specs.declared.fault.FaultKind.{FaultKind}
 use Rattle.dump_text.specs.declared.fault.FaultKind.TheVariants as faults
 use Rattle.dump_text.specs.Number.{spelled_number}
-use Rattle.dump_text.specs.Names.{deciding_names, length_names, revision_name, copy_revision_name, copy_path_name}
-use Rattle.dump_text.specs.HeaderLine.{has_header, with_header_value}
-use Rattle.dump_records.specs.HeaderRules.{header_number, is_one_alone, has_bad_kind, has_bad_number}
+use Rattle.dump_text.specs.Names.{copy_revision_name}
+use Rattle.dump_text.specs.HeaderLine.{with_header_value}
+use Rattle.dump_records.specs.HeaderRules.{header_number, has_bad_kind, has_bad_number}
 use Rattle.dump_records.specs.RecordText.{DumpRecord, is_lawful}
 use Rattle.dump_records.specs.steps.RecordViews.{part_of_node}
 use Rattle.dump_records.proofs.Unique.{keeps}
@@ -26,8 +26,8 @@ use Rattle.dump_filter.specs.steps.Advance.{front_kept}
 use Rattle.dump_filter.specs.steps.Decision.{takes_node, rises, is_in_order, is_orphan, HasNoSource, imaged, source_change, copy_change}
 use Rattle.dump_filter.specs.steps.Knowledge.{is_plain, kept_numbers, Shape, Stands}
 use Rattle.dump_filter.specs.steps.Knowledge.Shape.{Fresh, Idle, Passed, Waits}
-use Rattle.dump_records.proofs.HeaderLemmas.{no_number, both_or_none}
-use Rattle.dump_text.proofs.BoolLemmas.{false_true, not_so, first_true, second_true, first_false, second_false, not_true, not_false, both_true, absurd_bool}
+use Rattle.dump_records.proofs.HeaderLemmas.{copy_both, copy_there}
+use Rattle.dump_text.proofs.BoolLemmas.{false_true, not_so, first_true, second_true, not_true, not_false, both_true, absurd_bool}
 use Rattle.dump_filter.proofs.groups.GroupLemmas.{plain_other, plain_more, any_more}
 use Rattle.dump_filter.proofs.groups.NumberLemmas.{first_other, kept_group, passed_keeps}
 use Rattle.dump_filter.proofs.knowing.StandsNext.{ends_open}
@@ -80,6 +80,17 @@ pub above_present : (s : State) (r : DumpRecord) → is_in_order s r ≡ true �
 above_present s r good other rev p is =
     ltb-true p (revision_number r) (ap (λ q. rises q (revision_number r)) (sym is) ∙ sym (rw (other, rev) refl) ∙ good)
 
+-- with a kept node its group is kept
+numbers_with : (settings : Settings) (closed ns : List DumpRecord) (y r : DumpRecord) → is_node y ≡ false
+    → is_revision_record y ≡ true → list_all is_plain ns ≡ true → is_plain r ≡ true
+    → list_any (is_kept_node settings) (ns ++ r ∷ []) ≡ true
+    → kept_numbers settings ((closed ++ y ∷ ns) ++ r ∷ []) ≡ kept_numbers settings closed ++ revision_number y ∷ []
+numbers_with settings closed ns y r other rev all plain more =
+    ap (kept_numbers settings) (append_assoc closed (y ∷ ns) (r ∷ []))
+    ∙ kept_group settings closed (ns ++ r ∷ []) y other rev (plain_more ns r all plain)
+    ∙ ap (λ b. kept_numbers settings closed ++ (if b then revision_number y ∷ [] else []))
+    (passed_keeps settings y (ns ++ r ∷ []) more)
+
 -- the kept revisions with a kept node's own
 pub kept_with_node : (settings : Settings) (before : List DumpRecord) (s : State) (r : DumpRecord)
     → Shape settings before s → s.revisions.kept.first ≡ first_number (revision_numbers before)
@@ -88,70 +99,24 @@ pub kept_with_node : (settings : Settings) (before : List DumpRecord) (s : State
 kept_with_node settings before s r (Fresh t c) first_is plain keep ends = absurd (false_true ends)
 kept_with_node settings before s r (Idle t closed y other no_rev c) first_is plain keep ends = absurd (false_true ends)
 kept_with_node settings before s r (Passed t closed y ns other rev all some c) first_is plain keep ends =
-    let more : list_any (is_kept_node settings) (ns ++ r ∷ []) ≡ true =
-    any_more settings ns r ∙ ap (λ b. b || is_kept_node settings r) some in
-    let firsts : first_number (revision_numbers ((closed ++ y ∷ ns) ++ r ∷ [])) ≡ t.revisions.kept.first =
-    first_other (closed ++ y ∷ ns) r (plain_other r plain) ∙ sym first_is in
-    let all_numbers : kept_numbers settings ((closed ++ y ∷ ns) ++ r ∷ []) ≡ t.revisions.kept.numbers =
-    ap (kept_numbers settings) (append_assoc closed (y ∷ ns) (r ∷ []))
-    ∙ kept_group settings closed (ns ++ r ∷ []) y other rev (plain_more ns r all plain)
-    ∙ ap (λ b. kept_numbers settings closed ++ (if b then revision_number y ∷ [] else []))
-    (passed_keeps settings y (ns ++ r ∷ []) more) ∙ sym c.numbers_are in
-    λ i. record { first = firsts i; numbers = all_numbers i }
+    let first = first_other (closed ++ y ∷ ns) r (plain_other r plain) ∙ sym first_is in
+    let more = any_more settings ns r ∙ ap (λ b. b || is_kept_node settings r) some in
+    let numbers = numbers_with settings closed ns y r other rev all plain more ∙ sym c.numbers_are in
+    λ i. record { first = first i; numbers = numbers i }
 kept_with_node settings before s r (Waits t closed y ns other rev all none c) first_is plain keep ends =
-    let more : list_any (is_kept_node settings) (ns ++ r ∷ []) ≡ true =
-    any_more settings ns r ∙ ap (λ b. b || is_kept_node settings r) none ∙ keep in
-    let firsts : first_number (revision_numbers ((closed ++ y ∷ ns) ++ r ∷ [])) ≡ t.revisions.kept.first =
-    first_other (closed ++ y ∷ ns) r (plain_other r plain) ∙ sym first_is in
-    let all_numbers : kept_numbers settings ((closed ++ y ∷ ns) ++ r ∷ [])
-    ≡ t.revisions.kept.numbers ++ revision_number y ∷ [] =
-    ap (kept_numbers settings) (append_assoc closed (y ∷ ns) (r ∷ []))
-    ∙ kept_group settings closed (ns ++ r ∷ []) y other rev (plain_more ns r all plain)
-    ∙ ap (λ b. kept_numbers settings closed ++ (if b then revision_number y ∷ [] else []))
-    (passed_keeps settings y (ns ++ r ∷ []) more)
+    let first = first_other (closed ++ y ∷ ns) r (plain_other r plain) ∙ sym first_is in
+    let more = any_more settings ns r ∙ ap (λ b. b || is_kept_node settings r) none ∙ keep in
+    let numbers = numbers_with settings closed ns y r other rev all plain more
     ∙ ap (λ (ns : List ℕ). ns ++ revision_number y ∷ []) (sym c.numbers_are) in
-    λ i. record { first = firsts i; numbers = all_numbers i }
+    λ i. record { first = first i; numbers = numbers i }
 
--- the copy source of a lawful node
-some_number : (n : Option ℕ) → is_none n ≡ false → (m : ℕ) × (n ≡ Some m)
-some_number None e = absurd (false_true (sym e))
-some_number (Some m) e = (m, refl)
-
-module _ (number : ℕ) (r : DumpRecord) (lawful : IsTrue (is_lawful number r.headers)) (node : is_node r ≡ true) where
-  bad_kind : has_bad_kind r.headers ≡ false
-  bad_kind = not_so (has_bad_kind r.headers) (keeps number r.headers lawful).kind
-
-  bad_number : has_bad_number r.headers ≡ false
-  bad_number = not_so (has_bad_number r.headers) (keeps number r.headers lawful).number_ok
-
-  pair : has_header copy_revision_name r.headers ≡ has_header copy_path_name r.headers
-  pair = both_or_none (has_header copy_revision_name r.headers) (has_header copy_path_name r.headers)
-      (sym (ap (λ b. b && is_one_alone (has_header copy_revision_name r.headers) (has_header copy_path_name r.headers))
-      node)
-      ∙ second_false (not (count_by (λ name. has_header name r.headers) deciding_names == 1))
-      (is_node r && is_one_alone (has_header copy_revision_name r.headers) (has_header copy_path_name r.headers))
-      bad_kind)
-
-  copy_number : (has_header copy_revision_name r.headers && is_none (header_number copy_revision_name r.headers))
-      ≡ false
-  copy_number = first_false
-      (has_header copy_revision_name r.headers && is_none (header_number copy_revision_name r.headers))
-      (list_any (λ name. has_header name r.headers && is_none (header_number name r.headers)) length_names)
-      (second_false (has_header revision_name r.headers && is_none (header_number revision_name r.headers))
-      (list_any (λ name. has_header name r.headers && is_none (header_number name r.headers))
-      (copy_revision_name ∷ length_names)) bad_number)
-
-  part : part_of_node r (header_number copy_revision_name r.headers) ≡ header_number copy_revision_name r.headers
-  part = rw node refl
-
-  copied_from : is_copy r ≡ true → (n : ℕ) × (header_number copy_revision_name r.headers ≡ Some n)
-  copied_from is =
-      let has : has_header copy_revision_name r.headers ≡ true = pair ∙ is in
-      some_number (header_number copy_revision_name r.headers)
-      (sym (ap (λ b. b && is_none (header_number copy_revision_name r.headers)) has) ∙ copy_number)
-
-  not_copied : is_copy r ≡ false → header_number copy_revision_name r.headers ≡ None
-  not_copied is = sym (no_number copy_revision_name r.headers (pair ∙ is))
+-- a lawful node is a copy where its copy revision can be read
+copies_told : (number : ℕ) (r : DumpRecord) → IsTrue (is_lawful number r.headers) → is_node r ≡ true
+    → is_copy r ≡ is_some (header_number copy_revision_name r.headers)
+copies_told number r lawful node =
+    let k = keeps number r.headers lawful in
+    sym (copy_both r.headers (not_so (has_bad_kind r.headers) k.kind) node)
+    ∙ copy_there r.headers (not_so (has_bad_number r.headers) k.number_ok)
 
 -- what becomes of a kept node's copy source, or which fault it has
 abbrev pub CopyJudged : Settings → KeptRevisions → ℕ → DumpRecord → Result CopyChange FaultKind → Type 0
@@ -268,23 +233,15 @@ module _ (settings : Settings) (kept : KeptRevisions) (present : ℕ) (number : 
                 (not_false (is_whole_file r) whole),
           )
 
-      found : has_lost_source settings r ≡ false → (b : Bool) → is_copy r ≡ b
+      found : has_lost_source settings r ≡ false
           → CopyJudged settings kept present r
           (source_change settings kept present (part_of_node r (header_number copy_revision_name r.headers)))
-      found lost true copy =
-          let from = copied_from number r lawful node copy in
-          subst (λ (n : Option ℕ). CopyJudged settings kept present r (source_change settings kept present n))
-          (sym (part number r lawful node ∙ from.1))
-          (source_judged lost (Some from.0) from.1 copy)
-      found lost false copy =
-          let none = not_copied number r lawful node copy in
-          subst (λ (n : Option ℕ). CopyJudged settings kept present r (source_change settings kept present n))
-          (sym (part number r lawful node ∙ none))
-          (source_judged lost None none copy)
+      found lost = rw node (source_judged lost (header_number copy_revision_name r.headers) refl
+          (copies_told number r lawful node))
 
       by_lost : (b : Bool) → has_lost_source settings r ≡ b
           → CopyJudged settings kept present r
           (if b then (if is_whole_file r then Ok copies.Dropped else Err faults.CopySource)
           else source_change settings kept present (part_of_node r (header_number copy_revision_name r.headers)))
       by_lost true lost = by_whole lost (is_whole_file r) refl
-      by_lost false lost = found lost (is_copy r) refl
+      by_lost false lost = found lost

@@ -127,6 +127,10 @@ module _ (settings : Settings) (k : KeptRevisions) where
           ∙ either (keeps_group settings (group_of x xs)) ended (has_kept_node settings (group_of x xs)))
       cases false is = rw is refl
 
+  -- what is written of a record, if it is
+  abbrev IfWritten : DumpRecord → List DumpRecord → List ℕ → Bool → Type 0
+  IfWritten r after text written = MatchBool written (IsOutput settings k r after text) (text ≡ [])
+
   -- what is written of a record, by its group
   abbrev OutputBy : DumpRecord → Group → List ℕ → Type 0
   OutputBy r g text = MatchBool (is_revision_record r) (IsRevisionOutput settings k g text)
@@ -201,10 +205,8 @@ module _ (settings : Settings) (k : KeptRevisions) where
   node_written ended r after plain = rw (plain_other r plain, plain_node r plain) refl
 
   node_output : (r : DumpRecord) (after : List DumpRecord) (text : List ℕ) → is_plain r ≡ true → OwnOutput r text
-      → (ended : Bool) → MatchBool (is_written settings ended r after) (IsOutput settings k r after text) (text ≡ [])
-  node_output r after text plain own ended = subst
-      (λ (b : Bool). MatchBool b (IsOutput settings k r after text) (text ≡ []))
-      (sym (node_written ended r after plain))
+      → (ended : Bool) → IfWritten r after text (is_written settings ended r after)
+  node_output r after text plain own ended = subst (IfWritten r after text) (sym (node_written ended r after plain))
       (rw (plain_other r plain, plain_node r plain) (rw (plain_node r plain) at own))
 
   -- one more node behind nodes
@@ -245,8 +247,7 @@ module _ (settings : Settings) (k : KeptRevisions) where
   nodes_dropped ended (n ∷ ns) text all none (front, rest, is, this, more) =
       let one = first_true (is_plain n) (list_all is_plain ns) all in
       let no_own = first_false (is_kept_node settings n) (list_any (is_kept_node settings) ns) none in
-      let nothing : front ≡ [] = subst (λ (b : Bool). MatchBool b (IsOutput settings k n ns front) (front ≡ []))
-      (node_written ended n ns one ∙ no_own) this in
+      let nothing : front ≡ [] = subst (IfWritten n ns front) (node_written ended n ns one ∙ no_own) this in
       is ∙ ap (λ t. t ++ rest) nothing
       ∙ nodes_dropped ended ns rest (second_true (is_plain n) (list_all is_plain ns) all)
       (second_false (is_kept_node settings n) (list_any (is_kept_node settings) ns) none) more
@@ -339,7 +340,7 @@ module _ (settings : Settings) (k : KeptRevisions) (closed ns : List DumpRecord)
     nodes : List ℕ
     is : text ≡ before ++ (own ++ nodes)
     closed_out : AreOutputs settings true k closed before
-    own_out : MatchBool (is_written settings false y ns) (IsOutput settings k y ns own) (own ≡ [])
+    own_out : IfWritten settings k y ns own (is_written settings false y ns)
     nodes_out : AreOutputs settings false k ns nodes
 
   parts : Parts
@@ -358,7 +359,7 @@ module _ (settings : Settings) (k : KeptRevisions) (closed ns : List DumpRecord)
 
   -- the group with other outputs
   joined : (ended : Bool) (ms : List DumpRecord) (own nodes new : List ℕ)
-      → MatchBool (is_written settings ended y ms) (IsOutput settings k y ms own) (own ≡ [])
+      → IfWritten settings k y ms own (is_written settings ended y ms)
       → AreOutputs settings ended k ms nodes
       → new ≡ parts.before ++ (own ++ nodes)
       → AreOutputs settings ended k (closed ++ y ∷ ms) new
@@ -375,11 +376,10 @@ module _ (settings : Settings) (k : KeptRevisions) (closed ns : List DumpRecord)
       let more : list_any (is_kept_node settings) (ns ++ r ∷ []) ≡ true = any_more settings ns r
       ∙ ap (λ b. b || is_kept_node settings r) some in
       joined false (ns ++ r ∷ []) p.own (p.nodes ++ own) (text ++ own)
-      (subst (λ (b : Bool). MatchBool b (IsOutput settings k y (ns ++ r ∷ []) p.own) (p.own ≡ []))
+      (subst (IfWritten settings k y (ns ++ r ∷ []) p.own)
       (sym (rev_kept settings k false y (ns ++ r ∷ []) rev (plain_more ns r all plain) more))
       (passed_output settings k y ns (ns ++ r ∷ []) p.own rev all (plain_more ns r all plain) some more
-      (subst (λ (b : Bool). MatchBool b (IsOutput settings k y ns p.own) (p.own ≡ []))
-      (rev_kept settings k false y ns rev all some) p.own_out)))
+      (subst (IfWritten settings k y ns p.own) (rev_kept settings k false y ns rev all some) p.own_out)))
       (nodes_more settings k false false ns r p.nodes own all plain p.nodes_out mine)
       (ap (λ t. t ++ own) p.is ∙ append_assoc p.before (p.own ++ p.nodes) own
       ∙ ap (λ t. p.before ++ t) (append_assoc p.own p.nodes own))
@@ -389,7 +389,7 @@ module _ (settings : Settings) (k : KeptRevisions) (closed ns : List DumpRecord)
   passed_end some =
       let p = parts in
       joined true ns p.own p.nodes text
-      (subst (λ (b : Bool). MatchBool b (IsOutput settings k y ns p.own) (p.own ≡ []))
+      (subst (IfWritten settings k y ns p.own)
       (rev_kept settings k false y ns rev all some ∙ sym (rev_kept settings k true y ns rev all some)) p.own_out)
       (nodes_end settings k false true ns p.nodes all p.nodes_out)
       p.is
@@ -398,7 +398,7 @@ module _ (settings : Settings) (k : KeptRevisions) (closed ns : List DumpRecord)
   nothing : list_any (is_kept_node settings) ns ≡ false → text ≡ parts.before
   nothing none =
       let p = parts in
-      let no_own : p.own ≡ [] = subst (λ (b : Bool). MatchBool b (IsOutput settings k y ns p.own) (p.own ≡ []))
+      let no_own : p.own ≡ [] = subst (IfWritten settings k y ns p.own)
       (rev_waits settings k y ns rev all none) p.own_out in
       let no_nodes : p.nodes ≡ [] = nodes_dropped settings k false ns p.nodes all none p.nodes_out in
       p.is ∙ ap (λ t. p.before ++ (t ++ p.nodes)) no_own ∙ ap (λ t. p.before ++ t) no_nodes ∙ append-nil p.before
@@ -410,8 +410,8 @@ module _ (settings : Settings) (k : KeptRevisions) (closed ns : List DumpRecord)
   rev_output : (ended : Bool) (ms : List DumpRecord) (rt : List ℕ) → list_all is_plain ms ≡ true
       → is_written settings ended y ms ≡ true
       → IsRevisionOutput settings k (record { revision = y; nodes = ms }) rt
-      → MatchBool (is_written settings ended y ms) (IsOutput settings k y ms rt) (rt ≡ [])
-  rev_output ended ms rt all' is mine = subst (λ (b : Bool). MatchBool b (IsOutput settings k y ms rt) (rt ≡ []))
+      → IfWritten settings k y ms rt (is_written settings ended y ms)
+  rev_output ended ms rt all' is mine = subst (IfWritten settings k y ms rt)
       (sym is) (own_output settings k y ms rt rev all' mine)
 
   -- the first kept node brings the revision with it
@@ -442,7 +442,7 @@ module _ (settings : Settings) (k : KeptRevisions) (closed ns : List DumpRecord)
       let mine : OwnOutput settings k r [] = subst
       (λ (b : Bool). MatchBool b (IsNodeOutput settings k r []) (◌≡◌ {A = List ℕ} [] [])) (sym dropped) refl in
       joined false (ns ++ r ∷ []) [] [] text
-      (subst (λ (b : Bool). MatchBool b (IsOutput settings k y (ns ++ r ∷ []) []) (◌≡◌ {A = List ℕ} [] []))
+      (subst (IfWritten settings k y (ns ++ r ∷ []) [])
       (sym (rev_waits settings k y (ns ++ r ∷ []) rev (plain_more ns r all plain) more)) refl)
       (nodes_more settings k false false ns r [] [] all plain (empty_nodes none) mine)
       (nothing none ∙ sym (append-nil p.before))
@@ -464,8 +464,7 @@ module _ (settings : Settings) (k : KeptRevisions) (closed ns : List DumpRecord)
       → AreOutputs settings true k (closed ++ y ∷ ns) text
   waits_dropped none drop =
       joined true ns [] [] text
-      (subst (λ (b : Bool). MatchBool b (IsOutput settings k y ns []) (◌≡◌ {A = List ℕ} [] []))
-      (sym (rev_ends settings k y ns rev all ∙ drop)) refl)
+      (subst (IfWritten settings k y ns []) (sym (rev_ends settings k y ns rev all ∙ drop)) refl)
       (nodes_end settings k false true ns [] all (empty_nodes none))
       (nothing none ∙ sym (append-nil parts.before))
 
@@ -483,8 +482,7 @@ module _ (settings : Settings) (k : KeptRevisions) where
         group.0,
         group.1,
         group.2,
-        subst (λ (b : Bool). MatchBool b (IsOutput settings k y [] group.0)
-            (group.0 ≡ [])) same group.3,
+        subst (IfWritten settings k y [] group.0) same group.3,
         group.4,
       ))
 
@@ -498,8 +496,7 @@ module _ (settings : Settings) (k : KeptRevisions) where
         [],
         [],
         refl,
-        subst (λ (b : Bool). MatchBool b (IsOutput settings k r [] []) (◌≡◌ {A = List ℕ} [] []))
-            (sym (rev_waits settings k r [] rev refl refl)) refl,
+        subst (IfWritten settings k r [] []) (sym (rev_waits settings k r [] rev refl refl)) refl,
         refl,
       ))
 
@@ -515,7 +512,6 @@ module _ (settings : Settings) (k : KeptRevisions) where
         bytes,
         [],
         sym (append-nil bytes),
-        subst (λ (b : Bool). MatchBool b (IsOutput settings k r [] bytes) (bytes ≡ [])) (sym written)
-            (rw (no_rev, other) refl),
+        subst (IfWritten settings k r [] bytes) (sym written) (rw (no_rev, other) refl),
         refl,
       )

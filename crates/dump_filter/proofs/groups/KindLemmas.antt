@@ -7,9 +7,10 @@ use Rattle.dump_records.specs.steps.RecordKinds.{kind_of}
 use Rattle.dump_records.specs.declared.kind.RecordKind.{RecordKind}
 use Rattle.dump_records.specs.declared.kind.RecordKind.TheVariants as kinds
 use Rattle.dump_records.specs.RecordText.{DumpRecord, is_lawful}
+use Rattle.dump_records.proofs.HeaderLemmas.{OneKind, deciding}
 use Rattle.dump_records.proofs.Unique.{keeps}
 use Rattle.dump_digest.specs.RecordParts.{is_revision_record, is_node}
-use Rattle.dump_text.proofs.BoolLemmas.{not_so, false_true}
+use Rattle.dump_text.proofs.BoolLemmas.{not_so, false_true, absurd_bool}
 
 -- a record is of this kind, and of no other
 abbrev pub IsOfKind : DumpRecord → RecordKind → Type 0
@@ -22,36 +23,28 @@ IsOfKind r kinds.Node = (is_node r ≡ true) × (is_revision_record r ≡ false)
 pub of_kind : (number : ℕ) (r : DumpRecord) → IsTrue (is_lawful number r.headers) → IsOfKind r (kind_of r.headers)
 of_kind number r lawful =
     cases (has_header version_name r.headers) (has_header uuid_name r.headers) (has_header revision_name r.headers)
-    (has_header path_name r.headers)
-    refl refl refl refl
+    refl refl refl
   where
-    bad : has_bad_kind r.headers ≡ false
-    bad = not_so (has_bad_kind r.headers) (keeps number r.headers lawful).kind
-
-    wrong : has_bad_kind r.headers ≡ true → IsOfKind r (kind_of r.headers)
-    wrong is = let no_way : false ≡ true = sym bad ∙ is in cc
+    one : OneKind (has_header version_name r.headers) (has_header uuid_name r.headers)
+        (has_header revision_name r.headers) (has_header path_name r.headers)
+    one = deciding r.headers (not_so (has_bad_kind r.headers) (keeps number r.headers lawful).kind)
 
     is_kind : (which : RecordKind) → kind_of r.headers ≡ which → IsOfKind r which → IsOfKind r (kind_of r.headers)
     is_kind which e of = subst (IsOfKind r) (sym e) of
 
-    cases : (v u s n : Bool) → has_header version_name r.headers ≡ v → has_header uuid_name r.headers ≡ u
-        → has_header revision_name r.headers ≡ s → has_header path_name r.headers ≡ n → IsOfKind r (kind_of r.headers)
-    cases true true true true is-v is-u is-s is-n = wrong (rw (is-v, is-u, is-s, is-n) refl)
-    cases true true true false is-v is-u is-s is-n = wrong (rw (is-v, is-u, is-s, is-n) refl)
-    cases true true false true is-v is-u is-s is-n = wrong (rw (is-v, is-u, is-s, is-n) refl)
-    cases true true false false is-v is-u is-s is-n = wrong (rw (is-v, is-u, is-s, is-n) refl)
-    cases true false true true is-v is-u is-s is-n = wrong (rw (is-v, is-u, is-s, is-n) refl)
-    cases true false true false is-v is-u is-s is-n = wrong (rw (is-v, is-u, is-s, is-n) refl)
-    cases true false false true is-v is-u is-s is-n = wrong (rw (is-v, is-u, is-s, is-n) refl)
-    cases true false false false is-v is-u is-s is-n = is_kind kinds.Version (rw is-v refl) (is-n, is-s)
-    cases false true true true is-v is-u is-s is-n = wrong (rw (is-v, is-u, is-s, is-n) refl)
-    cases false true true false is-v is-u is-s is-n = wrong (rw (is-v, is-u, is-s, is-n) refl)
-    cases false true false true is-v is-u is-s is-n = wrong (rw (is-v, is-u, is-s, is-n) refl)
-    cases false true false false is-v is-u is-s is-n = is_kind kinds.Uuid (rw (is-v, is-u) refl) (is-n, is-s)
-    cases false false true true is-v is-u is-s is-n = wrong (rw (is-v, is-u, is-s, is-n) refl)
-    cases false false true false is-v is-u is-s is-n = is_kind kinds.Revision (rw (is-v, is-u, is-s) refl) (is-n, is-s)
-    cases false false false true is-v is-u is-s is-n = is_kind kinds.Node (rw (is-v, is-u, is-s) refl) (is-n, is-s)
-    cases false false false false is-v is-u is-s is-n = wrong (rw (is-v, is-u, is-s, is-n) refl)
+    cases : (v u s : Bool) → has_header version_name r.headers ≡ v → has_header uuid_name r.headers ≡ u
+        → has_header revision_name r.headers ≡ s → IsOfKind r (kind_of r.headers)
+    cases true u s is-v is-u is-s = let no = one.version is-v in is_kind kinds.Version (rw is-v refl) (no.2, no.1)
+    cases false true s is-v is-u is-s =
+        let no = one.uuid is-u in is_kind kinds.Uuid (rw (is-v, is-u) refl) (no.2, no.1)
+    cases false false true is-v is-u is-s =
+        is_kind kinds.Revision (rw (is-v, is-u, is-s) refl) ((one.revision is-s).2, is-s)
+    cases false false false is-v is-u is-s =
+        is_kind kinds.Node (rw (is-v, is-u, is-s) refl) (node (is_node r) refl, is-s)
+      where
+        node : (b : Bool) → is_node r ≡ b → b ≡ true
+        node true is = refl
+        node false is = absurd (absurd_bool (has_header uuid_name r.headers) (one.left is-v is-s is) is-u)
 
 -- a node is no revision
 pub alone : (number : ℕ) (r : DumpRecord) → IsTrue (is_lawful number r.headers) → is_node r ≡ true

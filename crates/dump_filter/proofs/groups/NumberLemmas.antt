@@ -12,16 +12,31 @@ use Rattle.dump_filter.specs.Groups.{Group, groups, group_number, keeps_group, k
 use Rattle.dump_filter.specs.steps.Knowledge.{is_plain, kept_numbers}
 use Rattle.dump_filter.proofs.groups.GroupLemmas.{groups_before, groups_revision, groups_other}
 
--- one more record
-pub numbers_other : (before : List DumpRecord) (r : DumpRecord) → is_revision_record r ≡ false
-    → revision_numbers (before ++ r ∷ []) ≡ revision_numbers before
-numbers_other [] r other = rw other refl
-numbers_other (x ∷ before) r other = cases (is_revision_record x) refl (numbers_other before r other)
+-- the numbers with one more record
+pub numbers_more : (before : List DumpRecord) (r : DumpRecord) → revision_numbers (before ++ r ∷ [])
+    ≡ revision_numbers before ++ (if is_revision_record r then revision_number r ∷ [] else [])
+numbers_more [] r = cases (is_revision_record r) refl
   where
-    cases : (b : Bool) → is_revision_record x ≡ b → revision_numbers (before ++ r ∷ []) ≡ revision_numbers before
-        → revision_numbers (x ∷ (before ++ r ∷ [])) ≡ revision_numbers (x ∷ before)
+    cases : (b : Bool) → is_revision_record r ≡ b
+        → revision_numbers (r ∷ []) ≡ (if b then revision_number r ∷ [] else [])
+    cases true is = rw is refl
+    cases false is = rw is refl
+numbers_more (x ∷ before) r = cases (is_revision_record x) refl (numbers_more before r)
+  where
+    own : List ℕ
+    own = if is_revision_record r then revision_number r ∷ [] else []
+
+    cases : (b : Bool) → is_revision_record x ≡ b → revision_numbers (before ++ r ∷ []) ≡ revision_numbers before ++ own
+        → revision_numbers (x ∷ (before ++ r ∷ [])) ≡ revision_numbers (x ∷ before) ++ own
     cases true is more = rw is (ap (λ (t : List ℕ). revision_number x ∷ t) more)
     cases false is more = rw is more
+
+pub numbers_other : (before : List DumpRecord) (r : DumpRecord) → is_revision_record r ≡ false
+    → revision_numbers (before ++ r ∷ []) ≡ revision_numbers before
+numbers_other before r other =
+    numbers_more before r
+    ∙ ap (λ b. revision_numbers before ++ (if b then revision_number r ∷ [] else [])) other
+    ∙ append-nil (revision_numbers before)
 
 pub numbers_revision : (before : List DumpRecord) (r : DumpRecord) (ns : List DumpRecord) → is_node r ≡ false
     → is_revision_record r ≡ true → list_all is_plain ns ≡ true

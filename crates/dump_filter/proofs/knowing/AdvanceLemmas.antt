@@ -1,5 +1,5 @@
 -- One more record of its fate: what then stands, the text that is written, and the counts.
-use Rattle.std.proofs.Common.{◌≡◌, ℕ, ◌+◌, ◌≤◌, Bool, true, false, not, ◌&&◌, ◌||◌, List, [], ◌∷◌, ◌++◌, length, refl, sym, ap, ◌∙◌, subst, length-append, suc, arith, Option, Some, None, Contains, MatchBool, MatchOption, count_by, cond, if◌then◌else◌}
+use Rattle.std.proofs.Common.{◌≡◌, ℕ, ◌+◌, ◌≤◌, Bool, true, false, not, ◌&&◌, ◌||◌, List, [], ◌∷◌, ◌++◌, length, refl, sym, ap, ◌∙◌, subst, length-append, suc, arith, Option, Some, None, Contains, MatchBool, count_by, cond, if◌then◌else◌}
 use Rattle.std.proofs.lemmas.Bool.{or_right}
 use Rattle.std.proofs.lemmas.List.{append-nil}
 use Rattle.dump_text.specs.declared.fault.FaultKind.TheVariants as faults
@@ -11,7 +11,6 @@ use Rattle.dump_rules.specs.Settings.{Settings}
 use Rattle.dump_rules.specs.Renumbering.{KeptRevisions}
 use Rattle.dump_rules.specs.steps.RisingNumbers.{RiseFrom}
 use Rattle.dump_rules.specs.Mergeinfo.{HasMergeLines}
-use Rattle.dump_rules.specs.Rewriting.{IsNewMergeinfo}
 use Rattle.dump_rules.proofs.faults.FaultLemmas.{has_lines}
 use Rattle.dump_rules.proofs.new_values.ValueLemmas.{new_value}
 use Rattle.dump_digest.specs.RecordParts.{is_revision_record, is_node, is_kept_node, is_mergeinfo, is_checked_text, value_of, HasPropertyBlock}
@@ -25,11 +24,12 @@ use Rattle.dump_filter.specs.NewContent.{IsNewProperty, AreNewProperties}
 use Rattle.dump_digest.specs.steps.MergeFaults.{HasGoodMergeinfo}
 use Rattle.dump_filter.specs.steps.OwnText.{revision_own, node_own}
 use Rattle.dump_filter.specs.Written.{IsWrittenText}
-use Rattle.dump_filter.specs.steps.State.{PresentGroup, State, no_revisions, pending_count, revision_count}
+use Rattle.dump_filter.specs.steps.State.{PresentGroup, State, pending_count, revision_count}
 use Rattle.dump_filter.specs.steps.State.PresentGroup.{NoGroup, Pending, Written}
 use Rattle.dump_filter.specs.steps.Advance.{stays, pads, next_number, IsOwnRevision, IsOwnNode, IsEndText, IsFrontText, IsPiece, with_kept, front_kept, end_kept, with_kept_revision, with_dropped_revision, front_report, end_report, ended, emptied, started, text_count, next_state}
-use Rattle.dump_filter.specs.steps.Knowledge.{Shape, AreRising, AreKept, Stands}
+use Rattle.dump_filter.specs.steps.Knowledge.{Shape, AreKept, Stands}
 use Rattle.dump_filter.specs.steps.Knowledge.Shape.{Fresh, Idle, Passed, Waits}
+use Rattle.dump_filter.proofs.written.PropertyOutput.{IsNewValue}
 use Rattle.dump_filter.proofs.groups.GroupLemmas.{plain_node}
 use Rattle.dump_filter.proofs.groups.KeptLemmas.{front_rising}
 use Rattle.dump_filter.proofs.groups.NumberLemmas.{count_one}
@@ -103,8 +103,7 @@ value_exists : (settings : Settings) (kept : KeptRevisions) → RiseFrom kept.fi
 value_exists settings kept rise p lines =
     let (value, is) = by_case (is_mergeinfo p) refl in (record { name = p.name; value = value }, (refl, is))
   where
-    by_case : (b : Bool) → is_mergeinfo p ≡ b → (value : Option (List ℕ))
-        × MatchBool b ((v : List ℕ) × (value ≡ Some v) × IsNewMergeinfo settings kept (value_of p) v) (value ≡ p.value)
+    by_case : (b : Bool) → is_mergeinfo p ≡ b → (value : Option (List ℕ)) × IsNewValue settings kept p value b
     by_case true is =
         let has = has_lines (value_of p) (lines is) in
         (Some _, (_, refl, new_value settings kept rise (value_of p) has.0 has.1))
@@ -156,9 +155,7 @@ rising : (s : State) → AreKept s.revisions s.group
     → RiseFrom (front_kept s.revisions.kept s.group).first (front_kept s.revisions.kept s.group).numbers
 rising s = by_present s.revisions.present
   where
-    by_present : (p : Option ℕ)
-        → MatchOption p ((s.revisions.kept ≡ no_revisions.kept) × (s.group ≡ NoGroup))
-        (λ present. AreRising s.revisions.kept present s.group)
+    by_present : (p : Option ℕ) → AreKept (record s.revisions { present = p }) s.group
         → RiseFrom (front_kept s.revisions.kept s.group).first (front_kept s.revisions.kept s.group).numbers
     by_present None (none, free) =
         subst (λ (k : KeptRevisions). RiseFrom k.first k.numbers)
@@ -230,9 +227,7 @@ next_counted settings s r (fates.Keep copy) checked up is = by_group s.group
 next_counted settings s r fates.Drop checked up is = is
 next_counted settings s r fates.Hold checked up is = by_present s.revisions.present up
   where
-    by_present : (p : Option ℕ)
-        → MatchOption p ((s.revisions.kept ≡ no_revisions.kept) × (s.group ≡ NoGroup))
-        (λ present. AreRising s.revisions.kept present s.group)
+    by_present : (p : Option ℕ) → AreKept (record s.revisions { present = p }) s.group
         → (end_report settings s.group s.report).revisions_kept
         ≡ length (started p r (end_kept settings s.revisions.kept s.group)).numbers
     by_present None (none, free) =

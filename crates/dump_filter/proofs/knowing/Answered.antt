@@ -17,7 +17,7 @@ use Rattle.dump_filter.proofs.knowing.StandsNext.{ended_text, becomes_ended}
 use Rattle.dump_filter.proofs.answer.DecisionLemmas.{IsTaken, IsAnswer, answered}
 use Rattle.dump_digest.proofs.VerdictChoice.{verdict_exists}
 use Rattle.dump_filter.proofs.knowing.AdvanceLemmas.{pending_readable, next_stands, piece_exists, end_exists, stands_written}
-use Rattle.dump_filter.proofs.knowing.FilterLemmas.{new_stands, free_more, asked_properties}
+use Rattle.dump_filter.proofs.knowing.FilterLemmas.{written_as, new_stands, free_more, asked_properties}
 
 -- each record's lines break no rule
 abbrev pub AllLawful : List DumpRecord → Type 0
@@ -145,42 +145,33 @@ further settings before rest r text turn next is (Stops mid after x fault at fre
     let texts : next ++ more ≡ text ++ (turn ++ more) = ap (λ t. t ++ more) is ∙ append_assoc text turn more in
     Stops (r ∷ mid) after x fault (ap (λ (l : List DumpRecord). r ∷ l) at) (subst (AreFaultFree settings) moved free)
     (subst (λ (l : List DumpRecord). IsRecordFault settings l x fault) moved has) (turn ++ more)
-    (subst (λ (t : List ℕ). IsWrittenText settings false (before ++ r ∷ mid) t) texts
-    (subst (λ (l : List DumpRecord). IsWrittenText settings false l (next ++ more)) moved written))
+    (written_as false (λ i. settings) moved texts written)
 further settings before rest r text turn next is (Ends free more written end whole) =
     let moved : (before ++ r ∷ []) ++ rest ≡ before ++ r ∷ rest = append_assoc before (r ∷ []) rest in
     let texts : next ++ more ≡ text ++ (turn ++ more) = ap (λ t. t ++ more) is ∙ append_assoc text turn more in
     Ends (subst (AreFaultFree settings) moved free) (turn ++ more)
-    (subst (λ (t : List ℕ). IsWrittenText settings false (before ++ r ∷ rest) t) texts
-    (subst (λ (l : List DumpRecord). IsWrittenText settings false l (next ++ more)) moved written))
-    end
-    (subst (λ (t : List ℕ). IsWrittenText settings true (before ++ r ∷ rest) (t ++ end)) texts
-    (subst (λ (l : List DumpRecord). IsWrittenText settings true l ((next ++ more) ++ end)) moved whole))
+    (written_as false (λ i. settings) moved texts written) end
+    (written_as true (λ i. settings) moved (ap (λ t. t ++ end) texts) whole)
 
 -- lawful records behind those without a fault end without one, or stop at the first that has one
 pub follow : (settings : Settings) (before rest : List DumpRecord) → AllLawful rest → AreFaultFree settings before
     → (reached : Reached settings before)
     → Outcome settings before rest reached.text
 follow settings before [] all free reached =
-    let same : before ++ [] ≡ before = append-nil before in
-    let text_same : reached.text ++ [] ≡ reached.text = append-nil reached.text in
+    let same : before ≡ before ++ [] = sym (append-nil before) in
+    let texts : reached.text ≡ reached.text ++ [] = sym (append-nil reached.text) in
     let end = reached_end settings before free reached in
-    Ends (subst (AreFaultFree settings) (sym same) free) []
-    (subst (λ (t : List ℕ). IsWrittenText settings false (before ++ []) t) (sym text_same)
-    (subst (λ (l : List DumpRecord). IsWrittenText settings false l reached.text) (sym same)
-    (reached_written settings before reached)))
-    end.more
-    (subst (λ (t : List ℕ). IsWrittenText settings true (before ++ []) (t ++ end.more)) (sym text_same)
-    (subst (λ (l : List DumpRecord). IsWrittenText settings true l (reached.text ++ end.more)) (sym same) end.written))
+    Ends (subst (AreFaultFree settings) same free) []
+    (written_as false (λ i. settings) same texts (reached_written settings before reached)) end.more
+    (written_as true (λ i. settings) same (ap (λ t. t ++ end.more) texts) end.written)
 follow settings before (r ∷ rest) all free reached =
     elim (choice settings before free reached r all.0.0 all.0.1) [
       | inl next ↦ further settings before rest r reached.text next.more next.next.text next.text_is
           (follow settings (before ++ r ∷ []) rest all.1 next.still_free next.next)
       | inr found ↦
-          let same : before ++ [] ≡ before = append-nil before in
-          Stops [] rest r found.0 refl (subst (AreFaultFree settings) (sym same) free)
-          (subst (λ (l : List DumpRecord). IsRecordFault settings l r found.0) (sym same) found.1) []
-          (subst (λ (t : List ℕ). IsWrittenText settings false (before ++ []) t) (sym (append-nil reached.text))
-          (subst (λ (l : List DumpRecord). IsWrittenText settings false l reached.text) (sym same)
-          (reached_written settings before reached)))
+          let same : before ≡ before ++ [] = sym (append-nil before) in
+          Stops [] rest r found.0 refl (subst (AreFaultFree settings) same free)
+          (subst (λ (l : List DumpRecord). IsRecordFault settings l r found.0) same found.1) []
+          (written_as false (λ i. settings) same (sym (append-nil reached.text))
+          (reached_written settings before reached))
     ]

@@ -41,6 +41,7 @@ use Rattle.dump_filter.specs.steps.Knowledge.Shape.{Fresh}
 use Rattle.dump_text.proofs.BoolLemmas.{absurd_bool, not_so, not_true}
 use Rattle.dump_filter.proofs.knowing.StandsNext.{IsReadable, ended_numbers, ended_dropped, ended_text, becomes_ended}
 use Rattle.std.proofs.Math.Logic.{∥∥₁_elim}
+use Rattle.std.proofs.Math.Path.{transport}
 use Rattle.dump_filter.specs.steps.NewProperties.{IsReadNode}
 use Rattle.dump_filter.proofs.answer.DecisionLemmas.{IsTaken, IsAnswer, answered}
 use Rattle.dump_filter.proofs.knowing.AdvanceLemmas.{pending_readable, next_stands, stands_written, stands_once, ended_counted, ended_others, next_counted, next_room, kept_nodes, dropped_nodes, next_texts}
@@ -85,13 +86,18 @@ snoc_split (y ∷ before) (c ∷ b) a r x is =
       | inr (rest, l) ↦ inr (rest, (λ i. same i ∷ l i))
     ]
 
+-- the same text of the same records under the same settings
+pub written_as : (ended : Bool) {u v : Settings} {l m : List DumpRecord} {s t : List ℕ} → u ≡ v → l ≡ m → s ≡ t
+    → IsWrittenText u ended l s → IsWrittenText v ended m t
+written_as ended settings lists texts =
+    transport (λ i. IsWrittenText (settings i) ended (lists i) (texts i))
+
 -- records without a fault, with one more that has none, have no fault
 pub free_more : (settings : Settings) (before : List DumpRecord) (r : DumpRecord) → AreFaultFree settings before
     → NoFault (HoldsOfRecord settings before r) → AreFaultFree settings (before ++ r ∷ [])
 free_more settings before r free last b a x is fault h =
     elim (snoc_split before b a r x is) [
-      | inl same ↦ last fault (subst (λ (y : DumpRecord). HoldsOfRecord settings before y fault) (sym same.1)
-          (subst (λ (l : List DumpRecord). HoldsOfRecord settings l x fault) (sym same.0) h))
+      | inl same ↦ last fault (transport (λ i. HoldsOfRecord settings (sym same.0 i) (sym same.1 i) fault) h)
       | inr more ↦ free b more.0 x more.1 fault h
     ]
 
@@ -214,13 +220,9 @@ module _ {f : Inside} {state : FilterState} (h : Holds f state) where
   pub finishes : (end : List ℕ) → IsEndText settings s.revisions.kept s.group end → Finishes state end
   finishes end ends records text accepted written =
       let same = is_before records accepted in
-      let mine : IsWrittenText settings false before text =
-      subst (λ (l : List DumpRecord). IsWrittenText settings false l text) same
-      (subst (λ (v : Settings). IsWrittenText v false records text) (sym settings_is) written) in
+      let mine = written_as false (sym settings_is) same refl written in
       let texts = stands_once settings before s h.knows.text text h.knows.stands mine in
-      subst (λ (v : Settings). IsWrittenText v true records (text ++ end)) settings_is
-      (subst (λ (l : List DumpRecord). IsWrittenText settings true l (text ++ end)) (sym same)
-      (subst (λ (t : List ℕ). IsWrittenText settings true before (t ++ end)) texts at_end))
+      written_as true settings_is (sym same) (ap (λ t. t ++ end) texts) at_end
     where
       at_end : IsWrittenText settings true before (h.knows.text ++ end)
       at_end = ended_text settings before s h.knows.text end h.knows.stands.shape h.knows.stands.numbers readable
@@ -306,13 +308,11 @@ module _ {f : Inside} {state : FilterState} (h : Holds f state) where
         (
           before,
           accepted_is,
-          subst (λ (x : Settings). IsRecordFault x before r kind) settings_is
-              (subst (IsRecordFault settings before r) same (answer (Err found) is)),
+          transport (λ i. IsRecordFault (settings_is i) before r (same i)) (answer (Err found) is),
         ),
       )),
       λ (active, (list, accepted, holds)). sym (least_once (HoldsOfRecord settings before r) kind found
-          (subst (λ (l : List DumpRecord). IsRecordFault settings l r kind) (is_before list accepted)
-          (subst (λ (x : Settings). IsRecordFault x list r kind) (sym settings_is) holds))
+          (transport (λ i. IsRecordFault (sym settings_is i) (is_before list accepted i) r kind) holds)
           (answer (Err found) is)),
     )
 
@@ -323,8 +323,7 @@ module _ {f : Inside} {state : FilterState} (h : Holds f state) where
       -- a record with a fate has no fault
       pub never_refuses : (kind : FaultKind) → ¬ Refuses state r kind
       never_refuses kind (list, accepted, found) = taken.free kind
-          (subst (λ (l : List DumpRecord). HoldsOfRecord settings l r kind) (is_before list accepted)
-          (subst (λ (x : Settings). HoldsOfRecord x list r kind) (sym settings_is) found.holds))
+          (transport (λ i. HoldsOfRecord (sym settings_is i) (is_before list accepted i) r kind) found.holds)
 
       next : (piece : List ℕ) → IsPiece settings s r fate piece
           → Stands settings (before ++ r ∷ []) (next_state settings s r fate v.checked) (h.knows.text ++ piece)
@@ -353,21 +352,16 @@ module _ {f : Inside} {state : FilterState} (h : Holds f state) where
       -- a record with a fate is accepted, with what is written of it
       pub accepts : (piece : List ℕ) → IsPiece settings s r fate piece → Accepts state r piece
       accepts piece is_piece list accepted =
-          let same = is_before list accepted in
-          subst (λ (x : Settings). NoFault (HoldsOfRecord x list r)
-          × ((text : List ℕ) → IsWrittenText x false list text
-          → IsWrittenText x false (list ++ r ∷ []) (text ++ piece)))
-          settings_is
-          (subst (λ (l : List DumpRecord). NoFault (HoldsOfRecord settings l r)
-          × ((text : List ℕ) → IsWrittenText settings false l text
-          → IsWrittenText settings false (l ++ r ∷ []) (text ++ piece))) (sym same) (
-            taken.free,
+          let same = is_before list accepted in (
+            transport (λ i. NoFault (HoldsOfRecord (settings_is i) (sym same i) r)) taken.free,
             λ text written.
-                let texts = stands_once settings before s h.knows.text text h.knows.stands written in
-                subst (λ (t : List ℕ). IsWrittenText settings false (before ++ r ∷ []) (t ++ piece)) texts
+                let mine = written_as false (sym settings_is) same refl written in
+                let texts = stands_once settings before s h.knows.text text h.knows.stands mine in
+                written_as false settings_is (ap (λ (l : List DumpRecord). l ++ r ∷ []) (sym same))
+                (ap (λ t. t ++ piece) texts)
                 (stands_written settings (before ++ r ∷ []) (next_state settings s r fate v.checked)
                 (h.knows.text ++ piece) (next piece is_piece)),
-          ))
+          )
 
       -- behind the next record of the dump, with its fate, the filter's state says what it has accepted
       pub next_knows : (piece : List ℕ) → IsPiece settings s r fate piece

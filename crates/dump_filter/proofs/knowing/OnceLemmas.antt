@@ -7,11 +7,9 @@ use Rattle.dump_text.specs.HeaderLine.{Header, with_header_value}
 use Rattle.dump_text.specs.HeaderBlock.{block_text}
 use Rattle.dump_text.specs.PropertyList.{Property}
 use Rattle.dump_text.proofs.PropertyLemmas.{property-eq}
-use Rattle.dump_records.specs.HeaderRules.{header_number}
 use Rattle.dump_records.specs.RecordText.{DumpRecord}
 use Rattle.dump_rules.specs.Settings.{Settings}
 use Rattle.dump_rules.specs.Renumbering.{KeptRevisions, image}
-use Rattle.dump_rules.specs.Rewriting.{IsNewMergeinfo}
 use Rattle.dump_rules.proofs.new_values.OneNewValue.{one_new_value}
 use Rattle.dump_digest.specs.RecordParts.{is_revision_record, is_node, is_mergeinfo, value_of}
 use Rattle.dump_filter.specs.Groups.{Group, group_of, is_padded}
@@ -21,6 +19,8 @@ use Rattle.dump_filter.specs.NewContent.{new_block, AreNewProperties}
 use Rattle.dump_filter.specs.RecordOutput.{revision_text, whole_text, IsRevisionOutput, IsNodeOutput, IsOutput}
 use Rattle.dump_filter.specs.Written.{is_written, AreOutputs}
 use Rattle.dump_digest.proofs.PropertyBlocks.{property_list_once}
+use Rattle.dump_filter.proofs.written.CopyLemmas.{AreCopyLines}
+use Rattle.dump_filter.proofs.written.PropertyOutput.{IsNewValue}
 
 same_number : (settings : Settings) (k : KeptRevisions) (old a b : ℕ) → IsWrittenCopyNumber settings k old a
     → IsWrittenCopyNumber settings k old b → a ≡ b
@@ -35,13 +35,7 @@ copy_once : (settings : Settings) (k : KeptRevisions) (r : DumpRecord) (g h : Li
     → IsNewCopy settings k r h → g ≡ h
 copy_once settings k r g h = by_plain (becomes_plain settings r)
   where
-    by_copy : (c : Bool) → MatchBool c ((old new : ℕ) × (header_number copy_revision_name r.headers ≡ Some old)
-        × IsWrittenCopyNumber settings k old new
-        × (g ≡ with_header_value copy_revision_name (spelled_number new) r.headers)) (g ≡ r.headers)
-        → MatchBool c ((old new : ℕ) × (header_number copy_revision_name r.headers ≡ Some old)
-        × IsWrittenCopyNumber settings k old new
-        × (h ≡ with_header_value copy_revision_name (spelled_number new) r.headers)) (h ≡ r.headers)
-        → g ≡ h
+    by_copy : (c : Bool) → AreCopyLines settings k r.headers c g → AreCopyLines settings k r.headers c h → g ≡ h
     by_copy true (old, new, at, is, lines) (old', new', at', is', lines') =
         let olds : old' ≡ old = same_Some old' old (sym at' ∙ at) in
         let numbers : new ≡ new' = same_number settings k old new new' is
@@ -49,15 +43,9 @@ copy_once settings k r g h = by_plain (becomes_plain settings r)
         lines ∙ ap (λ n. with_header_value copy_revision_name (spelled_number n) r.headers) numbers ∙ sym lines'
     by_copy false a b = a ∙ sym b
 
-    by_plain : (b : Bool) → MatchBool b (g ≡ without_copy_headers r.headers)
-        (MatchBool (is_copy r) ((old new : ℕ) × (header_number copy_revision_name r.headers ≡ Some old)
-        × IsWrittenCopyNumber settings k old new ×
-        (g ≡ with_header_value copy_revision_name (spelled_number new) r.headers)) (g ≡ r.headers))
-        → MatchBool b (h ≡ without_copy_headers r.headers)
-        (MatchBool (is_copy r) ((old new : ℕ) × (header_number copy_revision_name r.headers ≡ Some old)
-        × IsWrittenCopyNumber settings k old new ×
-        (h ≡ with_header_value copy_revision_name (spelled_number new) r.headers)) (h ≡ r.headers))
-        → g ≡ h
+    by_plain : (b : Bool)
+        → MatchBool b (g ≡ without_copy_headers r.headers) (AreCopyLines settings k r.headers (is_copy r) g)
+        → MatchBool b (h ≡ without_copy_headers r.headers) (AreCopyLines settings k r.headers (is_copy r) h) → g ≡ h
     by_plain true a b = a ∙ sym b
     by_plain false a b = by_copy (is_copy r) a b
 
@@ -73,10 +61,7 @@ properties_once settings k (o ∷ old) (p ∷ a) (q ∷ b) ((name, value), all) 
     (property-eq p q (name ∙ sym name') (by_case (is_mergeinfo o) value value'))
     (properties_once settings k old a b all all')
   where
-    by_case : (c : Bool) → MatchBool c ((v : List ℕ) × (p.value ≡ Some v) × IsNewMergeinfo settings k (value_of o) v)
-        (p.value ≡ o.value)
-        → MatchBool c ((v : List ℕ) × (q.value ≡ Some v) × IsNewMergeinfo settings k (value_of o) v) (q.value ≡ o.value)
-        → p.value ≡ q.value
+    by_case : (c : Bool) → IsNewValue settings k o p.value c → IsNewValue settings k o q.value c → p.value ≡ q.value
     by_case true (v, set, x) (w, set', y) = set ∙ ap (λ (t : List ℕ). Some t)
         (one_new_value settings k (value_of o) v w x y) ∙ sym set'
     by_case false x y = x ∙ sym y

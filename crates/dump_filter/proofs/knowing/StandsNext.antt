@@ -22,7 +22,7 @@ use Rattle.dump_filter.specs.steps.State.{PendingRevision, PresentGroup, State, 
 use Rattle.dump_filter.specs.steps.State.PresentGroup.{NoGroup, Pending, Written}
 use Rattle.dump_filter.specs.steps.Advance.{stays, pads, IsOwnRevision, IsOwnNode, IsEndText, IsFrontText, with_kept, front_kept, end_kept, with_kept_revision, with_dropped_revision, end_report, opened, ended, emptied, started, begun}
 use Rattle.dump_filter.specs.steps.Decision.{takes_node, HasNoSource}
-use Rattle.dump_filter.specs.steps.Knowledge.{is_plain, kept_numbers, dropped_groups, in_group, Shape, GoesOn, MayBecome, AreRising, AreKept, Stands}
+use Rattle.dump_filter.specs.steps.Knowledge.{is_plain, kept_numbers, dropped_groups, in_group, Shape, GoesOn, MayBecome, AreRising, AreKept, Stands, HasCounts}
 use Rattle.dump_filter.specs.steps.Knowledge.Shape.{Fresh, Idle, Passed, Waits}
 use Rattle.dump_text.proofs.BoolLemmas.{false_true, first_true, second_true}
 use Rattle.dump_filter.proofs.groups.GroupLemmas.{plain_node, plain_more, any_more, plain_other, passed_more, passed_end, waits_more, waits_on, waits_kept, waits_dropped, idle_end, revision_more, other_more, OwnOutput, unpadded}
@@ -176,17 +176,45 @@ ends_open settings before s (Waits t closed y ns other rev all none c) = ends_so
 
 -- a node in a group
 module _ (settings : Settings) (r : DumpRecord) (plain : is_plain r ≡ true) (text : List ℕ) where
-  more_is : (closed ns : List DumpRecord) (y : DumpRecord) → closed ++ y ∷ (ns ++ r ∷ []) ≡ (closed ++ y ∷ ns) ++ r ∷ []
-  more_is closed ns y = sym (append_assoc closed (y ∷ ns) (r ∷ []))
+  -- a node joins the last group: neither the present revision nor the first changes
+  joined : (t u : State) (closed ns : List DumpRecord) (y : DumpRecord) (group next : PresentGroup) (new : List ℕ)
+      → Stands settings (closed ++ y ∷ ns) (in_group t group y) text → u.revisions.kept.first ≡ t.revisions.kept.first
+      → Shape settings (closed ++ y ∷ (ns ++ r ∷ [])) (in_group u next y)
+      → AreRising u.revisions.kept (revision_number y) next
+      → ((whole : KeptRevisions) → MayBecome (in_group u next y) whole
+      → AreOutputs settings false whole (closed ++ y ∷ (ns ++ r ∷ [])) new)
+      → Stands settings ((closed ++ y ∷ ns) ++ r ∷ []) (in_group u next y) new
+  joined t u closed ns y group next new st first shape rising written =
+      let more : closed ++ y ∷ (ns ++ r ∷ []) ≡ (closed ++ y ∷ ns) ++ r ∷ [] =
+      sym (append_assoc closed (y ∷ ns) (r ∷ [])) in
+      record {
+        present_is = st.present_is ∙ sym (present_other (closed ++ y ∷ ns) r (plain_other r plain));
+        first_is = first ∙ st.first_is ∙ sym (first_other (closed ++ y ∷ ns) r (plain_other r plain));
+        shape = subst (λ (l : List DumpRecord). Shape settings l (in_group u next y)) more shape;
+        numbers = rising;
+        written = λ whole may. subst (λ (l : List DumpRecord). AreOutputs settings false whole l new) more
+            (written whole may);
+      }
 
-  -- a node changes neither the present revision nor the first
-  same_present : (before : List DumpRecord) (s : State) → Stands settings before s text
-      → s.revisions.present ≡ present_revision (before ++ r ∷ [])
-  same_present before s st = st.present_is ∙ sym (present_other before r (plain_other r plain))
-
-  same_first : (before : List DumpRecord) (s : State) → Stands settings before s text
-      → s.revisions.kept.first ≡ (kept_revisions settings (before ++ r ∷ [])).first
-  same_first before s st = st.first_is ∙ sym (first_other before r (plain_other r plain))
+  -- behind a group that is written what is written of the node is added
+  joined_written : (t : State) (closed ns : List DumpRecord) (y : DumpRecord) (report : Report) (own : List ℕ)
+      → is_node y ≡ false → is_revision_record y ≡ true → list_all is_plain ns ≡ true
+      → list_any (is_kept_node settings) ns ≡ true
+      → HasCounts t (kept_numbers settings closed ++ revision_number y ∷ []) (dropped_groups settings closed)
+      → Stands settings (closed ++ y ∷ ns) (in_group t Written y) text
+      → report.revisions_dropped ≡ t.report.revisions_dropped
+      → ((whole : KeptRevisions) → GoesOn t.revisions.kept (revision_number y + 1) whole
+      → OwnOutput settings whole r own)
+      → Stands settings ((closed ++ y ∷ ns) ++ r ∷ []) (in_group (record t { report = report }) Written y) (text ++ own)
+  joined_written t closed ns y report own other rev all some c st same mine =
+      let more = any_more settings ns r ∙ ap (λ b. b || is_kept_node settings r) some in
+      let u : State = record t { report = report } in
+      joined t u closed ns y Written Written (text ++ own) st refl
+      (Passed u closed y (ns ++ r ∷ []) other rev (plain_more ns r all plain) more
+      (record { numbers_are = c.numbers_are; dropped_are = same ∙ c.dropped_are }))
+      st.numbers
+      (λ whole may. passed_more settings whole closed ns y text other rev all (st.written whole may) r own plain some
+      (mine whole may))
 
   -- behind a kept node its revision, if it was pending, and the node are written, too
   pub keep_stands : (before : List DumpRecord) (s : State) (copy : CopyChange) (report : Report) (front own : List ℕ)
@@ -207,60 +235,32 @@ module _ (settings : Settings) (r : DumpRecord) (plain : is_plain r ≡ true) (t
       absurd (false_true ends)
   keep_stands before s copy report front own
       (Passed t closed y ns other rev all some c) st keep ends same readable props new good known at_front at_own =
-      let more : list_any (is_kept_node settings) (ns ++ r ∷ []) ≡ true =
-      any_more settings ns r ∙ ap (λ b. b || is_kept_node settings r) some in
-      record {
-        present_is = same_present (closed ++ y ∷ ns) (in_group t Written y) st;
-        first_is = same_first (closed ++ y ∷ ns) (in_group t Written y) st;
-        shape = subst (λ (l : List DumpRecord). Shape settings l (in_group (record t { report = report }) Written y))
-            (more_is closed ns y)
-            (Passed (record t { report = report }) closed y (ns ++ r ∷ []) other rev (plain_more ns r all plain) more
-            (record { numbers_are = c.numbers_are; dropped_are = same ∙ c.dropped_are }));
-        numbers = st.numbers;
-        written = λ whole may.
-            let mine : OwnOutput settings whole r own =
-            subst (λ (b : Bool). MatchBool b (IsNodeOutput settings whole r own) (own ≡ [])) (sym keep)
-            (node_out settings t.revisions.kept whole
-            (revision_number y) r copy own may keep good known props new at_own) in
-            subst (λ (l : List DumpRecord). AreOutputs settings false whole l (text ++ (front ++ own)))
-            (more_is closed ns y)
-            (subst (AreOutputs settings false whole (closed ++ y ∷ (ns ++ r ∷ [])))
-            (ap (λ f. text ++ (f ++ own)) (sym at_front))
-            (passed_more settings whole closed ns y text other rev all (st.written whole may) r own plain some mine));
-      }
+      let mine = λ (whole : KeptRevisions) (may : GoesOn t.revisions.kept (revision_number y + 1) whole).
+      subst (λ (b : Bool). MatchBool b (IsNodeOutput settings whole r own) (own ≡ [])) (sym keep)
+      (node_out settings t.revisions.kept whole (revision_number y) r copy own may keep good known props new at_own) in
+      subst (λ (f : List ℕ). Stands settings ((closed ++ y ∷ ns) ++ r ∷ [])
+      (in_group (record t { report = report }) Written y) (text ++ (f ++ own))) (sym at_front)
+      (joined_written t closed ns y report own other rev all some c st same mine)
   keep_stands before s copy report front own
       (Waits t closed y ns other rev all none c) st keep ends same readable props new good known at_front at_own =
       let w : PendingRevision = record { revision = y; bare = length ns == 0 } in
       let kept = t.revisions.kept in
       let present = revision_number y in
-      let more : list_any (is_kept_node settings) (ns ++ r ∷ []) ≡ true =
-      any_more settings ns r ∙ ap (λ b. b || is_kept_node settings r) none ∙ keep in
-      let next : State = record t {
-        revisions = record t.revisions { kept = with_kept t.revisions.kept y };
-        report =
-            report;
-      } in
-      record {
-        present_is = same_present (closed ++ y ∷ ns) (in_group t (Pending w) y) st;
-        first_is = same_first (closed ++ y ∷ ns) (in_group t (Pending w) y) st;
-        shape = subst (λ (l : List DumpRecord). Shape settings l (in_group next Written y)) (more_is closed ns y)
-            (Passed next closed y (ns ++ r ∷ []) other rev (plain_more ns r all plain) more
-            (record {
-              numbers_are = ap (λ (ms : List ℕ). ms ++ revision_number y ∷ []) c.numbers_are;
-              dropped_are =
-                  same ∙ c.dropped_are;
-            }));
-        numbers = front_rising kept (Pending w) present st.numbers;
-        written = λ whole may.
-            let g : GoesOn kept present whole = front_reopened kept whole (Pending w) present st.numbers may in
-            subst (λ (l : List DumpRecord). AreOutputs settings false whole l (text ++ (front ++ own)))
-            (more_is closed ns y)
-            (waits_more settings whole closed ns y text other rev all (st.written whole g) r front own plain none keep
-            (revision_out settings kept present whole y (ns ++ r ∷ []) false front g (omega arith)
-            (below_pending kept w present st.numbers) readable
-            (unpadded settings whole y (ns ++ r ∷ []) more) at_front)
-            (node_out settings (with_kept kept y) whole present r copy own may keep good known props new at_own));
-      }
+      let more = any_more settings ns r ∙ ap (λ b. b || is_kept_node settings r) none ∙ keep in
+      let next : State = record t { revisions = record t.revisions { kept = with_kept kept y }; report = report } in
+      joined t next closed ns y (Pending w) Written (text ++ (front ++ own)) st refl
+      (Passed next closed y (ns ++ r ∷ []) other rev (plain_more ns r all plain) more
+      (record {
+        numbers_are = ap (λ (ms : List ℕ). ms ++ revision_number y ∷ []) c.numbers_are;
+        dropped_are = same ∙ c.dropped_are;
+      }))
+      (front_rising kept (Pending w) present st.numbers)
+      (λ whole may.
+      let g : GoesOn kept present whole = front_reopened kept whole (Pending w) present st.numbers may in
+      waits_more settings whole closed ns y text other rev all (st.written whole g) r front own plain none keep
+      (revision_out settings kept present whole y (ns ++ r ∷ []) false front g (omega arith)
+      (below_pending kept w present st.numbers) readable (unpadded settings whole y (ns ++ r ∷ []) more) at_front)
+      (node_out settings (with_kept kept y) whole present r copy own may keep good known props new at_own))
 
   -- behind a node that isn't kept no more is written
   pub drop_stands : (before : List DumpRecord) (s : State) (report : Report)
@@ -271,45 +271,23 @@ module _ (settings : Settings) (r : DumpRecord) (plain : is_plain r ≡ true) (t
   drop_stands before s report (Fresh t c) st drop ends same = absurd (false_true ends)
   drop_stands before s report (Idle t closed y other no_rev c) st drop ends same = absurd (false_true ends)
   drop_stands before s report (Passed t closed y ns other rev all some c) st drop ends same =
-      let more : list_any (is_kept_node settings) (ns ++ r ∷ []) ≡ true =
-      any_more settings ns r ∙ ap (λ b. b || is_kept_node settings r) some in
-      record {
-        present_is = same_present (closed ++ y ∷ ns) (in_group t Written y) st;
-        first_is = same_first (closed ++ y ∷ ns) (in_group t Written y) st;
-        shape = subst (λ (l : List DumpRecord). Shape settings l (in_group (record t { report = report }) Written y))
-            (more_is closed ns y)
-            (Passed (record t { report = report }) closed y (ns ++ r ∷ []) other rev (plain_more ns r all plain) more
-            (record { numbers_are = c.numbers_are; dropped_are = same ∙ c.dropped_are }));
-        numbers = st.numbers;
-        written = λ whole may.
-            let mine : OwnOutput settings whole r [] =
-            subst (λ (b : Bool). MatchBool b (IsNodeOutput settings whole r []) (◌≡◌ {A = List ℕ} [] []))
-            (sym drop) refl in
-            subst (λ (l : List DumpRecord). AreOutputs settings false whole l text) (more_is closed ns y)
-            (subst (AreOutputs settings false whole (closed ++ y ∷ (ns ++ r ∷ []))) (append-nil text)
-            (passed_more settings whole closed ns y text other rev all (st.written whole may) r [] plain some mine));
-      }
+      let mine = λ (whole : KeptRevisions) (may : GoesOn t.revisions.kept (revision_number y + 1) whole).
+      subst (λ (b : Bool). MatchBool b (IsNodeOutput settings whole r []) (◌≡◌ {A = List ℕ} [] [])) (sym drop) refl in
+      subst (Stands settings ((closed ++ y ∷ ns) ++ r ∷ []) (in_group (record t { report = report }) Written y))
+      (append-nil text) (joined_written t closed ns y report [] other rev all some c st same mine)
   drop_stands before s report (Waits t closed y ns other rev all none c) st drop ends same =
-      let w : PendingRevision = record { revision = y; bare = length ns == 0 } in
-      let more : list_any (is_kept_node settings) (ns ++ r ∷ []) ≡ false =
-      any_more settings ns r ∙ ap (λ b. b || is_kept_node settings r) none ∙ drop in
+      let more = any_more settings ns r ∙ ap (λ b. b || is_kept_node settings r) none ∙ drop in
       let full : (length (ns ++ r ∷ []) == 0) ≡ false = let size = length-append ns (r ∷ []) in grind (arith, size) in
       let up = st.numbers in
-      record {
-        present_is = same_present (closed ++ y ∷ ns) (in_group t (Pending w) y) st;
-        first_is = same_first (closed ++ y ∷ ns) (in_group t (Pending w) y) st;
-        shape = subst (λ (l : List DumpRecord). Shape settings l
-            (in_group (record t { report = report }) (Pending (record { revision = y; bare = false })) y))
-            (more_is closed ns y)
-            (subst (λ (b : Bool). Shape settings (closed ++ y ∷ (ns ++ r ∷ []))
-            (in_group (record t { report = report }) (Pending (record { revision = y; bare = b })) y)) full
-            (Waits (record t { report = report }) closed y (ns ++ r ∷ []) other rev (plain_more ns r all plain) more
-            (record { numbers_are = c.numbers_are; dropped_are = same ∙ c.dropped_are })));
-        numbers = record { low = up.low; rise = up.rise; below = up.below; waits = up.waits };
-        written = λ whole may.
-            subst (λ (l : List DumpRecord). AreOutputs settings false whole l text) (more_is closed ns y)
-            (waits_on settings whole closed ns y text other rev all (st.written whole may) r plain none drop);
-      }
+      let u : State = record t { report = report } in
+      joined t u closed ns y (Pending (record { revision = y; bare = length ns == 0 }))
+      (Pending (record { revision = y; bare = false })) text st refl
+      (subst (λ (b : Bool). Shape settings (closed ++ y ∷ (ns ++ r ∷ []))
+      (in_group u (Pending (record { revision = y; bare = b })) y)) full
+      (Waits u closed y (ns ++ r ∷ []) other rev (plain_more ns r all plain) more
+      (record { numbers_are = c.numbers_are; dropped_are = same ∙ c.dropped_are })))
+      (record { low = up.low; rise = up.rise; below = up.below; waits = up.waits })
+      (λ whole may. waits_on settings whole closed ns y text other rev all (st.written whole may) r plain none drop)
 
 -- a record behind a group
 module _ (settings : Settings) (before : List DumpRecord) (s : State) (r : DumpRecord) (other : is_node r ≡ false)
@@ -319,8 +297,7 @@ module _ (settings : Settings) (before : List DumpRecord) (s : State) (r : DumpR
     (same : report.revisions_dropped ≡ (end_report settings s.group s.report).revisions_dropped) where
   -- the kept revisions by the present one
   abbrev AreKeptAt : Option ℕ → Type 0
-  AreKeptAt p = MatchOption p ((s.revisions.kept ≡ no_revisions.kept) × (s.group ≡ NoGroup))
-      (λ present. AreRising s.revisions.kept present s.group)
+  AreKeptAt p = AreKept (record s.revisions { present = p }) s.group
 
   -- behind a version or UUID record the group's end and the record are written, too
   pub pass_stands : is_revision_record r ≡ false

@@ -1,8 +1,14 @@
 -- The new copy source of a kept node, and the image of a number behind a pending revision.
-use Rattle.std.proofs.Common.{◌≡◌, ℕ, ◌+◌, ◌<◌, ◌≤◌, length, true, refl, sym, ap, subst, Option, Some, None, is_some, MatchOption}
+use Rattle.std.proofs.Common.{◌≡◌, ℕ, ◌+◌, ◌<◌, ◌≤◌, length, true, refl, sym, ap, subst, Option, Some, None, is_some, MatchOption, Bool, List, MatchBool}
+use Rattle.dump_text.specs.Number.{spelled_number}
+use Rattle.dump_text.specs.Names.{copy_revision_name}
+use Rattle.dump_text.specs.HeaderLine.{Header, with_header_value}
+use Rattle.dump_records.specs.HeaderRules.{header_number}
+use Rattle.dump_rules.specs.Settings.{Settings}
 use Rattle.dump_rules.specs.Renumbering.{KeptRevisions, image}
 use Rattle.dump_rules.proofs.ReachLemmas.{image_pushed, image_at_pushed, length_fits}
 use Rattle.dump_filter.specs.Groups.{revision_number}
+use Rattle.dump_filter.specs.NewHeaders.{IsWrittenCopyNumber}
 use Rattle.dump_filter.specs.declared.revisions.Revisions.{Revisions}
 use Rattle.dump_filter.specs.steps.State.{PendingRevision, PresentGroup, no_revisions}
 use Rattle.dump_filter.specs.steps.State.PresentGroup.{NoGroup, Pending}
@@ -11,6 +17,14 @@ use Rattle.dump_filter.specs.steps.Advance.{front_kept}
 use Rattle.dump_filter.specs.steps.Decision.{takes_node}
 use Rattle.dump_filter.specs.steps.Knowledge.{AreRising, AreKept}
 use Rattle.dump_filter.proofs.groups.KeptLemmas.{below_pending}
+
+-- the lines of a copy with its source's new number, and those of no copy as they stood
+abbrev pub AreCopyLines : Settings → KeptRevisions → List Header → Bool → List Header → Type 0
+AreCopyLines settings kept old copies new =
+    MatchBool copies
+    ((n m : ℕ) × (header_number copy_revision_name old ≡ Some n) × IsWrittenCopyNumber settings kept n m
+    × (new ≡ with_header_value copy_revision_name (spelled_number m) old))
+    (new ≡ old)
 
 -- a pending revision is that of a group
 no_pending : (w : PendingRevision) → Pending w ≡ NoGroup → ⊥
@@ -21,9 +35,7 @@ pub pending_rising : (revisions : Revisions) (w : PendingRevision) → AreKept r
     → AreRising revisions.kept (revision_number w.revision) (Pending w)
 pending_rising revisions w = by_present revisions.present
   where
-    by_present : (p : Option ℕ)
-        → MatchOption p ((revisions.kept ≡ no_revisions.kept) × (Pending w ≡ NoGroup))
-        (λ present. AreRising revisions.kept present (Pending w))
+    by_present : (p : Option ℕ) → AreKept (record revisions { present = p }) (Pending w)
         → AreRising revisions.kept (revision_number w.revision) (Pending w)
     by_present None (none, group) = absurd (no_pending w group)
     by_present (Some p) up = subst (λ n. AreRising revisions.kept n (Pending w)) (sym up.waits) up

@@ -190,13 +190,15 @@ module _ (c : Changes) (headers : List Header) where
       ∙ ap (λ b. has_header content_length_name lines || b)
       (has_added content_length_name property_length_name c.props headers refl)
       ∙ or-false (has_header content_length_name lines)
-      ∙ put_has content_length_name text_length_name (spelled_number c.text) (map (put property_length_name c.props) base)
+      ∙ put_has content_length_name text_length_name (spelled_number c.text)
+      (map (put property_length_name c.props) base)
       ∙ put_has content_length_name property_length_name (spelled_number c.props) base
       ∙ base_has content_length_name
 
   put_lengths : with_length content_length_name c.content
       (with_header_value text_length_name (spelled_number c.text) (with_length property_length_name c.props base))
-      ≡ (map (renewed c) headers ++ added property_length_name c.props headers) ++ added content_length_name c.content headers
+      ≡ (map (renewed c) headers ++ added property_length_name c.props headers)
+      ++ added content_length_name c.content headers
   unfolding missing
   put_lengths =
       ap (with_length content_length_name c.content) with_text
@@ -211,7 +213,8 @@ module _ (c : Changes) (headers : List Header) where
 
   put_are : (props text : List ℕ) → c.props ≡ length props → c.text ≡ length text
       → c.content ≡ length props + length text
-      → (map (renewed c) headers ++ added property_length_name c.props headers) ++ added content_length_name c.content headers
+      → (map (renewed c) headers ++ added property_length_name c.props headers)
+      ++ added content_length_name c.content headers
       ≡ with_lengths props text (put_all copy_revision_name (copy_number c.copy)
       (put_all revision_name c.revision headers))
   unfolding base
@@ -230,7 +233,8 @@ dropped_copy Dropped name is = is
 -- where a line of no copy source stood, it still stands
 stay_has : (name : List ℕ) (copy : CopyChange) → is_copy_line name ≡ false → (headers : List Header)
     → has_header name (lines_that_stay copy headers) ≡ has_header name headers
-stay_has name copy other headers = any-filter_same (is_named name) (λ h. not (is_dropped copy h.name)) true stays headers
+stay_has name copy other headers =
+    any-filter_same (is_named name) (λ h. not (is_dropped copy h.name)) true stays headers
   where
     stays : (h : Header) → is_named name h ≡ true → not (is_dropped copy h.name) ≡ true
     stays h named = not_false (is_dropped copy h.name)

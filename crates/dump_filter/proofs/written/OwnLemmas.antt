@@ -2,9 +2,8 @@
 use Rattle.std.proofs.Common.{◌≡◌, ℕ, ◌+◌, ◌<◌, ◌≤◌, ◌==◌, Bool, true, false, not, ◌&&◌, List, [], ◌∷◌, length, refl, sym, ap, ap₂, ◌∙◌, subst, arith, inl, inr, suc, Some, All, Contains, MatchBool}
 use Rattle.std.specs.List.{list_any}
 use Rattle.std.proofs.lemmas.Bool.Decides.{leb_tells}
-use Rattle.dump_text.specs.Number.{spelled_number}
 use Rattle.dump_text.specs.Names.{copy_revision_name}
-use Rattle.dump_text.specs.HeaderLine.{Header, with_header_value}
+use Rattle.dump_text.specs.HeaderLine.{Header}
 use Rattle.dump_text.specs.PropertyList.{Property}
 use Rattle.dump_records.specs.HeaderRules.{header_number}
 use Rattle.dump_records.specs.RecordText.{DumpRecord}
@@ -26,6 +25,8 @@ use Rattle.dump_filter.specs.steps.Knowledge.{GoesOn}
 use Rattle.dump_text.proofs.BoolLemmas.{both_true, not_false}
 use Rattle.dump_filter.proofs.groups.KeptLemmas.{all_weaker, whole_is, next_written, image_kept}
 use Rattle.dump_filter.proofs.answer.MergeLemmas.{IsForeign}
+use Rattle.dump_filter.proofs.written.CopyLemmas.{AreCopyLines}
+use Rattle.dump_filter.proofs.written.PropertyOutput.{IsNewValue}
 
 -- a revision's own text is what is written of it, whatever revisions are kept later
 pub revision_out : (settings : Settings) (kept : KeptRevisions) (from : ℕ) (whole : KeptRevisions) (y : DumpRecord)
@@ -87,20 +88,13 @@ new_copy_kept settings kept whole present r headers g good new = by_plain (becom
         by_case false e h = subst (λ b. MatchBool b (image whole old ≡ Some n) (n ≡ old)) (sym e) h
 
     by_copy : becomes_plain settings r ≡ false → (c : Bool) → is_copy r ≡ c
-        → MatchBool c ((old n : ℕ) × (header_number copy_revision_name r.headers ≡ Some old)
-        × IsWrittenCopyNumber settings kept old n
-        × (headers ≡ with_header_value copy_revision_name (spelled_number n) r.headers)) (headers ≡ r.headers)
-        → MatchBool c ((old n : ℕ) × (header_number copy_revision_name r.headers ≡ Some old)
-        × IsWrittenCopyNumber settings whole old n
-        × (headers ≡ with_header_value copy_revision_name (spelled_number n) r.headers)) (headers ≡ r.headers)
+        → AreCopyLines settings kept r.headers c headers → AreCopyLines settings whole r.headers c headers
     by_copy plain true copy (old, n, at, is, lines) = (old, n, at, number_kept plain copy old n at is, lines)
     by_copy plain false copy lines = lines
 
     by_plain : (b : Bool) → becomes_plain settings r ≡ b
         → MatchBool b (headers ≡ without_copy_headers r.headers)
-        (MatchBool (is_copy r) ((old n : ℕ) × (header_number copy_revision_name r.headers ≡ Some old)
-        × IsWrittenCopyNumber settings kept old n
-        × (headers ≡ with_header_value copy_revision_name (spelled_number n) r.headers)) (headers ≡ r.headers))
+        (AreCopyLines settings kept r.headers (is_copy r) headers)
         → IsNewCopy settings whole r headers
     by_plain true plain lines = rw plain lines
     by_plain false plain h = rw plain (by_copy plain (is_copy r) refl h)
@@ -127,11 +121,8 @@ properties_kept settings kept whole present g (p ∷ ps) (q ∷ new) known ((nam
         (λ on. all_weaker (λ n. present + 1 ≤ n) (λ n. present < n) g.later (λ n up. omega (arith, up)) g.behind)
         fine is)
 
-    by_case : (b : Bool) → is_mergeinfo p ≡ b
-        → MatchBool b ((v : List ℕ) × (q.value ≡ Some v) × IsNewMergeinfo settings kept (value_of p) v)
-        (q.value ≡ p.value)
-        → MatchBool b ((v : List ℕ) × (q.value ≡ Some v) × IsNewMergeinfo settings whole (value_of p) v)
-        (q.value ≡ p.value)
+    by_case : (b : Bool) → is_mergeinfo p ≡ b → IsNewValue settings kept p q.value b
+        → IsNewValue settings whole p q.value b
     by_case true is (v, set, new_value) = (v, set, moved (known p (0, omega arith, refl) is) v new_value)
     by_case false is new_value = new_value
 

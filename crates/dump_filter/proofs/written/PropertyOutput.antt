@@ -1,5 +1,5 @@
 -- What is written of the properties of a record.
-use Rattle.std.proofs.Common.{◌≡◌, ℕ, ◌<◌, ◌^◌, suc, Bool, true, false, List, [], ◌∷◌, ◌++◌, length, flat_map, refl, sym, ap, ◌∙◌, subst, arith, append_assoc, inl, inr, codes, bytes_eq, Option, Some, None, unwrap_or, IsTrue}
+use Rattle.std.proofs.Common.{◌≡◌, ℕ, ◌<◌, ◌^◌, suc, Bool, true, false, List, [], ◌∷◌, ◌++◌, length, flat_map, refl, sym, ap, ◌∙◌, subst, arith, append_assoc, inl, inr, codes, bytes_eq, Option, Some, None, unwrap_or, IsTrue, is_some, MatchBool}
 use Rattle.std.specs.List.{list_any}
 use Rattle.std.proofs.lemmas.List.{append-nil, nil_from_length}
 use Rattle.std.proofs.lemmas.Grind.{flat_map-append}
@@ -72,6 +72,11 @@ padding_is (p ∷ ps) = cases (padding_is ps) (bytes_eq p.name (codes "svn:date"
         ((bytes_eq-Decides p.name (codes "svn:date")).0 is))
     cases others true is None none = rw (is, none) others
     cases others false is v any = rw is others
+
+-- the value is the property's or, of mergeinfo, a new one
+abbrev pub IsNewValue : Settings → KeptRevisions → Property → Option (List ℕ) → Bool → Type 0
+IsNewValue settings kept p value merge =
+    MatchBool merge ((v : List ℕ) × (value ≡ Some v) × IsNewMergeinfo settings kept (value_of p) v) (value ≡ p.value)
 
 -- the new property of one that isn't mergeinfo, and of one that is
 pub unchanged : (settings : Settings) (kept : KeptRevisions) (p : Property) → is_mergeinfo p ≡ false
@@ -178,7 +183,8 @@ block_with r ps has = rw has refl
 no_bytes : (r : DumpRecord) → has_header property_length_name r.headers ≡ false
     → length r.props ≡ property_length r.headers → r.props ≡ []
 no_bytes r none size =
-    let number : header_number property_length_name r.headers ≡ None = sym (no_number property_length_name r.headers none) in
+    let number : header_number property_length_name r.headers ≡ None =
+    sym (no_number property_length_name r.headers none) in
     nil_from_length r.props (size ∙ ap (λ (n : Option ℕ). unwrap_or n 0) number)
 
 -- a record without a property length that isn't padded gets no property block, and has none

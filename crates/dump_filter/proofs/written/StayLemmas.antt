@@ -133,7 +133,8 @@ told_all number text r after b written =
   where
     adds_up : has_header content_length_name r.headers ≡ true
         → (has_header content_length_name r.headers
-        && not (header_length content_length_name r.headers == property_length r.headers + text_length r.headers)) ≡ false
+        && not (header_length content_length_name r.headers == property_length r.headers + text_length r.headers))
+        ≡ false
         → header_length content_length_name r.headers ≡ property_length r.headers + text_length r.headers
     adds_up has ok = eqb-true (header_length content_length_name r.headers)
         (property_length r.headers + text_length r.headers)
