@@ -1,6 +1,5 @@
 -- Numbered items that arrive in any order and are released in theirs.
 use Rattle.std.proofs.Common.{◌≡◌, ◌≢◌, ◌⊎◌, inl, inr, ℕ, zero, suc, ◌+◌, ◌<◌, ◌≤◌, ◌%◌, List, [], ◌∷◌, ◌++◌, length, Option, Some, None, slice_index_or, slice_set, sum_by, refl, sym, ap, ◌∙◌, subst, arith, append_assoc, replicate}
-use Rattle.std.specs.List.{range_with_len}
 use Rattle.std.proofs.lemmas.Bool.{cases_lt, cases_eq}
 use Rattle.std.proofs.lemmas.List.{length-set, get_or-set_same, get_or-set_other, set-get_or, length-replicate}
 use Rattle.std.proofs.lemmas.Option.{none-some}

@@ -1,5 +1,5 @@
 -- The digits of a number, beside those that are written of it: they are the same but for leading zeros.
-use Rattle.std.proofs.Common.{rules, ◌≡◌, ℕ, ◌<◌, ◌≤◌, ◌^◌, nat_lt, nat_le, Bool, true, false, not, ◌&&◌, ◌==◌, List, [], ◌∷◌, get_or, length, bytes_eq, decimal, Option, Some, None, if◌then◌else◌, sym, ap, ◌∙◌, refl, arith, zero, suc}
+use Rattle.std.proofs.Common.{rules, ◌≡◌, ℕ, ◌<◌, ◌≤◌, ◌^◌, nat_lt, nat_le, Bool, true, false, not, ◌&&◌, ◌==◌, List, get_or, length, bytes_eq, decimal, Option, Some, None, if◌then◌else◌, sym, ap, ◌∙◌, refl, arith, zero, suc}
 use Rattle.std.specs.List.{list_all}
 use Rattle.std.specs.Char.{is_ascii_digit}
 use Rattle.std.specs.Str.Parse.{digits_value}
@@ -33,12 +33,13 @@ is_read digits n e =
   where
     some_eq : (m n : ℕ) → Path (Option ℕ) (Some m) (Some n) → m ≡ n
     some_eq m n e = cc
+
     parts : is_number digits ≡ true → digits_value 10 digits ≡ n → IsRead digits n
     parts is value =
         let sizes = first_true (nat_lt 0 (length digits) && nat_le (length digits) 18)
-            (list_all is_ascii_digit digits) is in
+        (list_all is_ascii_digit digits) is in
         let all = second_true (nat_lt 0 (length digits) && nat_le (length digits) 18)
-            (list_all is_ascii_digit digits) is in
+        (list_all is_ascii_digit digits) is in
         let some = first_true (nat_lt 0 (length digits)) (nat_le (length digits) 18) sizes in
         let few = second_true (nat_lt 0 (length digits)) (nat_le (length digits) 18) sizes in
         let at_most : length digits ≤ 18 = grind (arith, few) in
