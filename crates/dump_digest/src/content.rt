@@ -9,7 +9,7 @@ ghost use Rattle.dump_records.specs.steps.RecordViews.{record_item};
 ghost use Rattle.dump_rules.specs.Settings.{Settings};
 ghost use Rattle.dump_digest.specs.steps.Checks.{properties_read};
 ghost use Rattle.dump_digest.specs.steps.ContentViews.{IsContent, IsSaidBy};
-ghost use Rattle.dump_digest.specs.RecordParts.{HasPropertyBlock, has_lost_source, is_kept_node, is_node, is_revision_record, takes_deletes};
+ghost use Rattle.dump_digest.specs.RecordParts.{HasPropertyBlock, has_lost_source, is_kept_node, is_node, is_revision_record};
 
 use crate::digests::text_check;
 use crate::node_mergeinfo::Mergeinfo;
@@ -84,20 +84,13 @@ fn mergeinfo_of(props: &Option<Props<'_>>, options: &Options) -> Option<Mergeinf
     }
 }
 
-/// Whether properties may be deleted in the record's block: in a node under version 3.
-fn takes_deletes(item: &Record<'_>) -> bool
-    ensures { result ≡ takes_deletes (record_item item.now) }
-{
-    item.path().is_some() && item.version() == 3
-}
-
 /// The properties of the record, where they are a property block.
 fn properties_of<'a>(item: &Record<'a>) -> Option<Props<'a>>
     ensures found { IsSome result ↔ HasPropertyBlock (record_item item.now) }
     ensures bytes { IfSome result (λ props. props_bytes props ≡ (record_item item.now).props) }
 {
     let bytes = item.property_bytes();
-    if takes_deletes(item) {
+    if item.may_have_delta() {
         Props::read_with_deletes(bytes)
     } else {
         Props::read(bytes)

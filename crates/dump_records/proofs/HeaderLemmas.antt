@@ -1,15 +1,20 @@
 -- What lawful header lines tell of their record's kind and numbers.
-use Rattle.std.proofs.Common.{◌≡◌, ℕ, ◌+◌, ◌==◌, ◌&&◌, ◌||◌, not, Bool, true, false, List, [], ◌∷◌, refl, sym, ap, ◌∙◌, Option, Some, None, is_some, is_none, count_by, option_and_then, unwrap_or}
+use Rattle.std.proofs.Common.{◌≡◌, ℕ, ◌+◌, ◌<◌, ◌^◌, arith, ◌==◌, ◌&&◌, ◌||◌, not, Bool, true, false, List, [], ◌∷◌, refl, sym, ap, ◌∙◌, Option, Some, None, is_some, is_none, count_by, option_and_then, unwrap_or}
 use Rattle.std.proofs.lemmas.Option.{none-some}
+use Rattle.std.proofs.lemmas.Bool.{eqb-true}
+use Rattle.std.specs.Option.{IfSome}
 use Rattle.dump_text.specs.Names.{version_name, uuid_name, revision_name, path_name, copy_revision_name, copy_path_name, content_length_name, deciding_names, length_names}
 use Rattle.std.specs.List.{list_any}
 use Rattle.dump_text.specs.Number.{number_of}
 use Rattle.dump_text.specs.HeaderLine.{Header, has_header, header_value}
 use Rattle.dump_text.proofs.BoolLemmas.{first_false, second_false, false_true}
+use Rattle.dump_text.specs.steps.ValuePlaces.{is_there, value_at}
+use Rattle.dump_text.specs.declared.value_place.ValuePlace.{ValuePlace}
 use Rattle.dump_text.proofs.BlockLemmas.{has_value}
+use Rattle.dump_text.proofs.ValueLemmas.{place_has}
 use Rattle.dump_records.specs.HeaderRules.{header_number, header_length, property_length, text_length, version_from, is_one_alone, has_bad_kind, is_read_version, has_bad_version, has_bad_number}
 use Rattle.dump_records.specs.declared.kind.KindParts.{KindParts}
-use Rattle.dump_records.specs.declared.kind.KindParts.TheVariants.{Version, Uuid, Revision, Node}
+use Rattle.dump_records.specs.declared.kind.KindParts.TheVariants.{Version, Uuid, Revision, Node, Copy}
 use Rattle.dump_records.specs.steps.KindReading.{version_in, IsKindOf}
 
 -- of four names exactly one is there
@@ -106,6 +111,12 @@ pub value_there : (name : List ℕ) (headers : List Header) (v : Option (List �
     → has_header name headers ≡ is_some v
 value_there name headers v is = sym (has_value name headers) ∙ ap is_some (sym is)
 
+-- and where the name's value has a place
+pub place_there : (name dump : List ℕ) (headers : List Header) (place : ValuePlace)
+    → value_at dump place ≡ header_value name headers → has_header name headers ≡ is_there place
+place_there name dump headers place is =
+    value_there name headers (value_at dump place) is ∙ sym (place_has dump place)
+
 -- a number is there where its line is, unless that line gives none
 number_there : (name : List ℕ) (headers : List Header)
     → (has_header name headers && is_none (header_number name headers)) ≡ false
@@ -184,19 +195,40 @@ version_there number headers good =
     cases false has None found = refl
     cases false has (Some n) found = absurd (none-some n (no_number version_name headers has ∙ found))
 
+-- and it is a small one
+pub version_small : (number : ℕ) (headers : List Header) → has_bad_version number headers ≡ false
+    → IfSome (header_number version_name headers) (λ n. n < 2 ^ 8)
+version_small number headers good = cases (header_number version_name headers) refl
+  where
+    cases : (n : Option ℕ) → header_number version_name headers ≡ n → IfSome n (λ n. n < 2 ^ 8)
+    cases None found = tt
+    cases (Some n) found = small n (sym (bad_version_is number n headers found) ∙ good)
+      where
+        small : (n : ℕ) → not (is_read_version n) ≡ false → n < 2 ^ 8
+        small n read = by_two (n == 2) refl (n == 3) refl
+          where
+            by_two : (a : Bool) → (n == 2) ≡ a → (b : Bool) → (n == 3) ≡ b → n < 2 ^ 8
+            by_two true two b other = let is = eqb-true n 2 two in omega arith
+            by_two false other true three = let is = eqb-true n 3 three in omega arith
+            by_two false not_two false not_three = absurd (false_true (sym read ∙ rw (not_two, not_three) refl))
+
 -- the version in force is that of the parts that the lines say, where they have one
-pub version_said : (headers : List Header) (parts : KindParts) (before : ℕ) → IsKindOf headers parts
+pub version_said : (dump : List ℕ) (headers : List Header) (parts : KindParts) (before : ℕ)
+    → IsKindOf dump headers parts
     → unwrap_or (version_in parts) before ≡ version_from before headers
-version_said headers (Version number) before said =
+version_said dump headers (Version number) before said =
     let has : has_header version_name headers ≡ true = sym said.version in
     let found : header_number version_name headers ≡ Some number = sym said.version_number in
     rw (has, found) refl
-version_said headers Uuid before said =
+version_said dump headers Uuid before said =
     let has : has_header version_name headers ≡ false = sym said.version in
     rw has refl
-version_said headers (Revision number) before said =
+version_said dump headers (Revision number) before said =
     let has : has_header version_name headers ≡ false = sym said.version in
     rw has refl
-version_said headers (Node path copy) before said =
+version_said dump headers (Node path) before said =
+    let has : has_header version_name headers ≡ false = sym said.version in
+    rw has refl
+version_said dump headers (Copy path source) before said =
     let has : has_header version_name headers ≡ false = sym said.version in
     rw has refl

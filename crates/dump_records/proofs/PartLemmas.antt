@@ -227,7 +227,7 @@ module _ (dump : List ℕ) (place number : ℕ) (b : Block) (dump_is : block_dum
 -- the record of a block with these lines and lengths stands at its place
 pub stands_here : (number : ℕ) (b : Block) (header : RecordHeader) (lengths : Lengths)
     (before version text_from after : ℕ)
-    → IsHeaderOf (block_headers b) header → LengthsOf number (block_headers b) lengths
+    → IsHeaderOf (block_dump b) (block_headers b) header → LengthsOf number (block_headers b) lengths
     → version ≡ unwrap_or (version_in header.parts) before
     → lengths.props + lengths.text ≤ length (block_dump b) - block_after b
     → text_from ≡ block_after b + lengths.props → after ≡ text_from + lengths.text
@@ -235,7 +235,7 @@ pub stands_here : (number : ℕ) (b : Block) (header : RecordHeader) (lengths : 
 stands_here number b header lengths before version text_from after says found in_force fits text_at after_at =
     let bound = b.stands.inside in
     record {
-      version_is = in_force ∙ version_said (block_headers b) header.parts before says.kind;
+      version_is = in_force ∙ version_said (block_dump b) (block_headers b) header.parts before says.kind;
       inside = record { props = omega arith; text = omega arith; end = omega arith };
       stands = standing (block_dump b) number (block_place b) (block_after b) text_from after version lengths.props
           lengths.text b.stands found.lawful found.props_is found.text_is text_at after_at (omega arith);

@@ -26,7 +26,7 @@ pub struct Cutter<'a> {
     number: u64,
     place: usize,
     /// The format version in force behind the records up to the place.
-    version: u64,
+    version: u8,
 }
 
 impl<'a> Model for Cutter<'a> {
@@ -66,7 +66,7 @@ impl<'a> Cutter<'a> {
         match record_at(self.dump, place, self.number, self.version) {
             Ok(record) => {
                 self.place = record.after;
-                self.version = record.version;
+                self.version = record.header.version;
                 self.number += 1;
                 Cut::Item(record)
             }
@@ -89,13 +89,13 @@ fn count_line_feeds(text: &[u8]) -> usize
 
 /// The record with this number at a place of the dump, where this format version was in force before; or the first
 /// fault that holds there.
-fn record_at(dump: &[u8], place: usize, number: u64, version: u64) -> Result<Record<'_>, FaultKind>
+fn record_at(dump: &[u8], place: usize, number: u64, version: u8) -> Result<Record<'_>, FaultKind>
     requires { FollowsRecords dump.now number place version }
     ensures next { IfOk result (IsNextRecord dump.now number) }
     ensures fault { IfErr result (IsCutFault number (drop place dump.now)) }
 {
     let headers = Headers::read(dump, place)?;
-    let found = read_header(&headers, number)?;
+    let found = read_header(&headers, number, version)?;
     let lengths = found.1;
     let block = headers.block();
     let left = dump.len() - block.after();
@@ -107,7 +107,6 @@ fn record_at(dump: &[u8], place: usize, number: u64, version: u64) -> Result<Rec
         block,
         number,
         header: found.0,
-        version: found.0.parts.version_from(version),
         text_from,
         after: text_from + lengths.text as usize,
     })

@@ -1,25 +1,34 @@
 //! What the header lines of a block say of their record, and the rules that they may break.
-ghost use Rattle.std.specs.Prelude.{◌≡◌, ◌<◌, ◌+◌, ◌^◌, ◌==◌, ◌&&◌, not, IfSome, IsFalse, MatchResult, is_none, is_some, option_map, bytes_eq, unwrap_or, codes, []};
+ghost use Rattle.std.specs.Prelude.{◌≡◌, ◌<◌, ◌+◌, ◌^◌, ◌==◌, ◌&&◌, not, IfSome, IsFalse, MatchResult, is_none, is_some, option_and_then, option_map, bytes_eq, unwrap_or, codes, []};
 ghost use Rattle.dump_text.specs.Names.{version_name, node_kind_name, copy_path_name, content_length_name};
 ghost use Rattle.dump_text.specs.steps.KnownValues.{name_text};
 ghost use Rattle.dump_text.specs.HeaderLine.{has_header, header_value};
+ghost use Rattle.dump_text.specs.steps.ValuePlaces.{value_at};
 ghost use Rattle.dump_records.specs.HeaderRules.{header_number, header_length, property_length, text_length, says_true, has_bad_kind, has_bad_version, has_bad_number, has_bad_lengths};
-ghost use Rattle.dump_records.specs.steps.KindReading.{IsKindOf};
-ghost use Rattle.dump_records.specs.steps.HeaderReading.{lines_of, AreNumbers, is_spelled, are_written, IsHeaderOf};
+ghost use Rattle.dump_records.specs.steps.KindReading.{IsKindOf, version_in};
+ghost use Rattle.dump_records.specs.steps.HeaderReading.{dump_of, lines_of, AreNumbers, is_spelled, are_written, IsHeaderOf};
 ghost use Rattle.dump_records.specs.steps.Lawful.{LengthsOf, IsUnlawful};
 
 use crate::kind::{CopySource, KindParts};
-use crate::readings::{Lengths, Numbers, RecordHeader};
+use crate::readings::{Lengths, NumberRead, Numbers, RecordHeader};
 use dump_text::{FaultKind, HeaderName, Headers, is_shortest, number};
 
-/// The number that the header of this name gives.
-fn number_at(headers: &Headers<'_>, name: HeaderName) -> Option<u64>
-    ensures value { result ≡ header_number (name_text name) (lines_of headers.now) }
-    ensures small { IfSome result (λ n. n < 10 ^ 18) }
+/// The number that the header of this name gives, and how it is spelled.
+fn number_at(headers: &Headers<'_>, name: HeaderName) -> NumberRead
+    ensures value { result.number ≡ header_number (name_text name) (lines_of headers.now) }
+    ensures small { IfSome result.number (λ n. n < 10 ^ 18) }
+    ensures spelled { result.is_shortest ≡ is_spelled (name_text name) (lines_of headers.now) }
 {
-    match headers.value(name) {
-        Some(digits) => number(digits),
-        None => None,
+    let Some(digits) = headers.value(name) else {
+        return NumberRead {
+            number: None,
+            is_shortest: true,
+        };
+    };
+    let number = number(digits);
+    NumberRead {
+        number,
+        is_shortest: number.is_none() || is_shortest(digits),
     }
 }
 
@@ -27,13 +36,23 @@ fn number_at(headers: &Headers<'_>, name: HeaderName) -> Option<u64>
 fn numbers_of(headers: &Headers<'_>) -> Numbers
     ensures { AreNumbers (lines_of headers.now) result }
 {
+    let revision = number_at(headers, HeaderName::RevisionNumber);
+    let copy_revision = number_at(headers, HeaderName::NodeCopyfromRev);
+    let props = number_at(headers, HeaderName::PropContentLength);
+    let text = number_at(headers, HeaderName::TextContentLength);
+    let content = number_at(headers, HeaderName::ContentLength);
     Numbers {
-        version: number_at(headers, HeaderName::FormatVersion),
-        revision: number_at(headers, HeaderName::RevisionNumber),
-        copy_revision: number_at(headers, HeaderName::NodeCopyfromRev),
-        props: number_at(headers, HeaderName::PropContentLength),
-        text: number_at(headers, HeaderName::TextContentLength),
-        content: number_at(headers, HeaderName::ContentLength),
+        version: number_at(headers, HeaderName::FormatVersion).number,
+        revision: revision.number,
+        copy_revision: copy_revision.number,
+        props: props.number,
+        text: text.number,
+        content: content.number,
+        are_shortest: revision.is_shortest
+            && copy_revision.is_shortest
+            && props.is_shortest
+            && text.is_shortest
+            && content.is_shortest,
     }
 }
 
@@ -127,37 +146,42 @@ fn has_bad_lengths(headers: &Headers<'_>, numbers: &Numbers) -> bool
 }
 
 /// What a node is copied from, where its copy revision is this one.
-fn copy_source<'a>(headers: &Headers<'a>, revision: Option<u64>) -> Option<CopySource<'a>>
+fn copy_source(headers: &Headers<'_>, revision: Option<u64>) -> Option<CopySource>
     requires { is_some revision ≡ has_header copy_path_name (lines_of headers.now) }
-    ensures path { option_map (λ c. c.path.now) result ≡ header_value copy_path_name (lines_of headers.now) }
+    ensures path { option_and_then (λ c. value_at (dump_of headers.now) c.path) result
+        ≡ header_value copy_path_name (lines_of headers.now) }
     ensures revision { option_map (λ c. c.revision) result ≡ revision }
 {
-    let Some(path) = headers.value(HeaderName::NodeCopyfromPath) else {
-        return None;
-    };
-    let Some(revision) = revision else {
-        return None;
-    };
-    Some(CopySource { path, revision })
+    let path = headers.place_of(HeaderName::NodeCopyfromPath);
+    match revision {
+        Some(revision) => Some(CopySource { path, revision }),
+        None => None,
+    }
 }
 
 /// What the record is, with the parts that its kind has.
-fn parts_of<'a>(headers: &Headers<'a>, numbers: &Numbers) -> KindParts<'a>
+fn parts_of(headers: &Headers<'_>, numbers: &Numbers) -> KindParts
     requires numbers { AreNumbers (lines_of headers.now) numbers.now }
     requires kind { IsFalse (has_bad_kind (lines_of headers.now)) }
     requires version { is_some numbers.now.version ≡ has_header version_name (lines_of headers.now) }
+    requires few { IfSome numbers.now.version (λ n. n < 2 ^ 8) }
     requires number { IsFalse (has_bad_number (lines_of headers.now)) }
-    ensures { IsKindOf (lines_of headers.now) result }
+    ensures { IsKindOf (dump_of headers.now) (lines_of headers.now) result }
 {
-    if let Some(path) = headers.value(HeaderName::NodePath) {
-        let copy = copy_source(headers, numbers.copy_revision);
-        return KindParts::Node { path, copy };
+    let path = headers.place_of(HeaderName::NodePath);
+    if path.is_there() {
+        return match copy_source(headers, numbers.copy_revision) {
+            Some(source) => KindParts::Copy { path, source },
+            None => KindParts::Node { path },
+        };
     }
     if let Some(number) = numbers.revision {
         return KindParts::Revision { number };
     }
     if let Some(number) = numbers.version {
-        return KindParts::Version { number };
+        return KindParts::Version {
+            number: number as u8,
+        };
     }
     KindParts::Uuid
 }
@@ -182,38 +206,27 @@ fn says_true(headers: &Headers<'_>, name: HeaderName) -> bool
     }
 }
 
-/// Whether the header of this name, where it gives a number, is written as that number is.
-fn is_spelled(headers: &Headers<'_>, name: HeaderName, found: Option<u64>) -> bool
-    requires { found ≡ header_number (name_text name) (lines_of headers.now) }
-    ensures { result ≡ is_spelled (name_text name) (lines_of headers.now) }
-{
-    match (headers.value(name), found) {
-        (Some(digits), Some(_)) => is_shortest(digits),
-        _ => true,
-    }
-}
-
 /// Whether the lines, under the numbers and lengths that they have, are written as they stand.
 fn are_written(headers: &Headers<'_>, numbers: &Numbers) -> bool
     requires { AreNumbers (lines_of headers.now) numbers.now }
     ensures { result ≡ are_written (lines_of headers.now) }
 {
     let lengths = lengths_of(numbers);
-    is_spelled(headers, HeaderName::RevisionNumber, numbers.revision)
-        && is_spelled(headers, HeaderName::NodeCopyfromRev, numbers.copy_revision)
-        && is_spelled(headers, HeaderName::PropContentLength, numbers.props)
-        && is_spelled(headers, HeaderName::TextContentLength, numbers.text)
-        && is_spelled(headers, HeaderName::ContentLength, numbers.content)
+    numbers.are_shortest
         && (headers.has(HeaderName::ContentLength) || lengths.props + lengths.text == 0)
 }
 
-/// What the header lines of the record with this number say, and its lengths; or the first rule that they break.
-pub(crate) fn read_header<'a>(
-    headers: &Headers<'a>,
+/// What the header lines of the record with this number say, where this format version was in force before, and its
+/// lengths; or the first rule that they break.
+pub(crate) fn read_header(
+    headers: &Headers<'_>,
     number: u64,
-) -> Result<(RecordHeader<'a>, Lengths), FaultKind>
+    before: u8,
+) -> Result<(RecordHeader, Lengths), FaultKind>
     ensures { MatchResult result
-        (λ found. IsHeaderOf (lines_of headers.now) found.0 × LengthsOf number (lines_of headers.now) found.1)
+        (λ found. IsHeaderOf (dump_of headers.now) (lines_of headers.now) found.0
+            × LengthsOf number (lines_of headers.now) found.1
+            × (found.0.version ≡ unwrap_or (version_in found.0.parts) before))
         (IsUnlawful number (lines_of headers.now)) }
 {
     let numbers = numbers_of(headers);
@@ -229,10 +242,12 @@ pub(crate) fn read_header<'a>(
     if has_bad_lengths(headers, &numbers) {
         return Err(FaultKind::Lengths);
     }
+    let parts = parts_of(headers, &numbers);
     let header = RecordHeader {
-        parts: parts_of(headers, &numbers),
-        md5: headers.value(HeaderName::TextContentMd5),
-        sha1: headers.value(HeaderName::TextContentSha1),
+        parts,
+        md5: headers.place_of(HeaderName::TextContentMd5),
+        sha1: headers.place_of(HeaderName::TextContentSha1),
+        version: parts.version_from(before),
         is_file: says_file(headers),
         has_props: headers.has(HeaderName::PropContentLength),
         has_text: headers.has(HeaderName::TextContentLength),

@@ -2,6 +2,8 @@
 ghost use Rattle.std.specs.Prelude.{◌≡◌, unwrap_or};
 ghost use Rattle.dump_records.specs.steps.KindReading.{version_in};
 
+use dump_text::ValuePlace;
+
 /// What a record is, by the one deciding name that its block has.
 #[derive(Clone, Copy, Debug, PartialEq, Eq)]
 pub enum RecordKind {
@@ -13,23 +15,26 @@ pub enum RecordKind {
 
 /// What a record is, with what only a record of its kind has.
 #[derive(Clone, Copy)]
-pub(crate) enum KindParts<'a> {
+pub(crate) enum KindParts {
     Version {
-        number: u64,
+        number: u8,
     },
     Uuid,
     Revision {
         number: u64,
     },
     Node {
-        path: &'a [u8],
-        copy: Option<CopySource<'a>>,
+        path: ValuePlace,
+    },
+    Copy {
+        path: ValuePlace,
+        source: CopySource,
     },
 }
 
-impl KindParts<'_> {
+impl KindParts {
     /// The format version in force for a record with these parts, where this one was in force before.
-    pub(crate) fn version_from(&self, before: u64) -> u64
+    pub(crate) fn version_from(&self, before: u8) -> u8
         ensures { result ≡ unwrap_or (version_in self.now) before }
     {
         match self {
@@ -41,7 +46,7 @@ impl KindParts<'_> {
 
 /// What a node is copied from.
 #[derive(Clone, Copy)]
-pub(crate) struct CopySource<'a> {
-    pub(crate) path: &'a [u8],
+pub(crate) struct CopySource {
+    pub(crate) path: ValuePlace,
     pub(crate) revision: u64,
 }

@@ -1,5 +1,14 @@
 //! What is read of header lines.
 use crate::kind::KindParts;
+use dump_text::ValuePlace;
+
+/// What a header line gives whose value may be a number.
+#[derive(Clone, Copy)]
+pub(crate) struct NumberRead {
+    pub(crate) number: Option<u64>,
+    /// Whether the number, if there is one, is in its shortest spelling.
+    pub(crate) is_shortest: bool,
+}
 
 /// The numbers that header lines give.
 #[derive(Clone, Copy)]
@@ -10,6 +19,8 @@ pub(crate) struct Numbers {
     pub(crate) props: Option<u64>,
     pub(crate) text: Option<u64>,
     pub(crate) content: Option<u64>,
+    /// Whether each of them but the version is in its shortest spelling.
+    pub(crate) are_shortest: bool,
 }
 
 /// How many bytes of properties and of text follow a block.
@@ -19,12 +30,14 @@ pub(crate) struct Lengths {
     pub(crate) text: u64,
 }
 
-/// What the header lines of a record say. What is small stands side by side, since a record is sent between threads.
+/// What the header lines of a record say, and the format version that is in force for it. What is small stands side by
+/// side, since a record is sent between threads.
 #[derive(Clone, Copy)]
-pub(crate) struct RecordHeader<'a> {
-    pub(crate) parts: KindParts<'a>,
-    pub(crate) md5: Option<&'a [u8]>,
-    pub(crate) sha1: Option<&'a [u8]>,
+pub(crate) struct RecordHeader {
+    pub(crate) parts: KindParts,
+    pub(crate) md5: ValuePlace,
+    pub(crate) sha1: ValuePlace,
+    pub(crate) version: u8,
     pub(crate) is_file: bool,
     pub(crate) has_props: bool,
     pub(crate) has_text: bool,

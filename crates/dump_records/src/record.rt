@@ -28,18 +28,17 @@ pub enum RecordPart {
 pub struct Record<'a> {
     pub(crate) block: Block<'a>,
     pub(crate) number: u64,
-    pub(crate) header: RecordHeader<'a>,
-    pub(crate) version: u64,
+    pub(crate) header: RecordHeader,
     pub(crate) text_from: usize,
     pub(crate) after: usize,
-    pub ghost says: { IsHeaderOf (block_headers block) header },
+    pub ghost says: { IsHeaderOf (block_dump block) (block_headers block) header },
     pub ghost counted: { number + 1 < 2 ^ 64 },
     pub ghost inside: { AreInside (block_dump block) (block_after block) text_from after },
     pub ghost stands: { BeginsWithRecord number (drop (block_place block) (block_dump block))
-        (record_between (block_dump block) (block_place block) (block_after block) text_from after version)
+        (record_between (block_dump block) (block_place block) (block_after block) text_from after header.version)
         (drop after (block_dump block)) },
     pub ghost numbered: { ∥ IsRecordOf (block_dump block) number
-        (record_between (block_dump block) (block_place block) (block_after block) text_from after version) ∥₁ },
+        (record_between (block_dump block) (block_place block) (block_after block) text_from after header.version) ∥₁ },
 }
 
 impl<'a> Record<'a> {
@@ -80,7 +79,7 @@ impl<'a> Record<'a> {
     pub fn version(&self) -> u64
         ensures { result ≡ (record_item self.now).version }
     {
-        self.version
+        u64::from(self.header.version)
     }
 
     /// What it is.
@@ -91,8 +90,18 @@ impl<'a> Record<'a> {
             KindParts::Version { .. } => RecordKind::Version,
             KindParts::Uuid => RecordKind::Uuid,
             KindParts::Revision { .. } => RecordKind::Revision,
-            KindParts::Node { .. } => RecordKind::Node,
+            KindParts::Node { .. } | KindParts::Copy { .. } => RecordKind::Node,
         }
+    }
+
+    /// Whether it is a node.
+    pub fn is_node(&self) -> bool
+        ensures { result ≡ has_header path_name (record_item self.now).headers }
+    {
+        matches!(
+            self.header.parts,
+            KindParts::Node { .. } | KindParts::Copy { .. }
+        )
     }
 
     /// Its header lines.
@@ -111,17 +120,17 @@ impl<'a> Record<'a> {
         ensures lent { IfSome result (λ path. IsInBlock self.now path.now) }
     {
         match self.header.parts {
-            KindParts::Node { path, .. } => Some(path),
+            KindParts::Node { path } | KindParts::Copy { path, .. } => self.block.value_at(path),
             _ => None,
         }
     }
 
     /// What a node is copied from.
-    fn copy_source(&self) -> Option<CopySource<'a>>
+    fn copy_source(&self) -> Option<CopySource>
         ensures { result ≡ copy_in self.now.header.parts }
     {
         match self.header.parts {
-            KindParts::Node { copy, .. } => copy,
+            KindParts::Copy { source, .. } => Some(source),
             _ => None,
         }
     }
@@ -135,7 +144,7 @@ impl<'a> Record<'a> {
         let Some(source) = self.copy_source() else {
             return None;
         };
-        Some(source.path)
+        self.block.value_at(source.path)
     }
 
     /// The revision that a node is copied from.
@@ -189,14 +198,11 @@ impl<'a> Record<'a> {
         self.header.prop_delta || self.header.text_delta
     }
 
-    /// Whether it is a node under version 3, which a delta may be part of.
-    fn may_have_delta(&self) -> bool
+    /// Whether it is a node under version 3: a delta may be part of it, and its properties may be deleted.
+    pub fn may_have_delta(&self) -> bool
         ensures { let r = record_item self.now in result ≡ (has_header path_name r.headers && r.version == 3) }
     {
-        match self.header.parts {
-            KindParts::Node { .. } => self.version == 3,
-            _ => false,
-        }
+        self.is_node() && self.header.version == 3
     }
 
     /// The MD5 digest that its lines tell of its text.
@@ -204,7 +210,7 @@ impl<'a> Record<'a> {
         ensures value { option_copied result ≡ header_value md5_name (record_item self.now).headers }
         ensures lent { IfSome result (λ digest. IsInBlock self.now digest.now) }
     {
-        self.header.md5
+        self.block.value_at(self.header.md5)
     }
 
     /// The SHA-1 digest that its lines tell of its text.
@@ -212,7 +218,7 @@ impl<'a> Record<'a> {
         ensures value { option_copied result ≡ header_value sha1_name (record_item self.now).headers }
         ensures lent { IfSome result (λ digest. IsInBlock self.now digest.now) }
     {
-        self.header.sha1
+        self.block.value_at(self.header.sha1)
     }
 
     /// Whether it has a length for properties.

@@ -5,6 +5,7 @@ pub mod Unique
 pub mod ScanLemmas
 pub mod BlockLemmas
 pub mod NameLemmas
+pub mod PlaceLemmas
 pub mod ValueLemmas
 pub mod PartLemmas
 pub mod PropertyLemmas

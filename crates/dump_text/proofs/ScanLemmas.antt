@@ -99,7 +99,7 @@ cut_at_colon whole k at some room space =
     }
 
 -- a line, read at its first colon
-position_at : (b : ℕ) (name rest : List ℕ) → has_byte b name ≡ false → position_or_len (λ (c : ℕ). c == b)
+pub position_at : (b : ℕ) (name rest : List ℕ) → has_byte b name ≡ false → position_or_len (λ (c : ℕ). c == b)
     (name ++ b ∷ rest) ≡ length name
 position_at b [] rest none = rw (same b) refl
 position_at b (c ∷ name) rest none =

@@ -1,5 +1,5 @@
 -- The values of the known names among header lines, line by line.
-use Rattle.std.proofs.Common.{◌≡◌, ◌≢◌, ℕ, zero, suc, replicate, ◌<◌, ◌==◌, not, Bool, true, false, List, [], ◌∷◌, ◌++◌, length, refl, sym, ap, ◌∙◌, arith, subst, bytes_eq, Option, Some, None, is_some, Bor, slice_index_or, slice_set, slice_range}
+use Rattle.std.proofs.Common.{◌≡◌, ◌≢◌, ℕ, zero, suc, replicate, ◌<◌, ◌==◌, not, ◌&&◌, Bool, true, false, List, [], ◌∷◌, ◌++◌, length, refl, sym, ap, ◌∙◌, arith, subst, bytes_eq, Option, Some, None, is_some, Bor, slice_index_or, slice_set, slice_range}
 use Rattle.std.proofs.lemmas.Option.{none-some, same_Some}
 use Rattle.std.specs.Option.{option_copied, IfSome}
 use Rattle.std.proofs.lemmas.Bool.{eqb-true, eqb-false}
@@ -12,6 +12,8 @@ use Rattle.dump_text.specs.HeaderLine.{is_named, has_header, header_value}
 use Rattle.dump_text.specs.HeaderBlock.{lines_bytes}
 use Rattle.dump_text.specs.steps.ReadHeaders.{headers_between, IsBlockBetween, IsPartBetween}
 use Rattle.dump_text.specs.steps.Scanning.{is_known}
+use Rattle.dump_text.specs.steps.ValuePlaces.{is_there, no_place, value_at}
+use Rattle.dump_text.specs.declared.value_place.ValuePlace.{ValuePlace}
 use Rattle.dump_text.proofs.BoolLemmas.{first_false, second_false, not_so}
 use Rattle.dump_text.proofs.Unique.{regroup}
 use Rattle.dump_text.proofs.BlockLemmas.{has_value, block_bytes, block_size, value_between, rest_between}
@@ -22,11 +24,19 @@ pub some_copied : (r : Option (Bor (List ℕ))) → is_some r ≡ is_some (optio
 some_copied None = refl
 some_copied (Some x) = refl
 
--- no value is noted before the first line
-pub none_noted : (count : ℕ) → AreValues [] (replicate count None)
-none_noted count name = ap option_copied (all_none count (name_place name))
+-- a place has a value where it says so
+pub place_has : (dump : List ℕ) (place : ValuePlace) → is_there place ≡ is_some (value_at dump place)
+place_has dump place = cases (is_there place) refl
   where
-    all_none : (n i : ℕ) → slice_index_or {A = Option (Bor (List ℕ))} (replicate n None) i None ≡ None
+    cases : (b : Bool) → is_there place ≡ b → is_there place ≡ is_some (value_at dump place)
+    cases true is = rw is refl
+    cases false is = rw is refl
+
+-- no value is noted before the first line
+pub none_noted : (dump : List ℕ) (count : ℕ) → AreValues dump [] (replicate count no_place)
+none_noted dump count name = ap (value_at dump) (all_none count (name_place name))
+  where
+    all_none : (n i : ℕ) → slice_index_or (replicate n no_place) i no_place ≡ no_place
     all_none zero i = refl
     all_none (suc n) zero = refl
     all_none (suc n) (suc i) = all_none n i
@@ -57,14 +67,15 @@ abbrev pub line_of : List ℕ → List ℕ → line.Header
 line_of name value = record { name = name; value = value }
 
 -- what is noted of a line behind some lines
-module _ (headers : List line.Header) (values : List (Option (Bor (List ℕ)))) (are : AreValues headers values)
+module _ (dump : List ℕ) (headers : List line.Header) (places : List ValuePlace) (are : AreValues dump headers places)
     (name : List ℕ) where
   -- a line of no known name may follow, and changes nothing
   pub unknown_follows : known_name name ≡ None → true ≡ may_follow headers name
   unknown_follows none = let no : is_known name ≡ false = known_is name ∙ ap is_some none in rw no refl
 
   -- a line of a name that isn't known changes no value
-  pub unknown_noted : known_name name ≡ None → (value : List ℕ) → AreValues (headers ++ line_of name value ∷ []) values
+  pub unknown_noted : known_name name ≡ None → (value : List ℕ)
+      → AreValues dump (headers ++ line_of name value ∷ []) places
   unknown_noted none value n = are n ∙ sym (value_other (name_text n) headers (line_of name value) (not_so _ other))
     where
       other : bytes_eq name (name_text n) ≡ true → ⊥
@@ -72,44 +83,44 @@ module _ (headers : List line.Header) (values : List (Option (Bor (List ℕ)))) 
 
   -- a line of a known name may follow where the name has no value yet
   pub known_follows : (n : HeaderName) → known_name name ≡ Some n
-      → may_follow headers name ≡ not (is_some (slice_index_or values (name_place n) None))
+      → may_follow headers name ≡ not (is_there (slice_index_or places (name_place n) no_place))
   known_follows n is =
       let known : is_known name ≡ true = known_is name ∙ ap is_some is in
-      let has : has_header name headers ≡ is_some (slice_index_or values (name_place n) None) =
+      let has : has_header name headers ≡ is_there (slice_index_or places (name_place n) no_place) =
       ap (λ t. has_header t headers) (known_text name n is) ∙ sym (has_value (name_text n) headers)
-      ∙ ap is_some (sym (are n))
-      ∙ sym (some_copied (slice_index_or values (name_place n) None)) in
-      rw (known, has) refl
+      ∙ ap is_some (sym (are n)) ∙ sym (place_has dump (slice_index_or places (name_place n) no_place)) in
+      ap (λ b. not (b && has_header name headers)) known ∙ ap not has
 
   -- and then its value is the line's
-  pub known_noted : (n : HeaderName) → known_name name ≡ Some n → name_place n < length values
-      → is_some (slice_index_or values (name_place n) None) ≡ false → (value : Bor (List ℕ))
-      → AreValues (headers ++ line_of name value.now ∷ []) (slice_set values (name_place n) (Some value))
-  known_noted n is inside free value m = by_place (name_place m == name_place n) refl
+  pub known_noted : (n : HeaderName) → known_name name ≡ Some n → name_place n < length places
+      → is_there (slice_index_or places (name_place n) no_place) ≡ false → (place : ValuePlace) (value : List ℕ)
+      → value_at dump place ≡ Some value
+      → AreValues dump (headers ++ line_of name value ∷ []) (slice_set places (name_place n) place)
+  known_noted n is inside free place value stands m = by_place (name_place m == name_place n) refl
     where
       same_name : name ≡ name_text n
       same_name = known_text name n is
 
       none : has_header (name_text n) headers ≡ false
       none = sym (has_value (name_text n) headers) ∙ ap is_some (sym (are n))
-          ∙ sym (some_copied (slice_index_or values (name_place n) None)) ∙ free
+          ∙ sym (place_has dump (slice_index_or places (name_place n) no_place)) ∙ free
 
-      here : header_value (name_text n) (headers ++ line_of name value.now ∷ []) ≡ Some value.now
-      here = value_first (name_text n) headers (line_of name value.now) none
+      here : header_value (name_text n) (headers ++ line_of name value ∷ []) ≡ Some value
+      here = value_first (name_text n) headers (line_of name value) none
           ((bytes_eq-Decides name (name_text n)).1 same_name)
 
       by_place : (b : Bool) → (name_place m == name_place n) ≡ b
-          → noted_value (slice_set values (name_place n) (Some value)) m
-          ≡ header_value (name_text m) (headers ++ line_of name value.now ∷ [])
+          → noted_value dump (slice_set places (name_place n) place) m
+          ≡ header_value (name_text m) (headers ++ line_of name value ∷ [])
       by_place true at =
           let one : m ≡ n = place_once m n (eqb-true (name_place m) (name_place n) at) in
-          ap (noted_value (slice_set values (name_place n) (Some value))) one
-          ∙ ap option_copied (get_or-set_same values (name_place n) (Some value) None inside)
-          ∙ sym here ∙ ap (λ k. header_value (name_text k) (headers ++ line_of name value.now ∷ [])) (sym one)
+          ap (noted_value dump (slice_set places (name_place n) place)) one
+          ∙ ap (value_at dump) (get_or-set_same places (name_place n) place no_place inside) ∙ stands
+          ∙ sym here ∙ ap (λ k. header_value (name_text k) (headers ++ line_of name value ∷ [])) (sym one)
       by_place false at =
           let apart : name_place m ≢ name_place n = eqb-false (name_place m) (name_place n) at in
-          ap option_copied (get_or-set_other values (name_place n) (name_place m) (Some value) None apart) ∙ are m
-          ∙ sym (value_other (name_text m) headers (line_of name value.now)
+          ap (value_at dump) (get_or-set_other places (name_place n) (name_place m) place no_place apart) ∙ are m
+          ∙ sym (value_other (name_text m) headers (line_of name value)
           (not_so _ (λ same. apart (ap name_place
           (text_once m n (sym ((bytes_eq-Decides name (name_text m)).0 same) ∙ same_name))))))
 

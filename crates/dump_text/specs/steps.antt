@@ -3,6 +3,7 @@ pub mod ScannedEntries
 pub mod Scanning
 pub mod PropertyScan
 pub mod Views
+pub mod ValuePlaces
 pub mod KnownValues
 pub mod HeadersViews
 pub mod PropertyViews

@@ -3,10 +3,12 @@ ghost use Rattle.std.specs.Prelude.{◌≡◌, ◌↔◌, IfOk, IfErr, IfSome, I
 ghost use Rattle.dump_text.specs.HeaderLine.{header_value};
 ghost use Rattle.dump_text.specs.HeaderBlock.{HasBlock, block_fault, block_text};
 ghost use Rattle.dump_text.specs.steps.ReadHeaders.{IsBlockBetween, IsPartBetween};
+ghost use Rattle.dump_text.specs.steps.ValuePlaces.{value_at};
 
 use crate::fault::FaultKind;
 use crate::headers::Headers;
 use crate::lines::Lines;
+use crate::value_place::ValuePlace;
 
 /// A block of header lines in a dump.
 #[derive(Clone, Copy)]
@@ -65,6 +67,13 @@ impl<'a> Block<'a> {
             }
         }
         None
+    }
+
+    /// The value that stands at a place of the dump.
+    pub fn value_at(&self, place: ValuePlace) -> Option<&'a [u8]>
+        ensures { option_copied result ≡ value_at (block_dump self.now) place }
+    {
+        place.value_in(self.dump)
     }
 
     /// The block's lines, in their order.

@@ -1,34 +1,36 @@
 //! A block of header lines with the values of its known names, found in one walk of the lines.
-ghost use Rattle.std.specs.Prelude.{◌≡◌, ◌++◌, List, [], ◌∷◌, IsTrue, MatchOption, take};
+ghost use Rattle.std.specs.Prelude.{◌≡◌, ◌++◌, ℕ, List, [], ◌∷◌, Some, IsTrue, MatchOption, take, drop};
 ghost use Rattle.dump_text.specs.HeaderLine.{Header};
 ghost use Rattle.dump_text.specs.HeaderBlock.{HasBlock, block_fault};
 ghost use Rattle.dump_text.specs.steps.ReadHeaders.{headers_of};
 ghost use Rattle.dump_text.specs.steps.Scanning.{IsBlockEnd};
 ghost use Rattle.dump_text.specs.steps.KnownValues.{AreValues, may_follow};
-ghost use Rattle.dump_text.specs.steps.Views.{block_headers};
+ghost use Rattle.dump_text.specs.steps.ValuePlaces.{value_at};
+ghost use Rattle.dump_text.specs.steps.Views.{block_dump, block_headers};
 
 use crate::block::Block;
 use crate::fault::FaultKind;
 use crate::names::{COUNT, HeaderName};
 use crate::scan::{begins_with_lf, finds_empty_line, first_line, name_and_value};
+use crate::value_place::ValuePlace;
 
-/// The value of each known name, at the name's place in `HeaderName`.
-type Values<'a> = [Option<&'a [u8]>; COUNT];
+/// Where the value of each known name stands, at the name's place in `HeaderName`.
+type Places = [ValuePlace; COUNT];
 
-/// A block of header lines in a dump, and the values of its known names.
+/// A block of header lines in a dump, and where the values of its known names stand.
 #[derive(Drop)]
 pub struct Headers<'a> {
     block: Block<'a>,
-    values: Values<'a>,
-    pub ghost known: { AreValues (block_headers block) values },
+    places: Places,
+    pub ghost known: { AreValues (block_dump block) (block_headers block) places },
 }
 
 impl<'a> Headers<'a> {
-    ghost use Rattle.std.specs.Prelude.{◌↔◌, IfOk, IfErr, IsOk, IfSome, option_copied, drop};
+    ghost use Rattle.std.specs.Prelude.{◌↔◌, IfOk, IfErr, IsOk, IfSome, option_copied};
     ghost use Rattle.dump_text.specs.steps.KnownValues.{name_text};
     ghost use Rattle.dump_text.specs.HeaderLine.{header_value, has_header};
     ghost use Rattle.dump_text.specs.steps.ReadHeaders.{IsPartBetween};
-    ghost use Rattle.dump_text.specs.steps.Views.{block_dump, block_place, block_after};
+    ghost use Rattle.dump_text.specs.steps.Views.{block_place, block_after};
     ghost use Rattle.dump_text.specs.steps.HeadersViews.{headers_block};
 
     /// The block at a place of the dump with its values; `HeaderCut` where no empty line follows, also at the end and
@@ -43,16 +45,16 @@ impl<'a> Headers<'a> {
             return Err(FaultKind::HeaderCut);
         }
         let text = &dump[place..];
-        let Some(found) = block_at(text) else {
+        let Some(found) = block_at(dump, text) else {
             return Err(fault_of(text));
         };
-        let values = found.1;
+        let places = found.1;
         let block = Block {
             dump,
             place,
             after: place + found.0,
         };
-        Ok(Headers { block, values })
+        Ok(Headers { block, places })
     }
 
     /// The block.
@@ -68,14 +70,22 @@ impl<'a> Headers<'a> {
         ensures lent { let block = headers_block self.now in IfSome result (λ value.
             IsPartBetween (block_dump block) (block_place block) (block_after block) value.now) }
     {
-        self.values[name as usize]
+        self.block.value_at(self.place_of(name))
+    }
+
+    /// Where the value of the line of that name stands.
+    pub fn place_of(&self, name: HeaderName) -> ValuePlace
+        ensures { let block = headers_block self.now in
+            value_at (block_dump block) result ≡ header_value (name_text name) (block_headers block) }
+    {
+        self.places[name as usize]
     }
 
     /// Whether a line has that name.
     pub fn has(&self, name: HeaderName) -> bool
         ensures { result ≡ has_header (name_text name) (block_headers (headers_block self.now)) }
     {
-        self.value(name).is_some()
+        self.place_of(name).is_there()
     }
 }
 
@@ -90,18 +100,20 @@ fn fault_of(text: &[u8]) -> FaultKind
     }
 }
 
-/// How many bytes the block at the front of a text takes, and the values of its known names; None where there is none.
-fn block_at(text: &[u8]) -> Option<(usize, Values<'_>)>
+/// How many bytes the block at the front of a text takes, and where the values of its known names stand in the dump that
+/// the text ends; None where there is no block.
+fn block_at(dump: &[u8], text: &[u8]) -> Option<(usize, Places)>
+    requires { (front : List ℕ) × (dump.now ≡ front ++ text.now) }
     ensures { MatchOption result (¬ HasBlock text.now)
-        (λ found. IsBlockEnd text.now found.0 × AreValues (headers_of (take found.0 text.now)) found.1) }
+        (λ found. IsBlockEnd text.now found.0 × AreValues dump.now (headers_of (take found.0 text.now)) found.1) }
 {
-    let mut values = [None; COUNT];
+    let mut places = [ValuePlace::NONE; COUNT];
     let mut rest = text;
     while let Some((whole, others)) = first_line(rest) {
         if whole.is_empty() {
             let size = text.len() - rest.len();
             return if size > 0 {
-                Some((size + 1, values))
+                Some((size + 1, places))
             } else {
                 None
             };
@@ -109,7 +121,7 @@ fn block_at(text: &[u8]) -> Option<(usize, Values<'_>)>
         let Some((name, value)) = name_and_value(whole) else {
             return None;
         };
-        if !note(&mut values, name, value) {
+        if !note(&mut places, name, ValuePlace::before(dump, value, others)) {
             return None;
         }
         rest = others;
@@ -117,19 +129,22 @@ fn block_at(text: &[u8]) -> Option<(usize, Values<'_>)>
     None
 }
 
-/// Notes the value of the line behind some lines, if its name is known. False where one of these has its known name.
-fn note<'a>(values: &mut Values<'a>, name: &[u8], value: &'a [u8]) -> bool
-    ensures follows { (headers : List Header) → AreValues headers values.old → result ≡ may_follow headers name.now }
-    ensures noted { (headers : List Header) → AreValues headers values.old → IsTrue result
-        → AreValues (headers ++ record { name = name.now; value = value.now } ∷ []) values.new }
+/// Notes where the value of the line behind some lines stands, if its name is known. False where one of these has its
+/// known name.
+fn note(places: &mut Places, name: &[u8], value: ValuePlace) -> bool
+    ensures follows { (dump : List ℕ) (headers : List Header) → AreValues dump headers places.old
+        → result ≡ may_follow headers name.now }
+    ensures noted { (dump : List ℕ) (headers : List Header) (text : List ℕ) → AreValues dump headers places.old
+        → value_at dump value ≡ Some text → IsTrue result
+        → AreValues dump (headers ++ record { name = name.now; value = text } ∷ []) places.new }
 {
     let Some(known) = HeaderName::of(name) else {
         return true;
     };
-    let place = known as usize;
-    if values[place].is_some() {
+    let slot = known as usize;
+    if places[slot].is_there() {
         return false;
     }
-    values[place] = Some(value);
+    places[slot] = value;
     true
 }

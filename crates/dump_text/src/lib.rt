@@ -59,6 +59,7 @@ mod numbers;
 mod parts;
 mod props;
 mod scan;
+mod value_place;
 mod writing;
 
 pub use block::Block;
@@ -69,6 +70,7 @@ pub use names::HeaderName;
 pub use numbers::{Digits, is_shortest, number, spell};
 pub use props::{Entries, Entry, Props, PropsReading};
 pub use scan::find;
+pub use value_place::ValuePlace;
 pub use writing::{push_block_end, push_deletion, push_header, push_property};
 
 #[cfg(test)]

@@ -24,7 +24,8 @@ record_number r = r.number
 -- the record itself
 abbrev pub record_item : Record → DumpRecord
 record_item r =
-    record_between (block_dump r.block) (block_place r.block) (block_after r.block) r.text_from r.after r.version
+    record_between (block_dump r.block) (block_place r.block) (block_after r.block) r.text_from r.after
+    r.header.version
 
 -- the bytes of a part, where its length header is there
 abbrev pub part_with : List ℕ → DumpRecord → List ℕ → Option (List ℕ)
@@ -43,7 +44,7 @@ pub record IsNextRecord (dump : List ℕ) (number : ℕ) (r : Record) : Type 0 w
   pub dump_is : record_dump r ≡ dump
   pub number_is : record_number r ≡ number
   pub item : IsRecordOf dump number (record_item r)
-  pub cut : IsCutUpTo dump (number + 1) r.after r.version
+  pub cut : IsCutUpTo dump (number + 1) r.after r.header.version
 
 -- a cutter gives the next record, or tells again how the list of records ends
 abbrev pub CutStep : CutterState → Cut → CutterState → Type 0

@@ -42,13 +42,14 @@ invariant_of-result c =
     let fits = c.if-left-lengths.false in
     let after = c.after.ensures in
     let again = c.after-2.ensures in
-    let says = subst (λ b. IsHeaderOf (block_headers b) c.in_ok-found.found.0) (sym same) c.in_ok-found.ensures.0 in
+    let says = subst (λ b. IsHeaderOf (block_dump b) (block_headers b) c.in_ok-found.found.0) (sym same)
+    c.in_ok-found.ensures.0 in
     let found = subst (λ b. LengthsOf c.args.number (block_headers b) c.in_ok-found.found.1) (sym same)
     c.in_ok-found.ensures.1 in
     let dump_is = ap block_dump same ∙ h.ensures.dump in
     let size = ap length dump_is in
     let place_is = ap block_place same ∙ h.ensures.place in
-    let at = stands_here c.args.number b _ _ c.args.version _ _ _ says found c.version_from.ensures (omega arith)
+    let at = stands_here c.args.number b _ _ c.args.version _ _ _ says found c.in_ok-found.ensures.2 (omega arith)
     (omega arith) refl in
     let room : c.args.number + 1 ≤ length c.args.dump.now =
     item_room c.args.dump.now c.args.number c.args.place c.args.version b _ _ _ c.requires dump_is place_is
@@ -70,13 +71,14 @@ returns-clause-next c =
     let fits = c.if-left-lengths.false in
     let after = c.after.ensures in
     let again = c.after-2.ensures in
-    let says = subst (λ b. IsHeaderOf (block_headers b) c.in_ok-found.found.0) (sym same) c.in_ok-found.ensures.0 in
+    let says = subst (λ b. IsHeaderOf (block_dump b) (block_headers b) c.in_ok-found.found.0) (sym same)
+    c.in_ok-found.ensures.0 in
     let found = subst (λ b. LengthsOf c.args.number (block_headers b) c.in_ok-found.found.1) (sym same)
     c.in_ok-found.ensures.1 in
     let dump_is = ap block_dump same ∙ h.ensures.dump in
     let size = ap length dump_is in
     let place_is = ap block_place same ∙ h.ensures.place in
-    let at = stands_here c.args.number b _ _ c.args.version _ _ _ says found c.version_from.ensures (omega arith)
+    let at = stands_here c.args.number b _ _ c.args.version _ _ _ says found c.in_ok-found.ensures.2 (omega arith)
     (omega arith) refl in
     record {
       dump_is = dump_is;

@@ -3,14 +3,16 @@ use Rattle.std.proofs.lemmas.Bool.{eqb-true}
 use Rattle.dump_text.specs.Names.{known_names}
 use Rattle.dump_text.specs.steps.KnownValues.{name_text, all_names, may_follow}
 use Rattle.dump_text.specs.HeaderLine.{header_value}
+use Rattle.dump_text.specs.HeaderBlock.{lines_bytes}
 use Rattle.dump_text.proofs.BoolLemmas.{both_true}
 use Rattle.dump_text.proofs.ScanLemmas.{lines_behind, lines_more, all_more, is_line, lines_end, clash, no_line_here}
 use Rattle.dump_text.proofs.BlockLemmas.{counts_once, once_more, block_end, no_block-lines, no_block-once, no_block-empty}
 use Rattle.dump_text.proofs.ValueLemmas.{none_noted, line_of}
+use Rattle.dump_text.proofs.PlaceLemmas.{value_behind_front, value_lacks}
 use Rattle.dump_text.proofs.headers.block_at.Goals as goal
 
 pub loop-whole-init : goal.loop-whole-init
-loop-whole-init c = ([], refl, refl, refl, none_noted (length all_names))
+loop-whole-init c = ([], refl, refl, refl, none_noted c.args.dump.now (length all_names))
 
 pub returns-then-size-gt0 : goal.returns-then-size-gt0
 returns-then-size-gt0 c =
@@ -44,19 +46,19 @@ returns-then-not-note c =
     no_block-once c.args.text.now c.in-Some.others.now (hs ++ h ∷ []) stays
     (lines_more _ _ _ _ hs h is c.in-Some.ensures cut)
     (once_more hs h ∙ ap (λ b. b && counts_once known_names hs)
-    (sym (c.note.ensures.follows hs are) ∙ c.if-not-note.true))
+    (sym (c.note.ensures.follows c.args.dump.now hs are) ∙ c.if-not-note.true))
 
 pub loop-whole-preserved : goal.loop-whole-preserved
 loop-whole-preserved c =
     let (hs, is, all, once, are) = c.loop-whole.invariant in
     let cut = c.in-Some-name_and_value.ensures in
     let h = line_of c.in-Some-name_and_value.name.now c.in-Some-name_and_value.value.now in
-    let follows : may_follow hs h.name ≡ true = sym (c.note.ensures.follows hs are) ∙ c.if-not-note.false in (
+    let follows : may_follow hs h.name ≡ true = sym (c.note.ensures.follows c.args.dump.now hs are) ∙ c.if-not-note.false in (
       hs ++ h ∷ [],
       lines_more _ _ _ _ hs h is c.in-Some.ensures cut,
       all_more hs h all (is_line _ _ _ c.in-Some.ensures.one_line cut),
       once_more hs h ∙ both_true _ _ follows once,
-      c.note.ensures.noted hs are c.if-not-note.false,
+      c.note.ensures.noted c.args.dump.now hs c.in-Some-name_and_value.value.now are c.before-in-Some.ensures c.if-not-note.false,
     )
 
 pub returns : goal.returns
@@ -64,3 +66,14 @@ returns c = no_block-lines c.args.text.now (λ (ks, rest, all', spelled).
     let (hs, is, all, once, are) = c.loop-whole.invariant in
     let left = lines_behind hs ks _ rest all all' (sym is ∙ spelled) in
     clash 10 _ _ _ c.in_default.ensures left.2)
+
+pub before-requires-clause-line : goal.before-requires-clause-line
+before-requires-clause-line c =
+    let cut = c.in-Some-name_and_value.ensures in
+    value_lacks _ _ _ c.in-Some.ensures.one_line cut
+
+pub before-requires-clause-stands : goal.before-requires-clause-stands
+before-requires-clause-stands c =
+    let (hs, is, all, once, are) = c.loop-whole.invariant in
+    value_behind_front c.args.dump.now c.args.text.now _ _ _ _ _ c.requires.0 (lines_bytes hs) c.requires.1 is
+    c.in-Some.ensures c.in-Some-name_and_value.ensures

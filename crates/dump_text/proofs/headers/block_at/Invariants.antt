@@ -9,7 +9,7 @@ use Rattle.dump_text.proofs.headers.block_at.Given as goal
 
 abbrev pub invariant-loop-whole : goal.invariant-loop-whole
 invariant-loop-whole l = (hs : List Header) × (l.text ≡ lines_bytes hs ++ l.rest) × (list_all is_header hs ≡ true)
-    × (counts_once known_names hs ≡ true) × AreValues hs l.values
+    × (counts_once known_names hs ≡ true) × AreValues l.dump hs l.places
 
 abbrev pub decreases-loop-whole : goal.decreases-loop-whole
 decreases-loop-whole l = length l.rest

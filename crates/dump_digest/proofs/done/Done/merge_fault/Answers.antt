@@ -3,6 +3,13 @@ use Rattle.dump_rules.specs.Settings.{Settings}
 use Rattle.dump_rules.specs.steps.Merged.{is_outside}
 use Rattle.dump_digest.proofs.done.Done.merge_fault.Goals as goal
 
+pub returns-then-content : goal.returns-then-content
+returns-then-content c kept ps block =
+    let ok = c.if-not-content.false in
+    let said = c.args.self.now.judged.said kept ok ps block in
+    let some = sym said.sources ∙ c.if-content.true in
+    rw (ok, some) refl
+
 pub returns-then-has_foreign_number : goal.returns-then-has_foreign_number
 returns-then-has_foreign_number c kept ps block =
     let ok = c.if-not-content.false in

@@ -1,15 +1,18 @@
-use Rattle.std.proofs.Common.{ap, sym, ◌∙◌, option_map}
+use Rattle.std.proofs.Common.{◌≡◌, ap, sym, ◌∙◌, subst, option_and_then, Some}
 use Rattle.dump_text.specs.Names.{path_name, copy_path_name}
-use Rattle.dump_text.specs.HeaderLine.{has_header}
+use Rattle.dump_text.specs.HeaderLine.{has_header, header_value}
+use Rattle.dump_text.specs.steps.ValuePlaces.{value_at}
+use Rattle.dump_text.proofs.ValueLemmas.{if_copied}
 use Rattle.dump_records.specs.declared.kind.CopySource.{CopySource}
-use Rattle.dump_records.specs.steps.RecordViews.{record_item}
+use Rattle.dump_records.specs.steps.RecordViews.{record_item, IsInBlock}
 use Rattle.dump_records.proofs.RecordLemmas.{value_in_block, part_there}
 use Rattle.dump_records.proofs.record.Record.copy_path.Goals as goal
 
 pub returns-clause-lent : goal.returns-clause-lent
 returns-clause-lent c =
     let r = c.args.self.now in
-    value_in_block r copy_path_name c.in-Some.source.path.now
-    (part_there (has_header path_name (record_item r).headers) _ _
-    (sym (ap (option_map (λ (s : CopySource). s.path.now)) (sym c.copy_source.ensures ∙ c.in-Some.is))
-    ∙ r.says.kind.copy_path))
+    let node = has_header path_name (record_item r).headers in
+    if_copied c.value_at.result (IsInBlock r) (λ value is.
+    value_in_block r copy_path_name value (part_there node value _ (sym is ∙ c.value_at.ensures
+    ∙ sym (ap (option_and_then (λ (s : CopySource). value_at r.block.dump.now s.path))
+    (sym c.copy_source.ensures ∙ c.in-Some.is)) ∙ r.says.kind.copy_path)))

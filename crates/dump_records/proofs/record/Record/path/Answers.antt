@@ -1,10 +1,23 @@
-use Rattle.std.proofs.Common.{ap, sym, ◌∙◌}
+use Rattle.std.proofs.Common.{◌≡◌, ◌⊎◌, List, ℕ, ap, sym, ◌∙◌, inl, inr}
 use Rattle.dump_text.specs.Names.{path_name}
+use Rattle.dump_text.specs.steps.ValuePlaces.{value_at}
+use Rattle.dump_text.specs.declared.value_place.ValuePlace.{ValuePlace}
+use Rattle.dump_records.specs.declared.kind.CopySource.{CopySource}
+use Rattle.dump_records.specs.declared.kind.KindParts.{KindParts}
+use Rattle.dump_records.specs.declared.kind.KindParts.TheVariants.{Node, Copy}
 use Rattle.dump_records.specs.steps.KindReading.{path_in}
-use Rattle.dump_records.proofs.RecordLemmas.{value_in_block}
+use Rattle.dump_records.proofs.RecordLemmas.{copy_in_block}
 use Rattle.dump_records.proofs.record.Record.path.Goals as goal
+
+-- a node's path stands at its place, whether it is copied or not
+path_at : (dump : List ℕ) (parts : KindParts) (path : ValuePlace)
+    → (parts ≡ Node path) ⊎ ((source : CopySource) × (parts ≡ Copy path source))
+    → value_at dump path ≡ path_in dump parts
+path_at dump parts path (inl is) = sym (ap (path_in dump) is)
+path_at dump parts path (inr (source, is)) = sym (ap (path_in dump) is)
 
 pub returns-in-Node-clause-lent : goal.returns-in-Node-clause-lent
 returns-in-Node-clause-lent c =
     let r = c.args.self.now in
-    value_in_block r path_name c.in-Node.path.now (sym (ap path_in c.in-Node.is) ∙ r.says.kind.path)
+    copy_in_block r path_name c.value_at.result
+    (c.value_at.ensures ∙ path_at r.block.dump.now r.header.parts c.in-Node.path c.in-Node.is ∙ r.says.kind.path)

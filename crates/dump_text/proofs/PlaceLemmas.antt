@@ -1,0 +1,70 @@
+-- Where the value of a line stands in its dump.
+use Rattle.std.proofs.Common.{◌≡◌, ℕ, ◌+◌, ◌-◌, ◌<◌, ◌==◌, false, List, [], ◌∷◌, ◌++◌, take, drop, length, refl, sym, ap, ◌∙◌, arith, append_assoc, length-append, Some}
+use Rattle.std.specs.List.{before_first, position_or_len}
+use Rattle.std.proofs.lemmas.List.{take_at, drop_at, take_all}
+use Rattle.std.proofs.lemmas.Bool.{ne_eqb}
+use Rattle.dump_text.specs.HeaderLine.{has_byte}
+use Rattle.dump_text.specs.steps.Scanning.{IsFirstLine, IsCutAtColon}
+use Rattle.dump_text.specs.steps.ValuePlaces.{value_at}
+use Rattle.dump_text.proofs.BoolLemmas.{first_false, second_false}
+use Rattle.dump_text.proofs.ScanLemmas.{position_at, back_lacks}
+
+-- a text is its first line, where an LF ends that
+pub line_before : (whole rest : List ℕ) → has_byte 10 whole ≡ false
+    → before_first (λ b. b == 10) (whole ++ 10 ∷ rest) ≡ whole
+line_before whole rest none =
+    ap (λ n. take n (whole ++ 10 ∷ rest)) (position_at 10 whole rest none) ∙ take_at whole (10 ∷ rest) _ refl
+
+-- and where no LF is in it
+pub line_whole : (text : List ℕ) → has_byte 10 text ≡ false → before_first (λ b. b == 10) text ≡ text
+line_whole text none = let at = nowhere text none in take_all _ text (omega arith)
+  where
+    nowhere : (text : List ℕ) → has_byte 10 text ≡ false → position_or_len (λ b. b == 10) text ≡ length text
+    nowhere [] none = refl
+    nowhere (c ∷ text) none =
+        let no = first_false (c == 10) (has_byte 10 text) none in
+        let more = nowhere text (second_false (c == 10) (has_byte 10 text) none) in
+        rw no (ap (λ n. 1 + n) more ∙ omega arith)
+
+-- what stands behind a front that isn't empty, up to an LF, is the value at its place
+pub value_there : (dump value behind front : List ℕ) (byte : ℕ) → has_byte 10 value ≡ false → 0 < length front
+    → dump ≡ front ++ (value ++ 10 ∷ behind) → byte ≡ length front
+    → value_at dump (record { byte = byte }) ≡ Some value
+value_there dump value behind front byte none some is at =
+    let there : (byte == 0) ≡ false = ne_eqb byte 0 (λ zero. absurd (omega arith)) in
+    let rest : drop byte dump ≡ value ++ 10 ∷ behind =
+    ap (drop byte) is ∙ drop_at front (value ++ 10 ∷ behind) byte (sym at) in
+    rw there (ap (λ t. Some (before_first (λ b. b == 10) t)) rest ∙ ap Some (line_before value behind none))
+
+-- the dump that ends with a value, an LF and other bytes is longer than these
+pub front_size : (dump value behind front : List ℕ) → dump ≡ front ++ (value ++ 10 ∷ behind)
+    → length dump ≡ length front + (length value + (1 + length behind))
+front_size dump value behind front is =
+    ap length is ∙ length-append front (value ++ 10 ∷ behind)
+    ∙ ap (λ n. length front + n) (length-append value (10 ∷ behind) ∙ omega arith)
+
+-- no LF stands in the value of a line
+pub value_lacks : (whole name value : List ℕ) → has_byte 10 whole ≡ false → IsCutAtColon whole name value
+    → has_byte 10 value ≡ false
+value_lacks whole name value none cut =
+    back_lacks 10 (name ++ 58 ∷ 32 ∷ []) value
+    (ap (has_byte 10) (append_assoc name (58 ∷ 32 ∷ []) value ∙ sym cut.spelled) ∙ none)
+
+-- the value of a line behind some lines stands in the dump behind a front that isn't empty
+pub value_behind_front : (dump text rest whole others name value front lines : List ℕ) → dump ≡ front ++ text
+    → text ≡ lines ++ rest → IsFirstLine rest whole others → IsCutAtColon whole name value
+    → (before : List ℕ) × (0 < length before) × (dump ≡ before ++ (value ++ 10 ∷ others))
+value_behind_front dump text rest whole others name value front lines ends is first cut =
+    let colon : List ℕ = name ++ 58 ∷ 32 ∷ [] in
+    let left = value ++ 10 ∷ others in
+    let line : rest ≡ colon ++ left =
+    first.cut ∙ ap (λ t. t ++ 10 ∷ others) cut.spelled ∙ append_assoc name (58 ∷ 32 ∷ value) (10 ∷ others)
+    ∙ sym (append_assoc name (58 ∷ 32 ∷ []) left) in (
+      front ++ (lines ++ colon),
+      (let all = length-append front (lines ++ colon) in
+      let some = length-append lines colon in
+      let named = length-append name (58 ∷ 32 ∷ []) in
+      omega arith),
+      ends ∙ ap (λ t. front ++ t) (is ∙ ap (λ t. lines ++ t) line ∙ sym (append_assoc lines colon left))
+      ∙ sym (append_assoc front (lines ++ colon) left),
+    )

@@ -1,0 +1,10 @@
+use Rattle.std.proofs.Common.{sym}
+use Rattle.std.proofs.Math.ListN.{drop_of_length-le}
+use Rattle.std.proofs.lemmas.List.{take_rest}
+use Rattle.dump_text.proofs.value_place.bytes_from.Goals as goal
+
+pub returns-then-byte-text : goal.returns-then-byte-text
+returns-then-byte-text c = take_rest c.args.text.now c.args.byte
+
+pub returns-else-byte-text : goal.returns-else-byte-text
+returns-else-byte-text c = sym (drop_of_length-le c.args.text.now c.if-byte-text.false)

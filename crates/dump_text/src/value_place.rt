@@ -1,0 +1,70 @@
+//! Where the values of header lines stand.
+ghost use Rattle.std.specs.Prelude.{◌≡◌, ◌==◌, ◌∷◌, ◌++◌, ◌<◌, ℕ, List, Some, IsFalse, length, drop, option_copied};
+ghost use Rattle.std.specs.List.{before_first};
+ghost use Rattle.dump_text.specs.HeaderLine.{has_byte};
+ghost use Rattle.dump_text.specs.steps.ValuePlaces.{is_there, value_at};
+
+use crate::scan::first_line;
+
+/// Where the value of a header line stands in its dump, if it stands anywhere. It ends with its line, so a place is told
+/// by one number, which is small enough to go between threads.
+#[derive(Clone, Copy)]
+pub struct ValuePlace {
+    /// The byte at which it begins; 0 where there is none, since a name stands before each value.
+    byte: usize,
+}
+
+impl ValuePlace {
+    /// That of no value.
+    pub const NONE: ValuePlace = ValuePlace { byte: 0 };
+
+    /// Where a value stands in a dump that ends with its line and these bytes behind that.
+    pub(crate) fn before(dump: &[u8], value: &[u8], behind: &[u8]) -> ValuePlace
+        requires line { IsFalse (has_byte 10 value.now) }
+        requires stands { (front : List ℕ) × (0 < length front) × (dump.now ≡ front ++ (value.now ++ 10 ∷ behind.now)) }
+        ensures { value_at dump.now result ≡ Some value.now }
+    {
+        ValuePlace {
+            byte: dump.len() - behind.len() - 1 - value.len(),
+        }
+    }
+
+    /// Whether there is a value.
+    pub fn is_there(self) -> bool
+        ensures { result ≡ is_there self }
+    {
+        self.byte != 0
+    }
+
+    /// The value that stands there in the dump.
+    pub(crate) fn value_in(self, dump: &[u8]) -> Option<&[u8]>
+        ensures { option_copied result ≡ value_at dump.now self }
+    {
+        if self.is_there() {
+            Some(line_of(bytes_from(dump, self.byte)))
+        } else {
+            None
+        }
+    }
+}
+
+/// The bytes of a text from this one on.
+fn bytes_from(text: &[u8], byte: usize) -> &[u8]
+    ensures { result.now ≡ drop byte text.now }
+{
+    if byte < text.len() {
+        &text[byte..]
+    } else {
+        &[]
+    }
+}
+
+/// The bytes before the first LF, or all where there is none.
+fn line_of(text: &[u8]) -> &[u8]
+    ensures { result.now ≡ before_first (λ b. b == 10) text.now }
+{
+    match first_line(text) {
+        Some((line, _)) => line,
+        None => text,
+    }
+}
