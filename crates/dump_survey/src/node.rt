@@ -229,22 +229,24 @@ fn losses_of_left<'o>(
     }
 }
 
-/// What is found in a node, with the numbers of the revisions up to it.
+/// What is found in a node, be its path kept or not, with the numbers of the revisions up to it.
 pub(crate) fn find<'o>(
     alloc: Global,
     item: &Record<'_>,
+    kept: bool,
     options: &'o Options,
     prefixes: &Prefixes<'o>,
     numbers: &Numbers,
 ) -> Result<Found<'o>, Memory>
     requires node { IsTrue (is_node (record_item item.now)) }
+    requires kept { kept ≡ has_kept_path options.now (record_item item.now) }
     requires prefixes { prefixes.now ≡ map bare_prefix options.now.prefixes }
     ensures { IfOk result (λ found. IsFoundIn options.now numbers.now (record_item item.now) found) }
 {
     let props = properties_of(item);
     let action = action_of(item);
     let obstacles = obstacles_of(item, action, &props);
-    if !keeps(options, path_of(item)) {
+    if !kept {
         return Ok(Found {
             obstacles,
             refused: Refused::NONE,

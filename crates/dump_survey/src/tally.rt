@@ -9,7 +9,6 @@ ghost use Rattle.dump_survey.specs.DumpFindings.{listed_findings};
 
 use crate::node::{copy_revision_of, makes_copy};
 use crate::revision_numbers::Numbers;
-use dump_digest::is_kept;
 use dump_records::Record;
 use dump_rules::{Empty, Options};
 
@@ -177,9 +176,10 @@ impl Tally {
         if self.count == 0 { number } else { self.first }
     }
 
-    /// That of one more record.
-    pub(crate) fn with(&self, item: &Record<'_>, options: &Options) -> Tally
-        requires { self.now.count + 1 < 2 ^ 64 }
+    /// That of one more record, be it a kept node or not.
+    pub(crate) fn with(&self, item: &Record<'_>, kept: bool, options: &Options) -> Tally
+        requires room { self.now.count + 1 < 2 ^ 64 }
+        requires kept { kept ≡ is_kept_node options.now (record_item item.now) }
         ensures { result ≡ next_tally options.now self.now (record_item item.now) }
     {
         if let Some(number) = item.revision() {
@@ -200,7 +200,7 @@ impl Tally {
                 ..*self
             }
         } else if item.path().is_some() {
-            self.with_node(item, options)
+            self.with_node(item, kept)
         } else {
             Tally {
                 all_kept: self.keeps_all(options),
@@ -211,13 +211,12 @@ impl Tally {
         }
     }
 
-    /// That of one more node.
-    fn with_node(&self, item: &Record<'_>, options: &Options) -> Tally
+    /// That of one more node, be it kept or not.
+    fn with_node(&self, item: &Record<'_>, kept: bool) -> Tally
         requires { IsTrue (is_node (record_item item.now)) }
-        ensures { result ≡ node_tally self.now (is_kept_node options.now (record_item item.now))
-            (copies_from_before self.now.first (record_item item.now)) self.now.present }
+        ensures { result ≡ node_tally self.now kept (copies_from_before self.now.first (record_item item.now))
+            self.now.present }
     {
-        let kept = is_kept(item, options);
         let early = copies_from_before(item, self.first);
         let Some(present) = self.present else {
             return Tally {
