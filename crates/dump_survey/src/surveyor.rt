@@ -197,7 +197,7 @@ impl<'o, 'a> Surveyor<'o, 'a> {
         self.unread_revision = self.unread_revision || is_unread_revision(&item);
         self.tally = before.with(&item, kept, self.options);
         let found = self.tally.findings(self.numbers_left, self.unread_revision);
-        self.places = self.places.with(&found, place_of(&item));
+        self.places.note(&found, place_of(&item));
         step_of(alloc, item, kept, self.options, &self.prefixes, &before)
     }
 

@@ -1,11 +1,12 @@
 //! What is known of the revisions of a dump, behind the records that came.
 ghost use Rattle.std.specs.Prelude.{◌≡◌, ◌+◌, ◌<◌, ◌==◌, ◌^◌, IsTrue, Some};
+ghost use Rattle.std.specs.List.{list_any};
 ghost use Rattle.dump_records.specs.steps.RecordViews.{record_item};
 ghost use Rattle.dump_digest.specs.RecordParts.{is_kept_node, is_node};
-ghost use Rattle.dump_history.specs.Findings.{copies_from_before};
+ghost use Rattle.dump_history.specs.Findings.{copies_from_before, every_dump_finding};
 ghost use Rattle.dump_survey.specs.steps.Tally.{first_with, is_above_last, least_behind, lesser, no_tally, keeps_open, keeps_present, node_tally, next_tally, numbers_of, tally_findings};
 ghost use Rattle.dump_survey.specs.steps.Naming.{is_behind_dropped};
-ghost use Rattle.dump_survey.specs.DumpFindings.{listed_findings};
+ghost use Rattle.dump_survey.specs.DumpFindings.{has_dump_finding, listed_findings};
 
 use crate::node::{copy_revision_of, makes_copy};
 use crate::revision_numbers::Numbers;
@@ -31,6 +32,22 @@ pub struct DumpFindings {
     pub node_outside: bool,
     /// A revision is dropped, the others aren't renumbered, and a kept node behind it names one by its number.
     pub numbers_left: bool,
+}
+
+impl DumpFindings {
+    /// Whether anything is found.
+    pub(crate) fn is_any(&self) -> bool
+        ensures { result ≡ list_any (has_dump_finding self.now) every_dump_finding }
+    {
+        self.no_revision
+            | self.other_numbers
+            | self.number_falls
+            | self.unread_revision
+            | self.node_in_first
+            | self.source_before
+            | self.node_outside
+            | self.numbers_left
+    }
 }
 
 /// The present revision, whose nodes may follow.
