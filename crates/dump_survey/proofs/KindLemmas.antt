@@ -1,13 +1,15 @@
 -- How often each kind is told of nodes, node by node.
 use Rattle.std.proofs.Common.{◌≡◌, ◌≤◌, ℕ, ◌+◌, ◌==◌, Bool, true, false, List, [], ◌∷◌, ◌++◌, length, get_or, map, flat_map, filter, cond, refl, sym, ap, ap₂, ◌∙◌, arith}
-use Rattle.std.proofs.lemmas.Bool.{eqb-true}
+use Rattle.std.specs.List.{list_any}
+use Rattle.std.proofs.lemmas.Bool.{eqb-true, or_parts}
 use Rattle.dump_history.specs.Findings.{Finding, every_finding}
 use Rattle.dump_survey.specs.declared.counts.Counts.{Counts}
+use Rattle.dump_survey.specs.declared.finding.Found.{Found}
 use Rattle.dump_survey.specs.declared.told.SurveyedNode.{SurveyedNode}
 use Rattle.dump_survey.specs.Kinds.{finding_place, times_told}
 use Rattle.dump_survey.specs.Told.{NodeTold}
 use Rattle.dump_survey.specs.steps.Counts.{AreWithNode, count_in, no_counts}
-use Rattle.dump_survey.specs.steps.Found.{has_found}
+use Rattle.dump_survey.specs.steps.Found.{has_found, listed}
 use Rattle.dump_survey.specs.steps.Surveyed.{told_of_node}
 
 -- a finding is known by its place
@@ -150,6 +152,28 @@ counts_with_node old new told node so_far more f =
     by : (b : Bool) → cond b (count_in old f + 1) (count_in old f) ≡ times_told told f + cond b 1 0
     by true = ap (λ n. n + 1) (so_far f)
     by false = let here = so_far f in omega (arith, here)
+
+-- nothing passes a test that holds of none
+none_passes : (test : Finding → Bool) (fs : List Finding) → list_any test fs ≡ false → filter test fs ≡ []
+none_passes test [] none = refl
+none_passes test (f ∷ fs) none =
+    let parts = or_parts (test f) (list_any test fs) none in
+    ap (λ b. cond b (f ∷ filter test fs) (filter test fs)) parts.0 ∙ none_passes test fs parts.1
+
+module _ (found : Found) (none : list_any (has_found found) every_finding ≡ false) where
+  -- of a node in which nothing is found nothing is told
+  pub nothing_listed : listed found ≡ []
+  nothing_listed = none_passes (has_found found) every_finding none
+
+  -- and the counts stay
+  pub same_counts : (counts : Counts) → AreWithNode counts found counts
+  same_counts counts f = by (has_found found f)
+      (ap (λ (fs : List Finding). length (filter (is_it f) fs)) (sym nothing_listed)
+      ∙ (among_those f (has_found found) every_finding ∙ ap (λ n. cond (has_found found f) n 0) (once f)))
+    where
+      by : (b : Bool) → ◌≡◌ {A = ℕ} 0 (cond b 1 0) → count_in counts f ≡ cond b (count_in counts f + 1) (count_in counts f)
+      by true is = absurd (omega (arith, is))
+      by false is = refl
 
 -- counts that are the same give the same lines
 pub same_lines : (line : ℕ → Finding → List ℕ) (first second : Finding → ℕ) → ((f : Finding) → first f ≡ second f)

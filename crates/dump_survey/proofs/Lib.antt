@@ -1,3 +1,4 @@
+pub mod ActionLemmas
 pub mod CutLemmas
 mod CutValues
 pub mod DigestLemmas

@@ -1,7 +1,8 @@
 -- The records with which the findings of a dump as a whole come up.
-use Rattle.std.proofs.Common.{◌≡◌, ◌⊎◌, ℕ, ◌==◌, Bool, true, false, not, ◌&&◌, ◌||◌, List, [], ◌∷◌, ◌++◌, length, get_or, map, filter, cond, Contains, Option, Some, None, MatchBool, refl, sym, ap, ap₂, ◌∙◌, subst, inl, inr, append-nil, append_assoc, arith}
+use Rattle.std.proofs.Common.{◌≡◌, ◌⊎◌, ℕ, ◌<◌, ◌==◌, Bool, true, false, not, ◌&&◌, ◌||◌, List, [], ◌∷◌, ◌++◌, length, get_or, map, filter, cond, Contains, Option, Some, None, MatchBool, refl, sym, ap, ap₂, ◌∙◌, subst, inl, inr, append-nil, append_assoc, arith}
 use Rattle.std.specs.List.{AllZip, list_any}
-use Rattle.std.proofs.lemmas.Bool.{eqb-true}
+use Rattle.std.proofs.lemmas.Bool.{both_ways, eqb-true, false_from_ne_true}
+use Rattle.std.proofs.lemmas.List.Folds.{list_any_at}
 use Rattle.dump_records.specs.RecordText.{DumpRecord}
 use Rattle.dump_rules.specs.Settings.{Settings}
 use Rattle.dump_rules.proofs.faults.FaultLemmas.{found, finds}
@@ -52,6 +53,16 @@ every_there DumpFinding.NumbersLeft = refl
 
 same_place : (f g : DumpFinding) → (place_among g == place_among f) ≡ true → g ≡ f
 same_place f g is = sym (back g) ∙ (ap at_place (eqb-true (place_among g) (place_among f) is) ∙ back f)
+
+within : (f : DumpFinding) → place_among f < length every_dump_finding
+within DumpFinding.NoRevision = omega arith
+within DumpFinding.OtherNumbers = omega arith
+within DumpFinding.NumberFalls = omega arith
+within DumpFinding.UnreadRevision = omega arith
+within DumpFinding.NodeInFirst = omega arith
+within DumpFinding.SourceBefore = omega arith
+within DumpFinding.NodeOutside = omega arith
+within DumpFinding.NumbersLeft = omega arith
 
 refl_place : (f : DumpFinding) → (place_among f == place_among f) ≡ true
 refl_place DumpFinding.NoRevision = refl
@@ -384,3 +395,18 @@ told_where_ended settings records end are places = (
             behind : (b : Bool) → is_among g fs ≡ true → (b || is_among g fs) ≡ true
             behind true some = refl
             behind false some = some
+
+-- where nothing is found no place comes
+pub none_comes_up : (old : DumpPlaces) (flags : DumpFindings) (here : Place)
+    → list_any (has_dump_finding flags) every_dump_finding ≡ false → AreNextPlaces old flags here old
+none_comes_up old flags here none f up =
+    stays (place_in old f) ∙ ap (λ b. first_place (place_in old f) b here) (sym not_found)
+  where
+    stays : (p : Option Place) → p ≡ first_place p false here
+    stays None = refl
+    stays (Some p) = refl
+
+    not_found : has_dump_finding flags f ≡ false
+    not_found = false_from_ne_true _ (λ is. both_ways _ none
+        (list_any_at (has_dump_finding flags) every_dump_finding (place_among f) DumpFinding.NoRevision (within f)
+        (ap (has_dump_finding flags) (back f) ∙ is)))

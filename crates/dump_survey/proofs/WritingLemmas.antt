@@ -1,6 +1,8 @@
 -- What a sink took of a survey so far, and what it takes next.
-use Rattle.std.proofs.Common.{◌≡◌, ◌≤◌, ℕ, ◌+◌, Bool, true, false, not, ◌||◌, ◌==◌, List, [], ◌∷◌, ◌++◌, length, flat_map, Option, refl, sym, ap, ap₂, ◌∙◌, subst, append_assoc, append-nil, arith, Result, Ok, Err}
+use Rattle.std.proofs.Common.{◌≡◌, ◌≤◌, ℕ, ◌+◌, Bool, true, false, not, ◌||◌, ◌==◌, List, [], ◌∷◌, ◌++◌, length, map, flat_map, Option, refl, sym, ap, ap₂, ◌∙◌, subst, append_assoc, append-nil, arith, Result, Ok, Err}
 use Rattle.std.specs.Result.{OnErr}
+use Rattle.std.specs.List.{list_any}
+use Rattle.std.proofs.Math.Bool.{or-false}
 use Rattle.std.proofs.lemmas.Bool.{ne_eqb}
 use Rattle.std.specs.Io.KnownBytes.{Appends}
 use Rattle.std.proofs.KnownBytes.{Appends-nil, Appends-trans}
@@ -26,12 +28,13 @@ use Rattle.dump_survey.specs.SurveyEnds.{survey_ending}
 use Rattle.dump_survey.specs.SurveyText.{IsSurveyText, BreaksOffSurvey}
 use Rattle.dump_survey.specs.Told.{NodeTold}
 use Rattle.dump_survey.specs.steps.Counts.{AreWithNode, count_in, no_counts}
+use Rattle.dump_survey.specs.steps.Found.{has_found}
 use Rattle.dump_survey.specs.steps.Steps.{SurveyStep}
-use Rattle.dump_survey.specs.steps.Surveyed.{told_of_node}
+use Rattle.dump_survey.specs.steps.Surveyed.{told_of_finding, told_of_node}
 use Rattle.dump_survey.specs.steps.Surveying.{Surveying}
 use Rattle.dump_survey.specs.LinesBehind.{TakesSome}
 use Rattle.dump_survey.proofs.PlaceLemmas.{findings_at_end}
-use Rattle.dump_survey.proofs.KindLemmas.{counts_with_node, low_with_node, none_counted, same_lines}
+use Rattle.dump_survey.proofs.KindLemmas.{counts_with_node, low_with_node, none_counted, nothing_listed, same_counts, same_lines}
 use Rattle.dump_survey.proofs.SurveyLemmas.{HaveTold, node_told, nothing_told, node_nearer, other_nearer, all_told}
 use Rattle.dump_survey.proofs.SurveyTextLemmas.{begins_text}
 
@@ -227,3 +230,16 @@ module _ (settings : Settings) (dump : List ℕ) (state after : Surveying) (old 
     broken_in_end takes = broken_in lines (flat_map node_line so_far.told ++ lines)
         (has_some (flat_map node_line so_far.told ++ lines)) text_whole
         ([], sym (append-nil (flat_map node_line so_far.told ++ lines))) takes
+
+-- a node in which nothing is found has no lines
+pub silent_written : (settings : Settings) (dump : List ℕ) (state after : Surveying) (old new : Option (List ℕ))
+    (found : Bool) (count : ℕ) (counts : Counts) → HasWritten settings dump state old new found count counts
+    → (node : SurveyedNode) → SurveyStep state (Node node) after
+    → list_any (has_found node.found) every_finding ≡ false
+    → HasWritten settings dump after old new found (count + 1) counts
+silent_written settings dump state after old new found count counts so_far node step none =
+    let no_lines : [] ≡ flat_map node_line (told_of_node node) =
+    ap (λ fs. flat_map node_line (map (told_of_finding node) fs)) (sym (nothing_listed node.found none)) in
+    subst (λ b. HasWritten settings dump after old new b (count + 1) counts) (or-false found)
+    (node_written settings dump state after old new new found count counts so_far node false counts step
+    (subst (Appends new new) no_lines (Appends-nil new)) (ap has_some no_lines) (same_counts node.found none counts))

@@ -1,5 +1,7 @@
 //! What can be found in a node.
 ghost use Rattle.std.specs.Prelude.{◌≡◌, option_copied};
+ghost use Rattle.std.specs.List.{list_any};
+ghost use Rattle.dump_history.specs.Findings.{every_finding};
 ghost use Rattle.dump_survey.specs.Meaning.{meaning};
 ghost use Rattle.dump_survey.specs.steps.Found.{found_prefix, has_found};
 
@@ -125,6 +127,28 @@ impl<'o> Found<'o> {
             NodeFinding::FolderBrings => self.losses.folder_brings,
             NodeFinding::TextComesIn => self.losses.text_comes_in,
         }
+    }
+
+    /// Whether anything is found.
+    pub(crate) fn is_any(&self) -> bool
+        ensures { result ≡ list_any (has_found self.now) every_finding }
+    {
+        let (obstacles, refused, losses) = (self.obstacles, self.refused, self.losses);
+        obstacles.unread_block
+            | obstacles.delta
+            | obstacles.unknown_action
+            | obstacles.odd_text
+            | losses.no_whole_file
+            | refused.copy_revision
+            | refused.unread
+            | refused.missing
+            | refused.outside
+            | losses.properties_lost
+            | losses.copy_loses.is_some()
+            | losses.copy_lets_in.is_some()
+            | losses.folder_takes
+            | losses.folder_brings
+            | losses.text_comes_in
     }
 
     /// The prefix that is told with this, if one is.

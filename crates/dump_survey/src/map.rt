@@ -12,6 +12,7 @@ ghost use Rattle.dump_survey.specs.steps.KeptNumbers.{AreKeptIn, ended_numbers, 
 use crate::survey_lines::push_number;
 use crate::survey_text::{SurveyFailure, write_lines};
 use crate::tally::Tally;
+use dump_digest::is_kept;
 use dump_records::{Cut, Cutter, Record};
 use dump_rules::{Memory, Options};
 use dump_writer::Sink;
@@ -76,7 +77,7 @@ fn kept_in(alloc: Global, dump: &[u8], options: &Options) -> Result<KeptNumbers,
         match cutter.next() {
             Cut::Item(item) => {
                 push_before(&mut numbers, &tally, &item, options)?;
-                tally = tally.with(&item, options);
+                tally = tally.with(&item, is_kept(&item, options), options);
             }
             Cut::Finished => return ended(numbers, &tally, options),
             Cut::Fault { .. } => return ended(numbers, &tally, options),

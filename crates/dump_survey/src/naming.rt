@@ -5,7 +5,7 @@ ghost use Rattle.dump_text.specs.PropertyList.{IsPropertyBlock, Property};
 ghost use Rattle.dump_text.specs.steps.PropertyViews.{props_bytes};
 ghost use Rattle.dump_records.specs.RecordText.{DumpRecord};
 ghost use Rattle.dump_records.specs.steps.RecordViews.{record_item};
-ghost use Rattle.dump_digest.specs.RecordParts.{is_mergeinfo, is_node};
+ghost use Rattle.dump_digest.specs.RecordParts.{is_kept_node, is_mergeinfo, is_node};
 ghost use Rattle.dump_history.specs.NumberGaps.{NamesRevision, SetsMergeinfo};
 ghost use Rattle.dump_history.specs.steps.NamingTests.{TellsNaming};
 ghost use Rattle.dump_survey.specs.steps.Naming.{leaves_number};
@@ -13,7 +13,7 @@ ghost use Rattle.dump_survey.specs.steps.Naming.{leaves_number};
 use crate::node::makes_copy;
 use crate::plain::properties_of;
 use crate::tally::Tally;
-use dump_digest::{is_kept, is_mergeinfo};
+use dump_digest::is_mergeinfo;
 use dump_records::Record;
 use dump_rules::Options;
 use dump_text::Props;
@@ -49,13 +49,14 @@ fn names_revision(item: &Record<'_>) -> bool
     makes_copy(item) || sets_mergeinfo(item)
 }
 
-/// Whether a record behind those of the tally is a kept node that names a revision, while one is dropped before it and
-/// the others keep their numbers.
-pub(crate) fn leaves_number(item: &Record<'_>, options: &Options, tally: &Tally) -> bool
+/// Whether a record behind those of the tally, be it a kept node or not, is one that names a revision, while one is
+/// dropped before it and the others keep their numbers.
+pub(crate) fn leaves_number(item: &Record<'_>, kept: bool, options: &Options, tally: &Tally) -> bool
+    requires { kept ≡ is_kept_node options.now (record_item item.now) }
     ensures { (names : DumpRecord → Bool) → TellsNaming names
         → result ≡ leaves_number options.now names tally.now (record_item item.now) }
 {
-    if options.renumber() || !tally.is_behind_dropped() || !is_kept(item, options) {
+    if options.renumber() || !tally.is_behind_dropped() || !kept {
         return false;
     }
     names_revision(item)

@@ -10,13 +10,14 @@ ghost use Rattle.dump_rules.specs.Prefix.{bare_prefix};
 ghost use Rattle.dump_digest.specs.RecordParts.{is_copy, is_node, node_path};
 ghost use Rattle.dump_digest.specs.steps.ContentViews.{ArePropertiesOf};
 ghost use Rattle.dump_filter.specs.NewHeaders.{is_whole_file};
-ghost use Rattle.dump_history.specs.RecordChanges.{copy_path, deletes, makes, has_plain_texts};
+ghost use Rattle.dump_history.specs.RecordChanges.{copy_path, has_plain_texts};
 ghost use Rattle.dump_history.specs.Findings.{has_kept_path, has_kept_source, is_exclude, makes_copy, IsReadBlock};
+ghost use Rattle.dump_survey.specs.steps.Actions.{IsActionOf};
 ghost use Rattle.dump_survey.specs.steps.Found.{IsFoundIn};
 ghost use Rattle.dump_survey.specs.steps.Losses.{AreObstaclesOf, AreLossesOf};
 
 use crate::finding::{Found, Losses, Obstacles};
-use crate::node_headers::{ADD, DELETE, REPLACE, action_of, has_odd_delta, is_known_action};
+use crate::node_headers::{Action, action_of, has_odd_delta};
 use crate::plain::{are_lines_plain, are_names_plain, properties_of};
 use crate::prefixes::Prefixes;
 use crate::refused::{Refused, refused_of};
@@ -82,9 +83,10 @@ fn has_plain_texts(item: &Record<'_>, props: &Option<Props<'_>>) -> bool
     are_lines_plain(item) & are_names & is_short(path_of(item)) & is_short(copy_path_of(item))
 }
 
-/// What keeps a node with these properties from making a change that can be told.
-fn obstacles_of(item: &Record<'_>, props: &Option<Props<'_>>) -> Obstacles
+/// What keeps a node with this action and these properties from making a change that can be told.
+fn obstacles_of(item: &Record<'_>, action: Action, props: &Option<Props<'_>>) -> Obstacles
     requires node { IsTrue (is_node (record_item item.now)) }
+    requires action { IsActionOf (record_item item.now) action }
     requires props { ArePropertiesOf (record_item item.now) props.now }
     ensures { (ps : Option (List Property)) → IsReadBlock (record_item item.now) ps
         → AreObstaclesOf (record_item item.now) ps result }
@@ -92,25 +94,9 @@ fn obstacles_of(item: &Record<'_>, props: &Option<Props<'_>>) -> Obstacles
     Obstacles {
         unread_block: props.is_none(),
         delta: has_odd_delta(item),
-        unknown_action: !is_known_action(action_of(item)),
+        unknown_action: !action.is_known(),
         odd_text: !has_plain_texts(item, props),
     }
-}
-
-/// Whether the action deletes what stands at the path.
-fn deletes(item: &Record<'_>) -> bool
-    ensures { result ≡ deletes (record_item item.now) }
-{
-    let action = action_of(item);
-    action == DELETE || action == REPLACE
-}
-
-/// Whether the action makes something at the path.
-fn makes(item: &Record<'_>) -> bool
-    ensures { result ≡ makes (record_item item.now) }
-{
-    let action = action_of(item);
-    action == ADD || action == REPLACE
 }
 
 /// Whether the node is a file with its text and its properties, neither of them a delta.
@@ -125,7 +111,7 @@ pub(crate) fn makes_copy(item: &Record<'_>) -> bool
     requires { IsTrue (is_node (record_item item.now)) }
     ensures { result ≡ makes_copy (record_item item.now) }
 {
-    is_copy(item) && makes(item)
+    is_copy(item) && action_of(item).makes()
 }
 
 /// Whether the node has a copy source.
@@ -147,13 +133,14 @@ fn is_exclude(options: &Options) -> bool
 }
 
 /// What the cut does to a kept copy of a path that isn't kept.
-fn losses_of_lost<'o>(item: &Record<'_>, options: &Options) -> Losses<'o>
+fn losses_of_lost<'o>(item: &Record<'_>, action: Action, options: &Options) -> Losses<'o>
+    requires action { IsActionOf (record_item item.now) action }
     requires kept { IsTrue (has_kept_path options.now (record_item item.now)) }
     requires copy { IsTrue (is_copy (record_item item.now)) }
     requires lost { IsFalse (has_kept_source options.now (record_item item.now)) }
     ensures { AreLossesOf options.now (record_item item.now) result }
 {
-    let makes = makes(item);
+    let makes = action.makes();
     let whole = is_whole_file(item);
     Losses {
         no_whole_file: !whole,
@@ -167,17 +154,19 @@ fn losses_of_lost<'o>(item: &Record<'_>, options: &Options) -> Losses<'o>
 fn losses_of_copy<'o>(
     alloc: Global,
     item: &Record<'_>,
+    action: Action,
     options: &'o Options,
     prefixes: &Prefixes<'o>,
 ) -> Result<Losses<'o>, Memory>
     requires node { IsTrue (is_node (record_item item.now)) }
+    requires action { IsActionOf (record_item item.now) action }
     requires kept { IsTrue (has_kept_path options.now (record_item item.now)) }
     requires copy { IsTrue (is_copy (record_item item.now)) }
     requires source { IsTrue (has_kept_source options.now (record_item item.now)) }
     requires prefixes { prefixes.now ≡ map bare_prefix options.now.prefixes }
     ensures { IfOk result (λ losses. AreLossesOf options.now (record_item item.now) losses) }
 {
-    if !makes(item) {
+    if !action.makes() {
         return Ok(Losses::NONE);
     }
     let path = path_of(item);
@@ -195,10 +184,12 @@ fn losses_of_copy<'o>(
 fn losses_of_kept<'o>(
     alloc: Global,
     item: &Record<'_>,
+    action: Action,
     options: &'o Options,
     prefixes: &Prefixes<'o>,
 ) -> Result<Losses<'o>, Memory>
     requires node { IsTrue (is_node (record_item item.now)) }
+    requires action { IsActionOf (record_item item.now) action }
     requires kept { IsTrue (has_kept_path options.now (record_item item.now)) }
     requires prefixes { prefixes.now ≡ map bare_prefix options.now.prefixes }
     ensures { IfOk result (λ losses. AreLossesOf options.now (record_item item.now) losses) }
@@ -207,20 +198,26 @@ fn losses_of_kept<'o>(
         return Ok(Losses::NONE);
     }
     if !keeps(options, copy_path_of(item)) {
-        return Ok(losses_of_lost(item, options));
+        return Ok(losses_of_lost(item, action, options));
     }
-    losses_of_copy(alloc, item, options, prefixes)
+    losses_of_copy(alloc, item, action, options, prefixes)
 }
 
 /// What the cut does to a node whose path isn't kept.
-fn losses_of_left<'o>(item: &Record<'_>, options: &Options, prefixes: &Prefixes<'_>) -> Losses<'o>
+fn losses_of_left<'o>(
+    item: &Record<'_>,
+    action: Action,
+    options: &Options,
+    prefixes: &Prefixes<'_>,
+) -> Losses<'o>
     requires node { IsTrue (is_node (record_item item.now)) }
+    requires action { IsActionOf (record_item item.now) action }
     requires left { IsFalse (has_kept_path options.now (record_item item.now)) }
     requires prefixes { prefixes.now ≡ map bare_prefix options.now.prefixes }
     ensures { AreLossesOf options.now (record_item item.now) result }
 {
-    let deletes = deletes(item);
-    let copies = makes_copy(item);
+    let deletes = action.deletes();
+    let copies = action.makes() && is_copy(item);
     if !(deletes | copies) {
         return Losses::NONE;
     }
@@ -232,29 +229,32 @@ fn losses_of_left<'o>(item: &Record<'_>, options: &Options, prefixes: &Prefixes<
     }
 }
 
-/// What is found in a node, with the numbers of the revisions up to it.
+/// What is found in a node, be its path kept or not, with the numbers of the revisions up to it.
 pub(crate) fn find<'o>(
     alloc: Global,
     item: &Record<'_>,
+    kept: bool,
     options: &'o Options,
     prefixes: &Prefixes<'o>,
     numbers: &Numbers,
 ) -> Result<Found<'o>, Memory>
     requires node { IsTrue (is_node (record_item item.now)) }
+    requires kept { kept ≡ has_kept_path options.now (record_item item.now) }
     requires prefixes { prefixes.now ≡ map bare_prefix options.now.prefixes }
     ensures { IfOk result (λ found. IsFoundIn options.now numbers.now (record_item item.now) found) }
 {
     let props = properties_of(item);
-    let obstacles = obstacles_of(item, &props);
-    if !keeps(options, path_of(item)) {
+    let action = action_of(item);
+    let obstacles = obstacles_of(item, action, &props);
+    if !kept {
         return Ok(Found {
             obstacles,
             refused: Refused::NONE,
-            losses: losses_of_left(item, options, prefixes),
+            losses: losses_of_left(item, action, options, prefixes),
         });
     }
     let refused = refused_of(item, &props, options, numbers);
-    let losses = losses_of_kept(alloc, item, options, prefixes)?;
+    let losses = losses_of_kept(alloc, item, action, options, prefixes)?;
     Ok(Found {
         obstacles,
         refused,

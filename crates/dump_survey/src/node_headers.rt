@@ -1,22 +1,72 @@
 //! What the header lines of a node say of its change.
-ghost use Rattle.std.specs.Prelude.{◌≡◌, ◌∷◌, [], bytes_eq, codes, unwrap_or};
-ghost use Rattle.std.specs.List.{list_any};
-ghost use Rattle.dump_text.specs.Names.{action_name};
+ghost use Rattle.std.specs.Prelude.{◌≡◌, [], unwrap_or};
 ghost use Rattle.dump_text.specs.HeaderLine.{header_value};
 ghost use Rattle.dump_text.specs.steps.KnownValues.{name_text};
 ghost use Rattle.dump_records.specs.steps.RecordViews.{record_item};
 ghost use Rattle.dump_history.specs.RecordChanges.{has_odd_delta};
+ghost use Rattle.dump_survey.specs.steps.Actions.{action_named, is_deleting, is_making, is_known_action, IsActionOf};
 
 use dump_records::Record;
 use dump_text::HeaderName;
 
-pub(crate) const ADD: &[u8] = b"add";
+const ADD: &[u8] = b"add";
 
 const CHANGE: &[u8] = b"change";
 
-pub(crate) const DELETE: &[u8] = b"delete";
+const DELETE: &[u8] = b"delete";
 
-pub(crate) const REPLACE: &[u8] = b"replace";
+const REPLACE: &[u8] = b"replace";
+
+/// What a node does at its path.
+#[derive(Clone, Copy)]
+pub(crate) enum Action {
+    Add,
+    Change,
+    Delete,
+    Replace,
+    /// There is none, or another one.
+    Unknown,
+}
+
+impl Action {
+    /// The action of this name.
+    fn named(name: &[u8]) -> Action
+        ensures { result ≡ action_named name.now }
+    {
+        if name == ADD {
+            Action::Add
+        } else if name == CHANGE {
+            Action::Change
+        } else if name == DELETE {
+            Action::Delete
+        } else if name == REPLACE {
+            Action::Replace
+        } else {
+            Action::Unknown
+        }
+    }
+
+    /// Whether it is one of the four that there are.
+    pub(crate) fn is_known(self) -> bool
+        ensures { result ≡ is_known_action self }
+    {
+        !matches!(self, Action::Unknown)
+    }
+
+    /// Whether it deletes what stands at the path.
+    pub(crate) fn deletes(self) -> bool
+        ensures { result ≡ is_deleting self }
+    {
+        matches!(self, Action::Delete | Action::Replace)
+    }
+
+    /// Whether it makes something at the path.
+    pub(crate) fn makes(self) -> bool
+        ensures { result ≡ is_making self }
+    {
+        matches!(self, Action::Add | Action::Replace)
+    }
+}
 
 /// The value of the line of this name; no bytes where there is none.
 fn value_of<'a>(item: &Record<'a>, name: HeaderName) -> &'a [u8]
@@ -35,17 +85,9 @@ pub(crate) fn has_odd_delta(item: &Record<'_>) -> bool
     item.version() != 3 && item.says_delta()
 }
 
-/// The word that says what the node does; no bytes where there is none.
-pub(crate) fn action_of<'a>(item: &Record<'a>) -> &'a [u8]
-    ensures { result.now ≡ unwrap_or (header_value action_name (record_item item.now).headers) [] }
+/// What the node does, for which its lines are sought through.
+pub(crate) fn action_of(item: &Record<'_>) -> Action
+    ensures { IsActionOf (record_item item.now) result }
 {
-    value_of(item, HeaderName::NodeAction)
-}
-
-/// Whether it is one of the four words that there are.
-pub(crate) fn is_known_action(word: &[u8]) -> bool
-    ensures { result ≡ list_any (λ action. bytes_eq word.now action)
-        (codes "add" ∷ codes "change" ∷ codes "delete" ∷ codes "replace" ∷ []) }
-{
-    word == ADD || word == CHANGE || word == DELETE || word == REPLACE
+    Action::named(value_of(item, HeaderName::NodeAction))
 }

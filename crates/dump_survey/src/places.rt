@@ -53,7 +53,7 @@ impl DumpPlaces {
     }
 
     /// Those of one more record, which is here, and up to which this is found.
-    pub(crate) fn with(&self, found: &DumpFindings, here: Place) -> DumpPlaces
+    fn with(&self, found: &DumpFindings, here: Place) -> DumpPlaces
         ensures { AreNextPlaces self.now found.now here result }
     {
         DumpPlaces {
@@ -65,5 +65,15 @@ impl DumpPlaces {
             node_outside: first_place(self.node_outside, found.node_outside, here),
             numbers_left: first_place(self.numbers_left, found.numbers_left, here),
         }
+    }
+
+    /// Goes on to one more record, which is here, and up to which this is found. As long as nothing is, nothing changes.
+    pub(crate) fn note(&mut self, found: &DumpFindings, here: Place)
+        ensures { AreNextPlaces self.old found.now here self.new }
+    {
+        if !found.is_any() {
+            return;
+        }
+        *self = self.with(found, here);
     }
 }

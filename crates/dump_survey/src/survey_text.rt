@@ -88,10 +88,12 @@ pub fn write_survey<S: Sink>(
     loop {
         match surveyor.next(alloc)? {
             Step::Node(node) => {
-                let lines = node_lines(alloc, &node)?;
-                found |= write_lines(alloc, sink, lines)?;
+                if node.found.is_any() {
+                    let lines = node_lines(alloc, &node)?;
+                    found |= write_lines(alloc, sink, lines)?;
+                    counts = counts.with(&node.found);
+                }
                 count += 1;
-                counts = counts.with(&node.found);
             }
             Step::Other => count += 1,
             Step::Finished(end) => {

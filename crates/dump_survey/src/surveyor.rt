@@ -2,6 +2,7 @@
 ghost use Rattle.std.specs.Prelude.{◌≡◌, ◌+◌, ◌<◌, ◌^◌, IfOk, map};
 ghost use Rattle.dump_records.specs.steps.RecordViews.{record_item, record_number};
 ghost use Rattle.dump_rules.specs.Prefix.{bare_prefix};
+ghost use Rattle.dump_digest.specs.RecordParts.{is_kept_node};
 ghost use Rattle.dump_survey.specs.PrefixFindings.{prefix_view};
 ghost use Rattle.dump_survey.specs.steps.Steps.{IsStepOf, TellsEnd};
 
@@ -14,6 +15,7 @@ use crate::prefix_set::PrefixSet;
 use crate::prefixes::{Prefixes, given_prefixes};
 use crate::tally::{DumpFindings, Tally};
 use crate::told::SurveyedNode;
+use dump_digest::is_kept;
 use dump_records::{Cut, Cutter, Record};
 use dump_rules::{Memory, Options};
 use dump_text::FaultKind;
@@ -88,15 +90,17 @@ fn place_of(item: &Record<'_>) -> Place
     }
 }
 
-/// What is found in the next record, behind those of this tally.
+/// What is found in the next record, be it a kept node or not, behind those of this tally.
 fn step_of<'o, 'a>(
     alloc: Global,
     item: Record<'a>,
+    kept: bool,
     options: &'o Options,
     prefixes: &Prefixes<'o>,
     tally: &Tally,
 ) -> Result<Step<'o, 'a>, Memory>
-    requires { prefixes.now ≡ map bare_prefix options.now.prefixes }
+    requires kept { kept ≡ is_kept_node options.now (record_item item) }
+    requires prefixes { prefixes.now ≡ map bare_prefix options.now.prefixes }
     ensures { IfOk result (λ step. IsStepOf options.now item.entry tally.now step) }
 {
     let Some(present) = tally.present else {
@@ -106,7 +110,7 @@ fn step_of<'o, 'a>(
         return Ok(Step::Other);
     }
     let numbers = tally.numbers(present.number);
-    let found = find(alloc, &item, options, prefixes, &numbers)?;
+    let found = find(alloc, &item, kept, options, prefixes, &numbers)?;
     Ok(Step::Node(SurveyedNode {
         item,
         revision: present.number,
@@ -188,12 +192,13 @@ impl<'o, 'a> Surveyor<'o, 'a> {
         };
         leave_touched(&mut self.idle, &item);
         let before = self.tally;
-        self.numbers_left = self.numbers_left || leaves_number(&item, self.options, &before);
+        let kept = is_kept(&item, self.options);
+        self.numbers_left = self.numbers_left || leaves_number(&item, kept, self.options, &before);
         self.unread_revision = self.unread_revision || is_unread_revision(&item);
-        self.tally = before.with(&item, self.options);
+        self.tally = before.with(&item, kept, self.options);
         let found = self.tally.findings(self.numbers_left, self.unread_revision);
-        self.places = self.places.with(&found, place_of(&item));
-        step_of(alloc, item, self.options, &self.prefixes, &before)
+        self.places.note(&found, place_of(&item));
+        step_of(alloc, item, kept, self.options, &self.prefixes, &before)
     }
 
     /// What is found in the options' prefixes, in their order, by the records that were given so far.

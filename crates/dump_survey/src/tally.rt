@@ -1,15 +1,15 @@
 //! What is known of the revisions of a dump, behind the records that came.
 ghost use Rattle.std.specs.Prelude.{◌≡◌, ◌+◌, ◌<◌, ◌==◌, ◌^◌, IsTrue, Some};
+ghost use Rattle.std.specs.List.{list_any};
 ghost use Rattle.dump_records.specs.steps.RecordViews.{record_item};
 ghost use Rattle.dump_digest.specs.RecordParts.{is_kept_node, is_node};
-ghost use Rattle.dump_history.specs.Findings.{copies_from_before};
+ghost use Rattle.dump_history.specs.Findings.{copies_from_before, every_dump_finding};
 ghost use Rattle.dump_survey.specs.steps.Tally.{first_with, is_above_last, least_behind, lesser, no_tally, keeps_open, keeps_present, node_tally, next_tally, numbers_of, tally_findings};
 ghost use Rattle.dump_survey.specs.steps.Naming.{is_behind_dropped};
-ghost use Rattle.dump_survey.specs.DumpFindings.{listed_findings};
+ghost use Rattle.dump_survey.specs.DumpFindings.{has_dump_finding, listed_findings};
 
 use crate::node::{copy_revision_of, makes_copy};
 use crate::revision_numbers::Numbers;
-use dump_digest::is_kept;
 use dump_records::Record;
 use dump_rules::{Empty, Options};
 
@@ -32,6 +32,22 @@ pub struct DumpFindings {
     pub node_outside: bool,
     /// A revision is dropped, the others aren't renumbered, and a kept node behind it names one by its number.
     pub numbers_left: bool,
+}
+
+impl DumpFindings {
+    /// Whether anything is found.
+    pub(crate) fn is_any(&self) -> bool
+        ensures { result ≡ list_any (has_dump_finding self.now) every_dump_finding }
+    {
+        self.no_revision
+            | self.other_numbers
+            | self.number_falls
+            | self.unread_revision
+            | self.node_in_first
+            | self.source_before
+            | self.node_outside
+            | self.numbers_left
+    }
 }
 
 /// The present revision, whose nodes may follow.
@@ -177,9 +193,10 @@ impl Tally {
         if self.count == 0 { number } else { self.first }
     }
 
-    /// That of one more record.
-    pub(crate) fn with(&self, item: &Record<'_>, options: &Options) -> Tally
-        requires { self.now.count + 1 < 2 ^ 64 }
+    /// That of one more record, be it a kept node or not.
+    pub(crate) fn with(&self, item: &Record<'_>, kept: bool, options: &Options) -> Tally
+        requires room { self.now.count + 1 < 2 ^ 64 }
+        requires kept { kept ≡ is_kept_node options.now (record_item item.now) }
         ensures { result ≡ next_tally options.now self.now (record_item item.now) }
     {
         if let Some(number) = item.revision() {
@@ -200,7 +217,7 @@ impl Tally {
                 ..*self
             }
         } else if item.path().is_some() {
-            self.with_node(item, options)
+            self.with_node(item, kept)
         } else {
             Tally {
                 all_kept: self.keeps_all(options),
@@ -211,13 +228,12 @@ impl Tally {
         }
     }
 
-    /// That of one more node.
-    fn with_node(&self, item: &Record<'_>, options: &Options) -> Tally
+    /// That of one more node, be it kept or not.
+    fn with_node(&self, item: &Record<'_>, kept: bool) -> Tally
         requires { IsTrue (is_node (record_item item.now)) }
-        ensures { result ≡ node_tally self.now (is_kept_node options.now (record_item item.now))
-            (copies_from_before self.now.first (record_item item.now)) self.now.present }
+        ensures { result ≡ node_tally self.now kept (copies_from_before self.now.first (record_item item.now))
+            self.now.present }
     {
-        let kept = is_kept(item, options);
         let early = copies_from_before(item, self.first);
         let Some(present) = self.present else {
             return Tally {

@@ -9,8 +9,8 @@ pub loop-item-init : goal.loop-item-init
 loop-item-init c = none_kept c.args.options.now c.args.dump.now c.new-cutter.result c.new-tally.result
     c.new-numbers.result.items c.new-cutter.ensures c.new-tally.ensures c.new-numbers.ensures.items
 
-pub with-tally-requires : goal.with-tally-requires
-with-tally-requires c =
+pub with-tally-requires-clause-room : goal.with-tally-requires-clause-room
+with-tally-requires-clause-room c =
     let step = subst (λ (x : Cut). CutStep c.loop-item.cutter x c.next.new.self) c.in-Item.is c.next.ensures in
     tally_room c.args.options.now c.args.dump.now c.loop-item.cutter c.next.new.self c.loop-item.tally
     c.loop-item.numbers.items c.loop-item.invariant c.in-Item.item step

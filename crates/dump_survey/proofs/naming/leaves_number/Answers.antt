@@ -8,4 +8,4 @@ returns c =
     left_named c.args.options.now c.args.tally.now (record_item c.args.item.now) c.names_revision.result
     (sym c.renumber.ensures ∙ c.if-renumber.false)
     (sym c.is_behind_dropped.ensures ∙ c.if-not-is_behind_dropped.false)
-    (sym c.is_kept.ensures ∙ c.if-not-is_kept.false) c.names_revision.ensures
+    (sym c.requires ∙ c.if-not-kept.false) c.names_revision.ensures

@@ -8,8 +8,9 @@ use Rattle.dump_survey.specs.steps.Steps.{SurveyStep}
 use Rattle.dump_survey.specs.steps.Surveying.{Surveying}
 use Rattle.dump_survey.specs.LinesBehind.{TakesSome}
 use Rattle.dump_survey.proofs.SurveyLemmas.{node_nearer, other_nearer, prefixes_told}
-use Rattle.dump_survey.proofs.WritingLemmas.{HasWritten, at_err, no_error, broken_in_end, broken_in_node, broken_off, node_written, nothing_written, other_written, whole_written}
+use Rattle.dump_survey.proofs.WritingLemmas.{HasWritten, at_err, no_error, broken_in_end, broken_in_node, broken_off, node_written, nothing_written, other_written, silent_written, whole_written}
 use Rattle.dump_survey.proofs.survey_text.write_survey.Goals as goal
+use Rattle.dump_survey.proofs.survey_text.write_survey.Goals.{then-is_any+in_ok-lines-in-Node+in_ok-found-in-Node, else-is_any}
 
 pub returns-in_err-surveyor-clause-part : goal.returns-in_err-surveyor-clause-part
 returns-in_err-surveyor-clause-part g c =
@@ -66,19 +67,29 @@ loop-surveyor-smaller-in-Node g c =
 
 pub loop-surveyor-preserved-in-Node : goal.loop-surveyor-preserved-in-Node
 loop-surveyor-preserved-in-Node g c =
-    let step = subst (λ (s : Step). SurveyStep c.loop-surveyor.surveyor s c.next.new.self) c.in-Node.is c.in_ok-node.ensures in record {
-      written = node_written c.args.options.now c.args.dump.now c.loop-surveyor.surveyor c.next.new.self
-          (g.S.Sink.taken c.args.sink.now) (g.S.Sink.taken c.loop-surveyor.sink) (g.S.Sink.taken c.write_lines.new.sink)
-          c.loop-surveyor.found c.loop-surveyor.count c.loop-surveyor.counts c.loop-surveyor.invariant.written c.in-Node.node
-          c.in_ok-found-in-Node.field-0 c.with-counts.result step
-          (subst (Appends (g.S.Sink.taken c.loop-surveyor.sink) (g.S.Sink.taken c.write_lines.new.sink))
-          c.in_ok-lines-in-Node.ensures c.in_ok-found-in-Node.ensures.whole)
-          (c.in_ok-found-in-Node.ensures.some ∙ ap (λ (l : List ℕ). not (length l == 0)) c.in_ok-lines-in-Node.ensures)
-          c.with-counts.ensures;
-      failures = c.in_ok-found-in-Node.ensures.no_failure no_error
-          ∙ c.loop-surveyor.invariant.failures;
-      through = c.write_lines.ensures.through ∙ c.loop-surveyor.invariant.through;
-    }
+    let step = subst (λ (s : Step). SurveyStep c.loop-surveyor.surveyor s c.next.new.self) c.in-Node.is c.in_ok-node.ensures in
+    elim c.if-is_any.branch [
+      | then-is_any+in_ok-lines-in-Node+in_ok-found-in-Node w ↦ rw (w.sink-is, w.found-is, w.counts-is) record {
+        written = node_written c.args.options.now c.args.dump.now c.loop-surveyor.surveyor c.next.new.self
+            (g.S.Sink.taken c.args.sink.now) (g.S.Sink.taken c.loop-surveyor.sink) (g.S.Sink.taken w.write_lines.new.sink)
+            c.loop-surveyor.found c.loop-surveyor.count c.loop-surveyor.counts c.loop-surveyor.invariant.written
+            c.in-Node.node w.in_ok-found-in-Node.field-0 w.with-counts.result step
+            (subst (Appends (g.S.Sink.taken c.loop-surveyor.sink) (g.S.Sink.taken w.write_lines.new.sink))
+            w.in_ok-lines-in-Node.ensures w.in_ok-found-in-Node.ensures.whole)
+            (w.in_ok-found-in-Node.ensures.some
+            ∙ ap (λ (l : List ℕ). not (length l == 0)) w.in_ok-lines-in-Node.ensures) w.with-counts.ensures;
+        failures = w.in_ok-found-in-Node.ensures.no_failure no_error ∙ c.loop-surveyor.invariant.failures;
+        through = w.write_lines.ensures.through ∙ c.loop-surveyor.invariant.through;
+      }
+      | else-is_any w ↦ rw (w.sink-is, w.found-is, w.counts-is) record {
+        written = silent_written c.args.options.now c.args.dump.now c.loop-surveyor.surveyor c.next.new.self
+            (g.S.Sink.taken c.args.sink.now) (g.S.Sink.taken c.loop-surveyor.sink) c.loop-surveyor.found
+            c.loop-surveyor.count c.loop-surveyor.counts c.loop-surveyor.invariant.written c.in-Node.node step
+            (sym c.is_any.ensures ∙ w.if-is_any.false);
+        failures = c.loop-surveyor.invariant.failures;
+        through = c.loop-surveyor.invariant.through;
+      }
+    ]
 
 pub overflow_add-count-in-Other : goal.overflow_add-count-in-Other
 overflow_add-count-in-Other g c =

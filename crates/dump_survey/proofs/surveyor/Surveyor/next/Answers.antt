@@ -28,8 +28,8 @@ returns-in-Fault c =
     c.self.inside.unread_revision c.self.inside.places c.self.inside.cutter c.next.new.self c.self.invariant (ends.Broken c.in-Fault.kind c.in-Fault.place)
     c.finished-end-in-Fault.result step.0 step.1 c.finished-end-in-Fault.ensures)
 
-pub with-self-inside-requires : goal.with-self-inside-requires
-with-self-inside-requires c =
+pub with-self-inside-requires-clause-room : goal.with-self-inside-requires-clause-room
+with-self-inside-requires-clause-room c =
     let step = subst (λ (x : Cut). CutStep c.self.inside.cutter x c.next.new.self) c.in-Item.is c.next.ensures in
     room c.self.inside.options.now c.self.inside.prefixes c.self.inside.idle c.self.inside.tally c.self.inside.numbers_left c.self.inside.unread_revision c.self.inside.places
     c.self.inside.cutter c.next.new.self c.self.invariant c.in-Item.item step
@@ -57,7 +57,7 @@ invariant_of-self-2 c =
     goes_on c.self.inside.options.now c.self.inside.prefixes c.self.inside.idle c.self.inside.tally
     c.self.inside.numbers_left c.self.inside.unread_revision c.self.inside.places c.self.inside.cutter c.next.new.self c.self.invariant c.in-Item.item step
     c.leave_touched.new.idle c.with-self-inside.result c.if-self.self c.if-self-2.self c.leave_touched.ensures
-    c.with-self-inside.ensures still unread_still c.findings-found.result c.findings-found.ensures c.place_of.result c.place_of.ensures c.with-self-inside-2.result c.with-self-inside-2.ensures
+    c.with-self-inside.ensures still unread_still c.findings-found.result c.findings-found.ensures c.place_of.result c.place_of.ensures c.note.new.self c.note.ensures
 
 pub returns : goal.returns
 returns c =

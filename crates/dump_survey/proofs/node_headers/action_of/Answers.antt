@@ -1,0 +1,15 @@
+use Rattle.std.proofs.Common.{List, ℕ, [], unwrap_or}
+use Rattle.dump_text.specs.HeaderLine.{header_value}
+use Rattle.dump_text.specs.Names.{action_name}
+use Rattle.dump_records.specs.steps.RecordViews.{record_item}
+use Rattle.dump_survey.proofs.ActionLemmas.{deletes_by_name, known_by_name, makes_by_name}
+use Rattle.dump_survey.proofs.node_headers.action_of.Goals as goal
+
+pub returns : goal.returns
+returns c =
+    let name : List ℕ = unwrap_or (header_value action_name (record_item c.args.item.now).headers) [] in
+    rw (c.named.ensures, c.value_of.ensures) record {
+      known = known_by_name name;
+      deletes = deletes_by_name name;
+      makes = makes_by_name name;
+    }
