@@ -47,7 +47,7 @@ fn push_before(
     ensures { OnOk result (numbers.new.items
         ≡ numbers.old.items ++ numbers_before options.now tally.now.present (record_item item.now)) }
 {
-    if item.path().is_none() {
+    if !item.is_node() {
         push_ended(numbers, tally, options)?;
     }
     Ok(())

@@ -31,7 +31,7 @@ fn matches_itself(path: &[u8]) -> bool
 fn can_not_stand(item: &Record<'_>) -> bool
     ensures { result ≡ can_not_stand (record_item item.now) }
 {
-    item.path().is_some() && is_copy(item) && !is_whole_file(item)
+    item.is_node() && is_copy(item) && !is_whole_file(item)
 }
 
 /// What the record needs, where it is such a copy.

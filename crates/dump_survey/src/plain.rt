@@ -5,7 +5,7 @@ ghost use Rattle.dump_text.specs.HeaderLine.{has_byte};
 ghost use Rattle.dump_text.specs.PropertyList.{IsPropertyBlock, Property};
 ghost use Rattle.dump_text.specs.steps.PropertyViews.{props_bytes};
 ghost use Rattle.dump_records.specs.steps.RecordViews.{record_item};
-ghost use Rattle.dump_digest.specs.RecordParts.{HasPropertyBlock, is_node, takes_deletes};
+ghost use Rattle.dump_digest.specs.RecordParts.{HasPropertyBlock, is_node};
 ghost use Rattle.dump_digest.specs.steps.ContentViews.{ArePropertiesOf};
 ghost use Rattle.dump_history.specs.RecordChanges.{is_plain_line, has_plain_texts};
 ghost use Rattle.dump_history.specs.Findings.{IsReadBlock, IsUnreadRevision};
@@ -20,20 +20,13 @@ fn has_zero(text: &[u8]) -> bool
     text.contains(&0)
 }
 
-/// Whether properties may be deleted in the record's block: in a node under version 3.
-fn takes_deletes(item: &Record<'_>) -> bool
-    ensures { result ≡ takes_deletes (record_item item.now) }
-{
-    item.path().is_some() && item.version() == 3
-}
-
 /// The properties of the record, where they are a property block.
 pub(crate) fn properties_of<'a>(item: &Record<'a>) -> Option<Props<'a>>
     ensures found { IsSome result ↔ HasPropertyBlock (record_item item.now) }
     ensures bytes { IfSome result (λ props. props_bytes props ≡ (record_item item.now).props) }
 {
     let bytes = item.property_bytes();
-    if takes_deletes(item) {
+    if item.may_have_delta() {
         Props::read_with_deletes(bytes)
     } else {
         Props::read(bytes)

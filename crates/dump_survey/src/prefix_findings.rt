@@ -33,7 +33,7 @@ pub struct ToldPrefix<'o> {
 fn leave_matched(idle: &mut PrefixSet, item: &Record<'_>)
     ensures { AreWithout (is_begun_by (record_item item.now)) idle.old idle.new }
 {
-    if item.path().is_none() {
+    if !item.is_node() {
         return;
     }
     idle.leave(bare_path(path_of(item)));
@@ -46,7 +46,7 @@ fn leave_matched(idle: &mut PrefixSet, item: &Record<'_>)
 fn leave_copied(idle: &mut PrefixSet, item: &Record<'_>)
     ensures { AreWithout (is_below_copy (record_item item.now)) idle.old idle.new }
 {
-    if item.path().is_none() {
+    if !item.is_node() {
         return;
     }
     if makes_copy(item) {

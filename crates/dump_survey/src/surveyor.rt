@@ -106,7 +106,7 @@ fn step_of<'o, 'a>(
     let Some(present) = tally.present else {
         return Ok(Step::Other);
     };
-    if item.path().is_none() {
+    if !item.is_node() {
         return Ok(Step::Other);
     }
     let numbers = tally.numbers(present.number);

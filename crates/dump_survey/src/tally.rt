@@ -216,7 +216,7 @@ impl Tally {
                 }),
                 ..*self
             }
-        } else if item.path().is_some() {
+        } else if item.is_node() {
             self.with_node(item, kept)
         } else {
             Tally {
