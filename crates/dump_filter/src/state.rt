@@ -1,6 +1,6 @@
 //! What the filter holds of the records so far.
 ghost use Rattle.std.specs.Prelude.{◌≡◌, None};
-ghost use Rattle.dump_filter.specs.Groups.{keeps_empty};
+ghost use Rattle.dump_filter.specs.Groups.{is_pad, keeps_empty};
 ghost use Rattle.dump_filter.specs.steps.State.{view_pending, view_group, view_state, new_state};
 ghost use Rattle.dump_filter.specs.steps.Advance.{stays, pads, emptied};
 ghost use Rattle.dump_filter.specs.steps.Decision.{takes_node};
@@ -33,6 +33,13 @@ pub(crate) struct State<'a> {
     pub(crate) report: Report,
 }
 
+/// Whether a revision that lost its nodes is padded.
+fn is_pad(empty: Empty) -> bool
+    ensures { result ≡ is_pad empty }
+{
+    matches!(empty, Empty::Pad)
+}
+
 /// Whether the options keep a revision whose group ends so.
 fn keeps_empty(empty: Empty, bare: bool) -> bool
     ensures { result ≡ keeps_empty empty bare }
@@ -56,7 +63,7 @@ impl<'a> Pending<'a> {
     pub(crate) fn pads(&self, options: &Options) -> bool
         ensures { result ≡ pads options.now (view_pending self.now) }
     {
-        !self.bare && matches!(options.empty(), Empty::Pad) && !options.preserve()
+        !self.bare && is_pad(options.empty()) && !options.preserve()
     }
 }
 

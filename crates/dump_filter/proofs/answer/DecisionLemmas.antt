@@ -382,6 +382,15 @@ fate_of_node settings s r ok ps keep =
     (first_true (is_node r) _ keep)
     ∙ ap (λ b. if b then node_fate settings s r ok ps else Ok fates.Drop) keep
 
+-- a node that isn't kept is dropped
+pub fate_of_dropped : (settings : Settings) (s : State) (r : DumpRecord) (ok : Bool) (ps : List Property)
+    → is_node r ≡ true → is_kept_node settings r ≡ false → Ok fates.Drop ≡ fate_of settings s r ok ps
+fate_of_dropped settings s r ok ps node left =
+    let kept : Result Fate FaultKind =
+    if is_kept_node settings r then node_fate settings s r ok ps else Ok fates.Drop in
+    sym (ap (λ b. if b then kept else if is_revision_record r then Ok fates.Hold else Ok fates.Pass) node
+    ∙ ap (λ b. if b then node_fate settings s r ok ps else Ok fates.Drop) left)
+
 -- the fate of a revision is to be held
 pub fate_of_revision : (settings : Settings) (s : State) (r : DumpRecord) (ok : Bool) (ps : List Property)
     → is_node r ≡ false → is_revision_record r ≡ true → Ok fates.Hold ≡ fate_of settings s r ok ps

@@ -1,11 +1,12 @@
 -- A block that is written as it stands: under its own numbers and lengths, spelled as they are written.
-use Rattle.std.proofs.Common.{◌≡◌, ℕ, ◌+◌, ◌==◌, nat_le, Bool, true, false, not, ◌&&◌, ◌||◌, List, length, refl, sym, ap, ◌∙◌, Option, Some, None, is_none, unwrap_or, option_and_then}
+use Rattle.std.proofs.Common.{◌≡◌, ℕ, ◌+◌, ◌==◌, nat_eq, nat_le, Bool, true, false, not, ◌&&◌, ◌||◌, List, length, refl, sym, ap, ◌∙◌, Option, Some, None, is_none, unwrap_or, option_and_then}
+use Rattle.std.specs.Option.{option_eq}
 use Rattle.std.proofs.lemmas.Bool.{eqb-true, not-false}
 use Rattle.std.proofs.lemmas.Slice.Eq.{bytes_eq-Decides}
 use Rattle.dump_text.specs.Number.{number_of, spelled_number}
 use Rattle.dump_text.specs.Names.{revision_name, copy_revision_name, property_length_name, text_length_name, content_length_name}
 use Rattle.dump_text.specs.HeaderLine.{Header, has_header, count_named, header_value}
-use Rattle.dump_text.proofs.BoolLemmas.{first_true, second_true, first_false, second_false, not_so, absurd_bool}
+use Rattle.dump_text.proofs.BoolLemmas.{first_true, second_true, first_false, second_false, false_true, not_so, absurd_bool}
 use Rattle.dump_records.specs.HeaderRules.{header_number, header_length, property_length, text_length, has_bad_number, has_bad_lengths}
 use Rattle.dump_records.specs.steps.HeaderReading.{are_spelled, is_spelled, are_written}
 use Rattle.dump_records.specs.RecordText.{DumpRecord, BeginsWithRecord}
@@ -19,6 +20,11 @@ use Rattle.dump_filter.proofs.written.HeaderLemmas.{no_length}
 use Rattle.dump_filter.proofs.again.LineChanges.{IsTold, put_same}
 use Rattle.dump_filter.proofs.again.Headers.{AreTold, known_once, lengths_again}
 use Rattle.dump_filter.proofs.written.LineLemmas.{lines_are, all_stay}
+
+-- a number that is told the same as another one is that one
+pub same_number : (x : Option ℕ) (n : ℕ) → option_eq nat_eq x (Some n) ≡ true → x ≡ Some n
+same_number None n same = absurd (false_true same)
+same_number (Some m) n same = ap Some (eqb-true m n same)
 
 -- what a number is that is there and is written as it stands
 spelled_value : (name : List ℕ) (n : ℕ) (headers : List Header) → is_spelled name headers ≡ true

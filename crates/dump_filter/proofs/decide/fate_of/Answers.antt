@@ -1,4 +1,4 @@
-use Rattle.std.proofs.Common.{◌≡◌, true, sym, ◌∙◌, subst}
+use Rattle.std.proofs.Common.{◌≡◌, true, false, sym, ◌∙◌, subst}
 use Rattle.dump_rules.specs.Settings.{Settings}
 use Rattle.dump_records.specs.steps.RecordViews.{record_item, record_number}
 use Rattle.dump_records.specs.declared.kind.RecordKind.TheVariants as kinds
@@ -7,7 +7,7 @@ use Rattle.dump_digest.specs.RecordParts.{is_kept_node}
 use Rattle.dump_digest.specs.steps.DoneViews.{done_record, done_verdict}
 use Rattle.dump_filter.specs.steps.State.{view_state}
 use Rattle.dump_filter.proofs.groups.KindLemmas.{IsOfKind, of_kind}
-use Rattle.dump_filter.proofs.answer.DecisionLemmas.{fate_of_node, fate_of_revision}
+use Rattle.dump_filter.proofs.answer.DecisionLemmas.{fate_of_dropped, fate_of_node, fate_of_revision}
 use Rattle.dump_filter.proofs.decide.fate_of.Goals as goal
 
 pub node_fate-requires-clause-taken : goal.node_fate-requires-clause-taken
@@ -35,3 +35,15 @@ returns-in-Revision c ps list =
     fate_of_revision c.args.options.now (view_state c.args.state.now) (record_item (done_record d))
     (done_verdict d).merge_ok ps
     kind.0 kind.1
+
+pub returns-else-is_kept : goal.returns-else-is_kept
+returns-else-is_kept c ps list =
+    let d = c.args.done.now in
+    let item = c.item.result in
+    let kind = subst (λ (x : Record). IsOfKind (record_item x) kinds.Node) c.item.ensures
+    (subst (IsOfKind (record_item item)) (sym c.kind.ensures ∙ c.in-Node.is)
+    (of_kind (record_number item) (record_item item) item.stands.lawful)) in
+    let left = subst (λ (s : Settings). is_kept_node s (record_item (done_record d)) ≡ false) c.requires.options
+    (sym c.is_kept.ensures ∙ c.if-is_kept.false) in
+    fate_of_dropped c.args.options.now (view_state c.args.state.now) (record_item (done_record d))
+    (done_verdict d).merge_ok ps kind.0 left
