@@ -58,6 +58,9 @@ fn leave_copied(idle: &mut PrefixSet, item: &Record<'_>)
 pub(crate) fn leave_touched(idle: &mut PrefixSet, item: &Record<'_>)
     ensures { AreWithout (is_touched_by (record_item item.now)) idle.old idle.new }
 {
+    if idle.is_empty() {
+        return;
+    }
     leave_matched(idle, item);
     leave_copied(idle, item);
 }

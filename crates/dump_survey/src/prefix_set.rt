@@ -1,5 +1,5 @@
 //! Prefixes that are looked up, and to which more can be added.
-ghost use Rattle.std.specs.Prelude.{◌≡◌, ◌++◌, ◌∷◌, ◌≤◌, ◌<◌, [], List, ℕ, IfOk, OnErr, OnOk, bytes_eq, length, map, true};
+ghost use Rattle.std.specs.Prelude.{◌≡◌, ◌↔◌, ◌++◌, ◌∷◌, ◌≤◌, ◌<◌, [], List, ℕ, IfOk, IsTrue, OnErr, OnOk, bytes_eq, length, map, true};
 ghost use Rattle.std.specs.List.{list_any};
 ghost use Rattle.dump_rules.specs.Prefix.{bare_prefix, begins_path};
 ghost use Rattle.dump_rules.specs.steps.PrefixSearch.{BeginSame};
@@ -68,6 +68,13 @@ impl PrefixSet {
         Ok(())
     }
 
+    /// Whether there is none.
+    pub(crate) fn is_empty(&self) -> bool
+        ensures { IsTrue result ↔ (self.now ≡ []) }
+    {
+        self.bare.is_empty()
+    }
+
     /// Whether the text is one of them.
     pub(crate) fn has(&self, text: &[u8]) -> bool
         ensures { result ≡ list_any (λ prefix. bytes_eq text.now prefix) self.now }
@@ -112,9 +119,6 @@ impl PrefixSet {
     pub(crate) fn leave(&mut self, path: &[u8])
         ensures { AreWithout (λ text. begins_path text path.now) self.old self.new }
     {
-        if self.bare.is_empty() {
-            return;
-        }
         let near = self.near(path);
         self.remove(b"");
         self.remove(path);

@@ -106,7 +106,7 @@ fn copies_from_before(item: &Record<'_>, first: u64) -> bool
     requires { IsTrue (is_node (record_item item.now)) }
     ensures { result ≡ copies_from_before first (record_item item.now) }
 {
-    makes_copy(item) && copy_revision_of(item) < first
+    copy_revision_of(item) < first && makes_copy(item)
 }
 
 /// What the records up to one say of the dump's revisions.

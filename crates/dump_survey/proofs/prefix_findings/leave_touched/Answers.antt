@@ -1,7 +1,11 @@
+use Rattle.std.proofs.Common.{refl}
 use Rattle.dump_records.specs.steps.RecordViews.{record_item}
 use Rattle.dump_survey.specs.steps.IdlePrefixes.{is_begun_by, is_below_copy}
 use Rattle.dump_survey.proofs.IdleLemmas.{both_without}
 use Rattle.dump_survey.proofs.prefix_findings.leave_touched.Goals as goal
+
+pub returns-then-is_empty : goal.returns-then-is_empty
+returns-then-is_empty c = λ text. rw (c.is_empty.ensures.0 c.if-is_empty.true) refl
 
 pub returns : goal.returns
 returns c =
