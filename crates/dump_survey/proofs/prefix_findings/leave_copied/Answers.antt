@@ -1,16 +1,15 @@
-use Rattle.std.proofs.Common.{not, List, ℕ, sym, ap, ◌∙◌, subst}
+use Rattle.std.proofs.Common.{List, ℕ, sym, ap, ◌∙◌, subst}
 use Rattle.dump_records.specs.steps.RecordViews.{record_item}
 use Rattle.dump_rules.specs.Prefix.{bare_path, begins_path}
 use Rattle.dump_survey.specs.steps.IdlePrefixes.{AreWithout}
 use Rattle.dump_survey.proofs.IdleLemmas.{copy_leaves, no_copy_leaves}
-use Rattle.dump_survey.proofs.NodeLemmas.{node_there}
 use Rattle.dump_survey.proofs.prefix_findings.leave_copied.Goals as goal
 
 pub returns-then-makes_copy : goal.returns-then-makes_copy
 returns-then-makes_copy c =
     let r = record_item c.args.item.now in
     copy_leaves r c.args.idle.now
-    (node_there r c.path.result (c.is_none.ensures ∙ ap not c.if-is_none.false) c.path.ensures.value)
+    (sym c.is_node.ensures ∙ c.if-not-is_node.false)
     c.leave_below.new.self (sym c.makes_copy.ensures ∙ c.if-makes_copy.true)
     (subst (λ (path : List ℕ). AreWithout (λ text. begins_path path text) c.args.idle.now c.leave_below.new.self)
     (c.bare_path.ensures ∙ ap bare_path c.path_of.ensures) c.leave_below.ensures)
@@ -19,5 +18,5 @@ pub returns-else-makes_copy : goal.returns-else-makes_copy
 returns-else-makes_copy c =
     let r = record_item c.args.item.now in
     no_copy_leaves r c.args.idle.now
-    (node_there r c.path.result (c.is_none.ensures ∙ ap not c.if-is_none.false) c.path.ensures.value)
+    (sym c.is_node.ensures ∙ c.if-not-is_node.false)
     (sym c.makes_copy.ensures ∙ c.if-makes_copy.false)

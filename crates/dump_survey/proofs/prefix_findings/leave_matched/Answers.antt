@@ -1,16 +1,15 @@
-use Rattle.std.proofs.Common.{not, List, ℕ, sym, ap, ◌∙◌, subst}
+use Rattle.std.proofs.Common.{List, ℕ, sym, ap, ◌∙◌, subst}
 use Rattle.dump_records.specs.steps.RecordViews.{record_item}
 use Rattle.dump_rules.specs.Prefix.{bare_path, begins_path}
 use Rattle.dump_survey.specs.steps.IdlePrefixes.{AreWithout}
 use Rattle.dump_survey.proofs.IdleLemmas.{both_leave, path_leaves}
-use Rattle.dump_survey.proofs.NodeLemmas.{node_there}
 use Rattle.dump_survey.proofs.prefix_findings.leave_matched.Goals as goal
 
 pub returns-then-is_copy : goal.returns-then-is_copy
 returns-then-is_copy c =
     let r = record_item c.args.item.now in
     both_leave r c.args.idle.now c.leave.new.self
-    (node_there r c.path.result (c.is_none.ensures ∙ ap not c.if-is_none.false) c.path.ensures.value)
+    (sym c.is_node.ensures ∙ c.if-not-is_node.false)
     (subst (λ (path : List ℕ). AreWithout (λ text. begins_path text path) c.args.idle.now c.leave.new.self)
     (c.bare_path.ensures ∙ ap bare_path c.path_of.ensures) c.leave.ensures)
     c.leave-then-is_copy.new.self (sym c.is_copy.ensures ∙ c.if-is_copy.true)
@@ -21,7 +20,7 @@ pub returns-else-is_copy : goal.returns-else-is_copy
 returns-else-is_copy c =
     let r = record_item c.args.item.now in
     path_leaves r c.args.idle.now c.leave.new.self
-    (node_there r c.path.result (c.is_none.ensures ∙ ap not c.if-is_none.false) c.path.ensures.value)
+    (sym c.is_node.ensures ∙ c.if-not-is_node.false)
     (subst (λ (path : List ℕ). AreWithout (λ text. begins_path text path) c.args.idle.now c.leave.new.self)
     (c.bare_path.ensures ∙ ap bare_path c.path_of.ensures) c.leave.ensures)
     (sym c.is_copy.ensures ∙ c.if-is_copy.false)

@@ -1,15 +1,14 @@
-use Rattle.std.proofs.Common.{subst, refl, ap, ◌∙◌, not, option_map}
+use Rattle.std.proofs.Common.{subst, refl, sym, ap, ◌∙◌, option_map}
 use Rattle.dump_records.specs.steps.RecordViews.{record_item}
 use Rattle.dump_survey.specs.declared.revision_numbers.Numbers.{Numbers}
 use Rattle.dump_survey.specs.declared.tally.Present.{Present}
 use Rattle.dump_survey.specs.steps.Found.{IsFoundIn}
-use Rattle.dump_survey.proofs.NodeLemmas.{node_there}
 use Rattle.dump_survey.proofs.surveyor.step_of.Goals as goal
 
 pub returns : goal.returns
 returns c = (
   refl,
-  node_there (record_item c.args.item) c.path.result (c.is_none.ensures ∙ ap not c.if-is_none.false) c.path.ensures.value,
+  sym c.is_node.ensures ∙ c.if-not-is_node.false,
   ap (option_map (λ (p : Present). p.number)) c.in-Some.is,
   subst (λ (n : Numbers). IsFoundIn c.args.options.now n (record_item c.args.item) c.in_ok-found.found)
       c.numbers-numbers.ensures c.in_ok-found.ensures,
