@@ -12,7 +12,7 @@ use Rattle.dump_trees.specs.Quiet.{cuts_alike}
 use Rattle.dump_history.specs.Findings.{cuts}
 use Rattle.dump_survey.specs.CuttingPrefix.{first_cut}
 use Rattle.dump_survey.specs.steps.Prefixes.{cuts_below}
-use Rattle.dump_survey.proofs.NodeLemmas.{copied_there}
+use Rattle.dump_text.proofs.ValueLemmas.{some_copied}
 use Rattle.dump_survey.proofs.PrefixLemmas.{next_prefix, not_all}
 
 -- the first of the texts that passes
@@ -55,7 +55,7 @@ pub told_cut : {E : Type 0} (settings : Settings) (path other : List ℕ) → se
     → IfOk result (λ found. option_copied found ≡ first_cut Exclude settings path other)
     → IfOk result (λ found. is_some found ≡ cuts settings path other)
 told_cut settings path other excluded (Ok found) is =
-    copied_there found ∙ (ap is_some (is ∙ ap (λ side. first_cut side settings path other) (sym excluded))
+    some_copied found ∙ (ap is_some (is ∙ ap (λ side. first_cut side settings path other) (sym excluded))
     ∙ cut_there settings path other)
 told_cut settings path other excluded (Err e) is = tt
 
