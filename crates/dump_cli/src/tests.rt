@@ -5,8 +5,7 @@ mod runs;
 mod words;
 
 use crate::input::{Unread, read_all};
-use crate::messages::{write_failure, write_fault, write_report, write_unread, write_usage};
-use dump_filter::Report;
+use crate::messages::{write_failure, write_fault, write_unread, write_usage};
 use dump_pipeline::Failure;
 use dump_text::FaultKind;
 use std::alloc::Global;
@@ -79,24 +78,7 @@ fn an_error_is_no_end(rt: HostRuntime) {
 }
 
 #[test]
-fn a_line_has_the_counts_of_a_clean_run(rt: HostRuntime) -> Result<(), Fail> {
-    let mut lines = Vec::new(rt.alloc());
-    let report = Report {
-        revisions_kept: 2,
-        revisions_dropped: 0,
-        nodes_kept: 3,
-        nodes_dropped: 1,
-        texts_checked: 18_446_744_073_709_551_615,
-    };
-    write_report(&mut lines, report)?;
-    let wanted =
-        "revisions kept 2, dropped 0; nodes kept 3, dropped 1; texts checked 18446744073709551615\n";
-    assert!(rt; lines.as_slice() == wanted.as_bytes());
-    Ok(())
-}
-
-#[test]
-fn lines_tell_failures(rt: HostRuntime) {
+fn lines_tell_what_ends_a_run(rt: HostRuntime) {
     let mut lines = Vec::new(rt.alloc());
     for (failure, written) in [
         (Failure::Sink, 100),
@@ -105,19 +87,13 @@ fn lines_tell_failures(rt: HostRuntime) {
     ] {
         write_failure(&mut lines, failure, written);
     }
-    let wanted = "svndumpfilter: failure 20 Sink after 100 bytes\n\
-        svndumpfilter: failure 21 Memory after 0 bytes\n\
-        svndumpfilter: failure 22 Threads after 18446744073709551615 bytes\n";
-    assert!(rt; lines.as_slice() == wanted.as_bytes());
-}
-
-#[test]
-fn lines_tell_what_else_ends_a_run(rt: HostRuntime) {
-    let mut lines = Vec::new(rt.alloc());
     write_fault(&mut lines, FaultKind::Sha1, 2, 151);
     write_unread(&mut lines);
     write_usage(&mut lines);
-    let wanted = "svndumpfilter: fault 11 Sha1 in record 2 at byte 151\n\
+    let wanted = "svndumpfilter: failure 20 Sink after 100 bytes\n\
+        svndumpfilter: failure 21 Memory after 0 bytes\n\
+        svndumpfilter: failure 22 Threads after 18446744073709551615 bytes\n\
+        svndumpfilter: fault 11 Sha1 in record 2 at byte 151\n\
         svndumpfilter: failure 24 Source after 0 bytes\n\
         usage: svndumpfilter include|exclude [OPTIONS] PREFIX...\n";
     assert!(rt; lines.as_slice() == wanted.as_bytes());

@@ -3,7 +3,8 @@ use crate::laws::{each_silent_survey_restricts, each_told_is_found};
 use crate::{DumpFindings, End, Memory, NodeFinding, Survey, survey_dump};
 use dump_rules::{Empty, Options, Side};
 use dump_text::FaultKind;
-use std::alloc::Global;
+use std::alloc::{AllocError, Global};
+use std::process::Abort;
 use std::test::Fail;
 
 mod as_well;
@@ -15,10 +16,31 @@ mod nodes;
 mod prefixes;
 mod text;
 
-fn rules(alloc: Global, side: Side, prefix: &str) -> Result<Options, Fail> {
-    let prefixes = [prefix.as_bytes()];
+// Options with these prefixes, which have blanks between them.
+fn rules(alloc: Global, side: Side, words: &str) -> Result<Options, Fail> {
+    let prefixes = prefixes_in(alloc, words)?;
     let options = Options::new(alloc, side, &prefixes, Empty::Pad, false, false, false)?;
     Ok(options)
+}
+
+fn prefixes_in<'a>(alloc: Global, words: &'a str) -> Result<Vec<&'a [u8]>, AllocError> {
+    let mut prefixes = Vec::new(alloc);
+    for word in words.split(' ') {
+        prefixes.push(word.as_bytes())?;
+    }
+    Ok(prefixes)
+}
+
+// Whether these paths, and no others, stand in a text with a blank behind each.
+fn are_words(paths: &[&[u8]], words: &str) -> bool {
+    let mut rest = words.as_bytes();
+    for path in paths {
+        match rest.strip_prefix(*path) {
+            Some([b' ', behind @ ..]) => rest = behind,
+            _ => return false,
+        }
+    }
+    rest.is_empty()
 }
 
 const NOTHING: DumpFindings = DumpFindings {
@@ -42,125 +64,145 @@ Revision-number: 0\n\n\
 Revision-number: 7\n\n\
 Node-path: trunk//a\nNode-action: change\n\n\n";
 
+// Whether one finding is told, with its place.
+fn is_odd_alone(survey: &Survey<'_, '_>) -> bool {
+    match survey.told.as_slice() {
+        [told] => {
+            told.finding == NodeFinding::OddText
+                && (told.number, told.place, told.revision) == (3, 71, 7)
+                && told.path == b"trunk//a".as_slice()
+                && told.prefix.is_none()
+        }
+        _ => false,
+    }
+}
+
 #[test]
 fn a_finding_is_told_with_its_place(rt: HostRuntime) -> Result<(), Fail> {
     each_told_is_found();
     each_silent_survey_restricts();
     let options = rules(rt.alloc(), Side::Include, "trunk")?;
     let survey = survey_dump(rt.alloc(), ONE_NODE, &options)?;
-    let [told] = survey.told.as_slice() else {
-        return Err("one finding is wanted".into());
-    };
-    assert_eq!(rt; told.finding, NodeFinding::OddText);
-    assert_eq!(rt; (told.number, told.place, told.revision), (3, 71, 7));
-    assert_eq!(rt; told.path, b"trunk//a".as_slice());
-    assert!(rt; told.prefix.is_none());
-    let found = DumpFindings {
-        other_numbers: true,
-        ..NOTHING
-    };
-    assert!(rt; ends_with(&survey, found, End::Whole));
+    assert!(rt; is_odd_alone(&survey) && ends_with(&survey, GAP, End::Whole));
     Ok(())
+}
+
+const GAP: DumpFindings = DumpFindings {
+    other_numbers: true,
+    ..NOTHING
+};
+
+const NONE: DumpFindings = DumpFindings {
+    no_revision: true,
+    ..NOTHING
+};
+
+const FIRST: DumpFindings = DumpFindings {
+    node_in_first: true,
+    ..NOTHING
+};
+
+const OUTSIDE_OF_ANY: DumpFindings = DumpFindings {
+    node_outside: true,
+    ..NOTHING
+};
+
+const EARLY: DumpFindings = DumpFindings {
+    source_before: true,
+    ..NOTHING
+};
+
+const FALLS: DumpFindings = DumpFindings {
+    other_numbers: true,
+    number_falls: true,
+    ..NOTHING
+};
+
+const UNREAD: DumpFindings = DumpFindings {
+    unread_revision: true,
+    ..NOTHING
+};
+
+const BROKEN: End = End::Broken {
+    kind: FaultKind::HeaderCut,
+    place: 31,
+};
+
+// What stands behind the version, what is found in the dump as a whole, and how its records end.
+const ENDS: [(&str, DumpFindings, End); 13] = [
+    ("", NONE, End::Whole),
+    ("Revision-number: 0", NONE, BROKEN),
+    ("Revision-number: 0\n\n", NOTHING, End::Whole),
+    ("Revision-number: 0\n\nNode-path: a\n\n", FIRST, End::Whole),
+    (
+        "Revision-number: 0\n\nUUID: a\n\nNode-path: a\n\n",
+        OUTSIDE_OF_ANY,
+        End::Whole,
+    ),
+    // A part of a history is told where its load goes wrong.
+    (
+        "Revision-number: 5\n\nNode-path: a\n\n",
+        NOTHING,
+        End::Whole,
+    ),
+    (
+        "Revision-number: 5\n\nNode-path: a\n\nRevision-number: 7\n\n",
+        GAP,
+        End::Whole,
+    ),
+    (
+        "Revision-number: 5\n\nNode-path: a\nNode-action: add\nNode-copyfrom-path: b\nNode-copyfrom-rev: 5\n\n",
+        NOTHING,
+        End::Whole,
+    ),
+    (
+        "Revision-number: 5\n\nNode-path: a\nNode-action: add\nNode-copyfrom-path: b\nNode-copyfrom-rev: 4\n\n",
+        EARLY,
+        End::Whole,
+    ),
+    // So is a revision at which the filter stops.
+    (
+        "Revision-number: 5\n\nRevision-number: 5\n\n",
+        FALLS,
+        End::Whole,
+    ),
+    (
+        "Revision-number: 5\n\nRevision-number: 4\n\n",
+        FALLS,
+        End::Whole,
+    ),
+    (
+        "Revision-number: 5\nProp-content-length: 2\n\nx\n",
+        UNREAD,
+        End::Whole,
+    ),
+    (
+        "Revision-number: 5\n\nNode-path: a\nNode-action: add\nProp-content-length: 2\n\nx\n\n\n",
+        NOTHING,
+        End::Whole,
+    ),
+];
+
+// Whether this is found in a dump, and its records end so.
+fn is_found_at_end(
+    alloc: Global,
+    records: &str,
+    found: DumpFindings,
+    end: End,
+) -> Result<bool, Fail> {
+    let dump = format!(in alloc; "SVN-fs-dump-format-version: 2\n\n{records}")?;
+    let options = rules(alloc, Side::Include, "trunk")?;
+    let survey = survey_dump(alloc, dump.as_bytes(), &options)?;
+    Ok(ends_with(&survey, found, end))
 }
 
 #[test]
 fn what_is_found_in_a_dump_is_told_at_its_end(rt: HostRuntime) -> Result<(), Fail> {
-    let broken = End::Broken {
-        kind: FaultKind::HeaderCut,
-        place: 31,
-    };
-    let none = DumpFindings {
-        no_revision: true,
-        ..NOTHING
-    };
-    let first = DumpFindings {
-        node_in_first: true,
-        ..NOTHING
-    };
-    let outside = DumpFindings {
-        node_outside: true,
-        ..NOTHING
-    };
-    let rows = [
-        ("", none, End::Whole),
-        ("Revision-number: 0", none, broken),
-        ("Revision-number: 0\n\n", NOTHING, End::Whole),
-        ("Revision-number: 0\n\nNode-path: a\n\n", first, End::Whole),
-        (
-            "Revision-number: 0\n\nUUID: a\n\nNode-path: a\n\n",
-            outside,
-            End::Whole,
-        ),
-    ];
-    let options = rules(rt.alloc(), Side::Include, "trunk")?;
-    for (records, found, end) in rows {
-        let dump = format!(in rt.alloc(); "SVN-fs-dump-format-version: 2\n\n{records}")?;
-        let survey = survey_dump(rt.alloc(), dump.as_bytes(), &options)?;
-        assert!(rt; ends_with(&survey, found, end), "{records}");
-    }
-    Ok(())
-}
-
-#[test]
-fn a_part_of_a_history_is_told_where_its_load_goes_wrong(rt: HostRuntime) -> Result<(), Fail> {
-    let gap = DumpFindings {
-        other_numbers: true,
-        ..NOTHING
-    };
-    let early = DumpFindings {
-        source_before: true,
-        ..NOTHING
-    };
-    let rows = [
-        ("Node-path: a\n\n", NOTHING),
-        ("Node-path: a\n\nRevision-number: 7\n\n", gap),
-        (
-            "Node-path: a\nNode-action: add\nNode-copyfrom-path: b\nNode-copyfrom-rev: 5\n\n",
-            NOTHING,
-        ),
-        (
-            "Node-path: a\nNode-action: add\nNode-copyfrom-path: b\nNode-copyfrom-rev: 4\n\n",
-            early,
-        ),
-    ];
-    let options = rules(rt.alloc(), Side::Include, "trunk")?;
-    for (records, found) in rows {
-        let dump = format!(in rt.alloc();
-            "SVN-fs-dump-format-version: 2\n\nRevision-number: 5\n\n{records}"
-        )?;
-        let survey = survey_dump(rt.alloc(), dump.as_bytes(), &options)?;
-        assert!(rt; ends_with(&survey, found, End::Whole), "{records}");
-    }
-    Ok(())
-}
-
-#[test]
-fn a_revision_at_which_the_filter_stops_is_told(rt: HostRuntime) -> Result<(), Fail> {
-    let falls = DumpFindings {
-        other_numbers: true,
-        number_falls: true,
-        ..NOTHING
-    };
-    let unread = DumpFindings {
-        unread_revision: true,
-        ..NOTHING
-    };
-    let rows = [
-        ("\nRevision-number: 5\n\n", falls),
-        ("\nRevision-number: 4\n\n", falls),
-        ("Prop-content-length: 2\n\nx\n", unread),
-        (
-            "\nNode-path: a\nNode-action: add\nProp-content-length: 2\n\nx\n\n\n",
-            NOTHING,
-        ),
-    ];
-    let options = rules(rt.alloc(), Side::Include, "trunk")?;
-    for (records, found) in rows {
-        let dump = format!(in rt.alloc();
-            "SVN-fs-dump-format-version: 2\n\nRevision-number: 5\n{records}"
-        )?;
-        let survey = survey_dump(rt.alloc(), dump.as_bytes(), &options)?;
-        assert!(rt; ends_with(&survey, found, End::Whole), "{records}");
+    for (records, found, end) in &ENDS {
+        assert!(rt;
+            is_found_at_end(rt.alloc(), records, *found, *end)?,
+            "{records}"
+        );
     }
     Ok(())
 }
@@ -177,37 +219,46 @@ const NEITHER: &str = "Node-path: t/a\nNode-action: change\n\n";
 const OUTSIDE: &str =
     "Node-path: b\nNode-action: add\nNode-copyfrom-rev: 1\nNode-copyfrom-path: t\n\n";
 
+// What is asked, what stands behind the dropped revision, and whether that one's number is left.
+const LEFT: [(Empty, bool, &str, bool); 6] = [
+    (Empty::Pad, false, COPY, false),
+    (Empty::DropEmptied, true, COPY, false),
+    (Empty::DropEmptied, false, COPY, true),
+    (Empty::DropEmptied, false, MERGE, true),
+    (Empty::DropEmptied, false, NEITHER, false),
+    (Empty::DropEmptied, false, OUTSIDE, false),
+];
+
+// Revision 2 is dropped, and this node stands in revision 3.
+fn behind_a_dropped_one(alloc: Global, node: &str) -> Result<String, AllocError> {
+    format!(in alloc;
+        "SVN-fs-dump-format-version: 2\n\nRevision-number: 0\n\nRevision-number: 1\n\n{NEITHER}\n\
+Revision-number: 2\n\nNode-path: o\nNode-action: add\n\n\nRevision-number: 3\n\n{node}"
+    )
+}
+
+// Whether numbers are left in it.
+fn leaves_numbers(alloc: Global, empty: Empty, renumber: bool, node: &str) -> Result<bool, Fail> {
+    let dump = behind_a_dropped_one(alloc, node)?;
+    let prefixes = [b"t".as_slice()];
+    let options = Options::new(
+        alloc,
+        Side::Include,
+        &prefixes,
+        empty,
+        renumber,
+        false,
+        false,
+    )?;
+    let survey = survey_dump(alloc, dump.as_bytes(), &options)?;
+    Ok(survey.end.dump.numbers_left)
+}
+
 #[test]
 fn a_dropped_revision_leaves_the_others_their_numbers(rt: HostRuntime) -> Result<(), Fail> {
-    let rows = [
-        (Empty::Pad, false, COPY, false),
-        (Empty::DropEmptied, true, COPY, false),
-        (Empty::DropEmptied, false, COPY, true),
-        (Empty::DropEmptied, false, MERGE, true),
-        (Empty::DropEmptied, false, NEITHER, false),
-        (Empty::DropEmptied, false, OUTSIDE, false),
-    ];
-    for (empty, renumber, node, left) in rows {
-        let prefixes = [b"t".as_slice()];
-        let options = Options::new(
-            rt.alloc(),
-            Side::Include,
-            &prefixes,
-            empty,
-            renumber,
-            false,
-            false,
-        )?;
-        let dump = format!(in rt.alloc();
-            "SVN-fs-dump-format-version: 2\n\nRevision-number: 0\n\nRevision-number: 1\n\n{NEITHER}\n\
-Revision-number: 2\n\nNode-path: o\nNode-action: add\n\n\nRevision-number: 3\n\n{node}"
-        )?;
-        let survey = survey_dump(rt.alloc(), dump.as_bytes(), &options)?;
-        assert_eq!(rt;
-            survey.end.dump.numbers_left,
-            left,
-            "{empty:?} {renumber} {node}"
-        );
+    for (empty, renumber, node, left) in &LEFT {
+        let found = leaves_numbers(rt.alloc(), *empty, *renumber, node)?;
+        assert!(rt; found == *left, "{node}");
     }
     Ok(())
 }
@@ -217,29 +268,24 @@ Revision-number: 0\n\n\
 Revision-number: 1\n\n\
 Node-path: b\nNode-kind: dir\nNode-action: add\nNode-copyfrom-rev: 0\nNode-copyfrom-path: t\n\n\n";
 
+// Options with one prefix, or no memory.
+fn one_prefix(alloc: Global, side: Side, prefix: &[u8]) -> Result<Options, Memory> {
+    Options::new(alloc, side, &[prefix], Empty::Pad, false, false, false)
+}
+
+fn tells_one_of_each(survey: &Survey<'_, '_>) -> bool {
+    survey.told.len() == 1 && survey.prefixes.len() == 1 && ends_with(survey, NOTHING, End::Whole)
+}
+
 // Run with each allocation refused in turn: all is told, or there is no memory.
 #[test]
-fn a_survey_or_no_memory(rt: HostRuntime) -> Result<(), Fail> {
-    let prefixes = [b"t/f".as_slice()];
-    let made = Options::new(
-        rt.alloc(),
-        Side::Exclude,
-        &prefixes,
-        Empty::Pad,
-        false,
-        false,
-        false,
-    );
-    let Ok(options) = made else {
-        return Ok(());
+fn a_survey_or_no_memory(rt: HostRuntime) {
+    let Ok(options) = one_prefix(rt.alloc(), Side::Exclude, b"t/f") else {
+        return;
     };
-    match survey_dump(rt.alloc(), COPIED, &options) {
-        Ok(survey) => {
-            assert_eq!(rt; survey.told.len(), 1);
-            assert_eq!(rt; survey.prefixes.len(), 1);
-            assert!(rt; ends_with(&survey, NOTHING, End::Whole));
-        }
-        Err(refused) => assert_eq!(rt; refused, Memory),
-    }
-    Ok(())
+    let answered = match survey_dump(rt.alloc(), COPIED, &options) {
+        Ok(survey) => tells_one_of_each(&survey),
+        Err(refused) => refused == Memory,
+    };
+    assert!(rt; answered);
 }

@@ -104,15 +104,33 @@ fn write_through<W: Write>(piece: &Piece<'_>, writer: &mut W, buffer: Vec<u8>) -
     }
 }
 
+// Whether these are the bytes of the chunks.
+fn are_chunks(chunks: &[Chunk<'_>], wanted: &[&[u8]]) -> bool {
+    for (chunk, bytes) in chunks.iter().zip(wanted) {
+        if chunk.bytes() != *bytes {
+            return false;
+        }
+    }
+    chunks.len() == wanted.len()
+}
+
 #[test]
 fn a_piece_is_its_chunks_in_order(rt: HostRuntime) -> Result<(), Fail> {
     let piece = five(rt.alloc())?;
-    let wanted = [b"ab".as_slice(), b"", b"cde"];
-    assert_eq!(rt; piece.chunks().len(), wanted.len());
-    for (chunk, bytes) in piece.chunks().iter().zip(wanted) {
-        assert_eq!(rt; chunk.bytes(), bytes);
-    }
+    assert!(rt; are_chunks(piece.chunks(), &[b"ab", b"", b"cde"]));
     Ok(())
+}
+
+// Whether a sink gives this answer to the piece, takes these bytes, and counts a failure where it is one.
+fn is_written_up_to(
+    sink: &mut MemorySink,
+    piece: &Piece<'_>,
+    answer: Result<(), SinkFault>,
+    taken: &[u8],
+) -> bool {
+    write_piece(sink, piece) == answer
+        && sink.taken() == taken
+        && sink.failures() == u64::from(answer.is_err())
 }
 
 #[test]
@@ -127,30 +145,28 @@ fn pieces_are_written_up_to_the_trouble(rt: HostRuntime) -> Result<(), Fail> {
         (8, Trouble::Once(5), Ok(()), b"abcde"),
         (8, Trouble::Once(0), cut(0), b""),
     ];
+    let mut right = true;
     for (most, trouble, answer, taken) in rows {
         let mut sink = MemorySink::new(rt.alloc(), most, trouble);
-        assert_eq!(rt; write_piece(&mut sink, &piece), answer, "{trouble:?}");
-        assert_eq!(rt; sink.taken(), taken, "{trouble:?}");
-        assert_eq!(rt; sink.failures(), u64::from(answer.is_err()), "{trouble:?}");
+        right = right && is_written_up_to(&mut sink, &piece, answer, taken);
     }
+    assert!(rt; right);
     Ok(())
 }
 
-/// Hands the sink these bytes in turn, and compares each answer.
-fn assert_accepts<S: Sink>(
-    rt: &impl Abort,
-    sink: &mut S,
-    calls: &[(&[u8], Result<usize, SinkDown>)],
-) {
+/// Hands the sink these bytes in turn; whether each answer is right.
+fn accepts<S: Sink>(sink: &mut S, calls: &[(&[u8], Result<usize, SinkDown>)]) -> bool {
     for (bytes, answer) in calls {
-        assert!(rt; sink.accept(bytes) == *answer, "{bytes:?}");
+        if sink.accept(bytes) != *answer {
+            return false;
+        }
     }
+    true
 }
 
-/// What a sink took, and how often it failed.
-fn assert_holds(rt: &impl Abort, sink: &MemorySink, taken: &[u8], failures: u64) {
-    assert!(rt; sink.taken() == taken);
-    assert!(rt; sink.failures() == failures);
+/// Whether a sink took these bytes, and failed so often.
+fn holds(sink: &MemorySink, taken: &[u8], failures: u64) -> bool {
+    sink.taken() == taken && sink.failures() == failures
 }
 
 #[test]
@@ -162,48 +178,72 @@ fn trouble_comes_once(rt: HostRuntime) {
         (b"de", Err(SinkDown)),
         (b"de", Ok(2)),
     ];
-    assert_accepts(&rt, &mut sink, &calls);
-    assert_holds(&rt, &sink, b"abcde", 1);
+    assert!(rt; accepts(&mut sink, &calls) && holds(&sink, b"abcde", 1));
+}
+
+// Whether a sink fails at each further call.
+fn fails_for_good(sink: &mut MemorySink) -> bool {
+    for failures in 1..4 {
+        if !accepts(sink, &[(b"de", Err(SinkDown))]) || !holds(sink, b"abc", failures) {
+            return false;
+        }
+    }
+    true
 }
 
 #[test]
 fn trouble_comes_for_good(rt: HostRuntime) {
     let mut sink = MemorySink::new(rt.alloc(), 8, Trouble::From(3));
-    assert_accepts(&rt, &mut sink, &[(b"abcde", Ok(3))]);
-    for failures in 1..4 {
-        assert_accepts(&rt, &mut sink, &[(b"de", Err(SinkDown))]);
-        assert_holds(&rt, &sink, b"abc", failures);
-    }
+    assert!(rt; accepts(&mut sink, &[(b"abcde", Ok(3))]) && fails_for_good(&mut sink));
 }
 
-/// How many bytes an `Out` wrote, and how often it failed.
-fn assert_counts<W: Write>(rt: &impl Abort, out: &Out<W>, written: u64, failures: u64) {
-    assert!(rt; out.written() == written);
-    assert!(rt; out.failures() == failures);
+/// Whether an `Out` wrote so many bytes, and failed so often.
+fn counts<W: Write>(out: &Out<W>, written: u64, failures: u64) -> bool {
+    out.written() == written && out.failures() == failures
+}
+
+// Whether an `Out` takes a piece and two bytes more, and counts them.
+fn takes_seven<W: Write>(out: &mut Out<W>, piece: &Piece<'_>) -> bool {
+    let taken = write_piece(out, piece) == Ok(())
+        && accepts(out, &[(b"", Ok(0)), (b"fg", Ok(2))])
+        && out.flush() == Ok(());
+    taken && counts(out, 7, 0)
 }
 
 #[test]
 fn a_writer_is_written_counted_and_given_back(rt: HostRuntime) -> Result<(), Fail> {
     let piece = five(rt.alloc())?;
     let mut out = Out::new(Vec::from_slice(rt.alloc(), b"> ")?);
-    assert!(rt; write_piece(&mut out, &piece) == Ok(()));
-    assert_accepts(&rt, &mut out, &[(b"", Ok(0)), (b"fg", Ok(2))]);
-    assert!(rt; out.flush() == Ok(()));
-    assert_counts(&rt, &out, 7, 0);
-    assert!(rt; out.into_inner().as_slice() == b"> abcdefg".as_slice());
+    let taken = takes_seven(&mut out, &piece);
+    assert!(rt; taken && out.into_inner().as_slice() == b"> abcdefg".as_slice());
     Ok(())
+}
+
+// Whether a writer is lent with so much room to wait in, and has the piece then.
+fn is_lent(alloc: Global, piece: &Piece<'_>, room: usize) -> Result<bool, Fail> {
+    let mut text = Vec::from_slice(alloc, b"> ")?;
+    let buffer = Vec::with_capacity(alloc, room)?;
+    let answer = write_through(piece, &mut text, buffer);
+    Ok(answer == Ok(()) && text.as_slice() == b"> abcde".as_slice())
 }
 
 #[test]
 fn a_lent_writer_is_written_and_counted(rt: HostRuntime) -> Result<(), Fail> {
     let piece = five(rt.alloc())?;
     for room in [0, 1, 4, 5, 100] {
-        let mut text = Vec::from_slice(rt.alloc(), b"> ")?;
-        let buffer = Vec::with_capacity(rt.alloc(), room)?;
-        assert_eq!(rt; write_through(&piece, &mut text, buffer), Ok(()));
-        assert_eq!(rt; text.as_slice(), b"> abcde".as_slice());
+        assert!(rt; is_lent(rt.alloc(), &piece, room)?, "{room}");
     }
     Ok(())
+}
+
+// Hands on these bytes in turn; whether all are taken, and so many have reached the writer behind each.
+fn hands_on<W: Write>(sink: &mut OutMut<'_, W>, calls: &[(&[u8], u64)]) -> bool {
+    for (bytes, written) in calls {
+        if sink.accept(bytes) != Ok(bytes.len()) || sink.written() != *written {
+            return false;
+        }
+    }
+    sink.flush() == Ok(()) && (sink.written(), sink.failures()) == (13, 0)
 }
 
 #[test]
@@ -211,7 +251,7 @@ fn small_texts_wait_for_the_writer(rt: HostRuntime) -> Result<(), Fail> {
     let mut text = Vec::from_slice(rt.alloc(), b"> ")?;
     let buffer = Vec::with_capacity(rt.alloc(), 4)?;
     let mut sink = OutMut::new(&mut text, buffer);
-    let rows = [
+    let calls = [
         (b"ab".as_slice(), 0),
         (b"", 0),
         (b"cd", 0),
@@ -219,39 +259,46 @@ fn small_texts_wait_for_the_writer(rt: HostRuntime) -> Result<(), Fail> {
         (b"hijkl", 12),
         (b"m", 12),
     ];
-    for (bytes, written) in rows {
-        assert_eq!(rt; sink.accept(bytes), Ok(bytes.len()));
-        assert_eq!(rt; sink.written(), written);
-    }
-    assert_eq!(rt; sink.flush(), Ok(()));
-    assert_eq!(rt; (sink.written(), sink.failures()), (13, 0));
-    assert_eq!(rt; sink.into_inner().as_slice(), b"> abcdefghijklm".as_slice());
+    let right = hands_on(&mut sink, &calls);
+    assert!(rt; right && sink.into_inner().as_slice() == b"> abcdefghijklm".as_slice());
     Ok(())
+}
+
+// A writer that breaks behind four bytes.
+fn breaking(alloc: Global, ending: Ending) -> Broken {
+    Broken {
+        held: Vec::new(alloc),
+        room: 4,
+        ending,
+        flushes: 0,
+    }
+}
+
+// Whether a writer without room fails to take a byte and to flush, and counts that.
+fn is_down(out: &mut Out<Broken>) -> bool {
+    let down = accepts(out, &[(b"e", Err(SinkDown)), (b"", Ok(0))]) && out.flush() == Err(SinkDown);
+    down && counts(out, 0, 2)
+}
+
+// Whether a writer that breaks has the first bytes, and fails then.
+fn is_broken_off(alloc: Global, piece: &Piece<'_>, mut writer: Broken) -> bool {
+    let answer = write_through(piece, &mut writer, Vec::new(alloc));
+    let first = answer == Err(4) && writer.held.as_slice() == b"abcd".as_slice();
+    let mut out = Out::new(writer);
+    let down = is_down(&mut out);
+    first && down && out.into_inner().flushes == 1
 }
 
 #[test]
 fn a_writer_that_breaks_is_a_failure(rt: HostRuntime) -> Result<(), Fail> {
     let piece = five(rt.alloc())?;
+    let mut right = true;
     for ending in [Ending::Error, Ending::Nothing] {
-        let mut writer = Broken {
-            held: Vec::new(rt.alloc()),
-            room: 4,
-            ending,
-            flushes: 0,
-        };
-        assert_eq!(rt;
-            write_through(&piece, &mut writer, Vec::new(rt.alloc())),
-            Err(4)
-        );
-        assert_eq!(rt; writer.held.as_slice(), b"abcd".as_slice());
-
-        let mut out = Out::new(writer);
-        assert_eq!(rt; out.accept(b"e"), Err(SinkDown));
-        assert_eq!(rt; out.accept(b""), Ok(0));
-        assert_eq!(rt; out.flush(), Err(SinkDown));
-        assert_eq!(rt; (out.written(), out.failures()), (0, 2));
-        assert_eq!(rt; out.into_inner().flushes, 1);
+        let writer = breaking(rt.alloc(), ending);
+        let broken_off = is_broken_off(rt.alloc(), &piece, writer);
+        right = right && broken_off;
     }
+    assert!(rt; right);
     Ok(())
 }
 
@@ -259,44 +306,57 @@ fn a_writer_that_breaks_is_a_failure(rt: HostRuntime) -> Result<(), Fail> {
 fn a_worn_out_sink_takes_nothing(rt: HostRuntime) -> Result<(), Fail> {
     let piece = five(rt.alloc())?;
     let mut sink = WornOut { calls: 0 };
-    assert!(rt; write_piece(&mut sink, &piece) == Err(SinkFault { written: 0 }));
-    assert!(rt; sink.failures() == u64::MAX && sink.calls == 1);
+    let answer = write_piece(&mut sink, &piece);
+    let failed = answer == Err(SinkFault { written: 0 });
+    assert!(rt; failed && sink.failures() == u64::MAX && sink.calls == 1);
     Ok(())
+}
+
+// A piece of two chunks without bytes.
+fn blank(alloc: Global) -> Result<Piece<'static>, Fail> {
+    let mut piece = Piece::new(alloc);
+    piece.push(Chunk::Lent(b""))?;
+    piece.push(Chunk::Own(Vec::new(alloc)))?;
+    Ok(piece)
 }
 
 #[test]
 fn no_call_is_made_for_no_bytes(rt: HostRuntime) -> Result<(), Fail> {
-    let mut blank = Piece::new(rt.alloc());
-    blank.push(Chunk::Lent(b""))?;
-    blank.push(Chunk::Own(Vec::new(rt.alloc())))?;
+    let blank = blank(rt.alloc())?;
     let mut sink = WornOut { calls: 0 };
-    assert!(rt; write_piece(&mut sink, &blank) == Ok(()));
-    assert!(rt; sink.calls == 0);
+    let answer = write_piece(&mut sink, &blank);
+    assert!(rt; answer == Ok(()) && sink.calls == 0);
     Ok(())
+}
+
+// Whether two chunks take no memory, and a third is there or refused.
+fn grows<'a>(piece: &mut Piece<'a>) -> bool {
+    let two = piece.push(Chunk::Lent(b"a")) == Ok(()) && piece.push(Chunk::Lent(b"b")) == Ok(());
+    let count = if piece.push(Chunk::Lent(b"c")) == Ok(()) {
+        3
+    } else {
+        2
+    };
+    two && piece.chunks().len() == count
 }
 
 // Run with each allocation refused in turn: what fails leaves the chunks.
 #[test]
 fn a_refused_growth_leaves_the_piece(rt: HostRuntime) {
     let mut piece = Piece::new(rt.alloc());
-    assert!(rt; piece.push(Chunk::Lent(b"a")) == Ok(()), "takes no memory");
-    assert!(rt;
-        piece.push(Chunk::Lent(b"b")) == Ok(()),
-        "nor does the second"
-    );
-    let pushed = piece.push(Chunk::Lent(b"c"));
-    let count = if pushed == Ok(()) { 3 } else { 2 };
-    assert!(rt; piece.chunks().len() == count);
+    assert!(rt; grows(&mut piece));
+}
+
+// Whether a sink that breaks behind two bytes takes them, at once or behind a growth that was refused.
+fn takes_two(sink: &mut MemorySink) -> bool {
+    let refused = sink.accept(b"abc").is_err();
+    let left = !refused || (holds(sink, b"", 1) && accepts(sink, &[(b"abc", Ok(2))]));
+    left && sink.taken() == b"ab".as_slice() && accepts(sink, &[(b"c", Err(SinkDown))])
 }
 
 // Run with each allocation refused in turn: what fails leaves the bytes, and the next call goes on.
 #[test]
 fn a_refused_growth_leaves_the_sink(rt: HostRuntime) {
     let mut sink = MemorySink::new(rt.alloc(), 8, Trouble::From(2));
-    if sink.accept(b"abc").is_err() {
-        assert_holds(&rt, &sink, b"", 1);
-        assert_accepts(&rt, &mut sink, &[(b"abc", Ok(2))]);
-    }
-    assert!(rt; sink.taken() == b"ab".as_slice());
-    assert_accepts(&rt, &mut sink, &[(b"c", Err(SinkDown))]);
+    assert!(rt; takes_two(&mut sink));
 }

@@ -100,53 +100,6 @@ fn a_dump_is_filtered(rt: HostRuntime) -> Result<(), Fail> {
     Ok(())
 }
 
-#[test]
-fn a_quiet_run_says_nothing(rt: HostRuntime) -> Result<(), Fail> {
-    let words = ["svndumpfilter", "include", "a", "--quiet"];
-    assert!(rt; is_filtered(&rt, rt.alloc(), &words, b"")?);
-    Ok(())
-}
-
-// Whether a run writes nothing, has this status and tells this line.
-fn is_silent<'a, R: Threads + Wait + Sync>(
-    rt: &R,
-    alloc: Global,
-    words: &'a [&'a str],
-    dump: &[u8],
-    wanted: (u8, &[u8]),
-) -> bool {
-    let mut output = Vec::new(alloc);
-    is_run(rt, alloc, words, dump, &mut output, wanted) && output.is_empty()
-}
-
-const USAGE: &[u8] = b"usage: svndumpfilter include|exclude [OPTIONS] PREFIX...\n";
-
-// Whether words with spaces between them are no order.
-fn is_usage<R: Threads + Wait + Sync>(rt: &R, alloc: Global, line: &str) -> Result<bool, Fail> {
-    let words: Vec<&str> = line.split(' ').collect(alloc)?;
-    Ok(is_silent(rt, alloc, words.as_slice(), KEPT, (2, USAGE)))
-}
-
-#[test]
-fn words_that_are_no_order_write_nothing(rt: HostRuntime) -> Result<(), Fail> {
-    assert!(rt; is_silent(&rt, rt.alloc(), &[], KEPT, (2, USAGE)));
-    for line in [
-        "svndumpfilter",
-        "svndumpfilter include",
-        "svndumpfilter include --window 0 trunk",
-        "svndumpfilter include --drop-empty-revs --drop-all-empty-revs /",
-    ] {
-        assert!(rt; is_usage(&rt, rt.alloc(), line)?, "of {line}");
-    }
-    Ok(())
-}
-
-#[test]
-fn a_fault_is_told_with_its_record_and_place(rt: HostRuntime) {
-    let line = b"svndumpfilter: fault 4 Version in record 0 at byte 0\n".as_slice();
-    assert!(rt; is_silent(&rt, rt.alloc(), &ORDER, LEFT_OUT, (1, line)));
-}
-
 // The line of a sink that failed behind so many bytes.
 fn sink_line(alloc: Global, written: usize) -> Result<Vec<u8>, Fail> {
     let mut line = Vec::new(alloc);

@@ -71,10 +71,11 @@ fn is_read(alloc: Global, line: &str, prefixes: &str, wanted: Wanted) -> Result<
 }
 
 #[test]
-fn sides_and_prefixes_are_read(rt: HostRuntime) -> Result<(), Fail> {
-    assert!(rt; is_read(rt.alloc(), "svndumpfilter include a", "a", PLAIN)?);
-    let mut exclude = PLAIN;
-    exclude.side = Side::Exclude;
+fn any_text_is_a_prefix(rt: HostRuntime) -> Result<(), Fail> {
+    let exclude = Wanted {
+        side: Side::Exclude,
+        ..PLAIN
+    };
     let words = [
         "",
         "exclude",
@@ -89,92 +90,111 @@ fn sides_and_prefixes_are_read(rt: HostRuntime) -> Result<(), Fail> {
     Ok(())
 }
 
+const FLAGS: Wanted = Wanted {
+    empty: Empty::DropEmptied,
+    renumber: true,
+    preserve: true,
+    skip_missing: true,
+    ..PLAIN
+};
+
+// Words, and the prefixes and the rest of what they ask for.
+const READ: [(&str, &str, Wanted); 13] = [
+    ("svndumpfilter include a", "a", PLAIN),
+    (
+        "p include --drop-empty-revs a",
+        "a",
+        Wanted {
+            empty: Empty::DropEmptied,
+            ..PLAIN
+        },
+    ),
+    (
+        "p include --drop-all-empty-revs a",
+        "a",
+        Wanted {
+            empty: Empty::DropAll,
+            ..PLAIN
+        },
+    ),
+    (
+        "p include --renumber-revs a",
+        "a",
+        Wanted {
+            renumber: true,
+            ..PLAIN
+        },
+    ),
+    (
+        "p include --preserve-revprops a",
+        "a",
+        Wanted {
+            preserve: true,
+            ..PLAIN
+        },
+    ),
+    (
+        "p include --skip-missing-merge-sources a",
+        "a",
+        Wanted {
+            skip_missing: true,
+            ..PLAIN
+        },
+    ),
+    (
+        "p include --quiet a",
+        "a",
+        Wanted {
+            quiet: true,
+            ..PLAIN
+        },
+    ),
+    (
+        "p include --preserve-revprops --skip-missing-merge-sources --renumber-revs --drop-empty-revs a b",
+        "a b",
+        FLAGS,
+    ),
+    (
+        "p include --drop-empty-revs --renumber-revs a --skip-missing-merge-sources b --preserve-revprops",
+        "a b",
+        FLAGS,
+    ),
+    (
+        "p include --workers 64 --window 4096 a",
+        "a",
+        Wanted {
+            workers: 64,
+            window: 4096,
+            ..PLAIN
+        },
+    ),
+    (
+        "p include a --window=1 --workers=1",
+        "a",
+        Wanted {
+            workers: 1,
+            window: 1,
+            ..PLAIN
+        },
+    ),
+    (
+        "svndumpfilter exclude --workers 2 --quiet a b",
+        "a b",
+        Wanted {
+            side: Side::Exclude,
+            workers: 2,
+            quiet: true,
+            ..PLAIN
+        },
+    ),
+    ("p include -- --quiet a", "--quiet a", PLAIN),
+];
+
 #[test]
-fn drop_flags_are_read(rt: HostRuntime) -> Result<(), Fail> {
-    for (line, empty) in [
-        ("p include --drop-empty-revs a", Empty::DropEmptied),
-        ("p include --drop-all-empty-revs a", Empty::DropAll),
-    ] {
-        let mut wanted = PLAIN;
-        wanted.empty = empty;
-        assert!(rt; is_read(rt.alloc(), line, "a", wanted)?, "in {line}");
+fn words_are_read(rt: HostRuntime) -> Result<(), Fail> {
+    for (line, prefixes, wanted) in &READ {
+        assert!(rt; is_read(rt.alloc(), line, prefixes, *wanted)?, "{line}");
     }
-    Ok(())
-}
-
-#[test]
-fn switches_of_revisions_are_read(rt: HostRuntime) -> Result<(), Fail> {
-    let mut wanted = PLAIN;
-    wanted.renumber = true;
-    assert!(rt; is_read(rt.alloc(), "p include --renumber-revs a", "a", wanted)?);
-    wanted = PLAIN;
-    wanted.preserve = true;
-    assert!(rt; is_read(rt.alloc(), "p include --preserve-revprops a", "a", wanted)?);
-    Ok(())
-}
-
-#[test]
-fn other_switches_are_read(rt: HostRuntime) -> Result<(), Fail> {
-    let mut wanted = PLAIN;
-    wanted.skip_missing = true;
-    let line = "p include --skip-missing-merge-sources a";
-    assert!(rt; is_read(rt.alloc(), line, "a", wanted)?);
-    wanted = PLAIN;
-    wanted.quiet = true;
-    assert!(rt; is_read(rt.alloc(), "p include --quiet a", "a", wanted)?);
-    Ok(())
-}
-
-#[test]
-fn flags_are_read_in_any_order(rt: HostRuntime) -> Result<(), Fail> {
-    let mut wanted = PLAIN;
-    wanted.empty = Empty::DropEmptied;
-    wanted.renumber = true;
-    wanted.preserve = true;
-    wanted.skip_missing = true;
-    let before =
-        "p include --preserve-revprops --skip-missing-merge-sources --renumber-revs --drop-empty-revs a b";
-    assert!(rt; is_read(rt.alloc(), before, "a b", wanted)?);
-    let around =
-        "p include --drop-empty-revs --renumber-revs a --skip-missing-merge-sources b --preserve-revprops";
-    assert!(rt; is_read(rt.alloc(), around, "a b", wanted)?);
-    Ok(())
-}
-
-#[test]
-fn a_plan_is_read(rt: HostRuntime) -> Result<(), Fail> {
-    let mut wanted = PLAIN;
-    wanted.workers = 64;
-    wanted.window = 4096;
-    let line = "p include --workers 64 --window 4096 a";
-    assert!(rt; is_read(rt.alloc(), line, "a", wanted)?);
-    wanted.workers = 1;
-    wanted.window = 1;
-    assert!(rt;
-        is_read(
-            rt.alloc(),
-            "p include a --window=1 --workers=1",
-            "a",
-            wanted
-        )?
-    );
-    Ok(())
-}
-
-#[test]
-fn a_plan_is_read_beside_a_switch(rt: HostRuntime) -> Result<(), Fail> {
-    let mut quiet = PLAIN;
-    quiet.side = Side::Exclude;
-    quiet.workers = 2;
-    quiet.quiet = true;
-    let line = "svndumpfilter exclude --workers 2 --quiet a b";
-    assert!(rt; is_read(rt.alloc(), line, "a b", quiet)?);
-    Ok(())
-}
-
-#[test]
-fn behind_two_minus_signs_stand_prefixes(rt: HostRuntime) -> Result<(), Fail> {
-    assert!(rt; is_read(rt.alloc(), "p include -- --quiet a", "--quiet a", PLAIN)?);
     Ok(())
 }
 
@@ -186,88 +206,61 @@ fn is_refused<'a>(alloc: Global, words: &'a [&'a str], usage: Usage) -> bool {
 }
 
 // The same of words with spaces between them.
-fn is_line_refused(alloc: Global, line: &str) -> Result<bool, Fail> {
+fn is_line_refused(alloc: Global, line: &str, usage: Usage) -> Result<bool, Fail> {
     let words: Vec<&str> = line.split(' ').collect(alloc)?;
-    Ok(is_refused(alloc, words.as_slice(), Usage::Words))
+    Ok(is_refused(alloc, words.as_slice(), usage))
 }
 
-#[test]
-fn no_words_are_refused(rt: HostRuntime) {
-    assert!(rt; is_refused(rt.alloc(), &[], Usage::Words));
-}
+const REFUSED: [(&str, Usage); 26] = [
+    ("svndumpfilter", Usage::Words),
+    ("svndumpfilter include", Usage::Words),
+    ("svndumpfilter filter a", Usage::Words),
+    ("svndumpfilter Include a", Usage::Words),
+    ("svndumpfilter --drop-empty-revs include a", Usage::Words),
+    ("svndumpfilter include --preserve-revprops", Usage::Words),
+    ("svndumpfilter include -x", Usage::Words),
+    ("svndumpfilter include a -x", Usage::Words),
+    ("p include --preserve a", Usage::Words),
+    ("p include --preserve-revprops= a", Usage::Words),
+    ("p include --renumber a", Usage::Words),
+    ("p include --help a", Usage::Words),
+    ("p help include", Usage::Words),
+    (
+        "p include --preserve-revprops --preserve-revprops a",
+        Usage::Words,
+    ),
+    ("p include --renumber-revs --renumber-revs a", Usage::Words),
+    ("p include --workers 2 --workers 3 a", Usage::Words),
+    (
+        "p include --drop-empty-revs --drop-empty-revs a",
+        Usage::Words,
+    ),
+    (
+        "p include --drop-all-empty-revs --drop-all-empty-revs a",
+        Usage::Words,
+    ),
+    ("p include --workers 65 a", Usage::Words),
+    ("p include --workers 0 a", Usage::Words),
+    ("p include --window 4097 a", Usage::Words),
+    ("p include --window 0 trunk", Usage::Words),
+    ("p include --window many a", Usage::Words),
+    ("p include a --window", Usage::Words),
+    (
+        "p exclude --drop-all-empty-revs --drop-empty-revs a",
+        Usage::BothDrops,
+    ),
+    (
+        "p exclude --drop-all-empty-revs --drop-empty-revs",
+        Usage::Words,
+    ),
+];
 
 #[test]
 fn other_words_are_refused(rt: HostRuntime) -> Result<(), Fail> {
-    for line in [
-        "svndumpfilter",
-        "svndumpfilter include",
-        "svndumpfilter filter a",
-        "svndumpfilter Include a",
-        "svndumpfilter --drop-empty-revs include a",
-        "svndumpfilter include --preserve-revprops",
-        "svndumpfilter include -x",
-        "svndumpfilter include a -x",
-    ] {
-        assert!(rt; is_line_refused(rt.alloc(), line)?, "{line}");
+    assert!(rt; is_refused(rt.alloc(), &[], Usage::Words));
+    for (line, usage) in &REFUSED {
+        assert!(rt; is_line_refused(rt.alloc(), line, *usage)?, "{line}");
     }
-    Ok(())
-}
-
-#[test]
-fn other_flags_are_refused(rt: HostRuntime) -> Result<(), Fail> {
-    for line in [
-        "p include --preserve a",
-        "p include --preserve-revprops= a",
-        "p include --renumber a",
-        "p include --help a",
-        "p help include",
-    ] {
-        assert!(rt; is_line_refused(rt.alloc(), line)?, "{line}");
-    }
-    Ok(())
-}
-
-#[test]
-fn a_flag_twice_is_refused(rt: HostRuntime) -> Result<(), Fail> {
-    for line in [
-        "p include --preserve-revprops --preserve-revprops a",
-        "p include --renumber-revs --renumber-revs a",
-        "p include --workers 2 --workers 3 a",
-        "p include --drop-empty-revs --drop-empty-revs a",
-        "p include --drop-all-empty-revs --drop-all-empty-revs a",
-    ] {
-        assert!(rt; is_line_refused(rt.alloc(), line)?, "{line}");
-    }
-    Ok(())
-}
-
-#[test]
-fn plans_out_of_range_are_refused(rt: HostRuntime) -> Result<(), Fail> {
-    for line in [
-        "p include --workers 65 a",
-        "p include --workers 0 a",
-        "p include --window 4097 a",
-        "p include --window 0 trunk",
-        "p include --window many a",
-        "p include a --window",
-    ] {
-        assert!(rt; is_line_refused(rt.alloc(), line)?, "{line}");
-    }
-    Ok(())
-}
-
-#[test]
-fn both_drop_flags_are_refused_as_such(rt: HostRuntime) -> Result<(), Fail> {
-    let words = [
-        "p",
-        "exclude",
-        "--drop-all-empty-revs",
-        "--drop-empty-revs",
-        "a",
-    ];
-    assert!(rt; is_refused(rt.alloc(), &words, Usage::BothDrops));
-    let line = "p exclude --drop-all-empty-revs --drop-empty-revs";
-    assert!(rt; is_line_refused(rt.alloc(), line)?);
     Ok(())
 }
 

@@ -1,33 +1,32 @@
 //! The folders to make before the load, on worked prefixes.
+use super::{are_words, rules};
 use crate::folders_to_make;
-use dump_rules::{Empty, Options, Side};
+use dump_rules::Side;
+use std::alloc::Global;
 use std::test::Fail;
 
+// Whether these prefixes want these folders, with a blank behind each.
+fn is_made_first(alloc: Global, side: Side, words: &str, wanted: &str) -> Result<bool, Fail> {
+    let options = rules(alloc, side, words)?;
+    let folders = folders_to_make(alloc, &options)?;
+    Ok(are_words(&folders, wanted))
+}
+
 // Each row has the prefixes, with blanks between them, and the folders.
+const MADE: [(Side, &str, &str); 7] = [
+    (Side::Include, "a/b/c", "a a/b "),
+    (Side::Include, "//a/b/ a/c d/e/f", "a d d/e "),
+    (Side::Include, "a/b/c a", ""),
+    (Side::Include, "a/b/c/d a/b", "a "),
+    (Side::Include, "trunk", ""),
+    (Side::Include, "a/b /", ""),
+    (Side::Exclude, "a/b/c", ""),
+];
+
 #[test]
 fn folders_above_prefixes_are_to_be_made(rt: HostRuntime) -> Result<(), Fail> {
-    let rows = [
-        (Side::Include, "a/b/c", "a a/b "),
-        (Side::Include, "//a/b/ a/c d/e/f", "a d d/e "),
-        (Side::Include, "a/b/c a", ""),
-        (Side::Include, "a/b/c/d a/b", "a "),
-        (Side::Include, "trunk", ""),
-        (Side::Include, "a/b /", ""),
-        (Side::Exclude, "a/b/c", ""),
-    ];
-    for (side, words, wanted) in rows {
-        let mut prefixes = Vec::new(rt.alloc());
-        for word in words.split(' ') {
-            prefixes.push(word.as_bytes())?;
-        }
-        let options = Options::new(rt.alloc(), side, &prefixes, Empty::Pad, false, false, false)?;
-        let folders = folders_to_make(rt.alloc(), &options)?;
-        let mut found = Vec::new(rt.alloc());
-        for path in &folders {
-            found.extend_from_slice(path)?;
-            found.push(b' ')?;
-        }
-        assert!(rt; found.as_slice() == wanted.as_bytes(), "{words}");
+    for (side, words, wanted) in &MADE {
+        assert!(rt; is_made_first(rt.alloc(), *side, words, wanted)?, "{words}");
     }
     Ok(())
 }

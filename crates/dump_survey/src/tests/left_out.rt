@@ -20,33 +20,38 @@ fn skipping(alloc: Global, prefix: &str) -> Result<Options, Fail> {
     Ok(options)
 }
 
-// The dump has a folder trunk, with this mergeinfo.
+// How many lines the filter leaves out under this prefix, of a dump that has a folder trunk with such a property block: its
+// length, and the block.
+fn left_out(alloc: Global, prefix: &str, block: &str) -> Result<usize, Fail> {
+    let dump = format!(in alloc;
+        "SVN-fs-dump-format-version: 2\n\nRevision-number: 0\n\nNode-path: trunk\nProp-content-length: {block}"
+    )?;
+    let options = skipping(alloc, prefix)?;
+    Ok(left_out_lines(dump.as_bytes(), &options))
+}
+
 #[test]
 fn lines_of_paths_that_are_not_kept_are_counted(rt: HostRuntime) -> Result<(), Fail> {
     let rows = [
-        ("/branch:1\n/trunk/a:1\n/tags:1-2*\n", 2usize),
-        ("/trunk:1:2", 1),
-        ("/trunk:1\n", 0),
-        ("\n", 0),
-        ("/branch:1\n/tags", 0),
+        (
+            "67\n\nK 13\nsvn:mergeinfo\nV 32\n/branch:1\n/trunk/a:1\n/tags:1-2*\n\nPROPS-END\n",
+            2usize,
+        ),
+        (
+            "45\n\nK 13\nsvn:mergeinfo\nV 10\n/trunk:1:2\nPROPS-END\n",
+            1,
+        ),
+        ("43\n\nK 13\nsvn:mergeinfo\nV 9\n/trunk:1\n\nPROPS-END\n", 0),
+        ("35\n\nK 13\nsvn:mergeinfo\nV 1\n\n\nPROPS-END\n", 0),
+        (
+            "50\n\nK 13\nsvn:mergeinfo\nV 15\n/branch:1\n/tags\nPROPS-END\n",
+            0,
+        ),
     ];
-    for (value, wanted) in rows {
-        let property = format!(in rt.alloc();
-            "K 13\nsvn:mergeinfo\nV {}\n{value}\nPROPS-END\n",
-            value.len()
-        )?;
-        let dump = format!(in rt.alloc();
-            "SVN-fs-dump-format-version: 2\n\nRevision-number: 0\n\nNode-path: trunk\nProp-content-length: {}\n\n{property}",
-            property.len()
-        )?;
-        let options = skipping(rt.alloc(), "trunk")?;
-        assert_eq!(rt;
-            left_out_lines(dump.as_bytes(), &options),
-            wanted,
-            "{value}"
-        );
-        let others = skipping(rt.alloc(), "branch")?;
-        assert_eq!(rt; left_out_lines(dump.as_bytes(), &others), 0, "{value}");
+    for (block, wanted) in rows {
+        let trunk = left_out(rt.alloc(), "trunk", block)?;
+        let branch = left_out(rt.alloc(), "branch", block)?;
+        assert!(rt; (trunk, branch) == (wanted, 0), "{block}");
     }
     Ok(())
 }
@@ -55,24 +60,25 @@ const MERGED: &[u8] =
     b"SVN-fs-dump-format-version: 2\n\nRevision-number: 0\n\nRevision-number: 1\n\n\
 Node-path: a/b\nProp-content-length: 43\n\nK 13\nsvn:mergeinfo\nV 9\n/branch:1\nPROPS-END\n";
 
+// Whether these lines stand behind the findings.
+fn stand_behind(alloc: Global, options: &Options, lines: &[u8]) -> bool {
+    let mut sink = MemorySink::new(alloc, 8, Trouble::Never);
+    let written = write_behind(alloc, MERGED, options, true, &mut sink);
+    written == Ok(()) && sink.taken() == lines
+}
+
 #[test]
 fn the_number_stands_before_the_folders(rt: HostRuntime) -> Result<(), Fail> {
     let options = skipping(rt.alloc(), "a/b")?;
-    let mut sink = MemorySink::new(rt.alloc(), 8, Trouble::Never);
-    let written = write_behind(rt.alloc(), MERGED, &options, true, &mut sink);
-    assert!(rt; written == Ok(()));
     let lines =
         b"left out of mergeinfo: 1 line of a path that is not kept\nmake before the load: /a\n";
-    assert!(rt; sink.taken() == lines.as_slice());
+    assert!(rt; stand_behind(rt.alloc(), &options, lines.as_slice()));
     Ok(())
 }
 
 #[test]
 fn without_the_option_nothing_is_left_out(rt: HostRuntime) -> Result<(), Fail> {
     let options = rules(rt.alloc(), Side::Include, "a/b")?;
-    let mut sink = MemorySink::new(rt.alloc(), 8, Trouble::Never);
-    let written = write_behind(rt.alloc(), MERGED, &options, true, &mut sink);
-    assert!(rt; written == Ok(()));
-    assert!(rt; sink.taken() == b"make before the load: /a\n".as_slice());
+    assert!(rt; stand_behind(rt.alloc(), &options, b"make before the load: /a\n"));
     Ok(())
 }

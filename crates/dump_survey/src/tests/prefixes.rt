@@ -1,6 +1,7 @@
 //! What is found in prefixes, on a worked dump.
+use super::rules;
 use crate::{PrefixFinding, ToldPrefix, survey_dump};
-use dump_rules::{Empty, Options, Side};
+use dump_rules::Side;
 use std::alloc::Global;
 use std::test::Fail;
 
@@ -13,20 +14,28 @@ Revision-number: 2\n\n\
 Node-path: /b\nNode-kind: dir\nNode-action: add\nNode-copyfrom-rev: 1\nNode-copyfrom-path: t\n\n\n\
 Node-path: g\nNode-kind: dir\nNode-action: add\nNode-copyfrom-rev: 1\nNode-copyfrom-path: b/f\n\n\n";
 
-// The prefixes in which this is found, with a blank behind each.
-fn words_of(
-    alloc: Global,
-    told: &[ToldPrefix<'_>],
-    finding: PrefixFinding,
-) -> Result<Vec<u8>, Fail> {
-    let mut words = Vec::new(alloc);
+// Whether this is found in these prefixes and no others, which stand in a text with a blank behind each.
+fn are_told(told: &[ToldPrefix<'_>], finding: PrefixFinding, words: &str) -> bool {
+    let mut rest = words.as_bytes();
     for one in told {
         if one.finding == finding {
-            words.extend_from_slice(one.prefix)?;
-            words.push(b' ')?;
+            match rest.strip_prefix(one.prefix) {
+                Some([b' ', behind @ ..]) => rest = behind,
+                _ => return false,
+            }
         }
     }
-    Ok(words)
+    rest.is_empty()
+}
+
+// Whether of these prefixes those aren't in their short form, and those are idle.
+fn tells(alloc: Global, words: &str, not_short: &str, idle: &str) -> Result<bool, Fail> {
+    let options = rules(alloc, Side::Exclude, words)?;
+    let survey = survey_dump(alloc, COPIES, &options)?;
+    Ok(
+        are_told(&survey.prefixes, PrefixFinding::NotShort, not_short)
+            && are_told(&survey.prefixes, PrefixFinding::Idle, idle),
+    )
 }
 
 // Each row has the prefixes, with blanks between them, those that aren't in their short form, and those that are idle.
@@ -39,17 +48,7 @@ fn prefixes_are_told_in_their_order(rt: HostRuntime) -> Result<(), Fail> {
         ("z .. bb/f gg t t/x z/", "", "z .. bb/f gg t/x z/ "),
     ];
     for (words, not_short, idle) in rows {
-        let mut prefixes = Vec::new(rt.alloc());
-        for word in words.split(' ') {
-            prefixes.push(word.as_bytes())?;
-        }
-        let side = Side::Exclude;
-        let options = Options::new(rt.alloc(), side, &prefixes, Empty::Pad, false, false, false)?;
-        let survey = survey_dump(rt.alloc(), COPIES, &options)?;
-        let found = words_of(rt.alloc(), &survey.prefixes, PrefixFinding::NotShort)?;
-        assert!(rt; found.as_slice() == not_short.as_bytes(), "{words}");
-        let found = words_of(rt.alloc(), &survey.prefixes, PrefixFinding::Idle)?;
-        assert!(rt; found.as_slice() == idle.as_bytes(), "{words}");
+        assert!(rt; tells(rt.alloc(), words, not_short, idle)?, "{words}");
     }
     Ok(())
 }

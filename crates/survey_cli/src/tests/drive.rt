@@ -66,21 +66,6 @@ fn the_status_says_whether_something_is_found(rt: HostRuntime) {
     assert!(rt; is_survey(rt.alloc(), &["svndumpsurvey", "include"], (2, b"", usage)));
 }
 
-const MAPPED_LINES: &[u8] =
-    b"record 3, byte 71, r1: /tags/one is copied from /trunk at r0, which is not kept: fault 12\n\
-record 3, byte 71, r1: /tags/one is copied from /trunk at r0, which is not kept, and may lose its properties\n\
-in all 1: fault 12, copies of what is not kept. Include the source too, or leave the copy out too\n\
-in all 1: properties that may be lost with their source. Include the source too\n\
-keep as well: /trunk\n\
-r0 becomes r0\n\
-r1 becomes r1\n";
-
-#[test]
-fn the_map_stands_last_where_it_is_asked_for(rt: HostRuntime) {
-    let words = ["svndumpsurvey", "include", "tags", "--map"];
-    assert!(rt; is_survey(rt.alloc(), &words, (1, MAPPED_LINES, b"")));
-}
-
 const TAGS: [&str; 3] = ["svndumpsurvey", "include", "tags"];
 
 fn is_unread(alloc: Global) -> bool {

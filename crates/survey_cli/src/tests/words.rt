@@ -55,60 +55,79 @@ fn is_read(alloc: Global, line: &str, prefixes: &str, wanted: Wanted) -> Result<
     Ok(found_in(&call) == wanted && has_prefixes(&call.options, prefixes.as_slice()))
 }
 
-#[test]
-fn sides_and_prefixes_are_read(rt: HostRuntime) -> Result<(), Fail> {
-    assert!(rt; is_read(rt.alloc(), "p include a", "a", PLAIN)?);
-    let mut exclude = PLAIN;
-    exclude.side = Side::Exclude;
-    let line = "p exclude //trunk/  br\u{e4}nche include -";
-    let prefixes = "//trunk/  br\u{e4}nche include -";
-    assert!(rt; is_read(rt.alloc(), line, prefixes, exclude)?);
-    Ok(())
-}
+const FLAGS: Wanted = Wanted {
+    side: Side::Include,
+    empty: Empty::DropEmptied,
+    renumber: true,
+    preserve: true,
+    skip_missing: true,
+    map: true,
+};
+
+// Words, and the prefixes and the rest of what they ask for.
+const READ: [(&str, &str, Wanted); 9] = [
+    ("p include a", "a", PLAIN),
+    (
+        "p exclude //trunk/  br\u{e4}nche include -",
+        "//trunk/  br\u{e4}nche include -",
+        Wanted {
+            side: Side::Exclude,
+            ..PLAIN
+        },
+    ),
+    (
+        "p include --drop-empty-revs a",
+        "a",
+        Wanted {
+            empty: Empty::DropEmptied,
+            ..PLAIN
+        },
+    ),
+    (
+        "p include --drop-all-empty-revs a",
+        "a",
+        Wanted {
+            empty: Empty::DropAll,
+            ..PLAIN
+        },
+    ),
+    (
+        "p include --renumber-revs a",
+        "a",
+        Wanted {
+            renumber: true,
+            ..PLAIN
+        },
+    ),
+    (
+        "p include --preserve-revprops a",
+        "a",
+        Wanted {
+            preserve: true,
+            ..PLAIN
+        },
+    ),
+    (
+        "p include --skip-missing-merge-sources a",
+        "a",
+        Wanted {
+            skip_missing: true,
+            ..PLAIN
+        },
+    ),
+    (
+        "p include --drop-empty-revs --renumber-revs a --skip-missing-merge-sources b --map --preserve-revprops",
+        "a b",
+        FLAGS,
+    ),
+    ("p include -- --renumber-revs a", "--renumber-revs a", PLAIN),
+];
 
 #[test]
-fn drop_flags_are_read(rt: HostRuntime) -> Result<(), Fail> {
-    for (line, empty) in [
-        ("p include --drop-empty-revs a", Empty::DropEmptied),
-        ("p include --drop-all-empty-revs a", Empty::DropAll),
-    ] {
-        let mut wanted = PLAIN;
-        wanted.empty = empty;
-        assert!(rt; is_read(rt.alloc(), line, "a", wanted)?, "in {line}");
+fn words_are_read(rt: HostRuntime) -> Result<(), Fail> {
+    for (line, prefixes, wanted) in &READ {
+        assert!(rt; is_read(rt.alloc(), line, prefixes, *wanted)?, "{line}");
     }
-    Ok(())
-}
-
-#[test]
-fn each_switch_is_read(rt: HostRuntime) -> Result<(), Fail> {
-    let mut wanted = PLAIN;
-    wanted.renumber = true;
-    assert!(rt; is_read(rt.alloc(), "p include --renumber-revs a", "a", wanted)?);
-    wanted = PLAIN;
-    wanted.preserve = true;
-    assert!(rt; is_read(rt.alloc(), "p include --preserve-revprops a", "a", wanted)?);
-    wanted = PLAIN;
-    wanted.skip_missing = true;
-    let line = "p include --skip-missing-merge-sources a";
-    assert!(rt; is_read(rt.alloc(), line, "a", wanted)?);
-    Ok(())
-}
-
-#[test]
-fn flags_are_read_around_the_prefixes(rt: HostRuntime) -> Result<(), Fail> {
-    let wanted = Wanted {
-        side: Side::Include,
-        empty: Empty::DropEmptied,
-        renumber: true,
-        preserve: true,
-        skip_missing: true,
-        map: true,
-    };
-    let line =
-        "p include --drop-empty-revs --renumber-revs a --skip-missing-merge-sources b --map --preserve-revprops";
-    assert!(rt; is_read(rt.alloc(), line, "a b", wanted)?);
-    let line = "p include -- --renumber-revs a";
-    assert!(rt; is_read(rt.alloc(), line, "--renumber-revs a", PLAIN)?);
     Ok(())
 }
 
@@ -120,60 +139,52 @@ fn is_refused<'a>(alloc: Global, words: &'a [&'a str], usage: Usage) -> bool {
 }
 
 // The same of words with spaces between them.
-fn is_line_refused(alloc: Global, line: &str) -> Result<bool, Fail> {
+fn is_line_refused(alloc: Global, line: &str, usage: Usage) -> Result<bool, Fail> {
     let words: Vec<&str> = line.split(' ').collect(alloc)?;
-    Ok(is_refused(alloc, words.as_slice(), Usage::Words))
+    Ok(is_refused(alloc, words.as_slice(), usage))
 }
+
+const REFUSED: [(&str, Usage); 20] = [
+    ("svndumpsurvey", Usage::Words),
+    ("svndumpsurvey include", Usage::Words),
+    ("svndumpsurvey survey a", Usage::Words),
+    ("svndumpsurvey Include a", Usage::Words),
+    ("svndumpsurvey inc a", Usage::Words),
+    ("svndumpsurvey -- include a", Usage::Words),
+    ("svndumpsurvey --drop-empty-revs include a", Usage::Words),
+    ("svndumpsurvey include --preserve-revprops", Usage::Words),
+    ("p include -x", Usage::Words),
+    ("p include a -x", Usage::Words),
+    ("p include --quiet a", Usage::Words),
+    ("p include --workers 4 a", Usage::Words),
+    ("p include --preserve a", Usage::Words),
+    ("p include --preserve-revprops= a", Usage::Words),
+    ("p include --help a", Usage::Words),
+    ("p help include", Usage::Words),
+    (
+        "p include --preserve-revprops --preserve-revprops a",
+        Usage::Words,
+    ),
+    (
+        "p include --drop-all-empty-revs --drop-all-empty-revs a",
+        Usage::Words,
+    ),
+    (
+        "p exclude --drop-all-empty-revs --drop-empty-revs a",
+        Usage::BothDrops,
+    ),
+    (
+        "p exclude --drop-all-empty-revs --drop-empty-revs",
+        Usage::Words,
+    ),
+];
 
 #[test]
 fn other_words_are_refused(rt: HostRuntime) -> Result<(), Fail> {
     assert!(rt; is_refused(rt.alloc(), &[], Usage::Words));
-    for line in [
-        "svndumpsurvey",
-        "svndumpsurvey include",
-        "svndumpsurvey survey a",
-        "svndumpsurvey Include a",
-        "svndumpsurvey inc a",
-        "svndumpsurvey -- include a",
-        "svndumpsurvey --drop-empty-revs include a",
-        "svndumpsurvey include --preserve-revprops",
-    ] {
-        assert!(rt; is_line_refused(rt.alloc(), line)?, "{line}");
+    for (line, usage) in &REFUSED {
+        assert!(rt; is_line_refused(rt.alloc(), line, *usage)?, "{line}");
     }
-    Ok(())
-}
-
-#[test]
-fn other_flags_are_refused(rt: HostRuntime) -> Result<(), Fail> {
-    for line in [
-        "p include -x",
-        "p include a -x",
-        "p include --quiet a",
-        "p include --workers 4 a",
-        "p include --preserve a",
-        "p include --preserve-revprops= a",
-        "p include --help a",
-        "p help include",
-        "p include --preserve-revprops --preserve-revprops a",
-        "p include --drop-all-empty-revs --drop-all-empty-revs a",
-    ] {
-        assert!(rt; is_line_refused(rt.alloc(), line)?, "{line}");
-    }
-    Ok(())
-}
-
-#[test]
-fn both_drop_flags_are_refused_as_such(rt: HostRuntime) -> Result<(), Fail> {
-    let words = [
-        "p",
-        "exclude",
-        "--drop-all-empty-revs",
-        "--drop-empty-revs",
-        "a",
-    ];
-    assert!(rt; is_refused(rt.alloc(), &words, Usage::BothDrops));
-    let line = "p exclude --drop-all-empty-revs --drop-empty-revs";
-    assert!(rt; is_line_refused(rt.alloc(), line)?);
     Ok(())
 }
 

@@ -78,19 +78,21 @@ impl Gate for Holding {
 /// Counts how often each of the first 256 records passes.
 #[derive(Drop)]
 pub struct Counting {
-    once: [AtomicU64; 4],
+    // A bit for each, 64 in a word.
+    first: AtomicU64,
+    second: AtomicU64,
+    third: AtomicU64,
+    fourth: AtomicU64,
     again: AtomicU64,
 }
 
 impl Counting {
     pub fn new() -> Counting {
         Counting {
-            once: [
-                AtomicU64::new(0),
-                AtomicU64::new(0),
-                AtomicU64::new(0),
-                AtomicU64::new(0),
-            ],
+            first: AtomicU64::new(0),
+            second: AtomicU64::new(0),
+            third: AtomicU64::new(0),
+            fourth: AtomicU64::new(0),
             again: AtomicU64::new(0),
         }
     }
@@ -98,10 +100,10 @@ impl Counting {
     /// Those that passed, a bit each, 64 in a word.
     pub fn words(&self) -> [u64; 4] {
         [
-            self.once[0].load(Ordering::SeqCst),
-            self.once[1].load(Ordering::SeqCst),
-            self.once[2].load(Ordering::SeqCst),
-            self.once[3].load(Ordering::SeqCst),
+            self.first.load(Ordering::SeqCst),
+            self.second.load(Ordering::SeqCst),
+            self.third.load(Ordering::SeqCst),
+            self.fourth.load(Ordering::SeqCst),
         ]
     }
 
@@ -114,9 +116,12 @@ impl Counting {
 impl Gate for Counting {
     fn pass(&self, number: u64) {
         let bit = 1 << (number % 64);
-        let old = match self.once.get((number / 64) as usize) {
-            Some(word) => word.fetch_or(bit, Ordering::SeqCst),
-            None => bit,
+        let old = match number / 64 {
+            0 => self.first.fetch_or(bit, Ordering::SeqCst),
+            1 => self.second.fetch_or(bit, Ordering::SeqCst),
+            2 => self.third.fetch_or(bit, Ordering::SeqCst),
+            3 => self.fourth.fetch_or(bit, Ordering::SeqCst),
+            _ => bit,
         };
         if old & bit > 0 {
             self.again.fetch_add(1, Ordering::SeqCst);

@@ -1,7 +1,7 @@
 //! Runs over threads: several plans, records that are held back, sinks that break off, stops that end the cutting.
 
 use super::gates::{Counting, Holding, Telling, Watching};
-use super::{DUMP, TRUNK2, is_first_part, options, report, write_group, write_revision};
+use super::{DUMP, TRUNK2, include_trunk, is_first_part, report, write_group, write_revision};
 use dump_filter::Report;
 use dump_pipeline::{Answer, Failure, FreeGate, Gate, Plan, run};
 use dump_rules::{Empty, Options, Side};
@@ -59,27 +59,17 @@ fn is_cut_down<R: Threads + Wait + Sync, G: Gate>(
     plan: Plan,
     gate: &G,
 ) -> Result<bool, Fail> {
-    let options = options(alloc, Side::Include, Empty::Pad)?;
+    let options = include_trunk(alloc)?;
     let wanted = (report(2, 1), &DUMP[..TRUNK2]);
     Ok(is_run(rt, alloc, DUMP, &options, plan, gate, wanted))
-}
-
-#[test]
-fn each_plan_gives_the_same(rt: HostRuntime) -> Result<(), Fail> {
-    for (workers, window) in [(1, 1), (2, 4), (4, 64), (64, 4096)] {
-        let plan = plan(workers, window)?;
-        assert!(rt; is_cut_down(&rt, rt.alloc(), plan, &FreeGate)?);
-    }
-    Ok(())
 }
 
 // Record 0 waits for record 1: one thread alone would wait for ever.
 #[test]
 fn records_are_checked_at_the_same_time(rt: HostRuntime) -> Result<(), Fail> {
     let gate = Holding::new(0, 0b10, 0);
-    assert!(rt; is_cut_down(&rt, rt.alloc(), plan(2, 64)?, &gate)?);
-    assert!(rt; !gate.is_late());
-    assert!(rt; gate.passed() == 0b111111);
+    let cut_down = is_cut_down(&rt, rt.alloc(), plan(2, 64)?, &gate)?;
+    assert!(rt; cut_down && !gate.is_late() && gate.passed() == 0b111111);
     Ok(())
 }
 
@@ -90,7 +80,7 @@ fn is_told<R: Threads + Wait + Sync, G: Gate>(
     gate: &G,
     count: &AtomicU64,
 ) -> Result<bool, Fail> {
-    let options = options(alloc, Side::Include, Empty::Pad)?;
+    let options = include_trunk(alloc)?;
     let plan = plan(2, 64)?;
     let mut sink = Telling {
         sink: MemorySink::new(alloc, 1000, Trouble::Never),
@@ -109,45 +99,34 @@ fn pieces_are_written_while_records_are_checked(rt: HostRuntime) -> Result<(), F
         at_first: AtomicU64::new(0),
         late: AtomicU64::new(0),
     };
-    assert!(rt; is_told(&rt, rt.alloc(), &gate, &count)?);
-    assert!(rt; gate.at_first.load(Ordering::SeqCst) == 1);
-    assert!(rt; gate.late.load(Ordering::SeqCst) == 0);
+    let told = is_told(&rt, rt.alloc(), &gate, &count)?;
+    let at_first = gate.at_first.load(Ordering::SeqCst);
+    assert!(rt; told && at_first == 1 && gate.late.load(Ordering::SeqCst) == 0);
     Ok(())
 }
 
-const FOLDER: &[u8] = b"Node-path: a\n\
-Node-kind: dir\n\
-Node-action: add\n\
-Prop-content-length: 10\n\
-Content-length: 10\n\
-\n\
-PROPS-END\n\
-\n\
-\n\
-";
+const FOLDER: &[u8] =
+    b"Node-path: a\nNode-kind: dir\nNode-action: add\nProp-content-length: 10\nContent-length: 10\n\nPROPS-END\n\n\n";
 
-// Files whose digest headers are wrong.
-const WRONG_SHA1: &[u8] = b"Node-path: a/x\n\
-Node-kind: file\n\
-Node-action: add\n\
-Text-content-length: 3\n\
-Text-content-sha1: a9993e364706816aba3e25717850c26c9cd0d89e\n\
-Content-length: 3\n\
-\n\
-abc\n\
-\n\
-";
+// A file whose digest is wrong, in record 2.
+const WRONG_IN_2: &[u8] = b"SVN-fs-dump-format-version: 2\n\n\
+Revision-number: 0\nProp-content-length: 56\nContent-length: 56\n\n\
+K 8\nsvn:date\nV 27\n2024-01-02T03:04:05.000000Z\nPROPS-END\n\n\
+Node-path: a/x\nNode-kind: file\nNode-action: add\nText-content-length: 3\n\
+Text-content-sha1: a9993e364706816aba3e25717850c26c9cd0d89e\nContent-length: 3\n\nabc\n\n";
 
-const WRONG_MD5: &[u8] = b"Node-path: a/y\n\
-Node-kind: file\n\
-Node-action: add\n\
-Text-content-length: 3\n\
-Text-content-md5: 900150983cd24fb0d6963f7d28e17f73\n\
-Content-length: 3\n\
-\n\
-abc\n\
-\n\
-";
+/// Another one in record 5, and behind it a header that is cut.
+pub const WRONG_IN_2_AND_5: &[u8] = b"SVN-fs-dump-format-version: 2\n\n\
+Revision-number: 0\nProp-content-length: 56\nContent-length: 56\n\n\
+K 8\nsvn:date\nV 27\n2024-01-02T03:04:05.000000Z\nPROPS-END\n\n\
+Node-path: a/x\nNode-kind: file\nNode-action: add\nText-content-length: 3\n\
+Text-content-sha1: a9993e364706816aba3e25717850c26c9cd0d89e\nContent-length: 3\n\nabc\n\n\
+Revision-number: 1\nProp-content-length: 56\nContent-length: 56\n\n\
+K 8\nsvn:date\nV 27\n2024-01-02T03:04:05.000000Z\nPROPS-END\n\n\
+Node-path: a\nNode-kind: dir\nNode-action: add\nProp-content-length: 10\nContent-length: 10\n\nPROPS-END\n\n\n\
+Node-path: a/y\nNode-kind: file\nNode-action: add\nText-content-length: 3\n\
+Text-content-md5: 900150983cd24fb0d6963f7d28e17f73\nContent-length: 3\n\nabc\n\n\
+junk";
 
 // The wrong digest in record 2 is the answer.
 const SHA1_IN_RECORD_2: Answer = Answer::Fault {
@@ -155,17 +134,6 @@ const SHA1_IN_RECORD_2: Answer = Answer::Fault {
     number: 2,
     place: 151,
 };
-
-/// Records 2 and 5 have wrong digests.
-pub fn wrong_in_2_and_5(alloc: Global) -> Result<Vec<u8>, Fail> {
-    let mut dump = Vec::from_slice(alloc, VERSION)?;
-    write_revision(&mut dump, 0)?;
-    dump.extend_from_slice(WRONG_SHA1)?;
-    write_revision(&mut dump, 1)?;
-    dump.extend_from_slice(FOLDER)?;
-    dump.extend_from_slice(WRONG_MD5)?;
-    Ok(dump)
-}
 
 /// Whether the wrong digest in record 2 is the answer, and nothing behind the version is written.
 pub fn is_first_fault<R: Threads + Wait + Sync, G: Gate>(
@@ -180,60 +148,21 @@ pub fn is_first_fault<R: Threads + Wait + Sync, G: Gate>(
     Ok(is_run(rt, alloc, dump, &options, plan, gate, wanted))
 }
 
-// The fault of record 2 is the answer, though that of record 5 is found before it.
+/// Whether the fault of record 2 is the answer, though that of record 5 is found before it.
+pub fn is_first_of_two<R: Threads + Wait + Sync>(
+    rt: &R,
+    alloc: Global,
+    dump: &[u8],
+) -> Result<bool, Fail> {
+    let plan = plan(4, 64)?;
+    let gate = Holding::new(2, 1 << 5, 0);
+    Ok(is_first_fault(rt, alloc, dump, plan, &gate)? && !gate.is_late())
+}
+
 #[test]
 fn the_first_fault_is_answered_and_not_the_one_found_first(rt: HostRuntime) -> Result<(), Fail> {
-    let dump = wrong_in_2_and_5(rt.alloc())?;
-    let gate = Holding::new(2, 1 << 5, 0);
-    assert!(rt; is_first_fault(&rt, rt.alloc(), &dump, plan(4, 64)?, &gate)?);
-    assert!(rt; !gate.is_late());
-    Ok(())
-}
-
-/// The dump, and behind it a header that is cut.
-pub fn with_junk(alloc: Global) -> Result<Vec<u8>, Fail> {
-    let mut dump = Vec::from_slice(alloc, DUMP)?;
-    dump.extend_from_slice(b"junk")?;
-    Ok(dump)
-}
-
-// Whether a sink that fails once gets a first part.
-fn is_broken_off<R: Threads + Wait + Sync>(rt: &R, alloc: Global) -> Result<bool, Fail> {
-    let plan = plan(4, 64)?;
-    let options = options(alloc, Side::Include, Empty::Pad)?;
-    let dump = with_junk(alloc)?;
-    let mut sink = MemorySink::new(alloc, 1000, Trouble::Once(100));
-    let failed = Answer::Failed {
-        failure: Failure::Sink,
-        written: 100,
-    };
-    let answer = run(rt, alloc, &dump, &options, plan, &FreeGate, &mut sink);
-    Ok(answer == failed && sink.taken() == &DUMP[..100])
-}
-
-#[test]
-fn a_broken_sink_gets_a_first_part(rt: HostRuntime) -> Result<(), Fail> {
-    assert!(rt; is_broken_off(&rt, rt.alloc())?);
-    Ok(())
-}
-
-// Whether all before a header that is cut is written.
-fn is_cut_header<R: Threads + Wait + Sync>(rt: &R, alloc: Global) -> Result<bool, Fail> {
-    let plan = plan(4, 64)?;
-    let options = options(alloc, Side::Include, Empty::Pad)?;
-    let dump = with_junk(alloc)?;
-    let fault = Answer::Fault {
-        kind: FaultKind::HeaderCut,
-        number: 6,
-        place: 589,
-    };
-    let wanted = (fault, &DUMP[..TRUNK2]);
-    Ok(is_run(rt, alloc, &dump, &options, plan, &FreeGate, wanted))
-}
-
-#[test]
-fn what_stands_before_a_cut_header_is_written(rt: HostRuntime) -> Result<(), Fail> {
-    assert!(rt; is_cut_header(&rt, rt.alloc())?);
+    let whole = WRONG_IN_2_AND_5.strip_suffix(b"junk").ok_or("no junk")?;
+    assert!(rt; is_first_of_two(&rt, rt.alloc(), whole)?);
     Ok(())
 }
 
@@ -283,13 +212,19 @@ fn is_halved<R: Threads + Wait + Sync, G: Gate>(
     Ok(answer == HALF && sink.taken().len() == 11_359)
 }
 
+// Whether each of its 200 records passes the gate once.
+fn passes_once<R: Threads + Wait + Sync>(rt: &R, alloc: Global, plan: Plan) -> Result<bool, Fail> {
+    let gate = Counting::new();
+    let halved = is_halved(rt, alloc, plan, &gate)?;
+    let all = [u64::MAX, u64::MAX, u64::MAX, 0xff];
+    Ok(halved && gate.words() == all && gate.others() == 0)
+}
+
 #[test]
 fn each_record_passes_the_gate_once(rt: HostRuntime) -> Result<(), Fail> {
     for (workers, window) in [(1, 1), (4, 64), (64, 4096)] {
-        let gate = Counting::new();
-        assert!(rt; is_halved(&rt, rt.alloc(), plan(workers, window)?, &gate)?);
-        assert!(rt; gate.words() == [u64::MAX, u64::MAX, u64::MAX, 0xff]);
-        assert!(rt; gate.others() == 0);
+        let plan = plan(workers, window)?;
+        assert!(rt; passes_once(&rt, rt.alloc(), plan)?, "{workers} {window}");
     }
     Ok(())
 }
@@ -298,8 +233,8 @@ fn each_record_passes_the_gate_once(rt: HostRuntime) -> Result<(), Fail> {
 #[test]
 fn any_worker_takes_any_record(rt: HostRuntime) -> Result<(), Fail> {
     let gate = Holding::new(0, 0b11_1111_1110, 0);
-    assert!(rt; is_halved(&rt, rt.alloc(), plan(4, 64)?, &gate)?);
-    assert!(rt; !gate.is_late());
+    let halved = is_halved(&rt, rt.alloc(), plan(4, 64)?, &gate)?;
+    assert!(rt; halved && !gate.is_late());
     Ok(())
 }
 
@@ -307,29 +242,31 @@ fn any_worker_takes_any_record(rt: HostRuntime) -> Result<(), Fail> {
 #[test]
 fn no_more_are_under_way_than_the_window_has(rt: HostRuntime) -> Result<(), Fail> {
     let gate = Holding::new(0, 0b1110, 100_000);
-    assert!(rt; is_halved(&rt, rt.alloc(), plan(2, 4)?, &gate)?);
-    assert!(rt; !gate.is_late());
-    assert!(rt; gate.before() == 0b1110);
+    let halved = is_halved(&rt, rt.alloc(), plan(2, 4)?, &gate)?;
+    assert!(rt; halved && !gate.is_late() && gate.before() == 0b1110);
     Ok(())
 }
 
 /// A wrong digest in record 2, and a thousand records behind it.
 pub fn early_fault(alloc: Global) -> Result<Vec<u8>, Fail> {
-    let mut dump = Vec::from_slice(alloc, VERSION)?;
-    write_revision(&mut dump, 0)?;
-    dump.extend_from_slice(WRONG_SHA1)?;
+    let mut dump = Vec::from_slice(alloc, WRONG_IN_2)?;
     for _ in 0..1000 {
         dump.extend_from_slice(FOLDER)?;
     }
     Ok(dump)
 }
 
+// Whether one worker answers that fault when three records have passed the gate.
+fn is_stopped<R: Threads + Wait + Sync>(rt: &R, alloc: Global, dump: &[u8]) -> Result<bool, Fail> {
+    let plan = plan(1, 1)?;
+    let gate = Holding::new(u64::MAX, 0, 0);
+    Ok(is_first_fault(rt, alloc, dump, plan, &gate)? && gate.passed() == 0b111)
+}
+
 #[test]
 fn a_fault_stops_the_cutting(rt: HostRuntime) -> Result<(), Fail> {
     let dump = early_fault(rt.alloc())?;
-    let gate = Holding::new(u64::MAX, 0, 0);
-    assert!(rt; is_first_fault(&rt, rt.alloc(), &dump, plan(1, 1)?, &gate)?);
-    assert!(rt; gate.passed() == 0b111);
+    assert!(rt; is_stopped(&rt, rt.alloc(), &dump)?);
     Ok(())
 }
 
@@ -353,8 +290,8 @@ fn is_refused<R: Threads + Wait + Sync, G: Gate>(
 #[test]
 fn a_broken_sink_stops_the_cutting(rt: HostRuntime) -> Result<(), Fail> {
     let gate = Holding::new(u64::MAX, 0, 0);
-    assert!(rt; is_refused(&rt, rt.alloc(), &gate)?);
-    assert!(rt; gate.passed() == 0b1);
+    let refused = is_refused(&rt, rt.alloc(), &gate)?;
+    assert!(rt; refused && gate.passed() == 0b1);
     Ok(())
 }
 
@@ -362,8 +299,7 @@ fn a_broken_sink_stops_the_cutting(rt: HostRuntime) -> Result<(), Fail> {
 #[test]
 fn out_of_memory_leaves_a_first_part_over_threads(rt: HostRuntime) {
     let alloc = rt.alloc();
-    let (side, prefixes) = (Side::Include, [b"trunk".as_slice()]);
-    let Ok(options) = Options::new(alloc, side, &prefixes, Empty::Pad, false, true, false) else {
+    let Ok(options) = include_trunk(alloc) else {
         return;
     };
     let Some(plan) = Plan::new(2, 4) else {

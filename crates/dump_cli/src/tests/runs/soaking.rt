@@ -1,9 +1,9 @@
 //! Many runs over threads, each beside the same run on one thread.
 
 use super::running::{early_fault, everything, hundred, plan, renumbering};
-use super::{DUMP, options};
+use super::{DUMP, include_trunk};
 use dump_pipeline::{Gate, run, run_plain};
-use dump_rules::{Empty, Options, Side};
+use dump_rules::Options;
 use dump_writer::{MemorySink, Trouble};
 use std::alloc::Global;
 use std::ops::Range;
@@ -48,7 +48,27 @@ fn sink_of(alloc: Global, seed: u64, len: usize) -> MemorySink {
     )
 }
 
-// Whether a run over threads answers and writes what one on one thread does, for so many seeds.
+// Whether a run over threads answers and writes what one on one thread does, by the plan and the sinks of a seed.
+fn is_alike<R: Threads + Wait + Sync>(
+    rt: &R,
+    alloc: Global,
+    dump: &[u8],
+    options: &Options,
+    seed: u64,
+) -> Result<bool, Fail> {
+    let most = if seed % 16 == 0 { 64 } else { 6 };
+    let workers = 1 + (scatter(seed.wrapping_add(3)) % most) as usize;
+    let window = 1 + (scatter(seed.wrapping_add(4)) % 40) as usize;
+    let plan = plan(workers, window)?;
+    let gate = Delaying { seed };
+    let mut plain = sink_of(alloc, seed, dump.len());
+    let mut sink = sink_of(alloc, seed, dump.len());
+    let wanted = run_plain(alloc, dump, options, &mut plain);
+    let answer = run(rt, alloc, dump, options, plan, &gate, &mut sink);
+    Ok(answer == wanted && sink.taken() == plain.taken())
+}
+
+// The same for so many seeds.
 fn agree<R: Threads + Wait + Sync>(
     rt: &R,
     alloc: Global,
@@ -57,61 +77,57 @@ fn agree<R: Threads + Wait + Sync>(
     seeds: Range<u64>,
 ) -> Result<bool, Fail> {
     for seed in seeds {
-        let most = if seed % 16 == 0 { 64 } else { 6 };
-        let workers = 1 + (scatter(seed.wrapping_add(3)) % most) as usize;
-        let window = 1 + (scatter(seed.wrapping_add(4)) % 40) as usize;
-        let mut plain = sink_of(alloc, seed, dump.len());
-        let mut sink = sink_of(alloc, seed, dump.len());
-        let gate = Delaying { seed };
-        let wanted = run_plain(alloc, dump, options, &mut plain);
-        let answer = run(
-            rt,
-            alloc,
-            dump,
-            options,
-            plan(workers, window)?,
-            &gate,
-            &mut sink,
-        );
-        if answer != wanted || sink.taken() != plain.taken() {
+        if !is_alike(rt, alloc, dump, options, seed)? {
             return Ok(false);
         }
     }
     Ok(true)
 }
 
+// The same of what is under `trunk`.
+fn agree_on_trunk<R: Threads + Wait + Sync>(
+    rt: &R,
+    alloc: Global,
+    dump: &[u8],
+    seeds: Range<u64>,
+) -> Result<bool, Fail> {
+    let options = include_trunk(alloc)?;
+    agree(rt, alloc, dump, &options, seeds)
+}
+
+// The same of a hundred revisions that are renumbered.
+fn agree_on_hundred<R: Threads + Wait + Sync>(rt: &R, alloc: Global) -> Result<bool, Fail> {
+    let dump = hundred(alloc)?;
+    let options = renumbering(alloc)?;
+    agree(rt, alloc, &dump, &options, 0..60)
+}
+
 #[test]
 fn clean_dumps_are_filtered_as_on_one_thread(rt: HostRuntime) -> Result<(), Fail> {
-    let alloc = rt.alloc();
-    let dump = hundred(alloc)?;
-    assert!(rt; agree(&rt, alloc, &dump, &renumbering(alloc)?, 0..60)?);
-    assert!(rt;
-        agree(
-            &rt,
-            alloc,
-            DUMP,
-            &options(alloc, Side::Include, Empty::Pad)?,
-            1000..2500
-        )?
-    );
+    assert!(rt; agree_on_hundred(&rt, rt.alloc())?);
+    assert!(rt; agree_on_trunk(&rt, rt.alloc(), DUMP, 1000..2500)?);
     Ok(())
+}
+
+// The same of an early fault.
+fn agree_on_early_fault<R: Threads + Wait + Sync>(rt: &R, alloc: Global) -> Result<bool, Fail> {
+    let dump = early_fault(alloc)?;
+    let options = everything(alloc)?;
+    agree(rt, alloc, &dump, &options, 3000..3200)
+}
+
+// The same of a header that is cut behind the dump.
+fn agree_on_junk<R: Threads + Wait + Sync>(rt: &R, alloc: Global) -> Result<bool, Fail> {
+    let mut dump = Vec::from_slice(alloc, DUMP)?;
+    dump.extend_from_slice(b"junk")?;
+    agree_on_trunk(rt, alloc, &dump, 5000..6500)
 }
 
 #[test]
 fn dumps_with_a_fault_are_filtered_as_on_one_thread(rt: HostRuntime) -> Result<(), Fail> {
-    let alloc = rt.alloc();
-    let dump = early_fault(alloc)?;
-    assert!(rt; agree(&rt, alloc, &dump, &everything(alloc)?, 3000..3200)?);
-    let mut dump = Vec::from_slice(alloc, DUMP)?;
-    dump.extend_from_slice(b"junk")?;
-    assert!(rt;
-        agree(
-            &rt,
-            alloc,
-            &dump,
-            &options(alloc, Side::Include, Empty::Pad)?,
-            5000..6500
-        )?
-    );
+    assert!(rt; agree_on_early_fault(&rt, rt.alloc())?);
+    let cut = DUMP.get(..585).unwrap_or(DUMP);
+    assert!(rt; agree_on_trunk(&rt, rt.alloc(), cut, 4000..4200)?);
+    assert!(rt; agree_on_junk(&rt, rt.alloc())?);
     Ok(())
 }
