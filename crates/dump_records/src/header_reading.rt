@@ -225,8 +225,8 @@ pub(crate) fn read_header(
 ) -> Result<(RecordHeader, Lengths), FaultKind>
     ensures { MatchResult result
         (λ found. IsHeaderOf (dump_of headers.now) (lines_of headers.now) found.0
-            × LengthsOf number (lines_of headers.now) found.1
-            × (found.0.version ≡ unwrap_or (version_in found.0.parts) before))
+        × LengthsOf number (lines_of headers.now) found.1
+        × (found.0.version ≡ unwrap_or (version_in found.0.parts) before))
         (IsUnlawful number (lines_of headers.now)) }
 {
     let numbers = numbers_of(headers);

@@ -1,5 +1,5 @@
 -- Where the value of a line stands in its dump.
-use Rattle.std.proofs.Common.{◌≡◌, ℕ, ◌+◌, ◌-◌, ◌<◌, ◌==◌, false, List, [], ◌∷◌, ◌++◌, take, drop, length, refl, sym, ap, ◌∙◌, arith, append_assoc, length-append, Some}
+use Rattle.std.proofs.Common.{◌≡◌, ℕ, ◌+◌, ◌<◌, ◌==◌, false, List, [], ◌∷◌, ◌++◌, take, drop, length, refl, sym, ap, ◌∙◌, arith, append_assoc, length-append, Some}
 use Rattle.std.specs.List.{before_first, position_or_len}
 use Rattle.std.proofs.lemmas.List.{take_at, drop_at, take_all}
 use Rattle.std.proofs.lemmas.Bool.{ne_eqb}
@@ -62,9 +62,9 @@ value_behind_front dump text rest whole others name value front lines ends is fi
     ∙ sym (append_assoc name (58 ∷ 32 ∷ []) left) in (
       front ++ (lines ++ colon),
       (let all = length-append front (lines ++ colon) in
-      let some = length-append lines colon in
-      let named = length-append name (58 ∷ 32 ∷ []) in
-      omega arith),
+          let some = length-append lines colon in
+          let named = length-append name (58 ∷ 32 ∷ []) in
+          omega arith),
       ends ∙ ap (λ t. front ++ t) (is ∙ ap (λ t. lines ++ t) line ∙ sym (append_assoc lines colon left))
-      ∙ sym (append_assoc front (lines ++ colon) left),
+          ∙ sym (append_assoc front (lines ++ colon) left),
     )

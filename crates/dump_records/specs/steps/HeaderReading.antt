@@ -31,8 +31,8 @@ abbrev pub is_spelled : List ℕ → List Header → Bool
 is_spelled name headers = are_spelled (header_value name headers) (header_number name headers)
 
 -- whether each number but that of a version is written so
-abbrev pub are_shortest : List Header → Bool
-are_shortest headers =
+abbrev pub are_numbers_shortest : List Header → Bool
+are_numbers_shortest headers =
     is_spelled revision_name headers && is_spelled copy_revision_name headers && is_spelled property_length_name headers
     && is_spelled text_length_name headers && is_spelled content_length_name headers
 
@@ -46,12 +46,12 @@ pub record AreNumbers (headers : List Header) (numbers : Numbers) : Type 0 where
   pub content : numbers.content ≡ header_number content_length_name headers
   pub props_small : property_length headers < 10 ^ 18
   pub text_small : text_length headers < 10 ^ 18
-  pub shortest : numbers.are_shortest ≡ are_shortest headers
+  pub shortest : numbers.are_shortest ≡ are_numbers_shortest headers
 
 -- whether lines under the numbers and lengths that they have are written as they stand
 abbrev pub are_written : List Header → Bool
 are_written headers =
-    are_shortest headers
+    are_numbers_shortest headers
     && (has_header content_length_name headers || property_length headers + text_length headers == 0)
 
 -- the header says what the lines say, which stand in the dump

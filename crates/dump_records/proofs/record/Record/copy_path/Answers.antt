@@ -1,6 +1,6 @@
-use Rattle.std.proofs.Common.{◌≡◌, ap, sym, ◌∙◌, subst, option_and_then, Some}
+use Rattle.std.proofs.Common.{ap, sym, ◌∙◌, option_and_then}
 use Rattle.dump_text.specs.Names.{path_name, copy_path_name}
-use Rattle.dump_text.specs.HeaderLine.{has_header, header_value}
+use Rattle.dump_text.specs.HeaderLine.{has_header}
 use Rattle.dump_text.specs.steps.ValuePlaces.{value_at}
 use Rattle.dump_text.proofs.ValueLemmas.{if_copied}
 use Rattle.dump_records.specs.declared.kind.CopySource.{CopySource}

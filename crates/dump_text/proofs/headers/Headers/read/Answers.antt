@@ -8,9 +8,11 @@ use Rattle.dump_text.proofs.headers.Headers.read.Goals as goal
 
 pub block_at-requires : goal.block_at-requires
 block_at-requires c =
-    let dump = c.args.dump.now in
-    (take c.args.place dump, sym (take-append-drop c.args.place dump)
-    ∙ ap (λ t. take c.args.place dump ++ t) (sym (all_left dump c.args.place)))
+    let dump = c.args.dump.now in (
+      take c.args.place dump,
+      sym (take-append-drop c.args.place dump)
+          ∙ ap (λ t. take c.args.place dump ++ t) (sym (all_left dump c.args.place)),
+    )
 
 pub invariant_of-block : goal.invariant_of-block
 invariant_of-block c =
