@@ -256,16 +256,6 @@ fn outcome(
     Some((answer, out))
 }
 
-// Whether the filter brings a dump to its end so.
-fn is_worked(alloc: Global, worked: &Worked<'_>) -> bool {
-    match outcome(alloc, &worked.asked, worked.dump) {
-        Some((answer, out)) => {
-            answer == Ok(report(worked.counts)) && out.sound && out.is_of(worked.written)
-        }
-        None => false,
-    }
-}
-
 // Whether the filter refuses a record of a dump so.
 fn is_refused(alloc: Global, refused: &Refused<'_>) -> bool {
     match outcome(alloc, &refused.asked, refused.dump) {

@@ -18,9 +18,6 @@ pub(crate) const REVISION_2: &[u8] =
 pub(crate) const REVISION_3: &[u8] =
     b"Revision-number: 3\nProp-content-length: 56\nContent-length: 56\n\nK 8\nsvn:date\nV 27\n2024-01-02T03:04:05.000000Z\nPROPS-END\n\n";
 
-pub(crate) const REVISION_4: &[u8] =
-    b"Revision-number: 4\nProp-content-length: 56\nContent-length: 56\n\nK 8\nsvn:date\nV 27\n2024-01-02T03:04:05.000000Z\nPROPS-END\n\n";
-
 pub(crate) const REVISION_5: &[u8] =
     b"Revision-number: 5\nProp-content-length: 56\nContent-length: 56\n\nK 8\nsvn:date\nV 27\n2024-01-02T03:04:05.000000Z\nPROPS-END\n\n";
 
@@ -39,12 +36,6 @@ pub(crate) const REVISION_9: &[u8] =
 
 pub(crate) const PADDING_1: &[u8] =
     b"Revision-number: 1\nProp-content-length: 112\nContent-length: 112\n\nK 8\nsvn:date\nV 27\n2024-01-02T03:04:05.000000Z\nK 7\nsvn:log\nV 38\nThis is an empty revision for padding.\nPROPS-END\n\n";
-
-// A revision without a length, and as it is padded.
-pub(crate) const SHORT_REVISION_1: &[u8] = b"Revision-number: 1\n\n\n";
-
-pub(crate) const DATELESS_PADDING_1: &[u8] =
-    b"Revision-number: 1\nProp-content-length: 66\nContent-length: 66\n\nK 7\nsvn:log\nV 38\nThis is an empty revision for padding.\nPROPS-END\n\n";
 
 // Its ten bytes of properties are none.
 pub(crate) const BROKEN_REVISION_1: &[u8] =
@@ -65,16 +56,6 @@ pub(crate) const OTHER: &[u8] =
 pub(crate) const X: &[u8] =
     b"Node-path: x\nNode-kind: dir\nNode-action: add\nProp-content-length: 10\nContent-length: 10\n\nPROPS-END\n\n\n";
 
-pub(crate) const X_Y: &[u8] =
-    b"Node-path: x/y\nNode-kind: dir\nNode-action: add\nProp-content-length: 10\nContent-length: 10\n\nPROPS-END\n\n\n";
-
-pub(crate) const ROOT: &[u8] =
-    b"Node-path: \nNode-kind: dir\nNode-action: change\nProp-content-length: 10\nContent-length: 10\n\nPROPS-END\n\n\n";
-
-// Its lengths are 0, and no property block stands.
-pub(crate) const BLOCKLESS_TRUNK: &[u8] =
-    b"Node-path: trunk\nNode-kind: dir\nNode-action: add\nProp-content-length: 0\nContent-length: 0\n\n\n\n";
-
 // A property whose length has a leading zero, and as it is written.
 pub(crate) const SPELLED_TRUNK: &[u8] =
     b"Node-path: trunk\nNode-kind: dir\nNode-action: add\nProp-content-length: 22\nContent-length: 22\n\nK 01\na\nV 0\n\nPROPS-END\n\n\n";
@@ -89,32 +70,9 @@ pub(crate) const SPELLED_DELETION: &[u8] =
 pub(crate) const RESPELLED_DELETION: &[u8] =
     b"Node-path: trunk\nNode-kind: dir\nNode-action: change\nProp-delta: true\nProp-content-length: 27\nContent-length: 27\n\nK 1\na\nV 0\n\nD 1\nb\nPROPS-END\n\n\n";
 
-// Mergeinfo is deleted and set, and as it is written where revision 7 becomes 1.
-pub(crate) const MERGED_DELETION_7: &[u8] =
-    b"Node-path: trunk\nNode-kind: dir\nNode-action: change\nProp-content-length: 61\nContent-length: 61\n\nD 13\nsvn:mergeinfo\nK 13\nsvn:mergeinfo\nV 8\n/trunk:7\nPROPS-END\n\n\n";
-
-pub(crate) const MERGED_DELETION_1: &[u8] =
-    b"Node-path: trunk\nNode-kind: dir\nNode-action: change\nProp-content-length: 61\nContent-length: 61\n\nD 13\nsvn:mergeinfo\nK 13\nsvn:mergeinfo\nV 8\n/trunk:1\nPROPS-END\n\n\n";
-
-pub(crate) const FILE: &[u8] =
-    b"Node-path: trunk/f\nNode-kind: file\nNode-action: add\nText-content-length: 3\nContent-length: 3\n\nabc\n\n";
-
-// The file as a copy of one that isn't kept, with its text and without.
-pub(crate) const COPIED_FILE: &[u8] =
-    b"Node-path: trunk/f\nNode-kind: file\nNode-action: add\nNode-copyfrom-rev: 0\nNode-copyfrom-path: other/f\nText-copy-source-md5: 900150983cd24fb0d6963f7d28e17f72\nText-copy-source-sha1: a9993e364706816aba3e25717850c26c9cd0d89d\nText-content-length: 3\nContent-length: 3\n\nabc\n\n";
-
-pub(crate) const TEXTLESS_COPIED_FILE: &[u8] =
-    b"Node-path: trunk/f\nNode-kind: file\nNode-action: add\nNode-copyfrom-rev: 0\nNode-copyfrom-path: other/f\nText-copy-source-md5: 900150983cd24fb0d6963f7d28e17f72\nText-copy-source-sha1: a9993e364706816aba3e25717850c26c9cd0d89d\n\n\n\n";
-
 // Copies of these directories.
-pub(crate) const TAG_OF_TRUNK_1: &[u8] =
-    b"Node-path: trunk/tag\nNode-kind: dir\nNode-action: add\nNode-copyfrom-rev: 1\nNode-copyfrom-path: trunk\n\n\n\n";
-
 pub(crate) const TAG_OF_TRUNK_2: &[u8] =
     b"Node-path: trunk/tag\nNode-kind: dir\nNode-action: add\nNode-copyfrom-rev: 2\nNode-copyfrom-path: trunk\n\n\n\n";
-
-pub(crate) const TAG_OF_TRUNK_3: &[u8] =
-    b"Node-path: trunk/tag\nNode-kind: dir\nNode-action: add\nNode-copyfrom-rev: 3\nNode-copyfrom-path: trunk\n\n\n\n";
 
 pub(crate) const TAG_OF_TRUNK_5: &[u8] =
     b"Node-path: trunk/tag\nNode-kind: dir\nNode-action: add\nNode-copyfrom-rev: 5\nNode-copyfrom-path: trunk\n\n\n\n";
