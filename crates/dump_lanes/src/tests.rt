@@ -16,14 +16,15 @@ fn two_items_and_the_end(rt: HostRuntime) -> Result<(), Fail> {
     let Ok((mut input, mut output)) = lane::<u32>(rt.alloc(), 2) else {
         return Err(AllocError.into());
     };
-    assert!(rt; input.put(&rt, 1).is_ok());
-    assert!(rt; input.put(&rt, 2).is_ok());
+    let put_one = input.put(&rt, 1).is_ok();
+    let put_two = input.put(&rt, 2).is_ok();
     let sent = input.close(&rt);
-    assert!(rt; output.take(&rt) == Taken::Item(1));
-    assert!(rt; output.take(&rt) == Taken::Item(2));
-    assert!(rt; output.take(&rt) == Taken::Closed);
-    assert!(rt; output.take(&rt) == Taken::Closed);
+    let one = output.take(&rt) == Taken::Item(1);
+    let two = output.take(&rt) == Taken::Item(2);
+    let closed = output.take(&rt) == Taken::Closed;
+    let again = output.take(&rt) == Taken::Closed;
     output.settle(sent);
+    assert!(rt; put_one && put_two && one && two && closed && again);
     Ok(())
 }
 
@@ -32,11 +33,11 @@ fn the_input_is_dropped(rt: HostRuntime) -> Result<(), Fail> {
     let Ok((mut input, mut output)) = lane::<u32>(rt.alloc(), 2) else {
         return Err(AllocError.into());
     };
-    assert!(rt; input.put(&rt, 1).is_ok());
+    let put = input.put(&rt, 1).is_ok();
     drop(input);
-    assert!(rt; output.take(&rt) == Taken::Item(1));
-    assert!(rt; output.take(&rt) == Taken::Lost);
-    assert!(rt; output.take(&rt) == Taken::Lost);
+    let taken = output.take(&rt) == Taken::Item(1);
+    let lost = output.take(&rt) == Taken::Lost && output.take(&rt) == Taken::Lost;
+    assert!(rt; put && taken && lost);
     Ok(())
 }
 

@@ -9,8 +9,6 @@ const VERSION: &[u8] = b"SVN-fs-dump-format-version: 2\n\n";
 
 const VERSION_THREE: &[u8] = b"SVN-fs-dump-format-version: 3\n\n";
 
-const VERSION_FOUR: &[u8] = b"SVN-fs-dump-format-version: 4\n\n";
-
 const UUID: &[u8] = b"UUID: 7bf7a5ef-cabf-0310-b7d4-93df341afa7e\n\n";
 
 // A revision, with one LF behind it.
@@ -66,18 +64,22 @@ fn ends_behind(dump: &[u8], count: u64, end: Seen) -> bool {
     seen_in(cutter.next()) == end && seen_in(cutter.next()) == end
 }
 
+// A version, a UUID and a revision, of 195 bytes.
+const ALL: &[u8] = b"SVN-fs-dump-format-version: 2\n\n\
+UUID: 7bf7a5ef-cabf-0310-b7d4-93df341afa7e\n\n\
+Revision-number: 0\nProp-content-length: 56\nContent-length: 56\n\n\
+K 8\nsvn:date\nV 27\n2024-01-02T03:04:05.000000Z\nPROPS-END\n\n";
+
 #[test]
 fn the_end_is_told_again(rt: HostRuntime) -> Result<(), Fail> {
-    let all = joined(rt.alloc(), &[VERSION, UUID, REVISION])?;
-    assert!(rt; all.len() == 195);
-    let whole = all.get(..194).ok_or("too short")?;
-    let short = all.get(..193).ok_or("too short")?;
-    let cut = all.get(..80).ok_or("too short")?;
+    let whole = ALL.get(..194).ok_or("too short")?;
+    let short = ALL.get(..193).ok_or("too short")?;
+    let cut = ALL.get(..80).ok_or("too short")?;
     let rows = [
         (VERSION, 1, Seen::Finished),
         (b"", 0, Seen::Fault(FaultKind::HeaderCut, 0)),
         (b"\n\n\n", 0, Seen::Fault(FaultKind::HeaderCut, 3)),
-        (all.as_slice(), 3, Seen::Finished),
+        (ALL, 3, Seen::Finished),
         (whole, 3, Seen::Finished),
         (short, 2, Seen::Fault(FaultKind::ContentCut, 75)),
         (cut, 2, Seen::Fault(FaultKind::HeaderCut, 75)),
@@ -107,20 +109,18 @@ fn is_lent(record: &Record<'_>, part: RecordPart, bytes: &[u8], with: &[u8]) -> 
 
 #[test]
 fn the_bytes_from_a_part_are_lent_with_what_stands_behind(rt: HostRuntime) -> Result<(), Fail> {
-    let alloc = rt.alloc();
-    let block = b"Revision-number: 0\nProp-content-length: 10\nContent-length: 10\n\n".as_slice();
-    let props = b"PROPS-END\n".as_slice();
-    let dump = joined(alloc, &[VERSION, block, props, b"\n"])?;
-    let mut cutter = Cutter::new(&dump);
+    let alone =
+        b"Revision-number: 0\nProp-content-length: 10\nContent-length: 10\n\nPROPS-END\n".as_slice();
+    let followed =
+        b"Revision-number: 0\nProp-content-length: 10\nContent-length: 10\n\nPROPS-END\n\n".as_slice();
+    let mut cutter = Cutter::new(
+        b"SVN-fs-dump-format-version: 2\n\nRevision-number: 0\nProp-content-length: 10\nContent-length: 10\n\nPROPS-END\n\n",
+    );
     assert!(rt; next_record(&mut cutter)?.bytes_from(RecordPart::Block) == VERSION);
     let revision = next_record(&mut cutter)?;
-    let (alone, followed) = (
-        joined(alloc, &[block, props])?,
-        joined(alloc, &[block, props, b"\n"])?,
-    );
     for (part, bytes, with) in [
-        (RecordPart::Block, alone.as_slice(), followed.as_slice()),
-        (RecordPart::Properties, props, b"PROPS-END\n\n"),
+        (RecordPart::Block, alone, followed),
+        (RecordPart::Properties, b"PROPS-END\n", b"PROPS-END\n\n"),
         (RecordPart::Text, b"", b"\n"),
     ] {
         assert!(rt; is_lent(&revision, part, bytes, with));
@@ -129,13 +129,18 @@ fn the_bytes_from_a_part_are_lent_with_what_stands_behind(rt: HostRuntime) -> Re
 }
 
 #[test]
-fn no_version_but_two_and_three_is_read(rt: HostRuntime) -> Result<(), Fail> {
-    for first in [VERSION, VERSION_THREE] {
-        let dump = joined(rt.alloc(), &[first, VERSION_FOUR])?;
-        assert!(rt; ends_behind(&dump, 1, Seen::Fault(FaultKind::Version, 31)));
+fn no_version_but_two_and_three_is_read(rt: HostRuntime) {
+    for dump in [
+        b"SVN-fs-dump-format-version: 2\n\nSVN-fs-dump-format-version: 4\n\n".as_slice(),
+        b"SVN-fs-dump-format-version: 3\n\nSVN-fs-dump-format-version: 4\n\n",
+    ] {
+        assert!(rt;
+            ends_behind(dump, 1, Seen::Fault(FaultKind::Version, 31)),
+            "{dump:?}"
+        );
     }
     for dump in [
-        VERSION_FOUR,
+        b"SVN-fs-dump-format-version: 4\n\n".as_slice(),
         b"SVN-fs-dump-format-version: 1\n\n",
         b"SVN-fs-dump-format-version: x\n\n",
     ] {
@@ -144,7 +149,6 @@ fn no_version_but_two_and_three_is_read(rt: HostRuntime) -> Result<(), Fail> {
             "{dump:?}"
         );
     }
-    Ok(())
 }
 
 // Whether the records of a dump stand under these versions.
@@ -185,75 +189,82 @@ fn deltas_behind(alloc: Global, version: &[u8], lines: &[u8]) -> Result<(bool, b
     Ok((record.text_delta(), record.prop_delta()))
 }
 
+const BOTH_DELTAS: &[u8] = b"Node-path: f\nText-delta: true\nProp-delta: true\n";
+
+const DELTAS: [(&[u8], &[u8], (bool, bool)); 7] = [
+    (VERSION_THREE, BOTH_DELTAS, (true, true)),
+    (VERSION, BOTH_DELTAS, (false, false)),
+    (
+        VERSION_THREE,
+        b"Node-path: f\nText-delta: true\n",
+        (true, false),
+    ),
+    (
+        VERSION_THREE,
+        b"Node-path: f\nProp-delta: true\n",
+        (false, true),
+    ),
+    (
+        VERSION_THREE,
+        b"Node-path: f\nText-delta: True\nProp-delta: false\n",
+        (false, false),
+    ),
+    (VERSION_THREE, b"Node-path: f\n", (false, false)),
+    (
+        VERSION_THREE,
+        b"Revision-number: 1\nText-delta: true\nProp-delta: true\n",
+        (false, false),
+    ),
+];
+
 #[test]
 fn only_a_node_under_version_three_has_a_delta(rt: HostRuntime) -> Result<(), Fail> {
     let alloc = rt.alloc();
-    let both = b"Node-path: f\nText-delta: true\nProp-delta: true\n".as_slice();
-    let rows = [
-        (VERSION_THREE, both, (true, true)),
-        (VERSION, both, (false, false)),
-        (
-            VERSION_THREE,
-            b"Node-path: f\nText-delta: true\n",
-            (true, false),
-        ),
-        (
-            VERSION_THREE,
-            b"Node-path: f\nProp-delta: true\n",
-            (false, true),
-        ),
-        (
-            VERSION_THREE,
-            b"Node-path: f\nText-delta: True\nProp-delta: false\n",
-            (false, false),
-        ),
-        (VERSION_THREE, b"Node-path: f\n", (false, false)),
-        (
-            VERSION_THREE,
-            b"Revision-number: 1\nText-delta: true\nProp-delta: true\n",
-            (false, false),
-        ),
-    ];
-    for (version, lines, deltas) in rows {
+    for (version, lines, deltas) in &DELTAS {
         assert!(rt;
-            deltas_behind(alloc, version, lines)? == deltas,
+            deltas_behind(alloc, version, lines)? == *deltas,
             "{version:?} {lines:?}"
         );
     }
     Ok(())
 }
 
+const BROKEN_BLOCKS: [(&[u8], FaultKind); 7] = [
+    (
+        b"SVN-fs-dump-format-version: 2\n\nUUID: a\nNode-path: f\n\n",
+        FaultKind::Kind,
+    ),
+    (
+        b"SVN-fs-dump-format-version: 2\n\nNode-path: f\nNode-copyfrom-rev: 0\n\n",
+        FaultKind::Kind,
+    ),
+    (
+        b"SVN-fs-dump-format-version: 2\n\nNode-path: f\nText-content-length: 999999999999999999\nContent-length: 999999999999999999\n\n",
+        FaultKind::ContentCut,
+    ),
+    (
+        b"SVN-fs-dump-format-version: 2\n\nNode-path: f\nContent-length: 999999999999999999\n\n",
+        FaultKind::Lengths,
+    ),
+    (
+        b"SVN-fs-dump-format-version: 2\n\nNode-path: f\nContent-length: 9999999999999999999\n\n",
+        FaultKind::Number,
+    ),
+    (
+        b"SVN-fs-dump-format-version: 2\n\nNode-path: f\nProp-content-length: 999999999999999999\nText-content-length: 999999999999999999\n\n",
+        FaultKind::ContentCut,
+    ),
+    (
+        b"SVN-fs-dump-format-version: 2\n\nNode-path: f\nProp-content-length: 999999999999999999\nText-content-length: 999999999999999999\nContent-length: 1999999999999999998\n\n",
+        FaultKind::Number,
+    ),
+];
+
 #[test]
-fn header_lines_that_break_a_rule_are_a_fault(rt: HostRuntime) -> Result<(), Fail> {
-    let rows = [
-        (b"UUID: a\nNode-path: f\n\n".as_slice(), FaultKind::Kind),
-        (b"Node-path: f\nNode-copyfrom-rev: 0\n\n", FaultKind::Kind),
-        (
-            b"Node-path: f\nText-content-length: 999999999999999999\nContent-length: 999999999999999999\n\n",
-            FaultKind::ContentCut,
-        ),
-        (
-            b"Node-path: f\nContent-length: 999999999999999999\n\n",
-            FaultKind::Lengths,
-        ),
-        (
-            b"Node-path: f\nContent-length: 9999999999999999999\n\n",
-            FaultKind::Number,
-        ),
-        (
-            b"Node-path: f\nProp-content-length: 999999999999999999\nText-content-length: 999999999999999999\n\n",
-            FaultKind::ContentCut,
-        ),
-        (
-            b"Node-path: f\nProp-content-length: 999999999999999999\nText-content-length: 999999999999999999\nContent-length: 1999999999999999998\n\n",
-            FaultKind::Number,
-        ),
-    ];
-    for (block, kind) in rows {
-        let dump = joined(rt.alloc(), &[VERSION, block])?;
-        assert!(rt; ends_behind(&dump, 1, Seen::Fault(kind, 31)), "{block:?}");
+fn header_lines_that_break_a_rule_are_a_fault(rt: HostRuntime) {
+    for (dump, kind) in &BROKEN_BLOCKS {
+        assert!(rt; ends_behind(dump, 1, Seen::Fault(*kind, 31)), "{dump:?}");
     }
-    Ok(())
 }
 
 // Whether a record has this kind, number, place and place behind it.
@@ -300,34 +311,36 @@ fn has_block(node: &Record<'_>) -> bool {
         && block.get(b"Node-kind") == Some(b"file".as_slice())
 }
 
+// A version, a UUID, a revision with a header that only a node has a use for, and a node.
+const FOUR: &[u8] = b"SVN-fs-dump-format-version: 2\n\n\
+UUID: 7bf7a5ef-cabf-0310-b7d4-93df341afa7e\n\n\
+Revision-number: 4\nNode-copyfrom-path: other/f\nProp-content-length: 10\nContent-length: 10\n\nPROPS-END\n\
+Node-path: trunk/f\nNode-kind: file\nNode-action: add\nNode-copyfrom-rev: 3\nNode-copyfrom-path: other/f\n\
+Text-content-length: 3\nContent-length: 3\n\nabc";
+
 #[test]
 fn records_are_read(rt: HostRuntime) -> Result<(), Fail> {
-    let dump = joined(rt.alloc(), &[VERSION, UUID, COPYING_REVISION, NODE])?;
-    let mut cutter = Cutter::new(&dump);
+    let mut cutter = Cutter::new(FOUR);
     let version = next_record(&mut cutter)?;
-    assert!(rt; is_placed(&version, RecordKind::Version, (0, 0, 31)));
     let uuid = next_record(&mut cutter)?;
-    assert!(rt; is_placed(&uuid, RecordKind::Uuid, (1, 31, 75)));
-
     let revision = next_record(&mut cutter)?;
-    let placed = is_placed(&revision, RecordKind::Revision, (2, 75, 176));
-    assert!(rt; placed && revision.revision() == Some(4));
-    assert!(rt; has_only_properties(&revision) && has_no_copy(&revision));
-
     let node = next_record(&mut cutter)?;
+    assert!(rt; seen_in(cutter.next()) == Seen::Finished);
+    assert!(rt; is_placed(&version, RecordKind::Version, (0, 0, 31)));
+    assert!(rt; is_placed(&uuid, RecordKind::Uuid, (1, 31, 75)));
+    assert!(rt; is_placed(&revision, RecordKind::Revision, (2, 75, 176)));
+    assert!(rt; revision.revision() == Some(4) && has_no_copy(&revision));
+    assert!(rt; has_only_properties(&revision));
     assert!(rt; is_placed(&node, RecordKind::Node, (3, 176, 322)) && has_block(&node));
     assert!(rt; is_copied(&node) && has_only_text(&node));
-    assert!(rt; seen_in(cutter.next()) == Seen::Finished);
     Ok(())
 }
 
 #[test]
 fn what_the_lines_of_a_node_say_is_read(rt: HostRuntime) -> Result<(), Fail> {
-    let file =
-        b"Node-path: f\nNode-kind: file\nText-content-md5: 900150983cd24fb0d6963f7d28e17f72\nText-content-sha1: a9993e364706816aba3e25717850c26c9cd0d89d\n\n";
-    let folder = b"Node-path: d\nNode-kind: dir\n\n";
-    let dump = joined(rt.alloc(), &[VERSION, file, folder])?;
-    let mut cutter = Cutter::new(&dump);
+    let mut cutter = Cutter::new(
+        b"SVN-fs-dump-format-version: 2\n\nNode-path: f\nNode-kind: file\nText-content-md5: 900150983cd24fb0d6963f7d28e17f72\nText-content-sha1: a9993e364706816aba3e25717850c26c9cd0d89d\n\nNode-path: d\nNode-kind: dir\n\n",
+    );
     next_record(&mut cutter)?;
     let md5 = b"900150983cd24fb0d6963f7d28e17f72".as_slice();
     let sha1 = b"a9993e364706816aba3e25717850c26c9cd0d89d".as_slice();
@@ -346,37 +359,38 @@ fn is_written(alloc: Global, lines: &[u8], content: &[u8]) -> Result<bool, Fail>
     Ok(next_record(&mut cutter)?.is_written())
 }
 
+const BLOCKS: [(&[u8], &[u8], bool); 8] = [
+    (
+        b"Node-path: f\nText-content-length: 3\nContent-length: 3\n",
+        b"abc",
+        true,
+    ),
+    (b"Node-path: f\nContent-length: 0\n", b"", true),
+    (
+        b"Node-path: f\nText-content-length: 03\nContent-length: 3\n",
+        b"abc",
+        false,
+    ),
+    (
+        b"Node-path: f\nText-content-length: 3\nContent-length: 03\n",
+        b"abc",
+        false,
+    ),
+    (b"Node-path: f\nText-content-length: 3\n", b"abc", false),
+    (b"Node-path: f\nText-content-length: 00\n", b"", false),
+    (
+        b"Node-path: f\nNode-copyfrom-rev: 01\nNode-copyfrom-path: g\n",
+        b"",
+        false,
+    ),
+    (b"Revision-number: 01\n", b"", false),
+];
+
 #[test]
 fn a_block_is_written_as_it_stands(rt: HostRuntime) -> Result<(), Fail> {
     let alloc = rt.alloc();
-    let rows = [
-        (
-            b"Node-path: f\nText-content-length: 3\nContent-length: 3\n".as_slice(),
-            b"abc".as_slice(),
-            true,
-        ),
-        (b"Node-path: f\nContent-length: 0\n", b"", true),
-        (
-            b"Node-path: f\nText-content-length: 03\nContent-length: 3\n",
-            b"abc",
-            false,
-        ),
-        (
-            b"Node-path: f\nText-content-length: 3\nContent-length: 03\n",
-            b"abc",
-            false,
-        ),
-        (b"Node-path: f\nText-content-length: 3\n", b"abc", false),
-        (b"Node-path: f\nText-content-length: 00\n", b"", false),
-        (
-            b"Node-path: f\nNode-copyfrom-rev: 01\nNode-copyfrom-path: g\n",
-            b"",
-            false,
-        ),
-        (b"Revision-number: 01\n", b"", false),
-    ];
-    for (lines, content, written) in rows {
-        assert!(rt; is_written(alloc, lines, content)? == written);
+    for (lines, content, written) in &BLOCKS {
+        assert!(rt; is_written(alloc, lines, content)? == *written);
     }
     Ok(())
 }

@@ -24,12 +24,12 @@ fn has_images(reach: &Reach, rows: &[(u64, Option<u64>)]) -> bool {
 #[test]
 fn images_are_of_the_last_kept_revision(rt: HostRuntime) -> Result<(), Fail> {
     let mut reach = Reach::new(rt.alloc(), 5);
-    assert!(rt; reach.first() == 5 && reach.count() == 0 && has_images(&reach, &[(100, None)]));
+    let empty = reach.first() == 5 && reach.count() == 0 && has_images(&reach, &[(100, None)]);
     reach.push(6)?;
     reach.push(9)?;
     let (fifth, sixth) = (Some(5), Some(6));
     let rows = [(5, None), (6, fifth), (8, fifth), (9, sixth), (100, sixth)];
-    assert!(rt; reach.count() == 2 && has_images(&reach, &rows));
+    assert!(rt; empty && reach.count() == 2 && has_images(&reach, &rows));
     Ok(())
 }
 
@@ -47,43 +47,45 @@ fn push_or_no_memory(rt: HostRuntime) {
     }
 }
 
+const LINES: [(&[u8], bool); 15] = [
+    (b"", true),
+    (b"\n", true),
+    (b"\n\n", false),
+    (b"/a:", true),
+    (b"/a:0", false),
+    (b"/a:3-2", false),
+    (b":1", false),
+    (b"/a:b:1", true),
+    (b"/a:1,,2", false),
+    (b"/a:1\n\n", false),
+    (b"/a:1-4,6*\n/b:2\n", true),
+    (b"/a:1\n\n/b:2", false),
+    (b"/a:1-999999999999999999", true),
+    (b"/a:1000000000000000000", false),
+    (b"/a", false),
+];
+
 #[test]
 fn mergeinfo_is_lines_of_ranges(rt: HostRuntime) {
-    let rows = [
-        (b"".as_slice(), true),
-        (b"\n", true),
-        (b"\n\n", false),
-        (b"/a:", true),
-        (b"/a:0", false),
-        (b"/a:3-2", false),
-        (b":1", false),
-        (b"/a:b:1", true),
-        (b"/a:1,,2", false),
-        (b"/a:1\n\n", false),
-        (b"/a:1-4,6*\n/b:2\n", true),
-        (b"/a:1\n\n/b:2", false),
-        (b"/a:1-999999999999999999", true),
-        (b"/a:1000000000000000000", false),
-        (b"/a", false),
-    ];
-    for (value, reads) in rows {
-        assert!(rt; merge_reads(value) == reads, "{value:?}");
+    for (value, reads) in &LINES {
+        assert!(rt; merge_reads(value) == *reads, "{value:?}");
     }
 }
 
+const STARS: [(&[u8], bool); 7] = [
+    (b"/a:5*,1-4", true),
+    (b"/a:5*,1-6", false),
+    (b"/a:1-4,3*", false),
+    (b"/a:4-9*,1-4", false),
+    (b"/a:3-8,5,1-4", true),
+    (b"/a:7*,5-6,1*", true),
+    (b"/a:1\n/a:1*", true),
+];
+
 #[test]
 fn no_revision_stands_with_a_star_and_without(rt: HostRuntime) {
-    let rows = [
-        (b"/a:5*,1-4".as_slice(), true),
-        (b"/a:5*,1-6", false),
-        (b"/a:1-4,3*", false),
-        (b"/a:4-9*,1-4", false),
-        (b"/a:3-8,5,1-4", true),
-        (b"/a:7*,5-6,1*", true),
-        (b"/a:1\n/a:1*", true),
-    ];
-    for (value, reads) in rows {
-        assert!(rt; merge_reads(value) == reads, "{value:?}");
+    for (value, reads) in &STARS {
+        assert!(rt; merge_reads(value) == *reads, "{value:?}");
     }
 }
 
@@ -112,19 +114,31 @@ fn is_read_between(
     Ok(merge_reads(value.as_bytes()))
 }
 
+/// Whether a text is mergeinfo between the two of each row, or not, as the row says.
+fn are_read_between(
+    alloc: Global,
+    text: &str,
+    rows: &[(&str, &str, bool)],
+) -> Result<bool, AllocError> {
+    for (before, behind, reads) in rows {
+        if is_read_between(alloc, before, text, behind)? != *reads {
+            return Ok(false);
+        }
+    }
+    Ok(true)
+}
+
 #[test]
 fn long_lists_of_both_kinds_in_any_order(rt: HostRuntime) -> Result<(), Fail> {
+    let rows = [
+        ("", "", true),
+        ("", ",1000*", false),
+        ("", ",998-999", false),
+        ("", ",0", false),
+        ("", ",", false),
+        ("", ",7-6*", false),
+    ];
     let list = falling(rt.alloc(), 1000, 200)?;
-    for (more, reads) in [
-        ("", true),
-        (",1000*", false),
-        (",998-999", false),
-        (",0", false),
-        (",", false),
-        (",7-6*", false),
-    ] {
-        let found = is_read_between(rt.alloc(), "", list.as_str(), more)?;
-        assert!(rt; found == reads, "{more}");
-    }
+    assert!(rt; are_read_between(rt.alloc(), list.as_str(), &rows)?);
     Ok(())
 }

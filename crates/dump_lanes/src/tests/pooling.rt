@@ -103,13 +103,12 @@ fn one_item_through_a_pool(rt: HostRuntime) -> Result<(), Fail> {
 // asked again: run under `--fail-alloc 1` to `32`.
 #[test]
 fn a_pool_or_no_memory(rt: HostRuntime) {
-    match Pool::<u32, u32>::new(&rt, rt.alloc(), 2, 4) {
-        Ok(mut pool) => {
-            if let Err(refused) = pool.ports(rt.alloc()) {
-                assert!(rt; refused == Memory);
-                assert!(rt; pool.ports(rt.alloc()).is_ok());
-            }
-        }
-        Err(refused) => assert!(rt; refused == Memory),
-    }
+    let answered = match Pool::<u32, u32>::new(&rt, rt.alloc(), 2, 4) {
+        Ok(mut pool) => match pool.ports(rt.alloc()) {
+            Ok(_) => true,
+            Err(refused) => refused == Memory && pool.ports(rt.alloc()).is_ok(),
+        },
+        Err(refused) => refused == Memory,
+    };
+    assert!(rt; answered);
 }

@@ -8,12 +8,12 @@ fn one_seat_raises_and_the_other_sees(rt: HostRuntime) -> Result<(), Fail> {
         return Err(AllocError.into());
     };
     let (mut one, mut other) = word.split(seat);
-    assert!(rt; !word.look(&mut one));
+    let down = !word.look(&mut one);
     word.raise(&mut other);
-    assert!(rt; word.look(&mut one));
+    let seen = word.look(&mut one);
     word.raise(&mut other);
     let mut both = word.join(one, other);
-    assert!(rt; word.look(&mut both));
+    assert!(rt; down && seen && word.look(&mut both));
     Ok(())
 }
 

@@ -1,26 +1,27 @@
 //! Ranges of both kinds in no order, more than are held at a time.
-use super::{falling, is_read_between};
+use super::{are_read_between, falling};
 use crate::merge_reads;
 use std::test::Fail;
 
+const MIXED: [(&[u8], bool); 12] = [
+    (b"/a:70*,60,1-100", false),
+    (b"/a:70*,60,1-69", true),
+    (b"/a:70*,60,1-70", false),
+    (b"/a:70,60*,1-100*", false),
+    (b"/a:70,60*,1-69*", true),
+    (b"/a:80-90*,85-99,1-3", false),
+    (b"/a:80-84*,85-99,1-3", true),
+    (b"/a:9,5-6*,1-3,7-8*,4", true),
+    (b"/a:9,5-6*,1-3,7-9*,4", false),
+    (b"/a:9,4-6*,1-3,7-8*,4", false),
+    (b"/a:9,5-6*,1-3,7-8*,4,0", false),
+    (b"/a:9,5-6*,1-3,7-8*,,4", false),
+];
+
 #[test]
 fn ranges_reach_over_others_of_their_kind(rt: HostRuntime) {
-    let rows = [
-        (b"/a:70*,60,1-100".as_slice(), false),
-        (b"/a:70*,60,1-69", true),
-        (b"/a:70*,60,1-70", false),
-        (b"/a:70,60*,1-100*", false),
-        (b"/a:70,60*,1-69*", true),
-        (b"/a:80-90*,85-99,1-3", false),
-        (b"/a:80-84*,85-99,1-3", true),
-        (b"/a:9,5-6*,1-3,7-8*,4", true),
-        (b"/a:9,5-6*,1-3,7-9*,4", false),
-        (b"/a:9,4-6*,1-3,7-8*,4", false),
-        (b"/a:9,5-6*,1-3,7-8*,4,0", false),
-        (b"/a:9,5-6*,1-3,7-8*,,4", false),
-    ];
-    for (value, reads) in rows {
-        assert!(rt; merge_reads(value) == reads, "{value:?}");
+    for (value, reads) in &MIXED {
+        assert!(rt; merge_reads(value) == *reads, "{value:?}");
     }
 }
 
@@ -28,8 +29,7 @@ fn ranges_reach_over_others_of_their_kind(rt: HostRuntime) {
 // many ranges of either kind, and of more of the one or the other.
 #[test]
 fn twenty_thousand_ranges_of_both_kinds_in_falling_order(rt: HostRuntime) -> Result<(), Fail> {
-    let text = falling(rt.alloc(), 20000, 20000)?;
-    for (first, last, reads) in [
+    let rows = [
         ("", "", true),
         ("30000,30001,30002,", "", true),
         ("30000*,30001*,30002*,", ",1*", true),
@@ -44,9 +44,8 @@ fn twenty_thousand_ranges_of_both_kinds_in_falling_order(rt: HostRuntime) -> Res
         ("25000-26000*,25500,", "", false),
         ("", ",0", false),
         ("", ",", false),
-    ] {
-        let found = is_read_between(rt.alloc(), first, text.as_str(), last)?;
-        assert!(rt; found == reads, "{first} {last}");
-    }
+    ];
+    let text = falling(rt.alloc(), 20000, 20000)?;
+    assert!(rt; are_read_between(rt.alloc(), text.as_str(), &rows)?);
     Ok(())
 }

@@ -21,28 +21,29 @@ fn is_matched(
     Ok(included == matched && left != matched)
 }
 
+const NAMES: [(&[u8], &[u8], bool); 16] = [
+    (b"trunk", b"trunk", true),
+    (b"trunk", b"trunk/a", true),
+    (b"trunk", b"/trunk/a", true),
+    (b"trunk", b"trunk2", false),
+    (b"trunk", b"trunk2/a", false),
+    (b"trunk", b"a/trunk", false),
+    (b"trunk", b"", false),
+    (b"//trunk/", b"trunk", true),
+    (b"//trunk/", b"trunk/a", true),
+    (b"//trunk/", b"/trunk/a", true),
+    (b"//trunk/", b"trunk2", false),
+    (b"//trunk/", b"", false),
+    (b"/", b"trunk2", true),
+    (b"/", b"", true),
+    (b"", b"trunk2", true),
+    (b"", b"", true),
+];
+
 #[test]
 fn prefixes_match_whole_names(rt: HostRuntime) -> Result<(), Fail> {
-    let rows = [
-        (b"trunk".as_slice(), b"trunk".as_slice(), true),
-        (b"trunk", b"trunk/a", true),
-        (b"trunk", b"/trunk/a", true),
-        (b"trunk", b"trunk2", false),
-        (b"trunk", b"trunk2/a", false),
-        (b"trunk", b"a/trunk", false),
-        (b"trunk", b"", false),
-        (b"//trunk/", b"trunk", true),
-        (b"//trunk/", b"trunk/a", true),
-        (b"//trunk/", b"/trunk/a", true),
-        (b"//trunk/", b"trunk2", false),
-        (b"//trunk/", b"", false),
-        (b"/", b"trunk2", true),
-        (b"/", b"", true),
-        (b"", b"trunk2", true),
-        (b"", b"", true),
-    ];
-    for (prefix, path, matched) in rows {
-        let right = is_matched(rt.alloc(), &[prefix], path, matched)?;
+    for (prefix, path, matched) in &NAMES {
+        let right = is_matched(rt.alloc(), &[*prefix], path, *matched)?;
         assert!(rt; right, "{prefix:?} {path:?}");
     }
     Ok(())
@@ -102,6 +103,33 @@ fn options_or_no_memory(rt: HostRuntime) {
     assert!(rt; answered);
 }
 
+const AMONG_MANY: [(&[u8], bool); 24] = [
+    (b"a", false),
+    (b"a/b", true),
+    (b"/a/b", true),
+    (b"//a/b", false),
+    (b"a/b/", true),
+    (b"a/b/c", true),
+    (b"a/b/c/d", true),
+    (b"a/bc", false),
+    (b"a/b.c", false),
+    (b"a-b", true),
+    (b"a-b/a", true),
+    (b"a-b.a", false),
+    (b"a.b", true),
+    (b"a.b/b", true),
+    (b"a.b-b", false),
+    (b"a,b", false),
+    (b"a0b", false),
+    (b"trunk", false),
+    (b"trunk/x", false),
+    (b"trunk//x", true),
+    (b"trunk//x/y", true),
+    (b"/tags/1/2", true),
+    (b"/", false),
+    (b"", false),
+];
+
 #[test]
 fn one_of_many_prefixes_matches(rt: HostRuntime) -> Result<(), Fail> {
     let prefixes = [
@@ -113,34 +141,8 @@ fn one_of_many_prefixes_matches(rt: HostRuntime) -> Result<(), Fail> {
         b"a.b/",
         b"tags",
     ];
-    let rows = [
-        (b"a".as_slice(), false),
-        (b"a/b", true),
-        (b"/a/b", true),
-        (b"//a/b", false),
-        (b"a/b/", true),
-        (b"a/b/c", true),
-        (b"a/b/c/d", true),
-        (b"a/bc", false),
-        (b"a/b.c", false),
-        (b"a-b", true),
-        (b"a-b/a", true),
-        (b"a-b.a", false),
-        (b"a.b", true),
-        (b"a.b/b", true),
-        (b"a.b-b", false),
-        (b"a,b", false),
-        (b"a0b", false),
-        (b"trunk", false),
-        (b"trunk/x", false),
-        (b"trunk//x", true),
-        (b"trunk//x/y", true),
-        (b"/tags/1/2", true),
-        (b"/", false),
-        (b"", false),
-    ];
-    for (path, matched) in rows {
-        let right = is_matched(rt.alloc(), &prefixes, path, matched)?;
+    for (path, matched) in &AMONG_MANY {
+        let right = is_matched(rt.alloc(), &prefixes, path, *matched)?;
         assert!(rt; right, "{path:?}");
     }
     Ok(())
@@ -174,18 +176,34 @@ fn keeps_numbered(alloc: Global, options: &Options, n: u64, end: &str) -> Result
     Ok(keeps(options, path.as_bytes()))
 }
 
-#[test]
-fn five_thousand_prefixes(rt: HostRuntime) -> Result<(), Fail> {
-    let include = five_thousand(rt.alloc())?;
+/// Whether these options keep just what stands at or below the path pN.
+fn keeps_whole_name(alloc: Global, options: &Options, n: u64) -> Result<bool, Fail> {
+    for (end, kept) in [("", true), ("/a/b", true), ("0", false), ("-a", false)] {
+        if keeps_numbered(alloc, options, n, end)? != kept {
+            return Ok(false);
+        }
+    }
+    Ok(true)
+}
+
+/// Whether these options keep just the paths under them.
+fn keeps_five_thousand(alloc: Global, options: &Options) -> Result<bool, Fail> {
     for n in [0u64, 1, 2499, 4998, 4999] {
-        for (end, kept) in [("", true), ("/a/b", true), ("0", false), ("-a", false)] {
-            let found = keeps_numbered(rt.alloc(), &include, n, end)?;
-            assert!(rt; found == kept, "p{n} {end}");
+        if !keeps_whole_name(alloc, options, n)? {
+            return Ok(false);
         }
     }
     for path in [b"p5000/a".as_slice(), b"p", b"p000", b"o/p0000", b""] {
-        assert!(rt; !keeps(&include, path), "{path:?}");
+        if keeps(options, path) {
+            return Ok(false);
+        }
     }
-    assert!(rt; include.prefix(4999) == Some(b"/p4999/".as_slice()));
+    Ok(options.prefix(4999) == Some(b"/p4999/".as_slice()))
+}
+
+#[test]
+fn five_thousand_prefixes(rt: HostRuntime) -> Result<(), Fail> {
+    let include = five_thousand(rt.alloc())?;
+    assert!(rt; keeps_five_thousand(rt.alloc(), &include)?);
     Ok(())
 }

@@ -64,6 +64,25 @@ fn are_rewritten(
     true
 }
 
+/// Whether each of these values is refused with this fault.
+fn are_refused(
+    alloc: Global,
+    values: &[&[u8]],
+    options: &Options,
+    reach: &Reach,
+    now: u64,
+    fault: RewriteFault,
+) -> bool
+    requires { All (λ k. k ≤ now) reach.now.numbers }
+{
+    for value in values {
+        if !is_rewritten(alloc, value, options, reach, now, Err(fault)) {
+            return false;
+        }
+    }
+    true
+}
+
 #[test]
 fn lines_of_kept_paths_are_written_as_runs(rt: HostRuntime) -> Result<(), Fail> {
     let reach = Reach::new(rt.alloc(), 0);
@@ -98,11 +117,12 @@ fn lines_under_a_prefix_are_written_as_runs(rt: HostRuntime) -> Result<(), Fail>
 fn lines_of_other_paths_are_refused_or_left_out(rt: HostRuntime) -> Result<(), Fail> {
     let reach = Reach::new(rt.alloc(), 0);
     let strict = rules(rt.alloc(), b"trunk", false, false)?;
-    let refused = Err(RewriteFault::MergeSource);
-    assert!(rt; is_rewritten(rt.alloc(), b"/other:1", &strict, &reach, 1, refused));
     let lenient = rules(rt.alloc(), b"trunk", false, true)?;
+    let refused = Err(RewriteFault::MergeSource);
+    let is_refused = is_rewritten(rt.alloc(), b"/other:1", &strict, &reach, 1, refused);
     let left = Ok(b"/trunk:1".as_slice());
-    assert!(rt; is_rewritten(rt.alloc(), b"/other:1\n/trunk:1", &lenient, &reach, 1, left));
+    let is_left = is_rewritten(rt.alloc(), b"/other:1\n/trunk:1", &lenient, &reach, 1, left);
+    assert!(rt; is_refused && is_left);
     Ok(())
 }
 
@@ -147,20 +167,23 @@ fn numbers_that_the_dump_cannot_have_are_refused(rt: HostRuntime) -> Result<(), 
     reach.push(5)?;
     reach.push(6)?;
     let strict = rules(rt.alloc(), b"/", true, false)?;
-    let refused = RewriteFault::MergeRange;
-    for value in [
+    let lenient = rules(rt.alloc(), b"/", true, true)?;
+    let values = [
         b"/trunk:4-5".as_slice(),
         b"/trunk:1-999999999999999999",
         b"/trunk:7",
-    ] {
-        assert!(rt;
-            is_rewritten(rt.alloc(), value, &strict, &reach, 6, Err(refused)),
-            "{value:?}"
-        );
-    }
-    let lenient = rules(rt.alloc(), b"/", true, true)?;
+    ];
+    let refused = are_refused(
+        rt.alloc(),
+        &values,
+        &strict,
+        &reach,
+        6,
+        RewriteFault::MergeRange,
+    );
     let left = Ok(b"/trunk:5".as_slice());
-    assert!(rt; is_rewritten(rt.alloc(), b"/trunk:4-5", &lenient, &reach, 6, left));
+    let is_left = is_rewritten(rt.alloc(), b"/trunk:4-5", &lenient, &reach, 6, left);
+    assert!(rt; refused && is_left);
     Ok(())
 }
 
@@ -177,52 +200,64 @@ fn faults_of(merged: &Merged, options: &Options, first: u64, present: u64) -> (b
     )
 }
 
+/// Whether each of these values has these faults where the first revision is 5 and the present one is 6.
+fn have_faults(options: &Options, rows: &[(&[u8], (bool, bool))]) -> bool {
+    for (value, faults) in rows {
+        match said(value, options) {
+            Some(merged) if faults_of(&merged, options, 5, 6) == *faults => {}
+            _ => return false,
+        }
+    }
+    true
+}
+
 #[test]
 fn faults_are_told_without_a_new_value(rt: HostRuntime) -> Result<(), Fail> {
     let strict = rules(rt.alloc(), b"trunk", true, false)?;
-    for (value, faults) in [
+    let rows = [
         (b"/trunk:5\n/other:5".as_slice(), (true, false)),
         (b"/trunk:5\n", (false, false)),
         (b"/trunk:4-6", (false, true)),
         (b"/trunk:5-7", (false, true)),
         (b"/trunk:5-6\n/other:4", (true, false)),
-    ] {
-        let merged = said(value, &strict).ok_or("no mergeinfo")?;
-        assert!(rt; faults_of(&merged, &strict, 5, 6) == faults, "{value:?}");
-    }
-    assert!(rt; said(b"/trunk", &strict).is_none());
+    ];
+    assert!(rt; have_faults(&strict, &rows) && said(b"/trunk", &strict).is_none());
     Ok(())
 }
 
 #[test]
 fn faults_are_fewer_where_less_is_asked(rt: HostRuntime) -> Result<(), Fail> {
     let lenient = rules(rt.alloc(), b"trunk", true, true)?;
-    for (value, faults) in [
+    let old_numbers = rules(rt.alloc(), b"trunk", false, false)?;
+    let rows = [
         (b"/trunk:5\n/other:5".as_slice(), (false, false)),
         (b"/trunk:4-6", (false, false)),
         (b"/trunk:5-7", (false, true)),
-    ] {
-        let merged = said(value, &lenient).ok_or("no mergeinfo")?;
-        assert!(rt; faults_of(&merged, &lenient, 5, 6) == faults, "{value:?}");
-    }
-    let old_numbers = rules(rt.alloc(), b"trunk", false, false)?;
-    let merged = said(b"/trunk:5-7", &old_numbers).ok_or("no mergeinfo")?;
-    assert!(rt; faults_of(&merged, &old_numbers, 5, 6) == (false, false));
+    ];
+    let fewer = have_faults(&lenient, &rows);
+    assert!(rt; fewer && have_faults(&old_numbers, &[(b"/trunk:5-7", (false, false))]));
     Ok(())
+}
+
+/// Whether what two values say is told together.
+fn are_told_together(options: &Options) -> bool {
+    let Some(first) = said(b"/trunk:7", options) else {
+        return false;
+    };
+    let Some(both) = first.with(b"/trunk/a:5-6\n/other:9", options) else {
+        return false;
+    };
+    !first.misses_source()
+        && faults_of(&both, options, 5, 6) == (true, true)
+        && faults_of(&both, options, 6, 7) == (true, true)
+        && faults_of(&both, options, 5, 7) == (true, false)
+        && first.with(b"x", options).is_none()
 }
 
 #[test]
 fn values_are_told_together(rt: HostRuntime) -> Result<(), Fail> {
     let strict = rules(rt.alloc(), b"trunk", true, false)?;
-    let first = said(b"/trunk:7", &strict).ok_or("no mergeinfo")?;
-    let both = first
-        .with(b"/trunk/a:5-6\n/other:9", &strict)
-        .ok_or("no mergeinfo")?;
-    assert!(rt; !first.misses_source());
-    assert!(rt; faults_of(&both, &strict, 5, 6) == (true, true));
-    assert!(rt; faults_of(&both, &strict, 6, 7) == (true, true));
-    assert!(rt; faults_of(&both, &strict, 5, 7) == (true, false));
-    assert!(rt; first.with(b"x", &strict).is_none());
+    assert!(rt; are_told_together(&strict));
     Ok(())
 }
 
@@ -254,11 +289,12 @@ fn ten_thousand_ranges_in_any_order(rt: HostRuntime) -> Result<(), Fail> {
     let reach = Reach::new(rt.alloc(), 0);
     let options = rules(rt.alloc(), b"/", false, false)?;
     let down = ten_thousand(rt.alloc(), true)?;
-    let joined = Ok(b"/a:1-10000".as_slice());
-    assert!(rt; is_rewritten(rt.alloc(), down.as_bytes(), &options, &reach, 1, joined));
     let odd = ten_thousand(rt.alloc(), false)?;
-    let same = Ok(odd.as_bytes());
-    assert!(rt; is_rewritten(rt.alloc(), odd.as_bytes(), &options, &reach, 1, same));
+    let rows = [
+        (down.as_bytes(), b"/a:1-10000".as_slice()),
+        (odd.as_bytes(), odd.as_bytes()),
+    ];
+    assert!(rt; are_rewritten(rt.alloc(), &rows, &options, &reach, 1));
     Ok(())
 }
 
@@ -274,9 +310,10 @@ fn new_value_or_no_memory(rt: HostRuntime) -> Result<(), Fail> {
     if !merge_reads(value) {
         return Err("no mergeinfo".into());
     }
-    match rewrite(rt.alloc(), value, &options, &reach, 1) {
-        Ok(new) => assert!(rt; new.as_slice() == b"/a:1-4\n/b:1,3,5,7,9".as_slice()),
-        Err(fault) => assert!(rt; fault == RewriteFault::Memory),
-    }
+    let answered = match rewrite(rt.alloc(), value, &options, &reach, 1) {
+        Ok(new) => new.as_slice() == b"/a:1-4\n/b:1,3,5,7,9".as_slice(),
+        Err(fault) => fault == RewriteFault::Memory,
+    };
+    assert!(rt; answered);
     Ok(())
 }
