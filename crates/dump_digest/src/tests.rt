@@ -183,55 +183,56 @@ fn verdict_on_abc(alloc: Global, path: &str, digests: &str) -> Result<Verdict, F
     verdict_on(alloc, file.as_str())
 }
 
+const DIGESTS: [(&str, Verdict); 12] = [
+    ("", OK),
+    (
+        "Text-content-md5: 900150983cd24fb0d6963f7d28e17f72\n",
+        CHECKED,
+    ),
+    (
+        "Text-content-md5: 900150983CD24FB0D6963F7D28E17F72\n",
+        CHECKED,
+    ),
+    (
+        "Text-content-md5: 900150983cd24fb0d6963f7d28e17f73\n",
+        BAD_MD5,
+    ),
+    (
+        "Text-content-md5: 900150983cd24fb0d6963f7d28e17f7\n",
+        BAD_MD5,
+    ),
+    (
+        "Text-content-md5: 900150983cd24fb0d6963f7d28e17f720\n",
+        BAD_MD5,
+    ),
+    (
+        "Text-content-md5: 900150983cd24fb0d6963f7d28e17f7x\n",
+        BAD_MD5,
+    ),
+    ("Text-content-md5: \n", BAD_MD5),
+    (
+        "Text-content-sha1: a9993e364706816aba3e25717850c26c9cd0d89d\n",
+        CHECKED,
+    ),
+    (
+        "Text-content-sha1: A9993E364706816ABA3E25717850C26C9CD0D89D\n",
+        CHECKED,
+    ),
+    (
+        "Text-content-sha1: a9993e364706816aba3e25717850c26c9cd0d89e\n",
+        BAD_SHA1,
+    ),
+    (
+        "Text-content-sha1: 900150983cd24fb0d6963f7d28e17f72\n",
+        BAD_SHA1,
+    ),
+];
+
 #[test]
 fn digests_are_those_of_the_text(rt: HostRuntime) -> Result<(), Fail> {
-    let rows = [
-        ("", OK),
-        (
-            "Text-content-md5: 900150983cd24fb0d6963f7d28e17f72\n",
-            CHECKED,
-        ),
-        (
-            "Text-content-md5: 900150983CD24FB0D6963F7D28E17F72\n",
-            CHECKED,
-        ),
-        (
-            "Text-content-md5: 900150983cd24fb0d6963f7d28e17f73\n",
-            BAD_MD5,
-        ),
-        (
-            "Text-content-md5: 900150983cd24fb0d6963f7d28e17f7\n",
-            BAD_MD5,
-        ),
-        (
-            "Text-content-md5: 900150983cd24fb0d6963f7d28e17f720\n",
-            BAD_MD5,
-        ),
-        (
-            "Text-content-md5: 900150983cd24fb0d6963f7d28e17f7x\n",
-            BAD_MD5,
-        ),
-        ("Text-content-md5: \n", BAD_MD5),
-        (
-            "Text-content-sha1: a9993e364706816aba3e25717850c26c9cd0d89d\n",
-            CHECKED,
-        ),
-        (
-            "Text-content-sha1: A9993E364706816ABA3E25717850C26C9CD0D89D\n",
-            CHECKED,
-        ),
-        (
-            "Text-content-sha1: a9993e364706816aba3e25717850c26c9cd0d89e\n",
-            BAD_SHA1,
-        ),
-        (
-            "Text-content-sha1: 900150983cd24fb0d6963f7d28e17f72\n",
-            BAD_SHA1,
-        ),
-    ];
-    for (digests, verdict) in rows {
+    for (digests, verdict) in &DIGESTS {
         assert!(rt;
-            verdict_on_abc(rt.alloc(), "trunk/f", digests)? == verdict,
+            verdict_on_abc(rt.alloc(), "trunk/f", digests)? == *verdict,
             "{digests}"
         );
         assert!(rt;
@@ -267,21 +268,22 @@ fn verdict_on_delta(
     verdict_under(alloc, version, file.as_str())
 }
 
+const DELTAS: [(&str, &str, Verdict, Verdict); 6] = [
+    ("3", "Text-delta: true\n", OK, OK),
+    ("3", "Text-delta: false\n", CHECKED, BAD_DIGESTS),
+    ("3", "Prop-delta: true\n", CHECKED, BAD_DIGESTS),
+    ("3", "", CHECKED, BAD_DIGESTS),
+    ("2", "Text-delta: true\n", CHECKED, BAD_DIGESTS),
+    ("2", "Text-delta: false\n", CHECKED, BAD_DIGESTS),
+];
+
 #[test]
 fn deltas_are_not_digested(rt: HostRuntime) -> Result<(), Fail> {
-    let rows = [
-        ("3", "Text-delta: true\n", OK, OK),
-        ("3", "Text-delta: false\n", CHECKED, BAD_DIGESTS),
-        ("3", "Prop-delta: true\n", CHECKED, BAD_DIGESTS),
-        ("3", "", CHECKED, BAD_DIGESTS),
-        ("2", "Text-delta: true\n", CHECKED, BAD_DIGESTS),
-        ("2", "Text-delta: false\n", CHECKED, BAD_DIGESTS),
-    ];
-    for (version, delta, right, wrong) in rows {
+    for (version, delta, right, wrong) in &DELTAS {
         let found = verdict_on_delta(rt.alloc(), version, delta, RIGHT_DIGESTS)?;
-        assert!(rt; found == right, "{version} {delta}");
+        assert!(rt; found == *right, "{version} {delta}");
         let found = verdict_on_delta(rt.alloc(), version, delta, WRONG_DIGESTS)?;
-        assert!(rt; found == wrong, "{version} {delta}");
+        assert!(rt; found == *wrong, "{version} {delta}");
     }
     Ok(())
 }
@@ -337,26 +339,28 @@ fn verdict_on_values(
     verdict_on(alloc, text.as_str())
 }
 
+const KEPT: &str = "Node-path: trunk";
+
+const VALUES: [(&str, &str, &str, &str, Verdict); 6] = [
+    (KEPT, "/trunk:1", "/trunk:2", "PROPS-END\n", OK),
+    (KEPT, "/trunk:1", "/trunk:0", "PROPS-END\n", BAD_MERGEINFO),
+    (KEPT, "/trunk:0", "/trunk:1", "PROPS-END\n", BAD_MERGEINFO),
+    (KEPT, "/trunk:0", "/trunk:1", "PROPS-ENDX", BAD_PROPERTIES),
+    ("Node-path: tags", "/trunk:0", "/trunk:1", "PROPS-END\n", OK),
+    (
+        "Revision-number: 1",
+        "/trunk:0",
+        "/trunk:1",
+        "PROPS-END\n",
+        OK,
+    ),
+];
+
 #[test]
 fn mergeinfo_of_kept_nodes_is_checked(rt: HostRuntime) -> Result<(), Fail> {
-    let kept = "Node-path: trunk";
-    let rows = [
-        (kept, "/trunk:1", "/trunk:2", "PROPS-END\n", OK),
-        (kept, "/trunk:1", "/trunk:0", "PROPS-END\n", BAD_MERGEINFO),
-        (kept, "/trunk:0", "/trunk:1", "PROPS-END\n", BAD_MERGEINFO),
-        (kept, "/trunk:0", "/trunk:1", "PROPS-ENDX", BAD_PROPERTIES),
-        ("Node-path: tags", "/trunk:0", "/trunk:1", "PROPS-END\n", OK),
-        (
-            "Revision-number: 1",
-            "/trunk:0",
-            "/trunk:1",
-            "PROPS-END\n",
-            OK,
-        ),
-    ];
-    for (header, first, second, end, verdict) in rows {
+    for (header, first, second, end, verdict) in &VALUES {
         let found = verdict_on_values(rt.alloc(), header, first, second, end)?;
-        assert!(rt; found == verdict, "{header} {first} {second} {end}");
+        assert!(rt; found == *verdict, "{header} {first} {second} {end}");
     }
     Ok(())
 }
@@ -388,23 +392,23 @@ fn verdict_on_entries(
     verdict_under(alloc, version, item.as_str())
 }
 
+const DELETING: [(&str, &str, Verdict); 8] = [
+    ("3", KEPT, OK),
+    ("3", "Node-path: trunk\nProp-delta: true", OK),
+    ("3", "Revision-number: 1", BAD_PROPERTIES),
+    ("3", "Node-path: tags", OK),
+    ("2", KEPT, BAD_PROPERTIES),
+    ("2", "Node-path: trunk\nProp-delta: true", BAD_PROPERTIES),
+    ("2", "Revision-number: 1", BAD_PROPERTIES),
+    ("2", "Node-path: tags", OK),
+];
+
 #[test]
 fn nodes_under_version_three_may_delete_properties(rt: HostRuntime) -> Result<(), Fail> {
-    let kept = "Node-path: trunk";
-    let rows = [
-        ("3", kept, OK),
-        ("3", "Node-path: trunk\nProp-delta: true", OK),
-        ("3", "Revision-number: 1", BAD_PROPERTIES),
-        ("3", "Node-path: tags", OK),
-        ("2", kept, BAD_PROPERTIES),
-        ("2", "Node-path: trunk\nProp-delta: true", BAD_PROPERTIES),
-        ("2", "Revision-number: 1", BAD_PROPERTIES),
-        ("2", "Node-path: tags", OK),
-    ];
-    for (version, header, verdict) in rows {
+    for (version, header, verdict) in &DELETING {
         let deleting = "K 1\na\nV 1\nb\nD 1\nc\n";
         let found = verdict_on_entries(rt.alloc(), version, header, deleting)?;
-        assert!(rt; found == verdict, "{version} {header}");
+        assert!(rt; found == *verdict, "{version} {header}");
         let found = verdict_on_entries(rt.alloc(), version, header, "K 1\na\nV 1\nb\n")?;
         assert!(rt; found == OK, "{version} {header}");
     }
@@ -422,45 +426,56 @@ fn has_mergeinfo(done: &Done<'_>, first: bool, some: bool) -> bool {
     }
 }
 
-// Whether a kept node under version 3 with these entries has this verdict, and mergeinfo so.
+// A dump of version 3 with a kept node with these entries.
+fn dump_with_entries(alloc: Global, first: &str, second: &str) -> Result<String, Fail> {
+    let entries = joined(alloc, &[first, second])?;
+    let node = record_with_entries(alloc, "Node-path: trunk", entries.as_str())?;
+    joined(alloc, &["SVN-fs-dump-format-version: 3\n\n", node.as_str()])
+}
+
+// Whether the node of such a dump has this verdict, and mergeinfo so.
 fn is_deleting(
     alloc: Global,
-    entries: &[&str],
+    dump: &[u8],
     first: bool,
     some: bool,
     verdict: Verdict,
 ) -> Result<bool, Fail> {
-    let entries = joined(alloc, entries)?;
-    let node = record_with_entries(alloc, "Node-path: trunk", entries.as_str())?;
-    let dump = joined(alloc, &["SVN-fs-dump-format-version: 3\n\n", node.as_str()])?;
-    let item = record(dump.as_bytes(), 1)?;
+    let item = record(dump, 1)?;
     let options = include_trunk(alloc)?;
     let done = Done::of(item, &options);
     Ok(done.verdict() == verdict && has_mergeinfo(&done, first, some))
 }
 
+const GONE: &str = "D 13\nsvn:mergeinfo\n";
+
+const SET: &str = "K 13\nsvn:mergeinfo\nV 8\n/trunk:1\n";
+
+const BAD: &str = "K 13\nsvn:mergeinfo\nV 8\n/trunk:0\n";
+
+const DELETED_MERGEINFO: [(&str, &str, bool, bool, Verdict); 5] = [
+    (GONE, "", false, false, OK),
+    (GONE, GONE, false, false, OK),
+    (GONE, SET, false, true, OK),
+    (SET, GONE, true, true, OK),
+    (GONE, BAD, false, false, BAD_MERGEINFO),
+];
+
 #[test]
 fn deleted_mergeinfo_is_none(rt: HostRuntime) -> Result<(), Fail> {
-    let deleted = "D 13\nsvn:mergeinfo\n";
-    let set = "K 13\nsvn:mergeinfo\nV 8\n/trunk:1\n";
-    let bad = "K 13\nsvn:mergeinfo\nV 8\n/trunk:0\n";
-    let rows = [
-        (deleted, "", false, false, OK),
-        (deleted, deleted, false, false, OK),
-        (deleted, set, false, true, OK),
-        (set, deleted, true, true, OK),
-        (deleted, bad, false, false, BAD_MERGEINFO),
-    ];
-    for (first, second, first_is, has, verdict) in rows {
-        let told = is_deleting(rt.alloc(), &[first, second], first_is, has, verdict)?;
+    for (first, second, first_is, has, verdict) in &DELETED_MERGEINFO {
+        let dump = dump_with_entries(rt.alloc(), first, second)?;
+        let told = is_deleting(rt.alloc(), dump.as_bytes(), *first_is, *has, *verdict)?;
         assert!(rt; told, "{first}{second}");
     }
     Ok(())
 }
 
-/// A kept node with mergeinfo, copied from a path that isn't kept.
-const COPY: &str = "Node-path: trunk\nNode-copyfrom-rev: 1\nNode-copyfrom-path: tags\n\
-Prop-content-length: 45\nContent-length: 45\n\nK 13\nsvn:mergeinfo\nV 10\n/trunk:2-4\nPROPS-END\n\n\n";
+/// A kept node with mergeinfo, copied from a path that isn't kept, and another node.
+const COPY: &[u8] = b"SVN-fs-dump-format-version: 2\n\n\
+Node-path: trunk\nNode-copyfrom-rev: 1\nNode-copyfrom-path: tags\n\
+Prop-content-length: 45\nContent-length: 45\n\nK 13\nsvn:mergeinfo\nV 10\n/trunk:2-4\nPROPS-END\n\n\n\
+Node-path: tags\n\n\n";
 
 fn is_read(done: &Done<'_>, options: &Options) -> bool
     requires { done_settings done.now ≡ options.now }
@@ -487,14 +502,12 @@ fn is_dropped(done: &Done<'_>) -> bool {
 
 #[test]
 fn a_done_tells_what_its_check_read(rt: HostRuntime) -> Result<(), Fail> {
-    let version = "SVN-fs-dump-format-version: 2\n\n";
-    let dump = joined(rt.alloc(), &[version, COPY, "Node-path: tags\n\n\n"])?;
-    let kept = record(dump.as_bytes(), 1)?;
-    let other = record(dump.as_bytes(), 2)?;
+    let kept = record(COPY, 1)?;
+    let other = record(COPY, 2)?;
     let (side, prefixes) = (Side::Include, [b"trunk".as_slice()]);
     let options = Options::new(rt.alloc(), side, &prefixes, Empty::Pad, true, false, false)?;
     let done = Done::of(kept, &options);
-    assert!(rt; is_read(&done, &options) && has_copied_mergeinfo(&done));
-    assert!(rt; is_dropped(&Done::of(other, &options)));
+    let read = is_read(&done, &options) && has_copied_mergeinfo(&done);
+    assert!(rt; read && is_dropped(&Done::of(other, &options)));
     Ok(())
 }
