@@ -16,7 +16,7 @@ pub struct ValuePlace {
 
 impl ValuePlace {
     /// That of no value.
-    pub const NONE: ValuePlace = ValuePlace { byte: 0 };
+    pub(crate) const NONE: ValuePlace = ValuePlace { byte: 0 };
 
     /// Where a value stands in a dump that ends with its line and these bytes behind that.
     pub(crate) fn before(dump: &[u8], value: &[u8], behind: &[u8]) -> ValuePlace
