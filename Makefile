@@ -32,7 +32,7 @@ SUITES := $(addprefix suite-,refusals meaning hostile cases surveys stock instal
 
 # a target for each suite of tests/
 .PHONY: $(SUITES)
-.PHONY: all survey both toolchain test suites gate check case bench soak install uninstall deb clean
+.PHONY: all survey toolchain test suites gate check case bench soak install uninstall deb clean
 .DELETE_ON_ERROR:
 
 all: $(PROGRAM)
@@ -53,14 +53,10 @@ $(SURVEY): $(SOURCES) | toolchain
 	@tools/build svndumpsurvey
 	@echo "make: $@ is built"
 
-# both programs in one go: crates that don't stand on each other are proved beside each other, and each once
-both: | toolchain
-	@echo "make: proving and building what isn't current of both programs"
-	@tools/build --old $(notdir $(PROGRAM) $(SURVEY))
-
-test: both
-	@echo "make: proving and running the tests of every crate"
-	tools/tests
+# all in one go: what doesn't stand on each other is proved beside each other, each crate once, its tests behind it
+test: | toolchain
+	@echo "make: proving and building what isn't current of both programs, and proving and running the tests of every crate"
+	@tools/build --old --tests $(notdir $(PROGRAM) $(SURVEY))
 	@$(MAKE) --no-print-directory suites
 
 # each suite works in folders of its own, so they run beside each other; what one says comes together

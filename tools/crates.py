@@ -1,4 +1,5 @@
 """What the scripts ask of the repository's crates, and copies of them in which the toolchain can work."""
+import contextlib
 import os
 import re
 import shutil
@@ -63,3 +64,38 @@ def room(crate, known, folder):
     for name in below(crate, known):
         copied(name, folder, ["out/rlib"], linked)
     return os.path.join(folder, "crates", crate)
+
+
+@contextlib.contextmanager
+def lent(crate, home, all_but=None):
+    """Moves what checks kept of a crate into a copy of it, and back in the end. What stays is given a second name there."""
+    kept, there = path("crates", crate, "out"), os.path.join(home, "out")
+    os.makedirs(kept, exist_ok=True)
+    os.makedirs(there, exist_ok=True)
+    if all_but and os.path.isdir(os.path.join(kept, all_but)):
+        shutil.copytree(os.path.join(kept, all_but), os.path.join(there, all_but), copy_function=linked)
+    moved(kept, there, all_but)
+    try:
+        yield
+    finally:
+        moved(there, kept, all_but)
+
+
+def moved(one, other, all_but):
+    """Moves what is in one folder into another one, but for this."""
+    for name in os.listdir(one):
+        if name != all_but:
+            shutil.move(os.path.join(one, name), os.path.join(other, name))
+
+
+def tested(crates):
+    """Those of some crates that have tests, the one with the most code first: crates of laws alone have no code to test."""
+
+    def sources(crate):
+        for at, _, names in os.walk(path("crates", crate, "src")):
+            for name in names:
+                with open(os.path.join(at, name), encoding="utf-8") as it:
+                    yield it.read()
+
+    sizes = {it: sum(map(len, sources(it))) for it in crates if any("#[test]" in text for text in sources(it))}
+    return sorted(sizes, key=lambda it: -sizes[it])
