@@ -1,17 +1,7 @@
 -- An output that broke off.
-use Rattle.std.proofs.Common.{◌≡◌, ℕ, List, [], ◌++◌, Option, None, Some, refl, sym, ap, subst, ◌∙◌, append_assoc, inl, inr}
-use Rattle.std.proofs.lemmas.List.{append_cancel_left, append-nil}
-use Rattle.std.specs.Io.KnownBytes.{Appends, Keeps, GrowsBy, append_known}
-use Rattle.std.proofs.KnownBytes.{Appends-kept}
-use Rattle.dump_rules.specs.Settings.{Settings}
-use Rattle.dump_writer.specs.steps.SinkStates.{LentState, lent_taken}
-use Rattle.dump_writer.specs.SinkWords.{IsPrefixOf}
-use Rattle.dump_pipeline.specs.declared.answer.Answer.{Answer}
-use Rattle.dump_pipeline.specs.declared.answer.Answer.TheVariants.{Failed}
+use Rattle.dump_cli.proofs.Prelude.{◌≡◌, ℕ, List, [], ◌++◌, Option, None, Some, refl, sym, ap, subst, ◌∙◌, append_assoc, inl, inr, append_cancel_left, Appends, Keeps, GrowsBy, append_known, Appends-kept, Settings, LentState, lent_taken, IsPrefixOf, Answer, Failed, RunLeaves, Ran, TellsBehind}
+use Rattle.std.proofs.lemmas.List.{append-nil}
 use Rattle.dump_pipeline.specs.declared.answer.Failure.TheVariants as failures
-use Rattle.dump_pipeline.specs.RunAnswer.{RunLeaves}
-use Rattle.dump_cli.specs.Drive.{Ran}
-use Rattle.dump_cli.specs.steps.DrainedRun.{TellsBehind}
 
 -- where nothing waits the known bytes are those of the writer
 from_none : (a b : Option (List ℕ)) (bytes : List ℕ) → Appends (append_known a []) b bytes → Appends a b bytes

@@ -1,3 +1,4 @@
+mod Prelude
 pub mod CommandLemmas
 pub mod DriveLemmas
 pub mod InputLemmas

@@ -1,13 +1,5 @@
 -- What a parse of a command without subcommands gives of a number that has a default.
-use Rattle.std.proofs.Common.{◌≡◌, ◌∙◌, ◌⊎◌, ◌||◌, ◌<◌, ◌≤◌, ℕ, Bool, true, false, not, zero, suc, refl, sym, ap, subst, List, [], ◌∷◌, length, map, Option, Some, None, is_some, codes, cond, inl, inr, arith, lit≤}
-use Rattle.std.specs.Prelude.{⊤, find, slice_get}
-use Rattle.std.specs.Borrow.{Bor}
-use Rattle.std.specs.List.{All, list_any, slice_index_or}
-use Rattle.std.specs.Option.{option_and_then, option_map, unwrap_or}
-use Rattle.std.specs.Str.{bytes_eq}
-use Rattle.std.proofs.lemmas.Bool.{cases_lt, eqb-true}
-use Rattle.std.proofs.lemmas.List.{length-map, nil_from_length}
-use Rattle.std.proofs.lemmas.Slice.Eq.{bytes_eq-Decides}
+use Rattle.dump_cli.proofs.Prelude.{◌≡◌, ◌∙◌, ◌⊎◌, ◌||◌, ◌<◌, ◌≤◌, ℕ, Bool, true, false, not, zero, suc, refl, sym, ap, subst, List, [], ◌∷◌, length, map, Option, Some, None, is_some, codes, cond, inl, inr, arith, lit≤, ⊤, find, slice_get, Bor, All, list_any, slice_index_or, option_and_then, option_map, unwrap_or, bytes_eq, cases_lt, eqb-true, length-map, nil_from_length, bytes_eq-Decides, IsNumber}
 use Rattle.clap.specs.Built.{IsAuto, IsParsedFrom, SameRules}
 use Rattle.clap.specs.Facts.{Entry, EntryPasses, HasId, PassesArg, WantsDefault, args_of, groups_of, least_values, parser_of_value, unwrap_or_range}
 use Rattle.clap.specs.Matches.{found_of, matched_of, one_text}
@@ -24,7 +16,6 @@ use Rattle.clap.specs.declared.parser.matches.ArgMatches.{ArgMatches}
 use Rattle.clap.specs.declared.parser.matches.MatchedArg.{MatchedArg}
 use Rattle.clap.proofs.CallerLemmas.{default_present, entry_by_id}
 use Rattle.clap.proofs.WalkLemmas.{both, one_text-rows}
-use Rattle.dump_cli.specs.steps.FilledFlags.{IsNumber}
 
 -- ---- arguments by their rules
 

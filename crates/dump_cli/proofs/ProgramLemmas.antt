@@ -1,9 +1,5 @@
 -- What a lawful line of the program gives.
-use Rattle.std.proofs.Common.{◌≡◌, ◌&&◌, Bool, true, false, not, refl, sym, ap, subst, [], length, map, is_some, codes, inl, inr, lit<}
-use Rattle.std.proofs.lemmas.Bool.{eqb-true}
-use Rattle.std.proofs.lemmas.List.{nil_from_length}
-use Rattle.std.specs.List.{list_any}
-use Rattle.std.specs.Str.{bytes_eq}
+use Rattle.dump_cli.proofs.Prelude.{◌≡◌, ◌&&◌, Bool, true, false, not, refl, sym, ap, subst, [], length, map, is_some, codes, inl, inr, lit<, eqb-true, nil_from_length, list_any, bytes_eq, first_true, not_true, program, AreFilled}
 use Rattle.clap.specs.Built.{IsParsedFrom}
 use Rattle.clap.specs.Facts.{args_of, groups_of}
 use Rattle.clap.specs.Matches.{found_of}
@@ -15,9 +11,6 @@ use Rattle.clap.specs.declared.builder.command.Command.TheOpen.{Command-F}
 use Rattle.clap.specs.declared.builder.command.Command.TheViews.{out-Command}
 use Rattle.clap.specs.declared.parser.matches.ArgMatches.{ArgMatches}
 use Rattle.clap.proofs.OnLiterals.{clap_on_literals}
-use Rattle.dump_text.proofs.BoolLemmas.{first_true, not_true}
-use Rattle.dump_cli.specs.CommandLine.{program}
-use Rattle.dump_cli.specs.steps.FilledFlags.{AreFilled}
 use Rattle.dump_cli.proofs.NumberLemmas.{Each, IsNumbered, IsOwn, number_given}
 
 -- the program's command is simple, so that the words give its matches

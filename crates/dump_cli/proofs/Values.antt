@@ -1,23 +1,10 @@
 -- Worked values of the definitions, computed and proved by the kernel.
-use Rattle.std.proofs.Common.{◌≡◌, ℕ, refl, true, false, List, [], ◌∷◌, length, Some, None, Ok, Err, codes, inl, inr, ap, arith, lit<, lit≤}
+use Rattle.dump_cli.proofs.Prelude.{◌≡◌, ℕ, refl, true, false, List, [], ◌∷◌, length, Some, None, Ok, Err, codes, inl, inr, ap, arith, lit<, lit≤, Include, Exclude, Pad, DropEmptied, DropAll, lent, report_of, padding, Clean, Fault, Failed, empty_answer, switch, number, prefixes, program, Words, BothDrops, Memory, is_set, flag_number, side_of, empty_of, order_of, AnswersTo, IsNumber, AreFilled, status_of, BreaksOff, Ran, CarriesOut, refusal_status, Obeys, Drives, IsSilent, TellsBehind, FailsOnlyBehind}
 use base.Fml.{GName}
 use Rattle.clap.specs.Words.{Row}
 use Rattle.clap.specs.declared.builder.value_parser.Reading.TheVariants as reading
 use Rattle.dump_text.specs.declared.fault.FaultKind.TheVariants as faults
-use Rattle.dump_rules.specs.declared.options.Side.TheVariants.{Include, Exclude}
-use Rattle.dump_rules.specs.declared.options.Empty.TheVariants.{Pad, DropEmptied, DropAll}
-use Rattle.dump_writer.proofs.Values.{lent}
-use Rattle.dump_filter.specs.Counts.{report_of}
-use Rattle.dump_filter.proofs.Values.{padding}
-use Rattle.dump_pipeline.specs.declared.answer.Answer.TheVariants.{Clean, Fault, Failed}
 use Rattle.dump_pipeline.specs.declared.answer.Failure.TheVariants as failures
-use Rattle.dump_pipeline.proofs.Values.{empty_answer}
-use Rattle.dump_cli.specs.CommandLine.{switch, number, prefixes, program}
-use Rattle.dump_cli.specs.declared.words.Usage.TheVariants.{Words, BothDrops, Memory}
-use Rattle.dump_cli.specs.Words.{is_set, flag_number, side_of, empty_of, order_of, AnswersTo}
-use Rattle.dump_cli.specs.steps.FilledFlags.{IsNumber, AreFilled}
-use Rattle.dump_cli.specs.Drive.{status_of, BreaksOff, Ran, CarriesOut, refusal_status, Obeys, Drives}
-use Rattle.dump_cli.specs.steps.DrainedRun.{IsSilent, TellsBehind, FailsOnlyBehind}
 
 -- CommandLine
 

@@ -1,10 +1,5 @@
 -- What is read of the rows of a line, and what a line means that clap takes or refuses.
-use Rattle.std.proofs.Common.{◌≡◌, ◌∙◌, ◌⊎◌, ◌&&◌, ◌≤◌, ℕ, Bool, true, false, refl, sym, ap, subst, List, [], ◌∷◌, Option, Some, None, Result, Ok, Err, codes, inl, inr, arith}
-use Rattle.std.specs.Option.{option_map_or, unwrap_or}
-use Rattle.std.specs.Str.{bytes_eq}
-use Rattle.std.specs.Str.Parse.{ParsesBool, ParsesUnsigned, digits_value, without_leading_plus}
-use Rattle.std.proofs.lemmas.Bool.{ne_eqb}
-use Rattle.std.proofs.lemmas.Slice.Eq.{bytes_eq-Decides}
+use Rattle.dump_cli.proofs.Prelude.{◌≡◌, ◌∙◌, ◌⊎◌, ◌&&◌, ◌≤◌, ℕ, Bool, true, false, refl, sym, ap, subst, List, [], ◌∷◌, Option, Some, None, Result, Ok, Err, codes, inl, inr, arith, option_map_or, unwrap_or, bytes_eq, ParsesBool, ParsesUnsigned, digits_value, without_leading_plus, ne_eqb, bytes_eq-Decides, Empty, Side, program, AnswersTo, empty_in, is_set, meaning_of_line, meaning_with, flag_number, order_by, order_of, side_name, side_of, Order, Usage, Words, Memory, IsNumber}
 use Rattle.clap.specs.Kinds.{HasKind, Kinds}
 use Rattle.clap.specs.Walk.{is_empty}
 use Rattle.clap.specs.Words.{ReadsOne, Row, Text, fault_of, kind_of, matches_of, one_text, rows_of}
@@ -12,14 +7,6 @@ use Rattle.clap.specs.declared.error.Error.{Error}
 use Rattle.clap.specs.declared.error.kind.ErrorKind.TheVariants.{OutOfMemory}
 use Rattle.clap.specs.declared.parser.matches.Found.{Found}
 use Rattle.clap.proofs.WalkLemmas.{one_text-rows}
-use Rattle.dump_rules.specs.declared.options.Empty.{Empty}
-use Rattle.dump_rules.specs.declared.options.Side.{Side}
-use Rattle.dump_cli.specs.CommandLine.{program}
-use Rattle.dump_cli.specs.Words.{AnswersTo, empty_in, is_set, meaning_of_line, meaning_with, flag_number, order_by, order_of, side_name, side_of}
-use Rattle.dump_cli.specs.declared.words.Order.{Order}
-use Rattle.dump_cli.specs.declared.words.Usage.{Usage}
-use Rattle.dump_cli.specs.declared.words.Usage.TheVariants.{Words, Memory}
-use Rattle.dump_cli.specs.steps.FilledFlags.{IsNumber}
 
 -- a text that isn't this one differs from it
 differs : (text other : Text) → (text ≡ other → ⊥) → bytes_eq text other ≡ false

@@ -6,7 +6,7 @@ ghost use Rattle.dump_cli.specs.CommandLine.{number, prefixes, program, switch};
 use clap::{Arg, ArgAction, Command, value_parser};
 use std::alloc::{AllocError, Global};
 
-// A flag without a value.
+/// A flag without a value.
 fn switch<'a>(alloc: Global, name: &'a str) -> Arg<'a>
     ensures rule { rule_of result ≡ switch name.entry.now }
     ensures local { result.global ≡ false }
@@ -14,7 +14,7 @@ fn switch<'a>(alloc: Global, name: &'a str) -> Arg<'a>
     Arg::new(alloc, name).long(name).action(ArgAction::SetTrue)
 }
 
-// The flag of how many workers there are, and the number that stands for none.
+/// The flag of how many workers there are, and the number that stands for none.
 fn workers<'a>(alloc: Global) -> Arg<'a>
     ensures rule { rule_of result ≡ number (codes "workers") 64 (codes "4") }
     ensures local { result.global ≡ false }
@@ -26,7 +26,7 @@ fn workers<'a>(alloc: Global) -> Arg<'a>
         .default_value("4")
 }
 
-// The flag of how wide the window is, and the number that stands for none.
+/// The flag of how wide the window is, and the number that stands for none.
 fn window<'a>(alloc: Global) -> Arg<'a>
     ensures rule { rule_of result ≡ number (codes "window") 4096 (codes "64") }
     ensures local { result.global ≡ false }
@@ -38,7 +38,7 @@ fn window<'a>(alloc: Global) -> Arg<'a>
         .default_value("64")
 }
 
-// The path prefixes, of which there is one or more.
+/// The path prefixes, of which there is one or more.
 fn prefixes<'a>(alloc: Global) -> Arg<'a>
     ensures rule { rule_of result ≡ prefixes }
     ensures local { result.global ≡ false }

@@ -66,7 +66,7 @@ pub fn refuse<E: Write>(errors: &mut E, usage: Usage) -> u8
     }
 }
 
-// Runs an order on the whole input.
+/// Runs an order on the whole input.
 fn carry_out<H: Threads + Wait + Sync, R: Read, W: Write, E: Write>(
     rt: &H,
     alloc: Global,
@@ -102,7 +102,7 @@ fn carry_out<H: Threads + Wait + Sync, R: Read, W: Write, E: Write>(
     tell(errors, answer, order.quiet)
 }
 
-// Runs, and hands on all that waits behind the run.
+/// Runs, and hands on all that waits behind the run.
 fn run_and_flush<H: Threads + Wait + Sync, W: Write>(
     rt: &H,
     alloc: Global,
@@ -121,7 +121,7 @@ fn run_and_flush<H: Threads + Wait + Sync, W: Write>(
     flush_behind(sink, answer)
 }
 
-// Hands on all that waits behind a run, unless the run's sink failed: then no more is tried.
+/// Hands on all that waits behind a run, unless the run's sink failed: then no more is tried.
 fn flush_behind<W: Write>(sink: &mut OutMut<'_, W>, answer: Answer) -> Answer
     ensures taken { Keeps (lent_taken sink.old) (lent_taken sink.new) }
     ensures told { TellsBehind sink.new answer result }
@@ -141,7 +141,7 @@ fn flush_behind<W: Write>(sink: &mut OutMut<'_, W>, answer: Answer) -> Answer
     }
 }
 
-// The failure of a sink, with the bytes that its writer took.
+/// The failure of a sink, with the bytes that its writer took.
 fn sink_down<W: Write>(sink: &OutMut<'_, W>) -> Answer
     ensures count { result ≡ Answer.Failed Failure.Sink sink.now.out.written }
     ensures grown { GrowsBy sink.now.out.start sink.now.out.taken sink.now.out.written }
@@ -152,7 +152,7 @@ fn sink_down<W: Write>(sink: &OutMut<'_, W>) -> Answer
     }
 }
 
-// The line of an answer, and the status.
+/// The line of an answer, and the status.
 fn tell<E: Write>(errors: &mut E, answer: Answer, quiet: bool) -> u8
     ensures status { result ≡ status_of answer }
     ensures quiet { IsSilent answer quiet → Keeps (E.contents errors.old) (E.contents errors.new) }
@@ -179,7 +179,7 @@ fn tell<E: Write>(errors: &mut E, answer: Answer, quiet: bool) -> u8
     }
 }
 
-// The line and the status where there was no memory before the run.
+/// The line and the status where there was no memory before the run.
 fn tell_out_of_memory<E: Write>(errors: &mut E) -> u8
     ensures { result ≡ 1 }
 {

@@ -12,7 +12,7 @@ use std::alloc::Global;
 use std::io::{self, ErrorKind, Read, Write};
 use std::test::Fail;
 
-// Gives its bytes one at a time, and then ends, or fails for good.
+/// Gives its bytes one at a time, and then ends, or fails for good.
 #[derive(Drop)]
 struct Dripping<'a> {
     rest: &'a [u8],
@@ -38,7 +38,7 @@ impl Read for Dripping<'_> {
     }
 }
 
-// Whether all is read where it is thought to be of this size.
+/// Whether all is read where it is thought to be of this size.
 fn is_read_whole(alloc: Global, bytes: &[u8], size: u64) -> Result<bool, Fail> {
     let mut reader = bytes;
     let input = read_all(alloc, &mut reader, size)?;
@@ -99,7 +99,7 @@ fn lines_tell_what_ends_a_run(rt: HostRuntime) {
     assert!(rt; lines.as_slice() == wanted.as_bytes());
 }
 
-// A terminal that is gone.
+/// A terminal that is gone.
 #[derive(Drop)]
 struct Gone;
 

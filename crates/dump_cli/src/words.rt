@@ -59,7 +59,7 @@ pub fn options_of<'a>(alloc: Global, words: &'a [&'a str]) -> Result<Order, Usag
     }
 }
 
-// The side that a line begins with.
+/// The side that a line begins with.
 fn side_name<'a>(line: &[&'a str]) -> Option<&'a str>
     ensures { option_map (λ name. name.now) result ≡ side_name (map (λ word. word.now) line.now) }
 {
@@ -69,7 +69,7 @@ fn side_name<'a>(line: &[&'a str]) -> Option<&'a str>
     }
 }
 
-// Why clap refuses the words.
+/// Why clap refuses the words.
 fn refusal(error: &Error) -> Usage
     ensures memory { kind_of error.now ≡ ErrorKind.OutOfMemory → result ≡ Usage.Memory }
     ensures words { kind_of error.now ≢ ErrorKind.OutOfMemory → result ≡ Usage.Words }
@@ -81,7 +81,7 @@ fn refusal(error: &Error) -> Usage
     }
 }
 
-// The order that a side and what stands behind it give.
+/// The order that a side and what stands behind it give.
 fn read_order(alloc: Global, name: &str, inner: &ArgMatches<'_>) -> Result<Order, Usage>
     requires { AreFilled (rows_of (found_of inner.now)) }
     ensures { AnswersTo (order_of (name.now, rows_of (found_of inner.now))) result }
@@ -111,7 +111,7 @@ fn read_order(alloc: Global, name: &str, inner: &ArgMatches<'_>) -> Result<Order
     }
 }
 
-// The side that this word names.
+/// The side that this word names.
 fn side_named(name: &str) -> Side
     ensures { result ≡ side_of name.now }
 {
@@ -121,14 +121,14 @@ fn side_named(name: &str) -> Side
     }
 }
 
-// Whether the flag of this name is given.
+/// Whether the flag of this name is given.
 fn is_set(inner: &ArgMatches<'_>, name: &str) -> bool
     ensures { result ≡ is_set name.now (rows_of (found_of inner.now)) }
 {
     inner.get_one(name).unwrap_or(false)
 }
 
-// What the flags make of empty revisions, where they don't contradict each other.
+/// What the flags make of empty revisions, where they don't contradict each other.
 fn read_empty(inner: &ArgMatches<'_>) -> Option<Empty>
     ensures { result ≡ empty_in (rows_of (found_of inner.now)) }
 {
@@ -143,7 +143,7 @@ fn read_empty(inner: &ArgMatches<'_>) -> Option<Empty>
     }
 }
 
-// How many workers there are, and how wide their window is.
+/// How many workers there are, and how wide their window is.
 fn read_plan(inner: &ArgMatches<'_>) -> Plan
     requires workers { IsNumber (codes "workers") 64 (rows_of (found_of inner.now)) }
     requires window { IsNumber (codes "window") 4096 (rows_of (found_of inner.now)) }
@@ -156,7 +156,7 @@ fn read_plan(inner: &ArgMatches<'_>) -> Plan
     plan
 }
 
-// The number that the flag of this name gives.
+/// The number that the flag of this name gives.
 fn read_number(inner: &ArgMatches<'_>, name: &str) -> usize
     requires { (most : ℕ) × IsNumber name.now most (rows_of (found_of inner.now)) }
     ensures value { result ≡ flag_number name.now (rows_of (found_of inner.now)) }
@@ -168,7 +168,7 @@ fn read_number(inner: &ArgMatches<'_>, name: &str) -> usize
     number
 }
 
-// The bytes of the path prefixes.
+/// The bytes of the path prefixes.
 fn read_prefixes<'a>(alloc: Global, inner: &ArgMatches<'a>) -> Result<Vec<&'a [u8]>, Usage>
     ensures { IfOk result (λ texts. map (λ text. text.now) texts.items ≡ unwrap_or (all_of (codes "PREFIX") (rows_of (found_of inner.now))) []) }
 {
@@ -178,7 +178,7 @@ fn read_prefixes<'a>(alloc: Global, inner: &ArgMatches<'a>) -> Result<Vec<&'a [u
     }
 }
 
-// The words' bytes.
+/// The words' bytes.
 fn as_bytes<'a>(alloc: Global, words: &[&'a str]) -> Result<Vec<&'a [u8]>, Usage>
     ensures { IfOk result (λ texts. map (λ text. text.now) texts.items ≡ map (λ word. word.now) words.now) }
 {

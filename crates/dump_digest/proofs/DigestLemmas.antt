@@ -1,13 +1,6 @@
 -- A header tells another digest than the text's exactly where it stands there, and isn't it.
-use Rattle.std.proofs.Common.{◌≡◌, ◌↔◌, ℕ, Bool, true, false, ◌||◌, List, refl, sym, ap, ◌∙◌, Option, Some, None, is_some, option_copied, Bor, IsFalse, if◌then◌else◌}
-use Rattle.std.proofs.lemmas.Option.{same_Some}
-use Rattle.dump_text.specs.Names.{md5_name, sha1_name}
-use Rattle.dump_text.specs.HeaderLine.{has_header, header_value}
-use Rattle.dump_records.specs.RecordText.{DumpRecord}
-use Rattle.dump_text.proofs.BlockLemmas.{has_value}
-use Rattle.dump_text.proofs.ValueLemmas.{some_copied}
-use Rattle.dump_digest.specs.RecordParts.{has_whole_text}
-use Rattle.dump_digest.specs.steps.Checks.{TellsOther, HasOtherDigest, is_told_text}
+use Rattle.dump_digest.proofs.Prelude.{◌≡◌, ◌↔◌, ℕ, Bool, true, false, ◌||◌, List, refl, sym, ap, ◌∙◌, Option, Some, None, is_some, Bor, IsFalse, if◌then◌else◌, same_Some, md5_name, sha1_name, has_header, header_value, DumpRecord, has_value, some_copied, has_whole_text, TellsOther, HasOtherDigest, is_told_text}
+use Rattle.std.proofs.Common.{option_copied}
 
 -- the text of a record, where it has one that isn't a delta
 abbrev pub whole_part : DumpRecord → Option (List ℕ)

@@ -1,15 +1,5 @@
 -- Whether a node is kept, by its path.
-use Rattle.std.proofs.Common.{◌≡◌, List, ℕ, false, true, not, refl, sym, ap, ◌∙◌, Some, None, is_some}
-use Rattle.dump_text.specs.Names.{path_name, revision_name, copy_path_name}
-use Rattle.dump_text.specs.HeaderLine.{has_header, header_value}
-use Rattle.dump_records.specs.HeaderRules.{header_number, has_bad_number}
-use Rattle.dump_records.specs.RecordText.{DumpRecord, is_lawful}
-use Rattle.dump_records.proofs.HeaderLemmas.{revision_there}
-use Rattle.dump_records.proofs.Unique.{keeps}
-use Rattle.dump_text.proofs.BoolLemmas.{not_so}
-use Rattle.dump_text.proofs.BlockLemmas.{has_value}
-use Rattle.dump_rules.specs.Settings.{Settings, keeps_path}
-use Rattle.dump_digest.specs.RecordParts.{is_revision_record, is_kept_node, has_lost_source}
+use Rattle.dump_digest.proofs.Prelude.{◌≡◌, List, ℕ, false, true, not, refl, sym, ap, ◌∙◌, Some, None, is_some, path_name, revision_name, copy_path_name, has_header, header_value, header_number, has_bad_number, DumpRecord, is_lawful, revision_there, keeps, not_so, has_value, Settings, keeps_path, is_revision_record, is_kept_node, has_lost_source}
 
 -- a record with a path is a kept node exactly where its path is kept
 pub kept_some : (settings : Settings) (r : DumpRecord) (path : List ℕ) → header_value path_name r.headers ≡ Some path

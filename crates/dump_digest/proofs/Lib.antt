@@ -1,3 +1,4 @@
+mod Prelude
 pub mod KeptLemmas
 pub mod DigestLemmas
 pub mod MergeLemmas

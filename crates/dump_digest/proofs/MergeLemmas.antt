@@ -1,19 +1,5 @@
 -- Mergeinfo is bad where a property of its name has a value that isn't mergeinfo.
-use Rattle.std.proofs.Common.{◌≡◌, ◌↔◌, ℕ, zero, suc, Bool, true, false, List, [], ◌∷◌, refl, sym, ap, subst, ◌∙◌, arith, Contains, IsTrue, IsFalse}
-use Rattle.dump_text.proofs.BoolLemmas.{absurd_bool}
-use Rattle.std.proofs.Math.Bool.{Bool-set}
-use Rattle.std.proofs.Math.Logic.{∥∥₁_elim}
-use Rattle.std.proofs.lemmas.Bool.{and_parts}
-use Rattle.dump_text.specs.PropertyList.{Property}
-use Rattle.dump_text.proofs.PropertyLemmas.{property_block_once}
-use Rattle.dump_records.specs.RecordText.{DumpRecord}
-use Rattle.dump_rules.specs.Settings.{Settings}
-use Rattle.dump_rules.specs.Mergeinfo.{HasMergeLines}
-use Rattle.dump_rules.specs.steps.ReadMergeinfo.{value_reads}
-use Rattle.dump_rules.proofs.reading.MergeinfoLemmas.{reads_exactly}
-use Rattle.dump_digest.specs.RecordParts.{is_kept_node, is_mergeinfo, value_of, HasPropertyList, HasPropertyBlock}
-use Rattle.dump_digest.specs.ContentFaults.{HasBadMergeinfo}
-use Rattle.dump_digest.specs.steps.Checks.{property_reads, properties_read}
+use Rattle.dump_digest.proofs.Prelude.{◌≡◌, ◌↔◌, ℕ, zero, suc, Bool, true, false, List, [], ◌∷◌, refl, sym, ap, subst, ◌∙◌, arith, Contains, IsTrue, IsFalse, absurd_bool, Bool-set, ∥∥₁_elim, and_parts, Property, property_block_once, DumpRecord, Settings, HasMergeLines, value_reads, reads_exactly, is_kept_node, is_mergeinfo, value_of, HasPropertyList, HasPropertyBlock, HasBadMergeinfo, property_reads, properties_read}
 
 -- one property
 

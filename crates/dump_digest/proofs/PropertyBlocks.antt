@@ -1,11 +1,5 @@
 -- A record's properties can be read or can't, and which list they are.
-use Rattle.std.proofs.Common.{◌≡◌, ◌⊎◌, Bool, true, false, List, refl, sym, ap, ◌∙◌, inl, inr}
-use Rattle.dump_text.specs.PropertyList.{Property, IsPropertyBlock, has_deletes}
-use Rattle.dump_text.proofs.BoolLemmas.{absurd_bool}
-use Rattle.dump_text.proofs.PropertyLemmas.{property_block_once}
-use Rattle.dump_text.proofs.PropertyChoice.{changes_or_not}
-use Rattle.dump_records.specs.RecordText.{DumpRecord}
-use Rattle.dump_digest.specs.RecordParts.{takes_deletes, HasPropertyList, HasPropertyBlock}
+use Rattle.dump_digest.proofs.Prelude.{◌≡◌, ◌⊎◌, Bool, true, false, List, refl, sym, ap, ◌∙◌, inl, inr, Property, IsPropertyBlock, has_deletes, absurd_bool, property_block_once, changes_or_not, DumpRecord, takes_deletes, HasPropertyList, HasPropertyBlock}
 
 -- a record's properties are one list
 pub property_list_once : (r : DumpRecord) (ps qs : List Property) → HasPropertyList r ps → HasPropertyList r qs

@@ -1,32 +1,5 @@
 -- What the mergeinfo of some properties says, property by property.
-use Rattle.std.proofs.Common.{◌≡◌, ◌↔◌, ◌<◌, ◌^◌, ℕ, Bool, true, false, ◌&&◌, ◌||◌, List, [], ◌∷◌, refl, sym, ap, subst, ◌∙◌, Option, Some, None, IsSome, IsNone, IfSome, is_some, unwrap_or, if◌then◌else◌, MatchOption, IsTrue, IsFalse}
-use Rattle.std.proofs.lemmas.Bool.{or_right, false≢true}
-use Rattle.std.specs.List.{list_any}
-use Rattle.std.specs.Option.{ForSome}
-use Rattle.dump_text.specs.declared.props.Props.{Props}
-use Rattle.dump_text.specs.declared.props.PropsReading.{PropsReading}
-use Rattle.dump_text.specs.PropertyList.{Property, IsPropertyBlock}
-use Rattle.dump_text.specs.declared.props.Entry.{Entry}
-use Rattle.dump_text.specs.steps.PropertyViews.{props_bytes, entry_property, IsReadingOf}
-use Rattle.dump_text.proofs.BoolLemmas.{absurd_bool, both_true, second_true}
-use Rattle.dump_records.specs.RecordText.{DumpRecord}
-use Rattle.dump_rules.specs.declared.merged.Bounds.{Bounds}
-use Rattle.dump_rules.specs.declared.merged.Merged.{Merged}
-use Rattle.dump_rules.specs.Settings.{Settings}
-use Rattle.dump_rules.specs.Mergeinfo.{HasMergeLines}
-use Rattle.dump_rules.specs.steps.Merged.{is_outside, no_bounds, nothing_merged}
-use Rattle.dump_rules.specs.steps.RewrittenLines.{value_misses, value_foreign}
-use Rattle.dump_rules.specs.steps.ReadMergeinfo.{value_reads}
-use Rattle.dump_rules.proofs.faults.MergedMeaning.{or_false, or_or, none_outside}
-use Rattle.dump_digest.specs.declared.content.Content.{Content}
-use Rattle.dump_digest.specs.declared.verdict.Verdict.{Verdict}
-use Rattle.dump_digest.specs.steps.VerdictMeaning.{IsVerdict}
-use Rattle.dump_digest.specs.declared.node_mergeinfo.Mergeinfo.{Mergeinfo}
-use Rattle.dump_digest.specs.RecordParts.{is_revision_record, is_kept_node, is_mergeinfo, value_of, HasPropertyList, HasPropertyBlock}
-use Rattle.dump_digest.specs.steps.Checks.{properties_read}
-use Rattle.dump_digest.specs.ContentFaults.{HasBadMergeinfo}
-use Rattle.dump_digest.specs.steps.MergeFaults.{misses, is_foreign}
-use Rattle.dump_digest.specs.steps.ContentViews.{IsSaidBy, IsContent, ArePropertiesOf, is_asked}
+use Rattle.dump_digest.proofs.Prelude.{◌≡◌, ◌↔◌, ◌<◌, ◌^◌, ℕ, Bool, true, false, ◌&&◌, ◌||◌, List, [], ◌∷◌, refl, sym, ap, subst, ◌∙◌, Option, Some, None, IsSome, IsNone, IfSome, is_some, unwrap_or, if◌then◌else◌, MatchOption, IsTrue, IsFalse, or_right, false≢true, list_any, ForSome, Props, PropsReading, Property, IsPropertyBlock, Entry, props_bytes, entry_property, IsReadingOf, absurd_bool, both_true, second_true, DumpRecord, Bounds, Merged, Settings, HasMergeLines, is_outside, no_bounds, nothing_merged, value_misses, value_foreign, value_reads, or_false, or_or, none_outside, Content, Verdict, IsVerdict, Mergeinfo, is_revision_record, is_kept_node, is_mergeinfo, value_of, HasPropertyList, HasPropertyBlock, properties_read, HasBadMergeinfo, misses, is_foreign, IsSaidBy, IsContent, ArePropertiesOf, is_asked}
 use Rattle.dump_digest.proofs.MergeLemmas.{read_is, merge_means, merge_unread}
 use Rattle.dump_digest.proofs.PropertyBlocks.{block_stable}
 

@@ -1,17 +1,7 @@
 -- Worked values of the definitions, computed by the kernel.
-use Rattle.std.proofs.Common.{◌≡◌, ℕ, refl, ap, sym, ◌∙◌, true, false, inl, inr, List, [], ◌∷◌, Some, None, Ok, is_ok, codes, unwrap_or, lit<}
-use Rattle.dump_text.specs.Names.{md5_name, sha1_name}
-use Rattle.dump_text.specs.PropertyList.{Property, IsPropertyBlock, has_deletes}
-use Rattle.dump_text.proofs.PropertyLemmas.{property_block_once}
-use Rattle.dump_text.proofs.Values.{no_changes}
-use Rattle.dump_text.specs.HeaderLine.{Header}
+use Rattle.dump_digest.proofs.Prelude.{◌≡◌, ℕ, refl, ap, sym, ◌∙◌, true, false, inl, inr, List, [], ◌∷◌, Some, None, Ok, codes, unwrap_or, lit<, md5_name, sha1_name, Property, IsPropertyBlock, has_deletes, property_block_once, no_changes, Header, Include, Pad, Settings, DumpRecord, is_revision_record, is_node, node_path, is_kept_node, is_copy, has_lost_source, has_text, has_whole_text, is_checked_text, takes_deletes, HasPropertyList, HasPropertyBlock, is_mergeinfo, value_of, HasBadProperties, DiffersFromDigest, HasBadMd5, HasBadSha1, IsMergeinfoValueOf, HasBadMergeinfo}
+use Rattle.std.proofs.Common.{is_ok}
 use Rattle.hex.specs.Hex.{decode_sized, decode_pairs}
-use Rattle.dump_rules.specs.declared.options.Side.TheVariants.{Include}
-use Rattle.dump_rules.specs.declared.options.Empty.TheVariants.{Pad}
-use Rattle.dump_rules.specs.Settings.{Settings}
-use Rattle.dump_records.specs.RecordText.{DumpRecord}
-use Rattle.dump_digest.specs.RecordParts.{is_revision_record, is_node, node_path, is_kept_node, is_copy, has_lost_source, has_text, has_whole_text, is_checked_text, takes_deletes, HasPropertyList, HasPropertyBlock, is_mergeinfo, value_of}
-use Rattle.dump_digest.specs.ContentFaults.{HasBadProperties, DiffersFromDigest, HasBadMd5, HasBadSha1, IsMergeinfoValueOf, HasBadMergeinfo}
 
 -- a digest header has digits of either case, as many as the digest needs
 abbrev abc_md5 : List ℕ

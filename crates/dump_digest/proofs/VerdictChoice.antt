@@ -1,20 +1,5 @@
 -- Each record has a verdict.
-use Rattle.std.proofs.Common.{◌≡◌, ◌≢◌, ◌⊎◌, ◌↔◌, ℕ, Bool, true, false, ◌||◌, List, refl, sym, ap, ◌∙◌, inl, inr, Option, Some, None, IsTrue, IsFalse, Result, Ok, Err, bytes_eq}
-use Rattle.std.proofs.lemmas.Option.{same_Some}
-use Rattle.std.specs.Option.{ForSome}
-use Rattle.std.proofs.Math.Logic.{∥∥₁_elim}
-use Rattle.std.proofs.lemmas.Slice.Eq.{bytes_eq-Decides}
-use Rattle.dump_text.specs.Names.{md5_name, sha1_name}
-use Rattle.dump_text.specs.HeaderLine.{has_header, header_value}
-use Rattle.dump_text.specs.PropertyList.{Property}
-use Rattle.dump_text.proofs.BoolLemmas.{absurd_bool, false_true, not_so}
-use Rattle.dump_records.specs.RecordText.{DumpRecord}
-use Rattle.dump_rules.specs.Settings.{Settings}
-use Rattle.dump_digest.specs.RecordParts.{is_revision_record, is_kept_node, has_whole_text, is_checked_text, value_of, HasPropertyList, HasPropertyBlock}
-use Rattle.dump_digest.specs.ContentFaults.{HasBadProperties, DiffersFromDigest, HasBadMd5, HasBadSha1, HasBadMergeinfo}
-use Rattle.dump_digest.specs.steps.Checks.{properties_read}
-use Rattle.dump_digest.specs.steps.VerdictMeaning.{IsVerdict}
-use Rattle.dump_digest.specs.declared.verdict.Verdict.{Verdict}
+use Rattle.dump_digest.proofs.Prelude.{◌≡◌, ◌≢◌, ◌⊎◌, ◌↔◌, ℕ, Bool, true, false, ◌||◌, List, refl, sym, ap, ◌∙◌, inl, inr, Option, Some, None, IsTrue, IsFalse, Result, Ok, Err, bytes_eq, same_Some, ForSome, ∥∥₁_elim, bytes_eq-Decides, md5_name, sha1_name, has_header, header_value, Property, absurd_bool, false_true, not_so, DumpRecord, Settings, is_revision_record, is_kept_node, has_whole_text, is_checked_text, value_of, HasPropertyList, HasPropertyBlock, HasBadProperties, DiffersFromDigest, HasBadMd5, HasBadSha1, HasBadMergeinfo, properties_read, IsVerdict, Verdict}
 use Rattle.dump_digest.proofs.MergeLemmas.{bad_of, merge_means}
 use Rattle.dump_digest.proofs.PropertyBlocks.{block_or_not}
 use Rattle.md5.specs.Md5.{md5}

@@ -1,15 +1,5 @@
 -- What a verdict's parts mean together.
-use Rattle.std.proofs.Common.{◌≡◌, ◌↔◌, Bool, true, false, ◌||◌, refl, sym, ◌∙◌, Option, is_some, IsTrue, IsFalse, IsSome}
-use Rattle.dump_text.proofs.BoolLemmas.{absurd_bool}
-use Rattle.std.proofs.lemmas.Bool.{or_right}
-use Rattle.dump_text.specs.Names.{md5_name, sha1_name}
-use Rattle.dump_records.specs.RecordText.{DumpRecord}
-use Rattle.dump_rules.specs.Settings.{Settings}
-use Rattle.dump_digest.specs.declared.verdict.Verdict.{Verdict}
-use Rattle.dump_digest.specs.RecordParts.{is_revision_record, is_kept_node, HasPropertyBlock}
-use Rattle.dump_digest.specs.ContentFaults.{HasBadMergeinfo}
-use Rattle.dump_digest.specs.steps.Checks.{HasOtherDigest, is_told_text}
-use Rattle.dump_digest.specs.steps.VerdictMeaning.{IsVerdict}
+use Rattle.dump_digest.proofs.Prelude.{◌≡◌, ◌↔◌, Bool, true, false, ◌||◌, refl, sym, ◌∙◌, Option, is_some, IsTrue, IsFalse, IsSome, absurd_bool, or_right, md5_name, sha1_name, DumpRecord, Settings, Verdict, is_revision_record, is_kept_node, HasPropertyBlock, HasBadMergeinfo, HasOtherDigest, is_told_text, IsVerdict}
 use Rattle.dump_digest.proofs.MergeLemmas.{merge_other}
 use Rattle.md5.specs.Md5.{md5}
 use Rattle.sha1.specs.Sha1.{sha1}

@@ -85,7 +85,7 @@ fn mergeinfo_of(props: &Option<Props<'_>>, options: &Options) -> Option<Mergeinf
 }
 
 /// The properties of the record, where they are a property block.
-fn properties_of<'a>(item: &Record<'a>) -> Option<Props<'a>>
+pub fn properties_of<'a>(item: &Record<'a>) -> Option<Props<'a>>
     ensures found { IsSome result ↔ HasPropertyBlock (record_item item.now) }
     ensures bytes { IfSome result (λ props. props_bytes props ≡ (record_item item.now).props) }
 {

@@ -27,7 +27,7 @@ mod done;
 mod node_mergeinfo;
 mod verdict;
 
-pub use content::is_kept;
+pub use content::{is_kept, properties_of};
 pub use done::Done;
 pub use node_mergeinfo::is_mergeinfo;
 pub use verdict::{Verdict, check};

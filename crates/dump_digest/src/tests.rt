@@ -2,7 +2,7 @@
 ghost use Rattle.std.specs.Prelude.{◌≡◌};
 ghost use Rattle.dump_digest.specs.steps.DoneViews.{done_settings};
 
-use crate::{Done, Verdict, check, is_kept};
+use crate::{Done, Verdict, check, is_kept, properties_of};
 use dump_records::{Cut, Cutter, Record};
 use dump_rules::{Empty, Options, Side};
 use dump_text::FaultKind;
@@ -91,7 +91,7 @@ fn include_trunk(alloc: Global) -> Result<Options, Fail> {
     Ok(options)
 }
 
-// Whether a record of the dump above has this place, and this verdict.
+/// Whether a record of the dump above has this place, and this verdict.
 fn is_done(alloc: Global, number: u64, place: usize, verdict: Verdict) -> Result<bool, Fail> {
     let item = record(DUMP, number)?;
     let options = include_trunk(alloc)?;
@@ -130,7 +130,7 @@ fn properties_of_revisions_and_of_kept_nodes_are_checked(rt: HostRuntime) -> Res
     Ok(())
 }
 
-// Whether the record of the dump above with this number is a kept node.
+/// Whether the record of the dump above with this number is a kept node.
 fn is_kept_node(alloc: Global, number: u64) -> Result<bool, Fail> {
     let item = record(DUMP, number)?;
     let options = include_trunk(alloc)?;
@@ -145,6 +145,14 @@ fn nodes_are_kept_by_their_paths(rt: HostRuntime) -> Result<(), Fail> {
     Ok(())
 }
 
+#[test]
+fn properties_of_a_record_are_a_property_block(rt: HostRuntime) -> Result<(), Fail> {
+    let good = record(DUMP, GOOD_NODE)?;
+    let bad = record(DUMP, BAD_NODE)?;
+    assert!(rt; properties_of(&good).is_some() && properties_of(&bad).is_none());
+    Ok(())
+}
+
 fn joined(alloc: Global, parts: &[&str]) -> Result<String, Fail> {
     let mut text = String::new(alloc);
     for part in parts {
@@ -153,7 +161,7 @@ fn joined(alloc: Global, parts: &[&str]) -> Result<String, Fail> {
     Ok(text)
 }
 
-// The verdict on the record that is alone in a dump of this version.
+/// The verdict on the record that is alone in a dump of this version.
 fn verdict_under(alloc: Global, version: &str, text: &str) -> Result<Verdict, Fail> {
     let dump = joined(
         alloc,
@@ -162,12 +170,12 @@ fn verdict_under(alloc: Global, version: &str, text: &str) -> Result<Verdict, Fa
     verdict_in(alloc, dump.as_bytes(), 1)
 }
 
-// The verdict on the record that is alone in a dump of version 2.
+/// The verdict on the record that is alone in a dump of version 2.
 fn verdict_on(alloc: Global, text: &str) -> Result<Verdict, Fail> {
     verdict_under(alloc, "2", text)
 }
 
-// A file with the text `abc` and these lines.
+/// A file with the text `abc` and these lines.
 fn abc_file(alloc: Global, path: &str, lines: &str) -> Result<String, Fail> {
     let parts = [
         "Node-path: ",
@@ -179,7 +187,7 @@ fn abc_file(alloc: Global, path: &str, lines: &str) -> Result<String, Fail> {
     joined(alloc, &parts)
 }
 
-// The verdict on a file with the text `abc` and these digest lines.
+/// The verdict on a file with the text `abc` and these digest lines.
 fn verdict_on_abc(alloc: Global, path: &str, digests: &str) -> Result<Verdict, Fail> {
     let file = abc_file(alloc, path, digests)?;
     verdict_on(alloc, file.as_str())
@@ -258,7 +266,7 @@ fn both_digests_are_told(rt: HostRuntime) -> Result<(), Fail> {
     Ok(())
 }
 
-// The verdict on a file with the text `abc`, these digests and this line on deltas, under a version.
+/// The verdict on a file with the text `abc`, these digests and this line on deltas, under a version.
 fn verdict_on_delta(
     alloc: Global,
     version: &str,
@@ -290,7 +298,7 @@ fn deltas_are_not_digested(rt: HostRuntime) -> Result<(), Fail> {
     Ok(())
 }
 
-// A delta with wrong digests, under version 2, then 3, then 2 again.
+/// A delta with wrong digests, under version 2, then 3, then 2 again.
 fn thrice(alloc: Global) -> Result<String, Fail> {
     let lines = joined(alloc, &["Text-delta: true\n", WRONG_DIGESTS])?;
     let file = abc_file(alloc, "trunk/f", lines.as_str())?;
@@ -324,7 +332,7 @@ Text-content-md5: 900150983cd24fb0d6963f7d28e17f72\nContent-length: 13\n\nPROPS-
     Ok(())
 }
 
-// The verdict on a record with two properties of the same length and this end of the block.
+/// The verdict on a record with two properties of the same length and this end of the block.
 fn verdict_on_values(
     alloc: Global,
     header: &str,

@@ -1,26 +1,7 @@
 -- Worked values of the definitions, computed and proved by the kernel.
-use Rattle.std.proofs.Common.{◌≡◌, ℕ, ◌+◌, ◌<◌, refl, ap, ◌∙◌, subst, length-append, Bool, true, false, List, [], ◌∷◌, ◌++◌, length, map, Some, None, codes, inl, inr, arith, lit<, lit≤}
+use Rattle.dump_filter.proofs.Prelude.{◌≡◌, ℕ, ◌+◌, ◌<◌, refl, ap, ◌∙◌, subst, length-append, Bool, true, false, List, [], ◌∷◌, ◌++◌, length, map, Some, None, codes, inl, inr, arith, lit<, lit≤, FaultKind, fault_code, NoFault, Header, Property, DumpRecord, Ending, HasRecords, Include, Empty, Pad, DropEmptied, DropAll, Settings, KeptRevisions, Group, group_of, groups, revision_number, group_number, has_kept_node, is_bare, is_emptied, keeps_empty, keeps_group, is_pad, is_padded, revision_numbers, first_number, present_revision, kept_revisions, with_length, with_lengths, written_number, is_whole_file, becomes_plain, stays_copy, without_copy_headers, IsWrittenCopyNumber, IsNewCopy, ends_in_group, IsOutOfOrder, present_number, HasBadCopyRevision, HoldsOfRecord, IsRecordFault, AreFaultFree, padding_log, is_date, padding_properties, revision_properties, IsNewProperty, AreNewProperties, new_block, whole_text, revision_text, IsRevisionOutput, IsNodeOutput, IsOutput, IsWrittenBlock, is_open, is_written, AreOutputs, IsWrittenText, IsCleanText, report_of}
 use Rattle.std.specs.Fmt.{digits}
-use Rattle.dump_text.specs.declared.fault.FaultKind.{FaultKind}
 use Rattle.dump_text.specs.declared.fault.FaultKind.TheVariants as faults
-use Rattle.dump_text.specs.FaultTable.{fault_code, NoFault}
-use Rattle.dump_text.specs.HeaderLine.{Header}
-use Rattle.dump_text.specs.PropertyList.{Property}
-use Rattle.dump_records.specs.RecordText.{DumpRecord}
-use Rattle.dump_records.specs.DumpText.{Ending, HasRecords}
-use Rattle.dump_rules.specs.declared.options.Side.TheVariants.{Include}
-use Rattle.dump_rules.specs.declared.options.Empty.{Empty}
-use Rattle.dump_rules.specs.declared.options.Empty.TheVariants.{Pad, DropEmptied, DropAll}
-use Rattle.dump_rules.specs.Settings.{Settings}
-use Rattle.dump_rules.specs.Renumbering.{KeptRevisions}
-use Rattle.dump_filter.specs.Groups.{Group, group_of, groups, revision_number, group_number, has_kept_node, is_bare, is_emptied, keeps_empty, keeps_group, is_pad, is_padded, revision_numbers, first_number, present_revision, kept_revisions}
-use Rattle.dump_filter.specs.NewHeaders.{with_length, with_lengths, written_number, is_whole_file, becomes_plain, stays_copy, without_copy_headers, IsWrittenCopyNumber, IsNewCopy}
-use Rattle.dump_filter.specs.RecordFaults.{ends_in_group, IsOutOfOrder, present_number, HasBadCopyRevision, HoldsOfRecord, IsRecordFault, AreFaultFree}
-use Rattle.dump_filter.specs.NewContent.{padding_log, is_date, padding_properties, revision_properties, IsNewProperty, AreNewProperties, new_block}
-use Rattle.dump_filter.specs.RecordOutput.{whole_text, revision_text, IsRevisionOutput, IsNodeOutput, IsOutput, IsWrittenBlock}
-use Rattle.dump_filter.specs.Written.{is_open, is_written, AreOutputs, IsWrittenText}
-use Rattle.dump_filter.specs.WholeText.{IsCleanText}
-use Rattle.dump_filter.specs.Counts.{report_of}
 
 abbrev header : List ℕ → List ℕ → Header
 header name value = record { name = name; value = value }

@@ -17,7 +17,7 @@ use dump_text::FaultKind;
 use dump_writer::{Chunk, Piece};
 use std::alloc::{AllocError, Global};
 
-// What is asked of the filter.
+/// What is asked of the filter.
 #[derive(Clone, Copy)]
 struct Asked<'a> {
     side: Side,
@@ -27,8 +27,8 @@ struct Asked<'a> {
     preserve: bool,
 }
 
-// A dump that the filter brings to its end, what is written of it, and its counts: kept and dropped revisions, kept
-// and dropped nodes.
+/// A dump that the filter brings to its end, what is written of it, and its counts: kept and dropped revisions, kept
+/// and dropped nodes.
 #[derive(Clone, Copy)]
 struct Worked<'a> {
     asked: Asked<'a>,
@@ -37,8 +37,8 @@ struct Worked<'a> {
     counts: (u64, u64, u64, u64),
 }
 
-// A dump of which the filter refuses a record, for this fault, and what is written before: how long it is behind each
-// record, and all of it.
+/// A dump of which the filter refuses a record, for this fault, and what is written before: how long it is behind each
+/// record, and all of it.
 #[derive(Clone, Copy)]
 struct Refused<'a> {
     asked: Asked<'a>,
@@ -48,8 +48,8 @@ struct Refused<'a> {
     written: &'a [&'a [u8]],
 }
 
-// What was written, how long it was behind each piece, and how many chunks were made and not lent. Its room is
-// reserved, so that behind it only the filter's memory is refused.
+/// What was written, how long it was behind each piece, and how many chunks were made and not lent. Its room is
+/// reserved, so that behind it only the filter's memory is refused.
 #[derive(Drop)]
 struct Written {
     text: Vec<u8>,
@@ -88,7 +88,7 @@ impl Written {
         }
     }
 
-    // Whether these parts were written, and nothing else.
+    /// Whether these parts were written, and nothing else.
     fn is_of(&self, parts: &[&[u8]]) -> bool {
         let mut text = self.text.as_slice();
         for part in parts {
@@ -100,7 +100,7 @@ impl Written {
         text.is_empty()
     }
 
-    // Whether what was written is a front of these parts.
+    /// Whether what was written is a front of these parts.
     fn begins(&self, parts: &[&[u8]]) -> bool {
         let mut text = self.text.as_slice();
         for part in parts {
@@ -121,7 +121,7 @@ fn joined(alloc: Global, parts: &[&[u8]]) -> Result<Vec<u8>, AllocError> {
     Ok(whole)
 }
 
-// The nodes under a prefix, and nothing else.
+/// The nodes under a prefix, and nothing else.
 fn include(prefix: &[u8]) -> Asked<'_> {
     Asked {
         side: Side::Include,
@@ -132,7 +132,7 @@ fn include(prefix: &[u8]) -> Asked<'_> {
     }
 }
 
-// The same, where an empty revision keeps its properties.
+/// The same, where an empty revision keeps its properties.
 fn preserve(prefix: &[u8]) -> Asked<'_> {
     Asked {
         preserve: true,
@@ -140,7 +140,7 @@ fn preserve(prefix: &[u8]) -> Asked<'_> {
     }
 }
 
-// The same, where emptied revisions go and the others get new numbers.
+/// The same, where emptied revisions go and the others get new numbers.
 fn renumber(prefix: &[u8]) -> Asked<'_> {
     Asked {
         empty: Empty::DropEmptied,
@@ -171,8 +171,8 @@ fn report(counts: (u64, u64, u64, u64)) -> Report {
     }
 }
 
-// Takes the next record through the filter, and writes its piece. The error is `None` where no record is left, and else
-// the fault behind which the filter is closed.
+/// Takes the next record through the filter, and writes its piece. The error is `None` where no record is left, and else
+/// the fault behind which the filter is closed.
 fn pass<'a>(
     alloc: Global,
     cutter: &mut Cutter<'a>,
@@ -207,7 +207,7 @@ fn pass<'a>(
     }
 }
 
-// Takes the first records through the filter, at most eleven.
+/// Takes the first records through the filter, at most eleven.
 fn pass_all<'a>(
     alloc: Global,
     dump: &'a [u8],
@@ -224,7 +224,7 @@ fn pass_all<'a>(
     Ok(())
 }
 
-// Takes a dump through a filter, to its end or its first fault.
+/// Takes a dump through a filter, to its end or its first fault.
 fn run<'a>(
     alloc: Global,
     dump: &'a [u8],
@@ -243,7 +243,7 @@ fn run<'a>(
     Ok(report)
 }
 
-// What the filter answers to a dump, and what it writes of it; none where memory is refused before it begins.
+/// What the filter answers to a dump, and what it writes of it; none where memory is refused before it begins.
 fn outcome(
     alloc: Global,
     asked: &Asked<'_>,
@@ -256,7 +256,7 @@ fn outcome(
     Some((answer, out))
 }
 
-// Whether the filter refuses a record of a dump so.
+/// Whether the filter refuses a record of a dump so.
 fn is_refused(alloc: Global, refused: &Refused<'_>) -> bool {
     match outcome(alloc, &refused.asked, refused.dump) {
         Some((answer, out)) => {

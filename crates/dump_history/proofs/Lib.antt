@@ -1,3 +1,4 @@
+mod Prelude
 pub mod again
 pub mod restricted
 pub mod survey

@@ -1,16 +1,10 @@
 -- Numbered items that arrive in any order and are released in theirs.
-use Rattle.std.proofs.Common.{◌≡◌, ◌≢◌, ◌⊎◌, inl, inr, ℕ, zero, suc, ◌+◌, ◌<◌, ◌≤◌, ◌%◌, List, [], ◌∷◌, ◌++◌, length, Option, Some, None, slice_index_or, slice_set, sum_by, refl, sym, ap, ◌∙◌, subst, arith, append_assoc, replicate}
-use Rattle.std.proofs.lemmas.Bool.{cases_lt, cases_eq}
-use Rattle.std.proofs.lemmas.List.{length-set, get_or-set_same, get_or-set_other, set-get_or, length-replicate}
-use Rattle.std.proofs.lemmas.Option.{none-some}
+use Rattle.dump_lanes.proofs.Prelude.{◌≡◌, ◌≢◌, ◌⊎◌, inl, inr, ℕ, zero, suc, ◌+◌, ◌<◌, ◌≤◌, ◌%◌, List, [], ◌∷◌, ◌++◌, length, Option, Some, None, slice_set, sum_by, refl, sym, ap, ◌∙◌, subst, arith, append_assoc, replicate, cases_lt, cases_eq, set-get_or, length-replicate, none-some, sum_by-cons, sum_by-append, sum_by_push, sum_by-set, WeighsSame, first_numbers, Lacks, IsWaiting, Clash, slot_item, with_slot_item, held, Row, Taken, Wrong}
+use Rattle.std.proofs.Common.{slice_index_or}
+use Rattle.std.proofs.lemmas.List.{length-set, get_or-set_same, get_or-set_other}
 use Rattle.std.proofs.Math.Nat.{mod-lt}
-use Rattle.std.proofs.lemmas.List.Sums.{sum_by-cons, sum_by-append, sum_by_push, sum_by-set}
-use Rattle.dump_lanes.specs.Arrivals.{WeighsSame, first_numbers, Lacks, IsWaiting, Clash}
-use Rattle.dump_lanes.specs.steps.SlotRow.{slot_item, with_slot_item}
 use Rattle.dump_lanes.proofs.core.Weights.{weigh, weigh-append, only, only_itself, only_other, within_range, above_range, range_next}
 use Rattle.dump_lanes.proofs.core.Slots.{near}
-use Rattle.dump_lanes.specs.steps.ArrivalRows.{held, Row}
-use Rattle.dump_lanes.specs.Arrivals.Clash.{Taken, Wrong}
 
 sum_is : (f : ℕ → ℕ) (xs : List ℕ) → sum_by f xs ≡ weigh f xs
 sum_is f [] = refl

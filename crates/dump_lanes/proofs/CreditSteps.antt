@@ -1,19 +1,13 @@
 -- Each move on a pool's queue of credits keeps its rule.
-use Rattle.std.proofs.Common.{◌≡◌, ◌≢◌, ◌≤◌, ℕ, ◌+◌, suc, true, false, true≢false, ⊎_elim, List, [], ◌∷◌, ◌++◌, length, set, sym, refl, ap, ◌∙◌, subst, IsTrue, arith}
-use Rattle.std.proofs.lemmas.Bool.{lt-ltb, ltb-true}
-use Rattle.std.proofs.lemmas.List.{length-append}
+use Rattle.dump_lanes.proofs.Prelude.{◌≡◌, ◌≢◌, ◌≤◌, ℕ, ◌+◌, suc, true, false, true≢false, ⊎_elim, List, [], ◌∷◌, ◌++◌, length, set, sym, refl, ap, ◌∙◌, subst, arith, lt-ltb, ltb-true, length-append, Purse, Move, Thread, credits_share, credits_allow, event_of, is_thread, steps_of, CreditStep, draw_step, back_step, drawn_in, back_in, purse, after_first, after_draw, after_back, cutter_purse, writer_purse, joined_purse, spent_purse, IsCreditQueue}
+use Rattle.std.proofs.Common.{IsTrue}
 use mathlib.Core.Option.{some}
 use lib.ListN.{get_elem?}
 use Rattle.atomic_table.proofs.Lists.{set_else}
 use Rattle.crossbeam_queue.specs.Fifo.{Pushes, Pops, Forks, Merges, Learns}
-use Rattle.dump_lanes.specs.declared.pool.credits.Purse.{Purse}
-use Rattle.dump_lanes.specs.declared.steps.Move.{Move}
 use Rattle.dump_lanes.specs.declared.steps.Move.TheVariants as move
-use Rattle.dump_lanes.specs.PoolParts.{Thread, credits_share, credits_allow}
-use Rattle.dump_lanes.specs.PartSteps.{event_of}
-use Rattle.dump_lanes.specs.steps.OwnSteps.{is_thread, steps_of}
-use Rattle.dump_lanes.specs.CreditRule.{put_by, taken_by, CreditStep, IsStep, AreSteps}
-use Rattle.dump_lanes.specs.steps.CreditQueue.{draw_step, back_step, drawn_in, back_in, purse, after_first, after_draw, after_back, cutter_purse, writer_purse, joined_purse, spent_purse, Fits, IsCreditQueue, KnowsSteps}
+use Rattle.dump_lanes.specs.CreditRule.{put_by, taken_by, IsStep, AreSteps}
+use Rattle.dump_lanes.specs.steps.CreditQueue.{Fits, KnowsSteps}
 use Rattle.dump_lanes.proofs.PartMoves.{other_thread, one_or_other, forked, forked_stays, forked_to, joined as joined_owner, joined_is, joined_comes, knows_step, knows_else, knows_fork_left, knows_fork_else, knows_fork_new, knows_join_both, knows_join_else, knows_join_spent}
 use Rattle.dump_lanes.proofs.Views.{AllViews, AllViews-set, AllViews-one, AllViews-more, within, set_long}
 

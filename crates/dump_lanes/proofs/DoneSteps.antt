@@ -1,18 +1,12 @@
 -- Each move on a pool's queue of dones keeps its rule.
-use Rattle.std.proofs.Common.{◌≡◌, ◌≢◌, ◌==◌, ◌<◌, ℕ, true, false, true≢false, inl, inr, List, [], ◌∷◌, ◌++◌, length, cond, sym, refl, ap, ◌∙◌, eq-eqb, arith}
-use Rattle.std.proofs.lemmas.Bool.{lt-ltb}
+use Rattle.dump_lanes.proofs.Prelude.{◌≡◌, ◌≢◌, ◌==◌, ◌<◌, ℕ, true, false, true≢false, inl, inr, List, [], ◌∷◌, ◌++◌, length, cond, sym, refl, ap, ◌∙◌, arith, lt-ltb, Note, Move, View, Thread, thread_of, event_of, is_thread, after_put, after_take, dones_part, sequencer_crew, give_step, arrive_step, IsDoneQueue}
+use Rattle.std.proofs.Common.{eq-eqb}
 use Rattle.std.proofs.lemmas.List.{append-nil}
 use Rattle.crossbeam_queue.specs.Fifo.{Pushes, Pops}
-use Rattle.dump_lanes.specs.declared.pool.dones.Note.{Note}
-use Rattle.dump_lanes.specs.declared.steps.Move.{Move}
 use Rattle.dump_lanes.specs.declared.steps.Move.TheVariants as move
-use Rattle.dump_lanes.specs.declared.passes.View.{View}
-use Rattle.dump_lanes.specs.PoolParts.{Thread, thread_of}
-use Rattle.dump_lanes.specs.PartSteps.{event_of, IsStep, all_taken}
-use Rattle.dump_lanes.specs.steps.OwnSteps.{is_thread}
-use Rattle.dump_lanes.specs.steps.QueueRule.{after_put, after_take, KnowsSteps}
-use Rattle.dump_lanes.specs.DoneRule.{taken_by, dones_part}
-use Rattle.dump_lanes.specs.steps.DoneQueue.{sequencer_crew, give_step, arrive_step, IsDoneQueue}
+use Rattle.dump_lanes.specs.PartSteps.{IsStep, all_taken}
+use Rattle.dump_lanes.specs.steps.QueueRule.{KnowsSteps}
+use Rattle.dump_lanes.specs.DoneRule.{taken_by}
 use Rattle.dump_lanes.proofs.PartMoves.{worker_number}
 use Rattle.dump_lanes.proofs.QueueSteps as queue
 use Rattle.dump_lanes.proofs.QueueSteps.{AreApart}

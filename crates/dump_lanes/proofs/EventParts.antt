@@ -1,10 +1,8 @@
 -- What a step of one thread leaves to the others, and what its shared parts allow.
-use Rattle.std.proofs.Common.{◌≢◌, ℕ, ap, refl, Bool, true, false, ◌&&◌, nat_lt, List, [], ◌∷◌, Some, None}
+use Rattle.dump_lanes.proofs.Prelude.{◌≢◌, ℕ, ap, refl, Bool, true, false, ◌&&◌, nat_lt, List, [], ◌∷◌, Some, None, PoolSize, Entry, World, hand_of, Event, is_enabled, arrived, written_next, Thread, IsSameFor, LeavesOthers, PartsAllow}
 use Rattle.std.proofs.lemmas.List.{get_or-set_other}
 use Rattle.std.specs.Prelude.{IsTrue, not, is_none, slice_index_or}
-use Rattle.dump_lanes.specs.PoolWorld.{PoolSize, Entry, World, hand_of}
-use Rattle.dump_lanes.specs.PoolEvents.{Event, is_enabled, taken_by, arrived, written_next}
-use Rattle.dump_lanes.specs.PoolParts.{Thread, IsSameFor, LeavesOthers, PartsAllow}
+use Rattle.dump_lanes.specs.PoolEvents.{taken_by}
 
 -- another worker has another number
 other_number : (k worker : ℕ) → Thread.Worker k ≢ Thread.Worker worker → k ≢ worker

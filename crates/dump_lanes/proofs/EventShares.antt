@@ -1,8 +1,6 @@
 -- What each shared part of a state is after an event.
-use Rattle.std.proofs.Common.{◌≡◌, ℕ, ap, sym, ◌∙◌, drop, refl, List, [], ◌∷◌}
-use Rattle.dump_lanes.specs.PoolWorld.{PoolSize, Entry, World}
-use Rattle.dump_lanes.specs.PoolEvents.{Event, taken_by, arrived, written_next}
-use Rattle.dump_lanes.specs.PoolParts.{SharesEvent}
+use Rattle.dump_lanes.proofs.Prelude.{◌≡◌, ℕ, ap, sym, ◌∙◌, drop, refl, List, [], ◌∷◌, PoolSize, Entry, World, Event, arrived, written_next, SharesEvent}
+use Rattle.dump_lanes.specs.PoolEvents.{taken_by}
 
 -- a queue from which the first entry is taken, by cases on what it holds
 record TakesJob (w v : World) : Type 0 where

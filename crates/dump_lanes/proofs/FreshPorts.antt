@@ -1,10 +1,5 @@
 -- The workers' ports of a pool as they are given.
-use Rattle.std.proofs.Common.{◌≡◌, ◌∙◌, ℕ, zero, suc, ◌+◌, List, [], All, length, map, refl, sym, ap, subst, arith}
-use Rattle.std.proofs.lemmas.List.FromFn.{length-map-range_with_len}
-use Rattle.std.specs.List.{range_with_len}
-use Rattle.dump_lanes.specs.declared.pool.worker.WorkerPort.{WorkerPort}
-use Rattle.dump_lanes.specs.steps.PortSides.{WorkerSide, PoolState, new_worker}
-use Rattle.dump_lanes.specs.steps.PortViews.{worker_port}
+use Rattle.dump_lanes.proofs.Prelude.{◌≡◌, ◌∙◌, ℕ, zero, suc, ◌+◌, List, [], All, length, map, refl, sym, ap, subst, arith, length-map-range_with_len, range_with_len, WorkerPort, WorkerSide, PoolState, new_worker, worker_port}
 use Rattle.dump_lanes.proofs.PortsTogether.{length_of_map, all_of_map}
 
 module _ {J E : Type 0} where

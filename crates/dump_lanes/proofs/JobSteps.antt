@@ -1,19 +1,13 @@
 -- Each move on a pool's queue of jobs keeps its rule.
-use Rattle.std.proofs.Common.{◌≡◌, ◌≢◌, ◌<◌, ℕ, true, false, true≢false, inl, inr, List, [], ◌∷◌, ◌++◌, length, sym, refl, ap, ◌∙◌, eq-eqb, arith}
-use Rattle.std.proofs.lemmas.Bool.{lt-ltb}
+use Rattle.dump_lanes.proofs.Prelude.{◌≡◌, ◌≢◌, ◌<◌, ℕ, true, false, true≢false, inl, inr, List, [], ◌∷◌, ◌++◌, length, sym, refl, ap, ◌∙◌, arith, lt-ltb, Mark, Item, End, Move, View, Thread, thread_of, event_of, all_put, is_thread, after_put, jobs_part, cut_event, cutter_crew, after_job, IsJobQueue}
+use Rattle.std.proofs.Common.{eq-eqb}
 use Rattle.std.proofs.lemmas.List.{append-nil}
 use Rattle.crossbeam_queue.specs.Fifo.{Pushes, Pops}
-use Rattle.dump_lanes.specs.declared.protocol.Mark.{Mark}
-use Rattle.dump_lanes.specs.declared.protocol.Mark.TheVariants.{Item, End}
-use Rattle.dump_lanes.specs.declared.steps.Move.{Move}
 use Rattle.dump_lanes.specs.declared.steps.Move.TheVariants as move
-use Rattle.dump_lanes.specs.declared.passes.View.{View}
-use Rattle.dump_lanes.specs.PoolParts.{Thread, thread_of}
-use Rattle.dump_lanes.specs.PartSteps.{event_of, IsStep, all_put}
-use Rattle.dump_lanes.specs.steps.OwnSteps.{is_thread}
-use Rattle.dump_lanes.specs.steps.QueueRule.{after_put, KnowsSteps}
-use Rattle.dump_lanes.specs.JobRule.{put_by, jobs_part}
-use Rattle.dump_lanes.specs.steps.JobQueue.{cut_event, cutter_crew, put_step, take_step, after_job, IsJobQueue}
+use Rattle.dump_lanes.specs.PartSteps.{IsStep}
+use Rattle.dump_lanes.specs.steps.QueueRule.{KnowsSteps}
+use Rattle.dump_lanes.specs.JobRule.{put_by}
+use Rattle.dump_lanes.specs.steps.JobQueue.{put_step, take_step}
 use Rattle.dump_lanes.proofs.PartMoves.{worker_number}
 use Rattle.dump_lanes.proofs.QueueSteps as queue
 use Rattle.dump_lanes.proofs.QueueSteps.{AreApart}

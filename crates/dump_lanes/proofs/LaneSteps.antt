@@ -1,20 +1,12 @@
 -- What a call leaves an end with.
-use Rattle.std.proofs.Common.{◌≡◌, Bool, true, List, [], ◌∷◌, ◌++◌, sym, ap, ◌∙◌, subst, Result, Ok, Err, MatchResult}
+use Rattle.dump_lanes.proofs.Prelude.{◌≡◌, Bool, true, List, [], ◌∷◌, ◌++◌, sym, ap, ◌∙◌, subst, Result, Ok, Err, MatchResult, Told, MayCome, Ended, SenderGone, View, Mark, Item, End, LaneEnd, IsWholeAtEnd, AreItemsThen, IsPutting, IsTaking, mark_if, after_put, after_take, lane_of, sending_of, receiving_of, told, ComesAgain}
 use Rattle.atomic_table.specs.declared.badge.Badge.{Badge}
 use Rattle.crossbeam_channel.specs.Claims.{Pass, IsSeatAt, view}
 use Rattle.crossbeam_channel.specs.declared.flavors.array.Doing.{Doing}
 use Rattle.crossbeam_channel.specs.declared.flavors.array.Key.{Key}
 use Rattle.crossbeam_channel.specs.declared.flavors.array.Rows.{Rows}
-use Rattle.dump_lanes.specs.declared.ends.Told.{Told}
-use Rattle.dump_lanes.specs.declared.ends.Told.TheVariants.{MayCome, Ended, SenderGone}
-use Rattle.dump_lanes.specs.declared.passes.View.{View}
-use Rattle.dump_lanes.specs.declared.protocol.Mark.{Mark}
-use Rattle.dump_lanes.specs.declared.protocol.Mark.TheVariants.{Item, End}
-use Rattle.dump_lanes.specs.steps.LaneEnds.{LaneEnd, IsWholeAtEnd}
-use Rattle.dump_lanes.specs.steps.LaneMarks.{items_of, AreItemsThen, IsPutting, IsTaking, mark_if, mark_of}
+use Rattle.dump_lanes.specs.steps.LaneMarks.{items_of, mark_of}
 use Rattle.dump_lanes.specs.steps.LaneQueue.{put_step, take_step}
-use Rattle.dump_lanes.specs.steps.QueueRule.{after_put, after_take}
-use Rattle.dump_lanes.specs.steps.LaneViews.{lane_of, sending_of, receiving_of, told, ComesAgain}
 use Rattle.dump_lanes.proofs.MarkLists.{items_of-then_item, items_of-then_end, then_item, then_end, is_whole, is_marked}
 
 -- an end that may still be given items has no end to tell again

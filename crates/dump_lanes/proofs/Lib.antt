@@ -1,3 +1,4 @@
+mod Prelude
 pub mod Arrivals
 pub mod CreditSteps
 pub mod DoneSteps

@@ -1,9 +1,7 @@
 -- The items among marks, as marks join the list.
-use Rattle.std.proofs.Common.{◌≡◌, ◌≢◌, Bool, true, false, List, [], ◌∷◌, ◌++◌, map, drop, sym, refl, ap, ◌∙◌}
-use Rattle.std.proofs.lemmas.List.{append-nil, map-append}
-use Rattle.dump_lanes.specs.declared.protocol.Mark.{Mark}
-use Rattle.dump_lanes.specs.declared.protocol.Mark.TheVariants.{Item, End}
-use Rattle.dump_lanes.specs.steps.LaneMarks.{items_of, AreItemsThen, mark_if}
+use Rattle.dump_lanes.proofs.Prelude.{◌≡◌, ◌≢◌, Bool, true, false, List, [], ◌∷◌, ◌++◌, map, drop, sym, refl, ap, ◌∙◌, map-append, Mark, Item, End, AreItemsThen, mark_if}
+use Rattle.std.proofs.lemmas.List.{append-nil}
+use Rattle.dump_lanes.specs.steps.LaneMarks.{items_of}
 
 module _ {T : Type 0} where
   -- marks joined to others have the items of both

@@ -1,21 +1,13 @@
 -- Each move on a lane's channel keeps its rule.
-use Rattle.std.proofs.Common.{◌≡◌, ◌≢◌, ◌<◌, zero, suc, ℕ, Bool, true, false, true≢false, inl, inr, List, [], ◌∷◌, ◌++◌, length, cond, sym, refl, ap, ◌∙◌, subst, arith}
-use Rattle.std.proofs.lemmas.Bool.{lt-ltb}
+use Rattle.dump_lanes.proofs.Prelude.{◌≡◌, ◌≢◌, ◌<◌, zero, suc, ℕ, Bool, true, false, true≢false, inl, inr, List, [], ◌∷◌, ◌++◌, length, cond, sym, refl, ap, ◌∙◌, subst, arith, lt-ltb, View, Mark, Item, End, Move, Step, Thread, thread_of, event_of, all_put, is_thread, steps_of, after_put, after_take, lane_part, receiver_first, sender_crew, item_step, item_steps, IsInOrder}
 use Rattle.std.proofs.lemmas.List.{append-nil}
 use Rattle.crossbeam_channel.specs.Fifo.{Pushes, Pops}
-use Rattle.dump_lanes.specs.declared.passes.View.{View}
-use Rattle.dump_lanes.specs.declared.protocol.Mark.{Mark}
-use Rattle.dump_lanes.specs.declared.protocol.Mark.TheVariants.{Item, End}
-use Rattle.dump_lanes.specs.declared.steps.Move.{Move}
 use Rattle.dump_lanes.specs.declared.steps.Move.TheVariants as move
-use Rattle.dump_lanes.specs.declared.steps.Step.{Step}
 use Rattle.dump_lanes.specs.steps.LaneMarks.{items_of}
-use Rattle.dump_lanes.specs.PoolParts.{Thread, thread_of}
-use Rattle.dump_lanes.specs.PartSteps.{event_of, IsStep, AreSteps, all_put, all_taken}
-use Rattle.dump_lanes.specs.steps.OwnSteps.{is_thread, steps_of}
-use Rattle.dump_lanes.specs.steps.QueueRule.{after_put, after_take, KnowsSteps}
-use Rattle.dump_lanes.specs.LaneRule.{put_by, taken_by, lane_part}
-use Rattle.dump_lanes.specs.steps.LaneQueue.{receiver_first, sender_crew, put_step, take_step, item_step, item_steps, IsInOrder}
+use Rattle.dump_lanes.specs.PartSteps.{IsStep, AreSteps, all_taken}
+use Rattle.dump_lanes.specs.steps.QueueRule.{KnowsSteps}
+use Rattle.dump_lanes.specs.LaneRule.{put_by, taken_by}
+use Rattle.dump_lanes.specs.steps.LaneQueue.{put_step, take_step}
 use Rattle.dump_lanes.proofs.MarkLists.{items_of-then_item, items_of-then_end}
 use Rattle.dump_lanes.proofs.PartMoves.{worker_number, other_thread, in_order}
 use Rattle.dump_lanes.proofs.QueueSteps as queue

@@ -1,15 +1,11 @@
 -- One more step of a history: whose it is, and what it moves.
-use Rattle.std.proofs.Common.{◌≡◌, ◌≢◌, ◌==◌, ◌⊎◌, inl, inr, ℕ, Bool, true, false, true≢false, List, [], ◌∷◌, ◌++◌, cond, sum_by, sym, refl, ap, ◌∙◌, subst, ⊎_elim, append_assoc, eq-eqb, ne_eqb, arith}
+use Rattle.dump_lanes.proofs.Prelude.{◌≡◌, ◌≢◌, ◌==◌, ◌⊎◌, inl, inr, ℕ, Bool, true, false, true≢false, List, [], ◌∷◌, ◌++◌, cond, sum_by, sym, refl, ap, ◌∙◌, subst, ⊎_elim, append_assoc, arith, sum_by-append, sum_by-cons, filter-append, Step, Thread, thread_of, event_of, Part, all_put, is_thread, steps_of, Knows}
+use Rattle.std.proofs.Common.{eq-eqb, ne_eqb}
 use Rattle.std.proofs.lemmas.Bool.{eqb-true}
-use Rattle.std.proofs.lemmas.List.Sums.{sum_by-append, sum_by-cons}
 use Rattle.std.proofs.lemmas.List.{append-nil}
-use Rattle.std.proofs.lemmas.List.Elements.{filter-append}
 use mathlib.Core.Logic.{dite}
 use native.Mathlib.Decide.{ℕ_discrete}
-use Rattle.dump_lanes.specs.declared.steps.Step.{Step}
-use Rattle.dump_lanes.specs.PoolParts.{Thread, thread_of}
-use Rattle.dump_lanes.specs.PartSteps.{event_of, Part, AreSteps, all_put, all_taken}
-use Rattle.dump_lanes.specs.steps.OwnSteps.{is_thread, steps_of, Knows}
+use Rattle.dump_lanes.specs.PartSteps.{AreSteps, all_taken}
 
 abbrev number_of : Thread → ℕ
 number_of (Thread.Worker k) = k

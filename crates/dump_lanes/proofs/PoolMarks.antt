@@ -1,11 +1,7 @@
 -- The marks of a pool's queues, as they join a list.
-use Rattle.std.proofs.Common.{◌≡◌, ◌+◌, ℕ, zero, suc, List, [], ◌∷◌, ◌++◌, replicate, refl, ap, ◌∙◌, arith}
-use Rattle.std.proofs.lemmas.List.{append-nil, map-append}
-use Rattle.dump_lanes.specs.declared.pool.dones.Note.{Note}
-use Rattle.dump_lanes.specs.declared.protocol.Mark.{Mark}
-use Rattle.dump_lanes.specs.declared.protocol.Mark.TheVariants.{Item, End}
+use Rattle.dump_lanes.proofs.Prelude.{◌≡◌, ◌+◌, ℕ, zero, suc, List, [], ◌∷◌, ◌++◌, replicate, refl, ap, ◌∙◌, arith, map-append, Note, Mark, Item, End, count_ends, marks_in}
+use Rattle.std.proofs.lemmas.List.{append-nil}
 use Rattle.dump_lanes.specs.steps.LaneMarks.{items_of}
-use Rattle.dump_lanes.specs.steps.PoolPasses.{count_ends, marks_in}
 use Rattle.dump_lanes.proofs.MarkLists.{items_of-append}
 
 -- so many end marks are counted as so many

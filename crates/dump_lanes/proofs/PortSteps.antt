@@ -1,20 +1,9 @@
 -- What a call leaves a port with.
-use Rattle.std.proofs.Common.{◌≡◌, ◌≢◌, ◌+◌, ◌<◌, ◌==◌, ℕ, Bool, true, false, true≢false, cond, List, [], ◌∷◌, ◌++◌, map, replicate, sym, ap, ◌∙◌, subst, Option, Some, None, IfSome, IfNone, option_to_list, eq-eqb, ne_eqb, arith}
+use Rattle.dump_lanes.proofs.Prelude.{◌≡◌, ◌≢◌, ◌+◌, ◌<◌, ◌==◌, ℕ, Bool, true, false, true≢false, cond, List, [], ◌∷◌, ◌++◌, map, replicate, sym, ap, ◌∙◌, subst, Option, Some, None, IfSome, IfNone, option_to_list, arith, Note, Mark, Item, End, Step, View, give_step, arrive_step, after_ends, after_job, after_put, after_take, AreItemsThen, mark_if, count_ends, marks_in, EndsLast, IsCutting, IsWorking, IsGiving, IsSequencing, HasRead, Thread, steps_of, PoolName, CutterSide, WorkerSide, SequencerSide, DoneStep}
+use Rattle.std.proofs.Common.{eq-eqb, ne_eqb}
 use Rattle.std.proofs.lemmas.List.{append-nil}
-use Rattle.dump_lanes.specs.declared.pool.dones.Note.{Note}
-use Rattle.dump_lanes.specs.declared.protocol.Mark.{Mark}
-use Rattle.dump_lanes.specs.declared.protocol.Mark.TheVariants.{Item, End}
-use Rattle.dump_lanes.specs.declared.steps.Step.{Step}
-use Rattle.dump_lanes.specs.declared.passes.View.{View}
-use Rattle.dump_lanes.specs.steps.DoneQueue.{give_step, arrive_step}
-use Rattle.dump_lanes.specs.steps.JobQueue.{put_step, after_ends, after_job}
-use Rattle.dump_lanes.specs.steps.QueueRule.{after_put, after_take}
-use Rattle.dump_lanes.specs.steps.LaneMarks.{items_of, AreItemsThen, mark_if}
-use Rattle.dump_lanes.specs.steps.PoolPasses.{count_ends, marks_in, EndsLast, IsCutting, IsWorking, IsGiving, IsSequencing, HasRead}
-use Rattle.dump_lanes.specs.PoolParts.{Thread}
-use Rattle.dump_lanes.specs.steps.OwnSteps.{steps_of}
-use Rattle.dump_lanes.specs.steps.PortSides.{PoolName, CutterSide, WorkerSide, SequencerSide}
-use Rattle.dump_lanes.specs.steps.PortViews.{DoneStep}
+use Rattle.dump_lanes.specs.steps.JobQueue.{put_step}
+use Rattle.dump_lanes.specs.steps.LaneMarks.{items_of}
 use Rattle.dump_lanes.proofs.MarkLists.{items_of-then_item, items_of-then_end, then_item, then_end}
 use Rattle.dump_lanes.proofs.PartMoves.{step_other, worker_number}
 use Rattle.dump_lanes.proofs.PoolMarks.{count_ends-append, count_ends-replicate, items_of-then_ends, marks_in-then}

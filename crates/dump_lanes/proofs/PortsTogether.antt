@@ -1,29 +1,14 @@
 -- What a pool's ports say together, once each is closed and has taken its last.
-use Rattle.std.proofs.Common.{◌≡◌, ◌+◌, ◌<◌, ◌==◌, ℕ, zero, suc, true, false, List, [], ◌∷◌, ◌++◌, length, map, replicate, flat_map, sum_by, All, Contains, slice_index_or, sym, refl, ap, ◌∙◌, subst, append_assoc, arith}
-use Rattle.std.specs.List.{range_with_len}
+use Rattle.dump_lanes.proofs.Prelude.{◌≡◌, ◌+◌, ◌<◌, ◌==◌, ℕ, zero, suc, true, false, List, [], ◌∷◌, ◌++◌, length, map, replicate, flat_map, sum_by, All, Contains, sym, refl, ap, ◌∙◌, subst, append_assoc, arith, range_with_len, length-append, Note, Queues, WorkerPort, Mark, End, View, dones_part, sequencer_crew, jobs_part, cutter_crew, after_join, AreItemsThen, mark_if, name_of, count_ends, marks_in, EndsLast, IsCutting, IsSequencing, steps_of, Thread, PoolName, PoolState, CutterSide, WorkerSide, new_cutter, new_worker, AreWorkersOf, IsDone, all_given, worker_port, steps_by, HasTakenIn, HasJobsOf, HasDonesOf, done_steps}
+use Rattle.std.proofs.Common.{slice_index_or}
 use Rattle.std.proofs.lemmas.Bool.{eqb-true}
-use Rattle.std.proofs.lemmas.List.{append-nil, length-append}
+use Rattle.std.proofs.lemmas.List.{append-nil}
 use mathlib.Core.Logic.{dite}
 use native.Mathlib.Decide.{ℕ_discrete}
 use Rattle.crossbeam_queue.specs.Passes.{view}
-use Rattle.dump_lanes.specs.declared.pool.dones.Note.{Note}
-use Rattle.dump_lanes.specs.declared.pool.queues.Queues.{Queues}
-use Rattle.dump_lanes.specs.declared.pool.worker.WorkerPort.{WorkerPort}
-use Rattle.dump_lanes.specs.declared.protocol.Mark.{Mark}
-use Rattle.dump_lanes.specs.declared.protocol.Mark.TheVariants.{End}
-use Rattle.dump_lanes.specs.declared.passes.View.{View}
-use Rattle.dump_lanes.specs.DoneRule.{dones_part}
-use Rattle.dump_lanes.specs.steps.DoneQueue.{sequencer_crew}
-use Rattle.dump_lanes.specs.JobRule.{jobs_part}
-use Rattle.dump_lanes.specs.steps.JobQueue.{cutter_crew}
-use Rattle.dump_lanes.specs.steps.QueueRule.{after_join, KnowsSteps}
-use Rattle.dump_lanes.specs.steps.LaneMarks.{items_of, AreItemsThen, mark_if}
-use Rattle.dump_lanes.specs.steps.PoolNames.{name_of}
-use Rattle.dump_lanes.specs.steps.PoolPasses.{count_ends, marks_in, EndsLast, IsCutting, IsSequencing}
-use Rattle.dump_lanes.specs.steps.OwnSteps.{steps_of}
-use Rattle.dump_lanes.specs.PoolParts.{Thread}
-use Rattle.dump_lanes.specs.steps.PortSides.{PoolName, PoolState, CutterSide, WorkerSide, new_cutter, new_worker, AreWorkersOf, IsDone, all_taken, all_given}
-use Rattle.dump_lanes.specs.steps.PortViews.{worker_port, steps_by, HasTakenIn, HasJobsOf, HasDonesOf, done_steps}
+use Rattle.dump_lanes.specs.steps.QueueRule.{KnowsSteps}
+use Rattle.dump_lanes.specs.steps.LaneMarks.{items_of}
+use Rattle.dump_lanes.specs.steps.PortSides.{all_taken}
 use Rattle.dump_lanes.proofs.MarkLists.{items_of-append}
 use Rattle.dump_lanes.proofs.PoolMarks.{count_ends-append}
 use Rattle.dump_lanes.proofs.Settling.{one_end, all_jobs, all_dones, HasEnded, AllEndLast, all_end_last-append, marks_in-append, flat_map-then}

@@ -1,21 +1,14 @@
 -- Each move on a queue of the pool keeps its rule, whichever of its parts the queue is.
-use Rattle.std.proofs.Common.{◌≡◌, ◌≢◌, ◌<◌, ℕ, true, false, true≢false, List, [], ◌∷◌, ◌++◌, length, set, sum_by, sym, refl, ap, ◌∙◌, subst, ⊎_elim, arith}
-use Rattle.std.proofs.lemmas.List.{append-nil, length-append}
-use Rattle.std.proofs.lemmas.List.Elements.{filter-append}
-use Rattle.std.proofs.lemmas.List.Sums.{sum_by-append, sum_by-cons, sum_by_push}
+use Rattle.dump_lanes.proofs.Prelude.{◌≡◌, ◌≢◌, ◌<◌, ℕ, true, false, true≢false, List, [], ◌∷◌, ◌++◌, length, set, sum_by, sym, refl, ap, ◌∙◌, subst, ⊎_elim, arith, length-append, filter-append, sum_by-append, sum_by-cons, sum_by_push, PARTS, Step, View, Thread, thread_of, event_of, Part, all_put, is_thread, steps_of, Crew, leading, following, after_put, after_take, after_fork, after_join, May, IsQueueOf}
+use Rattle.std.proofs.lemmas.List.{append-nil}
 use mathlib.Core.Option.{some}
 use mathlib.Core.Logic.{dite}
 use native.Mathlib.Decide.{ℕ_discrete}
 use lib.ListN.{get_elem?}
 use Rattle.crossbeam_queue.specs.Fifo.{Pushes, Pops, Forks, Merges, Learns}
 use Rattle.atomic_table.proofs.Lists.{set_else}
-use Rattle.dump_lanes.specs.declared.passes.TheConstants.{PARTS}
-use Rattle.dump_lanes.specs.declared.steps.Step.{Step}
-use Rattle.dump_lanes.specs.declared.passes.View.{View}
-use Rattle.dump_lanes.specs.PoolParts.{Thread, thread_of}
-use Rattle.dump_lanes.specs.PartSteps.{event_of, Part, IsStep, all_put, all_taken}
-use Rattle.dump_lanes.specs.steps.OwnSteps.{is_thread, steps_of}
-use Rattle.dump_lanes.specs.steps.QueueRule.{Crew, leading, following, spent, after_put, after_take, after_fork, after_join, May, Fits, IsQueueOf, KnowsSteps}
+use Rattle.dump_lanes.specs.PartSteps.{IsStep, all_taken}
+use Rattle.dump_lanes.specs.steps.QueueRule.{spent, Fits, KnowsSteps}
 use Rattle.dump_lanes.proofs.PartMoves.{step_other, put_alone, taken_alone, put_weight, taken_weight, all_put-append, all_taken-append, forked, forked_stays, forked_to, forked_had, forked_kept, joined as joined_owner, joined_is, joined_kept, joined_had, joined_left, joined_stays, joined_comes, one_or_other, knows_step, knows_else, knows_fork_left, knows_fork_else, knows_fork_new, knows_join_both, knows_join_else, knows_join_spent}
 use Rattle.dump_lanes.proofs.Views.{AllViews, AllViews-set, AllViews-one, AllViews-more, within, set_long, at_some, sum_by-set, sum_by-least, sum_by-alone}
 

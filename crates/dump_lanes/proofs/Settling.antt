@@ -1,26 +1,12 @@
 -- What the passes of all ports say together.
-use Rattle.std.proofs.Common.{◌≡◌, ◌⊎◌, inl, inr, ◌<◌, ◌==◌, ℕ, zero, suc, Bool, true, false, List, [], ◌∷◌, ◌++◌, length, map, drop, replicate, cond, flat_map, sum_by, sym, refl, ap, ◌∙◌, subst, ⊎_elim, append_assoc, eq-eqb, arith}
-use Rattle.std.proofs.lemmas.List.{append-nil, map-append}
-use Rattle.std.proofs.lemmas.List.Elements.{filter-append}
-use Rattle.std.proofs.lemmas.List.Sums.{sum_by-cons}
-use Rattle.dump_lanes.specs.declared.pool.dones.Note.{Note}
-use Rattle.dump_lanes.specs.declared.protocol.Mark.{Mark}
-use Rattle.dump_lanes.specs.declared.protocol.Mark.TheVariants.{Item, End}
-use Rattle.dump_lanes.specs.declared.steps.Move.{Move}
+use Rattle.dump_lanes.proofs.Prelude.{◌≡◌, ◌⊎◌, inl, inr, ◌<◌, ◌==◌, ℕ, zero, suc, Bool, true, false, List, [], ◌∷◌, ◌++◌, length, map, drop, replicate, cond, flat_map, sum_by, sym, refl, ap, ◌∙◌, subst, ⊎_elim, append_assoc, arith, map-append, filter-append, sum_by-cons, Note, Mark, Item, End, Move, Step, dones_part, sequencer_crew, jobs_part, cutter_crew, AreItemsThen, event_of, all_put, is_thread, steps_of, View, Thread, thread_of, count_ends, marks_in, EndsLast}
+use Rattle.std.proofs.Common.{eq-eqb}
+use Rattle.std.proofs.lemmas.List.{append-nil}
 use Rattle.dump_lanes.specs.declared.steps.Move.TheVariants as move
-use Rattle.dump_lanes.specs.declared.steps.Step.{Step}
 use Rattle.dump_lanes.specs.DoneRule as done_rule
-use Rattle.dump_lanes.specs.DoneRule.{dones_part}
-use Rattle.dump_lanes.specs.steps.DoneQueue.{sequencer_crew}
-use Rattle.dump_lanes.specs.JobRule.{jobs_part}
-use Rattle.dump_lanes.specs.steps.JobQueue.{cutter_crew}
-use Rattle.dump_lanes.specs.steps.LaneMarks.{items_of, AreItemsThen}
-use Rattle.dump_lanes.specs.PartSteps.{event_of, AreSteps, all_put, all_taken}
-use Rattle.dump_lanes.specs.steps.OwnSteps.{is_thread, steps_of}
+use Rattle.dump_lanes.specs.steps.LaneMarks.{items_of}
+use Rattle.dump_lanes.specs.PartSteps.{AreSteps, all_taken}
 use Rattle.dump_lanes.specs.steps.QueueRule.{KnowsSteps}
-use Rattle.dump_lanes.specs.declared.passes.View.{View}
-use Rattle.dump_lanes.specs.PoolParts.{Thread, thread_of}
-use Rattle.dump_lanes.specs.steps.PoolPasses.{count_ends, marks_in, EndsLast}
 use Rattle.dump_lanes.proofs.DoneSteps.{knows_taken}
 use Rattle.dump_lanes.proofs.JobSteps.{knows_put}
 use Rattle.dump_lanes.proofs.PartMoves.{in_order}

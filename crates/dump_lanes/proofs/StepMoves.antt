@@ -1,23 +1,16 @@
 -- What a step on each shared part can be, and nothing else.
-use Rattle.std.proofs.Common.{◌≡◌, ◌⊎◌, inl, inr, ◌+◌, ◌==◌, ℕ, Bool, true, false, true≢false, List, [], ◌∷◌, ◌++◌, length, cond, sym, refl, ap, ◌∙◌, ne_eqb, arith}
-use Rattle.std.proofs.lemmas.List.{append-nil, length-append}
+use Rattle.dump_lanes.proofs.Prelude.{◌≡◌, ◌⊎◌, inl, inr, ◌+◌, ◌==◌, ℕ, Bool, true, false, true≢false, List, [], ◌∷◌, ◌++◌, length, cond, sym, refl, ap, ◌∙◌, arith, length-append, Note, Mark, Item, End, Move, Step, Event, Thread, thread_of, event_of, Part, all_put, Joins, Leaves, JobsMoveOne, DonesMoveOne, PiecesMoveOne, CreditsMoveOne, WordOnlyRises}
+use Rattle.std.proofs.Common.{ne_eqb}
+use Rattle.std.proofs.lemmas.List.{append-nil}
 use mathlib.Core.Logic.{dite}
 use native.Mathlib.Decide.{ℕ_discrete}
-use Rattle.dump_lanes.specs.declared.pool.dones.Note.{Note}
-use Rattle.dump_lanes.specs.declared.protocol.Mark.{Mark}
-use Rattle.dump_lanes.specs.declared.protocol.Mark.TheVariants.{Item, End}
-use Rattle.dump_lanes.specs.declared.steps.Move.{Move}
 use Rattle.dump_lanes.specs.declared.steps.Move.TheVariants as move
-use Rattle.dump_lanes.specs.declared.steps.Step.{Step}
 use Rattle.dump_lanes.specs.declared.stop.protocol.WordStep.TheVariants as kind
-use Rattle.dump_lanes.specs.PoolEvents.{Event}
-use Rattle.dump_lanes.specs.PoolParts.{Thread, thread_of}
-use Rattle.dump_lanes.specs.PartSteps.{event_of, Part, AreSteps, all_put, all_taken}
+use Rattle.dump_lanes.specs.PartSteps.{AreSteps, all_taken}
 use Rattle.dump_lanes.specs.CreditRule as credits
 use Rattle.dump_lanes.specs.DoneRule as dones
 use Rattle.dump_lanes.specs.JobRule as jobs
 use Rattle.dump_lanes.specs.LaneRule as lane
-use Rattle.dump_lanes.specs.StepMoves.{Joins, Leaves, JobsMoveOne, DonesMoveOne, PiecesMoveOne, CreditsMoveOne, WordOnlyRises}
 use Rattle.dump_lanes.proofs.CreditSteps.{one_balance}
 
 module _ {E : Type 0} where

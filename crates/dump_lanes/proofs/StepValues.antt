@@ -1,20 +1,11 @@
 -- Worked steps on a queue of the pool, and wrong ones that its rule refuses.
-use Rattle.std.proofs.Common.{◌≡◌, ℕ, ◌+◌, List, [], ◌∷◌, ◌++◌, length, sum_by, true, refl, ap, sym, ◌∙◌, arith}
-use Rattle.std.proofs.lemmas.List.Sums.{sum_by-append}
+use Rattle.dump_lanes.proofs.Prelude.{◌≡◌, ℕ, ◌+◌, List, [], ◌∷◌, ◌++◌, length, sum_by, true, refl, ap, sym, ◌∙◌, arith, sum_by-append, PARTS, View, Mark, Item, Step, Thread, Part, all_put, jobs_part, Knows, leading, following, after_put, after_take}
 use Rattle.crossbeam_queue.specs.Fifo.{Pushes}
-use Rattle.dump_lanes.specs.declared.passes.TheConstants.{PARTS}
-use Rattle.dump_lanes.specs.declared.passes.View.{View}
-use Rattle.dump_lanes.specs.declared.protocol.Mark.{Mark}
-use Rattle.dump_lanes.specs.declared.protocol.Mark.TheVariants.{Item}
 use Rattle.dump_lanes.specs.declared.steps.Move.TheVariants as move
-use Rattle.dump_lanes.specs.declared.steps.Step.{Step}
-use Rattle.dump_lanes.specs.PoolParts.{Thread}
-use Rattle.dump_lanes.specs.PartSteps.{Part, IsStep, all_put, all_taken}
-use Rattle.dump_lanes.specs.JobRule.{jobs_part}
+use Rattle.dump_lanes.specs.PartSteps.{IsStep, all_taken}
 use Rattle.dump_lanes.specs.steps.JobQueue as jobs
 use Rattle.dump_lanes.specs.steps.LaneQueue as lane
-use Rattle.dump_lanes.specs.steps.OwnSteps.{Knows}
-use Rattle.dump_lanes.specs.steps.QueueRule.{leading, following, spent, after_put, after_take, Fits}
+use Rattle.dump_lanes.specs.steps.QueueRule.{spent, Fits}
 use Rattle.dump_lanes.proofs.JobSteps.{cutter_apart}
 use Rattle.dump_lanes.proofs.PartMoves.{put_weight, taken_weight, in_order}
 use Rattle.dump_lanes.proofs.QueueSteps.{begins}

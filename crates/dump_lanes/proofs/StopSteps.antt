@@ -1,20 +1,15 @@
 -- Each step on the stop word keeps its rule.
-use Rattle.std.proofs.Common.{◌≡◌, ◌==◌, ◌/◌, ◌%◌, ◌*◌, ◌<◌, ◌≤◌, ◌||◌, ℕ, Bool, true, false, true≢false, List, [], ◌∷◌, length, set, sum_by, IsTrue, sym, refl, ap, ◌∙◌, subst, slice_index, arith}
-use Rattle.std.proofs.lemmas.Bool.{or_left, or_right}
-use Rattle.std.proofs.lemmas.List.Sums.{sum_by_push, sum_by-cons, sum_by-append}
+use Rattle.dump_lanes.proofs.Prelude.{◌≡◌, ◌==◌, ◌/◌, ◌%◌, ◌*◌, ◌<◌, ◌≤◌, ◌||◌, ℕ, Bool, true, false, true≢false, List, [], ◌∷◌, length, set, sum_by, sym, refl, ap, ◌∙◌, subst, slice_index, arith, or_left, or_right, sum_by_push, sum_by-cons, sum_by-append, WordStep, Marks, Event, stop_share, is_event, after_raise, after_look, left_half, right_half, joined_marks, word_of, SomeRaised, IsStop, SeesOwn, HasLooked, HasChecked}
+use Rattle.std.proofs.Common.{IsTrue}
 use mathlib.Core.Option.{some, some-injective}
 use lib.ListN.{get_elem?}
 use mathlib.Core.Logic.{dite}
 use native.Mathlib.Decide.{ℕ_discrete}
 use Rattle.atomic_table.specs.Table.{State, Me, Allows, Splits, Joins, opening, keeps}
 use Rattle.atomic_table.proofs.Lists.{set_here, set_else, at_longer}
-use Rattle.dump_lanes.specs.declared.stop.protocol.WordStep.{WordStep}
 use Rattle.dump_lanes.specs.declared.stop.protocol.WordStep.TheVariants as kind
-use Rattle.dump_lanes.specs.declared.stop.protocol.Marks.{Marks}
-use Rattle.dump_lanes.specs.PoolEvents.{Event}
-use Rattle.dump_lanes.specs.PoolParts.{stop_share}
-use Rattle.dump_lanes.specs.StopRule.{is_event, IsStep}
-use Rattle.dump_lanes.specs.steps.StopMarks.{marks, spent, after_raise, after_look, left_half, right_half, joined_marks, word_of, Fits, SomeRaised, IsStop, SeesOwn, KnowsSteps, HasLooked, HasChecked}
+use Rattle.dump_lanes.specs.StopRule.{IsStep}
+use Rattle.dump_lanes.specs.steps.StopMarks.{marks, spent, Fits, KnowsSteps}
 use Rattle.dump_lanes.proofs.Views.{AllViews, AllViews-set, AllViews-one, AllViews-more, within, sum_by-set, sum_by-alone, sum_by-least}
 
 abbrev share_of : Marks → ℕ

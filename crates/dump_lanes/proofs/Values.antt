@@ -1,11 +1,6 @@
 -- Worked runs of the pool's core and of five wrong forms of it, computed by the kernel: each wrong form breaks a law.
-use Rattle.std.proofs.Common.{◌≡◌, ℕ, ◌+◌, ◌-◌, ◌==◌, Bool, true, false, not, ◌&&◌, cond, nat_lt, List, [], ◌∷◌, ◌++◌, length, count_by, Option, Some, None, option_map, option_to_list, refl}
-use Rattle.std.specs.List.{list_any}
-use Rattle.dump_lanes.specs.PoolWorld.{PoolSize, Entry, World, opening}
-use Rattle.dump_lanes.specs.PoolEvents.{Event, is_enabled, after_event}
-use Rattle.dump_lanes.specs.PoolMoves.{is_move, all_moves, next_move}
-use Rattle.dump_lanes.specs.PoolProgress.{progress, most_moves}
-use Rattle.dump_lanes.specs.PoolSettling.{looks_before_draws}
+use Rattle.dump_lanes.proofs.Prelude.{◌≡◌, ℕ, ◌+◌, ◌-◌, ◌==◌, Bool, true, false, ◌&&◌, cond, nat_lt, List, [], ◌∷◌, ◌++◌, length, count_by, Option, Some, None, option_map, option_to_list, refl, list_any, PoolSize, Entry, World, opening, Event, is_enabled, after_event, is_move, all_moves, next_move, progress, most_moves, looks_before_draws}
+use Rattle.std.proofs.Common.{not}
 
 -- a form of the core: which events may happen, and what they lead to
 record Core : Type 0 where

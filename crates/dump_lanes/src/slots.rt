@@ -73,7 +73,7 @@ impl<T: Drop> Slots<T> {
     }
 }
 
-// The place of a number in a row with this many places.
+/// The place of a number in a row with this many places.
 fn place_of(number: u64, window: usize) -> usize
     requires { 0 < window }
     ensures place { result ≡ number % window }
@@ -82,7 +82,7 @@ fn place_of(number: u64, window: usize) -> usize
     (number % window as u64) as usize
 }
 
-// A row with nothing in it, unless memory runs out.
+/// A row with nothing in it, unless memory runs out.
 fn empty_places<T: Drop>(alloc: Global, window: usize) -> Result<Vec<Option<T>>, Memory>
     ensures { IfOk result (λ places. places.items ≡ replicate window None) }
 {

@@ -51,7 +51,7 @@ fn the_output_is_dropped(rt: HostRuntime) -> Result<(), Fail> {
     Ok(())
 }
 
-// Whichever allocation is refused, `lane` answers `Memory`: run under `--fail-alloc 1` to `8`.
+/// Whichever allocation is refused, `lane` answers `Memory`: run under `--fail-alloc 1` to `8`.
 #[test]
 fn a_lane_or_no_memory(rt: HostRuntime) {
     match lane::<u32>(rt.alloc(), 4096) {
@@ -63,7 +63,7 @@ fn a_lane_or_no_memory(rt: HostRuntime) {
     }
 }
 
-// Puts two items, and says whether both were taken.
+/// Puts two items, and says whether both were taken.
 fn put_two<R: Wait>(rt: &R, alloc: Global, input: &mut LaneIn<String>) -> Result<bool, Fail> {
     let first = String::from_str(alloc, "first")?;
     let second = String::from_str(alloc, "second")?;
@@ -77,7 +77,7 @@ fn is_next<R: Wait>(rt: &R, output: &mut LaneOut<String>, wanted: &str) -> bool 
     }
 }
 
-// Whether an item comes back.
+/// Whether an item comes back.
 fn is_refused<R: Wait>(rt: &R, alloc: Global, input: &mut LaneIn<String>) -> Result<bool, Fail> {
     let third = String::from_str(alloc, "third")?;
     match input.put(rt, third) {

@@ -1,16 +1,7 @@
 -- Which record has a number, and how the list of records ends, is known as soon as it is known that it is known: a dump
 -- has one list.
-use Rattle.std.proofs.Common.{◌≡◌, ℕ, List, length, sym, ap, ◌∙◌, subst, Result, Ok, Err, ◌++◌, ◌∷◌, [], take, arith}
-use Rattle.std.specs.Result.{ForErr}
-use Rattle.std.proofs.Math.Logic.{∥∥₁_elim}
-use Rattle.std.proofs.Props.{props}
-use Rattle.std.specs.Coded.{Coded-set, coded_ℕ}
-use Rattle.dump_records.specs.RecordText.{DumpRecord}
-use Rattle.std.proofs.lemmas.List.{length-take-le, length-append}
-use Rattle.dump_records.specs.DumpText.{Ending, HasRecords, BeginsWithRecords}
-use Rattle.dump_records.specs.steps.CutRecords.{EndsAfter, IsRecordOf}
-use Rattle.dump_records.proofs.Prefixes.{whole_front, one_more, within}
-use Rattle.dump_records.proofs.ListLaw.{each_dump_has_one_list}
+use Rattle.dump_pipeline.proofs.Prelude.{◌≡◌, ℕ, List, length, sym, ap, ◌∙◌, subst, Result, Ok, Err, ◌++◌, ◌∷◌, [], take, arith, ForErr, ∥∥₁_elim, props, Coded-set, coded_ℕ, DumpRecord, length-take-le, Ending, HasRecords, BeginsWithRecords, EndsAfter, IsRecordOf, whole_front, one_more, within, each_dump_has_one_list}
+use Rattle.std.proofs.lemmas.List.{length-append}
 
 same_count : (m n : ℕ) → IsProp (m ≡ n)
 same_count m n = Coded-set coded_ℕ m n

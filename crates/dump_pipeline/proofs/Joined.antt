@@ -1,30 +1,8 @@
 -- What the threads brought back, put together.
-use Rattle.std.proofs.Common.{◌≡◌, ◌≢◌, ◌⊎◌, inl, inr, ◌∙◌, ℕ, suc, ◌+◌, ◌≤◌, Bool, true, false, ◌||◌, List, [], ◌∷◌, ◌++◌, length, Option, Some, None, refl, sym, ap, subst, arith, map, sum_by, All, MatchBool}
-use Rattle.std.proofs.lemmas.Bool.{false≢true, or_left, or_cases}
-use Rattle.std.proofs.lemmas.List.{map-append}
-use Rattle.std.proofs.lemmas.List.Sums.{sum_by-cons}
-use Rattle.std.proofs.KnownBytes.{Appends-nil}
-use Rattle.dump_lanes.specs.Arrivals.{first_numbers, Clash, IsWaiting, WeighsSame}
-use Rattle.dump_lanes.specs.steps.PortSides.{CutterSide, WorkerSide, all_taken, all_given}
-use Rattle.dump_lanes.specs.steps.StopSeats.{Seat, joined_seat, SeesOnlyRaised}
-use Rattle.dump_lanes.proofs.Arrivals.{no_clash, none_waits}
-use Rattle.dump_records.proofs.Prefixes.{within}
-use Rattle.dump_rules.specs.Settings.{Settings}
-use Rattle.dump_writer.specs.SinkWords.{IsPrefixOf}
-use Rattle.dump_filter.specs.steps.FilterState.{first_state}
-use Rattle.dump_pipeline.specs.declared.answer.Answer.{Answer}
+use Rattle.dump_pipeline.proofs.Prelude.{◌≡◌, ◌≢◌, ◌⊎◌, inl, inr, ◌∙◌, ℕ, suc, ◌+◌, ◌≤◌, Bool, true, false, ◌||◌, List, [], ◌∷◌, ◌++◌, length, Option, Some, None, refl, sym, ap, subst, arith, map, sum_by, All, MatchBool, false≢true, or_left, or_cases, map-append, sum_by-cons, Appends-nil, first_numbers, Clash, IsWaiting, WeighsSame, CutterSide, WorkerSide, all_taken, all_given, Seat, joined_seat, SeesOnlyRaised, no_clash, none_waits, within, Settings, IsPrefixOf, first_state, Answer, Failure, Ghosts, Job, Checked, NumberedPiece, End, job_number, job_numbers, checked_number, checked_numbers, text_of, end_answer, HasCut, HasWorked, HasEndedWith, HasSequenced, HasReceived, IsEndOf, IsFilterPrefix, RunLeaves, ThreadsFailFirst}
 use Rattle.dump_pipeline.specs.declared.answer.Answer.TheVariants as answers
-use Rattle.dump_pipeline.specs.declared.answer.Failure.{Failure}
 use Rattle.dump_pipeline.specs.declared.answer.Failure.TheVariants as failures
-use Rattle.dump_pipeline.specs.declared.message.Run.{Ghosts}
-use Rattle.dump_pipeline.specs.declared.message.Job.{Job}
-use Rattle.dump_pipeline.specs.declared.message.Checked.{Checked}
-use Rattle.dump_pipeline.specs.declared.message.NumberedPiece.{NumberedPiece}
-use Rattle.dump_pipeline.specs.declared.stage.End.{End}
 use Rattle.dump_pipeline.specs.declared.stage.End.TheVariants as ends
-use Rattle.dump_pipeline.specs.steps.Messages.{job_number, job_numbers, checked_number, checked_numbers, text_of}
-use Rattle.dump_pipeline.specs.steps.Parts.{end_answer, HasCut, HasWorked, HasEndedWith, HasSequenced, HasReceived, IsEndOf}
-use Rattle.dump_pipeline.specs.RunAnswer.{IsFilterPrefix, RunLeaves, ThreadsFailFirst}
 use Rattle.dump_pipeline.proofs.Released.{begins, memory}
 use Rattle.dump_pipeline.proofs.RunLemmas.{prefix_trans}
 

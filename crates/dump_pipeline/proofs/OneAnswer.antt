@@ -1,22 +1,6 @@
 -- A dump has one answer under given options.
-use Rattle.std.proofs.Common.{◌≡◌, ℕ, ◌+◌, ◌<◌, ◌≤◌, Bool, true, false, List, [], ◌∷◌, ◌++◌, take, drop, length, refl, sym, ap, ◌∙◌, subst, arith, append_assoc, length-append, inl, inr}
-use Rattle.std.proofs.lemmas.List.{take-append-drop, length-take-le, same_from_push}
-use Rattle.dump_text.specs.declared.fault.FaultKind.{FaultKind}
-use Rattle.dump_records.specs.RecordText.{DumpRecord}
-use Rattle.dump_records.specs.DumpText.{Ending, BeginsWithRecords, HasRecords}
-use Rattle.dump_records.proofs.Unique.{least_once, records_once}
-use Rattle.dump_records.proofs.Prefixes.{within, begins_prefix, begins_once}
-use Rattle.dump_rules.specs.Settings.{Settings}
-use Rattle.dump_filter.specs.Counts.{report_of}
-use Rattle.dump_filter.specs.Groups.{kept_revisions}
-use Rattle.dump_filter.specs.RecordFaults.{AreFaultFree, HoldsOfRecord, IsRecordFault}
-use Rattle.dump_filter.specs.Written.{IsWrittenText}
-use Rattle.dump_filter.proofs.knowing.FilterLemmas.{free_none, begins_none}
-use Rattle.dump_filter.proofs.knowing.OnceLemmas.{outputs_once}
-use Rattle.dump_pipeline.specs.declared.answer.Answer.{Answer}
-use Rattle.dump_pipeline.specs.declared.answer.Answer.TheVariants.{Clean, Fault, Failed}
-use Rattle.dump_pipeline.specs.FilterAnswer.{HasFirstFault, IsFilterAnswer}
-use Rattle.dump_pipeline.specs.RunLaws.{EachDumpHasOneAnswer}
+use Rattle.dump_pipeline.proofs.Prelude.{◌≡◌, ℕ, ◌+◌, ◌<◌, ◌≤◌, Bool, true, false, List, [], ◌∷◌, ◌++◌, take, drop, length, refl, sym, ap, ◌∙◌, subst, arith, append_assoc, inl, inr, take-append-drop, length-take-le, same_from_push, FaultKind, DumpRecord, Ending, BeginsWithRecords, HasRecords, least_once, records_once, within, begins_prefix, begins_once, Settings, report_of, kept_revisions, AreFaultFree, HoldsOfRecord, IsRecordFault, IsWrittenText, free_none, begins_none, outputs_once, Answer, Clean, Fault, Failed, HasFirstFault, IsFilterAnswer, EachDumpHasOneAnswer}
+use Rattle.std.proofs.Common.{length-append}
 use Rattle.dump_pipeline.proofs.RunLemmas.{goes_on}
 
 -- what is written of the same records is the same text

@@ -1,10 +1,6 @@
 -- What the sink received of the pieces so far, where it fails within one.
-use Rattle.std.proofs.Common.{◌≡◌, ◌∙◌, ℕ, Bool, true, false, List, ◌++◌, take, drop, Option, sym, ap, subst, arith, append_assoc, length-append, MatchBool}
-use Rattle.std.proofs.lemmas.List.{take-append-drop, length-take}
-use Rattle.std.proofs.KnownBytes.{Appends-trans}
-use Rattle.dump_writer.specs.SinkWords.{IsPrefixOf}
-use Rattle.dump_pipeline.specs.steps.Parts.{HasReceived}
-use Rattle.dump_pipeline.specs.steps.Sending.{StopsShort}
+use Rattle.dump_pipeline.proofs.Prelude.{◌≡◌, ◌∙◌, ℕ, Bool, true, false, List, ◌++◌, take, drop, Option, sym, ap, subst, arith, append_assoc, MatchBool, take-append-drop, length-take, Appends-trans, IsPrefixOf, HasReceived, StopsShort}
+use Rattle.std.proofs.Common.{length-append}
 
 -- only its first bytes were taken
 pub part_received : (failed : Bool) (text piece : List ℕ) (first old new : Option (List ℕ)) (count more : ℕ)

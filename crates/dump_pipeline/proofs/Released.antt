@@ -1,27 +1,8 @@
 -- The steps of a sequencer, by those of a run on one thread: its sink is the text that it has released.
-use Rattle.std.proofs.Common.{◌≡◌, ◌∙◌, ℕ, ◌+◌, List, [], ◌++◌, length, Option, Some, None, refl, sym, ap, subst, arith}
-use Rattle.std.proofs.lemmas.List.{append-nil, length-append}
-use Rattle.dump_text.specs.declared.fault.FaultKind.{FaultKind}
-use Rattle.dump_records.specs.declared.record.Record.{Record}
-use Rattle.dump_records.specs.RecordText.{DumpRecord}
-use Rattle.dump_records.specs.steps.RecordViews.{record_dump, record_number, record_item}
-use Rattle.dump_records.specs.steps.CutterState.{CutterState}
-use Rattle.dump_records.specs.DumpText.{Ending}
-use Rattle.dump_records.specs.steps.CutRecords.{EndsAfter, IsRecordOf}
-use Rattle.dump_rules.specs.Settings.{Settings}
-use Rattle.dump_writer.specs.SinkWords.{capped}
-use Rattle.dump_filter.specs.Counts.{report_of}
-use Rattle.dump_filter.specs.steps.FilterState.{FilterState, first_state, AreAccepted, Accepts, Refuses, Finishes}
-use Rattle.dump_filter.specs.declared.report.Report.{Report}
+use Rattle.dump_pipeline.proofs.Prelude.{◌≡◌, ◌∙◌, ℕ, ◌+◌, List, [], ◌++◌, length, Option, Some, None, refl, sym, ap, subst, arith, append-nil, FaultKind, Record, DumpRecord, record_dump, record_number, record_item, CutterState, Ending, EndsAfter, IsRecordOf, Settings, capped, report_of, FilterState, first_state, AreAccepted, Accepts, Refuses, Finishes, Report, IsFilterAnswer, NumberedPiece, End, ending_of, text_of, HasFiltered, IsEndOf, IsFilterPrefix}
+use Rattle.std.proofs.lemmas.List.{length-append}
 use Rattle.dump_pipeline.specs.declared.answer.Answer.TheVariants as answers
-use Rattle.dump_pipeline.specs.FilterAnswer.{IsFilterAnswer}
-use Rattle.dump_pipeline.specs.declared.message.NumberedPiece.{NumberedPiece}
-use Rattle.dump_pipeline.specs.declared.stage.End.{End}
 use Rattle.dump_pipeline.specs.declared.stage.End.TheVariants as ends
-use Rattle.dump_pipeline.specs.steps.Endings.{ending_of}
-use Rattle.dump_pipeline.specs.steps.Messages.{text_of}
-use Rattle.dump_pipeline.specs.steps.Parts.{HasFiltered, IsEndOf}
-use Rattle.dump_pipeline.specs.RunAnswer.{IsFilterPrefix}
 use Rattle.dump_pipeline.proofs.Ends.{record_once, ends_once}
 use Rattle.dump_pipeline.proofs.RunLemmas.{begun, stepped, refused, broken, finished, no_memory}
 

@@ -1,38 +1,9 @@
 -- A run over a dump, record by record.
-use Rattle.std.proofs.Common.{◌≡◌, ℕ, ◌+◌, ◌-◌, ◌<◌, Bool, true, false, List, [], ◌∷◌, ◌++◌, take, drop, length, refl, sym, ap, ◌∙◌, subst, arith, append_assoc, length-append, inl, inr, Option, Some, None}
-use Rattle.std.proofs.lemmas.List.{append-nil, take-append-drop, length-take}
-use Rattle.std.specs.Io.KnownBytes.{Appends}
-use Rattle.std.proofs.KnownBytes.{Appends-nil, Appends-trans}
-use Rattle.dump_text.specs.declared.fault.FaultKind.{FaultKind}
-use Rattle.dump_text.specs.FaultTable.{NoFault}
-use Rattle.dump_records.specs.declared.record.Record.{Record}
+use Rattle.dump_pipeline.proofs.Prelude.{◌≡◌, ℕ, ◌+◌, ◌-◌, ◌<◌, Bool, true, false, List, [], ◌∷◌, ◌++◌, take, drop, length, refl, sym, ap, ◌∙◌, subst, arith, append_assoc, inl, inr, Option, Some, None, append-nil, take-append-drop, length-take, Appends, Appends-nil, Appends-trans, FaultKind, NoFault, Record, DumpRecord, record_dump, record_number, record_item, CutStep, CutterState, Ending, BeginsWithRecords, HasRecords, EndsAfter, IsRecordOf, count_fits, each_dump_has_one_list, is_front, one_more, whole_list, begins_prefix, begins_once, Settings, capped, IsPrefixOf, report_of, Seen, FilterState, first_state, count_up_to, AreAccepted, Accepts, Refuses, Finishes, AreFaultFree, HoldsOfRecord, IsRecordFault, IsCleanText, kept_revisions, IsWrittenText, free_more, free_none, begins_none, outputs_once, AllLawful, Reached, reached_written, all_lawful, lawful_front, lawful_behind, reach, reached_none, follow, Outcome, Stops, Ends, Answer, Progress, IsFilterPrefix, RunLeaves, Sends, StopsShort, EndsRun}
+use Rattle.std.proofs.Common.{length-append}
 use Rattle.dump_records.specs.declared.cutter.Cut.TheVariants as cuts
-use Rattle.dump_records.specs.RecordText.{DumpRecord}
-use Rattle.dump_records.specs.steps.RecordViews.{record_dump, record_number, record_item, CutStep}
-use Rattle.dump_records.specs.steps.CutterState.{CutterState}
-use Rattle.dump_records.specs.DumpText.{Ending, BeginsWithRecords, HasRecords}
-use Rattle.dump_records.specs.steps.CutRecords.{EndsAfter, IsRecordOf}
-use Rattle.dump_records.proofs.CutLemmas.{count_fits}
-use Rattle.dump_records.proofs.ListLaw.{each_dump_has_one_list}
-use Rattle.dump_records.proofs.Prefixes.{is_front, one_more, whole_list, begins_prefix, begins_once}
-use Rattle.dump_rules.specs.Settings.{Settings}
-use Rattle.dump_writer.specs.SinkWords.{capped, IsPrefixOf}
-use Rattle.dump_filter.specs.Counts.{report_of}
-use Rattle.dump_filter.specs.steps.FilterState.{Seen, FilterState, first_state, count_up_to, AreAccepted, Accepts, Refuses, Finishes}
-use Rattle.dump_filter.specs.RecordFaults.{AreFaultFree, HoldsOfRecord, IsRecordFault}
-use Rattle.dump_filter.specs.WholeText.{IsCleanText}
-use Rattle.dump_filter.specs.Groups.{kept_revisions}
-use Rattle.dump_filter.specs.Written.{IsWrittenText}
-use Rattle.dump_filter.proofs.knowing.FilterLemmas.{free_more, free_none, begins_none}
-use Rattle.dump_filter.proofs.knowing.OnceLemmas.{outputs_once}
-use Rattle.dump_filter.proofs.knowing.Answered.{AllLawful, Reached, reached_written, all_lawful, lawful_front, lawful_behind, reach, reached_none, follow, Outcome}
-use Rattle.dump_filter.proofs.knowing.Answered.Outcome.{Stops, Ends}
-use Rattle.dump_pipeline.specs.declared.answer.Answer.{Answer}
 use Rattle.dump_pipeline.specs.declared.answer.Answer.TheVariants as answers
 use Rattle.dump_pipeline.specs.declared.answer.Failure.TheVariants as failures
-use Rattle.dump_pipeline.specs.steps.Progress.{Progress}
-use Rattle.dump_pipeline.specs.RunAnswer.{IsFilterPrefix, RunLeaves}
-use Rattle.dump_pipeline.specs.steps.Sending.{Sends, StopsShort, EndsRun}
 
 -- what begins the beginning of a text begins the text
 pub prefix_trans : (a b c : List ℕ) → IsPrefixOf a b → IsPrefixOf b c → IsPrefixOf a c

@@ -1,33 +1,7 @@
 -- One step of a thread, over plain values.
-use Rattle.std.proofs.Common.{◌≡◌, ◌≢◌, ℕ, ◌+◌, ◌<◌, ◌≤◌, Bool, true, List, [], ◌∷◌, ◌++◌, length, Option, Some, None, refl, sym, ap, ◌∙◌, subst, arith, map, append_assoc, length-append, replicate, IsNone, MatchBool, All}
-use Rattle.std.proofs.lemmas.Bool.{false≢true}
-use Rattle.std.proofs.lemmas.List.{append-nil, map-append}
-use Rattle.std.proofs.lemmas.Grind.{flat_map-append}
-use Rattle.dump_lanes.specs.Arrivals.{first_numbers, Clash, IsWaiting}
-use Rattle.dump_lanes.specs.steps.ArrivalRows.{Row}
-use Rattle.dump_lanes.specs.steps.LaneEnds.{Sending}
-use Rattle.dump_lanes.specs.steps.PortSides.{CutterSide}
-use Rattle.dump_lanes.specs.steps.SlotRow.{slot_item, with_slot_item}
-use Rattle.dump_lanes.proofs.core.Weights.{range_next}
-use Rattle.dump_lanes.proofs.Arrivals.{empty_row, arrived_more, released_more, passed_on, same_row, next_is_missing, wrong_item, taken_place, still_clash}
-use Rattle.dump_lanes.proofs.PortsTogether.{all_then}
-use Rattle.dump_records.specs.steps.CutterState.{CutterState}
-use Rattle.dump_records.specs.DumpText.{Ending}
-use Rattle.dump_records.specs.steps.CutRecords.{EndsAfter}
-use Rattle.dump_records.specs.steps.RecordViews.{record_number, CutStep}
+use Rattle.dump_pipeline.proofs.Prelude.{◌≡◌, ◌≢◌, ℕ, ◌+◌, ◌<◌, ◌≤◌, Bool, true, List, [], ◌∷◌, ◌++◌, length, Option, Some, None, refl, sym, ap, ◌∙◌, subst, arith, map, append_assoc, replicate, IsNone, MatchBool, All, false≢true, append-nil, map-append, flat_map-append, first_numbers, Clash, IsWaiting, Row, Sending, CutterSide, slot_item, with_slot_item, range_next, empty_row, arrived_more, released_more, passed_on, same_row, next_is_missing, wrong_item, taken_place, still_clash, all_then, CutterState, Ending, EndsAfter, record_number, CutStep, Record, count_fits, Settings, Ghosts, Job, Checked, NumberedPiece, End, Stage, Going, Ended, job_number, job_numbers, checked_number, checked_numbers, piece_numbers, text_of, HasPut, HasCut, HasReleased, HasEndedWith, HasSequenced, stage_end}
+use Rattle.std.proofs.Common.{length-append}
 use Rattle.dump_records.specs.declared.cutter.Cut.TheVariants as cuts
-use Rattle.dump_records.specs.declared.record.Record.{Record}
-use Rattle.dump_records.proofs.CutLemmas.{count_fits}
-use Rattle.dump_rules.specs.Settings.{Settings}
-use Rattle.dump_pipeline.specs.declared.message.Run.{Ghosts}
-use Rattle.dump_pipeline.specs.declared.message.Job.{Job}
-use Rattle.dump_pipeline.specs.declared.message.Checked.{Checked}
-use Rattle.dump_pipeline.specs.declared.message.NumberedPiece.{NumberedPiece}
-use Rattle.dump_pipeline.specs.declared.stage.End.{End}
-use Rattle.dump_pipeline.specs.declared.stage.Stage.{Stage}
-use Rattle.dump_pipeline.specs.declared.stage.Stage.TheVariants.{Going, Ended}
-use Rattle.dump_pipeline.specs.steps.Messages.{job_number, job_numbers, checked_number, checked_numbers, piece_numbers, text_of}
-use Rattle.dump_pipeline.specs.steps.Parts.{HasPut, HasCut, HasReleased, HasEndedWith, HasSequenced, stage_end}
 
 -- no more records than bytes
 pub ends_within : (dump : List ℕ) (number : ℕ) (ending : Ending) → EndsAfter dump number ending → number ≤ length dump

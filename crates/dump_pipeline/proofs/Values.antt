@@ -1,16 +1,8 @@
 -- Worked values of the definitions, computed and proved by the kernel.
-use Rattle.std.proofs.Common.{◌≡◌, ◌+◌, refl, ap, ◌∙◌, [], ◌∷◌, length, length-append, Some, codes, inl, inr, arith, lit<, lit≤}
+use Rattle.dump_pipeline.proofs.Prelude.{◌≡◌, ◌+◌, refl, ap, ◌∙◌, [], ◌∷◌, length, Some, codes, inl, inr, arith, lit<, lit≤, block_some, no_block, AreFaultFree, report_of, padding, version, version_text, clean, Clean, Fault, Failed, HasFirstFault, IsFilterAnswer, IsFilterPrefix, IsRunAnswer, SinkFailsOnly, ThreadsFailFirst, RunLeaves, IsInRange}
+use Rattle.std.proofs.Common.{length-append}
 use Rattle.dump_text.specs.declared.fault.FaultKind.TheVariants as faults
-use Rattle.dump_text.proofs.Unique.{block_some}
-use Rattle.dump_records.proofs.PartLemmas.{no_block}
-use Rattle.dump_filter.specs.RecordFaults.{AreFaultFree}
-use Rattle.dump_filter.specs.Counts.{report_of}
-use Rattle.dump_filter.proofs.Values.{padding, version, version_text, clean}
-use Rattle.dump_pipeline.specs.declared.answer.Answer.TheVariants.{Clean, Fault, Failed}
 use Rattle.dump_pipeline.specs.declared.answer.Failure.TheVariants as failures
-use Rattle.dump_pipeline.specs.FilterAnswer.{HasFirstFault, IsFilterAnswer}
-use Rattle.dump_pipeline.specs.RunAnswer.{IsFilterPrefix, IsRunAnswer, SinkFailsOnly, ThreadsFailFirst, RunLeaves}
-use Rattle.dump_pipeline.specs.steps.PlanRange.{IsInRange}
 
 -- FilterAnswer
 

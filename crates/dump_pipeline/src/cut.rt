@@ -23,7 +23,7 @@ pub struct CutterEnds<J: Drop, D: Drop> {
 /// The ends that a run's cutter is given, and gives back.
 pub type Cutting<'a, D> = CutterEnds<Job<'a, D>, Checked<'a, D>>;
 
-// A credit, unless the stop is seen.
+/// A credit, unless the stop is seen.
 fn draw<'a, D: Run, R: Wait>(
     rt: &R,
     port: &mut CutterPort<'a, D>,
@@ -43,14 +43,14 @@ fn draw<'a, D: Run, R: Wait>(
     }
 }
 
-// How many bytes there are: fewer than a count of 64 bits can tell.
+/// How many bytes there are: fewer than a count of 64 bits can tell.
 fn count_bytes(dump: &[u8]) -> usize
     ensures { (result ≡ length dump.now) × (result < 2 ^ 63) }
 {
     dump.len()
 }
 
-// Puts a job for each record, and one for the end of the records, unless the stop is seen.
+/// Puts a job for each record, and one for the end of the records, unless the stop is seen.
 fn cut_all<'a, D: Run, R: Wait>(
     rt: &R,
     dump: &'a [u8],

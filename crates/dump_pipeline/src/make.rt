@@ -53,7 +53,7 @@ pub struct Given<'a, D: Run> {
     pub ghost this_shut: { ends.threads.cutter.shut.word ≡ words.shut },
 }
 
-// The words of a run, and the seats at them.
+/// The words of a run, and the seats at them.
 #[derive(Drop)]
 struct Seats {
     words: Words,
@@ -64,7 +64,7 @@ struct Seats {
     shuts: StopSeat,
 }
 
-// Makes both words. The cutter's seat at the stop has half of it, the sequencer's and the writer's a quarter each.
+/// Makes both words. The cutter's seat at the stop has half of it, the sequencer's and the writer's a quarter each.
 fn make_seats(alloc: Global) -> Result<Seats, Memory>
     ensures cuts { IfOk result (λ seats. seats.cuts ≡ half_seat (first_seat seats.words.stop)) }
     ensures sequences { IfOk result (λ seats. seats.sequences ≡ half_seat (half_seat (first_seat seats.words.stop))) }
@@ -91,14 +91,14 @@ fn make_seats(alloc: Global) -> Result<Seats, Memory>
     })
 }
 
-// Room for the workers' threads, and for the ports that they give back.
+/// Room for the workers' threads, and for the ports that they give back.
 #[derive(Drop)]
 struct Room<'a, D: Run> {
     threads: Vec<WorkerThread<'a, D>>,
     ports: Vec<CheckerPort<'a, D>>,
 }
 
-// Makes room for so many workers.
+/// Makes room for so many workers.
 fn make_room<'a, D: Run>(alloc: Global, workers: usize) -> Result<Room<'a, D>, Memory>
     ensures threads { IfOk result (λ room. (length room.threads.items ≡ 0) × (workers ≤ vec_capacity room.threads)) }
     ensures ports { IfOk result (λ room. (length room.ports.items ≡ 0) × (workers ≤ vec_capacity room.ports)) }
@@ -108,7 +108,7 @@ fn make_room<'a, D: Run>(alloc: Global, workers: usize) -> Result<Room<'a, D>, M
     Ok(Room { threads, ports })
 }
 
-// The pool with its ports, the row of slots, and the lane to the writer.
+/// The pool with its ports, the row of slots, and the lane to the writer.
 #[derive(Drop)]
 struct Queues<'a, D: Run> {
     pool: Pool<Job<'a, D>, Checked<'a, D>>,
@@ -118,7 +118,7 @@ struct Queues<'a, D: Run> {
     from: LaneOut<NumberedPiece<'a>>,
 }
 
-// Makes the queues of a plan.
+/// Makes the queues of a plan.
 fn make_queues<'a, D: Run, R: Wait>(
     rt: &R,
     alloc: Global,
@@ -150,7 +150,7 @@ fn make_queues<'a, D: Run, R: Wait>(
     })
 }
 
-// Gives each thread its ends.
+/// Gives each thread its ends.
 fn share_out<'a, D: Run>(seats: Seats, room: Room<'a, D>, queues: Queues<'a, D>) -> Given<'a, D>
     requires cuts { seats.cuts ≡ half_seat (first_seat seats.words.stop) }
     requires sequences { seats.sequences ≡ half_seat (half_seat (first_seat seats.words.stop)) }

@@ -27,21 +27,21 @@ use std::sync::Wait;
 use std::thread;
 use std::thread::{Scope, Threads};
 
-// What a run writes into, and its answer. (A reference that a scope's closure borrows has no value for its caller: it
-// is moved in, and given back.)
+/// What a run writes into, and its answer. (A reference that a scope's closure borrows has no value for its caller: it
+/// is moved in, and given back.)
 #[derive(Drop)]
 struct Held<'b, S: Sink> {
     sink: &'b mut S,
     answer: Answer,
 }
 
-// The answer where a thread wasn't started.
+/// The answer where a thread wasn't started.
 const REFUSED: Answer = Answer::Failed {
     failure: Failure::Threads,
     written: 0,
 };
 
-// Runs all threads to their ends.
+/// Runs all threads to their ends.
 fn run_in<
     's,
     'a: 's,
@@ -84,7 +84,7 @@ fn run_in<
     Held { sink, answer }
 }
 
-// The scope of a run's threads.
+/// The scope of a run's threads.
 fn run_scoped<'s, 'a, 'b, D: Run + Send + Sync, S: Sink, G: Gate, R: Threads + Wait + Sync>(
     rt: &R,
     alloc: Global,
@@ -114,7 +114,7 @@ fn run_scoped<'s, 'a, 'b, D: Run + Send + Sync, S: Sink, G: Gate, R: Threads + W
     )
 }
 
-// Runs a task by a plan: makes all that it needs, and runs its threads.
+/// Runs a task by a plan: makes all that it needs, and runs its threads.
 fn run_of<'a, D: Run + Send + Sync, S: Sink, G: Gate, R: Threads + Wait + Sync>(
     rt: &R,
     alloc: Global,

@@ -50,7 +50,7 @@ pub struct Sequenced<J: Drop, D: Drop, T: Drop> {
     pub stray: bool,
 }
 
-// What the filter makes of the next record: a piece, or the end that it has come to.
+/// What the filter makes of the next record: a piece, or the end that it has come to.
 fn filter_record<'o, 'a, D: Run>(
     alloc: Global,
     filter: &mut Filter<'o, 'a>,
@@ -78,7 +78,7 @@ fn filter_record<'o, 'a, D: Run>(
     }
 }
 
-// What the filter makes of the end of the records.
+/// What the filter makes of the end of the records.
 fn filter_end<'o, 'a, D: Run>(
     alloc: Global,
     filter: Filter<'o, 'a>,
@@ -104,7 +104,7 @@ fn filter_end<'o, 'a, D: Run>(
     }
 }
 
-// What is written of the next record.
+/// What is written of the next record.
 fn step_record<'o, 'a, D: Run>(
     alloc: Global,
     stage: &mut Stage<'o, 'a>,
@@ -128,7 +128,7 @@ fn step_record<'o, 'a, D: Run>(
     Piece::new(alloc)
 }
 
-// What is written where the records end.
+/// What is written where the records end.
 fn step_end<'o, 'a, D: Run>(
     alloc: Global,
     stage: &mut Stage<'o, 'a>,
@@ -148,7 +148,7 @@ fn step_end<'o, 'a, D: Run>(
     piece
 }
 
-// Raises the stop where the sequencer ended with a fault or a failure of its own.
+/// Raises the stop where the sequencer ended with a fault or a failure of its own.
 fn raise_at_failure(stage: &Stage<'_, '_>, word: &StopWord, seat: &mut StopSeat)
     requires this_word { seat.old.word ≡ word.now }
     requires unraised { seat.old.raised ≡ false }
@@ -160,7 +160,7 @@ fn raise_at_failure(stage: &Stage<'_, '_>, word: &StopWord, seat: &mut StopSeat)
     }
 }
 
-// What is written of the next item: nothing once the sequencer has ended.
+/// What is written of the next item: nothing once the sequencer has ended.
 fn step<'o, 'a, D: Run>(
     alloc: Global,
     stage: &mut Stage<'o, 'a>,
@@ -198,7 +198,7 @@ fn step<'o, 'a, D: Run>(
     }
 }
 
-// Puts a piece. One that comes back is put again.
+/// Puts a piece. One that comes back is put again.
 fn release<'a, R: Wait>(rt: &R, to: &mut LaneIn<NumberedPiece<'a>>, piece: NumberedPiece<'a>)
     ensures { sending to.new ≡ record (sending to.old) { put = (sending to.old).put ++ piece.entry ∷ [] } }
 {
@@ -212,7 +212,7 @@ fn release<'a, R: Wait>(rt: &R, to: &mut LaneIn<NumberedPiece<'a>>, piece: Numbe
     unreachable!()
 }
 
-// Takes and drops what still comes.
+/// Takes and drops what still comes.
 fn drain<'a, D: Run, R: Wait>(rt: &R, port: &mut SequencerPort<'a, D>)
     ensures pool { (done_port port.new).pool ≡ (done_port port.old).pool }
     ensures ended { (done_port port.new).ended ≡ true }
@@ -227,7 +227,7 @@ fn drain<'a, D: Run, R: Wait>(rt: &R, port: &mut SequencerPort<'a, D>)
     unreachable!()
 }
 
-// Releases the items in order, until no more come or one is astray. One that is the next doesn't wait in the row.
+/// Releases the items in order, until no more come or one is astray. One that is the next doesn't wait in the row.
 fn release_all<'a, D: Run, R: Wait>(
     rt: &R,
     alloc: Global,

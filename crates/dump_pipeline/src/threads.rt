@@ -32,7 +32,7 @@ impl<'a, D: Run> Promise<SequencerEnd<'a, D>> for SequencerOf<'a, D> {
 /// The sequencer's thread.
 pub type SequencerThread<'a, D> = PromisedHandle<SequencerEnd<'a, D>, SequencerOf<'a, D>>;
 
-// Starts the sequencer's thread, unless it is refused.
+/// Starts the sequencer's thread, unless it is refused.
 fn start_sequencer<'s, 'a: 's, E: 's, D: Run + Send + Sync + 's, R: Wait + Sync + 's>(
     scope: &'s Scope<'s, E>,
     rt: &'s R,
@@ -73,8 +73,8 @@ impl<'a, D: Run> Promise<CheckerPort<'a, D>> for WorkerOf<'a, D> {
 /// A worker's thread.
 pub type WorkerThread<'a, D> = PromisedHandle<CheckerPort<'a, D>, WorkerOf<'a, D>>;
 
-// Starts a worker's thread. Where it is refused the cutter, which hasn't started, is closed, and the worker
-// ends in this thread.
+/// Starts a worker's thread. Where it is refused the cutter, which hasn't started, is closed, and the worker
+/// ends in this thread.
 fn start_worker<'s, 'a: 's, E: 's, D: Run + Send + Sync + 's, G: Gate + 's, R: Wait + Sync + 's>(
     scope: &'s Scope<'s, E>,
     rt: &'s R,
@@ -112,14 +112,14 @@ fn start_worker<'s, 'a: 's, E: 's, D: Run + Send + Sync + 's, G: Gate + 's, R: W
     }
 }
 
-// The workers that were started, and the cutter's ends.
+/// The workers that were started, and the cutter's ends.
 #[derive(Drop)]
 struct Crew<'a, D: Run> {
     workers: Vec<WorkerThread<'a, D>>,
     cutter: Cutting<'a, D>,
 }
 
-// Starts the workers' threads. Where one is refused all end.
+/// Starts the workers' threads. Where one is refused all end.
 fn start_workers<'s, 'a: 's, E: 's, D: Run + Send + Sync + 's, G: Gate + 's, R: Wait + Sync + 's>(
     scope: &'s Scope<'s, E>,
     rt: &'s R,
@@ -161,7 +161,7 @@ impl<'a, D: Run> Promise<Cutting<'a, D>> for CutterOf<'a, D> {
 /// The cutter's thread.
 pub type CutterThread<'a, D> = PromisedHandle<Cutting<'a, D>, CutterOf<'a, D>>;
 
-// Starts the cutter's thread. Where it is refused it is shut, and ends in this thread.
+/// Starts the cutter's thread. Where it is refused it is shut, and ends in this thread.
 fn start_cutter<'s, 'a: 's, E: 's, D: Run + Send + Sync + 's, R: Wait + Sync + 's>(
     scope: &'s Scope<'s, E>,
     rt: &'s R,
@@ -223,7 +223,8 @@ pub struct Started<'a, D: Run> {
     pub shuts: StopSeat,
 }
 
-/// Starts all threads but the writer. Where one is refused all end.
+/// Starts all threads but the writer. Where one is refused all end. They are started in the order in which an item comes
+/// to them behind the cutter, so that on one processor those that give their turns away to each other pass it on in turn.
 pub fn start<'s, 'a: 's, E: 's, D: Run + Send + Sync + 's, G: Gate + 's, R: Wait + Sync + 's>(
     scope: &'s Scope<'s, E>,
     rt: &'s R,
@@ -257,8 +258,14 @@ pub fn start<'s, 'a: 's, E: 's, D: Run + Send + Sync + 's, G: Gate + 's, R: Wait
         options,
         gate,
     } = task;
-    let sequencer = start_sequencer(scope, rt, alloc, options, words, sequencer)?;
-    let Crew { workers, cutter } = start_workers(scope, rt, options, gate, workers, room, cutter)?;
+    let Crew {
+        workers,
+        mut cutter,
+    } = start_workers(scope, rt, options, gate, workers, room, cutter)?;
+    let Some(sequencer) = start_sequencer(scope, rt, alloc, options, words, sequencer) else {
+        cutter.port.close(rt);
+        return None;
+    };
     let cutter = start_cutter(scope, rt, dump, words, cutter, &mut shuts)?;
     Some(Started {
         sequencer,
@@ -268,7 +275,7 @@ pub fn start<'s, 'a: 's, E: 's, D: Run + Send + Sync + 's, G: Gate + 's, R: Wait
     })
 }
 
-// Joins a worker.
+/// Joins a worker.
 fn join_worker<'a, D: Run, R: Threads>(rt: &R, worker: WorkerThread<'a, D>) -> CheckerPort<'a, D>
     ensures { HasWorkedFrom worker.entry.promise.port.value result }
 {

@@ -38,7 +38,7 @@ pub struct Written<J: Drop, D: Drop, T: Drop> {
     pub count: u64,
 }
 
-// Writes a piece, unless the sink has failed. It raises the stop where the sink fails.
+/// Writes a piece, unless the sink has failed. It raises the stop where the sink fails.
 fn write_one<S: Sink>(
     failed: bool,
     piece: Piece<'_>,

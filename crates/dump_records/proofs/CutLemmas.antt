@@ -1,19 +1,6 @@
 -- A dump cut record by record.
-use Rattle.std.proofs.Common.{◌≡◌, ◌≢◌, ◌⊎◌, ℕ, zero, suc, ◌+◌, ◌-◌, ◌<◌, ◌≤◌, Bool, true, false, ◌==◌, List, [], ◌∷◌, ◌++◌, take, drop, length, refl, sym, ap, ◌∙◌, subst, arith, append_assoc, length-append, inl, inr}
-use Rattle.std.proofs.lemmas.List.{append-nil, length-drop, drop_at, drop-drop, drop_all, take_rest}
-use Rattle.std.proofs.lemmas.Bool.{eqb-true, eqb-false}
-use Rattle.dump_text.specs.declared.fault.FaultKind.{FaultKind}
-use Rattle.dump_text.specs.HeaderBlock.{block_text, lines_bytes, starts_with_lf}
-use Rattle.dump_records.specs.HeaderRules.{version_from}
-use Rattle.dump_records.specs.RecordText.{DumpRecord, record_text, BeginsWithRecord, IsCutFault}
-use Rattle.dump_records.specs.DumpText.{Ending, line_feeds, IsCutInto, HaveVersions}
-use Rattle.dump_records.specs.steps.CutRecords.{EndsAfter, IsRecordOf}
-use Rattle.dump_records.specs.steps.CutterState.{last_version, IsCutUpTo}
-use Rattle.dump_records.specs.steps.Standing.{IsGap, StandsAt, FollowsRecords}
-use Rattle.dump_records.specs.steps.RecordPlaces.{record_between}
+use Rattle.dump_records.proofs.Prelude.{◌≡◌, ◌≢◌, ◌⊎◌, ℕ, zero, suc, ◌+◌, ◌-◌, ◌<◌, ◌≤◌, Bool, true, false, ◌==◌, List, [], ◌∷◌, ◌++◌, take, drop, length, refl, sym, ap, ◌∙◌, subst, arith, append_assoc, length-append, inl, inr, append-nil, length-drop, drop_at, drop-drop, drop_all, take_rest, eqb-true, eqb-false, FaultKind, block_text, lines_bytes, starts_with_lf, version_from, DumpRecord, record_text, BeginsWithRecord, IsCutFault, Ending, line_feeds, IsCutInto, HaveVersions, EndsAfter, IsRecordOf, last_version, IsCutUpTo, IsGap, StandsAt, FollowsRecords, record_between, Block, block_dump, block_place, block_after}
 use Rattle.dump_records.proofs.Versions.{last_append, versions_append}
-use Rattle.dump_text.specs.declared.block.Block.{Block}
-use Rattle.dump_text.specs.steps.Views.{block_dump, block_place, block_after}
 
 lfs_add : (m n : ℕ) → line_feeds m ++ line_feeds n ≡ line_feeds (m + n)
 lfs_add zero n = let e : n ≡ 0 + n = omega arith in ap line_feeds e

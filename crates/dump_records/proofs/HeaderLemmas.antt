@@ -1,21 +1,5 @@
 -- What lawful header lines tell of their record's kind and numbers.
-use Rattle.std.proofs.Common.{◌≡◌, ℕ, ◌+◌, ◌<◌, ◌^◌, arith, ◌==◌, ◌&&◌, ◌||◌, not, Bool, true, false, List, [], ◌∷◌, refl, sym, ap, ◌∙◌, Option, Some, None, is_some, is_none, count_by, option_and_then, unwrap_or}
-use Rattle.std.proofs.lemmas.Option.{none-some}
-use Rattle.std.proofs.lemmas.Bool.{eqb-true}
-use Rattle.std.specs.Option.{IfSome}
-use Rattle.dump_text.specs.Names.{version_name, uuid_name, revision_name, path_name, copy_revision_name, copy_path_name, content_length_name, deciding_names, length_names}
-use Rattle.std.specs.List.{list_any}
-use Rattle.dump_text.specs.Number.{number_of}
-use Rattle.dump_text.specs.HeaderLine.{Header, has_header, header_value}
-use Rattle.dump_text.proofs.BoolLemmas.{first_false, second_false, false_true}
-use Rattle.dump_text.specs.steps.ValuePlaces.{is_there, value_at}
-use Rattle.dump_text.specs.declared.value_place.ValuePlace.{ValuePlace}
-use Rattle.dump_text.proofs.BlockLemmas.{has_value}
-use Rattle.dump_text.proofs.ValueLemmas.{place_has}
-use Rattle.dump_records.specs.HeaderRules.{header_number, header_length, property_length, text_length, version_from, is_one_alone, has_bad_kind, is_read_version, has_bad_version, has_bad_number}
-use Rattle.dump_records.specs.declared.kind.KindParts.{KindParts}
-use Rattle.dump_records.specs.declared.kind.KindParts.TheVariants.{Version, Uuid, Revision, Node, Copy}
-use Rattle.dump_records.specs.steps.KindReading.{version_in, IsKindOf}
+use Rattle.dump_records.proofs.Prelude.{◌≡◌, ℕ, ◌+◌, ◌<◌, ◌^◌, arith, ◌==◌, ◌&&◌, ◌||◌, not, Bool, true, false, List, [], ◌∷◌, refl, sym, ap, ◌∙◌, Option, Some, None, is_some, is_none, count_by, option_and_then, unwrap_or, none-some, eqb-true, IfSome, version_name, uuid_name, revision_name, path_name, copy_revision_name, copy_path_name, content_length_name, deciding_names, length_names, list_any, number_of, Header, has_header, header_value, first_false, second_false, false_true, is_there, value_at, ValuePlace, has_value, place_has, header_number, header_length, property_length, text_length, version_from, is_one_alone, has_bad_kind, is_read_version, has_bad_version, has_bad_number, KindParts, Version, Uuid, Revision, Node, Copy, version_in, IsKindOf}
 
 -- of four names exactly one is there
 pub record OneKind (v u s n : Bool) : Type 0 where

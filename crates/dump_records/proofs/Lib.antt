@@ -1,3 +1,4 @@
+mod Prelude
 pub mod HeaderLemmas
 pub mod Versions
 pub mod Unique

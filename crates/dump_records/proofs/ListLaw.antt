@@ -1,29 +1,11 @@
 -- Each dump has a list of records: at each place either a record stands or a fault is found, and a record takes bytes.
-use Rattle.std.proofs.Common.{◌≡◌, ◌≢◌, ◌⊎◌, ℕ, zero, suc, ◌+◌, ◌<◌, ◌≤◌, nat_lt, Bool, true, false, ◌==◌, List, [], ◌∷◌, ◌++◌, take, drop, length, refl, sym, ap, ◌∙◌, subst, arith, append_assoc, length-append, inl, inr}
-use Rattle.std.specs.List.{list_all}
-use Rattle.std.proofs.lemmas.List.{length-drop, take-append-drop, length-take-le}
-use Rattle.std.proofs.lemmas.Bool.{eqb-true, eqb-false}
+use Rattle.dump_records.proofs.Prelude.{◌≡◌, ◌≢◌, ◌⊎◌, ℕ, zero, suc, ◌+◌, ◌<◌, ◌≤◌, nat_lt, Bool, true, false, ◌==◌, List, [], ◌∷◌, ◌++◌, take, drop, length, refl, sym, ap, ◌∙◌, subst, arith, append_assoc, length-append, inl, inr, list_all, length-drop, take-append-drop, length-take-le, eqb-true, eqb-false, FaultKind, has_byte, header_text, is_header, count_named, is_block, lines_bytes, block_text, BeginsWithBlock, HasBlock, block_fault, IsFirstLine, IsCutAtColon, IsNoHeader, HasLines, Split, split, Cut, Lacks, first_of, lawful, split_once, lawful_lines, lines_once, regroup, clash, lines_behind, no_line_here, header_text-is, is_line, version_from, property_length, text_length, DumpRecord, record_text, BeginsWithRecord, is_lawful, IsCutFault, Ending, line_feeds, IsCutInto, HaveVersions, HasEnding, HasRecords, EachDumpHasOneList, header_fault, no_block-lines}
 use borrow.Author.Tests.{ltb-true, ltb-false}
-use Rattle.dump_text.specs.declared.fault.FaultKind.{FaultKind}
 use Rattle.dump_text.specs.declared.fault.FaultKind.TheVariants as faults
 use Rattle.dump_text.specs.HeaderLine as line
-use Rattle.dump_text.specs.HeaderLine.{has_byte, header_text, is_header, count_named}
-use Rattle.dump_text.specs.HeaderBlock.{is_block, lines_bytes, block_text, BeginsWithBlock, HasBlock, block_fault}
-use Rattle.dump_text.specs.steps.Scanning.{IsFirstLine, IsCutAtColon, IsNoHeader, HasLines}
-use Rattle.dump_text.proofs.Splits.{Split, split}
-use Rattle.dump_text.proofs.Splits.Split.{Cut, Lacks}
-use Rattle.dump_text.proofs.PropertyChoice.{first_of}
-use Rattle.dump_text.proofs.Unique.{lawful, split_once, lawful_lines, lines_once, regroup}
-use Rattle.dump_text.proofs.ScanLemmas.{clash, lines_behind, no_line_here, header_text-is, is_line}
-use Rattle.dump_records.specs.HeaderRules.{version_from, property_length, text_length}
-use Rattle.dump_records.specs.RecordText.{DumpRecord, record_text, BeginsWithRecord, is_lawful, IsCutFault}
-use Rattle.dump_records.specs.DumpText.{Ending, line_feeds, IsCutInto, HaveVersions, HasEnding, HasRecords}
-use Rattle.dump_records.specs.RecordLaws.{EachDumpHasOneList}
-use Rattle.dump_records.specs.steps.Lawful.{header_fault}
 use Rattle.dump_records.proofs.Unique.{EndsWith, records_once}
 use Rattle.dump_records.proofs.PartLemmas.{no_block, unlawful, cut_short}
 use Rattle.dump_records.proofs.CutLemmas.{Stripped, strip, lfs_length, record_some}
-use Rattle.dump_text.proofs.BlockLemmas.{no_block-lines}
 
 -- a line without LF is a header line or none
 data Judged (whole : List ℕ) : Type 0 where

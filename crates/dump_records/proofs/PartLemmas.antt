@@ -1,30 +1,9 @@
 -- Why no record stands at a place, and what stands there else.
-use Rattle.std.proofs.Common.{◌≡◌, ◌≢◌, ℕ, ◌+◌, ◌-◌, ◌<◌, ◌≤◌, get_or, Bool, true, false, List, ◌++◌, take, drop, length, slice_range, refl, sym, ap, ◌∙◌, subst, arith, append_assoc, unwrap_or, Result, Ok, Err}
-use Rattle.dump_text.proofs.BoolLemmas.{not_so}
-use Rattle.std.proofs.lemmas.List.{take-append-drop, length-drop, length-take-le, drop-drop, drop_more, drop_all}
-use Rattle.std.proofs.lemmas.Bool.{ne_eqb}
-use Rattle.std.specs.Result.{IsErrAnd, IfErr}
-use Rattle.dump_records.specs.DumpText.{line_feeds}
-use Rattle.dump_text.specs.declared.fault.FaultKind.{FaultKind}
+use Rattle.dump_records.proofs.Prelude.{◌≡◌, ◌≢◌, ℕ, ◌+◌, ◌-◌, ◌<◌, ◌≤◌, get_or, Bool, true, false, List, ◌++◌, take, drop, length, slice_range, refl, sym, ap, ◌∙◌, subst, arith, append_assoc, unwrap_or, Result, Ok, Err, not_so, take-append-drop, length-drop, length-take-le, drop-drop, drop_more, drop_all, ne_eqb, IsErrAnd, IfErr, line_feeds, FaultKind, fault_code, block_text, starts_with_lf, has_empty_line, BeginsWithBlock, HasBlock, block_fault, headers_between, IsBlockBetween, block_once, property_length, text_length, has_bad_kind, has_bad_version, has_bad_number, has_bad_lengths, BeginsWithRecord, is_lawful, HasBlockWith, HoldsOfText, IsCutFault, record_between, version_in, header_fault, IsUnlawful, LengthsOf, Lengths, RecordHeader, IsHeaderOf, Block, block_dump, block_place, block_after, block_headers, IsGap, StandsAt}
 use Rattle.dump_text.specs.declared.fault.FaultKind.TheVariants as faults
-use Rattle.dump_text.specs.FaultTable.{fault_code}
 use Rattle.dump_text.specs.HeaderLine as line
-use Rattle.dump_text.specs.HeaderBlock.{block_text, starts_with_lf, has_empty_line, BeginsWithBlock, HasBlock, block_fault}
-use Rattle.dump_text.specs.steps.ReadHeaders.{headers_between, IsBlockBetween}
-use Rattle.dump_text.proofs.Unique.{block_once}
-use Rattle.dump_records.specs.HeaderRules.{property_length, text_length, has_bad_kind, has_bad_version, has_bad_number, has_bad_lengths}
-use Rattle.dump_records.specs.RecordText.{BeginsWithRecord, is_lawful, HasBlockWith, HoldsOfText, IsCutFault}
-use Rattle.dump_records.specs.steps.RecordPlaces.{record_between}
 use Rattle.dump_records.proofs.Unique.{keeps}
 use Rattle.dump_records.proofs.HeaderLemmas.{version_said}
-use Rattle.dump_records.specs.steps.KindReading.{version_in}
-use Rattle.dump_records.specs.steps.Lawful.{header_fault, IsUnlawful, LengthsOf}
-use Rattle.dump_records.specs.declared.readings.Lengths.{Lengths}
-use Rattle.dump_records.specs.declared.readings.RecordHeader.{RecordHeader}
-use Rattle.dump_records.specs.steps.HeaderReading.{IsHeaderOf}
-use Rattle.dump_text.specs.declared.block.Block.{Block}
-use Rattle.dump_text.specs.steps.Views.{block_dump, block_place, block_after, block_headers}
-use Rattle.dump_records.specs.steps.Standing.{IsGap, StandsAt}
 
 no_less : (fault : FaultKind) → fault_code fault < 1 → ⊥
 no_less faults.HeaderCut low = omega arith

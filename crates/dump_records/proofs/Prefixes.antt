@@ -1,15 +1,7 @@
 -- The first records of a dump: there is one list of each length, so a truncated fact about them is a fact.
-use Rattle.std.proofs.Common.{◌≡◌, ℕ, ◌+◌, ◌≤◌, false, List, [], ◌∷◌, ◌++◌, take, drop, length, refl, sym, ap, ◌∙◌, subst, arith}
-use Rattle.std.proofs.Math.Logic.{∥∥₁_elim, ∥∥₁_map}
-use Rattle.std.specs.Coded.{Coded, Coded-set, coded_ℕ, coded_list}
+use Rattle.dump_records.proofs.Prelude.{◌≡◌, ℕ, ◌+◌, ◌≤◌, false, List, [], ◌∷◌, ◌++◌, take, drop, length, refl, sym, ap, ◌∙◌, subst, arith, ∥∥₁_elim, ∥∥₁_map, Coded, Coded-set, coded_ℕ, coded_list, take-append-drop, length-take-le, take_all, block_text, starts_with_lf, block_front, blank_once, header-eq, DumpRecord, record_text, BeginsWithRecord, Ending, IsCutInto, HaveVersions, HasRecords, BeginsWithRecords, EndsAfter, IsRecordOf}
 use base.Stored.{coded×, coded_via}
-use Rattle.std.proofs.lemmas.List.{take-append-drop, length-take-le, take_all}
 use Rattle.dump_text.specs.HeaderLine as line
-use Rattle.dump_text.specs.HeaderBlock.{block_text, starts_with_lf}
-use Rattle.dump_text.proofs.Unique.{block_front, blank_once, header-eq}
-use Rattle.dump_records.specs.RecordText.{DumpRecord, record_text, BeginsWithRecord}
-use Rattle.dump_records.specs.DumpText.{Ending, IsCutInto, HaveVersions, HasRecords, BeginsWithRecords}
-use Rattle.dump_records.specs.steps.CutRecords.{EndsAfter, IsRecordOf}
 use Rattle.dump_records.proofs.Unique.{content, begins, parts_once, record_once, version_once, record-eq, goes_on, EndsWith, ending_of}
 use Rattle.dump_records.proofs.Versions.{versions_prefix}
 use Rattle.dump_records.proofs.ListLaw.{each_dump_has_one_list}

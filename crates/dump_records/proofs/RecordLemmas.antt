@@ -1,14 +1,5 @@
 -- What a record lends of its block.
-use Rattle.std.proofs.Common.{◌≡◌, ℕ, ◌-◌, Bool, true, false, if◌then◌else◌, List, Option, Some, None, Bor, drop, sym, ◌∙◌, subst, arith}
-use Rattle.std.specs.Option.{option_copied, IfSome}
-use Rattle.std.proofs.lemmas.List.{length-take, length-drop}
-use Rattle.dump_text.specs.HeaderLine.{header_value}
-use Rattle.dump_text.specs.steps.ReadHeaders.{IsPartBetween}
-use Rattle.dump_text.proofs.BlockLemmas.{block_size}
-use Rattle.dump_text.proofs.ValueLemmas.{value_lent, if_copied}
-use Rattle.dump_records.specs.declared.record.Record.{Record}
-use Rattle.dump_records.specs.steps.RecordPlaces.{place_after}
-use Rattle.dump_records.specs.steps.RecordViews.{record_item, IsInBlock}
+use Rattle.dump_records.proofs.Prelude.{◌≡◌, ℕ, ◌-◌, Bool, true, false, if◌then◌else◌, List, Option, Some, None, Bor, drop, sym, ◌∙◌, subst, arith, option_copied, IfSome, length-take, length-drop, header_value, IsPartBetween, block_size, value_lent, if_copied, Record, place_after, record_item, IsInBlock}
 
 -- a header's value stands in the block
 pub value_in_block : (r : Record) (name : List ℕ) (value : List ℕ)

@@ -1,6 +1,5 @@
 -- A record's bytes from one of its parts on, as a part of the dump.
-use Rattle.std.proofs.Common.{◌≡◌, ℕ, ◌+◌, ◌-◌, ◌≤◌, List, ◌++◌, take, drop, slice_range, sym, ap, ap₂, ◌∙◌, arith}
-use Rattle.std.proofs.lemmas.List.{take-append-drop, take-take, drop-take, drop-drop}
+use Rattle.dump_records.proofs.Prelude.{◌≡◌, ℕ, ◌+◌, ◌-◌, ◌≤◌, List, ◌++◌, take, drop, slice_range, sym, ap, ap₂, ◌∙◌, arith, take-append-drop, take-take, drop-take, drop-drop}
 
 -- a part of a list is a part up to a place, and the part behind it
 pub slice_join : (d : List ℕ) (a b c : ℕ) → a ≤ b → b ≤ c → slice_range d a c ≡ slice_range d a b ++ slice_range d b c

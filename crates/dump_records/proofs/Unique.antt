@@ -1,16 +1,7 @@
 -- A dump has at most one list of records.
-use Rattle.std.proofs.Common.{◌≡◌, ◌≢◌, ◌⊎◌, ℕ, ◌+◌, ◌<◌, refl, sym, ◌∙◌, ap, subst, Bool, true, false, ◌&&◌, not, List, [], ◌∷◌, ◌++◌, length, arith, append_assoc, length-append, inl, inr, ◌==◌, if◌then◌else◌}
-use Rattle.dump_text.proofs.BoolLemmas.{first_true, second_true, neither_below}
-use Rattle.dump_text.specs.declared.fault.FaultKind.{FaultKind}
+use Rattle.dump_records.proofs.Prelude.{◌≡◌, ◌≢◌, ◌⊎◌, ℕ, ◌+◌, ◌<◌, refl, sym, ◌∙◌, ap, subst, Bool, true, false, ◌&&◌, not, List, [], ◌∷◌, ◌++◌, length, arith, append_assoc, length-append, inl, inr, ◌==◌, if◌then◌else◌, first_true, second_true, neither_below, FaultKind, fault_code, IsLeastFault, block_text, BeginsWithBlock, block_once, block_front, block_some, split_by_length, blank_once, version_from, property_length, text_length, has_bad_kind, has_bad_version, has_bad_number, has_bad_lengths, DumpRecord, record_text, BeginsWithRecord, is_lawful, HoldsOfText, IsCutFault, Ending, IsCutInto, HaveVersions, HasEnding, HasRecords, NoRecordBeginsAnother}
 use Rattle.dump_text.specs.declared.fault.FaultKind.TheVariants as faults
-use Rattle.dump_text.specs.FaultTable.{fault_code, IsLeastFault}
 use Rattle.dump_text.specs.HeaderLine as line
-use Rattle.dump_text.specs.HeaderBlock.{block_text, BeginsWithBlock}
-use Rattle.dump_text.proofs.Unique.{block_once, block_front, block_some, split_by_length, blank_once}
-use Rattle.dump_records.specs.HeaderRules.{version_from, property_length, text_length, has_bad_kind, has_bad_version, has_bad_number, has_bad_lengths}
-use Rattle.dump_records.specs.RecordText.{DumpRecord, record_text, BeginsWithRecord, is_lawful, HoldsOfText, IsCutFault}
-use Rattle.dump_records.specs.DumpText.{Ending, IsCutInto, HaveVersions, HasEnding, HasRecords}
-use Rattle.dump_records.specs.RecordLaws.{NoRecordBeginsAnother}
 
 pub clash : (a : Bool) → not a ≡ true → a ≡ true → ⊥
 clash true n y = cc

@@ -1,16 +1,8 @@
 -- Worked values of the definitions, computed and proved by the kernel.
-use Rattle.std.proofs.Common.{◌≡◌, ℕ, refl, ap, true, false, List, [], ◌∷◌, ◌++◌, length, Some, None, codes, inr, arith, lit<, ◌∙◌}
+use Rattle.dump_records.proofs.Prelude.{◌≡◌, ℕ, refl, ap, true, false, List, [], ◌∷◌, ◌++◌, length, Some, None, codes, inr, arith, lit<, ◌∙◌, Header, BeginsWithBlock, block_some, header_number, header_length, property_length, text_length, version_from, says_true, is_one_alone, has_bad_kind, is_read_version, has_bad_version, has_bad_number, has_bad_lengths, kind_of, DumpRecord, record_text, is_delta, has_text_delta, has_prop_delta, is_lawful, BeginsWithRecord, HasBlockWith, HoldsOfText, IsCutFault, Ending, line_feeds, IsCutInto, HaveVersions, HasEnding, BeginsWithRecords, HasRecords, EndsAfter, IsRecordOf}
 use Rattle.dump_text.specs.declared.fault.FaultKind.TheVariants as faults
-use Rattle.dump_text.specs.HeaderLine.{Header}
-use Rattle.dump_text.specs.HeaderBlock.{BeginsWithBlock}
-use Rattle.dump_text.proofs.Unique.{block_some}
 use Rattle.dump_records.specs.declared.kind.RecordKind.TheVariants as kinds
-use Rattle.dump_records.specs.HeaderRules.{header_number, header_length, property_length, text_length, version_from, says_true, is_one_alone, has_bad_kind, is_read_version, has_bad_version, has_bad_number, has_bad_lengths}
-use Rattle.dump_records.specs.steps.RecordKinds.{kind_of}
-use Rattle.dump_records.specs.RecordText.{DumpRecord, record_text, is_delta, has_text_delta, has_prop_delta, is_lawful, BeginsWithRecord, HasBlockWith, HoldsOfText, IsCutFault}
 use Rattle.dump_records.proofs.PartLemmas.{no_block}
-use Rattle.dump_records.specs.DumpText.{Ending, line_feeds, IsCutInto, HaveVersions, HasEnding, BeginsWithRecords, HasRecords}
-use Rattle.dump_records.specs.steps.CutRecords.{EndsAfter, IsRecordOf}
 
 abbrev header : List ℕ → List ℕ → Header
 header name value = record { name = name; value = value }

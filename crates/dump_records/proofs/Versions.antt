@@ -1,8 +1,5 @@
 -- The versions in force along a list of records.
-use Rattle.std.proofs.Common.{◌≡◌, ℕ, List, [], ◌∷◌, ◌++◌, refl}
-use Rattle.dump_records.specs.RecordText.{DumpRecord}
-use Rattle.dump_records.specs.DumpText.{HaveVersions}
-use Rattle.dump_records.specs.steps.CutterState.{last_version}
+use Rattle.dump_records.proofs.Prelude.{◌≡◌, ℕ, List, [], ◌∷◌, ◌++◌, refl, DumpRecord, HaveVersions, last_version}
 
 -- the version in force behind two lists of records is that behind the second
 pub last_append : (version : ℕ) (rs ss : List DumpRecord)

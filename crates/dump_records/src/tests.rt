@@ -11,18 +11,18 @@ const VERSION_THREE: &[u8] = b"SVN-fs-dump-format-version: 3\n\n";
 
 const UUID: &[u8] = b"UUID: 7bf7a5ef-cabf-0310-b7d4-93df341afa7e\n\n";
 
-// A revision, with one LF behind it.
+/// A revision, with one LF behind it.
 const REVISION: &[u8] =
     b"Revision-number: 0\nProp-content-length: 56\nContent-length: 56\n\nK 8\nsvn:date\nV 27\n2024-01-02T03:04:05.000000Z\nPROPS-END\n\n";
 
-// A revision with a header that only a node has a use for.
+/// A revision with a header that only a node has a use for.
 const COPYING_REVISION: &[u8] =
     b"Revision-number: 4\nNode-copyfrom-path: other/f\nProp-content-length: 10\nContent-length: 10\n\nPROPS-END\n";
 
 const NODE: &[u8] =
     b"Node-path: trunk/f\nNode-kind: file\nNode-action: add\nNode-copyfrom-rev: 3\nNode-copyfrom-path: other/f\nText-content-length: 3\nContent-length: 3\n\nabc";
 
-// What a call of `next` gives.
+/// What a call of `next` gives.
 #[derive(Clone, Copy, Debug, PartialEq, Eq)]
 enum Seen {
     Item(u64),
@@ -53,7 +53,7 @@ fn next_record<'a>(cutter: &mut Cutter<'a>) -> Result<Record<'a>, Fail> {
     }
 }
 
-// Whether so many records are cut, and then this is told again and again.
+/// Whether so many records are cut, and then this is told again and again.
 fn ends_behind(dump: &[u8], count: u64, end: Seen) -> bool {
     let mut cutter = Cutter::new(dump);
     for number in 0..count {
@@ -64,7 +64,7 @@ fn ends_behind(dump: &[u8], count: u64, end: Seen) -> bool {
     seen_in(cutter.next()) == end && seen_in(cutter.next()) == end
 }
 
-// A version, a UUID and a revision, of 195 bytes.
+/// A version, a UUID and a revision, of 195 bytes.
 const ALL: &[u8] = b"SVN-fs-dump-format-version: 2\n\n\
 UUID: 7bf7a5ef-cabf-0310-b7d4-93df341afa7e\n\n\
 Revision-number: 0\nProp-content-length: 56\nContent-length: 56\n\n\
@@ -100,7 +100,7 @@ fn the_first_record_is_a_version_record(rt: HostRuntime) {
     }
 }
 
-// Whether the bytes from a part are lent, with one LF behind them and not with two.
+/// Whether the bytes from a part are lent, with one LF behind them and not with two.
 fn is_lent(record: &Record<'_>, part: RecordPart, bytes: &[u8], with: &[u8]) -> bool {
     record.bytes_from(part) == bytes
         && record.bytes_from_with(part, b"\n") == Some(with)
@@ -151,7 +151,7 @@ fn no_version_but_two_and_three_is_read(rt: HostRuntime) {
     }
 }
 
-// Whether the records of a dump stand under these versions.
+/// Whether the records of a dump stand under these versions.
 fn are_in_force(dump: &[u8], versions: [u64; 8]) -> bool {
     let mut cutter = Cutter::new(dump);
     for version in versions {
@@ -180,7 +180,7 @@ fn the_last_version_up_to_a_record_is_in_force(rt: HostRuntime) -> Result<(), Fa
     Ok(())
 }
 
-// Whether the text and the properties of the second record are deltas.
+/// Whether the text and the properties of the second record are deltas.
 fn deltas_behind(alloc: Global, version: &[u8], lines: &[u8]) -> Result<(bool, bool), Fail> {
     let dump = joined(alloc, &[version, lines, b"\n"])?;
     let mut cutter = Cutter::new(&dump);
@@ -229,6 +229,29 @@ fn only_a_node_under_version_three_has_a_delta(rt: HostRuntime) -> Result<(), Fa
     Ok(())
 }
 
+/// Whether the second record is a node, and whether it may have a delta.
+fn nodes_behind(alloc: Global, version: &[u8], lines: &[u8]) -> Result<(bool, bool), Fail> {
+    let dump = joined(alloc, &[version, lines, b"\n"])?;
+    let mut cutter = Cutter::new(&dump);
+    next_record(&mut cutter)?;
+    let record = next_record(&mut cutter)?;
+    Ok((record.is_node(), record.may_have_delta()))
+}
+
+#[test]
+fn only_a_node_under_version_three_may_have_a_delta(rt: HostRuntime) -> Result<(), Fail> {
+    let node = b"Node-path: f\n".as_slice();
+    let rows = [
+        (VERSION_THREE, node, (true, true)),
+        (VERSION, node, (true, false)),
+        (VERSION_THREE, b"Revision-number: 1\n", (false, false)),
+    ];
+    for (version, lines, wanted) in rows {
+        assert!(rt; nodes_behind(rt.alloc(), version, lines)? == wanted);
+    }
+    Ok(())
+}
+
 const BROKEN_BLOCKS: [(&[u8], FaultKind); 7] = [
     (
         b"SVN-fs-dump-format-version: 2\n\nUUID: a\nNode-path: f\n\n",
@@ -267,7 +290,7 @@ fn header_lines_that_break_a_rule_are_a_fault(rt: HostRuntime) {
     }
 }
 
-// Whether a record has this kind, number, place and place behind it.
+/// Whether a record has this kind, number, place and place behind it.
 fn is_placed(item: &Record<'_>, kind: RecordKind, places: (u64, usize, usize)) -> bool {
     item.kind() == kind && (item.number(), item.place(), item.after()) == places
 }
@@ -311,7 +334,7 @@ fn has_block(node: &Record<'_>) -> bool {
         && block.get(b"Node-kind") == Some(b"file".as_slice())
 }
 
-// A version, a UUID, a revision with a header that only a node has a use for, and a node.
+/// A version, a UUID, a revision with a header that only a node has a use for, and a node.
 const FOUR: &[u8] = b"SVN-fs-dump-format-version: 2\n\n\
 UUID: 7bf7a5ef-cabf-0310-b7d4-93df341afa7e\n\n\
 Revision-number: 4\nNode-copyfrom-path: other/f\nProp-content-length: 10\nContent-length: 10\n\nPROPS-END\n\
@@ -351,7 +374,7 @@ fn what_the_lines_of_a_node_say_is_read(rt: HostRuntime) -> Result<(), Fail> {
     Ok(())
 }
 
-// Whether the block of the first record behind the version is written as it stands.
+/// Whether the block of the first record behind the version is written as it stands.
 fn is_written(alloc: Global, lines: &[u8], content: &[u8]) -> Result<bool, Fail> {
     let dump = joined(alloc, &[VERSION, lines, b"\n", content])?;
     let mut cutter = Cutter::new(&dump);

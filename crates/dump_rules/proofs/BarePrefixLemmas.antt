@@ -1,19 +1,5 @@
 -- The bare prefixes that begin a path: one of its parts before a slash, itself, or the empty one.
-use Rattle.std.proofs.Common.{◌≡◌, ℕ, zero, suc, ◌+◌, ◌<◌, ◌≤◌, Bool, true, false, ◌||◌, List, [], ◌∷◌, ◌++◌, take, drop, length, get_or, map, nat_lt, bytes_eq, Bor, refl, sym, ap, ◌∙◌, inl, inr, arith}
-use Rattle.std.specs.List.{list_any}
-use Rattle.std.specs.Cmp.Lexicographic.{slice_cmp}
-use Rattle.std.specs.Ordering.{is_eq, match_ordering, nat_cmp}
-use Rattle.std.specs.declared.cmp.Ordering.{Ordering}
-use Rattle.std.specs.declared.cmp.Ordering.TheVariants.{Less, Equal, Greater}
-use Rattle.std.specs.BTreeMap.{is_at}
-use Rattle.std.specs.BTreeSet.{insert_key}
-use Rattle.std.proofs.lemmas.Bool.{or_cases, or_parts, or_from, or_left, or_right, and_parts, and_from, false_from_ne_true, both_ways, ltb-true, lt-ltb}
-use Rattle.std.proofs.lemmas.Bool.Decides.{nat_tests}
-use Rattle.std.proofs.lemmas.List.{length-take-le, take_more, map-append}
-use Rattle.std.proofs.lemmas.Map.Text.{is_eq-slice_cmp}
-use Rattle.std.proofs.lemmas.Slice.Eq.{bytes_eq-Decides}
-use Rattle.dump_rules.specs.Prefix.{bare_prefix, begins_path}
-use Rattle.dump_rules.specs.steps.PrefixSearch.{AreWithin, BeginSame, has_slash_first}
+use Rattle.dump_rules.proofs.Prelude.{◌≡◌, ℕ, zero, suc, ◌+◌, ◌<◌, ◌≤◌, Bool, true, false, ◌||◌, List, [], ◌∷◌, ◌++◌, take, drop, length, get_or, map, nat_lt, bytes_eq, Bor, refl, sym, ap, ◌∙◌, inl, inr, arith, list_any, slice_cmp, is_eq, match_ordering, nat_cmp, Ordering, Less, Equal, Greater, is_at, insert_key, or_cases, or_parts, or_from, or_left, or_right, and_parts, and_from, false_from_ne_true, both_ways, ltb-true, lt-ltb, nat_tests, length-take-le, take_more, map-append, is_eq-slice_cmp, bytes_eq-Decides, bare_prefix, begins_path, AreWithin, BeginSame, has_slash_first}
 use Rattle.dump_rules.proofs.PrefixLemmas.{slash_behind, any_mapped}
 
 -- a slash at a place of a path

@@ -1,3 +1,4 @@
+mod Prelude
 pub mod PrefixLemmas
 pub mod BarePrefixLemmas
 pub mod ReachLemmas

@@ -1,8 +1,5 @@
 -- A prefix and a slash at the front of a path.
-use Rattle.std.proofs.Common.{◌≡◌, ℕ, Bool, true, false, ◌&&◌, ◌||◌, List, [], ◌∷◌, ◌++◌, take, drop, length, map, nat_eq, bytes_eq, refl, ap, ◌∙◌, arith}
-use Rattle.std.specs.List.{starts_with, list_any}
-use Rattle.std.proofs.Math.Bool.{and-true}
-use Rattle.dump_rules.specs.steps.PrefixSearch.{has_slash_first}
+use Rattle.dump_rules.proofs.Prelude.{◌≡◌, ℕ, Bool, true, false, ◌&&◌, ◌||◌, List, [], ◌∷◌, ◌++◌, take, drop, length, map, nat_eq, bytes_eq, refl, ap, ◌∙◌, arith, starts_with, list_any, and-true, has_slash_first}
 
 eq_sym : (a b : ℕ) → nat_eq a b ≡ nat_eq b a
 eq_sym a b = grind arith

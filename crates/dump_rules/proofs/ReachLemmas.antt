@@ -1,14 +1,6 @@
 -- Kept revisions that rise: how many stand up to a number, their new numbers and their images.
-use Rattle.std.proofs.Common.{◌≡◌, ◌⊎◌, ℕ, zero, suc, ◌+◌, ◌<◌, ◌≤◌, Bool, true, false, cond, List, [], ◌∷◌, ◌++◌, length, get_or, nat_lt, nat_le, refl, sym, ap, ◌∙◌, inl, inr, arith, Some, None, Option, option_map, All, count_by, filter, append-nil}
-use Rattle.std.proofs.lemmas.Bool.{lt-ltb}
-use Rattle.std.specs.List.{last_or}
-use Rattle.std.specs.List.Sorted.{IsNonDecreasing, IsPartitionedBy, IsPartitionPoint}
-use Rattle.std.proofs.lemmas.Bool.Decides.{leb_tells, nat_tests}
-use Rattle.std.proofs.lemmas.List.Elements.{All-head, All-tail, filter-append}
-use Rattle.std.proofs.lemmas.List.Sorted.{IsPartitionedBy-leb, IsPartitionedBy-ltb}
-use Rattle.std.proofs.lemmas.List.Sums.{sum_by-cons, sum_by_push}
-use Rattle.dump_rules.specs.Renumbering.{KeptRevisions, new_number, last_kept, image}
-use Rattle.dump_rules.specs.steps.RisingNumbers.{RiseFrom}
+use Rattle.dump_rules.proofs.Prelude.{◌≡◌, ◌⊎◌, ℕ, zero, suc, ◌+◌, ◌<◌, ◌≤◌, Bool, true, false, cond, List, [], ◌∷◌, ◌++◌, length, get_or, nat_lt, nat_le, refl, sym, ap, ◌∙◌, inl, inr, arith, Some, None, Option, option_map, count_by, filter, append-nil, lt-ltb, last_or, IsNonDecreasing, IsPartitionedBy, IsPartitionPoint, leb_tells, nat_tests, All-head, All-tail, filter-append, IsPartitionedBy-leb, IsPartitionedBy-ltb, sum_by-cons, sum_by_push, KeptRevisions, new_number, last_kept, image, RiseFrom}
+use Rattle.std.proofs.Common.{All}
 
 -- counts of numbers
 

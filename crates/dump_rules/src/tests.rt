@@ -33,7 +33,7 @@ fn images_are_of_the_last_kept_revision(rt: HostRuntime) -> Result<(), Fail> {
     Ok(())
 }
 
-// Run with each allocation refused in turn: a revision is kept, or nothing has changed, and the next one is.
+/// Run with each allocation refused in turn: a revision is kept, or nothing has changed, and the next one is.
 #[test]
 fn push_or_no_memory(rt: HostRuntime) {
     let mut reach = Reach::new(rt.alloc(), 5);

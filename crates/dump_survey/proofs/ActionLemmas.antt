@@ -1,9 +1,5 @@
 -- What an action does by its name.
-use Rattle.std.proofs.Common.{◌≡◌, ℕ, Bool, true, false, ◌||◌, List, bytes_eq, codes, refl, sym, ap, ◌∙◌, if◌then◌else◌}
-use Rattle.std.proofs.lemmas.Slice.Eq.{bytes_eq-Decides}
-use Rattle.dump_survey.specs.declared.node_headers.Action.{Action}
-use Rattle.dump_survey.specs.declared.node_headers.Action.TheVariants.{Add, Change, Delete, Replace, Unknown}
-use Rattle.dump_survey.specs.steps.Actions.{action_named, is_deleting, is_making, is_known_action}
+use Rattle.dump_survey.proofs.Prelude.{◌≡◌, ℕ, Bool, true, false, ◌||◌, List, bytes_eq, codes, refl, sym, ap, ◌∙◌, if◌then◌else◌, bytes_eq-Decides, Action, Add, Change, Delete, Replace, Unknown, action_named, is_deleting, is_making, is_known_action}
 
 -- the action of the first of the four tests that holds
 abbrev action_by : (add change delete replace : Bool) → Action

@@ -1,18 +1,7 @@
 -- The first prefix that cuts.
-use Rattle.std.proofs.Common.{◌≡◌, ◌<◌, ◌≤◌, ℕ, zero, suc, ◌+◌, Bool, true, false, not, ◌||◌, List, [], ◌∷◌, length, get_or, drop, map, filter, cond, slice_get, Option, Some, None, is_some, Bor, option_copied, refl, sym, ap, ◌∙◌, arith, Result, Ok, Err}
-use Rattle.std.specs.List.{list_any}
+use Rattle.dump_survey.proofs.Prelude.{◌≡◌, ◌<◌, ◌≤◌, ℕ, suc, ◌+◌, Bool, true, false, not, ◌||◌, List, [], ◌∷◌, length, get_or, drop, map, filter, cond, Option, Some, None, is_some, Bor, option_copied, refl, sym, ap, ◌∙◌, arith, Result, Ok, Err, list_any, drop_all, Side, Include, Exclude, bare_prefix, Settings, path_of, cuts_alike, cuts, first_cut, cuts_below, some_copied}
+use Rattle.std.proofs.Common.{zero, slice_get}
 use Rattle.std.specs.Result.{IfOk}
-use Rattle.std.proofs.lemmas.List.{drop_all}
-use Rattle.dump_rules.specs.declared.options.Side.{Side}
-use Rattle.dump_rules.specs.declared.options.Side.TheVariants.{Include, Exclude}
-use Rattle.dump_rules.specs.Prefix.{bare_prefix}
-use Rattle.dump_rules.specs.Settings.{Settings}
-use Rattle.dump_trees.specs.Paths.{path_of}
-use Rattle.dump_trees.specs.Quiet.{cuts_alike}
-use Rattle.dump_history.specs.Findings.{cuts}
-use Rattle.dump_survey.specs.CuttingPrefix.{first_cut}
-use Rattle.dump_survey.specs.steps.Prefixes.{cuts_below}
-use Rattle.dump_text.proofs.ValueLemmas.{some_copied}
 use Rattle.dump_survey.proofs.PrefixLemmas.{next_prefix, not_all}
 
 -- the first of the texts that passes

@@ -1,13 +1,5 @@
 -- Worked values of the prefix that is told with a copy, computed and proved by the kernel.
-use Rattle.std.proofs.Common.{◌≡◌, ℕ, false, List, [], ◌∷◌, Some, None, refl, codes}
-use Rattle.dump_records.specs.RecordText.{DumpRecord}
-use Rattle.dump_rules.specs.declared.options.Side.{Side}
-use Rattle.dump_rules.specs.declared.options.Side.TheVariants.{Include, Exclude}
-use Rattle.dump_rules.specs.declared.options.Empty.TheVariants.{Pad}
-use Rattle.dump_rules.specs.Settings.{Settings}
-use Rattle.dump_history.specs.Findings.{Finding}
-use Rattle.dump_history.proofs.values.WorkedDump.{line, record_at}
-use Rattle.dump_survey.specs.CuttingPrefix.{cutting_prefix}
+use Rattle.dump_survey.proofs.Prelude.{◌≡◌, ℕ, false, List, [], ◌∷◌, Some, None, refl, codes, DumpRecord, Side, Include, Exclude, Pad, Settings, Finding, line, record_at, cutting_prefix}
 use Rattle.dump_survey.specs.Lines.{cut_words, shown_byte}
 
 -- a folder b that is copied from t

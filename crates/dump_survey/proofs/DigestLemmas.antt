@@ -1,28 +1,7 @@
 -- Where a survey tells nothing, a record has no fault but that of a digest.
-use Rattle.std.proofs.Common.{◌≡◌, ℕ, ◌<◌, Bool, true, false, not, ◌&&◌, ◌||◌, List, [], ◌∷◌, ◌++◌, length, map, Option, Some, None, is_some, is_none, if◌then◌else◌, MatchBool, Contains, refl, sym, ap, ◌∙◌, subst, inl, inr, arith, append-nil, append_assoc}
+use Rattle.dump_survey.proofs.Prelude.{◌≡◌, ℕ, ◌<◌, Bool, true, false, not, ◌&&◌, ◌||◌, List, [], ◌∷◌, ◌++◌, length, map, Option, Some, None, is_some, is_none, if◌then◌else◌, MatchBool, Contains, refl, sym, ap, ◌∙◌, subst, inl, inr, arith, append-nil, append_assoc, last_or, both_ways, and_parts, or_cases, Contains-append_right, FaultKind, Property, first_true, second_true, DumpRecord, Settings, finds, is_revision_record, is_node, is_kept_node, has_lost_source, HasPropertyBlock, group_of, groups, group_number, revision_number, revision_numbers, is_whole_file, stays_copy, ends_in_group, HoldsOfRecord, has_ordered_nodes, go_up, Finding, every_finding, NodeFaults, is_found, has_kept_path, IsReadBlock, AreFindingsOf, rise, IsUnreadRevision, AreDumpFindingsOf, none_passes, numbers_rise, all_read, nodes_stand, NodeTold, told_in, present_after, IsToldOfNode, IsToldOf, AreTold, open_behind, is_digest_fault}
 use Rattle.std.specs.Prelude.{nat_lt}
-use Rattle.std.specs.List.{last_or}
-use Rattle.std.proofs.lemmas.Bool.{both_ways, and_parts, or_cases}
-use Rattle.std.proofs.lemmas.List.Elements.{Contains-append_right}
-use Rattle.dump_text.specs.declared.fault.FaultKind.{FaultKind}
 use Rattle.dump_text.specs.declared.fault.FaultKind.TheVariants as faults
-use Rattle.dump_text.specs.PropertyList.{Property}
-use Rattle.dump_text.proofs.BoolLemmas.{first_true, second_true}
-use Rattle.dump_records.specs.RecordText.{DumpRecord}
-use Rattle.dump_rules.specs.Settings.{Settings}
-use Rattle.dump_rules.proofs.faults.FaultLemmas.{finds}
-use Rattle.dump_digest.specs.RecordParts.{is_revision_record, is_node, is_kept_node, has_lost_source, HasPropertyBlock}
-use Rattle.dump_filter.specs.Groups.{group_of, groups, group_number, revision_number, revision_numbers}
-use Rattle.dump_filter.specs.NewHeaders.{is_whole_file, stays_copy}
-use Rattle.dump_filter.specs.RecordFaults.{ends_in_group, HoldsOfRecord}
-use Rattle.dump_history.specs.DumpChanges.{has_ordered_nodes}
-use Rattle.dump_history.specs.NumberGaps.{go_up}
-use Rattle.dump_history.specs.Findings.{Finding, every_finding, NodeFaults, is_found, has_kept_path, IsReadBlock, AreFindingsOf, rise, IsUnreadRevision, AreDumpFindingsOf}
-use Rattle.dump_history.proofs.survey.FindingLemmas.{none_passes}
-use Rattle.dump_history.proofs.survey.SurveyLemmas.{numbers_rise, all_read, nodes_stand}
-use Rattle.dump_survey.specs.Told.{NodeTold, told_in, present_after, IsToldOfNode, IsToldOf, AreTold}
-use Rattle.dump_survey.specs.steps.Steps.{open_behind}
-use Rattle.dump_survey.specs.SurveyTies.{is_digest_fault}
 
 -- the order of records
 

@@ -1,18 +1,6 @@
 -- The folders to make are the given ones.
-use Rattle.std.proofs.Common.{◌≡◌, ℕ, Bool, true, false, not, ◌&&◌, ◌||◌, ◌==◌, List, [], ◌∷◌, ◌++◌, map, flat_map, nat_eq, bytes_eq, reverse, if◌then◌else◌, refl, sym, ap, ap₂, ◌∙◌, arith, inl, inr, Bor, Vec, Global, Result, Ok, Err, IfOk}
-use Rattle.std.specs.List.{list_any, starts_with}
-use Rattle.std.proofs.lemmas.Bool.{eqb-true, or_cases}
-use Rattle.std.proofs.lemmas.List.{reverse-append, reverse-reverse}
-use Rattle.std.proofs.lemmas.List.Folds.{list_any-append}
-use Rattle.std.proofs.lemmas.Slice.Eq.{bytes_eq-Decides}
-use Rattle.dump_rules.specs.declared.options.Side.{Side}
-use Rattle.dump_rules.specs.declared.options.Side.TheVariants.{Include, Exclude}
-use Rattle.dump_rules.specs.Prefix.{bare_prefix, begins_path, without_leading_slashes, without_trailing_slashes}
-use Rattle.dump_rules.specs.Settings.{Settings, keeps_path, side_keeps}
-use Rattle.dump_trees.specs.Paths.{NodePath, path_text}
-use Rattle.dump_trees.specs.Restriction.{is_above_some, is_root}
-use Rattle.dump_rules.specs.declared.memory.Memory.{Memory}
-use Rattle.dump_survey.specs.Folders.{AreFoldersToMake, each_once, fronts, left_above, paths_above, with_new}
+use Rattle.dump_survey.proofs.Prelude.{◌≡◌, ℕ, Bool, true, false, not, ◌&&◌, ◌||◌, ◌==◌, List, [], ◌∷◌, ◌++◌, map, flat_map, nat_eq, bytes_eq, reverse, if◌then◌else◌, refl, sym, ap, ap₂, ◌∙◌, arith, inl, inr, Bor, Vec, Global, Result, Ok, Err, list_any, starts_with, eqb-true, or_cases, reverse-append, reverse-reverse, list_any-append, bytes_eq-Decides, Side, Include, Exclude, bare_prefix, begins_path, without_leading_slashes, without_trailing_slashes, Settings, keeps_path, side_keeps, NodePath, path_text, is_above_some, is_root, Memory, AreFoldersToMake, each_once, fronts, left_above, paths_above, with_new}
+use Rattle.std.proofs.Common.{IfOk}
 use Rattle.dump_survey.proofs.FolderLemmas.{any_pushed, left_of}
 
 -- a test of texts, each of which stands there once

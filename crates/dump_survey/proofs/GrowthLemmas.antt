@@ -1,17 +1,6 @@
 -- Prefixes that grow by what copies want.
-use Rattle.std.proofs.Common.{◌≡◌, ℕ, ◌<◌, ◌≤◌, Bool, true, false, not, ◌&&◌, ◌||◌, List, [], ◌∷◌, ◌++◌, length, filter, map, take, drop, get_or, ◌-◌, bytes_eq, nat_eq, Bor, IsTrue, cond, refl, sym, ap, ap₂, ◌∙◌, subst, inl, inr, arith, append-nil, append_assoc}
-use Rattle.std.specs.List.{list_any}
-use Rattle.std.proofs.lemmas.Bool.{or_cases, or_left, or_right, or_parts, or_from, and_parts, and_from, not-true, both_ways, false_from_ne_true}
-use Rattle.std.proofs.Math.Seq.{take-length}
-use Rattle.std.proofs.lemmas.List.Folds.{list_any-append}
-use Rattle.std.proofs.lemmas.Slice.Eq.{bytes_eq-Decides}
-use Rattle.dump_rules.specs.Prefix.{bare_prefix, bare_path, begins_path, matches_path}
-use Rattle.dump_rules.specs.steps.PrefixSearch.{BeginSame}
-use Rattle.dump_rules.proofs.PrefixLemmas.{any_mapped}
-use Rattle.dump_trees.proofs.paths.KeptPaths.{reaches, reaches_more}
-use Rattle.dump_survey.specs.declared.needs.Need.{Need}
-use Rattle.dump_survey.specs.KeepAsWell.{matches_itself, covers, uncovered, are_apart}
-use Rattle.dump_survey.specs.steps.Needs.{PathNeed, Grown, need_view, grown_prefixes, is_matched, is_unmet, AreNeeded, unmatched, each_matches_itself, IsPass}
+use Rattle.dump_survey.proofs.Prelude.{◌≡◌, ℕ, ◌<◌, ◌≤◌, Bool, true, false, not, ◌&&◌, ◌||◌, List, [], ◌∷◌, ◌++◌, length, filter, map, take, drop, get_or, ◌-◌, bytes_eq, nat_eq, Bor, IsTrue, cond, refl, sym, ap, ap₂, ◌∙◌, subst, inl, inr, arith, append-nil, append_assoc, list_any, or_cases, or_left, or_right, or_parts, or_from, and_parts, and_from, not-true, both_ways, false_from_ne_true, take-length, list_any-append, bytes_eq-Decides, bare_prefix, bare_path, begins_path, matches_path, BeginSame, any_mapped, reaches_more, Need, matches_itself, covers, uncovered, are_apart, PathNeed, Grown, need_view, grown_prefixes, is_matched, is_unmet, AreNeeded, unmatched, each_matches_itself, IsPass}
+use Rattle.dump_trees.proofs.paths.KeptPaths.{reaches}
 
 -- one prefix and another one
 

@@ -1,22 +1,5 @@
 -- The bare prefixes that no node has matched go on to one more record, and say what is told of the prefixes.
-use Rattle.std.proofs.Common.{◌≡◌, ℕ, Bool, true, false, not, ◌&&◌, ◌||◌, List, [], ◌∷◌, ◌++◌, map, Option, Some, None, option_map, bytes_eq, refl, sym, ap, ap₂, ◌∙◌, append_assoc, if◌then◌else◌}
-use Rattle.std.proofs.Math.Bool.{and-true, or-false}
-use Rattle.std.specs.List.{list_any, cons_option}
-use Rattle.std.proofs.lemmas.Bool.{or_left, or_right}
-use Rattle.std.proofs.lemmas.List.{map-append}
-use Rattle.std.proofs.lemmas.List.Folds.{list_any-append}
-use Rattle.std.proofs.lemmas.Slice.Eq.{bytes_eq-Decides}
-use Rattle.dump_records.specs.RecordText.{DumpRecord}
-use Rattle.dump_rules.specs.Prefix.{bare_prefix, bare_path, begins_path}
-use Rattle.dump_digest.specs.RecordParts.{is_node, is_copy, node_path}
-use Rattle.dump_history.specs.RecordChanges.{copy_path}
-use Rattle.dump_history.specs.Findings.{makes_copy}
-use Rattle.dump_survey.specs.declared.prefix_findings.PrefixFinding.{PrefixFinding}
-use Rattle.dump_survey.specs.declared.prefix_findings.PrefixFinding.TheVariants.{NotShort, Idle}
-use Rattle.dump_survey.specs.declared.prefix_findings.ToldPrefix.{ToldPrefix}
-use Rattle.dump_survey.specs.PrefixFindings.{PrefixTold, is_short_prefix, prefix_view, told_of_prefix, told_prefixes}
-use Rattle.dump_survey.specs.steps.Folders.{HaveSame}
-use Rattle.dump_survey.specs.steps.IdlePrefixes.{is_among, AreWithout, is_begun_by, is_below_copy, is_touched_by, AreIdle, told_by, prefixes_by}
+use Rattle.dump_survey.proofs.Prelude.{◌≡◌, ℕ, Bool, true, false, not, ◌&&◌, ◌||◌, List, [], ◌∷◌, ◌++◌, map, Option, Some, None, option_map, bytes_eq, refl, sym, ap, ap₂, ◌∙◌, append_assoc, if◌then◌else◌, and-true, or-false, list_any, cons_option, or_left, or_right, map-append, list_any-append, bytes_eq-Decides, DumpRecord, bare_prefix, bare_path, begins_path, is_node, is_copy, node_path, copy_path, makes_copy, PrefixFinding, NotShort, Idle, ToldPrefix, PrefixTold, is_short_prefix, prefix_view, told_of_prefix, told_prefixes, HaveSame, is_among, AreWithout, is_begun_by, is_below_copy, is_touched_by, AreIdle, told_by, prefixes_by}
 
 -- a set of texts, text by text
 

@@ -1,16 +1,5 @@
 -- How often each kind is told of nodes, node by node.
-use Rattle.std.proofs.Common.{◌≡◌, ◌≤◌, ℕ, ◌+◌, ◌==◌, Bool, true, false, List, [], ◌∷◌, ◌++◌, length, get_or, map, flat_map, filter, cond, refl, sym, ap, ap₂, ◌∙◌, arith}
-use Rattle.std.specs.List.{list_any}
-use Rattle.std.proofs.lemmas.Bool.{eqb-true, or_parts}
-use Rattle.dump_history.specs.Findings.{Finding, every_finding}
-use Rattle.dump_survey.specs.declared.counts.Counts.{Counts}
-use Rattle.dump_survey.specs.declared.finding.Found.{Found}
-use Rattle.dump_survey.specs.declared.told.SurveyedNode.{SurveyedNode}
-use Rattle.dump_survey.specs.Kinds.{finding_place, times_told}
-use Rattle.dump_survey.specs.Told.{NodeTold}
-use Rattle.dump_survey.specs.steps.Counts.{AreWithNode, count_in, no_counts}
-use Rattle.dump_survey.specs.steps.Found.{has_found, listed}
-use Rattle.dump_survey.specs.steps.Surveyed.{told_of_node}
+use Rattle.dump_survey.proofs.Prelude.{◌≡◌, ◌≤◌, ℕ, ◌+◌, ◌==◌, Bool, true, false, List, [], ◌∷◌, ◌++◌, length, get_or, map, flat_map, filter, cond, refl, sym, ap, ap₂, ◌∙◌, arith, list_any, eqb-true, or_parts, Finding, every_finding, Counts, Found, SurveyedNode, finding_place, times_told, NodeTold, AreWithNode, count_in, no_counts, has_found, listed, told_of_node}
 
 -- a finding is known by its place
 at_place : (f : Finding) → get_or every_finding (finding_place f) Finding.UnreadBlock ≡ f

@@ -1,21 +1,7 @@
 -- Texts that are taken out of a set: those that begin a path are its parts before a slash, the path, and the empty one.
-use Rattle.std.proofs.Common.{◌≡◌, ◌≢◌, ℕ, ◌+◌, ◌<◌, ◌≤◌, Bool, true, false, not, ◌&&◌, ◌||◌, List, [], ◌∷◌, take, length, get_or, map, nat_lt, bytes_eq, cond, filter, refl, sym, ap, ap₂, ◌∙◌, inl, inr, arith}
-use Rattle.std.proofs.Math.Bool.{and-false, and-true, or-false}
-use Rattle.std.specs.List.{list_any}
-use Rattle.std.specs.BTreeMap.{is_at}
-use Rattle.std.specs.Set.{remove_key}
-use Rattle.std.specs.Cmp.Lexicographic.{slice_cmp}
-use Rattle.std.specs.Ordering.{nat_cmp}
-use Rattle.std.proofs.lemmas.Bool.{or_cases, or_parts, both_ways, false_from_ne_true}
-use Rattle.std.proofs.lemmas.Bool.Decides.{nat_tests}
-use Rattle.std.proofs.lemmas.Map.Text.{is_eq-slice_cmp}
-use Rattle.std.proofs.lemmas.Slice.Eq.{bytes_eq-Decides}
+use Rattle.dump_survey.proofs.Prelude.{◌≡◌, ◌≢◌, ℕ, ◌+◌, ◌<◌, ◌≤◌, Bool, true, false, not, ◌&&◌, ◌||◌, List, [], ◌∷◌, take, length, get_or, map, bytes_eq, cond, filter, refl, sym, ap, ap₂, ◌∙◌, inl, inr, arith, and-false, and-true, or-false, list_any, is_at, remove_key, slice_cmp, nat_cmp, or_cases, or_parts, both_ways, false_from_ne_true, nat_tests, is_eq-slice_cmp, bytes_eq-Decides, first_true, begins_path, AreWithin, any_found, cut_begins, none_begins, whole_begins, is_among, AreWithout}
+use Rattle.std.proofs.Common.{nat_lt}
 use borrow.Author.Count.{below_more}
-use Rattle.dump_text.proofs.BoolLemmas.{first_true}
-use Rattle.dump_rules.specs.Prefix.{begins_path}
-use Rattle.dump_rules.specs.steps.PrefixSearch.{AreWithin}
-use Rattle.dump_rules.proofs.BarePrefixLemmas.{any_found, cut_begins, none_begins, whole_begins}
-use Rattle.dump_survey.specs.steps.IdlePrefixes.{is_among, AreWithout}
 
 -- a text that is removed from the keys of a set
 

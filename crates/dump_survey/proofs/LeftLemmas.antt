@@ -1,21 +1,5 @@
 -- Record by record it is told whether a kept node names a revision behind a dropped one.
-use Rattle.std.proofs.Common.{◌≡◌, ◌↔◌, Bool, true, false, IsTrue, not, ◌&&◌, ◌||◌, ◌==◌, List, [], ◌∷◌, ◌++◌, length, Option, Some, None, is_some, if◌then◌else◌, refl, sym, ap, ap₂, ◌∙◌}
-use Rattle.std.proofs.Math.Bool.{and-true, or-false, or_assoc}
-use Rattle.std.specs.List.{list_all, list_any}
-use Rattle.std.proofs.lemmas.Bool.{and_parts}
-use Rattle.dump_records.specs.RecordText.{DumpRecord}
-use Rattle.dump_rules.specs.Settings.{Settings, keeps_path}
-use Rattle.dump_digest.specs.RecordParts.{is_revision_record, is_node, is_kept_node, node_path}
-use Rattle.dump_filter.specs.Groups.{Group, group_of, groups, keeps_group, keeps_empty}
-use Rattle.dump_history.specs.Findings.{every_dump_finding, copies_from_before, is_found_in_dump, HasUnreadRevision, AreDumpFindingsOf}
-use Rattle.dump_history.specs.NumberGaps.{NamesRevision}
-use Rattle.dump_history.specs.steps.NamingTests.{TellsNaming, nodes_name, groups_name, groups_name_behind}
-use Rattle.dump_history.proofs.survey.FindingLemmas.{same_truth}
-use Rattle.dump_history.proofs.survey.NamingTest.{names_test, test_tells, behind_told}
-use Rattle.dump_survey.specs.declared.tally.Present.{Present}
-use Rattle.dump_survey.specs.declared.tally.Tally.{Tally}
-use Rattle.dump_survey.specs.steps.Naming.{is_behind_dropped, leaves_number, leave_number, LeaveNumber}
-use Rattle.dump_survey.specs.steps.Tally.{no_tally, keeps_present, revision_tally, node_tally, other_tally, next_tally, tally_behind, is_tallied, tally_findings}
+use Rattle.dump_survey.proofs.Prelude.{◌≡◌, ◌↔◌, Bool, true, false, IsTrue, not, ◌&&◌, ◌||◌, ◌==◌, List, [], ◌∷◌, ◌++◌, length, Option, Some, None, is_some, if◌then◌else◌, refl, sym, ap, ap₂, ◌∙◌, and-true, or-false, or_assoc, list_all, list_any, and_parts, DumpRecord, Settings, keeps_path, is_revision_record, is_node, is_kept_node, node_path, Group, group_of, groups, keeps_group, keeps_empty, every_dump_finding, copies_from_before, is_found_in_dump, HasUnreadRevision, AreDumpFindingsOf, NamesRevision, TellsNaming, nodes_name, groups_name, groups_name_behind, same_truth, names_test, test_tells, behind_told, Present, Tally, is_behind_dropped, leaves_number, leave_number, LeaveNumber, no_tally, keeps_present, revision_tally, node_tally, other_tally, next_tally, tally_behind, is_tallied, tally_findings}
 use Rattle.dump_survey.proofs.TallyLemmas.{is_single, filter_same, closes, closes_none, some_left, nodes, nodes_more, nodes_none, each_tallied}
 
 none_of : (a b : Bool) → (a && (b && false)) ≡ false

@@ -1,31 +1,7 @@
 -- How many lines of mergeinfo are left out, of a value, of properties and of records: no more than these have bytes.
-use Rattle.std.proofs.Common.{◌≡◌, ◌≢◌, ◌↔◌, ℕ, ◌+◌, ◌-◌, ◌<◌, ◌≤◌, Bool, true, false, not, ◌==◌, List, [], ◌∷◌, ◌++◌, length, length-append, map, take, drop, filter, get_or, bytes_eq, codes, sum, sum_by, count_by, cond, Option, Some, None, IsSome, is_some, unwrap_or, MatchBool, refl, sym, ap, ap₂, ◌∙◌, subst, arith, inl, inr, zero-add}
-use Rattle.std.specs.List.{AllZip, slice_split}
-use Rattle.std.proofs.lemmas.Bool.Decides.{eqb_tells}
-use Rattle.std.proofs.lemmas.List.{length-take}
-use Rattle.std.proofs.lemmas.List.Splits.{length-slice_split}
-use Rattle.std.proofs.lemmas.List.Sums.{suffix_len_is, sum_by-cons, sum_by_push, sum-map, count_by-le-length}
-use Rattle.dump_text.specs.PropertyList.{Property, sized_text, IsEntry, AreEntries, IsPropertyBlock}
-use Rattle.dump_text.specs.declared.props.Props.{Props}
-use Rattle.dump_text.specs.steps.PropertyViews.{props_bytes}
-use Rattle.dump_text.specs.HeaderBlock.{block_text}
-use Rattle.dump_records.specs.RecordText.{DumpRecord, record_text}
-use Rattle.dump_records.specs.declared.record.Record.{Record}
+use Rattle.dump_survey.proofs.Prelude.{◌≡◌, ◌≢◌, ◌↔◌, ℕ, ◌+◌, ◌-◌, ◌<◌, ◌≤◌, Bool, true, false, not, ◌==◌, List, [], ◌∷◌, ◌++◌, length, length-append, map, take, drop, filter, get_or, bytes_eq, codes, sum, sum_by, count_by, cond, Option, Some, None, IsSome, is_some, MatchBool, refl, sym, ap, ap₂, ◌∙◌, subst, arith, inl, inr, zero-add, AllZip, slice_split, eqb_tells, length-take, length-slice_split, suffix_len_is, sum_by-cons, sum_by_push, sum-map, count_by-le-length, Property, sized_text, IsEntry, AreEntries, IsPropertyBlock, Props, props_bytes, block_text, DumpRecord, record_text, Record, Ending, line_feeds, IsCutInto, BeginsWithRecords, CutterState, EndsAfter, record_item, CutStep, whole_list, Settings, keeps_path, MergeLine, IsMergeLine, IsMergeinfo, HasMergeLines, colon_end, value_reads, without_lf, line_path, line_misses, text_lines, reads_exactly, line_parts, texts_are, is_kept_node, is_mergeinfo, value_of, HasPropertyBlock, leaving_lines, AreLeftOutOfValue, AddUpTo, mergeinfo_values, AreLeftOutOfProperties, AreLeftOutOf, AreLeftOutOfRecords, text_lines_count, value_count, property_count, properties_count}
+use Rattle.std.proofs.Common.{unwrap_or}
 use Rattle.dump_records.specs.declared.cutter.Cut.TheVariants as cuts
-use Rattle.dump_records.specs.DumpText.{Ending, line_feeds, IsCutInto, BeginsWithRecords}
-use Rattle.dump_records.specs.steps.CutterState.{CutterState}
-use Rattle.dump_records.specs.steps.CutRecords.{EndsAfter}
-use Rattle.dump_records.specs.steps.RecordViews.{record_item, CutStep}
-use Rattle.dump_records.proofs.Prefixes.{whole_list}
-use Rattle.dump_rules.specs.Settings.{Settings, keeps_path}
-use Rattle.dump_rules.specs.Mergeinfo.{MergeLine, IsMergeLine, IsMergeinfo, HasMergeLines}
-use Rattle.dump_rules.specs.steps.ReadMergeinfo.{colon_end, value_reads, without_lf}
-use Rattle.dump_rules.specs.steps.RewrittenLines.{line_path, line_misses, text_lines}
-use Rattle.dump_rules.proofs.reading.MergeinfoLemmas.{reads_exactly}
-use Rattle.dump_rules.proofs.new_values.ValueLemmas.{line_parts, texts_are}
-use Rattle.dump_digest.specs.RecordParts.{is_kept_node, is_mergeinfo, value_of, HasPropertyBlock}
-use Rattle.dump_survey.specs.LeftOutMergeinfo.{leaving_lines, AreLeftOutOfValue, AddUpTo, mergeinfo_values, AreLeftOutOfProperties, AreLeftOutOf, AreLeftOutOfRecords}
-use Rattle.dump_survey.specs.steps.LeftOutCounts.{text_lines_count, value_count, property_count, properties_count}
 use Rattle.dump_survey.proofs.SurveyorLemmas.{begins_next, begins_with_none, nearer_by_one}
 
 -- the path of a line

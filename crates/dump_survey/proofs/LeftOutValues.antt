@@ -1,19 +1,8 @@
 -- Worked values of the lines of mergeinfo that are left out, computed and proved by the kernel; and that each dump has one
 -- number of them.
-use Rattle.std.proofs.Common.{◌≡◌, ℕ, Bool, true, false, List, [], ◌∷◌, Some, None, MatchBool, refl, ap, ◌∙◌, inl, inr, codes, sum_by}
+use Rattle.dump_survey.proofs.Prelude.{◌≡◌, ℕ, Bool, true, false, List, [], ◌∷◌, Some, None, MatchBool, refl, ap, ◌∙◌, inl, inr, codes, sum_by, Property, DumpRecord, each_dump_has_one_list, Include, Pad, Settings, is_kept_node, HasPropertyBlock, HasPropertyList, property_list_once, block_or_not, other, AreLeftOutOfValue, AddUpTo, mergeinfo_values, AreLeftOutOfProperties, AreLeftOutOf, AreLeftOutIn, AreLeftOutOfRecords, properties_count}
 use Rattle.std.specs.Fmt.{digits}
-use Rattle.dump_text.specs.PropertyList.{Property}
-use Rattle.dump_records.specs.RecordText.{DumpRecord}
-use Rattle.dump_records.proofs.ListLaw.{each_dump_has_one_list}
-use Rattle.dump_rules.specs.declared.options.Side.TheVariants.{Include}
-use Rattle.dump_rules.specs.declared.options.Empty.TheVariants.{Pad}
-use Rattle.dump_rules.specs.Settings.{Settings}
-use Rattle.dump_digest.specs.RecordParts.{is_kept_node, HasPropertyBlock, HasPropertyList}
-use Rattle.dump_digest.proofs.PropertyBlocks.{property_list_once, block_or_not}
-use Rattle.dump_history.proofs.values.WorkedDump.{other}
 use Rattle.dump_survey.specs.LeftOutLine.{left_out_line}
-use Rattle.dump_survey.specs.LeftOutMergeinfo.{AreLeftOutOfValue, AddUpTo, mergeinfo_values, AreLeftOutOfProperties, AreLeftOutOf, AreLeftOutIn, AreLeftOutOfRecords}
-use Rattle.dump_survey.specs.steps.LeftOutCounts.{properties_count}
 use Rattle.dump_survey.proofs.LeftOutLemmas.{adds_up, adds_once, value_is, properties_are, properties_once}
 
 abbrev call : Bool → Settings

@@ -1,3 +1,4 @@
+mod Prelude
 pub mod ActionLemmas
 pub mod CutLemmas
 mod CutValues

@@ -1,13 +1,6 @@
 -- The lines of what is found, one behind the other.
-use Rattle.std.proofs.Common.{◌≡◌, ℕ, Bool, true, false, List, [], ◌∷◌, ◌++◌, flat_map, filter, map, cond, refl, sym, ap, ◌∙◌, append-nil, append_assoc, Result, Ok, Err}
-use Rattle.std.specs.List.{concat}
-use Rattle.std.specs.Result.{OnOk}
-use Rattle.dump_history.specs.Findings.{DumpFinding, every_dump_finding}
-use Rattle.dump_survey.specs.declared.surveyor.SurveyEnd.{SurveyEnd}
-use Rattle.dump_survey.specs.declared.tally.DumpFindings.{DumpFindings}
-use Rattle.dump_survey.specs.DumpFindings.{has_dump_finding, listed_findings}
-use Rattle.dump_survey.specs.DumpTold.{place_in, told_at_end}
-use Rattle.dump_survey.specs.Lines.{at_words, dump_words, dump_line}
+use Rattle.dump_survey.proofs.Prelude.{◌≡◌, ℕ, Bool, true, false, List, [], ◌∷◌, ◌++◌, flat_map, filter, map, cond, refl, sym, ap, ◌∙◌, append-nil, append_assoc, Result, Ok, Err, concat, OnOk, DumpFinding, every_dump_finding, SurveyEnd, DumpFindings, has_dump_finding, listed_findings, place_in, told_at_end, dump_line}
+use Rattle.dump_survey.specs.Lines.{at_words, dump_words}
 
 -- the lines of those that pass the test, each where it passes
 lines_of_those : {F : Type 0} (test : F → Bool) (line : F → List ℕ) (fs : List F)

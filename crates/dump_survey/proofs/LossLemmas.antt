@@ -1,16 +1,5 @@
 -- What the filter's cut does to a node, by what the node is.
-use Rattle.std.proofs.Common.{◌≡◌, true, false, not, ◌&&◌, None, refl}
-use Rattle.std.proofs.Math.Bool.{and-false, and-true}
-use Rattle.dump_text.specs.Names.{property_length_name}
-use Rattle.dump_text.specs.HeaderLine.{has_header}
-use Rattle.dump_records.specs.RecordText.{DumpRecord}
-use Rattle.dump_rules.specs.Settings.{Settings}
-use Rattle.dump_digest.specs.RecordParts.{is_copy}
-use Rattle.dump_filter.specs.NewHeaders.{is_whole_file}
-use Rattle.dump_history.specs.RecordChanges.{makes}
-use Rattle.dump_history.specs.Findings.{has_kept_path, has_kept_source, is_exclude}
-use Rattle.dump_survey.specs.declared.finding.Losses.{Losses}
-use Rattle.dump_survey.specs.steps.Losses.{AreLossesOf}
+use Rattle.dump_survey.proofs.Prelude.{◌≡◌, true, false, not, ◌&&◌, None, refl, and-false, and-true, property_length_name, has_header, DumpRecord, Settings, is_copy, is_whole_file, makes, has_kept_path, has_kept_source, is_exclude, Losses, AreLossesOf}
 
 -- nothing is found
 abbrev pub no_losses : Losses

@@ -1,12 +1,5 @@
 -- Whether mergeinfo stands among properties, one by one.
-use Rattle.std.proofs.Common.{◌≡◌, ◌↔◌, ℕ, Bool, true, false, IsTrue, ◌||◌, List, ◌∷◌, sym, ap, ◌∙◌, subst}
-use Rattle.std.specs.List.{list_any}
-use Rattle.dump_text.specs.PropertyList.{Property, IsPropertyBlock}
-use Rattle.dump_text.specs.declared.props.Props.{Props}
-use Rattle.dump_text.specs.steps.PropertyViews.{props_bytes}
-use Rattle.dump_records.specs.RecordText.{DumpRecord}
-use Rattle.dump_digest.specs.RecordParts.{is_mergeinfo, HasPropertyBlock}
-use Rattle.dump_history.specs.NumberGaps.{SetsMergeinfo}
+use Rattle.dump_survey.proofs.Prelude.{◌≡◌, ◌↔◌, ℕ, Bool, true, false, IsTrue, ◌||◌, List, ◌∷◌, sym, ap, ◌∙◌, subst, list_any, Property, IsPropertyBlock, Props, props_bytes, DumpRecord, is_mergeinfo, HasPropertyBlock, SetsMergeinfo}
 
 pub merge_stops : (ps qs : List Property) (p : Property) → ps ≡ p ∷ qs → is_mergeinfo p ≡ true
     → list_any is_mergeinfo ps ≡ true

@@ -1,12 +1,7 @@
 -- The names of a path, read byte by byte.
-use Rattle.std.proofs.Common.{◌≡◌, ℕ, suc, Bool, true, false, not, ◌&&◌, ◌==◌, List, [], ◌∷◌, length, nat_lt, bytes_eq, cond, if◌then◌else◌, refl, sym, ap, ◌∙◌, arith}
-use Rattle.std.specs.List.{list_all, onto_first}
-use Rattle.dump_trees.specs.Paths.{path_text, is_short, names_of}
-use Rattle.dump_rules.specs.Prefix.{bare_path}
-use Rattle.dump_trees.proofs.paths.PathNames.{split, split_text}
-use Rattle.dump_survey.specs.declared.short_paths.Name.{Name}
-use Rattle.dump_survey.specs.declared.short_paths.Name.TheVariants.{Empty, Dot, Other}
-use Rattle.dump_survey.specs.steps.Names.{name_with, is_whole, are_short_from}
+use Rattle.dump_survey.proofs.Prelude.{◌≡◌, ℕ, suc, Bool, true, false, not, ◌&&◌, ◌==◌, List, [], ◌∷◌, length, bytes_eq, cond, if◌then◌else◌, refl, sym, ap, ◌∙◌, arith, list_all, onto_first, path_text, is_short, names_of, bare_path, split, split_text, Name, Dot, name_with, is_whole, are_short_from}
+use Rattle.std.proofs.Common.{nat_lt}
+use Rattle.dump_survey.specs.declared.short_paths.Name.TheVariants.{Empty, Other}
 
 -- whether a name is neither empty nor a dot
 abbrev is_good : List ℕ → Bool

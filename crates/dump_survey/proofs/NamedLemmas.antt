@@ -1,15 +1,5 @@
 -- With each copy that is told to be cut otherwise than its source a prefix is told, and with nothing else.
-use Rattle.std.proofs.Common.{◌≡◌, ℕ, Bool, true, false, ◌&&◌, List, [], ◌∷◌, ◌++◌, length, map, filter, cond, Option, Some, None, is_some, MatchBool, refl, sym, ap, ap₂, ◌∙◌}
-use Rattle.std.proofs.lemmas.List.{map-append}
-use Rattle.dump_text.specs.PropertyList.{Property}
-use Rattle.dump_records.specs.RecordText.{DumpRecord}
-use Rattle.dump_rules.specs.Settings.{Settings}
-use Rattle.dump_digest.specs.RecordParts.{is_node, node_path}
-use Rattle.dump_history.specs.RecordChanges.{copy_path}
-use Rattle.dump_history.specs.Findings.{Finding, NodeFaults, cuts, every_finding, has_kept_path, has_kept_source, is_found, makes_copy}
-use Rattle.dump_survey.specs.CuttingPrefix.{cutting_prefix}
-use Rattle.dump_survey.specs.SurveyTies.{tells_cut, EachCutNamesPrefix}
-use Rattle.dump_survey.specs.Told.{NodeTold, told_in, present_after, IsToldOfNode, IsToldOf, AreTold}
+use Rattle.dump_survey.proofs.Prelude.{◌≡◌, ℕ, Bool, true, false, ◌&&◌, List, [], ◌∷◌, ◌++◌, length, map, filter, cond, Option, Some, None, is_some, MatchBool, refl, sym, ap, ap₂, ◌∙◌, map-append, Property, DumpRecord, Settings, is_node, node_path, copy_path, Finding, NodeFaults, cuts, every_finding, has_kept_path, has_kept_source, is_found, makes_copy, cutting_prefix, tells_cut, EachCutNamesPrefix, NodeTold, told_in, present_after, IsToldOfNode, IsToldOf, AreTold}
 use Rattle.dump_survey.proofs.CutLemmas.{cut_there}
 
 -- for each whether a prefix is told, and whether the finding wants one

@@ -1,35 +1,8 @@
 -- What copies need, record by record, and what is to be kept as well.
-use Rattle.std.proofs.Common.{◌≡◌, ℕ, ◌+◌, ◌-◌, ◌≤◌, ◌<◌, Bool, true, false, not, ◌&&◌, ◌||◌, List, [], ◌∷◌, ◌++◌, length, length-append, map, take, get_or, reverse, Option, Some, None, option_map, unwrap_or, bytes_eq, Bor, Vec, Global, Result, Ok, Err, cond, refl, sym, ap, ap₂, ◌∙◌, subst, arith, append-nil, append_assoc}
+use Rattle.dump_survey.proofs.Prelude.{◌≡◌, ℕ, ◌+◌, ◌-◌, ◌≤◌, ◌<◌, Bool, true, false, not, ◌&&◌, ◌||◌, List, [], ◌∷◌, ◌++◌, length, length-append, map, take, get_or, reverse, Option, Some, None, option_map, bytes_eq, Bor, Vec, Global, Result, Ok, Err, cond, refl, sym, ap, ap₂, ◌∙◌, subst, arith, append-nil, append_assoc, list_any, filter_map, cons_option, IsPermutation, list_any-IsPermutation, any_mapped, or_from, and_parts, and_from, take-length, map-append, take_more, reverse-append, reverse-reverse, list_any-append, filter_map-append, Record, DumpRecord, Ending, BeginsWithRecords, HasRecords, CutterState, EndsAfter, record_item, CutStep, whole_list, bare_prefix, bare_path, begins_path, matches_path, BeginSame, Side, Include, Exclude, Settings, side_keeps, is_node, is_copy, node_path, is_whole_file, copy_path, Memory, Need, with_prefixes, stops_at, wanted_path, matches_itself, is_wanted, AreWanted, covers, uncovered, are_apart, stops_somewhere, AreKeptAsWell, AreKeptAsWellIn, PathNeed, need_view, need_of, needs_of, can_not_stand, copy_need, is_matched, is_unmet, AreNeeded, each_matches_itself}
+use Rattle.std.proofs.Common.{unwrap_or}
 use Rattle.std.specs.Result.{IfOk}
-use Rattle.std.specs.List.{list_any, filter_map, cons_option}
-use Rattle.std.specs.List.Sorted.{IsPermutation}
-use Rattle.std.proofs.lemmas.List.Sorted.{list_any-IsPermutation}
-use Rattle.dump_rules.proofs.PrefixLemmas.{any_mapped}
-use Rattle.std.proofs.lemmas.Bool.{or_from, and_parts, and_from}
-use Rattle.std.proofs.Math.Seq.{take-length}
-use Rattle.std.proofs.lemmas.List.{map-append, take_more, reverse-append, reverse-reverse}
-use Rattle.std.proofs.lemmas.List.Folds.{list_any-append}
-use Rattle.std.proofs.lemmas.List.Elements.{filter_map-append}
-use Rattle.dump_records.specs.declared.record.Record.{Record}
 use Rattle.dump_records.specs.declared.cutter.Cut.TheVariants as cuts
-use Rattle.dump_records.specs.RecordText.{DumpRecord}
-use Rattle.dump_records.specs.DumpText.{Ending, BeginsWithRecords, HasRecords}
-use Rattle.dump_records.specs.steps.CutterState.{CutterState}
-use Rattle.dump_records.specs.steps.CutRecords.{EndsAfter}
-use Rattle.dump_records.specs.steps.RecordViews.{record_item, CutStep}
-use Rattle.dump_records.proofs.Prefixes.{whole_list}
-use Rattle.dump_rules.specs.Prefix.{bare_prefix, bare_path, begins_path, matches_path}
-use Rattle.dump_rules.specs.steps.PrefixSearch.{BeginSame}
-use Rattle.dump_rules.specs.declared.options.Side.{Side}
-use Rattle.dump_rules.specs.declared.options.Side.TheVariants.{Include, Exclude}
-use Rattle.dump_rules.specs.Settings.{Settings, side_keeps}
-use Rattle.dump_digest.specs.RecordParts.{is_node, is_copy, node_path}
-use Rattle.dump_filter.specs.NewHeaders.{is_whole_file}
-use Rattle.dump_history.specs.RecordChanges.{copy_path}
-use Rattle.dump_rules.specs.declared.memory.Memory.{Memory}
-use Rattle.dump_survey.specs.declared.needs.Need.{Need}
-use Rattle.dump_survey.specs.KeepAsWell.{with_prefixes, stops_at, wanted_path, matches_itself, is_wanted, AreWanted, covers, uncovered, are_apart, stops_somewhere, AreKeptAsWell, AreKeptAsWellIn}
-use Rattle.dump_survey.specs.steps.Needs.{PathNeed, need_view, need_of, needs_of, can_not_stand, copy_need, is_matched, is_unmet, AreNeeded, each_matches_itself}
 use Rattle.dump_survey.proofs.GrowthLemmas.{any_both, needs_path, uncovered_same, uncovered_apart}
 use Rattle.dump_survey.proofs.SurveyorLemmas.{begins_next, begins_with_none, nearer_by_one}
 

@@ -1,20 +1,7 @@
 -- The numbers that the tally knows are those that a kept node is held against.
-use Rattle.std.proofs.Common.{◌≡◌, ℕ, ◌==◌, Bool, true, false, not, ◌&&◌, ◌||◌, List, [], ◌∷◌, ◌++◌, length, filter, map, Option, Some, None, if◌then◌else◌, cond, refl, sym, ap, ap₂, ◌∙◌, arith}
-use Rattle.std.specs.Prelude.{nat_le, unwrap_or}
-use Rattle.std.specs.List.{list_all, list_any, last_or}
-use Rattle.std.proofs.Math.Bool.{or-false, or_assoc}
-use Rattle.std.proofs.lemmas.Bool.{and_parts}
-use Rattle.dump_records.specs.RecordText.{DumpRecord}
-use Rattle.dump_rules.specs.Settings.{Settings}
-use Rattle.dump_digest.specs.RecordParts.{is_revision_record, is_node, is_kept_node}
-use Rattle.dump_filter.specs.Groups.{Group, group_of, groups, group_number, revision_number, revision_numbers, keeps_group, keeps_empty, kept_revisions}
-use Rattle.dump_filter.specs.RecordFaults.{present_number}
-use Rattle.dump_history.specs.Findings.{begins_at, copies_from_before}
-use Rattle.dump_history.specs.steps.NodeReading.{has_up_to}
-use Rattle.dump_survey.specs.declared.tally.Present.{Present}
-use Rattle.dump_survey.specs.declared.tally.Tally.{Tally}
-use Rattle.dump_survey.specs.steps.RevisionNumbers.{is_up_to, reaches, AreNumbersBehind}
-use Rattle.dump_survey.specs.steps.Tally.{no_tally, keeps_open, lesser, least_behind, numbers_of, revision_tally, node_tally, other_tally, tally_behind}
+use Rattle.dump_survey.proofs.Prelude.{◌≡◌, ℕ, ◌==◌, Bool, true, false, not, ◌&&◌, ◌||◌, List, [], ◌∷◌, ◌++◌, length, filter, map, Option, Some, None, if◌then◌else◌, cond, refl, sym, ap, ap₂, ◌∙◌, arith, nat_le, list_all, list_any, last_or, or-false, or_assoc, and_parts, DumpRecord, Settings, is_revision_record, is_node, is_kept_node, Group, group_of, groups, group_number, revision_number, revision_numbers, keeps_group, keeps_empty, kept_revisions, present_number, begins_at, copies_from_before, has_up_to, Present, Tally, is_up_to, AreNumbersBehind, no_tally, keeps_open, lesser, least_behind, numbers_of, revision_tally, node_tally, other_tally, tally_behind}
+use Rattle.std.specs.Prelude.{unwrap_or}
+use Rattle.dump_survey.specs.steps.RevisionNumbers.{reaches}
 use Rattle.dump_survey.proofs.TallyLemmas.{nodes, nodes_more, nodes_none, is_single, closes, closes_none, some_left, tally_more, begins_at_is, node_begins}
 use Rattle.dump_survey.proofs.TallyLemmas.{present_number as open_number}
 

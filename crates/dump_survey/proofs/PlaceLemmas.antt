@@ -1,20 +1,5 @@
 -- The records with which the findings of a dump as a whole come up.
-use Rattle.std.proofs.Common.{◌≡◌, ◌⊎◌, ℕ, ◌<◌, ◌==◌, Bool, true, false, not, ◌&&◌, ◌||◌, List, [], ◌∷◌, ◌++◌, length, get_or, map, filter, cond, Contains, Option, Some, None, MatchBool, refl, sym, ap, ap₂, ◌∙◌, subst, inl, inr, append-nil, append_assoc, arith}
-use Rattle.std.specs.List.{AllZip, list_any}
-use Rattle.std.proofs.lemmas.Bool.{both_ways, eqb-true, false_from_ne_true}
-use Rattle.std.proofs.lemmas.List.Folds.{list_any_at}
-use Rattle.dump_records.specs.RecordText.{DumpRecord}
-use Rattle.dump_rules.specs.Settings.{Settings}
-use Rattle.dump_rules.proofs.faults.FaultLemmas.{found, finds}
-use Rattle.dump_history.specs.Findings.{DumpFinding, every_dump_finding, HasUnreadRevision, AreDumpFindingsOf}
-use Rattle.dump_history.proofs.survey.NamingTest.{dump_findings_once}
-use Rattle.dump_survey.specs.declared.places.DumpPlaces.{DumpPlaces}
-use Rattle.dump_survey.specs.declared.places.Place.{Place}
-use Rattle.dump_survey.specs.declared.surveyor.SurveyEnd.{SurveyEnd}
-use Rattle.dump_survey.specs.declared.tally.DumpFindings.{DumpFindings}
-use Rattle.dump_survey.specs.DumpFindings.{has_dump_finding, listed_findings}
-use Rattle.dump_survey.specs.DumpTold.{DumpTold, place_in, told_at_end, IsDumpFinding, comes_up, IsNeverFound, ComesUpAt, CameUp, ArePlaces, IsDumpTold, AreDumpTold}
-use Rattle.dump_survey.specs.steps.Places.{no_places, first_place, AreNextPlaces}
+use Rattle.dump_survey.proofs.Prelude.{◌≡◌, ◌⊎◌, ℕ, ◌<◌, ◌==◌, Bool, true, false, not, ◌&&◌, ◌||◌, List, [], ◌∷◌, ◌++◌, length, get_or, map, filter, cond, Contains, Option, Some, None, MatchBool, refl, sym, ap, ap₂, ◌∙◌, subst, inl, inr, append-nil, append_assoc, arith, AllZip, list_any, both_ways, eqb-true, false_from_ne_true, list_any_at, DumpRecord, Settings, found, finds, DumpFinding, every_dump_finding, HasUnreadRevision, AreDumpFindingsOf, dump_findings_once, DumpPlaces, Place, SurveyEnd, DumpFindings, has_dump_finding, listed_findings, DumpTold, place_in, told_at_end, IsDumpFinding, comes_up, IsNeverFound, ComesUpAt, CameUp, ArePlaces, IsDumpTold, AreDumpTold, no_places, first_place, AreNextPlaces}
 
 -- the place of a finding among all of them
 abbrev place_among : DumpFinding → ℕ

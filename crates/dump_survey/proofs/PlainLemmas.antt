@@ -1,12 +1,5 @@
 -- The names of properties, one after another, and the lines of a block.
-use Rattle.std.proofs.Common.{◌≡◌, Bool, true, false, not, ◌&&◌, ◌||◌, ◌==◌, List, [], ◌∷◌, ◌++◌, codes, refl, sym, ap, ◌∙◌}
-use Rattle.std.specs.List.{list_all}
-use Rattle.std.proofs.Math.Bool.{or-false}
-use Rattle.std.proofs.lemmas.List.Folds.{list_any-append}
-use Rattle.dump_text.specs.HeaderLine.{Header, has_byte, header_text}
-use Rattle.dump_text.specs.HeaderBlock.{lines_bytes, block_text}
-use Rattle.dump_text.specs.PropertyList.{Property}
-use Rattle.dump_history.specs.RecordChanges.{is_plain_line}
+use Rattle.dump_survey.proofs.Prelude.{◌≡◌, Bool, true, false, not, ◌&&◌, ◌||◌, ◌==◌, List, [], ◌∷◌, ◌++◌, codes, refl, sym, ap, ◌∙◌, list_all, or-false, list_any-append, Header, has_byte, header_text, lines_bytes, block_text, Property, is_plain_line}
 
 -- whether no name has a zero byte
 abbrev pub are_plain : List Property → Bool

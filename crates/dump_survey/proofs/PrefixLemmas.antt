@@ -1,17 +1,8 @@
 -- Bare prefixes below paths as texts.
-use Rattle.std.proofs.Common.{◌≡◌, ℕ, ◌+◌, Bool, true, false, not, ◌&&◌, ◌||◌, ◌==◌, List, [], ◌∷◌, ◌++◌, length, drop, map, nat_eq, if◌then◌else◌, Option, Some, None, MatchOption, Bor, option_copied, is_some, bytes_eq, refl, sym, ap, ◌∙◌, arith, append_assoc, append-nil, get_or, nat_lt}
-use Rattle.std.proofs.lemmas.List.{map-append, drop_more, drop_all}
-use Rattle.std.proofs.lemmas.Option.{slice_get_within, get_or_from_slice_get, slice_get-get_or, none-some}
-use Rattle.std.proofs.lemmas.Bool.{or_from, or_right}
+use Rattle.dump_survey.proofs.Prelude.{◌≡◌, ℕ, ◌+◌, Bool, true, false, not, ◌&&◌, ◌||◌, ◌==◌, List, [], ◌∷◌, ◌++◌, length, drop, map, nat_eq, if◌then◌else◌, Option, Some, None, MatchOption, Bor, option_copied, is_some, bytes_eq, refl, sym, ap, ◌∙◌, arith, append_assoc, append-nil, get_or, map-append, drop_more, drop_all, slice_get_within, get_or_from_slice_get, slice_get-get_or, none-some, or_from, or_right, starts_with, list_any, list_all, bare_path, bare_prefix, begins_path, Include, Settings, is_above_some, path_of, path_text, names_of, split_text, behind_slash, is_below, IsRestBelow}
+use Rattle.std.proofs.Common.{nat_lt}
 use borrow.Author.Tests.{ltb-true, ltb-false}
-use Rattle.std.specs.List.{starts_with, list_any, list_all, slice_get}
-use Rattle.dump_rules.specs.Prefix.{bare_path, bare_prefix, begins_path}
-use Rattle.dump_rules.specs.declared.options.Side.TheVariants.{Include}
-use Rattle.dump_rules.specs.Settings.{Settings}
-use Rattle.dump_trees.specs.Restriction.{is_above_some}
-use Rattle.dump_trees.specs.Paths.{path_of, path_text, names_of}
-use Rattle.dump_trees.proofs.paths.PathNames.{split_text}
-use Rattle.dump_survey.specs.steps.Prefixes.{behind_slash, is_below, IsRestBelow}
+use Rattle.std.specs.List.{slice_get}
 
 eq_sym : (a b : ℕ) → nat_eq a b ≡ nat_eq b a
 eq_sym a b = grind arith

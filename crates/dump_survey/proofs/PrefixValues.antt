@@ -1,9 +1,6 @@
 -- Worked values of what is found in prefixes, computed and proved by the kernel.
-use Rattle.std.proofs.Common.{◌≡◌, ℕ, List, [], ◌∷◌, Some, None, refl, codes}
-use Rattle.dump_records.specs.RecordText.{DumpRecord}
-use Rattle.dump_survey.specs.declared.prefix_findings.PrefixFinding.TheVariants.{NotShort, Idle}
-use Rattle.dump_survey.specs.PrefixFindings.{prefix_finding, told_prefixes}
-use Rattle.dump_history.proofs.values.WorkedDump.{line, record_at, records, version, zero, one}
+use Rattle.dump_survey.proofs.Prelude.{◌≡◌, ℕ, List, [], ◌∷◌, Some, None, refl, codes, DumpRecord, NotShort, Idle, prefix_finding, told_prefixes, line, record_at, records, version, one}
+use Rattle.dump_history.proofs.values.WorkedDump.{zero}
 
 -- a dump with one node, a folder of this path and action, that is copied from a path of which no node is
 abbrev copied_to : (path action : List ℕ) → List DumpRecord

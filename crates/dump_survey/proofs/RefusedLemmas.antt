@@ -1,31 +1,6 @@
 -- What is refused of a kept node: of its copy's revision, and of the mergeinfo among its properties, one by one.
-use Rattle.std.proofs.Common.{◌≡◌, ℕ, Bool, true, false, not, ◌&&◌, ◌||◌, List, [], ◌∷◌, ◌++◌, Option, Some, None, refl, sym, ap, ap₂, ◌∙◌, subst}
+use Rattle.dump_survey.proofs.Prelude.{◌≡◌, ℕ, Bool, true, false, not, ◌&&◌, ◌||◌, List, [], ◌∷◌, ◌++◌, Option, Some, None, refl, sym, ap, ap₂, ◌∙◌, subst, or-false, or_assoc, list_any, copy_revision_name, Property, IsPropertyBlock, Props, Entry, entry_property, props_bytes, both_true, header_number, DumpRecord, Settings, value_reads, value_misses, value_foreign, is_mergeinfo, is_node, is_kept_node, HasPropertyBlock, ArePropertiesOf, entry_value, kept_revisions, stays_copy, present_number, NodeFaults, AreNodeFaultsOf, has_kept_path, is_unread_value, names_missing_source, names_outside, is_missing_number, copy_refused, property_faults, faults_read, copy_faults, no_node_faults, faults_of_kept, faults_of_unread, Numbers, AreFaultsBy, is_missing, misses_revision, AreNumbersBehind}
 use Rattle.std.specs.Prelude.{nat_lt}
-use Rattle.std.proofs.Math.Bool.{or-false, or_assoc}
-use Rattle.std.specs.List.{list_any}
-use Rattle.dump_text.specs.Names.{copy_revision_name}
-use Rattle.dump_text.specs.PropertyList.{Property, IsPropertyBlock}
-use Rattle.dump_text.specs.declared.props.Props.{Props}
-use Rattle.dump_text.specs.declared.props.Entry.{Entry}
-use Rattle.dump_text.specs.steps.PropertyViews.{entry_property, props_bytes}
-use Rattle.dump_text.proofs.BoolLemmas.{both_true}
-use Rattle.dump_records.specs.HeaderRules.{header_number}
-use Rattle.dump_records.specs.RecordText.{DumpRecord}
-use Rattle.dump_rules.specs.Settings.{Settings}
-use Rattle.dump_rules.specs.steps.ReadMergeinfo.{value_reads}
-use Rattle.dump_rules.specs.steps.RewrittenLines.{value_misses, value_foreign}
-use Rattle.dump_digest.specs.RecordParts.{is_mergeinfo, is_node, is_kept_node, HasPropertyBlock}
-use Rattle.dump_digest.specs.steps.ContentViews.{ArePropertiesOf}
-use Rattle.dump_digest.proofs.SaidLemmas.{entry_value}
-use Rattle.dump_filter.specs.Groups.{kept_revisions}
-use Rattle.dump_filter.specs.NewHeaders.{stays_copy}
-use Rattle.dump_filter.specs.RecordFaults.{present_number}
-use Rattle.dump_history.specs.Findings.{NodeFaults, AreNodeFaultsOf, has_kept_path}
-use Rattle.dump_history.specs.steps.NodeReading.{is_unread_value, names_missing_source, names_outside, is_missing_number, copy_refused, property_faults, faults_read, copy_faults, no_node_faults}
-use Rattle.dump_history.proofs.survey.FindingLemmas.{faults_of_kept, faults_of_unread}
-use Rattle.dump_survey.specs.declared.revision_numbers.Numbers.{Numbers}
-use Rattle.dump_survey.specs.steps.Found.{AreFaultsBy}
-use Rattle.dump_survey.specs.steps.RevisionNumbers.{is_missing, misses_revision, AreNumbersBehind}
 
 abbrev made : Bool → Bool → Bool → Bool → NodeFaults
 made copy unread missing outside =

@@ -1,35 +1,9 @@
 -- The kept revisions, record by record, are those of the groups.
-use Rattle.std.proofs.Common.{◌≡◌, ℕ, ◌+◌, ◌≤◌, ◌<◌, ◌^◌, ◌==◌, Bool, true, false, not, ◌&&◌, ◌||◌, List, [], ◌∷◌, ◌++◌, length, length-append, map, filter, Option, Some, None, unwrap_or, if◌then◌else◌, cond, refl, sym, ap, ap₂, ◌∙◌, subst, arith, Result, Ok, Err, append-nil, append_assoc, codes, decimal, nat_lt}
-use Rattle.std.proofs.Math.Bool.{or_assoc}
+use Rattle.dump_survey.proofs.Prelude.{◌≡◌, ℕ, ◌+◌, ◌≤◌, ◌<◌, ◌^◌, ◌==◌, Bool, true, false, not, ◌&&◌, ◌||◌, List, [], ◌∷◌, ◌++◌, length, length-append, map, filter, Option, Some, None, if◌then◌else◌, cond, refl, sym, ap, ap₂, ◌∙◌, subst, arith, Result, Ok, Err, append-nil, append_assoc, codes, decimal, or_assoc, concat, list_all, list_any, IsPermutation, sum_by-IsPermutation, and_parts, revision_name, Record, header_number, DumpRecord, Ending, BeginsWithRecords, CutterState, EndsAfter, record_item, CutStep, whole_list, KeptRevisions, Settings, is_revision_record, is_node, is_kept_node, Group, group_of, groups, group_number, revision_number, revision_numbers, first_number, keeps_group, keeps_empty, kept_revisions, written_number, header_small, copies_from_before, KeptNumbers, Memory, Present, Tally, no_tally, revision_tally, node_tally, other_tally, next_tally, tally_behind, AreKeptIn, ended_numbers, kept_view, numbers_before}
+use Rattle.std.proofs.Common.{unwrap_or, nat_lt}
 use Rattle.std.specs.Result.{IfOk}
-use Rattle.std.specs.List.{concat, list_all, list_any}
-use Rattle.std.specs.List.Sorted.{IsPermutation}
-use Rattle.std.proofs.lemmas.List.Sorted.{sum_by-IsPermutation}
-use Rattle.std.proofs.lemmas.Bool.{and_parts}
-use Rattle.dump_text.specs.Names.{revision_name}
-use Rattle.dump_records.specs.declared.record.Record.{Record}
 use Rattle.dump_records.specs.declared.cutter.Cut.TheVariants as cuts
-use Rattle.dump_records.specs.HeaderRules.{header_number}
-use Rattle.dump_records.specs.RecordText.{DumpRecord}
-use Rattle.dump_records.specs.DumpText.{Ending, BeginsWithRecords}
-use Rattle.dump_records.specs.steps.CutterState.{CutterState}
-use Rattle.dump_records.specs.steps.CutRecords.{EndsAfter}
-use Rattle.dump_records.specs.steps.RecordViews.{record_item, CutStep}
-use Rattle.dump_records.proofs.Prefixes.{whole_list}
-use Rattle.dump_rules.specs.Renumbering.{KeptRevisions}
-use Rattle.dump_rules.specs.Settings.{Settings}
-use Rattle.dump_digest.specs.RecordParts.{is_revision_record, is_node, is_kept_node}
-use Rattle.dump_filter.specs.Groups.{Group, group_of, groups, group_number, revision_number, revision_numbers, first_number, keeps_group, keeps_empty, kept_revisions}
-use Rattle.dump_filter.specs.NewHeaders.{written_number}
-use Rattle.dump_filter.proofs.again.Output.{header_small}
-use Rattle.dump_history.specs.Findings.{copies_from_before}
 use Rattle.dump_survey.specs.RevisionMap.{map_line}
-use Rattle.dump_survey.specs.declared.map.KeptNumbers.{KeptNumbers}
-use Rattle.dump_rules.specs.declared.memory.Memory.{Memory}
-use Rattle.dump_survey.specs.declared.tally.Present.{Present}
-use Rattle.dump_survey.specs.declared.tally.Tally.{Tally}
-use Rattle.dump_survey.specs.steps.Tally.{no_tally, revision_tally, node_tally, other_tally, next_tally, tally_behind}
-use Rattle.dump_survey.specs.steps.KeptNumbers.{AreKeptIn, ended_numbers, kept_view, numbers_before}
 use Rattle.dump_survey.proofs.SurveyorLemmas.{begins_next, begins_with_none, begun_single, nearer_by_one}
 use Rattle.dump_survey.proofs.TallyLemmas.{begins_at_is, closes, closes_none, count_within, is_single, nodes, nodes_more, nodes_none, some_left, tally_more}
 

@@ -1,14 +1,8 @@
 -- Worked values of the map of revisions, computed and proved by the kernel.
-use Rattle.std.proofs.Common.{◌≡◌, Bool, true, false, List, [], ◌∷◌, refl, codes}
+use Rattle.dump_survey.proofs.Prelude.{◌≡◌, Bool, true, false, List, [], ◌∷◌, refl, codes, DumpRecord, Include, Pad, DropEmptied, DropAll, Settings, kept_revisions, written_number, version, one, trunk, two, other, three}
 use Rattle.std.specs.Fmt.{digits}
-use Rattle.dump_records.specs.RecordText.{DumpRecord}
-use Rattle.dump_rules.specs.declared.options.Side.TheVariants.{Include}
 use Rattle.dump_rules.specs.declared.options.Empty.{Empty}
-use Rattle.dump_rules.specs.declared.options.Empty.TheVariants.{Pad, DropEmptied, DropAll}
-use Rattle.dump_rules.specs.Settings.{Settings}
-use Rattle.dump_filter.specs.Groups.{kept_revisions}
-use Rattle.dump_filter.specs.NewHeaders.{written_number}
-use Rattle.dump_history.proofs.values.WorkedDump.{version, zero, one, trunk, two, other, three}
+use Rattle.dump_history.proofs.values.WorkedDump.{zero}
 use Rattle.dump_survey.specs.RevisionMap.{map_line}
 
 -- revision 0 has no node, 1 a kept one, 2 a dropped one, and 3 none

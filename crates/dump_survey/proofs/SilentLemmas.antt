@@ -1,33 +1,6 @@
 -- Where nothing that matters is told, nothing that matters is found in the groups.
-use Rattle.std.proofs.Common.{◌≡◌, ℕ, Bool, true, false, not, ◌&&◌, ◌||◌, ◌==◌, List, [], ◌∷◌, ◌++◌, length, flat_map, map, None, IsTrue, IsFalse, refl, sym, ap, ◌∙◌, subst, arith, append-nil, append_assoc}
-use Rattle.std.specs.List.{list_all, list_any}
-use Rattle.std.proofs.lemmas.Bool.{and_from, ne_eqb}
-use Rattle.dump_text.proofs.BoolLemmas.{first_true, second_true, both_true, first_false, second_false, not_true, not_false, not_so, false_true}
-use Rattle.dump_records.proofs.Unique.{records_once}
-use Rattle.dump_records.specs.RecordText.{DumpRecord}
-use Rattle.dump_records.specs.DumpText.{Ending, HasRecords}
-use Rattle.dump_text.specs.declared.fault.FaultKind.{FaultKind}
-use Rattle.dump_text.specs.declared.fault.FaultKind.TheVariants.{CopySource}
-use Rattle.dump_rules.specs.Settings.{Settings, keeps_path}
-use Rattle.dump_digest.specs.RecordParts.{is_node, node_path, has_lost_source}
-use Rattle.dump_filter.specs.NewHeaders.{is_whole_file}
-use Rattle.dump_filter.specs.RecordFaults.{HoldsOfRecord}
-use Rattle.dump_filter.specs.FilterLaws.{LengthsFit}
-use Rattle.dump_filter.specs.WholeText.{IsCleanText}
-use Rattle.dump_history.specs.RecordChanges.{Patching}
-use Rattle.dump_history.specs.Findings.{Finding, DumpFinding, AreDumpFindingsOf, is_obstacle, is_alarm}
-use Rattle.dump_history.specs.SurveyLaws.{none_is, DumpRestricts}
-use Rattle.dump_history.proofs.survey.SurveyLemmas.{surveyed_dump}
-use Rattle.dump_survey.specs.DumpTold.{DumpTold, place_in, AreDumpTold}
-use Rattle.dump_survey.specs.Lines.{node_line, at_words, dump_words, dump_line, ending_line, place_text}
-use Rattle.dump_survey.specs.PrefixFindings.{told_prefixes}
-use Rattle.dump_survey.specs.PrefixLines.{prefix_lines}
-use Rattle.dump_survey.specs.Told.{NodeTold, told_view, AreTold}
-use Rattle.dump_survey.specs.SurveyEnds.{survey_ending}
-use Rattle.dump_survey.specs.SurveyTies.{all_findings, none_told, SilentSurveyRestricts, SilentTextRestricts, SilentTextLeavesDigests, is_digest_fault}
-use Rattle.dump_survey.specs.SurveyText.{IsSurveyText, FindsNothing}
-use Rattle.dump_survey.specs.KeepAsWell.{stops_at, stops_somewhere, wanted_path, matches_itself, AreKeptAsWellIn}
-use Rattle.dump_survey.specs.AsWellLines.{AreAsWellLines}
+use Rattle.dump_survey.proofs.Prelude.{◌≡◌, ℕ, Bool, true, false, not, ◌&&◌, ◌||◌, ◌==◌, List, [], ◌∷◌, ◌++◌, length, flat_map, map, None, IsTrue, IsFalse, refl, sym, ap, ◌∙◌, subst, arith, append-nil, append_assoc, list_all, list_any, and_from, ne_eqb, first_true, second_true, both_true, first_false, second_false, not_true, not_false, not_so, false_true, records_once, DumpRecord, Ending, HasRecords, FaultKind, CopySource, Settings, keeps_path, is_node, node_path, has_lost_source, is_whole_file, HoldsOfRecord, LengthsFit, IsCleanText, Patching, Finding, DumpFinding, AreDumpFindingsOf, is_obstacle, is_alarm, none_is, DumpRestricts, surveyed_dump, DumpTold, place_in, AreDumpTold, dump_line, told_prefixes, prefix_lines, NodeTold, told_view, AreTold, survey_ending, all_findings, none_told, SilentSurveyRestricts, SilentTextRestricts, SilentTextLeavesDigests, is_digest_fault, IsSurveyText, FindsNothing, stops_at, stops_somewhere, wanted_path, matches_itself, AreKeptAsWellIn, AreAsWellLines}
+use Rattle.dump_survey.specs.Lines.{node_line, at_words, dump_words, ending_line, place_text}
 use Rattle.dump_survey.proofs.DigestLemmas.{digests_alone}
 use Rattle.dump_survey.proofs.PlaceLemmas.{nothing_found}
 use Rattle.dump_survey.proofs.TieLemmas.{told_are_findings}

@@ -1,20 +1,6 @@
 -- What a survey has told so far goes on to one more record.
-use Rattle.std.proofs.Common.{◌≡◌, ℕ, ◌+◌, ◌≤◌, List, [], ◌∷◌, ◌++◌, length, length-append, Option, None, refl, sym, ap, ap₂, ◌∙◌, subst, arith, append-nil, append_assoc}
-use Rattle.dump_records.specs.RecordText.{DumpRecord}
-use Rattle.dump_records.specs.DumpText.{BeginsWithRecords, HasRecords}
-use Rattle.dump_records.proofs.Prefixes.{begins_prefix, begins_once}
-use Rattle.dump_records.proofs.CutLemmas.{count_fits}
-use Rattle.dump_rules.specs.Settings.{Settings}
-use Rattle.dump_survey.specs.declared.surveyor.Step.TheVariants.{Node, Other, Finished}
-use Rattle.dump_survey.specs.declared.told.SurveyedNode.{SurveyedNode}
-use Rattle.dump_survey.specs.declared.surveyor.SurveyEnd.{SurveyEnd}
-use Rattle.dump_survey.specs.DumpTold.{told_at_end, ArePlaces, AreDumpTold}
-use Rattle.dump_survey.specs.Told.{NodeTold, present_after, IsToldOf, AreTold}
-use Rattle.dump_survey.specs.steps.Surveyed.{told_of_node}
-use Rattle.dump_survey.specs.PrefixFindings.{PrefixTold, told_prefixes}
-use Rattle.dump_survey.specs.SurveyEnds.{survey_ending}
-use Rattle.dump_survey.specs.steps.Surveying.{Surveying}
-use Rattle.dump_survey.specs.steps.Steps.{ComesNext, open_behind, SurveyStep, ArePrefixesTold}
+use Rattle.dump_survey.proofs.Prelude.{◌≡◌, ℕ, ◌+◌, ◌≤◌, List, [], ◌∷◌, ◌++◌, length, length-append, Option, None, refl, sym, ap, ap₂, ◌∙◌, subst, arith, append-nil, append_assoc, DumpRecord, BeginsWithRecords, HasRecords, begins_prefix, begins_once, count_fits, Settings, Node, Finished, SurveyedNode, SurveyEnd, told_at_end, ArePlaces, AreDumpTold, NodeTold, present_after, IsToldOf, AreTold, told_of_node, PrefixTold, told_prefixes, survey_ending, Surveying, ComesNext, open_behind, SurveyStep, ArePrefixesTold}
+use Rattle.dump_survey.specs.declared.surveyor.Step.TheVariants.{Other}
 
 -- the surveyor is at a place of this dump, and this was told of the records before it
 pub record HaveTold (settings : Settings) (dump : List ℕ) (state : Surveying) (so_far : List NodeTold) : Type 0 where

@@ -1,21 +1,7 @@
 -- Each dump has the text of a survey, and what was told of its first records is a first part of it.
-use Rattle.std.proofs.Common.{◌≡◌, ℕ, Bool, true, false, not, ◌==◌, List, [], ◌∷◌, ◌++◌, take, drop, length, map, flat_map, Option, Some, None, MatchBool, refl, sym, ap, ◌∙◌, subst, append_assoc, take-append-drop}
-use Rattle.std.proofs.lemmas.Grind.{flat_map-append}
-use Rattle.dump_records.specs.RecordText.{DumpRecord}
-use Rattle.dump_records.specs.DumpText.{BeginsWithRecords}
-use Rattle.dump_records.proofs.ListLaw.{each_dump_has_one_list}
-use Rattle.dump_records.proofs.Prefixes.{is_front}
-use Rattle.dump_rules.specs.Settings.{Settings}
-use Rattle.dump_digest.specs.RecordParts.{is_node}
-use Rattle.dump_writer.specs.SinkWords.{IsPrefixOf}
-use Rattle.dump_history.proofs.survey.FindingLemmas.{findings_once}
-use Rattle.dump_survey.specs.Told.{NodeTold, told_in, present_after, IsToldOfNode, IsToldOf, AreTold}
-use Rattle.dump_survey.specs.DumpTold.{DumpTold}
-use Rattle.dump_survey.specs.Kinds.{kind_lines, times_told}
-use Rattle.dump_survey.specs.Lines.{node_line, dump_line, ending_line}
-use Rattle.dump_survey.specs.PrefixFindings.{told_prefixes}
-use Rattle.dump_survey.specs.PrefixLines.{prefix_lines}
-use Rattle.dump_survey.specs.SurveyText.{IsSurveyText, survey_lines}
+use Rattle.dump_survey.proofs.Prelude.{◌≡◌, ℕ, Bool, true, false, not, ◌==◌, List, [], ◌∷◌, ◌++◌, take, drop, length, map, flat_map, Option, Some, None, MatchBool, refl, sym, ap, ◌∙◌, subst, append_assoc, flat_map-append, DumpRecord, BeginsWithRecords, each_dump_has_one_list, is_front, Settings, is_node, IsPrefixOf, findings_once, NodeTold, told_in, present_after, IsToldOfNode, IsToldOf, AreTold, DumpTold, kind_lines, times_told, dump_line, told_prefixes, prefix_lines, IsSurveyText, survey_lines}
+use Rattle.std.proofs.Common.{take-append-drop}
+use Rattle.dump_survey.specs.Lines.{node_line, ending_line}
 use Rattle.dump_survey.proofs.PlaceLemmas.{each_dump_told}
 use Rattle.dump_survey.proofs.TieLemmas.{told_once}
 

@@ -1,53 +1,8 @@
 -- What a surveyor knows goes on to one more record, and tells what is found where the records end.
-use Rattle.std.proofs.Common.{◌≡◌, ◌⊎◌, ◌↔◌, ℕ, ◌+◌, ◌^◌, ◌<◌, ◌≤◌, Bool, true, false, not, ◌&&◌, ◌||◌, List, [], ◌∷◌, ◌++◌, length, length-append, map, filter, cond, Option, Some, None, refl, sym, ap, ap₂, ◌∙◌, subst, arith, inl, inr, Result, Ok, Err, IsTrue, MatchBool}
+use Rattle.dump_survey.proofs.Prelude.{◌≡◌, ◌⊎◌, ◌↔◌, ℕ, ◌+◌, ◌^◌, ◌<◌, ◌≤◌, Bool, true, false, not, ◌&&◌, ◌||◌, List, [], ◌∷◌, ◌++◌, length, length-append, map, filter, cond, Option, Some, None, refl, sym, ap, ap₂, ◌∙◌, subst, arith, inl, inr, Result, Ok, Err, IsTrue, MatchBool, list_all, and_from, Record, DumpRecord, record_text, is_lawful, IsCutInto, BeginsWithRecords, HasRecords, CutterState, EndsAfter, IsRecordOf, record_item, record_number, CutStep, count_fits, each_dump_has_one_list, begins_prefix, one_more, whole_list, Settings, bare_prefix, is_revision_record, is_node, alone, DumpPlaces, Place, DumpFindings, Tally, leaves_number, LeaveNumber, no_tally, next_tally, numbers_of, tally_behind, tally_findings, no_places, AreNextPlaces, ArePlaces, Finding, every_finding, is_found, AreFindingsOf, IsUnreadRevision, HasUnreadRevision, AreDumpFindingsOf, TellsNaming, findings_once, Found, End, SurveyEnd, Step, Node, Finished, Memory, Numbers, has_found, node_faults, IsFoundIn, AreNumbersBehind, SurveyedNode, NodeTold, IsToldOfNode, IsToldOf, told_in, told_naming, listed, told_of_finding, told_of_node, listed_findings, survey_ending, HaveSame, PrefixTold, AreWithout, is_touched_by, prefixes_by, Surveying, Surveys, IsStepOf, TellsEnd, ComesNext, open_behind, SurveyStep, ArePrefixesTold}
 use Rattle.std.specs.Result.{IfOk}
-use Rattle.std.specs.List.{list_all}
-use Rattle.std.proofs.lemmas.Bool.{and_from}
-use Rattle.dump_records.specs.declared.record.Record.{Record}
 use Rattle.dump_records.specs.declared.cutter.Cut.TheVariants as cuts
-use Rattle.dump_records.specs.RecordText.{DumpRecord, record_text, is_lawful}
-use Rattle.dump_records.specs.DumpText.{IsCutInto, BeginsWithRecords, HasRecords}
-use Rattle.dump_records.specs.steps.CutterState.{CutterState}
-use Rattle.dump_records.specs.steps.CutRecords.{EndsAfter, IsRecordOf}
-use Rattle.dump_records.specs.steps.RecordViews.{record_item, record_number, CutStep}
-use Rattle.dump_records.proofs.CutLemmas.{count_fits}
-use Rattle.dump_records.proofs.ListLaw.{each_dump_has_one_list}
-use Rattle.dump_records.proofs.Prefixes.{begins_prefix, one_more, whole_list}
-use Rattle.dump_rules.specs.Settings.{Settings}
-use Rattle.dump_rules.specs.Prefix.{bare_prefix}
-use Rattle.dump_digest.specs.RecordParts.{is_revision_record, is_node}
-use Rattle.dump_filter.proofs.groups.KindLemmas.{alone}
-use Rattle.dump_survey.specs.declared.places.DumpPlaces.{DumpPlaces}
-use Rattle.dump_survey.specs.declared.places.Place.{Place}
-use Rattle.dump_survey.specs.declared.tally.DumpFindings.{DumpFindings}
-use Rattle.dump_survey.specs.declared.tally.Tally.{Tally}
-use Rattle.dump_survey.specs.steps.Naming.{leaves_number, LeaveNumber}
-use Rattle.dump_survey.specs.steps.Tally.{no_tally, next_tally, numbers_of, tally_behind, tally_findings}
-use Rattle.dump_survey.specs.steps.Places.{no_places, AreNextPlaces}
-use Rattle.dump_survey.specs.DumpTold.{ArePlaces}
-use Rattle.dump_history.specs.Findings.{Finding, every_finding, is_found, AreFindingsOf, IsUnreadRevision, HasUnreadRevision, AreDumpFindingsOf}
-use Rattle.dump_history.specs.steps.NamingTests.{TellsNaming}
-use Rattle.dump_history.proofs.survey.FindingLemmas.{findings_once}
-use Rattle.dump_survey.specs.declared.finding.Found.{Found}
-use Rattle.dump_survey.specs.declared.surveyor.End.{End}
-use Rattle.dump_survey.specs.declared.surveyor.SurveyEnd.{SurveyEnd}
-use Rattle.dump_survey.specs.declared.surveyor.Step.{Step}
-use Rattle.dump_survey.specs.declared.surveyor.Step.TheVariants.{Node, Other, Finished}
-use Rattle.dump_rules.specs.declared.memory.Memory.{Memory}
-use Rattle.dump_survey.specs.declared.revision_numbers.Numbers.{Numbers}
-use Rattle.dump_survey.specs.steps.Found.{has_found, node_faults, IsFoundIn}
-use Rattle.dump_survey.specs.steps.RevisionNumbers.{AreNumbersBehind}
-use Rattle.dump_survey.specs.declared.told.SurveyedNode.{SurveyedNode}
-use Rattle.dump_survey.specs.Told.{NodeTold, IsToldOfNode, IsToldOf, told_in, told_naming}
-use Rattle.dump_survey.specs.steps.Found.{listed}
-use Rattle.dump_survey.specs.steps.Surveyed.{told_of_finding, told_of_node}
-use Rattle.dump_survey.specs.DumpFindings.{listed_findings}
-use Rattle.dump_survey.specs.SurveyEnds.{survey_ending}
-use Rattle.dump_survey.specs.steps.Folders.{HaveSame}
-use Rattle.dump_survey.specs.PrefixFindings.{PrefixTold}
-use Rattle.dump_survey.specs.steps.IdlePrefixes.{AreWithout, is_touched_by, prefixes_by}
-use Rattle.dump_survey.specs.steps.Surveying.{Surveying, Surveys}
-use Rattle.dump_survey.specs.steps.Steps.{IsStepOf, TellsEnd, ComesNext, open_behind, SurveyStep, ArePrefixesTold}
+use Rattle.dump_survey.specs.declared.surveyor.Step.TheVariants.{Other}
 use Rattle.dump_survey.proofs.IdleLemmas.{all_idle, idle_more, told_by_idle}
 use Rattle.dump_survey.proofs.TallyLemmas.{is_single, filter_same, tally_more, count_within, present_number, present_is}
 use Rattle.dump_survey.proofs.LeftLemmas.{leave_more, tally_tells}

@@ -1,20 +1,6 @@
 -- The tally of a dump's revisions, record by record, tells what is found in the dump as a whole.
-use Rattle.std.proofs.Common.{◌≡◌, ℕ, zero, suc, ◌+◌, ◌≤◌, ◌==◌, Bool, true, false, not, ◌&&◌, ◌||◌, List, [], ◌∷◌, ◌++◌, length, filter, map, take_while, Option, Some, None, is_some, option_map, if◌then◌else◌, cond, refl, sym, ap, ap₂, ◌∙◌, arith}
-use Rattle.std.proofs.Math.Bool.{and-true, and_assoc, or-false, or-true, or_assoc}
-use Rattle.std.specs.List.{list_all, list_any}
-use Rattle.std.proofs.lemmas.Bool.{and_parts, eqb-true}
-use Rattle.std.proofs.lemmas.List.Sums.{take_while-cons}
-use Rattle.dump_records.specs.RecordText.{DumpRecord}
-use Rattle.dump_rules.specs.Settings.{Settings}
-use Rattle.dump_digest.specs.RecordParts.{is_revision_record, is_node, is_kept_node}
-use Rattle.dump_filter.specs.Groups.{group_of, groups, group_number, first_number, revision_number, revision_numbers, keeps_empty}
-use Rattle.dump_history.specs.DumpChanges.{counts_from, has_ordered_nodes}
-use Rattle.dump_history.specs.NumberGaps.{go_up}
-use Rattle.dump_history.specs.Findings.{DumpFinding, rise, begins_at, copies_from_before, has_source_before, is_found_in_dump, first_has_node}
-use Rattle.dump_survey.specs.declared.tally.Present.{Present}
-use Rattle.dump_survey.specs.declared.tally.Tally.{Tally}
-use Rattle.dump_survey.specs.steps.Steps.{open_behind}
-use Rattle.dump_survey.specs.steps.Tally.{no_tally, keeps_open, first_with, is_above_last, revision_tally, node_tally, other_tally, next_tally, tally_behind, is_tallied}
+use Rattle.dump_survey.proofs.Prelude.{◌≡◌, ℕ, suc, ◌+◌, ◌≤◌, ◌==◌, Bool, true, false, not, ◌&&◌, ◌||◌, List, [], ◌∷◌, ◌++◌, length, filter, map, take_while, Option, Some, None, is_some, option_map, if◌then◌else◌, cond, refl, sym, ap, ap₂, ◌∙◌, arith, and-true, and_assoc, or-false, or-true, or_assoc, list_all, list_any, and_parts, eqb-true, take_while-cons, DumpRecord, Settings, is_revision_record, is_node, is_kept_node, group_of, groups, group_number, first_number, revision_number, revision_numbers, keeps_empty, counts_from, has_ordered_nodes, go_up, DumpFinding, rise, begins_at, copies_from_before, has_source_before, is_found_in_dump, first_has_node, Present, Tally, open_behind, no_tally, keeps_open, first_with, is_above_last, revision_tally, node_tally, other_tally, next_tally, tally_behind, is_tallied}
+use Rattle.std.proofs.Common.{zero}
 
 -- one more record
 pub tally_more : (settings : Settings) (t : Tally) (records : List DumpRecord) (r : DumpRecord)

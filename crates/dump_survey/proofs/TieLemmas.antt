@@ -1,17 +1,5 @@
 -- What is told of a dump's nodes is what is found in its groups.
-use Rattle.std.proofs.Common.{◌≡◌, ℕ, Bool, true, false, not, ◌&&◌, List, [], ◌∷◌, ◌++◌, length, map, flat_map, Option, Some, None, if◌then◌else◌, MatchBool, refl, sym, ap, ap₂, ◌∙◌, subst, append_assoc}
-use Rattle.std.specs.List.{list_all}
-use Rattle.std.proofs.lemmas.Bool.{and_parts}
-use Rattle.std.proofs.lemmas.List.{map-append}
-use Rattle.dump_records.specs.RecordText.{DumpRecord}
-use Rattle.dump_rules.specs.Settings.{Settings}
-use Rattle.dump_digest.specs.RecordParts.{is_revision_record, is_node}
-use Rattle.dump_filter.specs.Groups.{revision_number}
-use Rattle.dump_history.specs.Findings.{Finding}
-use Rattle.dump_history.specs.SurveyLaws.{AreFindingsBehind, HaveFindingsBehind}
-use Rattle.dump_history.proofs.survey.FindingLemmas.{findings_once}
-use Rattle.dump_survey.specs.Told.{NodeTold, told_in, present_after, IsToldOfNode, IsToldOf, AreTold}
-use Rattle.dump_survey.specs.SurveyTies.{all_findings, ToldAreFindings, ToldOnce}
+use Rattle.dump_survey.proofs.Prelude.{◌≡◌, ℕ, Bool, true, false, not, ◌&&◌, List, [], ◌∷◌, ◌++◌, length, map, flat_map, Option, Some, None, if◌then◌else◌, MatchBool, refl, sym, ap, ap₂, ◌∙◌, subst, append_assoc, list_all, and_parts, map-append, DumpRecord, Settings, is_revision_record, is_node, revision_number, Finding, AreFindingsBehind, HaveFindingsBehind, findings_once, NodeTold, told_in, present_after, IsToldOfNode, IsToldOf, AreTold, all_findings, ToldAreFindings, ToldOnce}
 use Rattle.dump_survey.proofs.TallyLemmas.{nodes, nodes_more, nodes_none, is_single}
 use Rattle.dump_survey.proofs.SurveyorLemmas.{begun_single}
 

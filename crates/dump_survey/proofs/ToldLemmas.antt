@@ -1,14 +1,6 @@
 -- What is told of a node, finding by finding.
-use Rattle.std.proofs.Common.{◌≡◌, ℕ, Bool, true, false, List, [], ◌∷◌, ◌++◌, map, flat_map, filter, cond, refl, sym, ap, ◌∙◌, append_assoc}
-use Rattle.std.proofs.lemmas.List.{map-append}
-use Rattle.dump_history.specs.Findings.{Finding}
-use Rattle.dump_survey.specs.declared.finding.NodeFinding.{NodeFinding}
-use Rattle.dump_survey.specs.declared.finding.Found.{Found}
-use Rattle.dump_survey.specs.declared.told.Told.{Told}
-use Rattle.dump_survey.specs.Meaning.{meaning}
-use Rattle.dump_survey.specs.steps.Found.{has_found}
+use Rattle.dump_survey.proofs.Prelude.{◌≡◌, ℕ, Bool, true, false, List, [], ◌∷◌, ◌++◌, map, flat_map, filter, cond, refl, sym, ap, ◌∙◌, append_assoc, map-append, Finding, NodeFinding, Found, Told, meaning, has_found, NodeTold, told_view}
 use Rattle.dump_survey.specs.Lines.{node_line}
-use Rattle.dump_survey.specs.Told.{NodeTold, told_view}
 
 -- what is told of those of the findings that are found
 abbrev pub told_left : (Finding → NodeTold) → Found → List NodeFinding → List NodeTold

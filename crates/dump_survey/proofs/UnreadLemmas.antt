@@ -1,8 +1,5 @@
 -- Record by record it is told whether a revision has properties that can't be read.
-use Rattle.std.proofs.Common.{◌≡◌, ◌⊎◌, ◌↔◌, Bool, true, false, List, [], ◌∷◌, ◌++◌, IsTrue, sym, subst, ◌∙◌, inl, inr, arith}
-use Rattle.std.proofs.lemmas.List.Elements.{Contains-append_left, Contains-push, Contains-push_cases}
-use Rattle.dump_records.specs.RecordText.{DumpRecord}
-use Rattle.dump_history.specs.Findings.{IsUnreadRevision, HasUnreadRevision}
+use Rattle.dump_survey.proofs.Prelude.{◌≡◌, ◌⊎◌, ◌↔◌, Bool, true, false, List, [], ◌∷◌, ◌++◌, IsTrue, sym, subst, ◌∙◌, inl, inr, arith, Contains-append_left, Contains-push, Contains-push_cases, DumpRecord, IsUnreadRevision, HasUnreadRevision}
 
 -- before the first record there is none
 pub none_unread : IsTrue false ↔ HasUnreadRevision []

@@ -1,38 +1,8 @@
 -- What a sink took of a survey so far, and what it takes next.
-use Rattle.std.proofs.Common.{◌≡◌, ◌≤◌, ℕ, ◌+◌, Bool, true, false, not, ◌||◌, ◌==◌, List, [], ◌∷◌, ◌++◌, length, map, flat_map, Option, refl, sym, ap, ap₂, ◌∙◌, subst, append_assoc, append-nil, arith, Result, Ok, Err}
-use Rattle.std.specs.Result.{OnErr}
-use Rattle.std.specs.List.{list_any}
-use Rattle.std.proofs.Math.Bool.{or-false}
-use Rattle.std.proofs.lemmas.Bool.{ne_eqb}
-use Rattle.std.specs.Io.KnownBytes.{Appends}
-use Rattle.std.proofs.KnownBytes.{Appends-nil, Appends-trans}
-use Rattle.std.proofs.lemmas.Grind.{flat_map-append}
-use Rattle.dump_records.specs.DumpText.{Ending}
-use Rattle.dump_rules.specs.Settings.{Settings}
-use Rattle.dump_history.specs.Findings.{Finding, every_finding, DumpFinding}
-use Rattle.dump_records.proofs.ListLaw.{each_dump_has_one_list}
-use Rattle.dump_records.proofs.Prefixes.{begins_prefix}
-use Rattle.dump_writer.specs.SinkWords.{IsPrefixOf}
-use Rattle.dump_survey.specs.declared.counts.Counts.{Counts}
-use Rattle.dump_survey.specs.declared.prefix_findings.PrefixFinding.TheVariants.{NotShort, Idle}
-use Rattle.dump_survey.specs.declared.surveyor.Step.TheVariants.{Node, Other, Finished}
-use Rattle.dump_survey.specs.declared.surveyor.SurveyEnd.{SurveyEnd}
-use Rattle.dump_survey.specs.declared.told.SurveyedNode.{SurveyedNode}
-use Rattle.dump_survey.specs.DumpFindings.{listed_findings}
-use Rattle.dump_survey.specs.DumpTold.{told_at_end}
-use Rattle.dump_survey.specs.Kinds.{dump_kind_line, ending_kind_line, finding_kind, kind_line, kind_lines, prefix_kind, times_in_prefixes, times_told}
-use Rattle.dump_survey.specs.Lines.{node_line, dump_line, ending_line}
-use Rattle.dump_survey.specs.PrefixFindings.{PrefixTold, told_prefixes}
-use Rattle.dump_survey.specs.PrefixLines.{prefix_lines}
-use Rattle.dump_survey.specs.SurveyEnds.{survey_ending}
-use Rattle.dump_survey.specs.SurveyText.{IsSurveyText, BreaksOffSurvey}
-use Rattle.dump_survey.specs.Told.{NodeTold}
-use Rattle.dump_survey.specs.steps.Counts.{AreWithNode, count_in, no_counts}
-use Rattle.dump_survey.specs.steps.Found.{has_found}
-use Rattle.dump_survey.specs.steps.Steps.{SurveyStep}
-use Rattle.dump_survey.specs.steps.Surveyed.{told_of_finding, told_of_node}
-use Rattle.dump_survey.specs.steps.Surveying.{Surveying}
-use Rattle.dump_survey.specs.LinesBehind.{TakesSome}
+use Rattle.dump_survey.proofs.Prelude.{◌≡◌, ◌≤◌, ℕ, ◌+◌, Bool, true, false, not, ◌||◌, ◌==◌, List, [], ◌∷◌, ◌++◌, length, map, flat_map, Option, refl, sym, ap, ap₂, ◌∙◌, subst, append_assoc, append-nil, arith, Result, Ok, Err, OnErr, list_any, or-false, ne_eqb, Appends, Appends-nil, Appends-trans, flat_map-append, Ending, Settings, Finding, every_finding, DumpFinding, each_dump_has_one_list, begins_prefix, IsPrefixOf, Counts, NotShort, Idle, Node, Finished, SurveyEnd, SurveyedNode, listed_findings, told_at_end, ending_kind_line, finding_kind, kind_line, kind_lines, prefix_kind, times_in_prefixes, times_told, dump_line, PrefixTold, told_prefixes, prefix_lines, survey_ending, IsSurveyText, BreaksOffSurvey, NodeTold, AreWithNode, count_in, no_counts, has_found, SurveyStep, told_of_finding, told_of_node, Surveying, TakesSome}
+use Rattle.dump_survey.specs.declared.surveyor.Step.TheVariants.{Other}
+use Rattle.dump_survey.specs.Kinds.{dump_kind_line}
+use Rattle.dump_survey.specs.Lines.{node_line, ending_line}
 use Rattle.dump_survey.proofs.PlaceLemmas.{findings_at_end}
 use Rattle.dump_survey.proofs.KindLemmas.{counts_with_node, low_with_node, none_counted, nothing_listed, same_counts, same_lines}
 use Rattle.dump_survey.proofs.SurveyLemmas.{HaveTold, node_told, nothing_told, node_nearer, other_nearer, all_told}

@@ -8,8 +8,7 @@ ghost use Rattle.dump_rules.specs.steps.RewrittenLines.{line_path};
 ghost use Rattle.dump_survey.specs.LeftOutMergeinfo.{AreLeftOutIn, AreLeftOutOf, AreLeftOutOfRecords};
 ghost use Rattle.dump_survey.specs.steps.LeftOutCounts.{properties_count, property_count, text_lines_count, value_count};
 
-use crate::plain::properties_of;
-use dump_digest::{is_kept, is_mergeinfo};
+use dump_digest::{is_kept, is_mergeinfo, properties_of};
 use dump_records::{Cut, Cutter, Record};
 use dump_rules::{Options, keeps, merge_reads};
 use dump_text::{Entry, Props};

@@ -18,11 +18,12 @@ ghost use Rattle.dump_survey.specs.steps.Losses.{AreObstaclesOf, AreLossesOf};
 
 use crate::finding::{Found, Losses, Obstacles};
 use crate::node_headers::{Action, action_of, has_odd_delta};
-use crate::plain::{are_lines_plain, are_names_plain, properties_of};
+use crate::plain::{are_lines_plain, are_names_plain};
 use crate::prefixes::Prefixes;
 use crate::refused::{Refused, refused_of};
 use crate::revision_numbers::Numbers;
 use crate::short_paths::is_short;
+use dump_digest::properties_of;
 use dump_records::Record;
 use dump_rules::{Memory, Options, Side, keeps};
 use dump_text::Props;

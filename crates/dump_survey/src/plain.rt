@@ -1,15 +1,14 @@
 //! Whether the load reads the texts of a node as they stand.
-ghost use Rattle.std.specs.Prelude.{◌≡◌, ◌↔◌, List, Option, not, unwrap_or, IsSome, IfSome, IsTrue};
+ghost use Rattle.std.specs.Prelude.{◌≡◌, ◌↔◌, List, not, IsTrue};
 ghost use Rattle.std.specs.List.{list_all};
 ghost use Rattle.dump_text.specs.HeaderLine.{has_byte};
 ghost use Rattle.dump_text.specs.PropertyList.{IsPropertyBlock, Property};
 ghost use Rattle.dump_text.specs.steps.PropertyViews.{props_bytes};
 ghost use Rattle.dump_records.specs.steps.RecordViews.{record_item};
-ghost use Rattle.dump_digest.specs.RecordParts.{HasPropertyBlock, is_node};
-ghost use Rattle.dump_digest.specs.steps.ContentViews.{ArePropertiesOf};
-ghost use Rattle.dump_history.specs.RecordChanges.{is_plain_line, has_plain_texts};
-ghost use Rattle.dump_history.specs.Findings.{IsReadBlock, IsUnreadRevision};
+ghost use Rattle.dump_history.specs.RecordChanges.{is_plain_line};
+ghost use Rattle.dump_history.specs.Findings.{IsUnreadRevision};
 
+use dump_digest::properties_of;
 use dump_records::Record;
 use dump_text::Props;
 
@@ -18,19 +17,6 @@ fn has_zero(text: &[u8]) -> bool
     ensures { result ≡ has_byte 0 text.now }
 {
     text.contains(&0)
-}
-
-/// The properties of the record, where they are a property block.
-pub(crate) fn properties_of<'a>(item: &Record<'a>) -> Option<Props<'a>>
-    ensures found { IsSome result ↔ HasPropertyBlock (record_item item.now) }
-    ensures bytes { IfSome result (λ props. props_bytes props ≡ (record_item item.now).props) }
-{
-    let bytes = item.property_bytes();
-    if item.may_have_delta() {
-        Props::read_with_deletes(bytes)
-    } else {
-        Props::read(bytes)
-    }
 }
 
 /// Whether the record is a revision whose properties can't be read.

@@ -1,18 +1,7 @@
 -- A block, from the lines that a scan finds.
-use Rattle.std.proofs.Common.{◌≡◌, ℕ, zero, suc, ◌+◌, ◌-◌, ◌<◌, ◌≤◌, nat_lt, nat_le, Bool, true, false, not, ◌&&◌, ◌||◌, List, [], ◌∷◌, ◌++◌, take, drop, length, slice_range, refl, sym, ap, ◌∙◌, subst, arith, append_assoc, length-append, bytes_eq, is_some, if◌then◌else◌, codes}
-use Rattle.std.specs.List.{list_all, list_any}
-use Rattle.std.proofs.lemmas.List.{take_at, drop_at, append-nil, length-drop, length-take, length-take-le, drop-drop, drop-take, take-take}
-use Rattle.std.proofs.lemmas.List.Sums.{sum_by-cons, sum_by-append}
-use Rattle.std.proofs.lemmas.List.Folds.{list_all-append}
-use Rattle.std.proofs.lemmas.Grind.{flat_map-append}
-use Rattle.std.proofs.lemmas.Slice.Eq.{bytes_eq-Decides}
-use Rattle.dump_text.specs.Names.{known_names}
+use Rattle.dump_text.proofs.Prelude.{◌≡◌, ℕ, zero, suc, ◌+◌, ◌-◌, ◌<◌, ◌≤◌, nat_lt, nat_le, Bool, true, false, not, ◌&&◌, ◌||◌, List, [], ◌∷◌, ◌++◌, take, drop, length, slice_range, refl, sym, ap, ◌∙◌, subst, arith, length-append, bytes_eq, is_some, if◌then◌else◌, codes, list_all, list_any, take_at, drop_at, append-nil, length-drop, length-take, length-take-le, drop-drop, drop-take, take-take, sum_by-cons, sum_by-append, list_all-append, flat_map-append, bytes_eq-Decides, known_names, is_header, header_text, is_named, has_header, header_value, count_named, is_block, lines_bytes, block_text, BeginsWithBlock, HasBlock, headers_of, AreHeaderLines, IsBlockBetween, IsPartBetween, may_follow, IsLinesEnd, IsBlockEnd, HasLines}
+use Rattle.std.proofs.Common.{append_assoc}
 use Rattle.dump_text.specs.HeaderLine as line
-use Rattle.dump_text.specs.HeaderLine.{is_header, header_text, is_named, has_header, header_value, count_named}
-use Rattle.dump_text.specs.HeaderBlock.{is_block, lines_bytes, block_text, BeginsWithBlock, HasBlock}
-use Rattle.dump_text.specs.steps.ReadHeaders.{headers_of, AreHeaderLines, IsBlockBetween, IsPartBetween}
-use Rattle.dump_text.specs.steps.KnownValues.{may_follow}
-use Rattle.dump_text.specs.steps.Scanning.{IsLinesEnd, IsBlockEnd, HasLines}
 use Rattle.dump_text.proofs.Unique.{lines_once, lawful_lines, ended}
 use Rattle.dump_text.proofs.BoolLemmas.{first_true, second_true, absurd_bool}
 use Rattle.dump_text.proofs.ScanLemmas.{headers_of-lines, lines_behind}

@@ -1,3 +1,4 @@
+mod Prelude
 pub mod BoolLemmas
 pub mod NumberLemmas
 pub mod SpellingLemmas

@@ -1,15 +1,7 @@
 -- The names that have a meaning: which bytes are one, and where it stands among them.
-use Rattle.std.proofs.Common.{◌≡◌, ℕ, ◌<◌, ◌||◌, Bool, true, false, ◌==◌, List, [], ◌∷◌, length, map, filter, get_or, refl, sym, ap, ◌∙◌, lit<, bytes_eq, Some, is_some}
-use Rattle.std.proofs.lemmas.Option.{same_Some}
-use Rattle.std.specs.List.{list_any, find}
-use Rattle.std.proofs.lemmas.Bool.{eq-eqb}
-use Rattle.std.proofs.lemmas.Slice.Eq.{bytes_eq-Decides}
+use Rattle.dump_text.proofs.Prelude.{◌≡◌, ℕ, ◌<◌, ◌||◌, Bool, true, false, ◌==◌, List, [], ◌∷◌, length, map, filter, get_or, refl, sym, ap, ◌∙◌, lit<, bytes_eq, Some, is_some, same_Some, list_any, find, eq-eqb, bytes_eq-Decides, HeaderName, FormatVersion, Uuid, RevisionNumber, NodePath, PropContentLength, TextContentLength, ContentLength, NodeCopyfromRev, NodeCopyfromPath, TextCopySourceMd5, TextCopySourceSha1, NodeKind, NodeAction, TextContentMd5, TextContentSha1, TextDelta, PropDelta, name_text, all_names, name_place, known_name, names_of_length, is_known}
 use denote.Enum.Declared.{tag_of}
 use Rattle.dump_text.specs.contracts.names.HeaderName as enum
-use Rattle.dump_text.specs.declared.names.HeaderName.{HeaderName}
-use Rattle.dump_text.specs.declared.names.HeaderName.TheVariants.{FormatVersion, Uuid, RevisionNumber, NodePath, PropContentLength, TextContentLength, ContentLength, NodeCopyfromRev, NodeCopyfromPath, TextCopySourceMd5, TextCopySourceSha1, NodeKind, NodeAction, TextContentMd5, TextContentSha1, TextDelta, PropDelta}
-use Rattle.dump_text.specs.steps.KnownValues.{name_text, all_names, name_place, known_name, names_of_length}
-use Rattle.dump_text.specs.steps.Scanning.{is_known}
 
 -- what is found among some elements, by the first of them
 pub find_behind : {X : Type 0} (p : X → Bool) (x : X) (xs : List X) → p x ≡ false → find p (x ∷ xs) ≡ find p xs

@@ -1,13 +1,6 @@
 -- Digits, one more at a time.
-use Rattle.std.proofs.Common.{◌≡◌, ℕ, ◌+◌, ◌-◌, ◌*◌, ◌/◌, ◌%◌, ◌<◌, ◌≤◌, ◌^◌, true, List, [], ◌∷◌, ◌++◌, take, drop, set, length, get_or, decimal, refl, sym, ap, ◌∙◌, arith, suc}
-use Rattle.std.specs.List.{list_all}
-use Rattle.std.specs.Char.{is_ascii_digit, digit_value}
-use Rattle.std.specs.Str.Parse.{digits_value}
-use Rattle.std.proofs.lemmas.Int.Digits.{digits_value_more}
-use Rattle.std.proofs.lemmas.List.Folds.{list_all_more}
-use Rattle.std.proofs.lemmas.List.{drop-set, append_assoc}
-use Rattle.std.proofs.lemmas.Fmt.{decimal_step, decimal_digit}
-use Rattle.std.proofs.Math.Nat.{pow-succ'}
+use Rattle.dump_text.proofs.Prelude.{◌≡◌, ℕ, ◌+◌, ◌-◌, ◌*◌, ◌/◌, ◌%◌, ◌<◌, ◌≤◌, ◌^◌, true, List, [], ◌∷◌, ◌++◌, take, drop, set, length, get_or, decimal, refl, sym, ap, ◌∙◌, arith, suc, list_all, is_ascii_digit, digit_value, digits_value, digits_value_more, list_all_more, drop-set, decimal_step, decimal_digit, pow-succ'}
+use Rattle.std.proofs.lemmas.List.{append_assoc}
 
 pub digit_is : (c : ℕ) → is_ascii_digit c ≡ true → digit_value c ≡ c - 48
 digit_is c h = grind arith

@@ -1,16 +1,6 @@
 -- A part of an entry, a letter and a length and that many bytes, stands at the front of a text in one way.
-use Rattle.std.proofs.Common.{◌≡◌, ℕ, ◌<◌, ◌^◌, nat_lt, nat_le, Bool, true, false, ◌&&◌, ◌==◌, List, [], ◌∷◌, ◌++◌, ◌+◌, get_or, drop, length, length-append, refl, sym, ap, ◌∙◌, arith, append_assoc, Option, Some, None, if◌then◌else◌}
-use Rattle.std.specs.List.{list_all}
-use Rattle.std.specs.Char.{is_ascii_digit}
-use Rattle.std.specs.Str.Parse.{digits_value, AllDigits}
-use Rattle.std.proofs.lemmas.Fmt.{decimal_is_IsNumeral, length-decimal-le}
-use Rattle.std.proofs.lemmas.List.{drop_at, get_or-drop}
-use Rattle.std.proofs.lemmas.Str.Parse.{digit_from_value}
-use Rattle.dump_text.specs.HeaderLine.{has_byte}
-use Rattle.dump_text.specs.Number.{is_number, number_of, spelled_number}
-use Rattle.dump_text.specs.PropertyList.{sized_text}
-use Rattle.dump_text.specs.steps.Scanning.{IsFirstLine}
-use Rattle.dump_text.specs.steps.PropertyScan.{IsSized, HasSized, IsLetter}
+use Rattle.dump_text.proofs.Prelude.{◌≡◌, ℕ, ◌<◌, ◌^◌, nat_lt, nat_le, Bool, true, false, ◌&&◌, ◌==◌, List, [], ◌∷◌, ◌++◌, ◌+◌, get_or, drop, length, length-append, refl, sym, ap, ◌∙◌, arith, Option, Some, None, if◌then◌else◌, list_all, is_ascii_digit, digits_value, AllDigits, decimal_is_IsNumeral, length-decimal-le, drop_at, get_or-drop, digit_from_value, has_byte, is_number, number_of, spelled_number, sized_text, IsFirstLine, IsSized, HasSized, IsLetter}
+use Rattle.std.proofs.Common.{append_assoc}
 use Rattle.dump_text.proofs.Unique.{tail-eq, split_once, split_by_length}
 use Rattle.dump_text.proofs.BoolLemmas.{first_true, second_true}
 

@@ -1,11 +1,6 @@
 -- Where the value of a line stands in its dump.
-use Rattle.std.proofs.Common.{◌≡◌, ℕ, ◌+◌, ◌<◌, ◌==◌, false, List, [], ◌∷◌, ◌++◌, take, drop, length, refl, sym, ap, ◌∙◌, arith, append_assoc, length-append, Some}
-use Rattle.std.specs.List.{before_first, position_or_len}
-use Rattle.std.proofs.lemmas.List.{take_at, drop_at, take_all}
-use Rattle.std.proofs.lemmas.Bool.{ne_eqb}
-use Rattle.dump_text.specs.HeaderLine.{has_byte}
-use Rattle.dump_text.specs.steps.Scanning.{IsFirstLine, IsCutAtColon}
-use Rattle.dump_text.specs.steps.ValuePlaces.{value_at}
+use Rattle.dump_text.proofs.Prelude.{◌≡◌, ℕ, ◌+◌, ◌-◌, ◌<◌, ◌==◌, false, List, [], ◌∷◌, ◌++◌, take, drop, length, refl, sym, ap, ◌∙◌, arith, length-append, Some, before_first, position_or_len, take_at, drop_at, take_all, ne_eqb, has_byte, IsFirstLine, IsCutAtColon, IsSpanOf}
+use Rattle.std.proofs.Common.{append_assoc}
 use Rattle.dump_text.proofs.BoolLemmas.{first_false, second_false}
 use Rattle.dump_text.proofs.ScanLemmas.{position_at, back_lacks}
 
@@ -26,22 +21,28 @@ line_whole text none = let at = nowhere text none in take_all _ text (omega arit
         let more = nowhere text (second_false (c == 10) (has_byte 10 text) none) in
         rw no (ap (λ n. 1 + n) more ∙ omega arith)
 
--- what stands behind a front that isn't empty, up to an LF, is the value at its place
-pub value_there : (dump value behind front : List ℕ) (byte : ℕ) → has_byte 10 value ≡ false → 0 < length front
-    → dump ≡ front ++ (value ++ 10 ∷ behind) → byte ≡ length front
-    → value_at dump (record { byte = byte }) ≡ Some value
-value_there dump value behind front byte none some is at =
-    let there : (byte == 0) ≡ false = ne_eqb byte 0 (λ zero. absurd (omega arith)) in
-    let rest : drop byte dump ≡ value ++ 10 ∷ behind =
-    ap (drop byte) is ∙ drop_at front (value ++ 10 ∷ behind) byte (sym at) in
-    rw there (ap (λ t. Some (before_first (λ b. b == 10) t)) rest ∙ ap Some (line_before value behind none))
-
 -- the dump that ends with a value, an LF and other bytes is longer than these
 pub front_size : (dump value behind front : List ℕ) → dump ≡ front ++ (value ++ 10 ∷ behind)
     → length dump ≡ length front + (length value + (1 + length behind))
 front_size dump value behind front is =
     ap length is ∙ length-append front (value ++ 10 ∷ behind)
     ∙ ap (λ n. length front + n) (length-append value (10 ∷ behind) ∙ omega arith)
+
+-- what stands behind a front that isn't empty, up to an LF, is the value at its place
+pub value_there : (dump value behind front : List ℕ) (byte after : ℕ) → has_byte 10 value ≡ false → 0 < length front
+    → dump ≡ front ++ (value ++ 10 ∷ behind) → byte ≡ length front → after ≡ byte + length value
+    → IsSpanOf dump (record { place = record { byte = byte }; after = after }) (Some value)
+value_there dump value behind front byte after none some is at to =
+    let there : (byte == 0) ≡ false = ne_eqb byte 0 (λ zero. absurd (omega arith)) in
+    let rest : drop byte dump ≡ value ++ 10 ∷ behind =
+    ap (drop byte) is ∙ drop_at front (value ++ 10 ∷ behind) byte (sym at) in
+    let size = front_size dump value behind front is in
+    record {
+      stands = rw there (ap (λ t. Some (before_first (λ b. b == 10) t)) rest ∙ ap Some (line_before value behind none));
+      ends = rw there (ap Some (ap (take (after - byte)) rest ∙ take_at value (10 ∷ behind) _ (omega arith)));
+      rises = omega arith;
+      inside = omega arith;
+    }
 
 -- no LF stands in the value of a line
 pub value_lacks : (whole name value : List ℕ) → has_byte 10 whole ≡ false → IsCutAtColon whole name value

@@ -1,15 +1,6 @@
 -- Each text is a property block or is none, so one that can't be none is one.
-use Rattle.std.proofs.Common.{◌≡◌, ◌⊎◌, ℕ, zero, suc, ◌+◌, ◌<◌, ◌≤◌, nat_lt, Bool, true, false, ◌==◌, List, [], ◌∷◌, ◌++◌, take, drop, length, get_or, refl, sym, ap, ◌∙◌, arith, Option, Some, None, inl, inr, bytes_eq}
-use Rattle.std.proofs.Math.Logic.{∥∥₁_elim}
-use Rattle.std.proofs.lemmas.List.{take-append-drop, drop_more, length-take-le}
-use Rattle.std.proofs.lemmas.Bool.{eqb-true, eqb-false}
-use Rattle.std.proofs.lemmas.Slice.Eq.{bytes_eq-Decides}
+use Rattle.dump_text.proofs.Prelude.{◌≡◌, ◌⊎◌, ℕ, zero, suc, ◌+◌, ◌<◌, ◌≤◌, nat_lt, Bool, true, false, ◌==◌, List, [], ◌∷◌, ◌++◌, take, drop, length, get_or, refl, sym, ap, ◌∙◌, arith, Option, Some, None, inl, inr, bytes_eq, ∥∥₁_elim, take-append-drop, drop_more, length-take-le, eqb-true, eqb-false, bytes_eq-Decides, number_of, Property, block_end, HasPropertyChanges, IsFirstLine, IsSized, HasSized, HasEntry, HasEntries}
 use borrow.Author.Tests.{ltb-true, ltb-false}
-use Rattle.dump_text.specs.Number.{number_of}
-use Rattle.dump_text.specs.PropertyList.{Property, block_end}
-use Rattle.dump_text.specs.steps.PropertyReading.{HasPropertyChanges}
-use Rattle.dump_text.specs.steps.Scanning.{IsFirstLine}
-use Rattle.dump_text.specs.steps.PropertyScan.{IsSized, HasSized, HasEntry, HasEntries}
 use Rattle.dump_text.proofs.Unique.{tail-eq}
 use Rattle.dump_text.proofs.ScanLemmas.{clash}
 use Rattle.dump_text.proofs.Splits.{Split, split}

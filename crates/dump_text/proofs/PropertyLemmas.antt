@@ -1,18 +1,6 @@
 -- Property blocks are cut into entries in one way.
-use Rattle.std.proofs.Common.{◌≡◌, ◌↔◌, ◌⊎◌, ℕ, ◌<◌, ◌&&◌, ◌||◌, Bool, true, false, List, [], ◌∷◌, ◌++◌, get_or, length, lit<, refl, sym, ap, ◌∙◌, subst, arith, append_assoc, Option, Some, None, is_some, is_none, if◌then◌else◌, inl, inr, codes, bytes_eq}
-use Rattle.std.proofs.lemmas.Option.{same_Some}
-use Rattle.std.proofs.Math.Bool.{and-false}
-use Rattle.std.proofs.Math.Logic.{∥∥₁_elim}
-use Rattle.std.specs.Coded.{Coded-set, coded_list, coded_ℕ}
-use Rattle.std.proofs.lemmas.List.{append-nil}
-use Rattle.dump_text.specs.PropertyList.{Property, sized_text, IsEntry, AreEntries, IsPropertyBlock, block_end, has_deletes}
-use Rattle.dump_text.specs.steps.PropertyReading.{HasPropertyChanges, property_value}
-use Rattle.dump_text.specs.steps.ReadHeaders.{IsPartBetween}
-use Rattle.dump_text.specs.declared.parts.Parts.{Parts}
-use Rattle.dump_text.specs.declared.props.Entry.{Entry}
-use Rattle.dump_text.specs.steps.PropertyViews.{entry_property}
-use Rattle.dump_text.specs.declared.parts.Parts.TheVariants.{Set, Deleted}
-use Rattle.dump_text.specs.steps.PropertyScan.{IsSized, HasSized, HasEntry, HasEntries, IsEntryOf, parts_property, parts_rest}
+use Rattle.dump_text.proofs.Prelude.{◌≡◌, ◌↔◌, ◌⊎◌, ℕ, ◌<◌, ◌&&◌, ◌||◌, Bool, true, false, List, [], ◌∷◌, ◌++◌, get_or, length, lit<, refl, sym, ap, ◌∙◌, subst, arith, Option, Some, None, is_some, is_none, if◌then◌else◌, inl, inr, codes, bytes_eq, same_Some, and-false, ∥∥₁_elim, Coded-set, coded_list, coded_ℕ, append-nil, Property, sized_text, IsEntry, AreEntries, IsPropertyBlock, block_end, has_deletes, HasPropertyChanges, property_value, IsPartBetween, Parts, Entry, entry_property, Set, Deleted, IsSized, HasSized, HasEntry, HasEntries, IsEntryOf, parts_property, parts_rest}
+use Rattle.std.proofs.Common.{append_assoc}
 use Rattle.dump_text.proofs.BlockLemmas.{part_of_part}
 use Rattle.dump_text.proofs.PartLemmas.{sized_cut, part_once, part_inside}
 

@@ -1,21 +1,9 @@
 -- A text is cut at a byte in one way, and so into header lines.
-use Rattle.std.proofs.Common.{◌≡◌, ℕ, suc, ◌+◌, ◌-◌, ◌<◌, ◌≤◌, nat_lt, Bool, true, false, ◌||◌, ◌==◌, List, [], ◌∷◌, ◌++◌, take, drop, map, filter, length, get_or, slice_index, refl, sym, ap, ◌∙◌, arith, append_assoc, length-append, codes, Option, Some, None, position}
-use Rattle.std.specs.List.{list_all, position_or_len, All}
-use Rattle.std.proofs.lemmas.List.{take-append-drop, drop_more, get_or-take, get_or-drop, length-drop, length-take-le, take_at, drop_at, append-nil, flat_map_more, nil_from_length}
-use Rattle.std.proofs.lemmas.List.Elements.{All-cons}
-use Rattle.std.proofs.lemmas.List.Quantifiers.{position-Some}
-use Rattle.std.proofs.lemmas.List.Sums.{position_or_len_is, fails_before_first}
-use Rattle.std.proofs.lemmas.List.Splits.{slice_split_at}
-use Rattle.std.proofs.lemmas.Bool.{eqb-true, or_right}
-use Rattle.std.proofs.lemmas.Bool.Decides.{nat_tests}
-use Rattle.std.proofs.lemmas.List.Folds.{list_all-append}
+use Rattle.dump_text.proofs.Prelude.{◌≡◌, ℕ, suc, ◌+◌, ◌-◌, ◌<◌, ◌≤◌, nat_lt, Bool, true, false, ◌||◌, ◌==◌, List, [], ◌∷◌, ◌++◌, take, drop, map, filter, length, get_or, slice_index, refl, sym, ap, ◌∙◌, arith, length-append, codes, Option, Some, None, position, list_all, position_or_len, All, take-append-drop, drop_more, get_or-take, get_or-drop, length-drop, length-take-le, take_at, drop_at, append-nil, flat_map_more, nil_from_length, All-cons, position-Some, position_or_len_is, fails_before_first, slice_split_at, eqb-true, or_right, nat_tests, list_all-append, has_byte, header_text, is_header, lines_bytes, starts_with_lf, has_empty_line, header_of, headers_of, AreHeaderLines, IsFirstAt, IsFirstLine, IsCutAtColon, IsNoHeader, IsLinesEnd}
+use Rattle.std.proofs.Common.{append_assoc}
 use Rattle.memchr.specs.Find.{IsFirstByte, is_byte}
 use Rattle.dump_text.proofs.BoolLemmas.{equals_itself as same, absurd_bool, not_so, first_true, first_false, second_false}
 use Rattle.dump_text.specs.HeaderLine as line
-use Rattle.dump_text.specs.HeaderLine.{has_byte, header_text, is_header}
-use Rattle.dump_text.specs.HeaderBlock.{lines_bytes, starts_with_lf, has_empty_line}
-use Rattle.dump_text.specs.steps.ReadHeaders.{header_of, headers_of, AreHeaderLines}
-use Rattle.dump_text.specs.steps.Scanning.{IsFirstAt, IsFirstLine, IsCutAtColon, IsNoHeader, IsLinesEnd}
 use Rattle.dump_text.proofs.Unique.{split_once, Lawful, lawful, text_no_lf, regroup, all_first, all_rest, not_empty, ended}
 
 -- a byte that stands at no place of a text isn't in it

@@ -1,12 +1,5 @@
 -- The digits of a number, beside those that are written of it: they are the same but for leading zeros.
-use Rattle.std.proofs.Common.{rules, ◌≡◌, ℕ, ◌<◌, ◌≤◌, ◌^◌, nat_lt, nat_le, Bool, true, false, not, ◌&&◌, ◌==◌, List, get_or, length, bytes_eq, decimal, Option, Some, None, if◌then◌else◌, sym, ap, ◌∙◌, refl, arith, zero, suc}
-use Rattle.std.specs.List.{list_all}
-use Rattle.std.specs.Char.{is_ascii_digit}
-use Rattle.std.specs.Str.Parse.{digits_value}
-use Rattle.std.proofs.lemmas.Fmt.{decimal_digit, decimal-digits_value, first_decimal}
-use Rattle.std.proofs.lemmas.Str.Parse.{IsNumeralModel, IsDigitsTest, numerals_by_value, digits_value_short}
-use Rattle.std.proofs.lemmas.Slice.Eq.{bytes_eq-Decides}
-use Rattle.dump_text.specs.Number.{is_number, number_of, spelled_number}
+use Rattle.dump_text.proofs.Prelude.{rules, ◌≡◌, ℕ, ◌<◌, ◌≤◌, ◌^◌, nat_lt, nat_le, Bool, true, false, not, ◌&&◌, ◌==◌, List, get_or, length, bytes_eq, decimal, Option, Some, None, if◌then◌else◌, sym, ap, ◌∙◌, refl, arith, zero, suc, list_all, is_ascii_digit, digits_value, decimal_digit, decimal-digits_value, first_decimal, IsNumeralModel, IsDigitsTest, numerals_by_value, digits_value_short, bytes_eq-Decides, is_number, number_of, spelled_number}
 use Rattle.dump_text.proofs.BoolLemmas.{first_true, second_true, not_so}
 
 digits_test : IsDigitsTest (λ ds. list_all is_ascii_digit ds ≡ true)

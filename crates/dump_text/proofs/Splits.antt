@@ -1,7 +1,5 @@
 -- A text is cut at the first of some byte, or has none.
-use Rattle.std.proofs.Common.{◌≡◌, ℕ, Bool, true, false, ◌==◌, List, [], ◌∷◌, ◌++◌, refl, ap}
-use Rattle.std.proofs.lemmas.Bool.{eqb-true}
-use Rattle.dump_text.specs.HeaderLine.{has_byte}
+use Rattle.dump_text.proofs.Prelude.{◌≡◌, ℕ, Bool, true, false, ◌==◌, List, [], ◌∷◌, ◌++◌, refl, ap, eqb-true, has_byte}
 
 -- a text up to the first of these bytes, or without any
 pub data Split (b : ℕ) (text : List ℕ) : Type 0 where

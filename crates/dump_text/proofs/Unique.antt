@@ -1,12 +1,8 @@
 -- A text begins with at most one block.
-use Rattle.std.proofs.Common.{◌≡◌, ℕ, zero, suc, nat_lt, refl, sym, ◌∙◌, ap, subst, true, false, ◌&&◌, not, ◌==◌, List, [], ◌∷◌, ◌++◌, length, codes, arith, append_assoc, length-append, flat_map, nat_le, replicate}
-use Rattle.std.proofs.lemmas.Bool.{not-true, or_right}
-use Rattle.std.specs.List.{list_all}
+use Rattle.dump_text.proofs.Prelude.{◌≡◌, ℕ, zero, suc, nat_lt, refl, sym, ◌∙◌, ap, subst, true, false, ◌&&◌, not, ◌==◌, List, [], ◌∷◌, ◌++◌, length, codes, arith, length-append, flat_map, nat_le, replicate, not-true, or_right, list_all, known_names, has_byte, header_text, is_header, is_block, block_text, starts_with_lf, has_empty_line, BeginsWithBlock}
+use Rattle.std.proofs.Common.{append_assoc}
 use Rattle.dump_text.proofs.BoolLemmas.{first_true, second_true, first_false, second_false}
-use Rattle.dump_text.specs.Names.{known_names}
 use Rattle.dump_text.specs.HeaderLine as line
-use Rattle.dump_text.specs.HeaderLine.{has_byte, header_text, is_header}
-use Rattle.dump_text.specs.HeaderBlock.{is_block, block_text, starts_with_lf, has_empty_line, BeginsWithBlock}
 
 same_number : (n : ℕ) → (n == n) ≡ false → ⊥
 same_number n h = grind arith

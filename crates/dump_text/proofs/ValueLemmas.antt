@@ -1,23 +1,12 @@
 -- The values of the known names among header lines, line by line.
-use Rattle.std.proofs.Common.{◌≡◌, ◌≢◌, ℕ, zero, suc, replicate, ◌<◌, ◌==◌, not, ◌&&◌, Bool, true, false, List, [], ◌∷◌, ◌++◌, length, refl, sym, ap, ◌∙◌, arith, subst, bytes_eq, Option, Some, None, is_some, Bor, slice_index_or, slice_set, slice_range}
-use Rattle.std.proofs.lemmas.Option.{none-some, same_Some}
-use Rattle.std.specs.Option.{option_copied, IfSome}
-use Rattle.std.proofs.lemmas.Bool.{eqb-true, eqb-false}
-use Rattle.std.proofs.lemmas.List.{get_or-set_other, get_or-set_same}
-use Rattle.std.proofs.lemmas.Slice.Eq.{bytes_eq-Decides}
-use Rattle.dump_text.specs.declared.names.HeaderName.{HeaderName}
-use Rattle.dump_text.specs.steps.KnownValues.{name_text, name_place, known_name, noted_value, AreValues, may_follow}
+use Rattle.dump_text.proofs.Prelude.{◌≡◌, ◌≢◌, ℕ, zero, suc, replicate, ◌<◌, ◌==◌, not, ◌&&◌, Bool, true, false, List, [], ◌∷◌, ◌++◌, length, refl, sym, ap, ◌∙◌, arith, subst, bytes_eq, Option, Some, None, is_some, Bor, slice_index_or, slice_set, slice_range, none-some, same_Some, option_copied, IfSome, eqb-true, eqb-false, get_or-set_other, get_or-set_same, bytes_eq-Decides, HeaderName, name_text, name_place, known_name, noted_span, AreValues, may_follow, is_named, has_header, header_value, lines_bytes, headers_between, IsBlockBetween, IsPartBetween, is_known, is_there, no_span, value_at, IsSpanOf, ValuePlace, ValueSpan}
+use denote.Enum.Declared.{tag_of}
+use Rattle.dump_text.specs.contracts.names.HeaderName as enum
 use Rattle.dump_text.specs.HeaderLine as line
-use Rattle.dump_text.specs.HeaderLine.{is_named, has_header, header_value}
-use Rattle.dump_text.specs.HeaderBlock.{lines_bytes}
-use Rattle.dump_text.specs.steps.ReadHeaders.{headers_between, IsBlockBetween, IsPartBetween}
-use Rattle.dump_text.specs.steps.Scanning.{is_known}
-use Rattle.dump_text.specs.steps.ValuePlaces.{is_there, no_place, value_at}
-use Rattle.dump_text.specs.declared.value_place.ValuePlace.{ValuePlace}
 use Rattle.dump_text.proofs.BoolLemmas.{first_false, second_false, not_so}
 use Rattle.dump_text.proofs.Unique.{regroup}
 use Rattle.dump_text.proofs.BlockLemmas.{has_value, block_bytes, block_size, value_between, rest_between}
-use Rattle.dump_text.proofs.NameLemmas.{known_itself, known_text, known_is, text_once, place_once}
+use Rattle.dump_text.proofs.NameLemmas.{known_itself, known_text, known_is, text_once, place_once, tag_place}
 
 -- a value is there where its copy is
 pub some_copied : (r : Option (Bor (List ℕ))) → is_some r ≡ is_some (option_copied r)
@@ -33,10 +22,13 @@ place_has dump place = cases (is_there place) refl
     cases false is = rw is refl
 
 -- no value is noted before the first line
-pub none_noted : (dump : List ℕ) (count : ℕ) → AreValues dump [] (replicate count no_place)
-none_noted dump count name = ap (value_at dump) (all_none count (name_place name))
+pub none_noted : (dump : List ℕ) (count : ℕ) → AreValues dump [] (replicate count no_span)
+none_noted dump count name = subst (λ span. IsSpanOf dump span None) (sym (all_none count (name_place name))) none
   where
-    all_none : (n i : ℕ) → slice_index_or (replicate n no_place) i no_place ≡ no_place
+    none : IsSpanOf dump no_span None
+    none = record { stands = refl; ends = refl; rises = omega arith; inside = omega arith }
+
+    all_none : (n i : ℕ) → slice_index_or (replicate n no_span) i no_span ≡ no_span
     all_none zero i = refl
     all_none (suc n) zero = refl
     all_none (suc n) (suc i) = all_none n i
@@ -67,7 +59,7 @@ abbrev pub line_of : List ℕ → List ℕ → line.Header
 line_of name value = record { name = name; value = value }
 
 -- what is noted of a line behind some lines
-module _ (dump : List ℕ) (headers : List line.Header) (places : List ValuePlace) (are : AreValues dump headers places)
+module _ (dump : List ℕ) (headers : List line.Header) (spans : List ValueSpan) (are : AreValues dump headers spans)
     (name : List ℕ) where
   -- a line of no known name may follow, and changes nothing
   pub unknown_follows : known_name name ≡ None → true ≡ may_follow headers name
@@ -75,54 +67,69 @@ module _ (dump : List ℕ) (headers : List line.Header) (places : List ValuePlac
 
   -- a line of a name that isn't known changes no value
   pub unknown_noted : known_name name ≡ None → (value : List ℕ)
-      → AreValues dump (headers ++ line_of name value ∷ []) places
-  unknown_noted none value n = are n ∙ sym (value_other (name_text n) headers (line_of name value) (not_so _ other))
+      → AreValues dump (headers ++ line_of name value ∷ []) spans
+  unknown_noted none value n =
+      subst (IsSpanOf dump (noted_span spans n))
+      (sym (value_other (name_text n) headers (line_of name value) (not_so _ other))) (are n)
     where
       other : bytes_eq name (name_text n) ≡ true → ⊥
       other same = none-some n (sym none ∙ ap known_name ((bytes_eq-Decides name (name_text n)).0 same) ∙ known_itself n)
 
   -- a line of a known name may follow where the name has no value yet
   pub known_follows : (n : HeaderName) → known_name name ≡ Some n
-      → may_follow headers name ≡ not (is_there (slice_index_or places (name_place n) no_place))
+      → may_follow headers name ≡ not (is_there (noted_span spans n).place)
   known_follows n is =
       let known : is_known name ≡ true = known_is name ∙ ap is_some is in
-      let has : has_header name headers ≡ is_there (slice_index_or places (name_place n) no_place) =
+      let has : has_header name headers ≡ is_there (noted_span spans n).place =
       ap (λ t. has_header t headers) (known_text name n is) ∙ sym (has_value (name_text n) headers)
-      ∙ ap is_some (sym (are n)) ∙ sym (place_has dump (slice_index_or places (name_place n) no_place)) in
+      ∙ ap is_some (sym (are n).stands) ∙ sym (place_has dump (noted_span spans n).place) in
       ap (λ b. not (b && has_header name headers)) known ∙ ap not has
 
   -- and then its value is the line's
-  pub known_noted : (n : HeaderName) → known_name name ≡ Some n → name_place n < length places
-      → is_there (slice_index_or places (name_place n) no_place) ≡ false → (place : ValuePlace) (value : List ℕ)
-      → value_at dump place ≡ Some value
-      → AreValues dump (headers ++ line_of name value ∷ []) (slice_set places (name_place n) place)
-  known_noted n is inside free place value stands m = by_place (name_place m == name_place n) refl
+  pub known_noted : (n : HeaderName) → known_name name ≡ Some n → name_place n < length spans
+      → is_there (noted_span spans n).place ≡ false → (span : ValueSpan) (value : List ℕ)
+      → IsSpanOf dump span (Some value)
+      → AreValues dump (headers ++ line_of name value ∷ []) (slice_set spans (name_place n) span)
+  known_noted n is inside free span value stands m = by_place (name_place m == name_place n) refl
     where
       same_name : name ≡ name_text n
       same_name = known_text name n is
 
       none : has_header (name_text n) headers ≡ false
-      none = sym (has_value (name_text n) headers) ∙ ap is_some (sym (are n))
-          ∙ sym (place_has dump (slice_index_or places (name_place n) no_place)) ∙ free
+      none = sym (has_value (name_text n) headers) ∙ ap is_some (sym (are n).stands)
+          ∙ sym (place_has dump (noted_span spans n).place) ∙ free
 
       here : header_value (name_text n) (headers ++ line_of name value ∷ []) ≡ Some value
       here = value_first (name_text n) headers (line_of name value) none
           ((bytes_eq-Decides name (name_text n)).1 same_name)
 
       by_place : (b : Bool) → (name_place m == name_place n) ≡ b
-          → noted_value dump (slice_set places (name_place n) place) m
-          ≡ header_value (name_text m) (headers ++ line_of name value ∷ [])
+          → IsSpanOf dump (noted_span (slice_set spans (name_place n) span) m)
+          (header_value (name_text m) (headers ++ line_of name value ∷ []))
       by_place true at =
           let one : m ≡ n = place_once m n (eqb-true (name_place m) (name_place n) at) in
-          ap (noted_value dump (slice_set places (name_place n) place)) one
-          ∙ ap (value_at dump) (get_or-set_same places (name_place n) place no_place inside) ∙ stands
-          ∙ sym here ∙ ap (λ k. header_value (name_text k) (headers ++ line_of name value ∷ [])) (sym one)
+          subst (λ k. IsSpanOf dump (noted_span (slice_set spans (name_place n) span) k)
+          (header_value (name_text k) (headers ++ line_of name value ∷ []))) (sym one)
+          (subst (λ s. IsSpanOf dump s (header_value (name_text n) (headers ++ line_of name value ∷ [])))
+          (sym (get_or-set_same spans (name_place n) span no_span inside))
+          (subst (IsSpanOf dump span) (sym here) stands))
       by_place false at =
           let apart : name_place m ≢ name_place n = eqb-false (name_place m) (name_place n) at in
-          ap (value_at dump) (get_or-set_other places (name_place n) (name_place m) place no_place apart) ∙ are m
-          ∙ sym (value_other (name_text m) headers (line_of name value)
+          let other : header_value (name_text m) (headers ++ line_of name value ∷ []) ≡ header_value (name_text m) headers =
+          value_other (name_text m) headers (line_of name value)
           (not_so _ (λ same. apart (ap name_place
-          (text_once m n (sym ((bytes_eq-Decides name (name_text m)).0 same) ∙ same_name))))))
+          (text_once m n (sym ((bytes_eq-Decides name (name_text m)).0 same) ∙ same_name))))) in
+          subst (λ s. IsSpanOf dump s (header_value (name_text m) (headers ++ line_of name value ∷ [])))
+          (sym (get_or-set_other spans (name_place n) (name_place m) span no_span apart))
+          (subst (IsSpanOf dump (noted_span spans m)) (sym other) (are m))
+
+-- a value stands where it is noted by its name's number
+pub span_of_name : (dump : List ℕ) (headers : List line.Header) (spans : List ValueSpan) → AreValues dump headers spans
+    → (name : HeaderName)
+    → IsSpanOf dump (slice_index_or spans (tag_of enum.the_type name) no_span) (header_value (name_text name) headers)
+span_of_name dump headers spans are name =
+    subst (λ i. IsSpanOf dump (slice_index_or spans i no_span) (header_value (name_text name) headers))
+    (sym (tag_place name)) (are name)
 
 -- a value among the lines of a block stands in the block
 pub value_lent : (dump : List ℕ) (place after : ℕ) → IsBlockBetween dump place after → (name value : List ℕ)

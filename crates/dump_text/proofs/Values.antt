@@ -1,19 +1,8 @@
 -- Worked values of the definitions, computed and proved by the kernel.
-use Rattle.std.proofs.Common.{◌≡◌, ℕ, ◌<◌, ◌⊎◌, refl, ap, ◌∙◌, true, false, List, [], ◌∷◌, ◌++◌, length, Some, None, codes, inl, inr, arith, lit<, bytes_eq}
+use Rattle.dump_text.proofs.Prelude.{◌≡◌, ℕ, ◌<◌, ◌⊎◌, refl, ap, ◌∙◌, true, false, List, [], ◌∷◌, ◌++◌, length, Some, None, codes, inl, inr, arith, lit<, bytes_eq, list_any, FaultKind, fault_code, IsLeastFault, NoFault, fault_name, deciding_names, length_names, copy_names, known_names, name_text, Header, header_text, has_byte, is_header, is_named, has_header, count_named, header_value, with_header_value, is_block, lines_bytes, block_text, BeginsWithBlock, HasBlock, starts_with_lf, has_empty_line, block_fault, is_number, number_of, spelled_number, Property, sized_text, IsSetting, IsDeletion, IsEntry, AreEntries, IsPropertyBlock, has_deletes, change_text, entry_text, property_block_text, HasProperties, HasPropertyChanges, property_value}
 use Rattle.std.specs.Fmt.{digits}
-use Rattle.std.specs.List.{list_any}
-use Rattle.dump_text.specs.declared.fault.FaultKind.{FaultKind}
 use Rattle.dump_text.specs.declared.fault.FaultKind.TheVariants as faults
 use Rattle.dump_text.specs.declared.names.HeaderName.TheVariants as names
-use Rattle.dump_text.specs.FaultTable.{fault_code, IsLeastFault, NoFault}
-use Rattle.dump_text.specs.FaultNames.{fault_name}
-use Rattle.dump_text.specs.Names.{deciding_names, length_names, copy_names, known_names}
-use Rattle.dump_text.specs.steps.KnownValues.{name_text}
-use Rattle.dump_text.specs.HeaderLine.{Header, header_text, has_byte, is_header, is_named, has_header, count_named, header_value, with_header_value}
-use Rattle.dump_text.specs.HeaderBlock.{is_block, lines_bytes, block_text, BeginsWithBlock, HasBlock, starts_with_lf, has_empty_line, block_fault}
-use Rattle.dump_text.specs.Number.{is_number, number_of, spelled_number}
-use Rattle.dump_text.specs.PropertyList.{Property, sized_text, IsSetting, IsDeletion, IsEntry, AreEntries, IsPropertyBlock, has_deletes, change_text, entry_text, property_block_text}
-use Rattle.dump_text.specs.steps.PropertyReading.{HasProperties, HasPropertyChanges, property_value}
 use Rattle.dump_text.proofs.Unique.{block_some}
 use Rattle.dump_text.proofs.PropertyLemmas.{property_block_once}
 

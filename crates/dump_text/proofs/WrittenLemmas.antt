@@ -1,15 +1,6 @@
 -- A property block as it is written: which texts are one, and that it is read again as its list.
-use Rattle.std.proofs.Common.{◌≡◌, ◌↔◌, ◌⊎◌, ℕ, ◌<◌, ◌^◌, ◌&&◌, Bool, true, false, List, [], ◌∷◌, ◌++◌, get_or, length, lit<, flat_map, refl, sym, ap, ◌∙◌, subst, arith, append_assoc, Option, Some, None, inl, inr, codes, bytes_eq}
-use Rattle.std.proofs.lemmas.Option.{same_Some, none-some}
-use Rattle.std.specs.List.{All}
-use Rattle.std.proofs.lemmas.List.Elements.{All-nil, All-cons, All-head, All-tail}
-use Rattle.std.proofs.lemmas.Slice.Eq.{bytes_eq-Decides}
-use Rattle.dump_text.specs.Number.{spelled_number}
-use Rattle.dump_text.specs.PropertyList.{Property, sized_text, IsEntry, AreEntries, IsPropertyBlock, block_end, change_text, entry_text, property_block_text}
-use Rattle.dump_text.specs.steps.PropertyReading.{HasPropertyChanges}
-use Rattle.dump_text.specs.declared.parts.Parts.{Parts}
-use Rattle.dump_text.specs.declared.parts.Parts.TheVariants.{Set, Deleted}
-use Rattle.dump_text.specs.steps.PropertyScan.{IsSized, IsEntryOf, IsWritten, parts_property, parts_rest, is_shortest, are_shortest}
+use Rattle.dump_text.proofs.Prelude.{◌≡◌, ◌↔◌, ◌⊎◌, ℕ, ◌<◌, ◌^◌, ◌&&◌, Bool, true, false, List, [], ◌∷◌, ◌++◌, get_or, length, lit<, flat_map, refl, sym, ap, ◌∙◌, subst, arith, Option, Some, None, inl, inr, codes, bytes_eq, same_Some, none-some, All, All-nil, All-cons, All-head, All-tail, bytes_eq-Decides, spelled_number, Property, sized_text, IsEntry, AreEntries, IsPropertyBlock, block_end, change_text, entry_text, property_block_text, HasPropertyChanges, Parts, Set, Deleted, IsSized, IsEntryOf, IsWritten, parts_property, parts_rest, is_shortest, are_shortest}
+use Rattle.std.proofs.Common.{append_assoc}
 use Rattle.dump_text.proofs.BoolLemmas.{absurd_bool, first_true, second_true, both_true}
 use Rattle.dump_text.proofs.PartLemmas.{number_spells, spelled_spells, number_of-spelled, sized_once, part_inside}
 use Rattle.dump_text.proofs.PropertyLemmas.{EntryParts, entry_parts, scanned_parts, entry_shorter, property-eq, apart, begins_with, no_entry-end}

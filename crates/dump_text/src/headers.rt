@@ -5,24 +5,24 @@ ghost use Rattle.dump_text.specs.HeaderBlock.{HasBlock, block_fault};
 ghost use Rattle.dump_text.specs.steps.ReadHeaders.{headers_of};
 ghost use Rattle.dump_text.specs.steps.Scanning.{IsBlockEnd};
 ghost use Rattle.dump_text.specs.steps.KnownValues.{AreValues, may_follow};
-ghost use Rattle.dump_text.specs.steps.ValuePlaces.{value_at};
+ghost use Rattle.dump_text.specs.steps.ValuePlaces.{value_at, IsSpanOf};
 ghost use Rattle.dump_text.specs.steps.Views.{block_dump, block_headers};
 
 use crate::block::Block;
 use crate::fault::FaultKind;
 use crate::names::{COUNT, HeaderName};
 use crate::scan::{begins_with_lf, finds_empty_line, first_line, name_and_value};
-use crate::value_place::ValuePlace;
+use crate::value_place::{ValuePlace, ValueSpan};
 
 /// Where the value of each known name stands, at the name's place in `HeaderName`.
-type Places = [ValuePlace; COUNT];
+type Spans = [ValueSpan; COUNT];
 
 /// A block of header lines in a dump, and where the values of its known names stand.
 #[derive(Drop)]
 pub struct Headers<'a> {
     block: Block<'a>,
-    places: Places,
-    pub ghost known: { AreValues (block_dump block) (block_headers block) places },
+    spans: Spans,
+    pub ghost known: { AreValues (block_dump block) (block_headers block) spans },
 }
 
 impl<'a> Headers<'a> {
@@ -48,13 +48,13 @@ impl<'a> Headers<'a> {
         let Some(found) = block_at(dump, text) else {
             return Err(fault_of(text));
         };
-        let places = found.1;
+        let spans = found.1;
         let block = Block {
             dump,
             place,
             after: place + found.0,
         };
-        Ok(Headers { block, places })
+        Ok(Headers { block, spans })
     }
 
     /// The block.
@@ -70,7 +70,7 @@ impl<'a> Headers<'a> {
         ensures lent { let block = headers_block self.now in IfSome result (λ value.
             IsPartBetween (block_dump block) (block_place block) (block_after block) value.now) }
     {
-        self.block.value_at(self.place_of(name))
+        self.spans[name as usize].value_in(self.block.dump)
     }
 
     /// Where the value of the line of that name stands.
@@ -78,7 +78,7 @@ impl<'a> Headers<'a> {
         ensures { let block = headers_block self.now in
             value_at (block_dump block) result ≡ header_value (name_text name) (block_headers block) }
     {
-        self.places[name as usize]
+        self.spans[name as usize].place
     }
 
     /// Whether a line has that name.
@@ -102,18 +102,18 @@ fn fault_of(text: &[u8]) -> FaultKind
 
 /// How many bytes the block at the front of a text takes, and where the values of its known names stand in the dump that
 /// the text ends; None where there is no block.
-fn block_at(dump: &[u8], text: &[u8]) -> Option<(usize, Places)>
+fn block_at(dump: &[u8], text: &[u8]) -> Option<(usize, Spans)>
     requires { (front : List ℕ) × (dump.now ≡ front ++ text.now) }
     ensures { MatchOption result (¬ HasBlock text.now)
         (λ found. IsBlockEnd text.now found.0 × AreValues dump.now (headers_of (take found.0 text.now)) found.1) }
 {
-    let mut places = [ValuePlace::NONE; COUNT];
+    let mut spans = [ValueSpan::NONE; COUNT];
     let mut rest = text;
     while let Some((whole, others)) = first_line(rest) {
         if whole.is_empty() {
             let size = text.len() - rest.len();
             return if size > 0 {
-                Some((size + 1, places))
+                Some((size + 1, spans))
             } else {
                 None
             };
@@ -121,7 +121,7 @@ fn block_at(dump: &[u8], text: &[u8]) -> Option<(usize, Places)>
         let Some((name, value)) = name_and_value(whole) else {
             return None;
         };
-        if !note(&mut places, name, ValuePlace::before(dump, value, others)) {
+        if !note(&mut spans, name, ValueSpan::before(dump, value, others)) {
             return None;
         }
         rest = others;
@@ -131,20 +131,20 @@ fn block_at(dump: &[u8], text: &[u8]) -> Option<(usize, Places)>
 
 /// Notes where the value of the line behind some lines stands, if its name is known. False where one of these has its
 /// known name.
-fn note(places: &mut Places, name: &[u8], value: ValuePlace) -> bool
-    ensures follows { (dump : List ℕ) (headers : List Header) → AreValues dump headers places.old
+fn note(spans: &mut Spans, name: &[u8], value: ValueSpan) -> bool
+    ensures follows { (dump : List ℕ) (headers : List Header) → AreValues dump headers spans.old
         → result ≡ may_follow headers name.now }
-    ensures noted { (dump : List ℕ) (headers : List Header) (text : List ℕ) → AreValues dump headers places.old
-        → value_at dump value ≡ Some text → IsTrue result
-        → AreValues dump (headers ++ record { name = name.now; value = text } ∷ []) places.new }
+    ensures noted { (dump : List ℕ) (headers : List Header) (text : List ℕ) → AreValues dump headers spans.old
+        → IsSpanOf dump value (Some text) → IsTrue result
+        → AreValues dump (headers ++ record { name = name.now; value = text } ∷ []) spans.new }
 {
     let Some(known) = HeaderName::of(name) else {
         return true;
     };
     let slot = known as usize;
-    if places[slot].is_there() {
+    if spans[slot].place.is_there() {
         return false;
     }
-    places[slot] = value;
+    spans[slot] = value;
     true
 }

@@ -1,5 +1,5 @@
 //! Numbers as headers, property lengths and mergeinfo have them.
-ghost use Rattle.std.specs.Prelude.{◌≡◌, ◌<◌, ◌^◌, ℕ, IfSome, Some, bytes_eq};
+ghost use Rattle.std.specs.Prelude.{◌≡◌, ◌<◌, ◌^◌, ◌==◌, ◌||◌, ℕ, IfSome, Some, bytes_eq, get_or, length, nat_lt, not};
 ghost use Rattle.dump_text.specs.Number.{number_of, spelled_number};
 
 use std::marker::Model;
@@ -25,9 +25,11 @@ pub fn number(bytes: &[u8]) -> Option<u64>
     Some(value)
 }
 
-/// Whether the digits of a number are those that the filter writes: none of them is a leading zero.
+/// Whether the digits of a number are those that the filter writes: none of them is a leading zero. Of any other
+/// bytes too it tells whether no zero stands before the rest of them.
 pub fn is_shortest(digits: &[u8]) -> bool
-    ensures { (n : ℕ) → number_of digits.now ≡ Some n → result ≡ bytes_eq digits.now (spelled_number n) }
+    ensures spelled { (n : ℕ) → number_of digits.now ≡ Some n → result ≡ bytes_eq digits.now (spelled_number n) }
+    ensures first { result ≡ (nat_lt (length digits.now) 2 || not (get_or digits.now 0 0 == 48)) }
 {
     digits.len() < 2 || digits[0] != b'0'
 }

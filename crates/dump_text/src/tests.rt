@@ -1,8 +1,8 @@
 //! What no clause says: worked examples, and each call once.
 use crate::laws::{blocks_are_read_as_written, properties_are_read_as_written};
 use crate::{
-    Block, FaultKind, HeaderName, Headers, Props, find, number, push_block_end, push_deletion,
-    push_header, push_property, spell,
+    Block, FaultKind, HeaderName, Headers, Props, find, is_shortest, number, push_block_end,
+    push_deletion, push_header, push_property, spell,
 };
 use std::alloc::{AllocError, Global};
 use std::test::Fail;
@@ -35,6 +35,14 @@ fn numbers_are_spelled_without_leading_zeros(rt: HostRuntime) {
 }
 
 #[test]
+fn a_leading_zero_is_no_shortest_spelling(rt: HostRuntime) {
+    let rows = [(b"0".as_slice(), true), (b"70", true), (b"07", false)];
+    for (text, shortest) in rows {
+        assert!(rt; is_shortest(text) == shortest);
+    }
+}
+
+#[test]
 fn a_block_is_cut_where_it_stands(rt: HostRuntime) -> Result<(), Fail> {
     let version = Block::cut(VERSION, 0)?;
     assert_eq!(rt; version.dump(), VERSION);
@@ -48,10 +56,10 @@ fn a_block_is_cut_where_it_stands(rt: HostRuntime) -> Result<(), Fail> {
     Ok(())
 }
 
-// A line's name, value and whole text.
+/// A line's name, value and whole text.
 type LineRow<'a> = (&'a [u8], &'a [u8], &'a [u8]);
 
-// Whether these are the lines of a block.
+/// Whether these are the lines of a block.
 fn are_lines(block: &Block<'_>, rows: [LineRow<'_>; 3]) -> bool {
     let mut lines = block.lines();
     for (name, value, whole) in rows {
@@ -83,11 +91,17 @@ fn lines_are_given_in_their_order(rt: HostRuntime) -> Result<(), Fail> {
     Ok(())
 }
 
-// Whether a known name has this value, by each way to ask.
+/// Whether a known name has this value, by each way to ask.
 fn has_value(headers: &Headers<'_>, name: HeaderName, value: Option<&[u8]>) -> bool {
     headers.value(name) == value
         && headers.has(name) == value.is_some()
         && headers.block().get(name.bytes()) == value
+}
+
+/// Whether a known name's value stands at its place, or nowhere.
+fn is_placed(headers: &Headers<'_>, name: HeaderName, value: Option<&[u8]>) -> bool {
+    let place = headers.place_of(name);
+    place.is_there() == value.is_some() && headers.block().value_at(place) == value
 }
 
 #[test]
@@ -105,6 +119,17 @@ fn values_of_known_names_are_found(rt: HostRuntime) -> Result<(), Fail> {
     for (name, value) in rows {
         assert!(rt; has_value(&headers, name, value), "{name:?}");
     }
+    Ok(())
+}
+
+#[test]
+fn values_stand_at_their_places(rt: HostRuntime) -> Result<(), Fail> {
+    let headers = Headers::read(b"Node-path: a: b\nNode-kind: \n\n", 0)?;
+    let path = Some(b"a: b".as_slice());
+    let are_placed = is_placed(&headers, HeaderName::NodePath, path)
+        && is_placed(&headers, HeaderName::NodeKind, Some(b""))
+        && is_placed(&headers, HeaderName::TextDelta, None);
+    assert!(rt; are_placed);
     Ok(())
 }
 
@@ -149,10 +174,10 @@ fn a_byte_is_found_where_it_stands_first(rt: HostRuntime) {
     assert!(rt; find(b':', b"a").is_none());
 }
 
-// An entry's name, its value, and whether it is gone.
+/// An entry's name, its value, and whether it is gone.
 type EntryRow<'a> = (&'a [u8], &'a [u8], bool);
 
-// Whether these are the entries of a block.
+/// Whether these are the entries of a block.
 fn are_entries(props: &Props<'_>, rows: &[EntryRow<'_>]) -> bool {
     let mut entries = props.entries();
     for row in rows {

@@ -1,8 +1,8 @@
 //! Where the values of header lines stand.
-ghost use Rattle.std.specs.Prelude.{◌≡◌, ◌==◌, ◌∷◌, ◌++◌, ◌<◌, ℕ, List, Some, IsFalse, length, drop, option_copied};
+ghost use Rattle.std.specs.Prelude.{◌≡◌, ◌==◌, ◌∷◌, ◌++◌, ◌<◌, ◌≤◌, ℕ, List, Some, IsFalse, length, drop, option_copied};
 ghost use Rattle.std.specs.List.{before_first};
 ghost use Rattle.dump_text.specs.HeaderLine.{has_byte};
-ghost use Rattle.dump_text.specs.steps.ValuePlaces.{is_there, value_at};
+ghost use Rattle.dump_text.specs.steps.ValuePlaces.{is_there, value_at, span_text, IsSpanOf};
 
 use crate::scan::first_line;
 
@@ -16,18 +16,7 @@ pub struct ValuePlace {
 
 impl ValuePlace {
     /// That of no value.
-    pub(crate) const NONE: ValuePlace = ValuePlace { byte: 0 };
-
-    /// Where a value stands in a dump that ends with its line and these bytes behind that.
-    pub(crate) fn before(dump: &[u8], value: &[u8], behind: &[u8]) -> ValuePlace
-        requires line { IsFalse (has_byte 10 value.now) }
-        requires stands { (front : List ℕ) × (0 < length front) × (dump.now ≡ front ++ (value.now ++ 10 ∷ behind.now)) }
-        ensures { value_at dump.now result ≡ Some value.now }
-    {
-        ValuePlace {
-            byte: dump.len() - behind.len() - 1 - value.len(),
-        }
-    }
+    const NONE: ValuePlace = ValuePlace { byte: 0 };
 
     /// Whether there is a value.
     pub fn is_there(self) -> bool
@@ -42,6 +31,47 @@ impl ValuePlace {
     {
         if self.is_there() {
             Some(line_of(bytes_from(dump, self.byte)))
+        } else {
+            None
+        }
+    }
+}
+
+/// Where a value stands in its dump, and where it ends there: of a block whose values are asked for more than once.
+#[derive(Clone, Copy)]
+pub(crate) struct ValueSpan {
+    pub(crate) place: ValuePlace,
+    /// The byte behind it.
+    after: usize,
+}
+
+impl ValueSpan {
+    /// That of no value.
+    pub(crate) const NONE: ValueSpan = ValueSpan {
+        place: ValuePlace::NONE,
+        after: 0,
+    };
+
+    /// Where a value stands in a dump that ends with its line and these bytes behind that.
+    pub(crate) fn before(dump: &[u8], value: &[u8], behind: &[u8]) -> ValueSpan
+        requires line { IsFalse (has_byte 10 value.now) }
+        requires stands { (front : List ℕ) × (0 < length front) × (dump.now ≡ front ++ (value.now ++ 10 ∷ behind.now)) }
+        ensures { IsSpanOf dump.now result (Some value.now) }
+    {
+        let after = dump.len() - behind.len() - 1;
+        let place = ValuePlace {
+            byte: after - value.len(),
+        };
+        ValueSpan { place, after }
+    }
+
+    /// The value that stands there in the dump.
+    pub(crate) fn value_in(self, dump: &[u8]) -> Option<&[u8]>
+        requires inside { (self.place.byte ≤ self.after) × (self.after ≤ length dump.now) }
+        ensures { option_copied result ≡ span_text dump.now self }
+    {
+        if self.place.is_there() {
+            Some(&dump[self.place.byte..self.after])
         } else {
             None
         }

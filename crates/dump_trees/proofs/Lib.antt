@@ -1,3 +1,4 @@
+mod Prelude
 pub mod paths
 pub mod changes
 pub mod histories

@@ -13,14 +13,14 @@ use std::io::{self, ErrorKind, Write};
 use std::process::Abort;
 use std::test::Fail;
 
-// What a broken writer answers once it has no room left.
+/// What a broken writer answers once it has no room left.
 #[derive(Clone, Copy)]
 enum Ending {
     Error,
     Nothing,
 }
 
-// A writer that has room for so many bytes, and whose flush fails where it has none.
+/// A writer that has room for so many bytes, and whose flush fails where it has none.
 #[derive(Drop)]
 struct Broken {
     held: Vec<u8>,
@@ -52,7 +52,7 @@ impl Write for Broken {
     }
 }
 
-// A sink that has failed so often that its count stays.
+/// A sink that has failed so often that its count stays.
 #[derive(Drop)]
 struct WornOut {
     calls: u32,
@@ -77,7 +77,7 @@ impl Sink for WornOut {
     }
 }
 
-// The piece `abcde`, of a lent chunk and one of its own.
+/// The piece `abcde`, of a lent chunk and one of its own.
 fn five(alloc: Global) -> Result<Piece<'static>, Fail> {
     let mut piece = Piece::new(alloc);
     piece.push(Chunk::Lent(b"ab"))?;
@@ -86,8 +86,8 @@ fn five(alloc: Global) -> Result<Piece<'static>, Fail> {
     Ok(piece)
 }
 
-// A caller that is generic in the writer, and knows at its end what the writer holds. The error says how many bytes
-// the writer took.
+/// A caller that is generic in the writer, and knows at its end what the writer holds. The error says how many bytes
+/// the writer took.
 fn write_through<W: Write>(piece: &Piece<'_>, writer: &mut W, buffer: Vec<u8>) -> Result<(), u64>
     ensures { OnOk result (Appends (W.contents writer.old) (W.contents writer.new) piece.now) }
 {
@@ -104,7 +104,7 @@ fn write_through<W: Write>(piece: &Piece<'_>, writer: &mut W, buffer: Vec<u8>) -
     }
 }
 
-// Whether these are the bytes of the chunks.
+/// Whether these are the bytes of the chunks.
 fn are_chunks(chunks: &[Chunk<'_>], wanted: &[&[u8]]) -> bool {
     for (chunk, bytes) in chunks.iter().zip(wanted) {
         if chunk.bytes() != *bytes {
@@ -121,7 +121,7 @@ fn a_piece_is_its_chunks_in_order(rt: HostRuntime) -> Result<(), Fail> {
     Ok(())
 }
 
-// Whether a sink gives this answer to the piece, takes these bytes, and counts a failure where it is one.
+/// Whether a sink gives this answer to the piece, takes these bytes, and counts a failure where it is one.
 fn is_written_up_to(
     sink: &mut MemorySink,
     piece: &Piece<'_>,
@@ -181,7 +181,7 @@ fn trouble_comes_once(rt: HostRuntime) {
     assert!(rt; accepts(&mut sink, &calls) && holds(&sink, b"abcde", 1));
 }
 
-// Whether a sink fails at each further call.
+/// Whether a sink fails at each further call.
 fn fails_for_good(sink: &mut MemorySink) -> bool {
     for failures in 1..4 {
         if !accepts(sink, &[(b"de", Err(SinkDown))]) || !holds(sink, b"abc", failures) {
@@ -202,7 +202,7 @@ fn counts<W: Write>(out: &Out<W>, written: u64, failures: u64) -> bool {
     out.written() == written && out.failures() == failures
 }
 
-// Whether an `Out` takes a piece and two bytes more, and counts them.
+/// Whether an `Out` takes a piece and two bytes more, and counts them.
 fn takes_seven<W: Write>(out: &mut Out<W>, piece: &Piece<'_>) -> bool {
     let taken = write_piece(out, piece) == Ok(())
         && accepts(out, &[(b"", Ok(0)), (b"fg", Ok(2))])
@@ -219,7 +219,7 @@ fn a_writer_is_written_counted_and_given_back(rt: HostRuntime) -> Result<(), Fai
     Ok(())
 }
 
-// Whether a writer is lent with so much room to wait in, and has the piece then.
+/// Whether a writer is lent with so much room to wait in, and has the piece then.
 fn is_lent(alloc: Global, piece: &Piece<'_>, room: usize) -> Result<bool, Fail> {
     let mut text = Vec::from_slice(alloc, b"> ")?;
     let buffer = Vec::with_capacity(alloc, room)?;
@@ -236,7 +236,7 @@ fn a_lent_writer_is_written_and_counted(rt: HostRuntime) -> Result<(), Fail> {
     Ok(())
 }
 
-// Hands on these bytes in turn; whether all are taken, and so many have reached the writer behind each.
+/// Hands on these bytes in turn; whether all are taken, and so many have reached the writer behind each.
 fn hands_on<W: Write>(sink: &mut OutMut<'_, W>, calls: &[(&[u8], u64)]) -> bool {
     for (bytes, written) in calls {
         if sink.accept(bytes) != Ok(bytes.len()) || sink.written() != *written {
@@ -264,7 +264,7 @@ fn small_texts_wait_for_the_writer(rt: HostRuntime) -> Result<(), Fail> {
     Ok(())
 }
 
-// A writer that breaks behind four bytes.
+/// A writer that breaks behind four bytes.
 fn breaking(alloc: Global, ending: Ending) -> Broken {
     Broken {
         held: Vec::new(alloc),
@@ -274,13 +274,13 @@ fn breaking(alloc: Global, ending: Ending) -> Broken {
     }
 }
 
-// Whether a writer without room fails to take a byte and to flush, and counts that.
+/// Whether a writer without room fails to take a byte and to flush, and counts that.
 fn is_down(out: &mut Out<Broken>) -> bool {
     let down = accepts(out, &[(b"e", Err(SinkDown)), (b"", Ok(0))]) && out.flush() == Err(SinkDown);
     down && counts(out, 0, 2)
 }
 
-// Whether a writer that breaks has the first bytes, and fails then.
+/// Whether a writer that breaks has the first bytes, and fails then.
 fn is_broken_off(alloc: Global, piece: &Piece<'_>, mut writer: Broken) -> bool {
     let answer = write_through(piece, &mut writer, Vec::new(alloc));
     let first = answer == Err(4) && writer.held.as_slice() == b"abcd".as_slice();
@@ -312,7 +312,7 @@ fn a_worn_out_sink_takes_nothing(rt: HostRuntime) -> Result<(), Fail> {
     Ok(())
 }
 
-// A piece of two chunks without bytes.
+/// A piece of two chunks without bytes.
 fn blank(alloc: Global) -> Result<Piece<'static>, Fail> {
     let mut piece = Piece::new(alloc);
     piece.push(Chunk::Lent(b""))?;
@@ -329,7 +329,7 @@ fn no_call_is_made_for_no_bytes(rt: HostRuntime) -> Result<(), Fail> {
     Ok(())
 }
 
-// Whether two chunks take no memory, and a third is there or refused.
+/// Whether two chunks take no memory, and a third is there or refused.
 fn grows<'a>(piece: &mut Piece<'a>) -> bool {
     let two = piece.push(Chunk::Lent(b"a")) == Ok(()) && piece.push(Chunk::Lent(b"b")) == Ok(());
     let count = if piece.push(Chunk::Lent(b"c")) == Ok(()) {
@@ -340,21 +340,21 @@ fn grows<'a>(piece: &mut Piece<'a>) -> bool {
     two && piece.chunks().len() == count
 }
 
-// Run with each allocation refused in turn: what fails leaves the chunks.
+/// Run with each allocation refused in turn: what fails leaves the chunks.
 #[test]
 fn a_refused_growth_leaves_the_piece(rt: HostRuntime) {
     let mut piece = Piece::new(rt.alloc());
     assert!(rt; grows(&mut piece));
 }
 
-// Whether a sink that breaks behind two bytes takes them, at once or behind a growth that was refused.
+/// Whether a sink that breaks behind two bytes takes them, at once or behind a growth that was refused.
 fn takes_two(sink: &mut MemorySink) -> bool {
     let refused = sink.accept(b"abc").is_err();
     let left = !refused || (holds(sink, b"", 1) && accepts(sink, &[(b"abc", Ok(2))]));
     left && sink.taken() == b"ab".as_slice() && accepts(sink, &[(b"c", Err(SinkDown))])
 }
 
-// Run with each allocation refused in turn: what fails leaves the bytes, and the next call goes on.
+/// Run with each allocation refused in turn: what fails leaves the bytes, and the next call goes on.
 #[test]
 fn a_refused_growth_leaves_the_sink(rt: HostRuntime) {
     let mut sink = MemorySink::new(rt.alloc(), 8, Trouble::From(2));

@@ -1,21 +1,6 @@
 -- A survey whose last bytes are handed on.
-use Rattle.std.proofs.Common.{◌≡◌, ℕ, Bool, List, [], ◌++◌, Option, None, Some, Result, Ok, Err, IfOk, IfErr, IfSome, OnErr, MatchBool, true, false, inl, inr, refl, sym, ap, subst, ◌∙◌, append_assoc}
-use Rattle.std.proofs.lemmas.List.{append_cancel_left, append-nil}
-use Rattle.std.specs.Io.KnownBytes.{Appends, Keeps, GrowsBy, append_known}
-use Rattle.std.proofs.KnownBytes.{Appends-kept, Appends-trans}
-use Rattle.dump_records.proofs.ListLaw.{each_dump_has_one_list}
-use Rattle.dump_rules.specs.Settings.{Settings}
-use Rattle.dump_filter.specs.Groups.{kept_revisions}
-use Rattle.dump_writer.specs.steps.SinkStates.{LentState, lent_taken}
-use Rattle.dump_writer.specs.SinkWords.{IsPrefixOf}
-use Rattle.dump_survey.specs.SurveyText.{IsSurveyText, BreaksOffSurvey}
-use Rattle.dump_survey.specs.RevisionMap.{IsRevisionMap, map_lines}
-use Rattle.dump_survey.specs.LinesBehind.{AreLinesBehind, TakesSomeBehind}
-use Rattle.dump_survey.specs.declared.survey_text.SurveyFailure.{SurveyFailure}
-use Rattle.survey_cli.specs.Drive.{IsCallText, IsMapAskedFor, IsWholeText, SurveysDump, SurveysInput, TakesFirst}
-use Rattle.survey_cli.specs.declared.drive.BrokenOff.{BrokenOff}
-use Rattle.survey_cli.specs.declared.words.Call.{Call}
-use Rattle.survey_cli.specs.steps.Answered.{Arrives, FrontBreaksOff, MapBreaksOff, SurveyBreaksOff, told_status}
+use Rattle.survey_cli.proofs.Prelude.{◌≡◌, ℕ, Bool, List, [], ◌++◌, Option, None, Some, Result, Ok, Err, IfOk, IfErr, IfSome, OnErr, MatchBool, true, false, inl, inr, refl, sym, ap, subst, ◌∙◌, append_assoc, append_cancel_left, Appends, Keeps, GrowsBy, append_known, Appends-kept, Appends-trans, each_dump_has_one_list, Settings, kept_revisions, LentState, lent_taken, IsPrefixOf, IsSurveyText, BreaksOffSurvey, IsRevisionMap, map_lines, AreLinesBehind, TakesSomeBehind, SurveyFailure, IsCallText, IsMapAskedFor, IsWholeText, SurveysDump, SurveysInput, TakesFirst, BrokenOff, Call, Arrives, FrontBreaksOff, MapBreaksOff, SurveyBreaksOff, told_status}
+use Rattle.std.proofs.lemmas.List.{append-nil}
 
 -- where nothing waits the known bytes are those of the writer
 from_none : (a b : Option (List ℕ)) (bytes : List ℕ) → Appends (append_known a []) b bytes → Appends a b bytes

@@ -1,6 +1,6 @@
 -- What reads up to the end gave.
-use Rattle.std.proofs.Common.{◌≡◌, ℕ, ◌++◌, List, take, Option, Some, None, IfSome, sym, ap, ◌∙◌, append-nil}
-use Rattle.std.specs.Io.KnownBytes.{Consumes, IsAtEnd}
+use Rattle.survey_cli.proofs.Prelude.{◌≡◌, ℕ, ◌++◌, List, take, Option, Some, None, IfSome, sym, ap, ◌∙◌, Consumes, IsAtEnd}
+use Rattle.std.proofs.Common.{append-nil}
 
 -- a reader that gave nothing more, and is at its end, gave all
 pub whole-at_end : (first before after : Option (List ℕ)) (read chunk : List ℕ) → Consumes first before read

@@ -1,18 +1,11 @@
 -- What a line means that clap takes, and one that it refuses.
-use Rattle.std.proofs.Common.{◌≡◌, ◌∙◌, ◌⊎◌, ◌&&◌, Bool, true, false, sym, ap, subst, refl, List, [], ◌∷◌, Some, Result, Err, inl, inr, arith}
-use Rattle.std.proofs.lemmas.Bool.{ne_eqb}
+use Rattle.survey_cli.proofs.Prelude.{◌≡◌, ◌∙◌, ◌⊎◌, ◌&&◌, Bool, true, false, sym, ap, subst, refl, List, [], ◌∷◌, Some, Result, Err, inl, inr, arith, ne_eqb, Side, flags, TellsCall, call_of_line, call_of_side, call_by, side_in, Call, Usage, Words, Memory}
 use Rattle.clap.specs.Kinds.{HasKind, Kinds}
 use Rattle.clap.specs.Walk.{is_empty}
 use Rattle.clap.specs.Words.{Row, Text, fault_of, is_simple, is_simple_and_free, kind_of, matches_of}
 use Rattle.clap.specs.declared.error.Error.{Error}
 use Rattle.clap.specs.declared.error.kind.ErrorKind.TheVariants.{OutOfMemory}
 use Rattle.clap.proofs.OnLiterals.{clap_on_literals}
-use Rattle.dump_rules.specs.declared.options.Side.{Side}
-use Rattle.survey_cli.specs.CommandLine.{flags}
-use Rattle.survey_cli.specs.Words.{TellsCall, call_of_line, call_of_side, call_by, side_in}
-use Rattle.survey_cli.specs.declared.words.Call.{Call}
-use Rattle.survey_cli.specs.declared.words.Usage.{Usage}
-use Rattle.survey_cli.specs.declared.words.Usage.TheVariants.{Words, Memory}
 
 -- the command is simple, so that the words give its matches
 pub simple : is_simple flags ≡ true

@@ -1,12 +1,6 @@
 -- Worked values of the definitions, computed and proved by the kernel.
-use Rattle.std.proofs.Common.{◌≡◌, refl, true, false, List, [], ◌∷◌, length, Some, None, Ok, Err, codes}
+use Rattle.survey_cli.proofs.Prelude.{◌≡◌, refl, true, false, List, [], ◌∷◌, length, Some, None, Ok, Err, codes, Include, Exclude, Pad, DropAll, flags, prefix_words, plain_flag, is_survey_call, TellsCall, empty_by_drops, call_of_words, side_in, named_side, Words, BothDrops}
 use Rattle.clap.specs.Words.{Text}
-use Rattle.dump_rules.specs.declared.options.Side.TheVariants.{Include, Exclude}
-use Rattle.dump_rules.specs.declared.options.Empty.TheVariants.{Pad, DropAll}
-use Rattle.survey_cli.specs.CommandLine.{flags, prefix_words, plain_flag}
-use Rattle.survey_cli.specs.steps.LawfulLines.{is_survey_call}
-use Rattle.survey_cli.specs.Words.{TellsCall, empty_by_drops, call_of_words, side_in, named_side}
-use Rattle.survey_cli.specs.declared.words.Usage.TheVariants.{Words, BothDrops}
 use Rattle.clap.proofs.OnLiterals.{clap_on_literals}
 
 -- CommandLine

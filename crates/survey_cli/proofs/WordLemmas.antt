@@ -1,13 +1,8 @@
 -- What is read of the rows of a line.
-use Rattle.std.proofs.Common.{◌≡◌, ◌∙◌, Bool, true, false, refl, sym, ap, Option, Some, None, codes}
-use Rattle.std.specs.Option.{option_map_or, unwrap_or}
-use Rattle.std.specs.Str.{bytes_eq}
-use Rattle.std.specs.Str.Parse.{ParsesBool}
-use Rattle.std.proofs.lemmas.Slice.Eq.{bytes_eq-Decides}
+use Rattle.survey_cli.proofs.Prelude.{◌≡◌, ◌∙◌, Bool, true, false, refl, sym, ap, Option, Some, None, codes, option_map_or, unwrap_or, bytes_eq, ParsesBool, bytes_eq-Decides, is_flag_set}
 use Rattle.clap.specs.Words.{ReadsOne, Text, one_text, rows_of}
 use Rattle.clap.specs.declared.parser.matches.Found.{Found}
 use Rattle.clap.proofs.WalkLemmas.{one_text-rows}
-use Rattle.survey_cli.specs.Words.{is_flag_set}
 
 -- a text that isn't this one differs from it
 differs : (text other : Text) → (text ≡ other → ⊥) → bytes_eq text other ≡ false

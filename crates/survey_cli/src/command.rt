@@ -6,7 +6,7 @@ ghost use Rattle.survey_cli.specs.CommandLine.{flags, prefix_words, plain_flag};
 use clap::{Arg, ArgAction, Command};
 use std::alloc::{AllocError, Global};
 
-// A flag without a value.
+/// A flag without a value.
 fn plain_flag<'a>(alloc: Global, name: &'a str) -> Arg<'a>
     ensures rule { rule_of result ≡ plain_flag name.entry.now }
     ensures local { result.global ≡ false }
@@ -14,7 +14,7 @@ fn plain_flag<'a>(alloc: Global, name: &'a str) -> Arg<'a>
     Arg::new(alloc, name).long(name).action(ArgAction::SetTrue)
 }
 
-// The words behind the flags, of which there is at least one.
+/// The words behind the flags, of which there is at least one.
 fn prefix_words<'a>(alloc: Global) -> Arg<'a>
     ensures rule { rule_of result ≡ prefix_words }
     ensures local { result.global ≡ false }

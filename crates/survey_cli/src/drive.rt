@@ -57,7 +57,7 @@ pub fn refuse<E: Write>(errors: &mut E, usage: Usage) -> u8
     }
 }
 
-// Surveys the whole input, as the call asks for.
+/// Surveys the whole input, as the call asks for.
 fn survey_input<R: Read, W: Write, E: Write>(
     alloc: Global,
     call: &Call,
@@ -85,7 +85,7 @@ fn survey_input<R: Read, W: Write, E: Write>(
     tell(errors, answer)
 }
 
-// Writes the survey with all that stands behind it, and hands on all that waits.
+/// Writes the survey with all that stands behind it, and hands on all that waits.
 fn survey_and_flush<W: Write>(
     alloc: Global,
     dump: &[u8],
@@ -101,7 +101,7 @@ fn survey_and_flush<W: Write>(
     flush_behind(sink, answer)
 }
 
-// Writes all that the call asks for.
+/// Writes all that the call asks for.
 fn write_text<W: Write>(
     alloc: Global,
     dump: &[u8],
@@ -118,8 +118,8 @@ fn write_text<W: Write>(
     Ok(found)
 }
 
-// Writes the survey, and behind it how many lines of mergeinfo are left out, the folders to make and what to keep as
-// well.
+/// Writes the survey, and behind it how many lines of mergeinfo are left out, the folders to make and what to keep as
+/// well.
 fn write_front<W: Write>(
     alloc: Global,
     dump: &[u8],
@@ -136,7 +136,7 @@ fn write_front<W: Write>(
     Ok(found)
 }
 
-// Writes the map of revisions, where the call asks for it.
+/// Writes the map of revisions, where the call asks for it.
 fn write_asked_map<W: Write>(
     alloc: Global,
     dump: &[u8],
@@ -154,7 +154,7 @@ fn write_asked_map<W: Write>(
     Ok(())
 }
 
-// Hands on all that waits behind a text, unless its sink failed: then no more is tried.
+/// Hands on all that waits behind a text, unless its sink failed: then no more is tried.
 fn flush_behind<W: Write>(
     sink: &mut OutMut<'_, W>,
     answer: Result<bool, SurveyFailure>,
@@ -174,7 +174,7 @@ fn flush_behind<W: Write>(
     }
 }
 
-// A failure, with the bytes that the sink's writer took.
+/// A failure, with the bytes that the sink's writer took.
 fn broken_off<W: Write>(sink: &OutMut<'_, W>, failure: SurveyFailure) -> BrokenOff
     ensures { GrowsBy sink.now.out.start sink.now.out.taken result.written }
 {
@@ -184,7 +184,7 @@ fn broken_off<W: Write>(sink: &OutMut<'_, W>, failure: SurveyFailure) -> BrokenO
     }
 }
 
-// The line of a survey that broke off, and the status.
+/// The line of a survey that broke off, and the status.
 fn tell<E: Write>(errors: &mut E, answer: Result<bool, BrokenOff>) -> u8
     ensures { result ≡ told_status answer }
 {
@@ -198,7 +198,7 @@ fn tell<E: Write>(errors: &mut E, answer: Result<bool, BrokenOff>) -> u8
     }
 }
 
-// The line and the status where there was no memory before the survey.
+/// The line and the status where there was no memory before the survey.
 fn tell_out_of_memory<E: Write>(errors: &mut E) -> u8
     ensures { result ≡ 3 }
 {

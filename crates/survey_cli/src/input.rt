@@ -27,8 +27,8 @@ pub fn read_all<R: Read>(alloc: Global, reader: &mut R, size: u64) -> Result<Vec
     }
 }
 
-// Room for an input of this size, and for a byte more: so its end is found without another growth. A size that is wrong
-// or has no room is as good as none, since reading makes its own.
+/// Room for an input of this size, and for a byte more: so its end is found without another growth. A size that is wrong
+/// or has no room is as good as none, since reading makes its own.
 fn room(alloc: Global, size: u64) -> Vec<u8>
     ensures { result.items ≡ [] }
 {

@@ -23,7 +23,7 @@ fn main(rt: HostRuntime) -> ExitCode {
     ExitCode::from(status)
 }
 
-// The whole program on the words and the streams of the process.
+/// The whole program on the words and the streams of the process.
 fn run_words(rt: &HostRuntime) -> Result<u8, Usage> {
     let alloc = rt.alloc();
     let words = read_words(rt)?;
@@ -43,7 +43,7 @@ fn run_words(rt: &HostRuntime) -> Result<u8, Usage> {
     ))
 }
 
-// The words of the process, where each is UTF-8.
+/// The words of the process, where each is UTF-8.
 fn read_words(rt: &HostRuntime) -> Result<Vec<String>, Usage> {
     match env::args(rt) {
         Ok(words) => words.collect(rt.alloc()).map_err(|_| Usage::Memory),
@@ -52,7 +52,7 @@ fn read_words(rt: &HostRuntime) -> Result<Vec<String>, Usage> {
     }
 }
 
-// How many bytes standard input has where it is a file, else 0 or another number.
+/// How many bytes standard input has where it is a file, else 0 or another number.
 fn input_size(rt: &HostRuntime) -> u64 {
     match fs::metadata(rt, "/dev/stdin") {
         Ok(input) => input.len(),

@@ -56,7 +56,7 @@ pub fn call_of<'a>(alloc: Global, words: &'a [&'a str]) -> Result<Call, Usage>
     }
 }
 
-// The side that a line begins with.
+/// The side that a line begins with.
 fn side_in(line: &[&str]) -> Option<Side>
     ensures { result ≡ side_in (map (λ word. word.now) line.now) }
 {
@@ -66,7 +66,7 @@ fn side_in(line: &[&str]) -> Option<Side>
     }
 }
 
-// The side of this name.
+/// The side of this name.
 fn named_side(word: &str) -> Option<Side>
     ensures { result ≡ named_side word.now }
 {
@@ -77,7 +77,7 @@ fn named_side(word: &str) -> Option<Side>
     }
 }
 
-// Why clap refuses the words.
+/// Why clap refuses the words.
 fn refusal(error: &Error) -> Usage
     ensures memory { kind_of error.now ≡ ErrorKind.OutOfMemory → result ≡ Usage.Memory }
     ensures words { kind_of error.now ≢ ErrorKind.OutOfMemory → result ≡ Usage.Words }
@@ -89,7 +89,7 @@ fn refusal(error: &Error) -> Usage
     }
 }
 
-// What a side and what stands behind it ask for.
+/// What a side and what stands behind it ask for.
 fn read_call(alloc: Global, side: Side, matches: &ArgMatches<'_>) -> Result<Call, Usage>
     ensures { TellsCall (call_of_side side (rows_of (found_of matches.now))) result }
 {
@@ -117,14 +117,14 @@ fn read_call(alloc: Global, side: Side, matches: &ArgMatches<'_>) -> Result<Call
     }
 }
 
-// Whether the flag stands among the words.
+/// Whether the flag stands among the words.
 fn is_flag_set(matches: &ArgMatches<'_>, name: &str) -> bool
     ensures { result ≡ is_flag_set name.now (rows_of (found_of matches.now)) }
 {
     matches.get_one(name).unwrap_or(false)
 }
 
-// What the flags make of empty revisions, where they don't contradict each other.
+/// What the flags make of empty revisions, where they don't contradict each other.
 fn read_empty(matches: &ArgMatches<'_>) -> Option<Empty>
     ensures { result ≡ empty_by_rows (rows_of (found_of matches.now)) }
 {
@@ -139,7 +139,7 @@ fn read_empty(matches: &ArgMatches<'_>) -> Option<Empty>
     }
 }
 
-// The prefixes as they were given.
+/// The prefixes as they were given.
 fn read_prefixes<'a>(alloc: Global, matches: &ArgMatches<'a>) -> Result<Vec<&'a [u8]>, Usage>
     ensures { IfOk result (λ texts. map (λ text. text.now) texts.items ≡ unwrap_or (all_of (codes "PREFIX") (rows_of (found_of matches.now))) []) }
 {
@@ -149,7 +149,7 @@ fn read_prefixes<'a>(alloc: Global, matches: &ArgMatches<'a>) -> Result<Vec<&'a 
     }
 }
 
-// The words' bytes.
+/// The words' bytes.
 fn as_bytes<'a>(alloc: Global, words: &[&'a str]) -> Result<Vec<&'a [u8]>, Usage>
     ensures { IfOk result (λ texts. map (λ text. text.now) texts.items ≡ map (λ word. word.now) words.now) }
 {

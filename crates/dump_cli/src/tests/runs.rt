@@ -17,7 +17,7 @@ use std::io::Write;
 use std::process::Abort;
 use std::test::Fail;
 
-// Revision 1 adds `trunk`, `trunk/a` and `trunk2`, in this order.
+/// Revision 1 adds `trunk`, `trunk/a` and `trunk2`, in this order.
 const DUMP: &[u8] = b"SVN-fs-dump-format-version: 2\n\
 \n\
 Revision-number: 0\n\
@@ -69,7 +69,7 @@ PROPS-END\n\
 \n\
 ";
 
-// Where the node of `trunk2` begins.
+/// Where the node of `trunk2` begins.
 const TRUNK2: usize = 483;
 
 fn include_trunk(alloc: Global) -> Result<Options, Memory> {
@@ -85,7 +85,7 @@ fn include_trunk(alloc: Global) -> Result<Options, Memory> {
     )
 }
 
-// What comes of it, of the nodes that are kept and dropped.
+/// What comes of it, of the nodes that are kept and dropped.
 fn report(kept: u64, dropped: u64) -> Answer {
     Answer::Clean(Report {
         revisions_kept: 2,
@@ -96,11 +96,11 @@ fn report(kept: u64, dropped: u64) -> Answer {
     })
 }
 
-// What stands behind a revision's number.
+/// What stands behind a revision's number.
 const PROPERTIES: &[u8] =
     b"\nProp-content-length: 56\nContent-length: 56\n\nK 8\nsvn:date\nV 27\n2024-01-02T03:04:05.000000Z\nPROPS-END\n\n";
 
-// A revision, and a node under `x` or under `trunk`.
+/// A revision, and a node under `x` or under `trunk`.
 fn write_group(dump: &mut Vec<u8>, number: u64) -> Result<(), Fail> {
     write_revision(dump, number)?;
     let parent = if number % 2 == 0 { "trunk" } else { "x" };
@@ -118,7 +118,7 @@ fn write_revision(dump: &mut Vec<u8>, number: u64) -> Result<(), Fail> {
     Ok(())
 }
 
-// Whether a run that may have been refused memory or a thread left a first part of what a clean one gives.
+/// Whether a run that may have been refused memory or a thread left a first part of what a clean one gives.
 fn is_first_part(answer: Answer, taken: &[u8], clean: (Answer, &[u8])) -> bool {
     match answer {
         Answer::Failed { failure, written } => {
@@ -130,7 +130,7 @@ fn is_first_part(answer: Answer, taken: &[u8], clean: (Answer, &[u8])) -> bool {
     }
 }
 
-// Run with each allocation refused in turn.
+/// Run with each allocation refused in turn.
 #[test]
 fn out_of_memory_leaves_a_first_part(rt: HostRuntime) {
     let alloc = rt.alloc();

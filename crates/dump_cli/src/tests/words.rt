@@ -18,7 +18,7 @@ struct Wanted {
     quiet: bool,
 }
 
-// `include a` with no flag.
+/// `include a` with no flag.
 const PLAIN: Wanted = Wanted {
     side: Side::Include,
     empty: Empty::Pad,
@@ -52,7 +52,7 @@ fn has_prefixes(options: &Options, prefixes: &[&str]) -> bool {
     options.prefix(prefixes.len()).is_none()
 }
 
-// Whether words give this order.
+/// Whether words give this order.
 fn is_order<'a>(
     alloc: Global,
     words: &'a [&'a str],
@@ -63,7 +63,7 @@ fn is_order<'a>(
     Ok(found_in(&order) == wanted && has_prefixes(&order.options, prefixes))
 }
 
-// The same of words and prefixes in one text each, with spaces between them.
+/// The same of words and prefixes in one text each, with spaces between them.
 fn is_read(alloc: Global, line: &str, prefixes: &str, wanted: Wanted) -> Result<bool, Fail> {
     let words: Vec<&str> = line.split(' ').collect(alloc)?;
     let prefixes: Vec<&str> = prefixes.split(' ').collect(alloc)?;
@@ -98,7 +98,7 @@ const FLAGS: Wanted = Wanted {
     ..PLAIN
 };
 
-// Words, and the prefixes and the rest of what they ask for.
+/// Words, and the prefixes and the rest of what they ask for.
 const READ: [(&str, &str, Wanted); 13] = [
     ("svndumpfilter include a", "a", PLAIN),
     (
@@ -205,7 +205,7 @@ fn is_refused<'a>(alloc: Global, words: &'a [&'a str], usage: Usage) -> bool {
     }
 }
 
-// The same of words with spaces between them.
+/// The same of words with spaces between them.
 fn is_line_refused(alloc: Global, line: &str, usage: Usage) -> Result<bool, Fail> {
     let words: Vec<&str> = line.split(' ').collect(alloc)?;
     Ok(is_refused(alloc, words.as_slice(), usage))
@@ -270,7 +270,7 @@ fn is_quiet_by_two(order: &Order) -> bool {
         && (order.plan.workers(), order.plan.window(), order.quiet) == (2, 64, true)
 }
 
-// Run with each allocation refused in turn: there is an order, or no memory.
+/// Run with each allocation refused in turn: there is an order, or no memory.
 #[test]
 fn an_order_or_no_memory(rt: HostRuntime) {
     let words = [

@@ -7,7 +7,7 @@ use std::alloc::Global;
 use std::process::Abort;
 use std::test::Fail;
 
-// A record with a property block of these entries.
+/// A record with a property block of these entries.
 fn record_with_entries(alloc: Global, header: &str, entries: &str) -> Result<String, Fail> {
     let length = format!(in alloc; "{}", entries.len().saturating_add(10))?;
     let parts = [
@@ -23,7 +23,7 @@ fn record_with_entries(alloc: Global, header: &str, entries: &str) -> Result<Str
     joined(alloc, &parts)
 }
 
-// The verdict on such a record under a version.
+/// The verdict on such a record under a version.
 fn verdict_on_entries(
     alloc: Global,
     version: &str,
@@ -57,7 +57,7 @@ fn nodes_under_version_three_may_delete_properties(rt: HostRuntime) -> Result<()
     Ok(())
 }
 
-// Whether the first property is mergeinfo, and whether some property is.
+/// Whether the first property is mergeinfo, and whether some property is.
 fn has_mergeinfo(done: &Done<'_>, first: bool, some: bool) -> bool {
     let Some(props) = done.props() else {
         return false;
@@ -68,14 +68,14 @@ fn has_mergeinfo(done: &Done<'_>, first: bool, some: bool) -> bool {
     }
 }
 
-// A dump of version 3 with a kept node with these entries.
+/// A dump of version 3 with a kept node with these entries.
 fn dump_with_entries(alloc: Global, first: &str, second: &str) -> Result<String, Fail> {
     let entries = joined(alloc, &[first, second])?;
     let node = record_with_entries(alloc, "Node-path: trunk", entries.as_str())?;
     joined(alloc, &["SVN-fs-dump-format-version: 3\n\n", node.as_str()])
 }
 
-// Whether the node of such a dump has this verdict, and mergeinfo so.
+/// Whether the node of such a dump has this verdict, and mergeinfo so.
 fn is_deleting(
     alloc: Global,
     dump: &[u8],

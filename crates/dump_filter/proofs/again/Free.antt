@@ -1,27 +1,10 @@
 -- What is written of records without a fault has none where everything is kept.
-use Rattle.std.proofs.Common.{◌≡◌, ℕ, zero, suc, ◌<◌, Bool, true, false, not, ◌&&◌, ◌||◌, List, [], ◌∷◌, ◌++◌, take_while, refl, sym, ap, ◌∙◌, subst, arith, Option, Some, None, MatchOption, Contains, if◌then◌else◌}
+use Rattle.dump_filter.proofs.Prelude.{◌≡◌, ℕ, zero, suc, ◌<◌, Bool, true, false, not, ◌&&◌, ◌||◌, List, [], ◌∷◌, ◌++◌, take_while, refl, sym, ap, ◌∙◌, subst, arith, Option, Some, None, MatchOption, Contains, if◌then◌else◌, or_right, or_left, ⊤, list_any, prefix_len, FaultKind, tail-eq, DumpRecord, Settings, KeptRevisions, new_number, is_revision_record, is_node, is_kept_node, keep_all, group_of, keeps_group, revision_number, kept_revisions, written_number, is_whole_file, is_copy, HoldsOfRecord, AreFaultFree, kept_numbers, is_written, absurd_bool, both_true, first_true}
 use Rattle.dump_filter.proofs.knowing.FilterLemmas.{none_within}
-use Rattle.std.proofs.lemmas.Bool.{or_right, or_left}
-use Rattle.std.specs.Bool.{⊤}
-use Rattle.std.specs.List.{list_any, prefix_len}
-use Rattle.dump_text.specs.declared.fault.FaultKind.{FaultKind}
 use Rattle.dump_text.specs.declared.fault.FaultKind.TheVariants as faults
-use Rattle.dump_text.proofs.Unique.{tail-eq}
-use Rattle.dump_records.specs.RecordText.{DumpRecord}
-use Rattle.dump_rules.specs.Settings.{Settings}
-use Rattle.dump_rules.specs.Renumbering.{KeptRevisions, new_number}
-use Rattle.dump_digest.specs.RecordParts.{is_revision_record, is_node, is_kept_node}
-use Rattle.dump_filter.specs.FilterLaws.{keep_all}
-use Rattle.dump_filter.specs.Groups.{group_of, keeps_group, revision_number, kept_revisions}
-use Rattle.dump_filter.specs.NewHeaders.{written_number, is_whole_file}
-use Rattle.dump_digest.specs.RecordParts.{is_copy}
-use Rattle.dump_filter.specs.RecordFaults.{HoldsOfRecord, AreFaultFree}
-use Rattle.dump_filter.specs.steps.Knowledge.{kept_numbers}
-use Rattle.dump_filter.specs.Written.{is_written}
 use Rattle.dump_filter.proofs.again.Numbers.{kept_revision, dropped_revision, no_revision, new_number_rises}
 use Rattle.dump_filter.proofs.again.Order.{RisesFrom, present_behind, AreInOrder, in_order, order_fits}
 use Rattle.dump_filter.proofs.knowing.Answered.{AllLawful}
-use Rattle.dump_text.proofs.BoolLemmas.{absurd_bool, both_true, first_true}
 use Rattle.dump_filter.proofs.groups.GroupLemmas.{take_cons}
 use Rattle.dump_filter.proofs.groups.KindLemmas.{alone}
 use Rattle.dump_filter.proofs.groups.NumberLemmas.{passed_keeps}

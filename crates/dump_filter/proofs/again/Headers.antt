@@ -1,19 +1,5 @@
 -- The header lines that are written of a record, as lines that are read again.
-use Rattle.std.proofs.Common.{◌≡◌, ℕ, ◌+◌, ◌<◌, ◌^◌, ◌==◌, nat_le, Bool, true, false, not, ◌&&◌, ◌||◌, List, [], ◌∷◌, length, refl, sym, ap, ◌∙◌, arith, bytes_eq, is_none}
-use Rattle.std.specs.List.{list_all, list_any}
-use Rattle.std.proofs.lemmas.Bool.{eqb-true}
-use Rattle.std.proofs.lemmas.Slice.Eq.{bytes_eq-Decides}
-use Rattle.dump_text.specs.Number.{spelled_number}
-use Rattle.dump_text.specs.Names.{version_name, uuid_name, revision_name, path_name, copy_revision_name, copy_path_name, property_length_name, text_length_name, content_length_name, known_names}
-use Rattle.dump_text.specs.HeaderLine.{Header, has_header, count_named, with_header_value}
-use Rattle.dump_text.specs.HeaderBlock.{is_block}
-use Rattle.dump_text.proofs.PartLemmas.{spelled_spells}
-use Rattle.dump_records.specs.HeaderRules.{header_number, header_length, property_length, text_length, is_one_alone, has_bad_kind, has_bad_version, has_bad_number, has_bad_lengths}
-use Rattle.dump_records.specs.RecordText.{is_lawful}
-use Rattle.dump_records.proofs.HeaderLemmas.{deciding}
-use Rattle.dump_records.proofs.Unique.{keeps}
-use Rattle.dump_filter.specs.NewHeaders.{with_length, with_lengths}
-use Rattle.dump_text.proofs.BoolLemmas.{equals_itself, first_true, second_true, first_false, second_false, not_so, absurd_bool}
+use Rattle.dump_filter.proofs.Prelude.{◌≡◌, ℕ, ◌+◌, ◌<◌, ◌^◌, ◌==◌, nat_le, Bool, true, false, not, ◌&&◌, ◌||◌, List, [], ◌∷◌, length, refl, sym, ap, ◌∙◌, arith, bytes_eq, is_none, list_all, list_any, eqb-true, bytes_eq-Decides, spelled_number, version_name, uuid_name, revision_name, path_name, copy_revision_name, copy_path_name, property_length_name, text_length_name, content_length_name, known_names, Header, has_header, count_named, with_header_value, is_block, spelled_spells, header_number, header_length, property_length, text_length, is_one_alone, has_bad_kind, has_bad_version, has_bad_number, has_bad_lengths, is_lawful, deciding, keeps, with_length, with_lengths, equals_itself, first_true, second_true, first_false, second_false, not_so, absurd_bool}
 use Rattle.dump_filter.proofs.again.LineChanges.{IsChange, same_has, both_changes, put_has, put_change, length_change, block_names, IsTold, told_later, told_put, told_length, told_reads, told_put_again, told_length_again}
 
 -- a known name stands at most once in a block

@@ -1,29 +1,5 @@
 -- Header lines that change, join or go, seen name by name.
-use Rattle.std.proofs.Common.{◌≡◌, ℕ, ◌+◌, ◌<◌, ◌≤◌, ◌^◌, ◌==◌, nat_lt, nat_le, Bool, true, false, not, ◌&&◌, ◌||◌, filter, find, count_by, Option, None, option_map, List, [], ◌∷◌, ◌++◌, length, refl, sym, ap, ◌∙◌, subst, arith, bytes_eq, Some, is_some, is_none, option_and_then, unwrap_or, if◌then◌else◌, MatchBool}
-use Rattle.std.proofs.Math.Bool.{or-false}
-use Rattle.std.specs.List.{list_all}
-use Rattle.std.specs.Option.{option_or}
-use Rattle.std.proofs.lemmas.Bool.{eqb-true}
-use Rattle.std.proofs.lemmas.Bool.Decides.{nat_tests}
-use Rattle.std.proofs.lemmas.List.Elements.{All-filter}
-use Rattle.std.proofs.lemmas.List.Filters.{sum_by-filter_both}
-use Rattle.std.proofs.lemmas.List.Folds.{fold-map, find-append, list_all-map, list_any-append}
-use Rattle.std.proofs.lemmas.List.Sums.{sum_by_push, AllPass-from_list_all, list_all-from_AllPass}
-use Rattle.std.proofs.lemmas.Map.Views.{any-filter_same}
-use Rattle.std.proofs.lemmas.Slice.Eq.{bytes_eq-Decides}
-use Rattle.dump_text.specs.Number.{number_of, spelled_number}
-use Rattle.dump_text.specs.Names.{known_names}
-use Rattle.dump_text.specs.HeaderLine.{Header, is_header, has_byte, is_named, has_header, count_named, header_value, with_header_value}
-use Rattle.dump_text.specs.HeaderBlock.{is_block}
-use Rattle.dump_text.proofs.BlockLemmas.{count_cons, has_value}
-use Rattle.dump_text.proofs.ScanLemmas.{all_more}
-use Rattle.dump_text.proofs.Unique.{lawful, lawful_lines}
-use Rattle.dump_text.proofs.PartLemmas.{number_of-spelled, spelled_spells}
-use Rattle.dump_records.specs.HeaderRules.{header_number, header_length}
-use Rattle.dump_filter.specs.NewHeaders.{with_length, without_copy_headers}
-use Rattle.dump_filter.specs.steps.NewLines.{is_copy_line}
-use Rattle.dump_records.proofs.HeaderLemmas.{no_number}
-use Rattle.dump_text.proofs.BoolLemmas.{second_true, first_false, second_false, both_true, absurd_bool, not_so}
+use Rattle.dump_filter.proofs.Prelude.{◌≡◌, ℕ, ◌+◌, ◌<◌, ◌≤◌, ◌^◌, ◌==◌, nat_lt, nat_le, Bool, true, false, not, ◌&&◌, ◌||◌, filter, find, count_by, Option, None, option_map, List, [], ◌∷◌, ◌++◌, length, refl, sym, ap, ◌∙◌, subst, arith, bytes_eq, Some, is_some, is_none, option_and_then, unwrap_or, if◌then◌else◌, MatchBool, or-false, list_all, option_or, eqb-true, nat_tests, All-filter, sum_by-filter_both, fold-map, find-append, list_all-map, list_any-append, sum_by_push, AllPass-from_list_all, list_all-from_AllPass, any-filter_same, bytes_eq-Decides, number_of, spelled_number, known_names, Header, is_header, has_byte, is_named, has_header, count_named, header_value, with_header_value, is_block, count_cons, has_value, all_more, lawful, lawful_lines, number_of-spelled, spelled_spells, header_number, header_length, with_length, without_copy_headers, is_copy_line, no_number, second_true, first_false, second_false, both_true, absurd_bool, not_so}
 
 -- the lines changed only under names that are touched; no line and no name came that a block refuses
 pub record IsChange (touches : List ℕ → Bool) (old new : List Header) : Type 0 where
@@ -136,8 +112,8 @@ put_other name value other apart (h ∷ headers) = by_name (put_other name value
         → is_named name h ≡ b
         → find (is_named other) (with_header_value name value (h ∷ headers)) ≡ find (is_named other) (h ∷ headers)
     by_name more true is =
-        let unlike : is_named other h ≡ false = ap (λ m. bytes_eq m other) ((bytes_eq-Decides h.name name).0 is)
-        ∙ apart in
+        let unlike : is_named other h ≡ false =
+        ap (λ m. bytes_eq m other) ((bytes_eq-Decides h.name name).0 is) ∙ apart in
         rw (is, apart, unlike) more
     by_name more false is = rw is (ap (λ (o : Option Header). if is_named other h then Some h else o) more)
 
@@ -195,17 +171,18 @@ put_same name value (h ∷ headers) few is = by_name (put_same name value header
         → with_header_value name value headers ≡ headers) → (b : Bool)
         → is_named name h ≡ b → with_header_value name value (h ∷ headers) ≡ h ∷ headers
     by_name more true named =
-        let size : count_named name (h ∷ headers) ≡ 1 + count_named name headers = count_cons name h headers
-        ∙ ap (λ b. (if b then 1 else 0) + count_named name headers) named in
+        let size : count_named name (h ∷ headers) ≡ 1 + count_named name headers =
+        count_cons name h headers ∙ ap (λ b. (if b then 1 else 0) + count_named name headers) named in
         let same : h.name ≡ name = (bytes_eq-Decides h.name name).0 named in
         let one : Some h.value ≡ Some value = sym (rw named refl) ∙ is in
         let value_is : h.value ≡ value = cc in
-        let alone : has_header name headers ≡ false = not_so (has_header name headers)
+        let alone : has_header name headers ≡ false =
+        not_so (has_header name headers)
         (λ has. let some = sym (has_count name headers) ∙ has in let f = few in grind (arith, nat_tests)) in
         rw named (λ i. record { name = sym same i; value = sym value_is i } ∷ put_absent name value headers alone i)
     by_name more false named =
-        let size : count_named name (h ∷ headers) ≡ 0 + count_named name headers = count_cons name h headers
-        ∙ ap (λ b. (if b then 1 else 0) + count_named name headers) named in
+        let size : count_named name (h ∷ headers) ≡ 0 + count_named name headers =
+        count_cons name h headers ∙ ap (λ b. (if b then 1 else 0) + count_named name headers) named in
         let same : count_named name headers ≡ count_named name (h ∷ headers) = omega (arith, size) in
         let few_later : nat_le (count_named name headers) 1 ≡ true = ap (λ n. nat_le n 1) same ∙ few in
         let later : header_value name headers ≡ Some value = sym (rw named refl) ∙ is in
@@ -385,8 +362,8 @@ told_reads name n headers small told = by_case (has_header name headers) refl to
         → MatchBool b (header_value name headers ≡ Some (spelled_number n)) (n ≡ 0)
         → (header_length name headers ≡ n) × ((has_header name headers && is_none (header_number name headers)) ≡ false)
     by_case true is t =
-        let number : header_number name headers ≡ Some n = ap (option_and_then number_of) t
-        ∙ number_of-spelled n small in
+        let number : header_number name headers ≡ Some n =
+        ap (option_and_then number_of) t ∙ number_of-spelled n small in
         (ap (λ o. unwrap_or o 0) number, rw (is, number) refl)
     by_case false is t = (
       ap (λ o. unwrap_or o 0) (sym (no_number name headers is)) ∙ sym t,

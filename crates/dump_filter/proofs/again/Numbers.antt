@@ -1,17 +1,5 @@
 -- The kept revisions of records in order, and their new numbers.
-use Rattle.std.proofs.Common.{◌≡◌, ℕ, zero, suc, ◌+◌, ◌<◌, ◌≤◌, Bool, true, false, ◌||◌, cond, List, [], ◌∷◌, ◌++◌, nat_lt, refl, ◌∙◌, arith, Option, Some, None, Contains, subst}
-use Rattle.std.proofs.lemmas.Bool.{lt-ltb}
-use Rattle.std.proofs.lemmas.Bool.Decides.{nat_tests}
-use Rattle.std.proofs.lemmas.List.Sums.{sum_by-le-sum_by}
-use Rattle.dump_records.specs.RecordText.{DumpRecord}
-use Rattle.dump_rules.specs.Settings.{Settings}
-use Rattle.dump_rules.specs.Renumbering.{KeptRevisions, new_number}
-use Rattle.dump_rules.specs.steps.RisingNumbers.{RiseFrom}
-use Rattle.dump_rules.proofs.ReachLemmas.{below, below-cons}
-use Rattle.dump_digest.specs.RecordParts.{is_revision_record, is_node}
-use Rattle.dump_filter.specs.Groups.{group_of, keeps_group, revision_number, revision_numbers, first_number, kept_revisions}
-use Rattle.dump_filter.specs.RecordFaults.{AreFaultFree}
-use Rattle.dump_filter.specs.steps.Knowledge.{kept_numbers}
+use Rattle.dump_filter.proofs.Prelude.{◌≡◌, ℕ, zero, suc, ◌+◌, ◌<◌, ◌≤◌, Bool, true, false, ◌||◌, cond, List, [], ◌∷◌, ◌++◌, nat_lt, refl, ◌∙◌, arith, Option, Some, None, Contains, subst, lt-ltb, nat_tests, sum_by-le-sum_by, DumpRecord, Settings, KeptRevisions, new_number, RiseFrom, below, below-cons, is_revision_record, is_node, group_of, keeps_group, revision_number, revision_numbers, first_number, kept_revisions, AreFaultFree, kept_numbers}
 use Rattle.dump_filter.proofs.again.Order.{RisesFrom, present_behind, AreInOrder, in_order}
 use Rattle.dump_filter.proofs.again.ReadAgain.{AtEach}
 
@@ -131,8 +119,8 @@ zero_kept settings (r ∷ rest) first k has some = cases (is_revision_record r) 
         let is : revision_number r ≡ 0 = rw rev at first in
         let keep : keeps_group settings (group_of r rest) ≡ true = rw is refl in
         let one : nat_lt (revision_number r) k ≡ true = lt-ltb (revision_number r) k (omega arith) in
-        let counted : below k (revision_number r ∷ kept_numbers settings rest) ≡ 1 + below k
-        (kept_numbers settings rest) =
+        let counted : below k (revision_number r ∷ kept_numbers settings rest)
+        ≡ 1 + below k (kept_numbers settings rest) =
         below-cons k (revision_number r) (kept_numbers settings rest) ∙ rw one refl in
         rw (kept_revision settings r rest rev keep) (omega arith)
     cases false other later =

@@ -1,20 +1,8 @@
 -- Records in order: nodes in groups, and revision numbers that rise.
-use Rattle.std.proofs.Common.{◌≡◌, ℕ, ◌<◌, Bool, true, false, ◌||◌, List, [], ◌∷◌, ◌++◌, refl, sym, ap, ◌∙◌, subst, arith, append_assoc, inl, inr, Option, Some, None, MatchOption, not, ◌&&◌, if◌then◌else◌}
-use Rattle.dump_rules.proofs.ReachLemmas.{last_or_pushed}
-use Rattle.std.specs.Bool.{⊤}
-use Rattle.std.specs.List.{last_or}
-use Rattle.std.proofs.Math.Path.{transport}
-use Rattle.std.proofs.lemmas.Bool.Decides.{leb_tells}
+use Rattle.dump_filter.proofs.Prelude.{◌≡◌, ℕ, ◌<◌, Bool, true, false, ◌||◌, List, [], ◌∷◌, ◌++◌, refl, sym, ap, ◌∙◌, subst, arith, append_assoc, inl, inr, Option, Some, None, MatchOption, not, ◌&&◌, if◌then◌else◌, last_or_pushed, ⊤, last_or, transport, leb_tells, DumpRecord, Settings, is_revision_record, is_node, revision_number, revision_numbers, present_revision, ends_in_group, IsOutOfOrder, AreFaultFree, absurd_bool}
 use Rattle.std.proofs.lemmas.List.{append-nil}
 use Rattle.dump_text.specs.declared.fault.FaultKind.TheVariants as faults
-use Rattle.dump_records.specs.RecordText.{DumpRecord}
-use Rattle.dump_rules.specs.Settings.{Settings}
-use Rattle.dump_digest.specs.RecordParts.{is_revision_record, is_node}
-use Rattle.dump_filter.specs.Groups.{revision_number, revision_numbers, present_revision}
-use Rattle.dump_filter.specs.RecordFaults.{ends_in_group, IsOutOfOrder, AreFaultFree}
-use Rattle.dump_text.proofs.BoolLemmas.{absurd_bool}
 use Rattle.dump_filter.proofs.groups.NumberLemmas.{numbers_more}
-use Rattle.dump_rules.proofs.ReachLemmas.{last_or_pushed}
 
 -- whether a revision of this number may follow the present one
 abbrev pub RisesFrom : Option ℕ → ℕ → Type 0

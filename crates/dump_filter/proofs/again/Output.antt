@@ -1,36 +1,6 @@
 -- What is written of a record is read again as a record, of which the same is written.
-use Rattle.std.proofs.Common.{◌≡◌, ℕ, ◌+◌, ◌<◌, ◌≤◌, ◌^◌, Bool, true, false, ◌&&◌, ◌||◌, List, [], ◌∷◌, ◌++◌, length, refl, sym, ap, ◌∙◌, subst, arith, inl, codes, bytes_eq, Option, Some, None, is_some, is_none, option_and_then, append-nil, All, Contains, MatchBool, take_while, unwrap_or, if◌then◌else◌}
-use Rattle.std.proofs.lemmas.List.{nil_from_length}
-use Rattle.std.proofs.lemmas.List.Sums.{take_while-cons}
-use Rattle.std.proofs.lemmas.List.Elements.{All-nil, All-cons, All-contains}
-use Rattle.dump_text.specs.Number.{number_of, spelled_number}
-use Rattle.dump_text.specs.Names.{revision_name, copy_revision_name, copy_path_name, property_length_name, md5_name, sha1_name, text_delta_name}
-use Rattle.dump_text.specs.HeaderLine.{Header, has_header, header_value, with_header_value}
-use Rattle.dump_text.specs.HeaderBlock.{is_block, block_text}
-use Rattle.dump_text.specs.PropertyList.{Property, has_deletes}
-use Rattle.dump_text.proofs.BlockLemmas.{has_value}
-use Rattle.dump_text.proofs.PartLemmas.{number_of-spelled}
-use Rattle.dump_records.specs.HeaderRules.{header_number, property_length, text_length, has_bad_kind, has_bad_lengths}
-use Rattle.dump_records.specs.RecordText.{DumpRecord, BeginsWithRecord}
-use Rattle.dump_records.proofs.Unique.{Keeps, keeps}
-use Rattle.dump_rules.specs.Settings.{Settings}
-use Rattle.dump_rules.specs.Mergeinfo.{HasMergeLines}
-use Rattle.dump_rules.specs.Renumbering.{KeptRevisions, image}
-use Rattle.dump_rules.specs.steps.RisingNumbers.{RiseFrom}
-use Rattle.dump_rules.specs.Rewriting.{IsNewMergeinfo}
-use Rattle.dump_rules.proofs.ReachLemmas.{image_fits}
-use Rattle.dump_rules.proofs.new_values.RunsLaw.{number_small}
-use Rattle.dump_digest.specs.RecordParts.{is_revision_record, is_node, is_kept_node, is_mergeinfo, mergeinfo_name, value_of, has_whole_text, has_lost_source, HasPropertyList, is_copy}
-use Rattle.dump_digest.specs.ContentFaults.{HasBadMd5, HasBadSha1, HasBadMergeinfo, DiffersFromDigest}
-use Rattle.dump_digest.proofs.PropertyBlocks.{property_list_once}
-use Rattle.dump_filter.specs.FilterLaws.{keep_all}
-use Rattle.dump_filter.specs.Groups.{group_of, is_padded, revision_number}
-use Rattle.dump_filter.specs.NewContent.{IsNewProperty, AreNewProperties, is_date, padding_properties, revision_properties, new_block}
-use Rattle.dump_filter.specs.NewHeaders.{written_number, is_whole_file, becomes_plain, without_copy_headers, IsWrittenCopyNumber, IsNewCopy}
-use Rattle.dump_filter.specs.steps.NewLines.{is_copy_line}
-use Rattle.dump_filter.specs.RecordOutput.{whole_text, revision_text, IsRevisionOutput, IsNodeOutput, IsWrittenBlock}
-use Rattle.dump_text.proofs.BoolLemmas.{first_true, second_true, first_false, second_false, not_so, absurd_bool, false_true}
-use Rattle.dump_records.proofs.HeaderLemmas.{no_number}
+use Rattle.dump_filter.proofs.Prelude.{◌≡◌, ℕ, ◌+◌, ◌<◌, ◌≤◌, ◌^◌, Bool, true, false, ◌&&◌, ◌||◌, List, [], ◌∷◌, ◌++◌, length, refl, sym, ap, ◌∙◌, subst, arith, inl, codes, bytes_eq, Option, Some, None, is_some, is_none, option_and_then, All, Contains, MatchBool, take_while, unwrap_or, if◌then◌else◌, nil_from_length, take_while-cons, All-nil, All-cons, All-contains, number_of, spelled_number, revision_name, copy_revision_name, copy_path_name, property_length_name, md5_name, sha1_name, text_delta_name, Header, has_header, header_value, with_header_value, is_block, block_text, Property, has_deletes, has_value, number_of-spelled, header_number, property_length, text_length, has_bad_kind, has_bad_lengths, DumpRecord, BeginsWithRecord, Keeps, keeps, Settings, HasMergeLines, KeptRevisions, image, RiseFrom, IsNewMergeinfo, image_fits, number_small, is_revision_record, is_node, is_kept_node, is_mergeinfo, mergeinfo_name, value_of, has_whole_text, has_lost_source, HasPropertyList, is_copy, HasBadMd5, HasBadSha1, HasBadMergeinfo, DiffersFromDigest, property_list_once, keep_all, group_of, is_padded, revision_number, IsNewProperty, AreNewProperties, is_date, padding_properties, revision_properties, new_block, written_number, is_whole_file, becomes_plain, without_copy_headers, IsWrittenCopyNumber, IsNewCopy, is_copy_line, whole_text, revision_text, IsRevisionOutput, IsNodeOutput, IsWrittenBlock, first_true, second_true, first_false, second_false, not_so, absurd_bool, false_true, no_number}
+use Rattle.std.proofs.Common.{append-nil}
 use Rattle.dump_filter.proofs.written.CopyLemmas.{AreCopyLines}
 use Rattle.dump_filter.proofs.written.HeaderLemmas.{no_length}
 use Rattle.dump_filter.proofs.written.PropertyOutput.{IsNewValue}
@@ -56,8 +26,9 @@ never_padded s (a ∷ after) = by_node (is_node a) refl
     cut b is = take_while-cons is_node a after ∙ ap (λ c. if c then a ∷ take_while is_node after else []) is
 
     by_node : (b : Bool) → is_node a ≡ b → is_padded keep_all (group_of s (a ∷ after)) ≡ false
-    by_node true is = ap of_nodes (cut true is) ∙ (let some : of_nodes (a ∷ take_while is_node after) ≡ false = rw is
-        (never _) in some)
+    by_node true is =
+        let some : of_nodes (a ∷ take_while is_node after) ≡ false = rw is (never _) in
+        ap of_nodes (cut true is) ∙ some
     by_node false is = ap of_nodes (cut false is)
 
 -- a choice whose first or second side is so

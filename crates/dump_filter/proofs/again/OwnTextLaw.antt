@@ -1,23 +1,5 @@
 -- What is written of a clean dump is a clean dump, which stays as it stands where everything is kept.
-use Rattle.std.proofs.Common.{◌≡◌, ℕ, ◌+◌, ◌<◌, ◌≤◌, ◌^◌, Bool, true, false, ◌&&◌, ◌||◌, not, MatchBool, List, [], ◌∷◌, ◌++◌, length, refl, subst, arith, Option, Some, None, unwrap_or, if◌then◌else◌}
-use Rattle.dump_text.specs.Names.{revision_name}
-use Rattle.dump_text.specs.HeaderBlock.{block_text}
-use Rattle.dump_records.specs.DumpText.{Ending, IsCutInto, HasRecords}
-use Rattle.dump_records.specs.HeaderRules.{header_number}
-use Rattle.dump_records.specs.RecordText.{DumpRecord, record_text, BeginsWithRecord}
-use Rattle.dump_rules.specs.Settings.{Settings}
-use Rattle.dump_rules.specs.Renumbering.{KeptRevisions, new_number}
-use Rattle.dump_rules.specs.steps.RisingNumbers.{RiseFrom}
-use Rattle.dump_rules.proofs.new_values.OwnValue.{own_value}
-use Rattle.dump_rules.proofs.ReachLemmas.{new_number_fits}
-use Rattle.dump_digest.specs.RecordParts.{is_revision_record, is_node, is_kept_node, has_lost_source}
-use Rattle.dump_filter.specs.FilterLaws.{LengthsFit, keep_all, KeepsItsOwnText}
-use Rattle.dump_filter.specs.Groups.{group_of, has_kept_node, keeps_group, revision_number, kept_revisions}
-use Rattle.dump_filter.specs.NewHeaders.{is_whole_file}
-use Rattle.dump_filter.specs.RecordOutput.{IsRevisionOutput, IsNodeOutput}
-use Rattle.dump_filter.specs.WholeText.{IsCleanText}
-use Rattle.dump_filter.specs.Written.{is_open}
-use Rattle.dump_text.proofs.BoolLemmas.{absurd_bool, not_so}
+use Rattle.dump_filter.proofs.Prelude.{◌≡◌, ℕ, ◌+◌, ◌<◌, ◌≤◌, ◌^◌, Bool, true, false, ◌&&◌, ◌||◌, not, MatchBool, List, [], ◌∷◌, ◌++◌, length, refl, subst, arith, Option, Some, None, unwrap_or, if◌then◌else◌, revision_name, block_text, Ending, IsCutInto, HasRecords, header_number, DumpRecord, record_text, BeginsWithRecord, Settings, KeptRevisions, new_number, RiseFrom, own_value, new_number_fits, is_revision_record, is_node, is_kept_node, has_lost_source, LengthsFit, keep_all, KeepsItsOwnText, group_of, has_kept_node, keeps_group, revision_number, kept_revisions, is_whole_file, IsRevisionOutput, IsNodeOutput, IsCleanText, is_open, absurd_bool, not_so}
 use Rattle.dump_filter.proofs.knowing.Answered.{AllLawful, all_lawful}
 use Rattle.dump_filter.proofs.groups.KindLemmas.{alone}
 use Rattle.dump_filter.proofs.again.ReadAgain.{StandsAgain, AreReadAgain, AtEach}

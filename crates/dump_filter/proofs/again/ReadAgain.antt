@@ -1,22 +1,5 @@
 -- What is written of a record, as the record that it is when it is read again.
-use Rattle.std.proofs.Common.{◌≡◌, ℕ, ◌+◌, ◌<◌, ◌^◌, Bool, true, false, List, [], ◌∷◌, ◌++◌, length, Some, MatchBool}
-use Rattle.dump_text.specs.Names.{version_name, copy_revision_name}
-use Rattle.dump_text.specs.HeaderLine.{Header, has_header}
-use Rattle.dump_text.specs.HeaderBlock.{is_block}
-use Rattle.dump_text.specs.PropertyList.{Property}
-use Rattle.dump_records.specs.DumpText.{line_feeds}
-use Rattle.dump_records.specs.HeaderRules.{header_number, version_from, property_length, text_length}
-use Rattle.dump_records.specs.RecordText.{DumpRecord, record_text, is_lawful}
-use Rattle.dump_rules.specs.Settings.{Settings}
-use Rattle.dump_rules.specs.Renumbering.{KeptRevisions}
-use Rattle.dump_digest.specs.RecordParts.{is_revision_record, is_node, has_lost_source, HasPropertyList}
-use Rattle.dump_digest.specs.ContentFaults.{HasBadProperties, HasBadMd5, HasBadSha1, HasBadMergeinfo}
-use Rattle.dump_filter.specs.FilterLaws.{keep_all}
-use Rattle.dump_filter.specs.Groups.{group_of, is_padded, revision_number}
-use Rattle.dump_filter.specs.NewHeaders.{with_lengths, written_number, is_whole_file, IsWrittenCopyNumber, IsNewCopy}
-use Rattle.dump_filter.specs.NewContent.{revision_properties, AreNewProperties, new_block}
-use Rattle.dump_filter.specs.RecordOutput.{IsOutput}
-use Rattle.dump_filter.specs.Written.{is_written}
+use Rattle.dump_filter.proofs.Prelude.{◌≡◌, ℕ, ◌+◌, ◌<◌, ◌^◌, Bool, true, false, List, [], ◌∷◌, ◌++◌, length, Some, MatchBool, version_name, copy_revision_name, Header, has_header, is_block, Property, line_feeds, header_number, version_from, property_length, text_length, DumpRecord, record_text, is_lawful, Settings, KeptRevisions, is_revision_record, is_node, has_lost_source, HasPropertyList, HasBadProperties, HasBadMd5, HasBadSha1, HasBadMergeinfo, keep_all, group_of, is_padded, revision_number, with_lengths, written_number, is_whole_file, IsWrittenCopyNumber, IsNewCopy, revision_properties, AreNewProperties, new_block, IsOutput, is_written}
 
 -- a record's content has no fault where everything is kept
 pub record IsClean (r : DumpRecord) : Type 0 where

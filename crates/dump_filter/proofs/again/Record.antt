@@ -1,24 +1,5 @@
 -- What is written of a record is a record again.
-use Rattle.std.proofs.Common.{◌≡◌, ℕ, ◌+◌, ◌<◌, ◌^◌, ◌==◌, Bool, true, false, not, ◌&&◌, ◌||◌, List, [], ◌++◌, length, refl, sym, ap, ◌∙◌, subst, arith, inl, Some, is_none, bytes_eq, length-append, flat_map, MatchBool, if◌then◌else◌}
-use Rattle.std.proofs.Math.Bool.{and-false}
-use Rattle.std.proofs.lemmas.Bool.{eqb-true}
-use Rattle.std.proofs.lemmas.Slice.Eq.{bytes_eq-Decides}
-use Rattle.dump_text.specs.Number.{spelled_number}
-use Rattle.dump_text.specs.Names.{version_name, uuid_name, revision_name, path_name, copy_revision_name, copy_path_name, property_length_name, text_length_name, content_length_name}
-use Rattle.dump_text.specs.HeaderLine.{Header, has_header, header_value, with_header_value}
-use Rattle.dump_text.specs.HeaderBlock.{is_block, block_text}
-use Rattle.dump_text.specs.PropertyList.{Property, IsPropertyBlock, has_deletes, block_end, entry_text, property_block_text}
-use Rattle.dump_text.proofs.WrittenLemmas.{short_block}
-use Rattle.dump_records.specs.HeaderRules.{header_number, version_from, property_length, text_length, has_bad_kind, has_bad_version, has_bad_number, has_bad_lengths}
-use Rattle.dump_records.specs.RecordText.{DumpRecord, is_lawful}
-use Rattle.dump_records.proofs.HeaderLemmas.{deciding}
-use Rattle.dump_records.proofs.Unique.{Keeps, keeps}
-use Rattle.dump_digest.specs.RecordParts.{takes_deletes, HasPropertyList}
-use Rattle.dump_filter.specs.NewContent.{new_block}
-use Rattle.dump_filter.specs.NewHeaders.{with_lengths, without_copy_headers}
-use Rattle.dump_filter.specs.steps.NewLines.{is_copy_line}
-use Rattle.dump_filter.specs.RecordOutput.{whole_text}
-use Rattle.dump_text.proofs.BoolLemmas.{first_false, second_false, not_so, absurd_bool}
+use Rattle.dump_filter.proofs.Prelude.{◌≡◌, ℕ, ◌+◌, ◌<◌, ◌^◌, ◌==◌, Bool, true, false, not, ◌&&◌, ◌||◌, List, [], ◌++◌, length, refl, sym, ap, ◌∙◌, subst, arith, inl, Some, is_none, bytes_eq, length-append, flat_map, MatchBool, if◌then◌else◌, and-false, eqb-true, bytes_eq-Decides, spelled_number, version_name, uuid_name, revision_name, path_name, copy_revision_name, copy_path_name, property_length_name, text_length_name, content_length_name, Header, has_header, header_value, with_header_value, is_block, block_text, Property, IsPropertyBlock, has_deletes, block_end, entry_text, property_block_text, short_block, header_number, version_from, property_length, text_length, has_bad_kind, has_bad_version, has_bad_number, has_bad_lengths, DumpRecord, is_lawful, deciding, Keeps, keeps, takes_deletes, HasPropertyList, new_block, with_lengths, without_copy_headers, is_copy_line, whole_text, first_false, second_false, not_so, absurd_bool}
 use Rattle.dump_filter.proofs.written.HeaderLemmas.{no_length}
 use Rattle.dump_filter.proofs.again.LineChanges.{IsChange, spelled_line, same_has, block_stays, both_changes, put_has, put_change, go_change, gone, IsTold, told_put, told_reads}
 use Rattle.dump_filter.proofs.again.Headers.{is_length_name, AreTold, lengths_change, text_stays, props_stay, lengths_told, told_lengths, lengths_again, no_others, StaysLawful, lawful_again}

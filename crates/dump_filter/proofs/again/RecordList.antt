@@ -1,23 +1,6 @@
 -- What is written of a list of records, read again.
-use Rattle.std.proofs.Common.{◌≡◌, ℕ, ◌+◌, ◌<◌, ◌==◌, Bool, true, false, ◌||◌, MatchBool, List, [], ◌∷◌, ◌++◌, length, refl, sym, ap, ◌∙◌, subst, arith, append_assoc}
-use Rattle.std.proofs.lemmas.Bool.{or_right}
-use Rattle.dump_text.specs.Names.{version_name}
-use Rattle.dump_text.specs.HeaderLine.{has_header}
-use Rattle.dump_records.specs.DumpText.{line_feeds, IsCutInto, HaveVersions}
-use Rattle.dump_records.specs.RecordText.{DumpRecord, record_text, is_lawful, BeginsWithRecord}
-use Rattle.dump_records.specs.HeaderRules.{version_from}
-use Rattle.dump_records.specs.steps.RecordKinds.{kind_of}
-use Rattle.dump_records.specs.declared.kind.RecordKind.{RecordKind}
+use Rattle.dump_filter.proofs.Prelude.{◌≡◌, ℕ, ◌+◌, ◌<◌, ◌==◌, Bool, true, false, ◌||◌, MatchBool, List, [], ◌∷◌, ◌++◌, length, refl, sym, ap, ◌∙◌, subst, arith, append_assoc, or_right, version_name, has_header, line_feeds, IsCutInto, HaveVersions, DumpRecord, record_text, is_lawful, BeginsWithRecord, version_from, kind_of, RecordKind, keeps, Settings, keeps_path, KeptRevisions, is_revision_record, is_node, keep_all, Group, group_of, group_number, has_kept_node, keeps_group, IsOutput, is_written, AreOutputs, absurd_bool, both_true, not_so}
 use Rattle.dump_records.specs.declared.kind.RecordKind.TheVariants as kinds
-use Rattle.dump_records.proofs.Unique.{keeps}
-use Rattle.dump_rules.specs.Settings.{Settings, keeps_path}
-use Rattle.dump_rules.specs.Renumbering.{KeptRevisions}
-use Rattle.dump_digest.specs.RecordParts.{is_revision_record, is_node}
-use Rattle.dump_filter.specs.FilterLaws.{keep_all}
-use Rattle.dump_filter.specs.Groups.{Group, group_of, group_number, has_kept_node, keeps_group}
-use Rattle.dump_filter.specs.RecordOutput.{IsOutput}
-use Rattle.dump_filter.specs.Written.{is_written, AreOutputs}
-use Rattle.dump_text.proofs.BoolLemmas.{absurd_bool, both_true, not_so}
 use Rattle.dump_filter.proofs.groups.KindLemmas.{IsOfKind, of_kind}
 use Rattle.dump_filter.proofs.knowing.Answered.{AllLawful}
 use Rattle.dump_filter.proofs.again.ReadAgain.{StandsAgain, IsFirstAgain, AreReadAgain, AtEach}
@@ -72,7 +55,8 @@ dropped_version : (settings : Settings) (number before : ℕ) (r : DumpRecord) (
     → version_from before r.headers ≡ before
 dropped_version settings number before r after lawful dropped =
     let written = version_written settings number r after lawful in
-    let none : has_header version_name r.headers ≡ false = not_so (has_header version_name r.headers)
+    let none : has_header version_name r.headers ≡ false =
+    not_so (has_header version_name r.headers)
     (λ has. absurd_bool (is_written settings true r after) (written has) dropped) in
     rw none refl
 

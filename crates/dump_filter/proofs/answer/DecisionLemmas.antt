@@ -1,35 +1,8 @@
 -- What a filter answers to the record that comes next: its fate, or its fault.
-use Rattle.std.proofs.Common.{◌≡◌, ◌⊎◌, ◌↔◌, ℕ, ◌+◌, ◌<◌, nat_lt, Bool, true, false, not, ◌&&◌, ◌||◌, List, [], ◌∷◌, ◌++◌, refl, sym, ap, ◌∙◌, subst, arith, inl, inr, Option, Some, None, unwrap_or, IsTrue, IsFalse, Result, Ok, Err, if◌then◌else◌}
+use Rattle.dump_filter.proofs.Prelude.{◌≡◌, ◌⊎◌, ◌↔◌, ℕ, ◌+◌, ◌<◌, nat_lt, Bool, true, false, not, ◌&&◌, ◌||◌, List, [], ◌∷◌, ◌++◌, refl, sym, ap, ◌∙◌, subst, arith, inl, inr, Option, Some, None, unwrap_or, IsTrue, IsFalse, Result, Ok, Err, if◌then◌else◌, FaultKind, fault_code, NoFault, Property, block_stable, DumpRecord, is_lawful, code_once, Settings, keeps_path, KeptRevisions, image, HasForeignNumber, is_revision_record, is_node, is_kept_node, node_path, HasPropertyList, HasPropertyBlock, HasBadMergeinfo, IsVerdict, Verdict, CopyChange, Fate, kept_revisions, is_whole_file, stays_copy, IsNewCopy, has_lost_source, copied_headers, present_number, HasBadCopyRevision, HoldsOfRecord, IsRecordFault, merge_fault, PresentGroup, State, node_revision, NoGroup, Pending, Written, front_kept, takes_node, is_in_order, is_orphan, HasNoSource, copy_change, kept_unless, with_fault, node_fate, fate_of, decided, AreAsked, is_plain, Stands, first_true, second_true, both_true, absurd_bool}
 use borrow.Author.Tests.{ltb-true, ltb-false}
-use Rattle.dump_text.specs.declared.fault.FaultKind.{FaultKind}
 use Rattle.dump_text.specs.declared.fault.FaultKind.TheVariants as faults
-use Rattle.dump_text.specs.FaultTable.{fault_code, NoFault}
-use Rattle.dump_text.specs.PropertyList.{Property}
-use Rattle.dump_digest.proofs.PropertyBlocks.{block_stable}
-use Rattle.dump_records.specs.RecordText.{DumpRecord, is_lawful}
-use Rattle.dump_records.proofs.Unique.{code_once}
-use Rattle.dump_rules.specs.Settings.{Settings, keeps_path}
-use Rattle.dump_rules.specs.Renumbering.{KeptRevisions, image}
-use Rattle.dump_rules.specs.Rewriting.{HasForeignNumber}
-use Rattle.dump_digest.specs.RecordParts.{is_revision_record, is_node, is_kept_node, node_path, HasPropertyList, HasPropertyBlock}
-use Rattle.dump_digest.specs.ContentFaults.{HasBadMergeinfo}
-use Rattle.dump_digest.specs.steps.VerdictMeaning.{IsVerdict}
-use Rattle.dump_digest.specs.declared.verdict.Verdict.{Verdict}
-use Rattle.dump_filter.specs.declared.fate.CopyChange.{CopyChange}
-use Rattle.dump_filter.specs.declared.fate.Fate.{Fate}
 use Rattle.dump_filter.specs.declared.fate.Fate.TheVariants as fates
-use Rattle.dump_filter.specs.Groups.{kept_revisions}
-use Rattle.dump_filter.specs.NewHeaders.{is_whole_file, stays_copy, IsNewCopy}
-use Rattle.dump_digest.specs.RecordParts.{has_lost_source}
-use Rattle.dump_filter.specs.steps.OwnText.{copied_headers}
-use Rattle.dump_filter.specs.RecordFaults.{present_number, HasBadCopyRevision, HoldsOfRecord, IsRecordFault}
-use Rattle.dump_digest.specs.steps.MergeFaults.{merge_fault}
-use Rattle.dump_filter.specs.steps.State.{PresentGroup, State, node_revision}
-use Rattle.dump_filter.specs.steps.State.PresentGroup.{NoGroup, Pending, Written}
-use Rattle.dump_filter.specs.steps.Advance.{front_kept}
-use Rattle.dump_filter.specs.steps.Decision.{takes_node, is_in_order, is_orphan, HasNoSource, copy_change, kept_unless, with_fault, node_fate, fate_of, decided, AreAsked}
-use Rattle.dump_filter.specs.steps.Knowledge.{is_plain, Stands}
-use Rattle.dump_text.proofs.BoolLemmas.{first_true, second_true, both_true, absurd_bool}
 use Rattle.dump_filter.proofs.groups.KindLemmas.{alone}
 use Rattle.dump_filter.proofs.answer.MergeLemmas.{Misses, IsForeign, MergeJudged, merge_judged}
 use Rattle.dump_filter.proofs.answer.FaultLemmas.{ordered, disordered, kept_with_node, CopyJudged, copy_judged}

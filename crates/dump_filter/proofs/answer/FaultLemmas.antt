@@ -1,33 +1,8 @@
 -- Which fault a record has behind others.
-use Rattle.std.proofs.Common.{◌≡◌, ◌⊎◌, ℕ, ◌<◌, nat_lt, Bool, true, false, not, ◌&&◌, ◌||◌, List, [], ◌∷◌, ◌++◌, refl, sym, ap, ◌∙◌, subst, arith, append_assoc, inl, inr, Option, Some, None, IsTrue, MatchBool, Result, Ok, Err, is_some, if◌then◌else◌}
-use Rattle.std.specs.List.{last_or, list_all, list_any}
+use Rattle.dump_filter.proofs.Prelude.{◌≡◌, ◌⊎◌, ℕ, ◌<◌, nat_lt, Bool, true, false, not, ◌&&◌, ◌||◌, List, [], ◌∷◌, ◌++◌, refl, sym, ap, ◌∙◌, subst, arith, append_assoc, inl, inr, Option, Some, None, IsTrue, MatchBool, Result, Ok, Err, is_some, if◌then◌else◌, last_or, list_all, list_any, FaultKind, spelled_number, copy_revision_name, with_header_value, header_number, has_bad_kind, has_bad_number, DumpRecord, is_lawful, part_of_node, keeps, Settings, KeptRevisions, image, is_revision_record, is_node, is_kept_node, CopyChange, revision_number, revision_numbers, first_number, kept_revisions, is_whole_file, becomes_plain, stays_copy, IsWrittenCopyNumber, IsNewCopy, is_copy, has_lost_source, copied_headers, ends_in_group, IsOutOfOrder, State, front_kept, takes_node, rises, is_in_order, is_orphan, HasNoSource, imaged, source_change, copy_change, is_plain, kept_numbers, Shape, Stands, Fresh, Idle, Passed, Waits, copy_both, copy_there, false_true, not_so, first_true, second_true, not_true, not_false, both_true, absurd_bool}
 use borrow.Author.Tests.{ltb-true, ltb-false}
-use Rattle.dump_text.specs.declared.fault.FaultKind.{FaultKind}
 use Rattle.dump_text.specs.declared.fault.FaultKind.TheVariants as faults
-use Rattle.dump_text.specs.Number.{spelled_number}
-use Rattle.dump_text.specs.Names.{copy_revision_name}
-use Rattle.dump_text.specs.HeaderLine.{with_header_value}
-use Rattle.dump_records.specs.HeaderRules.{header_number, has_bad_kind, has_bad_number}
-use Rattle.dump_records.specs.RecordText.{DumpRecord, is_lawful}
-use Rattle.dump_records.specs.steps.RecordViews.{part_of_node}
-use Rattle.dump_records.proofs.Unique.{keeps}
-use Rattle.dump_rules.specs.Settings.{Settings}
-use Rattle.dump_rules.specs.Renumbering.{KeptRevisions, image}
-use Rattle.dump_digest.specs.RecordParts.{is_revision_record, is_node, is_kept_node}
-use Rattle.dump_filter.specs.declared.fate.CopyChange.{CopyChange}
 use Rattle.dump_filter.specs.declared.fate.CopyChange.TheVariants as copies
-use Rattle.dump_filter.specs.Groups.{revision_number, revision_numbers, first_number, kept_revisions}
-use Rattle.dump_filter.specs.NewHeaders.{is_whole_file, becomes_plain, stays_copy, IsWrittenCopyNumber, IsNewCopy}
-use Rattle.dump_digest.specs.RecordParts.{is_copy, has_lost_source}
-use Rattle.dump_filter.specs.steps.OwnText.{copied_headers}
-use Rattle.dump_filter.specs.RecordFaults.{ends_in_group, IsOutOfOrder}
-use Rattle.dump_filter.specs.steps.State.{State}
-use Rattle.dump_filter.specs.steps.Advance.{front_kept}
-use Rattle.dump_filter.specs.steps.Decision.{takes_node, rises, is_in_order, is_orphan, HasNoSource, imaged, source_change, copy_change}
-use Rattle.dump_filter.specs.steps.Knowledge.{is_plain, kept_numbers, Shape, Stands}
-use Rattle.dump_filter.specs.steps.Knowledge.Shape.{Fresh, Idle, Passed, Waits}
-use Rattle.dump_records.proofs.HeaderLemmas.{copy_both, copy_there}
-use Rattle.dump_text.proofs.BoolLemmas.{false_true, not_so, first_true, second_true, not_true, not_false, both_true, absurd_bool}
 use Rattle.dump_filter.proofs.groups.GroupLemmas.{plain_other, plain_more, any_more}
 use Rattle.dump_filter.proofs.groups.NumberLemmas.{first_other, kept_group, passed_keeps}
 use Rattle.dump_filter.proofs.knowing.StandsNext.{ends_open}
@@ -178,10 +153,14 @@ module _ (settings : Settings) (kept : KeptRevisions) (present : ℕ) (number : 
             (new m (subst (λ b. MatchBool b (image kept n ≡ Some m) (m ≡ n)) (sym renumber) is), no_orphan, none)
           where
             none : ¬ HasNoSource settings kept present r
-            none (on, m', at', inl no_image) = let same = the_number m' at' in let bad : None ≡ Some m =
-                sym no_image ∙ ap (image kept) same ∙ is in cc
-            none (on, m', at', inr above) = let same = the_number m' at' in let under =
-                ltb-false present n low in absurd (omega (arith, same, under, above))
+            none (on, m', at', inl no_image) =
+                let same = the_number m' at' in
+                let bad : None ≡ Some m = sym no_image ∙ ap (image kept) same ∙ is in
+                cc
+            none (on, m', at', inr above) =
+                let same = the_number m' at' in
+                let under = ltb-false present n low in
+                absurd (omega (arith, same, under, above))
 
         by_place : settings.renumber ≡ true → (b : Bool) → nat_lt present n ≡ b
             → CopyJudged settings kept present r (if b then Err faults.CopyRevision else imaged (image kept n))

@@ -1,30 +1,6 @@
 -- The faults of the mergeinfo of a kept node.
-use Rattle.std.proofs.Common.{◌≡◌, ◌⊎◌, ◌↔◌, ◌||◌, ℕ, Bool, true, false, List, refl, sym, ap, subst, inl, inr, Option, Some, None, Contains, IsFalse, IsTrue, if◌then◌else◌}
-use Rattle.std.proofs.lemmas.Bool.{or_right}
-use Rattle.std.specs.List.{list_any}
-use Rattle.std.proofs.Math.Logic.{∥∥₁_elim}
-use Rattle.dump_text.specs.declared.fault.FaultKind.{FaultKind}
+use Rattle.dump_filter.proofs.Prelude.{◌≡◌, ◌⊎◌, ◌↔◌, ◌||◌, ℕ, Bool, true, false, List, refl, sym, ap, subst, inl, inr, Option, Some, None, Contains, IsFalse, IsTrue, if◌then◌else◌, or_right, list_any, ∥∥₁_elim, FaultKind, Property, property_block_once, DumpRecord, Settings, KeptRevisions, HasMergeLines, HasMissingSource, HasForeignNumber, value_misses, value_foreign, found, finds, missing_there, missing_back, foreign_there, foreign_back, has_lines, record_item, Done, done_record, done_settings, done_verdict, is_asked, is_revision_record, is_kept_node, is_mergeinfo, value_of, HasPropertyList, HasPropertyBlock, IsReadNode, IsMergeinfoValueOf, HasBadMergeinfo, bad_choice, misses, is_foreign, merge_fault, HasGoodMergeinfo, first_true, second_true, both_true, false_true, absurd_bool, block_or_not, property_list_once}
 use Rattle.dump_text.specs.declared.fault.FaultKind.TheVariants as faults
-use Rattle.dump_text.specs.PropertyList.{Property}
-use Rattle.dump_text.proofs.PropertyLemmas.{property_block_once}
-use Rattle.dump_records.specs.RecordText.{DumpRecord}
-use Rattle.dump_rules.specs.Settings.{Settings}
-use Rattle.dump_rules.specs.Renumbering.{KeptRevisions}
-use Rattle.dump_rules.specs.Mergeinfo.{HasMergeLines}
-use Rattle.dump_rules.specs.Rewriting.{HasMissingSource, HasForeignNumber}
-use Rattle.dump_rules.specs.steps.RewrittenLines.{value_misses, value_foreign}
-use Rattle.dump_rules.proofs.faults.FaultLemmas.{found, finds, missing_there, missing_back, foreign_there, foreign_back, has_lines}
-use Rattle.dump_records.specs.steps.RecordViews.{record_item}
-use Rattle.dump_digest.specs.declared.done.Done.{Done}
-use Rattle.dump_digest.specs.steps.DoneViews.{done_record, done_settings, done_verdict}
-use Rattle.dump_digest.specs.steps.ContentViews.{is_asked}
-use Rattle.dump_digest.specs.RecordParts.{is_revision_record, is_kept_node, is_mergeinfo, value_of, HasPropertyList, HasPropertyBlock}
-use Rattle.dump_filter.specs.steps.NewProperties.{IsReadNode}
-use Rattle.dump_digest.specs.ContentFaults.{IsMergeinfoValueOf, HasBadMergeinfo}
-use Rattle.dump_digest.proofs.VerdictChoice.{bad_choice}
-use Rattle.dump_digest.specs.steps.MergeFaults.{misses, is_foreign, merge_fault, HasGoodMergeinfo}
-use Rattle.dump_text.proofs.BoolLemmas.{first_true, second_true, both_true, false_true, absurd_bool}
-use Rattle.dump_digest.proofs.PropertyBlocks.{block_or_not, property_list_once}
 
 -- some element that passes a test
 -- a kept node has mergeinfo that misses a source

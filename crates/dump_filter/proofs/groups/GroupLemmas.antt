@@ -1,19 +1,6 @@
 -- Groups and what is written, where a list is cut before a record that is no node.
-use Rattle.std.proofs.Common.{◌≡◌, ℕ, suc, ◌+◌, Bool, true, false, not, ◌&&◌, ◌||◌, ◌==◌, List, [], ◌∷◌, ◌++◌, take, take_while, refl, sym, ap, ◌∙◌, subst, arith, append_assoc, MatchBool}
-use Rattle.std.proofs.Math.Bool.{or-false, and-false, and-true}
-use Rattle.std.specs.List.{list_all, list_any, prefix_len}
+use Rattle.dump_filter.proofs.Prelude.{◌≡◌, ℕ, suc, ◌+◌, Bool, true, false, not, ◌&&◌, ◌||◌, ◌==◌, List, [], ◌∷◌, ◌++◌, take, take_while, refl, sym, ap, ◌∙◌, subst, arith, append_assoc, MatchBool, or-false, and-false, and-true, list_all, list_any, prefix_len, list_all-append, list_any-append, DumpRecord, block_text, Settings, KeptRevisions, is_revision_record, is_node, is_kept_node, Group, group_of, groups, group_number, has_kept_node, is_bare, is_pad, is_padded, keeps_group, keeps_empty, revision_number, revision_text, IsRevisionOutput, IsNodeOutput, IsOutput, is_plain, first_true, second_true, first_false, second_false, not_true, is_open, is_written, AreOutputs}
 use Rattle.std.proofs.lemmas.List.{append-nil}
-use Rattle.std.proofs.lemmas.List.Folds.{list_all-append, list_any-append}
-use Rattle.dump_records.specs.RecordText.{DumpRecord}
-use Rattle.dump_text.specs.HeaderBlock.{block_text}
-use Rattle.dump_rules.specs.Settings.{Settings}
-use Rattle.dump_rules.specs.Renumbering.{KeptRevisions}
-use Rattle.dump_digest.specs.RecordParts.{is_revision_record, is_node, is_kept_node}
-use Rattle.dump_filter.specs.Groups.{Group, group_of, groups, group_number, has_kept_node, is_bare, is_pad, is_padded, keeps_group, keeps_empty, revision_number}
-use Rattle.dump_filter.specs.RecordOutput.{revision_text, IsRevisionOutput, IsNodeOutput, IsOutput}
-use Rattle.dump_filter.specs.steps.Knowledge.{is_plain}
-use Rattle.dump_text.proofs.BoolLemmas.{first_true, second_true, first_false, second_false, not_true}
-use Rattle.dump_filter.specs.Written.{is_open, is_written, AreOutputs}
 
 -- what is taken from a list begins with its first record
 pub take_cons : (n : ℕ) (x : DumpRecord) (xs : List DumpRecord) → take (1 + n) (x ∷ xs) ≡ x ∷ take n xs
@@ -373,8 +360,8 @@ module _ (settings : Settings) (k : KeptRevisions) (closed ns : List DumpRecord)
       → OwnOutput settings k r own → AreOutputs settings false k (closed ++ y ∷ (ns ++ r ∷ [])) (text ++ own)
   passed_more r own plain some mine =
       let p = parts in
-      let more : list_any (is_kept_node settings) (ns ++ r ∷ []) ≡ true = any_more settings ns r
-      ∙ ap (λ b. b || is_kept_node settings r) some in
+      let more : list_any (is_kept_node settings) (ns ++ r ∷ []) ≡ true =
+      any_more settings ns r ∙ ap (λ b. b || is_kept_node settings r) some in
       joined false (ns ++ r ∷ []) p.own (p.nodes ++ own) (text ++ own)
       (subst (IfWritten settings k y (ns ++ r ∷ []) p.own)
       (sym (rev_kept settings k false y (ns ++ r ∷ []) rev (plain_more ns r all plain) more))
@@ -421,10 +408,10 @@ module _ (settings : Settings) (k : KeptRevisions) (closed ns : List DumpRecord)
       → AreOutputs settings false k (closed ++ y ∷ (ns ++ r ∷ [])) (text ++ (rt ++ own))
   waits_more r rt own plain none kept first mine =
       let p = parts in
-      let more : list_any (is_kept_node settings) (ns ++ r ∷ []) ≡ true = any_more settings ns r
-      ∙ ap (λ b. b || is_kept_node settings r) none ∙ kept in
-      let mine' : OwnOutput settings k r own = subst
-      (λ (b : Bool). MatchBool b (IsNodeOutput settings k r own) (own ≡ [])) (sym kept) mine in
+      let more : list_any (is_kept_node settings) (ns ++ r ∷ []) ≡ true =
+      any_more settings ns r ∙ ap (λ b. b || is_kept_node settings r) none ∙ kept in
+      let mine' : OwnOutput settings k r own =
+      subst (λ (b : Bool). MatchBool b (IsNodeOutput settings k r own) (own ≡ [])) (sym kept) mine in
       joined false (ns ++ r ∷ []) rt own (text ++ (rt ++ own))
       (rev_output false (ns ++ r ∷ []) rt (plain_more ns r all plain)
       (rev_kept settings k false y (ns ++ r ∷ []) rev (plain_more ns r all plain) more) first)
@@ -437,10 +424,10 @@ module _ (settings : Settings) (k : KeptRevisions) (closed ns : List DumpRecord)
       → AreOutputs settings false k (closed ++ y ∷ (ns ++ r ∷ [])) text
   waits_on r plain none dropped =
       let p = parts in
-      let more : list_any (is_kept_node settings) (ns ++ r ∷ []) ≡ false = any_more settings ns r
-      ∙ ap (λ b. b || is_kept_node settings r) none ∙ dropped in
-      let mine : OwnOutput settings k r [] = subst
-      (λ (b : Bool). MatchBool b (IsNodeOutput settings k r []) (◌≡◌ {A = List ℕ} [] [])) (sym dropped) refl in
+      let more : list_any (is_kept_node settings) (ns ++ r ∷ []) ≡ false =
+      any_more settings ns r ∙ ap (λ b. b || is_kept_node settings r) none ∙ dropped in
+      let mine : OwnOutput settings k r [] =
+      subst (λ (b : Bool). MatchBool b (IsNodeOutput settings k r []) (◌≡◌ {A = List ℕ} [] [])) (sym dropped) refl in
       joined false (ns ++ r ∷ []) [] [] text
       (subst (IfWritten settings k y (ns ++ r ∷ []) [])
       (sym (rev_waits settings k y (ns ++ r ∷ []) rev (plain_more ns r all plain) more)) refl)

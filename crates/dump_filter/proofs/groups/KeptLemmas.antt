@@ -1,17 +1,6 @@
 -- The kept revisions so far, and those of the whole list.
-use Rattle.std.proofs.Common.{◌≡◌, ℕ, ◌+◌, ◌<◌, ◌≤◌, Bool, true, false, List, [], ◌∷◌, ◌++◌, length, refl, sym, ap, ◌∙◌, arith, append_assoc, All, if◌then◌else◌}
+use Rattle.dump_filter.proofs.Prelude.{◌≡◌, ℕ, ◌+◌, ◌<◌, ◌≤◌, Bool, true, false, List, [], ◌∷◌, ◌++◌, length, refl, sym, ap, ◌∙◌, arith, append_assoc, All, if◌then◌else◌, All-append, All-cons, All-head, All-nil, All-tail, DumpRecord, Settings, KeptRevisions, new_number, image, new_number_above, new_number_pushed, image_pushed, rise_pushed, revision_number, written_number, PendingRevision, PresentGroup, NoGroup, Pending, Written, stays, next_number, with_kept, front_kept, end_kept, open_from, GoesOn, AreRising}
 use Rattle.std.proofs.lemmas.List.{append-nil}
-use Rattle.std.proofs.lemmas.List.Elements.{All-append, All-cons, All-head, All-nil, All-tail}
-use Rattle.dump_records.specs.RecordText.{DumpRecord}
-use Rattle.dump_rules.specs.Settings.{Settings}
-use Rattle.dump_rules.specs.Renumbering.{KeptRevisions, new_number, image}
-use Rattle.dump_rules.proofs.ReachLemmas.{new_number_above, new_number_pushed, image_pushed, rise_pushed}
-use Rattle.dump_filter.specs.Groups.{revision_number}
-use Rattle.dump_filter.specs.NewHeaders.{written_number}
-use Rattle.dump_filter.specs.steps.State.{PendingRevision, PresentGroup}
-use Rattle.dump_filter.specs.steps.State.PresentGroup.{NoGroup, Pending, Written}
-use Rattle.dump_filter.specs.steps.Advance.{stays, next_number, with_kept, front_kept, end_kept}
-use Rattle.dump_filter.specs.steps.Knowledge.{open_from, GoesOn, AreRising}
 
 -- the same claim of each number, weakened
 pub all_weaker : (P Q : ℕ → Type 0) (ns : List ℕ) → ((n : ℕ) → P n → Q n) → All P ns → All Q ns

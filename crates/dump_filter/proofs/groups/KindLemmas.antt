@@ -1,16 +1,6 @@
 -- What a record is, by its deciding names, of which exactly one stands there.
-use Rattle.std.proofs.Common.{◌≡◌, ℕ, Bool, true, false, refl, sym, ◌∙◌, subst, IsTrue}
-use Rattle.dump_text.specs.Names.{version_name, uuid_name, revision_name, path_name}
-use Rattle.dump_text.specs.HeaderLine.{has_header}
-use Rattle.dump_records.specs.HeaderRules.{has_bad_kind}
-use Rattle.dump_records.specs.steps.RecordKinds.{kind_of}
-use Rattle.dump_records.specs.declared.kind.RecordKind.{RecordKind}
+use Rattle.dump_filter.proofs.Prelude.{◌≡◌, ℕ, Bool, true, false, refl, sym, ◌∙◌, subst, IsTrue, version_name, uuid_name, revision_name, path_name, has_header, has_bad_kind, kind_of, RecordKind, DumpRecord, is_lawful, OneKind, deciding, keeps, is_revision_record, is_node, not_so, false_true, absurd_bool}
 use Rattle.dump_records.specs.declared.kind.RecordKind.TheVariants as kinds
-use Rattle.dump_records.specs.RecordText.{DumpRecord, is_lawful}
-use Rattle.dump_records.proofs.HeaderLemmas.{OneKind, deciding}
-use Rattle.dump_records.proofs.Unique.{keeps}
-use Rattle.dump_digest.specs.RecordParts.{is_revision_record, is_node}
-use Rattle.dump_text.proofs.BoolLemmas.{not_so, false_true, absurd_bool}
 
 -- a record is of this kind, and of no other
 abbrev pub IsOfKind : DumpRecord → RecordKind → Type 0

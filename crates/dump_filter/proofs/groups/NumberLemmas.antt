@@ -1,15 +1,6 @@
 -- The revisions of a list of records: their numbers, the first, the present one, and the kept ones.
-use Rattle.std.proofs.Common.{◌≡◌, ℕ, ◌+◌, ◌==◌, Bool, true, false, ◌||◌, List, [], ◌∷◌, ◌++◌, length, map, filter, refl, ap, ◌∙◌, arith, Some, None, count_by, if◌then◌else◌}
-use Rattle.dump_rules.proofs.ReachLemmas.{last_or_pushed}
-use Rattle.std.specs.List.{list_all, list_any, last_or}
-use Rattle.std.proofs.lemmas.List.{append-nil, map-append}
-use Rattle.std.proofs.lemmas.List.Elements.{filter-append}
-use Rattle.std.proofs.lemmas.List.Sums.{sum_by-append}
-use Rattle.dump_records.specs.RecordText.{DumpRecord}
-use Rattle.dump_rules.specs.Settings.{Settings}
-use Rattle.dump_digest.specs.RecordParts.{is_revision_record, is_node, is_kept_node}
-use Rattle.dump_filter.specs.Groups.{Group, groups, group_number, keeps_group, keeps_empty, revision_number, revision_numbers, first_number, present_revision}
-use Rattle.dump_filter.specs.steps.Knowledge.{is_plain, kept_numbers}
+use Rattle.dump_filter.proofs.Prelude.{◌≡◌, ℕ, ◌+◌, ◌==◌, Bool, true, false, ◌||◌, List, [], ◌∷◌, ◌++◌, length, map, filter, refl, ap, ◌∙◌, arith, Some, None, count_by, if◌then◌else◌, last_or_pushed, list_all, list_any, last_or, map-append, filter-append, sum_by-append, DumpRecord, Settings, is_revision_record, is_node, is_kept_node, Group, groups, group_number, keeps_group, keeps_empty, revision_number, revision_numbers, first_number, present_revision, is_plain, kept_numbers}
+use Rattle.std.proofs.lemmas.List.{append-nil}
 use Rattle.dump_filter.proofs.groups.GroupLemmas.{groups_before, groups_revision, groups_other}
 
 -- the numbers with one more record

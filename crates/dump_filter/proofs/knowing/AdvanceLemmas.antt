@@ -1,34 +1,8 @@
 -- One more record of its fate: what then stands, the text that is written, and the counts.
-use Rattle.std.proofs.Common.{◌≡◌, ℕ, ◌+◌, ◌≤◌, Bool, true, false, not, ◌&&◌, ◌||◌, List, [], ◌∷◌, ◌++◌, length, refl, sym, ap, ◌∙◌, subst, length-append, suc, arith, Option, Some, None, Contains, MatchBool, count_by, cond, if◌then◌else◌}
-use Rattle.std.proofs.lemmas.Bool.{or_right}
+use Rattle.dump_filter.proofs.Prelude.{◌≡◌, ℕ, ◌+◌, ◌≤◌, Bool, true, false, not, ◌&&◌, ◌||◌, List, [], ◌∷◌, ◌++◌, length, refl, sym, ap, ◌∙◌, subst, length-append, suc, arith, Option, Some, None, Contains, MatchBool, count_by, cond, if◌then◌else◌, or_right, block_text, Property, block_stable, property_list_once, DumpRecord, Settings, KeptRevisions, RiseFrom, HasMergeLines, has_lines, new_value, is_revision_record, is_node, is_kept_node, is_mergeinfo, is_checked_text, value_of, HasPropertyBlock, CopyChange, Fate, Report, kept_revisions, revision_number, AreFaultFree, IsNewProperty, AreNewProperties, HasGoodMergeinfo, revision_own, node_own, IsWrittenText, PresentGroup, State, pending_count, revision_count, NoGroup, Pending, Written, stays, pads, next_number, IsOwnRevision, IsOwnNode, IsEndText, IsFrontText, IsPiece, with_kept, front_kept, end_kept, with_kept_revision, with_dropped_revision, front_report, end_report, ended, emptied, started, text_count, next_state, Shape, AreKept, Stands, Fresh, Idle, Passed, Waits}
 use Rattle.std.proofs.lemmas.List.{append-nil}
 use Rattle.dump_text.specs.declared.fault.FaultKind.TheVariants as faults
-use Rattle.dump_text.specs.HeaderBlock.{block_text}
-use Rattle.dump_text.specs.PropertyList.{Property}
-use Rattle.dump_digest.proofs.PropertyBlocks.{block_stable, property_list_once}
-use Rattle.dump_records.specs.RecordText.{DumpRecord}
-use Rattle.dump_rules.specs.Settings.{Settings}
-use Rattle.dump_rules.specs.Renumbering.{KeptRevisions}
-use Rattle.dump_rules.specs.steps.RisingNumbers.{RiseFrom}
-use Rattle.dump_rules.specs.Mergeinfo.{HasMergeLines}
-use Rattle.dump_rules.proofs.faults.FaultLemmas.{has_lines}
-use Rattle.dump_rules.proofs.new_values.ValueLemmas.{new_value}
-use Rattle.dump_digest.specs.RecordParts.{is_revision_record, is_node, is_kept_node, is_mergeinfo, is_checked_text, value_of, HasPropertyBlock}
-use Rattle.dump_filter.specs.declared.fate.CopyChange.{CopyChange}
-use Rattle.dump_filter.specs.declared.fate.Fate.{Fate}
 use Rattle.dump_filter.specs.declared.fate.Fate.TheVariants as fates
-use Rattle.dump_filter.specs.declared.report.Report.{Report}
-use Rattle.dump_filter.specs.Groups.{kept_revisions, revision_number}
-use Rattle.dump_filter.specs.RecordFaults.{AreFaultFree}
-use Rattle.dump_filter.specs.NewContent.{IsNewProperty, AreNewProperties}
-use Rattle.dump_digest.specs.steps.MergeFaults.{HasGoodMergeinfo}
-use Rattle.dump_filter.specs.steps.OwnText.{revision_own, node_own}
-use Rattle.dump_filter.specs.Written.{IsWrittenText}
-use Rattle.dump_filter.specs.steps.State.{PresentGroup, State, pending_count, revision_count}
-use Rattle.dump_filter.specs.steps.State.PresentGroup.{NoGroup, Pending, Written}
-use Rattle.dump_filter.specs.steps.Advance.{stays, pads, next_number, IsOwnRevision, IsOwnNode, IsEndText, IsFrontText, IsPiece, with_kept, front_kept, end_kept, with_kept_revision, with_dropped_revision, front_report, end_report, ended, emptied, started, text_count, next_state}
-use Rattle.dump_filter.specs.steps.Knowledge.{Shape, AreKept, Stands}
-use Rattle.dump_filter.specs.steps.Knowledge.Shape.{Fresh, Idle, Passed, Waits}
 use Rattle.dump_filter.proofs.written.PropertyOutput.{IsNewValue}
 use Rattle.dump_filter.proofs.groups.GroupLemmas.{plain_node}
 use Rattle.dump_filter.proofs.groups.KeptLemmas.{front_rising}

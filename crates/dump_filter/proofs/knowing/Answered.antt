@@ -1,21 +1,8 @@
 -- Each dump has an answer: from any records without a fault the filter goes on to one.
-use Rattle.std.proofs.Common.{◌≡◌, ◌⊎◌, ℕ, ◌+◌, Bool, true, false, List, [], ◌∷◌, ◌++◌, length, refl, sym, ap, ◌∙◌, subst, append_assoc, inl, inr, IsTrue, Result, Ok, Err}
+use Rattle.dump_filter.proofs.Prelude.{◌≡◌, ◌⊎◌, ℕ, ◌+◌, Bool, true, false, List, [], ◌∷◌, ◌++◌, length, refl, sym, ap, ◌∙◌, subst, append_assoc, inl, inr, IsTrue, Result, Ok, Err, FaultKind, DumpRecord, record_text, is_lawful, IsCutInto, Settings, Fate, kept_revisions, IsRecordFault, AreFaultFree, IsWrittenText, State, new_state, next_state, decided, Stands, verdict_exists}
 use Rattle.std.proofs.lemmas.List.{append-nil}
-use Rattle.dump_text.specs.declared.fault.FaultKind.{FaultKind}
-use Rattle.dump_records.specs.RecordText.{DumpRecord, record_text, is_lawful}
-use Rattle.dump_records.specs.DumpText.{IsCutInto}
-use Rattle.dump_rules.specs.Settings.{Settings}
-use Rattle.dump_filter.specs.declared.fate.Fate.{Fate}
-use Rattle.dump_filter.specs.Groups.{kept_revisions}
-use Rattle.dump_filter.specs.RecordFaults.{IsRecordFault, AreFaultFree}
-use Rattle.dump_filter.specs.Written.{IsWrittenText}
-use Rattle.dump_filter.specs.steps.State.{State, new_state}
-use Rattle.dump_filter.specs.steps.Advance.{next_state}
-use Rattle.dump_filter.specs.steps.Decision.{decided}
-use Rattle.dump_filter.specs.steps.Knowledge.{Stands}
 use Rattle.dump_filter.proofs.knowing.StandsNext.{ended_text, becomes_ended}
 use Rattle.dump_filter.proofs.answer.DecisionLemmas.{IsTaken, IsAnswer, answered}
-use Rattle.dump_digest.proofs.VerdictChoice.{verdict_exists}
 use Rattle.dump_filter.proofs.knowing.AdvanceLemmas.{pending_readable, next_stands, piece_exists, end_exists, stands_written}
 use Rattle.dump_filter.proofs.knowing.FilterLemmas.{written_as, new_stands, free_more, asked_properties}
 

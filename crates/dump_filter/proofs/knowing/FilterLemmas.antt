@@ -1,48 +1,8 @@
 -- A filter's step and end, by what it knows of the records that it has accepted.
-use Rattle.std.proofs.Common.{◌≡◌, ◌↔◌, ◌⊎◌, ℕ, ◌+◌, ◌^◌, ◌<◌, ◌≤◌, Bool, true, false, not, ◌&&◌, List, [], ◌∷◌, ◌++◌, length, refl, sym, ap, ◌∙◌, subst, arith, length-append, filter, inl, inr, Option, Some, None, option_map, IsTrue, Result, Ok, Err}
-use Rattle.std.proofs.lemmas.Bool.{or_right, not-false}
-use Rattle.std.proofs.lemmas.List.{length-map}
-use Rattle.std.proofs.lemmas.List.Sums.{count_by-le-length, length-filter}
-use Rattle.dump_text.specs.declared.fault.FaultKind.{FaultKind}
+use Rattle.dump_filter.proofs.Prelude.{◌≡◌, ◌↔◌, ◌⊎◌, ℕ, ◌+◌, ◌^◌, ◌<◌, ◌≤◌, Bool, true, false, not, ◌&&◌, List, [], ◌∷◌, ◌++◌, length, refl, sym, ap, ◌∙◌, subst, arith, length-append, filter, inl, inr, Option, Some, None, option_map, IsTrue, Result, Ok, Err, or_right, not-false, length-map, count_by-le-length, length-filter, FaultKind, NoFault, Property, tail-eq, block_or_not, Record, DumpRecord, record_dump, record_number, record_item, BeginsWithRecords, IsRecordOf, strip, begins_once, one_more, least_once, Settings, done_record, done_settings, done_verdict, Done, is_revision_record, is_node, is_kept_node, is_checked_text, IsVerdict, Verdict, CopyChange, Fate, Inside, Report, groups, group_number, keeps_group, kept_revisions, HoldsOfRecord, IsRecordFault, AreFaultFree, IsWrittenText, report_of, Seen, FilterState, count_up_to, AreAccepted, IsOfSameDump, Accepts, Refuses, Finishes, State, CanCountMore, view_state, new_state, revision_count, IsEndText, IsPiece, ended, next_state, decided, AreAsked, Stands, AreUpTo, KnowsAccepted, Fresh, absurd_bool, not_so, not_true, ∥∥₁_elim, transport, IsReadNode}
 use Rattle.dump_text.specs.declared.fault.FaultKind.TheVariants as faults
-use Rattle.dump_text.specs.FaultTable.{NoFault}
-use Rattle.dump_text.specs.PropertyList.{Property}
-use Rattle.dump_text.proofs.Unique.{tail-eq}
-use Rattle.dump_digest.proofs.PropertyBlocks.{block_or_not}
-use Rattle.dump_records.specs.declared.record.Record.{Record}
-use Rattle.dump_records.specs.RecordText.{DumpRecord}
-use Rattle.dump_records.specs.steps.RecordViews.{record_dump, record_number, record_item}
-use Rattle.dump_records.specs.DumpText.{BeginsWithRecords}
-use Rattle.dump_records.specs.steps.CutRecords.{IsRecordOf}
-use Rattle.dump_records.proofs.CutLemmas.{strip}
-use Rattle.dump_records.proofs.Prefixes.{begins_once, one_more}
-use Rattle.dump_records.proofs.Unique.{least_once}
-use Rattle.dump_rules.specs.Settings.{Settings}
-use Rattle.dump_digest.specs.steps.DoneViews.{done_record, done_settings, done_verdict}
-use Rattle.dump_digest.specs.declared.done.Done.{Done}
-use Rattle.dump_digest.specs.RecordParts.{is_revision_record, is_node, is_kept_node, is_checked_text}
-use Rattle.dump_digest.specs.steps.VerdictMeaning.{IsVerdict}
-use Rattle.dump_digest.specs.declared.verdict.Verdict.{Verdict}
-use Rattle.dump_filter.specs.declared.fate.CopyChange.{CopyChange}
-use Rattle.dump_filter.specs.declared.fate.Fate.{Fate}
 use Rattle.dump_filter.specs.declared.fate.Fate.TheVariants as fates
-use Rattle.dump_filter.specs.declared.filter.Filter.TheInside.{Inside}
-use Rattle.dump_filter.specs.declared.report.Report.{Report}
-use Rattle.dump_filter.specs.Groups.{groups, group_number, keeps_group, kept_revisions}
-use Rattle.dump_filter.specs.RecordFaults.{HoldsOfRecord, IsRecordFault, AreFaultFree}
-use Rattle.dump_filter.specs.Written.{IsWrittenText}
-use Rattle.dump_filter.specs.Counts.{report_of}
-use Rattle.dump_filter.specs.steps.FilterState.{Seen, FilterState, count_up_to, AreAccepted, IsOfSameDump, Accepts, Refuses, Finishes}
-use Rattle.dump_filter.specs.steps.State.{State, CanCountMore, view_state, new_state, revision_count}
-use Rattle.dump_filter.specs.steps.Advance.{IsEndText, IsPiece, ended, next_state}
-use Rattle.dump_filter.specs.steps.Decision.{decided, AreAsked}
-use Rattle.dump_filter.specs.steps.Knowledge.{Stands, AreUpTo, KnowsAccepted}
-use Rattle.dump_filter.specs.steps.Knowledge.Shape.{Fresh}
-use Rattle.dump_text.proofs.BoolLemmas.{absurd_bool, not_so, not_true}
 use Rattle.dump_filter.proofs.knowing.StandsNext.{IsReadable, ended_numbers, ended_dropped, ended_text, becomes_ended}
-use Rattle.std.proofs.Math.Logic.{∥∥₁_elim}
-use Rattle.std.proofs.Math.Path.{transport}
-use Rattle.dump_filter.specs.steps.NewProperties.{IsReadNode}
 use Rattle.dump_filter.proofs.answer.DecisionLemmas.{IsTaken, IsAnswer, answered}
 use Rattle.dump_filter.proofs.knowing.AdvanceLemmas.{pending_readable, next_stands, stands_written, stands_once, ended_counted, ended_others, next_counted, next_room, kept_nodes, dropped_nodes, next_texts}
 

@@ -1,12 +1,5 @@
 -- What is written of the first records of a dump begins what is written of more of them.
-use Rattle.std.proofs.Common.{◌≡◌, ℕ, Bool, true, false, List, [], ◌∷◌, ◌++◌, sym, ap, ◌∙◌, append_assoc}
-use Rattle.dump_writer.specs.SinkWords.{IsPrefixOf}
-use Rattle.dump_records.specs.RecordText.{DumpRecord}
-use Rattle.dump_rules.specs.Settings.{Settings}
-use Rattle.dump_filter.specs.Groups.{kept_revisions}
-use Rattle.dump_filter.specs.RecordFaults.{AreFaultFree}
-use Rattle.dump_filter.specs.Written.{IsWrittenText}
-use Rattle.dump_filter.specs.FilterLaws.{WrittenOnlyGrows}
+use Rattle.dump_filter.proofs.Prelude.{◌≡◌, ℕ, Bool, true, false, List, [], ◌∷◌, ◌++◌, sym, ap, ◌∙◌, append_assoc, IsPrefixOf, DumpRecord, Settings, kept_revisions, AreFaultFree, IsWrittenText, WrittenOnlyGrows}
 use Rattle.dump_filter.proofs.knowing.OnceLemmas.{outputs_once}
 use Rattle.dump_filter.proofs.knowing.FilterLemmas.{free_none}
 use Rattle.dump_filter.proofs.knowing.Answered.{AllLawful, all_lawful, lawful_front, lawful_behind, Reached, reached_none, reached_written, Outcome, reach, follow}

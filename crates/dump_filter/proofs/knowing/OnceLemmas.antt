@@ -1,24 +1,5 @@
 -- What is written of a list is one text.
-use Rattle.std.proofs.Common.{◌≡◌, ℕ, Bool, true, false, List, [], ◌∷◌, ◌++◌, refl, sym, ap, ap₂, ◌∙◌, subst, Some, MatchBool, codes}
-use Rattle.std.proofs.lemmas.Option.{same_Some}
-use Rattle.dump_text.specs.Number.{spelled_number}
-use Rattle.dump_text.specs.Names.{copy_revision_name}
-use Rattle.dump_text.specs.HeaderLine.{Header, with_header_value}
-use Rattle.dump_text.specs.HeaderBlock.{block_text}
-use Rattle.dump_text.specs.PropertyList.{Property}
-use Rattle.dump_text.proofs.PropertyLemmas.{property-eq}
-use Rattle.dump_records.specs.RecordText.{DumpRecord}
-use Rattle.dump_rules.specs.Settings.{Settings}
-use Rattle.dump_rules.specs.Renumbering.{KeptRevisions, image}
-use Rattle.dump_rules.proofs.new_values.OneNewValue.{one_new_value}
-use Rattle.dump_digest.specs.RecordParts.{is_revision_record, is_node, is_mergeinfo, value_of}
-use Rattle.dump_filter.specs.Groups.{Group, group_of, is_padded}
-use Rattle.dump_filter.specs.NewHeaders.{becomes_plain, without_copy_headers, IsWrittenCopyNumber, IsNewCopy}
-use Rattle.dump_digest.specs.RecordParts.{is_copy}
-use Rattle.dump_filter.specs.NewContent.{new_block, AreNewProperties}
-use Rattle.dump_filter.specs.RecordOutput.{revision_text, whole_text, IsRevisionOutput, IsNodeOutput, IsOutput}
-use Rattle.dump_filter.specs.Written.{is_written, AreOutputs}
-use Rattle.dump_digest.proofs.PropertyBlocks.{property_list_once}
+use Rattle.dump_filter.proofs.Prelude.{◌≡◌, ℕ, Bool, true, false, List, [], ◌∷◌, ◌++◌, refl, sym, ap, ap₂, ◌∙◌, subst, Some, MatchBool, codes, same_Some, spelled_number, copy_revision_name, Header, with_header_value, block_text, Property, property-eq, DumpRecord, Settings, KeptRevisions, image, one_new_value, is_revision_record, is_node, is_mergeinfo, value_of, Group, group_of, is_padded, becomes_plain, without_copy_headers, IsWrittenCopyNumber, IsNewCopy, is_copy, new_block, AreNewProperties, revision_text, whole_text, IsRevisionOutput, IsNodeOutput, IsOutput, is_written, AreOutputs, property_list_once}
 use Rattle.dump_filter.proofs.written.CopyLemmas.{AreCopyLines}
 use Rattle.dump_filter.proofs.written.PropertyOutput.{IsNewValue}
 

@@ -1,30 +1,6 @@
 -- What was written of the records so far, and where they end, goes on to what is written of one more record.
-use Rattle.std.proofs.Common.{◌≡◌, ℕ, ◌+◌, ◌<◌, ◌≤◌, ◌==◌, Bool, true, false, not, ◌||◌, List, [], ◌∷◌, ◌++◌, length, refl, sym, ap, ◌∙◌, subst, arith, append_assoc, length-append, Option, Some, None, All, MatchOption, if◌then◌else◌, MatchBool}
-use Rattle.std.specs.Bool.{⊤}
-use Rattle.std.specs.List.{list_all, list_any, last_or}
+use Rattle.dump_filter.proofs.Prelude.{◌≡◌, ℕ, ◌+◌, ◌<◌, ◌≤◌, ◌==◌, Bool, true, false, not, ◌||◌, List, [], ◌∷◌, ◌++◌, length, refl, sym, ap, ◌∙◌, subst, arith, append_assoc, length-append, Option, Some, None, All, MatchOption, if◌then◌else◌, MatchBool, ⊤, list_all, list_any, last_or, All-cons, All-nil, last_or_pushed, block_text, DumpRecord, Settings, KeptRevisions, is_revision_record, is_node, is_kept_node, HasPropertyBlock, CopyChange, Report, keeps_group, revision_number, revision_numbers, first_number, present_revision, kept_revisions, keeps_empty, IsNewCopy, ends_in_group, IsNodeOutput, copied_headers, AreOutputs, PendingRevision, PresentGroup, State, no_revisions, node_revision, NoGroup, Pending, Written, stays, pads, IsOwnRevision, IsOwnNode, IsEndText, IsFrontText, with_kept, front_kept, end_kept, with_kept_revision, with_dropped_revision, end_report, opened, ended, emptied, started, begun, takes_node, HasNoSource, is_plain, kept_numbers, dropped_groups, in_group, Shape, GoesOn, MayBecome, AreRising, AreKept, Stands, HasCounts, Fresh, Idle, Passed, Waits, false_true, first_true, second_true}
 use Rattle.std.proofs.lemmas.List.{append-nil}
-use Rattle.std.proofs.lemmas.List.Elements.{All-cons, All-nil}
-use Rattle.dump_rules.proofs.ReachLemmas.{last_or_pushed}
-use Rattle.dump_text.specs.HeaderBlock.{block_text}
-use Rattle.dump_records.specs.RecordText.{DumpRecord}
-use Rattle.dump_rules.specs.Settings.{Settings}
-use Rattle.dump_rules.specs.Renumbering.{KeptRevisions}
-use Rattle.dump_digest.specs.RecordParts.{is_revision_record, is_node, is_kept_node, HasPropertyBlock}
-use Rattle.dump_filter.specs.declared.fate.CopyChange.{CopyChange}
-use Rattle.dump_filter.specs.declared.report.Report.{Report}
-use Rattle.dump_filter.specs.Groups.{keeps_group, revision_number, revision_numbers, first_number, present_revision, kept_revisions, keeps_empty}
-use Rattle.dump_filter.specs.NewHeaders.{IsNewCopy}
-use Rattle.dump_filter.specs.RecordFaults.{ends_in_group}
-use Rattle.dump_filter.specs.RecordOutput.{IsNodeOutput}
-use Rattle.dump_filter.specs.steps.OwnText.{copied_headers}
-use Rattle.dump_filter.specs.Written.{AreOutputs}
-use Rattle.dump_filter.specs.steps.State.{PendingRevision, PresentGroup, State, no_revisions, node_revision}
-use Rattle.dump_filter.specs.steps.State.PresentGroup.{NoGroup, Pending, Written}
-use Rattle.dump_filter.specs.steps.Advance.{stays, pads, IsOwnRevision, IsOwnNode, IsEndText, IsFrontText, with_kept, front_kept, end_kept, with_kept_revision, with_dropped_revision, end_report, opened, ended, emptied, started, begun}
-use Rattle.dump_filter.specs.steps.Decision.{takes_node, HasNoSource}
-use Rattle.dump_filter.specs.steps.Knowledge.{is_plain, kept_numbers, dropped_groups, in_group, Shape, GoesOn, MayBecome, AreRising, AreKept, Stands, HasCounts}
-use Rattle.dump_filter.specs.steps.Knowledge.Shape.{Fresh, Idle, Passed, Waits}
-use Rattle.dump_text.proofs.BoolLemmas.{false_true, first_true, second_true}
 use Rattle.dump_filter.proofs.groups.GroupLemmas.{plain_node, plain_more, any_more, plain_other, passed_more, passed_end, waits_more, waits_on, waits_kept, waits_dropped, idle_end, revision_more, other_more, OwnOutput, unpadded}
 use Rattle.dump_filter.proofs.groups.KeptLemmas.{lowered, front_reopened, end_reopened, front_rising, end_rising, next_rising, first_rising, below_pending}
 use Rattle.dump_filter.proofs.answer.MergeLemmas.{IsForeign}

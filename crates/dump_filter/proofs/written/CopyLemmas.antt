@@ -1,21 +1,5 @@
 -- The new copy source of a kept node, and the image of a number behind a pending revision.
-use Rattle.std.proofs.Common.{◌≡◌, ℕ, ◌+◌, ◌<◌, ◌≤◌, length, true, refl, sym, ap, subst, Option, Some, None, is_some, MatchOption, Bool, List, MatchBool}
-use Rattle.dump_text.specs.Number.{spelled_number}
-use Rattle.dump_text.specs.Names.{copy_revision_name}
-use Rattle.dump_text.specs.HeaderLine.{Header, with_header_value}
-use Rattle.dump_records.specs.HeaderRules.{header_number}
-use Rattle.dump_rules.specs.Settings.{Settings}
-use Rattle.dump_rules.specs.Renumbering.{KeptRevisions, image}
-use Rattle.dump_rules.proofs.ReachLemmas.{image_pushed, image_at_pushed, length_fits}
-use Rattle.dump_filter.specs.Groups.{revision_number}
-use Rattle.dump_filter.specs.NewHeaders.{IsWrittenCopyNumber}
-use Rattle.dump_filter.specs.declared.revisions.Revisions.{Revisions}
-use Rattle.dump_filter.specs.steps.State.{PendingRevision, PresentGroup, no_revisions}
-use Rattle.dump_filter.specs.steps.State.PresentGroup.{NoGroup, Pending}
-use Rattle.dump_text.proofs.BoolLemmas.{absurd_bool}
-use Rattle.dump_filter.specs.steps.Advance.{front_kept}
-use Rattle.dump_filter.specs.steps.Decision.{takes_node}
-use Rattle.dump_filter.specs.steps.Knowledge.{AreRising, AreKept}
+use Rattle.dump_filter.proofs.Prelude.{◌≡◌, ℕ, ◌+◌, ◌<◌, ◌≤◌, length, true, refl, sym, ap, subst, Option, Some, None, is_some, MatchOption, Bool, List, MatchBool, spelled_number, copy_revision_name, Header, with_header_value, header_number, Settings, KeptRevisions, image, image_pushed, image_at_pushed, length_fits, revision_number, IsWrittenCopyNumber, Revisions, PendingRevision, PresentGroup, no_revisions, NoGroup, Pending, absurd_bool, front_kept, takes_node, AreRising, AreKept}
 use Rattle.dump_filter.proofs.groups.KeptLemmas.{below_pending}
 
 -- the lines of a copy with its source's new number, and those of no copy as they stood

@@ -1,8 +1,5 @@
 -- A name that no header line has: the length is 0.
-use Rattle.std.proofs.Common.{◌≡◌, ℕ, false, List, sym, ap, unwrap_or}
-use Rattle.dump_text.specs.HeaderLine.{Header, has_header}
-use Rattle.dump_records.specs.HeaderRules.{header_length}
-use Rattle.dump_records.proofs.HeaderLemmas.{no_number}
+use Rattle.dump_filter.proofs.Prelude.{◌≡◌, ℕ, false, List, sym, ap, unwrap_or, Header, has_header, header_length, no_number}
 
 -- a header that isn't there gives no length
 pub no_length : (name : List ℕ) (headers : List Header) → has_header name headers ≡ false

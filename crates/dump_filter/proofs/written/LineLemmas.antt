@@ -1,21 +1,6 @@
 -- The new lines of a block, line by line and by name.
-use Rattle.std.proofs.Common.{◌≡◌, ℕ, ◌+◌, ◌==◌, Bool, true, false, not, ◌&&◌, ◌||◌, List, [], ◌∷◌, ◌++◌, map, filter, length, refl, sym, ap, ◌∙◌, subst, Option, Some, None, bytes_eq, if◌then◌else◌}
-use Rattle.std.proofs.Math.Bool.{or-false}
-use Rattle.std.proofs.lemmas.List.{append-nil, map-append, map-id}
-use Rattle.std.proofs.lemmas.Simd.{map-map}
-use Rattle.std.proofs.lemmas.Map.Views.{any-filter_same}
-use Rattle.std.proofs.lemmas.Slice.Eq.{bytes_eq-Decides}
-use Rattle.std.proofs.lemmas.List.Folds.{list_any-append}
-use Rattle.dump_text.specs.Number.{spelled_number}
-use Rattle.dump_text.specs.Names.{revision_name, copy_revision_name, property_length_name, text_length_name, content_length_name}
-use Rattle.dump_text.specs.HeaderLine.{Header, is_named, has_header, with_header_value}
-use Rattle.dump_text.proofs.BoolLemmas.{first_true, second_true, not_true, not_false, not_so, absurd_bool}
-use Rattle.dump_filter.specs.declared.fate.CopyChange.{CopyChange}
-use Rattle.dump_filter.specs.declared.fate.CopyChange.TheVariants.{Same, Renumbered, Dropped}
-use Rattle.dump_filter.specs.declared.new_lines.Changes.{Changes}
-use Rattle.dump_filter.specs.NewHeaders.{with_length, with_lengths}
-use Rattle.dump_filter.specs.steps.OwnText.{copied_headers}
-use Rattle.dump_filter.specs.steps.NewLines.{copy_number, is_copy_line, is_dropped, lines_that_stay, numbered, with_number, renewed, added, new_headers, AreLengths, put_all}
+use Rattle.dump_filter.proofs.Prelude.{◌≡◌, ℕ, ◌+◌, ◌==◌, Bool, true, false, not, ◌&&◌, ◌||◌, List, [], ◌∷◌, ◌++◌, map, filter, length, refl, sym, ap, ◌∙◌, subst, Option, Some, None, bytes_eq, if◌then◌else◌, or-false, map-append, map-id, map-map, any-filter_same, bytes_eq-Decides, list_any-append, spelled_number, revision_name, copy_revision_name, property_length_name, text_length_name, content_length_name, Header, is_named, has_header, with_header_value, first_true, second_true, not_true, not_false, not_so, absurd_bool, CopyChange, Same, Renumbered, Dropped, Changes, with_length, with_lengths, copied_headers, copy_number, is_copy_line, is_dropped, lines_that_stay, numbered, with_number, renewed, added, new_headers, AreLengths, put_all}
+use Rattle.std.proofs.lemmas.List.{append-nil}
 use Rattle.dump_filter.proofs.again.LineChanges.{put_has, put_absent}
 
 -- the line, with this number where it has this name

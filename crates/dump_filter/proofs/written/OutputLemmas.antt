@@ -1,20 +1,6 @@
 -- What is written of a record, from its parts.
-use Rattle.std.proofs.Common.{◌≡◌, ℕ, Bool, false, List, ◌++◌, ap, sym, ◌∙◌, subst, append_assoc, codes, Some, None, Result, Ok, Err}
+use Rattle.dump_filter.proofs.Prelude.{◌≡◌, ℕ, Bool, false, List, ◌++◌, ap, sym, ◌∙◌, subst, append_assoc, codes, Some, None, Result, Ok, Err, spelled_number, revision_name, Header, with_header_value, block_text, Property, DumpRecord, CopyChange, Same, Changes, with_lengths, revision_properties, new_block, new_headers, AreLengths, new_record, whole_text, copied_headers, revision_own, node_own}
 use Rattle.std.specs.Result.{OnOk, IfOk}
-use Rattle.dump_text.specs.Number.{spelled_number}
-use Rattle.dump_text.specs.Names.{revision_name}
-use Rattle.dump_text.specs.HeaderLine.{Header, with_header_value}
-use Rattle.dump_text.specs.HeaderBlock.{block_text}
-use Rattle.dump_text.specs.PropertyList.{Property}
-use Rattle.dump_records.specs.RecordText.{DumpRecord}
-use Rattle.dump_filter.specs.declared.fate.CopyChange.{CopyChange}
-use Rattle.dump_filter.specs.declared.fate.CopyChange.TheVariants.{Same}
-use Rattle.dump_filter.specs.declared.new_lines.Changes.{Changes}
-use Rattle.dump_filter.specs.NewHeaders.{with_lengths}
-use Rattle.dump_filter.specs.NewContent.{revision_properties, new_block}
-use Rattle.dump_filter.specs.steps.NewLines.{new_headers, AreLengths, new_record}
-use Rattle.dump_filter.specs.RecordOutput.{whole_text}
-use Rattle.dump_filter.specs.steps.OwnText.{copied_headers, revision_own, node_own}
 use Rattle.dump_filter.proofs.written.LineLemmas.{revision_lines, node_lines}
 
 -- the same claim, made where a result is Ok, weakened

@@ -1,28 +1,5 @@
 -- What is written of a record by itself is its output, in whatever way the dump goes on.
-use Rattle.std.proofs.Common.{◌≡◌, ℕ, ◌+◌, ◌<◌, ◌≤◌, ◌==◌, Bool, true, false, not, ◌&&◌, List, [], ◌∷◌, length, refl, sym, ap, ap₂, ◌∙◌, subst, arith, inl, inr, suc, Some, All, Contains, MatchBool}
-use Rattle.std.specs.List.{list_any}
-use Rattle.std.proofs.lemmas.Bool.Decides.{leb_tells}
-use Rattle.dump_text.specs.Names.{copy_revision_name}
-use Rattle.dump_text.specs.HeaderLine.{Header}
-use Rattle.dump_text.specs.PropertyList.{Property}
-use Rattle.dump_records.specs.HeaderRules.{header_number}
-use Rattle.dump_records.specs.RecordText.{DumpRecord}
-use Rattle.dump_rules.specs.Settings.{Settings}
-use Rattle.dump_rules.specs.Renumbering.{KeptRevisions, image}
-use Rattle.dump_rules.specs.Rewriting.{IsNewMergeinfo, HasForeignNumber}
-use Rattle.dump_rules.proofs.new_values.LaterRevisions.{later_revisions}
-use Rattle.dump_digest.specs.RecordParts.{is_kept_node, is_mergeinfo, value_of, HasPropertyBlock}
-use Rattle.dump_filter.specs.declared.fate.CopyChange.{CopyChange}
-use Rattle.dump_filter.specs.Groups.{is_bare, is_pad, is_padded, revision_number}
-use Rattle.dump_filter.specs.NewHeaders.{becomes_plain, stays_copy, without_copy_headers, IsWrittenCopyNumber, IsNewCopy}
-use Rattle.dump_digest.specs.RecordParts.{is_copy}
-use Rattle.dump_filter.specs.NewContent.{AreNewProperties}
-use Rattle.dump_filter.specs.RecordOutput.{IsRevisionOutput, IsNodeOutput}
-use Rattle.dump_filter.specs.steps.OwnText.{copied_headers, revision_own}
-use Rattle.dump_filter.specs.steps.Advance.{pads, IsOwnRevision, IsOwnNode}
-use Rattle.dump_filter.specs.steps.Decision.{HasNoSource}
-use Rattle.dump_filter.specs.steps.Knowledge.{GoesOn}
-use Rattle.dump_text.proofs.BoolLemmas.{both_true, not_false}
+use Rattle.dump_filter.proofs.Prelude.{◌≡◌, ℕ, ◌+◌, ◌<◌, ◌≤◌, ◌==◌, Bool, true, false, not, ◌&&◌, List, [], ◌∷◌, length, refl, sym, ap, ap₂, ◌∙◌, subst, arith, inl, inr, suc, Some, All, Contains, MatchBool, list_any, leb_tells, copy_revision_name, Header, Property, header_number, DumpRecord, Settings, KeptRevisions, image, IsNewMergeinfo, HasForeignNumber, later_revisions, is_kept_node, is_mergeinfo, value_of, HasPropertyBlock, CopyChange, is_bare, is_pad, is_padded, revision_number, becomes_plain, stays_copy, without_copy_headers, IsWrittenCopyNumber, IsNewCopy, is_copy, AreNewProperties, IsRevisionOutput, IsNodeOutput, copied_headers, revision_own, pads, IsOwnRevision, IsOwnNode, HasNoSource, GoesOn, both_true, not_false}
 use Rattle.dump_filter.proofs.groups.KeptLemmas.{all_weaker, whole_is, next_written, image_kept}
 use Rattle.dump_filter.proofs.answer.MergeLemmas.{IsForeign}
 use Rattle.dump_filter.proofs.written.CopyLemmas.{AreCopyLines}

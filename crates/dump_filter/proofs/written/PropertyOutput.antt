@@ -1,30 +1,6 @@
 -- What is written of the properties of a record.
-use Rattle.std.proofs.Common.{◌≡◌, ℕ, ◌<◌, ◌^◌, suc, Bool, true, false, List, [], ◌∷◌, ◌++◌, length, flat_map, refl, sym, ap, ◌∙◌, subst, arith, append_assoc, inl, inr, codes, bytes_eq, Option, Some, None, unwrap_or, IsTrue, MatchBool}
-use Rattle.std.specs.List.{list_any}
-use Rattle.std.proofs.lemmas.List.{append-nil, nil_from_length}
-use Rattle.std.proofs.lemmas.Grind.{flat_map-append}
-use Rattle.std.proofs.lemmas.Slice.Eq.{bytes_eq-Decides}
-use Rattle.dump_text.specs.Names.{property_length_name}
-use Rattle.dump_text.specs.HeaderLine.{has_header}
-use Rattle.dump_text.specs.steps.PropertyScan.{IsWritten}
-use Rattle.dump_text.specs.PropertyList.{Property, IsEntry, IsPropertyBlock, block_end, entry_text, property_block_text}
-use Rattle.dump_text.specs.steps.PropertyReading.{HasPropertyChanges, property_value}
-use Rattle.dump_text.proofs.PropertyLemmas.{entry_parts, left_of, property_block_once}
-use Rattle.dump_text.proofs.WrittenLemmas.{written_list}
-use Rattle.dump_records.specs.HeaderRules.{header_number, property_length}
-use Rattle.dump_records.specs.RecordText.{DumpRecord}
-use Rattle.dump_rules.specs.Settings.{Settings}
-use Rattle.dump_rules.specs.Renumbering.{KeptRevisions}
-use Rattle.dump_rules.specs.Mergeinfo.{HasMergeLines}
-use Rattle.dump_rules.specs.Rewriting.{IsNewMergeinfo}
-use Rattle.dump_digest.specs.RecordParts.{is_mergeinfo, value_of, HasPropertyList}
-use Rattle.dump_filter.specs.NewContent.{padding_log, padding_properties, IsNewProperty, AreNewProperties, new_block}
-use Rattle.dump_filter.specs.steps.NewProperties.{property_of, dated_padding}
-use Rattle.dump_digest.specs.steps.MergeFaults.{HasGoodMergeinfo}
-use Rattle.dump_text.specs.declared.props.Props.{Props}
-use Rattle.dump_text.specs.steps.PropertyViews.{props_bytes}
-use Rattle.dump_text.proofs.BoolLemmas.{first_false, second_false}
-use Rattle.dump_records.proofs.HeaderLemmas.{no_number}
+use Rattle.dump_filter.proofs.Prelude.{◌≡◌, ℕ, ◌<◌, ◌^◌, suc, Bool, true, false, List, [], ◌∷◌, ◌++◌, length, flat_map, refl, sym, ap, ◌∙◌, subst, arith, append_assoc, inl, inr, codes, bytes_eq, Option, Some, None, unwrap_or, IsTrue, MatchBool, list_any, nil_from_length, flat_map-append, bytes_eq-Decides, property_length_name, has_header, IsWritten, Property, IsEntry, IsPropertyBlock, block_end, entry_text, property_block_text, HasPropertyChanges, property_value, entry_parts, left_of, property_block_once, written_list, header_number, property_length, DumpRecord, Settings, KeptRevisions, HasMergeLines, IsNewMergeinfo, is_mergeinfo, value_of, HasPropertyList, padding_log, padding_properties, IsNewProperty, AreNewProperties, new_block, property_of, dated_padding, HasGoodMergeinfo, Props, props_bytes, first_false, second_false, no_number}
+use Rattle.std.proofs.lemmas.List.{append-nil}
 
 -- the rest of a list is written behind what stands already
 abbrev pub IsLeftOf : List ℕ → List ℕ → List ℕ → Type 0

@@ -1,21 +1,5 @@
 -- A block that is written as it stands: under its own numbers and lengths, spelled as they are written.
-use Rattle.std.proofs.Common.{◌≡◌, ℕ, ◌+◌, ◌==◌, nat_eq, nat_le, Bool, true, false, not, ◌&&◌, ◌||◌, List, length, refl, sym, ap, ◌∙◌, Option, Some, None, is_none, unwrap_or, option_and_then}
-use Rattle.std.specs.Option.{option_eq}
-use Rattle.std.proofs.lemmas.Bool.{eqb-true, not-false}
-use Rattle.std.proofs.lemmas.Slice.Eq.{bytes_eq-Decides}
-use Rattle.dump_text.specs.Number.{number_of, spelled_number}
-use Rattle.dump_text.specs.Names.{revision_name, copy_revision_name, property_length_name, text_length_name, content_length_name}
-use Rattle.dump_text.specs.HeaderLine.{Header, has_header, count_named, header_value}
-use Rattle.dump_text.proofs.BoolLemmas.{first_true, second_true, first_false, second_false, false_true, not_so, absurd_bool}
-use Rattle.dump_records.specs.HeaderRules.{header_number, header_length, property_length, text_length, has_bad_number, has_bad_lengths}
-use Rattle.dump_records.specs.steps.HeaderReading.{are_spelled, is_spelled, are_written}
-use Rattle.dump_records.specs.RecordText.{DumpRecord, BeginsWithRecord}
-use Rattle.dump_records.proofs.Unique.{keeps}
-use Rattle.dump_filter.specs.declared.fate.CopyChange.{CopyChange}
-use Rattle.dump_filter.specs.declared.fate.CopyChange.TheVariants.{Same, Renumbered, Dropped}
-use Rattle.dump_filter.specs.declared.new_lines.Changes.{Changes}
-use Rattle.dump_filter.specs.NewHeaders.{with_lengths}
-use Rattle.dump_filter.specs.steps.NewLines.{AreLengths, StaysCopied, copy_number, lines_that_stay, new_headers, put_all}
+use Rattle.dump_filter.proofs.Prelude.{◌≡◌, ℕ, ◌+◌, ◌==◌, nat_eq, nat_le, Bool, true, false, not, ◌&&◌, ◌||◌, List, length, refl, sym, ap, ◌∙◌, Option, Some, None, is_none, unwrap_or, option_and_then, option_eq, eqb-true, not-false, bytes_eq-Decides, number_of, spelled_number, revision_name, copy_revision_name, property_length_name, text_length_name, content_length_name, Header, has_header, count_named, header_value, first_true, second_true, first_false, second_false, false_true, not_so, absurd_bool, header_number, header_length, property_length, text_length, has_bad_number, has_bad_lengths, are_spelled, is_spelled, are_written, DumpRecord, BeginsWithRecord, keeps, CopyChange, Same, Renumbered, Dropped, Changes, with_lengths, AreLengths, StaysCopied, copy_number, lines_that_stay, new_headers, put_all}
 use Rattle.dump_filter.proofs.written.HeaderLemmas.{no_length}
 use Rattle.dump_filter.proofs.again.LineChanges.{IsTold, put_same}
 use Rattle.dump_filter.proofs.again.Headers.{AreTold, known_once, lengths_again}

@@ -10,7 +10,7 @@ use crate::{Report, StepFault};
 use std::alloc::Global;
 use std::process::Abort;
 
-// Whether the filter, where memory may be refused, writes all of a dump, or is closed behind a front of it.
+/// Whether the filter, where memory may be refused, writes all of a dump, or is closed behind a front of it.
 fn is_whole_or_closed(alloc: Global, worked: &Worked<'_>) -> bool {
     match outcome(alloc, &worked.asked, worked.dump) {
         Some((answer, out)) => out.sound && is_whole_or_front(&answer, &out, worked),
@@ -29,7 +29,7 @@ fn is_whole_or_front(
     }
 }
 
-// Run with each allocation refused in turn: the filter runs out of memory at one call, and is closed behind it.
+/// Run with each allocation refused in turn: the filter runs out of memory at one call, and is closed behind it.
 #[test]
 fn a_refused_allocation_closes_the_filter(rt: HostRuntime) {
     let worked = Worked {
@@ -41,7 +41,7 @@ fn a_refused_allocation_closes_the_filter(rt: HostRuntime) {
     assert!(rt; is_whole_or_closed(rt.alloc(), &worked));
 }
 
-// The same, where revisions are padded and get new numbers, and copies of them too.
+/// The same, where revisions are padded and get new numbers, and copies of them too.
 #[test]
 fn a_refused_allocation_closes_the_filter_that_pads(rt: HostRuntime) {
     let worked = Worked {
@@ -73,7 +73,7 @@ fn a_refused_allocation_closes_the_filter_that_pads(rt: HostRuntime) {
     assert!(rt; is_whole_or_closed(rt.alloc(), &worked));
 }
 
-// The same, where properties are deleted.
+/// The same, where properties are deleted.
 #[test]
 fn a_refused_allocation_closes_the_filter_of_deletions(rt: HostRuntime) {
     let worked = Worked {
@@ -85,7 +85,7 @@ fn a_refused_allocation_closes_the_filter_of_deletions(rt: HostRuntime) {
     assert!(rt; is_whole_or_closed(rt.alloc(), &worked));
 }
 
-// The same, where mergeinfo gets new numbers.
+/// The same, where mergeinfo gets new numbers.
 #[test]
 fn a_refused_allocation_closes_the_filter_of_mergeinfo(rt: HostRuntime) {
     let worked = Worked {

@@ -1,26 +1,10 @@
 -- A dump's revisions, and those of what is written of it.
-use Rattle.std.proofs.Common.{◌≡◌, ℕ, suc, ◌==◌, Bool, true, false, ◌||◌, List, [], ◌∷◌, map, MatchBool, refl, sym, ap, ◌∙◌, subst, take_while, if◌then◌else◌}
-use Rattle.std.specs.List.{list_all}
-use Rattle.std.proofs.lemmas.Bool.{eqb-true}
-use Rattle.std.proofs.lemmas.List.Sums.{take_while-cons}
-use Rattle.dump_text.proofs.BoolLemmas.{equals_itself, first_true, second_true, both_true}
-use Rattle.dump_records.specs.RecordText.{DumpRecord}
-use Rattle.dump_rules.specs.Settings.{Settings}
-use Rattle.dump_rules.specs.Renumbering.{KeptRevisions}
-use Rattle.dump_digest.specs.RecordParts.{is_revision_record, is_node}
-use Rattle.dump_filter.specs.Groups.{Group, groups, group_number, has_kept_node, is_bare, keeps_empty, first_number, keeps_group, kept_revisions}
-use Rattle.dump_filter.specs.NewContent.{IsNewProperty}
-use Rattle.dump_filter.specs.NewHeaders.{IsWrittenCopyNumber}
-use Rattle.dump_trees.specs.Changes.{Change}
-use Rattle.dump_trees.specs.Restriction.{NewNumber}
-use Rattle.dump_trees.specs.Revisions.{AreNewRevisions, names_none_behind, kept_from, kept_of}
-use Rattle.dump_history.specs.DumpChanges.{counts_from}
-use Rattle.dump_history.specs.NumberGaps.{names_revision, count_to_gap, HasNamingNode, HasNamingNodeBehind}
+use Rattle.dump_history.proofs.Prelude.{◌≡◌, suc, ◌==◌, Bool, true, ◌||◌, map, MatchBool, refl, sym, ap, ◌∙◌, subst, take_while, if◌then◌else◌, list_all, eqb-true, take_while-cons, equals_itself, first_true, second_true, both_true, DumpRecord, Settings, KeptRevisions, is_revision_record, is_node, Group, groups, group_number, has_kept_node, is_bare, keeps_empty, first_number, keeps_group, kept_revisions, IsNewProperty, IsWrittenCopyNumber, Change, NewNumber, AreNewRevisions, names_none_behind, kept_from, kept_of, counts_from, names_revision, count_to_gap, HasNamingNode, HasNamingNodeBehind, Patching}
+use Rattle.std.proofs.Common.{ℕ, false, List, [], ◌∷◌}
 use Rattle.dump_history.proofs.again.NodeChanges.{entries_kept}
 use Rattle.dump_history.proofs.again.NamingNodes.{none_named_behind}
 use Rattle.dump_history.proofs.again.GapNumbers.{no_gap, gap_again}
 use Rattle.dump_history.proofs.again.GroupsAgain.{AreGroupsAgain}
-use Rattle.dump_history.specs.RecordChanges.{Patching}
 use Rattle.dump_history.proofs.again.GroupChanges.{AllMake, GroupsMake, empty_rule, AllHaveNodes, AreNumberedFrom, nodes_change, groups_change}
 use Rattle.dump_history.proofs.again.GroupNumbers.{AllRevisions, kept_numbers, kept_numbers_are, own_number}
 

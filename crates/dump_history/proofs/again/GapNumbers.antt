@@ -1,15 +1,6 @@
 -- The numbers of the groups that are read again where some were dropped, and the others have their own.
-use Rattle.std.proofs.Common.{◌≡◌, ℕ, suc, ◌<◌, ◌==◌, Bool, true, false, List, [], ◌∷◌, map, nat_lt, cond, refl, sym, ap, ◌∙◌, subst, arith, MatchBool}
-use Rattle.std.proofs.lemmas.Bool.{and_from, or_left, or_right, lt-ltb}
-use Rattle.dump_text.proofs.BoolLemmas.{equals_itself}
-use Rattle.dump_rules.specs.Settings.{Settings}
-use Rattle.dump_rules.specs.Renumbering.{KeptRevisions}
-use Rattle.dump_filter.specs.Groups.{Group, group_number, keeps_group}
-use Rattle.dump_trees.specs.Changes.{Change}
-use Rattle.dump_trees.specs.Restriction.{NewProperty, KeepsEntries, NewNumber}
-use Rattle.dump_trees.specs.Revisions.{AreNewChanges, keeps_revision, AreNewRevisions, names_none, names_none_behind}
-use Rattle.dump_history.specs.RecordChanges.{Patching}
-use Rattle.dump_history.specs.NumberGaps.{names_revision, name_no_revision, go_up, count_to_gap}
+use Rattle.dump_history.proofs.Prelude.{◌≡◌, suc, ◌<◌, ◌==◌, Bool, true, map, cond, refl, sym, ap, ◌∙◌, subst, arith, MatchBool, and_from, or_left, or_right, lt-ltb, equals_itself, Settings, KeptRevisions, Group, group_number, keeps_group, Change, NewProperty, KeepsEntries, NewNumber, AreNewChanges, keeps_revision, AreNewRevisions, names_none, names_none_behind, Patching, names_revision, name_no_revision, go_up, count_to_gap}
+use Rattle.std.proofs.Common.{ℕ, false, List, [], ◌∷◌, nat_lt}
 use Rattle.dump_history.proofs.again.GroupsAgain.{IsGroupAgain, AreGroupsAgain}
 use Rattle.dump_history.proofs.again.GroupChanges.{GroupsMake, empty_rule, AllHaveNodes, AreNumberedFrom, kept_group, later_number}
 use Rattle.dump_history.proofs.again.GroupNumbers.{AllRevisions, own_number}

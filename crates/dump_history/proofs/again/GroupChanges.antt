@@ -1,19 +1,6 @@
 -- The changes of the groups that are read again: those that the filter leaves of the dump's changes.
-use Rattle.std.proofs.Common.{◌≡◌, ℕ, suc, ◌==◌, Bool, true, false, ◌&&◌, ◌||◌, List, [], ◌∷◌, length, refl, sym, ap, ◌∙◌, subst, arith, MatchBool}
-use Rattle.std.specs.List.{AllZip, list_all, list_any}
-use Rattle.dump_text.proofs.BoolLemmas.{first_true, second_true}
-use Rattle.dump_records.specs.RecordText.{DumpRecord}
-use Rattle.dump_rules.specs.Settings.{Settings, keeps_path}
-use Rattle.dump_rules.specs.Renumbering.{KeptRevisions}
-use Rattle.dump_digest.specs.RecordParts.{is_node, is_kept_node, node_path}
-use Rattle.dump_filter.specs.Groups.{Group, group_number, has_kept_node, is_bare, keeps_empty, keeps_group}
-use Rattle.dump_filter.specs.NewContent.{IsNewProperty}
-use Rattle.dump_filter.specs.NewHeaders.{IsWrittenCopyNumber}
-use Rattle.dump_trees.specs.Paths.{keeps}
-use Rattle.dump_trees.specs.Changes.{Change}
-use Rattle.dump_trees.specs.Revisions.{AreNewChanges, EmptyRule, keeps_revision, AreNewRevisions}
-use Rattle.dump_trees.proofs.paths.PathNames.{keeps_text}
-use Rattle.dump_history.specs.RecordChanges.{Patching, MakesChange}
+use Rattle.dump_history.proofs.Prelude.{◌≡◌, suc, ◌==◌, Bool, true, ◌&&◌, ◌||◌, length, refl, sym, ap, ◌∙◌, subst, arith, MatchBool, AllZip, list_all, list_any, first_true, second_true, DumpRecord, Settings, keeps_path, KeptRevisions, is_node, is_kept_node, node_path, Group, group_number, has_kept_node, is_bare, keeps_empty, keeps_group, IsNewProperty, IsWrittenCopyNumber, keeps, Change, AreNewChanges, EmptyRule, keeps_revision, AreNewRevisions, keeps_text, Patching, MakesChange}
+use Rattle.std.proofs.Common.{ℕ, false, List, [], ◌∷◌}
 use Rattle.dump_history.proofs.again.NodeChanges.{change_path, node_makes_new_change}
 use Rattle.dump_history.proofs.again.GroupsAgain.{IsAgain, AreNodesAgain, IsGroupAgain, AreGroupsAgain}
 

@@ -1,21 +1,7 @@
 -- The numbers of the groups that are read again: 0, 1, 2 and so on, as those of the dump are.
-use Rattle.std.proofs.Common.{◌≡◌, ℕ, suc, ◌+◌, ◌<◌, Bool, true, false, List, [], ◌∷◌, ◌++◌, length, map, filter, count_by, nat_lt, refl, sym, ap, ap₂, ◌∙◌, subst, arith, append_assoc, if◌then◌else◌, MatchBool}
-use Rattle.std.specs.List.{AllZip, list_all}
-use Rattle.std.proofs.lemmas.Bool.{and_from, lt-ltb}
-use Rattle.dump_text.proofs.BoolLemmas.{first_true, second_true}
-use Rattle.dump_text.specs.PropertyList.{Property}
-use Rattle.dump_rules.specs.Settings.{Settings}
-use Rattle.dump_rules.specs.Renumbering.{KeptRevisions, new_number}
-use Rattle.dump_digest.specs.RecordParts.{is_revision_record, HasPropertyList}
-use Rattle.dump_filter.specs.Groups.{Group, group_number, is_padded, keeps_group}
-use Rattle.dump_filter.specs.NewContent.{revision_properties}
-use Rattle.dump_filter.specs.NewHeaders.{written_number}
-use Rattle.dump_trees.specs.Changes.{Change}
-use Rattle.dump_trees.specs.Revisions.{kept_from}
-use Rattle.dump_trees.proofs.histories.KeptNumbers.{length_push, AreBelow, AreAbove, below_next, below_pushed, all_counted}
-use Rattle.dump_history.specs.DumpLaws.{KeepsProperties}
+use Rattle.dump_history.proofs.Prelude.{◌≡◌, suc, ◌+◌, ◌<◌, Bool, true, ◌++◌, length, map, count_by, refl, sym, ap, ap₂, ◌∙◌, subst, arith, append_assoc, if◌then◌else◌, MatchBool, AllZip, list_all, and_from, lt-ltb, first_true, second_true, Property, Settings, KeptRevisions, new_number, is_revision_record, HasPropertyList, Group, group_number, is_padded, keeps_group, revision_properties, written_number, Change, kept_from, length_push, AreBelow, AreAbove, below_next, below_pushed, all_counted, KeepsProperties, Patching}
+use Rattle.std.proofs.Common.{ℕ, false, List, [], ◌∷◌, filter, nat_lt}
 use Rattle.dump_history.proofs.again.GroupsAgain.{IsGroupAgain, AreGroupsAgain}
-use Rattle.dump_history.specs.RecordChanges.{Patching}
 use Rattle.dump_history.proofs.again.GroupChanges.{GroupsMake, empty_rule, AllHaveNodes, AreNumberedFrom, kept_group, later_number}
 
 -- the groups' revisions are revisions

@@ -1,17 +1,6 @@
 -- The groups of what is written, read again: those of the kept groups, with their kept nodes.
-use Rattle.std.proofs.Common.{◌≡◌, ℕ, ◌==◌, Bool, true, false, ◌&&◌, ◌||◌, List, [], ◌∷◌, refl, sym, ap, ◌∙◌, subst, take_while, if◌then◌else◌, MatchBool}
-use Rattle.std.specs.List.{list_any}
-use Rattle.std.proofs.lemmas.List.Sums.{take_while-cons}
-use Rattle.dump_text.proofs.BoolLemmas.{first_false, second_false, absurd_bool}
-use Rattle.dump_records.specs.RecordText.{DumpRecord, is_lawful}
-use Rattle.dump_rules.specs.Settings.{Settings}
-use Rattle.dump_rules.specs.Renumbering.{KeptRevisions}
-use Rattle.dump_digest.specs.RecordParts.{is_revision_record, is_node, is_kept_node}
-use Rattle.dump_filter.specs.Groups.{Group, group_of, groups, group_number, is_bare, has_kept_node, keeps_empty, keeps_group}
-use Rattle.dump_filter.specs.Written.{is_written}
-use Rattle.dump_filter.proofs.groups.KindLemmas.{alone}
-use Rattle.dump_filter.proofs.knowing.Answered.{AllLawful}
-use Rattle.dump_filter.proofs.again.ReadAgain.{IsReadAgain, AreReadAgain}
+use Rattle.dump_history.proofs.Prelude.{◌≡◌, ◌==◌, Bool, true, ◌&&◌, ◌||◌, refl, sym, ap, ◌∙◌, subst, take_while, if◌then◌else◌, MatchBool, list_any, take_while-cons, first_false, second_false, absurd_bool, DumpRecord, is_lawful, Settings, KeptRevisions, is_revision_record, is_node, is_kept_node, Group, group_of, groups, group_number, is_bare, has_kept_node, keeps_empty, keeps_group, is_written, alone, AllLawful, IsReadAgain, AreReadAgain}
+use Rattle.std.proofs.Common.{ℕ, false, List, [], ◌∷◌}
 
 module _ (settings : Settings) (kept : KeptRevisions) where
   -- what is written of a record is read again so

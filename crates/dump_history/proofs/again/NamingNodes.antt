@@ -1,21 +1,6 @@
 -- A change that names a revision is that of a node that does.
-use Rattle.std.proofs.Common.{◌≡◌, ℕ, suc, Bool, true, false, not, ◌&&◌, List, [], ◌∷◌, Some, None, if◌then◌else◌, cond, Contains, IsTrue, MatchBool, refl, ap, ◌∙◌, inl, inr, arith}
-use Rattle.std.specs.List.{list_all, list_any}
-use Rattle.std.proofs.lemmas.Bool.{or_cases, and_parts, and_cases, not-false, true_from_ne_false}
-use Rattle.std.proofs.lemmas.List.Elements.{Contains-append_right}
-use Rattle.dump_text.specs.PropertyList.{Property}
-use Rattle.dump_text.specs.Names.{property_length_name}
-use Rattle.dump_text.specs.HeaderLine.{has_header}
-use Rattle.dump_text.proofs.BoolLemmas.{first_true, second_true}
-use Rattle.dump_records.specs.RecordText.{DumpRecord, has_prop_delta}
-use Rattle.dump_rules.specs.Settings.{Settings}
-use Rattle.dump_digest.specs.RecordParts.{is_copy, is_node, is_kept_node, is_mergeinfo}
-use Rattle.dump_filter.specs.Groups.{Group, group_number, keeps_group}
-use Rattle.dump_trees.specs.Paths.{keeps}
-use Rattle.dump_trees.specs.Changes.{Made, is_copied, PropertyChange, Change}
-use Rattle.dump_trees.specs.Revisions.{names_kept, names_none, names_none_behind}
-use Rattle.dump_history.specs.RecordChanges.{Patching, makes, made_by_kind, made_of, copied_from, property_change_of, MakesChange}
-use Rattle.dump_history.specs.NumberGaps.{entries_of, sets_mergeinfo, names_revision, NamesRevision, HasNamingNode, HasNamingNodeBehind}
+use Rattle.dump_history.proofs.Prelude.{◌≡◌, suc, Bool, true, not, ◌&&◌, None, if◌then◌else◌, cond, Contains, IsTrue, MatchBool, refl, ap, ◌∙◌, inl, inr, arith, list_all, list_any, or_cases, and_parts, and_cases, not-false, true_from_ne_false, Contains-append_right, Property, property_length_name, has_header, first_true, second_true, DumpRecord, has_prop_delta, Settings, is_copy, is_node, is_kept_node, is_mergeinfo, Group, group_number, keeps_group, keeps, Made, is_copied, PropertyChange, Change, names_kept, names_none, names_none_behind, Patching, makes, made_by_kind, made_of, copied_from, property_change_of, MakesChange, entries_of, sets_mergeinfo, names_revision, NamesRevision, HasNamingNode, HasNamingNodeBehind}
+use Rattle.std.proofs.Common.{ℕ, false, List, [], ◌∷◌, Some}
 use Rattle.dump_history.proofs.again.NodeChanges.{node_change, change_is}
 use Rattle.dump_history.proofs.again.GroupChanges.{AllMake, GroupsMake, empty_rule, AllHaveNodes, AreNumberedFrom, kept_node, kept_group, later_number}
 

@@ -1,25 +1,6 @@
 -- What is written of a kept node, read again, makes the filtered change.
-use Rattle.std.proofs.Common.{◌≡◌, ℕ, Bool, true, false, not, ◌&&◌, ◌||◌, ◌==◌, List, [], ◌∷◌, refl, sym, ap, ◌∙◌, subst, codes, bytes_eq, Option, Some, None, is_some, unwrap_or, MatchBool, if◌then◌else◌}
-use Rattle.std.specs.List.{list_all, list_any}
-use Rattle.std.proofs.lemmas.Slice.Eq.{bytes_eq-Decides}
-use Rattle.dump_text.specs.Names.{action_name, node_kind_name, path_name, property_length_name, text_delta_name, prop_delta_name}
-use Rattle.dump_text.specs.HeaderLine.{has_byte, has_header, header_value}
-use Rattle.dump_text.specs.PropertyList.{Property}
-use Rattle.dump_text.proofs.BoolLemmas.{first_true, second_true, both_true, not_true, absurd_bool}
-use Rattle.dump_records.specs.RecordText.{DumpRecord, has_prop_delta, has_text_delta}
-use Rattle.dump_rules.specs.Settings.{Settings, keeps_path}
-use Rattle.dump_rules.specs.Rewriting.{IsNewMergeinfo}
-use Rattle.dump_rules.specs.Renumbering.{KeptRevisions}
-use Rattle.dump_digest.specs.RecordParts.{is_mergeinfo, mergeinfo_name, value_of, is_node, is_copy, has_text, node_path, has_lost_source}
-use Rattle.dump_digest.proofs.PropertyBlocks.{property_list_once}
-use Rattle.dump_filter.specs.NewContent.{AreNewProperties, IsNewProperty}
-use Rattle.dump_filter.specs.NewHeaders.{is_whole_file, becomes_plain, IsWrittenCopyNumber}
-use Rattle.dump_filter.proofs.again.ReadAgain.{IsNodeAgain, IsReadAgain}
-use Rattle.dump_trees.specs.Paths.{path_of, is_short, keeps}
-use Rattle.dump_trees.specs.Changes.{Made, PropertyChange, TextChange, Change}
-use Rattle.dump_trees.specs.Restriction.{KeepsEntries, edits_props, sets_whole_text, sets_whole, AreNewProps, IsNewMade, IsNewChange}
-use Rattle.dump_trees.proofs.paths.PathNames.{keeps_text}
-use Rattle.dump_history.specs.RecordChanges.{Patching, has_known_action, deletes, makes, made_by_kind, copy_path, copied_from, made_of, property_change_of, text_change_of, has_odd_delta, change_of, is_plain_line, has_plain_texts, MakesChange}
+use Rattle.dump_history.proofs.Prelude.{◌≡◌, Bool, true, not, ◌&&◌, ◌||◌, ◌==◌, refl, sym, ap, ◌∙◌, subst, bytes_eq, Option, None, is_some, unwrap_or, MatchBool, if◌then◌else◌, list_all, list_any, bytes_eq-Decides, action_name, node_kind_name, path_name, property_length_name, text_delta_name, prop_delta_name, has_byte, has_header, header_value, Property, first_true, second_true, both_true, not_true, absurd_bool, DumpRecord, has_prop_delta, has_text_delta, Settings, keeps_path, IsNewMergeinfo, KeptRevisions, is_mergeinfo, mergeinfo_name, value_of, is_node, is_copy, has_text, node_path, has_lost_source, property_list_once, AreNewProperties, IsNewProperty, is_whole_file, becomes_plain, IsWrittenCopyNumber, IsNodeAgain, IsReadAgain, path_of, is_short, keeps, Made, PropertyChange, TextChange, Change, KeepsEntries, edits_props, sets_whole_text, sets_whole, AreNewProps, IsNewMade, IsNewChange, keeps_text, Patching, has_known_action, deletes, makes, made_by_kind, copy_path, copied_from, made_of, property_change_of, text_change_of, has_odd_delta, change_of, is_plain_line, has_plain_texts, MakesChange}
+use Rattle.std.proofs.Common.{ℕ, false, List, [], ◌∷◌, codes, Some}
 use Rattle.dump_history.proofs.again.NodeLines.{value_stays, text_there, props_there, plain_stays, HasNewSource, new_source, short_stays}
 
 -- whether no zero byte stands in the property's name

@@ -1,27 +1,6 @@
 -- What the node that is read again keeps of a kept node's lines.
-use Rattle.std.proofs.Common.{◌≡◌, ℕ, Bool, true, false, ◌||◌, List, [], length, refl, sym, ap, ◌∙◌, subst, bytes_eq, Option, Some, None, is_some, option_and_then, unwrap_or, MatchBool, if◌then◌else◌}
-use Rattle.std.specs.List.{list_all}
-use Rattle.dump_text.specs.Number.{number_of, spelled_number}
-use Rattle.dump_text.specs.Names.{copy_revision_name, copy_path_name, property_length_name, text_length_name}
-use Rattle.dump_text.specs.HeaderLine.{Header, has_header, header_value, with_header_value}
-use Rattle.dump_text.specs.PropertyList.{property_block_text}
-use Rattle.dump_text.proofs.BoolLemmas.{first_false, second_false}
-use Rattle.dump_text.proofs.BlockLemmas.{has_value}
-use Rattle.dump_text.proofs.PartLemmas.{number_of-spelled}
-use Rattle.dump_records.specs.HeaderRules.{header_number}
-use Rattle.dump_records.specs.RecordText.{DumpRecord}
-use Rattle.dump_rules.specs.Settings.{Settings}
-use Rattle.dump_rules.specs.Renumbering.{KeptRevisions}
-use Rattle.dump_digest.specs.RecordParts.{is_copy, has_text}
-use Rattle.dump_filter.specs.NewContent.{new_block}
-use Rattle.dump_filter.specs.NewHeaders.{with_lengths, becomes_plain, without_copy_headers, IsWrittenCopyNumber, IsNewCopy}
-use Rattle.dump_filter.specs.steps.NewLines.{is_copy_line}
-use Rattle.dump_filter.proofs.again.LineChanges.{spelled_line, put_own, put_change, go_change, gone}
-use Rattle.dump_filter.proofs.again.Headers.{is_length_name, lengths_change, text_stays, props_stay}
-use Rattle.dump_filter.proofs.again.ReadAgain.{IsNodeAgain}
-use Rattle.dump_trees.specs.Paths.{is_short}
-use Rattle.dump_history.specs.RecordChanges.{is_plain_line, copy_path}
-use Rattle.dump_filter.proofs.again.Output.{number_there}
+use Rattle.dump_history.proofs.Prelude.{◌≡◌, Bool, true, ◌||◌, length, refl, sym, ap, ◌∙◌, subst, bytes_eq, Option, None, is_some, option_and_then, unwrap_or, MatchBool, if◌then◌else◌, list_all, number_of, spelled_number, copy_revision_name, copy_path_name, property_length_name, text_length_name, Header, has_header, header_value, with_header_value, property_block_text, first_false, second_false, has_value, number_of-spelled, header_number, DumpRecord, Settings, KeptRevisions, is_copy, has_text, new_block, with_lengths, becomes_plain, without_copy_headers, IsWrittenCopyNumber, IsNewCopy, is_copy_line, spelled_line, put_own, put_change, go_change, gone, is_length_name, lengths_change, text_stays, props_stay, IsNodeAgain, is_short, is_plain_line, copy_path, number_there}
+use Rattle.std.proofs.Common.{ℕ, false, List, [], Some}
 use Rattle.dump_history.proofs.again.RecordLines.{plain_put, plain_gone, plain_lengths, spelled_plain, lengths_have}
 
 -- a node r that becomes a plain one, one that stays a copy, and one that is none: what holds of the lines in each of

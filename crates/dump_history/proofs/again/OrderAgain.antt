@@ -1,15 +1,6 @@
 -- The records that are read again are in order: their nodes stand in revisions.
-use Rattle.std.proofs.Common.{◌≡◌, ℕ, Bool, true, false, not, ◌||◌, List, [], ◌∷◌, refl, sym, ap, ◌∙◌, subst}
-use Rattle.std.proofs.Math.Bool.{or-true}
-use Rattle.dump_text.proofs.BoolLemmas.{first_true, second_true, both_true, absurd_bool}
-use Rattle.dump_records.specs.RecordText.{DumpRecord}
-use Rattle.dump_rules.specs.Settings.{Settings}
-use Rattle.dump_rules.specs.Renumbering.{KeptRevisions}
-use Rattle.dump_digest.specs.RecordParts.{is_revision_record, is_node}
-use Rattle.dump_filter.specs.Written.{is_written}
-use Rattle.dump_filter.proofs.knowing.Answered.{AllLawful}
-use Rattle.dump_filter.proofs.again.ReadAgain.{AreReadAgain}
-use Rattle.dump_history.specs.DumpChanges.{has_ordered_nodes}
+use Rattle.dump_history.proofs.Prelude.{◌≡◌, Bool, true, not, ◌||◌, refl, sym, ap, ◌∙◌, subst, or-true, first_true, second_true, both_true, absurd_bool, DumpRecord, Settings, KeptRevisions, is_revision_record, is_node, is_written, AllLawful, AreReadAgain, has_ordered_nodes}
+use Rattle.std.proofs.Common.{ℕ, false, List, [], ◌∷◌}
 use Rattle.dump_history.proofs.again.GroupsAgain.{Reads, keeps_first, keeps_first-node, dropped_behind, node_written}
 
 module _ (settings : Settings) (kept : KeptRevisions) where

@@ -1,15 +1,6 @@
 -- What is written of revisions that name no revision names none.
-use Rattle.std.proofs.Common.{◌≡◌, Bool, true, false, not, ◌&&◌, ◌||◌, List, [], ◌∷◌, Option, Some, None, bytes_eq, refl, ap, ap₂, ◌∙◌, MatchBool}
-use Rattle.std.specs.List.{AllZip, list_any}
-use Rattle.std.proofs.lemmas.Bool.{or_parts, or_from, and_from, and_parts, not-true, not_from_false}
-use Rattle.dump_text.specs.PropertyList.{Property}
-use Rattle.dump_rules.specs.Settings.{Settings}
-use Rattle.dump_digest.specs.RecordParts.{is_mergeinfo, mergeinfo_name}
-use Rattle.dump_trees.specs.Paths.{keeps}
-use Rattle.dump_trees.specs.Changes.{Made, is_copied, PropertyChange, Change}
-use Rattle.dump_trees.specs.Restriction.{NewProperty, KeepsEntries, NewNumber, AreNewProps, IsNewMade, IsNewChange}
-use Rattle.dump_trees.specs.Revisions.{AreNewChanges, EmptyRule, keeps_revision, AreNewRevisions, names_kept, names_none}
-use Rattle.dump_history.specs.NumberGaps.{entries_of, sets_mergeinfo, names_revision, name_no_revision}
+use Rattle.dump_history.proofs.Prelude.{◌≡◌, Bool, true, not, ◌&&◌, ◌||◌, Option, None, bytes_eq, refl, ap, ap₂, ◌∙◌, MatchBool, AllZip, list_any, or_parts, or_from, and_from, and_parts, not-true, not_from_false, Property, Settings, is_mergeinfo, mergeinfo_name, keeps, Made, is_copied, PropertyChange, Change, NewProperty, KeepsEntries, NewNumber, AreNewProps, IsNewMade, IsNewChange, AreNewChanges, EmptyRule, keeps_revision, AreNewRevisions, names_kept, names_none, entries_of, sets_mergeinfo, names_revision, name_no_revision}
+use Rattle.std.proofs.Common.{false, List, [], ◌∷◌, Some}
 
 module _ (settings : Settings) (IsNew : NewProperty) (entries : KeepsEntries IsNew) (IsNumber : NewNumber) where
   -- mergeinfo stays mergeinfo

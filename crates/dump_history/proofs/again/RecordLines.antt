@@ -1,18 +1,6 @@
 -- What the new lines of a kept node keep of the old ones.
-use Rattle.std.proofs.Common.{◌≡◌, ℕ, ◌+◌, ◌<◌, ◌^◌, ◌==◌, nat_lt, nat_le, Bool, true, false, ◌&&◌, List, [], ◌∷◌, ◌++◌, length, refl, ◌∙◌, arith, Some, None, if◌then◌else◌}
-use Rattle.std.specs.List.{list_all}
-use Rattle.std.specs.Char.{is_ascii_digit}
-use Rattle.std.specs.Str.Parse.{digits_value}
-use Rattle.std.proofs.lemmas.List.Folds.{list_any-append, list_all-append}
-use Rattle.dump_text.specs.Number.{is_number, number_of, spelled_number}
-use Rattle.dump_text.specs.Names.{property_length_name, text_length_name, content_length_name}
-use Rattle.dump_text.specs.HeaderLine.{Header, has_byte, is_named, has_header, with_header_value}
-use Rattle.dump_text.proofs.BoolLemmas.{first_true, second_true, both_true}
-use Rattle.dump_text.proofs.PartLemmas.{number_of-spelled}
-use Rattle.dump_filter.specs.NewHeaders.{with_length, with_lengths, without_copy_headers}
-use Rattle.dump_filter.specs.steps.NewLines.{is_copy_line}
-use Rattle.dump_filter.proofs.again.LineChanges.{put_has}
-use Rattle.dump_history.specs.RecordChanges.{is_plain_line}
+use Rattle.dump_history.proofs.Prelude.{◌≡◌, ◌+◌, ◌<◌, ◌^◌, ◌==◌, Bool, true, ◌&&◌, ◌++◌, length, refl, ◌∙◌, arith, None, if◌then◌else◌, list_all, is_ascii_digit, digits_value, list_any-append, list_all-append, is_number, number_of, spelled_number, property_length_name, text_length_name, content_length_name, Header, has_byte, is_named, has_header, with_header_value, first_true, second_true, both_true, number_of-spelled, with_length, with_lengths, without_copy_headers, is_copy_line, put_has, is_plain_line}
+use Rattle.std.proofs.Common.{ℕ, nat_lt, nat_le, false, List, [], ◌∷◌, Some}
 
 -- digits
 

@@ -1,33 +1,7 @@
 -- The law of filtered dumps.
-use Rattle.std.proofs.Common.{◌≡◌, ℕ, Bool, true, false, ◌||◌, List, [], ◌∷◌, ◌++◌, length, refl, sym, ap, ◌∙◌, subst}
-use Rattle.std.specs.Prelude.{take, filter}
-use Rattle.std.specs.List.{list_all}
-use Rattle.std.proofs.lemmas.Bool.{MatchBool-at_false, or_left, or_right, or_parts}
-use Rattle.dump_text.proofs.BoolLemmas.{absurd_bool}
-use Rattle.dump_records.specs.DumpText.{Ending, HasRecords, IsCutInto}
-use Rattle.dump_records.specs.RecordText.{DumpRecord}
-use Rattle.dump_rules.specs.Settings.{Settings}
-use Rattle.dump_rules.specs.Renumbering.{KeptRevisions, image}
-use Rattle.dump_filter.specs.FilterLaws.{LengthsFit}
-use Rattle.dump_filter.specs.Groups.{Group, groups, keeps_group, kept_revisions}
-use Rattle.dump_filter.specs.NewContent.{IsNewProperty}
-use Rattle.dump_filter.specs.NewHeaders.{IsWrittenCopyNumber}
-use Rattle.dump_filter.specs.WholeText.{IsCleanText}
-use Rattle.dump_filter.proofs.knowing.Answered.{AllLawful, all_lawful}
-use Rattle.dump_filter.proofs.again.ReadAgain.{AreReadAgain}
-use Rattle.dump_filter.proofs.again.OwnTextLaw.{reads_again}
-use Rattle.dump_trees.specs.Trees.{root_alone}
-use Rattle.dump_trees.specs.Changes.{is_copied, Change}
-use Rattle.dump_trees.specs.HistoryLaws.{ImagesRestrict}
-use Rattle.dump_trees.specs.Revisions.{names_none_behind, stays_numbered, AreNewRevisions, kept_of, IsWrittenNumber}
-use Rattle.dump_trees.proofs.histories.NamingLemmas.{front_names_none, fewer_names_none}
-use Rattle.dump_trees.proofs.histories.HistoryLemmas.{history}
-use Rattle.dump_trees.proofs.histories.FrontLemmas.{front_history}
-use Rattle.dump_trees.proofs.quiet.QuietLemmas.{all_quiet}
-use Rattle.dump_history.specs.RecordChanges.{Patching}
-use Rattle.dump_history.specs.DumpChanges.{MakeRevisions}
-use Rattle.dump_history.specs.NumberGaps.{sets_mergeinfo, names_revision, MakeRevisionsWithGaps, KeepsNamedNumbers}
-use Rattle.dump_history.specs.DumpLaws.{keeps_numbering, HasNoGapIfKept, FilteredDumpRestricts, QuietDumpRestricts, FilteredDumpFrontRestricts, QuietDumpFrontRestricts, RevisionsKeepProperties}
+use Rattle.dump_history.proofs.Prelude.{◌≡◌, Bool, true, ◌||◌, ◌++◌, length, refl, sym, ap, ◌∙◌, subst, take, list_all, MatchBool-at_false, or_left, or_right, or_parts, absurd_bool, Ending, HasRecords, IsCutInto, DumpRecord, Settings, KeptRevisions, image, LengthsFit, Group, groups, keeps_group, kept_revisions, IsNewProperty, IsWrittenCopyNumber, IsCleanText, AllLawful, all_lawful, AreReadAgain, reads_again, root_alone, is_copied, Change, ImagesRestrict, names_none_behind, stays_numbered, AreNewRevisions, kept_of, IsWrittenNumber, front_names_none, fewer_names_none, history, front_history, all_quiet, Patching, MakeRevisions, sets_mergeinfo, names_revision, MakeRevisionsWithGaps, KeepsNamedNumbers, keeps_numbering, HasNoGapIfKept, FilteredDumpRestricts, QuietDumpRestricts, FilteredDumpFrontRestricts, QuietDumpFrontRestricts, RevisionsKeepProperties}
+use Rattle.std.proofs.Common.{ℕ, false, List, [], ◌∷◌}
+use Rattle.std.specs.Prelude.{filter}
 use Rattle.dump_history.proofs.again.NodeChanges.{entries_kept}
 use Rattle.dump_history.proofs.again.GroupsAgain.{keeps_first, AreGroupsAgain, groups_again}
 use Rattle.dump_history.proofs.again.GroupChanges.{GroupsMake, empty_rule, AreNumberedFrom}

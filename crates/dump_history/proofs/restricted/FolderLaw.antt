@@ -1,15 +1,6 @@
 -- The law of filtered dumps that are loaded behind the given folders.
-use Rattle.std.proofs.Common.{List, [], ◌∷◌, ◌∙◌}
-use Rattle.std.specs.Prelude.{drop}
-use Rattle.std.specs.List.{AllZip}
-use Rattle.dump_filter.specs.Groups.{kept_revisions}
-use Rattle.dump_filter.specs.NewContent.{IsNewProperty}
-use Rattle.dump_trees.specs.Trees.{root_alone}
-use Rattle.dump_trees.specs.Restriction.{given}
-use Rattle.dump_trees.proofs.paths.GivenFolders.{given_folders}
-use Rattle.dump_trees.proofs.histories.AlikeLemmas.{loads_alike, given_alike, both_restrict}
-use Rattle.dump_history.specs.RaisedMergeinfo.{IsRaised}
-use Rattle.dump_history.specs.DumpLaws.{QuietDumpRestrictsBehindFolders}
+use Rattle.dump_history.proofs.Prelude.{◌∙◌, drop, AllZip, kept_revisions, IsNewProperty, root_alone, given, given_folders, loads_alike, given_alike, both_restrict, IsRaised, QuietDumpRestrictsBehindFolders}
+use Rattle.std.proofs.Common.{List, [], ◌∷◌}
 use Rattle.dump_history.proofs.restricted.FilteredLaw.{quiet_dump_restricts}
 use Rattle.dump_history.proofs.restricted.RaisedLemmas.{raised_entries}
 

@@ -1,13 +1,7 @@
 -- How many of the first revisions of a dump the filter keeps.
-use Rattle.std.proofs.Common.{◌≡◌, ℕ, suc, ◌+◌, Bool, true, false, List, [], ◌∷◌, ◌++◌, length, Some, refl, ap, ◌∙◌, arith, if◌then◌else◌}
-use Rattle.std.specs.Prelude.{take, filter}
-use Rattle.dump_rules.specs.Settings.{Settings}
-use Rattle.dump_filter.specs.Groups.{Group, group_number, keeps_group}
-use Rattle.dump_trees.specs.Trees.{Tree}
-use Rattle.dump_trees.specs.Changes.{Change}
-use Rattle.dump_trees.specs.Revisions.{loaded_over, keeps_revision, kept_from, kept_of}
-use Rattle.dump_trees.proofs.histories.FrontLemmas.{loaded_length}
-use Rattle.dump_history.specs.RecordChanges.{Patching}
+use Rattle.dump_history.proofs.Prelude.{◌≡◌, suc, ◌+◌, Bool, true, ◌++◌, length, refl, ap, ◌∙◌, arith, if◌then◌else◌, take, Settings, Group, group_number, keeps_group, Tree, Change, loaded_over, keeps_revision, kept_from, kept_of, loaded_length, Patching}
+use Rattle.std.proofs.Common.{ℕ, false, List, [], ◌∷◌, Some}
+use Rattle.std.specs.Prelude.{filter}
 use Rattle.dump_history.proofs.again.GroupChanges.{GroupsMake, empty_rule, AllHaveNodes, AreNumberedFrom, later_number, kept_group}
 use Rattle.dump_history.proofs.again.DumpAgain.{first_kept}
 

@@ -1,23 +1,6 @@
 -- A dump's records, changes, properties and trees are one list each.
-use Rattle.std.proofs.Common.{◌≡◌, ℕ, suc, List, [], ◌∷◌, ◌++◌, Some, option_map, refl, sym, ap, ◌∙◌, subst}
-use Rattle.std.specs.List.{AllZip}
-use Rattle.dump_text.specs.PropertyList.{Property}
-use Rattle.dump_records.specs.DumpText.{Ending, HasRecords}
-use Rattle.dump_records.specs.RecordText.{DumpRecord}
-use Rattle.dump_records.proofs.Unique.{records_once}
-use Rattle.dump_digest.specs.RecordParts.{HasPropertyList}
-use Rattle.dump_digest.proofs.PropertyBlocks.{property_list_once}
-use Rattle.dump_filter.specs.Groups.{Group, groups, revision_numbers}
-use Rattle.dump_trees.specs.Trees.{Tree}
-use Rattle.dump_trees.specs.Changes.{Change}
-use Rattle.dump_trees.specs.Revisions.{loaded_over}
-use Rattle.dump_trees.specs.MovedLaws.{revisions_behind}
-use Rattle.dump_trees.proofs.histories.MovedLemmas.{loads_behind}
-use Rattle.dump_history.specs.RecordChanges.{Patching, MakesChange}
-use Rattle.dump_history.specs.DumpChanges.{HaveRevisionProperties}
-use Rattle.dump_history.specs.NumberGaps.{LoadsWithGapsAs}
-use Rattle.dump_history.specs.DumpLaws.{NoGapIsNeeded, DumpLoadsOnce, DumpLoadsTheSameBehindOthers}
-use Rattle.dump_history.specs.PartLaws.{NoGapIsNeededInPart}
+use Rattle.dump_history.proofs.Prelude.{◌≡◌, suc, ◌++◌, option_map, refl, sym, ap, ◌∙◌, subst, AllZip, Property, Ending, HasRecords, DumpRecord, records_once, HasPropertyList, property_list_once, Group, groups, revision_numbers, Tree, Change, loaded_over, revisions_behind, loads_behind, Patching, MakesChange, HaveRevisionProperties, LoadsWithGapsAs, NoGapIsNeeded, DumpLoadsOnce, DumpLoadsTheSameBehindOthers, NoGapIsNeededInPart}
+use Rattle.std.proofs.Common.{ℕ, List, [], ◌∷◌, Some}
 use Rattle.dump_history.proofs.again.NodeChanges.{change_once}
 use Rattle.dump_history.proofs.again.GapNumbers.{no_gap}
 use Rattle.dump_history.proofs.again.DumpAgain.{numbered_from, counts_without}

@@ -1,11 +1,6 @@
 -- What the filter writes of the changes of a part of a history, with the numbers that a load gives.
-use Rattle.std.proofs.Common.{◌≡◌, ℕ, ◌+◌, Bool, true, false, List, [], ◌∷◌, map, Option, Some, None, MatchBool, refl, ap, ap₂, ◌∙◌, subst}
-use Rattle.dump_rules.specs.Settings.{Settings}
-use Rattle.dump_trees.specs.Paths.{keeps}
-use Rattle.dump_trees.specs.Changes.{Made, Change}
-use Rattle.dump_trees.specs.Restriction.{NewProperty, NewNumber, IsNewMade, IsNewChange, sets_whole}
-use Rattle.dump_trees.specs.MovedLaws.{made_behind, change_behind, revisions_behind}
-use Rattle.dump_trees.specs.Revisions.{AreNewChanges, EmptyRule, keeps_revision, AreNewRevisions}
+use Rattle.dump_history.proofs.Prelude.{◌≡◌, ◌+◌, Bool, true, map, Option, None, MatchBool, refl, ap, ap₂, ◌∙◌, subst, Settings, keeps, Made, Change, NewProperty, NewNumber, IsNewMade, IsNewChange, sets_whole, made_behind, change_behind, revisions_behind, AreNewChanges, EmptyRule, keeps_revision, AreNewRevisions}
+use Rattle.std.proofs.Common.{ℕ, false, List, [], ◌∷◌, Some}
 
 module _ (settings : Settings) (IsNew : NewProperty) (before : ℕ) (Written Loaded : NewNumber)
     (numbers : (n new : ℕ) → Written (before + n) new → (low : ℕ) × (new ≡ before + low) × Loaded n low) where

@@ -1,37 +1,6 @@
 -- The law of a part of a history.
-use Rattle.std.proofs.Common.{◌≡◌, ℕ, suc, ◌+◌, Bool, true, false, not, ◌&&◌, ◌||◌, ◌==◌, ◌⊎◌, List, [], ◌∷◌, Some, None, IsSome, is_some, length, map, filter, bytes_eq, MatchBool, refl, sym, ap, ◌∙◌, subst, inl, inr, arith}
-use Rattle.std.specs.List.{list_all}
-use Rattle.std.proofs.lemmas.Bool.{MatchBool-at_false, or_left, or_right, or_parts}
-use Rattle.std.proofs.lemmas.List.{length-map}
-use Rattle.dump_records.specs.DumpText.{Ending, HasRecords, IsCutInto}
-use Rattle.dump_records.specs.RecordText.{DumpRecord}
-use Rattle.dump_rules.specs.Settings.{Settings}
-use Rattle.dump_rules.specs.Renumbering.{KeptRevisions, image}
-use Rattle.dump_digest.specs.RecordParts.{is_mergeinfo, mergeinfo_name}
-use Rattle.dump_filter.specs.FilterLaws.{LengthsFit}
-use Rattle.dump_filter.specs.Groups.{Group, groups, group_number, keeps_group, first_number, kept_revisions}
-use Rattle.dump_filter.specs.NewContent.{IsNewProperty}
-use Rattle.dump_filter.specs.NewHeaders.{IsWrittenCopyNumber}
-use Rattle.dump_filter.specs.WholeText.{IsCleanText}
-use Rattle.dump_filter.proofs.knowing.Answered.{AllLawful, all_lawful}
-use Rattle.dump_filter.proofs.again.OwnTextLaw.{reads_again}
-use Rattle.dump_trees.specs.Trees.{Tree, root_alone}
-use Rattle.dump_trees.specs.Changes.{is_copied, Change}
-use Rattle.dump_trees.specs.Restriction.{given, NewProperty, KeepsEntries}
-use Rattle.dump_trees.specs.HistoryLaws.{ImagesRestrict}
-use Rattle.dump_trees.specs.MovedLaws.{revisions_behind}
-use Rattle.dump_trees.specs.Revisions.{loaded_over, names_none_behind, stays_numbered, AreNewRevisions, kept_from, kept_of, IsWrittenNumber}
-use Rattle.dump_trees.proofs.paths.GivenFolders.{given_folders}
-use Rattle.dump_trees.proofs.histories.AlikeLemmas.{loads_alike, given_alike, both_restrict}
-use Rattle.dump_trees.proofs.histories.HistoryLemmas.{history}
-use Rattle.dump_trees.proofs.histories.KeptNumbers.{AreAbove, kept_above}
-use Rattle.dump_trees.proofs.histories.NamingLemmas.{fewer_names_none}
-use Rattle.dump_trees.proofs.quiet.QuietLemmas.{all_quiet}
-use Rattle.dump_history.specs.RecordChanges.{Patching}
-use Rattle.dump_history.specs.RaisedMergeinfo.{IsRaised}
-use Rattle.dump_history.specs.NumberGaps.{sets_mergeinfo, names_revision, count_to_gap, KeepsNamedNumbers}
-use Rattle.dump_history.specs.DumpLaws.{keeps_numbering, HasNoGapIfKept, RevisionsKeepProperties}
-use Rattle.dump_history.specs.PartLaws.{MakePartRevisions, MakePartRevisionsWithGaps, IsLoadedProperty, IsLoadedBehindOne, kept_as_loaded, PartLoadsBehind, FilteredPartRestricts, QuietPartRestricts}
+use Rattle.dump_history.proofs.Prelude.{◌≡◌, suc, ◌+◌, Bool, true, not, ◌&&◌, ◌||◌, ◌==◌, ◌⊎◌, None, IsSome, is_some, length, map, bytes_eq, MatchBool, refl, sym, ap, ◌∙◌, subst, inl, inr, arith, list_all, MatchBool-at_false, or_left, or_right, or_parts, length-map, Ending, HasRecords, IsCutInto, DumpRecord, Settings, KeptRevisions, image, is_mergeinfo, mergeinfo_name, LengthsFit, Group, groups, group_number, keeps_group, first_number, kept_revisions, IsNewProperty, IsWrittenCopyNumber, IsCleanText, AllLawful, all_lawful, reads_again, Tree, root_alone, is_copied, Change, given, NewProperty, KeepsEntries, ImagesRestrict, revisions_behind, loaded_over, names_none_behind, stays_numbered, AreNewRevisions, kept_from, kept_of, IsWrittenNumber, given_folders, loads_alike, given_alike, both_restrict, history, AreAbove, kept_above, fewer_names_none, all_quiet, Patching, IsRaised, sets_mergeinfo, names_revision, count_to_gap, KeepsNamedNumbers, keeps_numbering, HasNoGapIfKept, RevisionsKeepProperties, MakePartRevisions, MakePartRevisionsWithGaps, IsLoadedProperty, IsLoadedBehindOne, kept_as_loaded, PartLoadsBehind, FilteredPartRestricts, QuietPartRestricts, absurd_bool, first_true, second_true}
+use Rattle.std.proofs.Common.{ℕ, false, List, [], ◌∷◌, Some, filter}
 use Rattle.dump_history.proofs.again.NodeChanges.{entries_kept}
 use Rattle.dump_history.proofs.again.GroupsAgain.{keeps_first, AreGroupsAgain, groups_again}
 use Rattle.dump_history.proofs.again.GroupChanges.{GroupsMake, empty_rule, AreNumberedFrom, groups_change}
@@ -43,7 +12,6 @@ use Rattle.dump_history.proofs.again.DumpAgain.{groups_are, numbered_from, count
 use Rattle.dump_history.proofs.restricted.RaisedLemmas.{raised_entries}
 use Rattle.dump_history.proofs.restricted.PartNumbers.{raised_image, kept_raised, kept_from_raised, raised_none_behind, raised_counts, kept_loaded}
 use Rattle.dump_history.proofs.restricted.PartChanges.{revisions_lowered}
-use Rattle.dump_text.proofs.BoolLemmas.{absurd_bool, first_true, second_true}
 
 -- the first number of groups that are numbered on from a number, if there are some
 first_is : (n : ℕ) (gs : List Group) → AreNumberedFrom n gs → (first_number (map group_number gs) ≡ n) ⊎ (gs ≡ [])

@@ -1,19 +1,6 @@
 -- The kept numbers of a part of a history, and those that a load gives them.
-use Rattle.std.proofs.Common.{◌≡◌, ℕ, suc, ◌+◌, ◌-◌, Bool, true, false, not, ◌&&◌, ◌||◌, ◌==◌, List, [], ◌∷◌, Option, Some, None, option_map, cond, map, filter, count_by, nat_lt, nat_le, refl, sym, ap, ap₂, ◌∙◌, subst, arith}
-use Rattle.std.specs.List.{list_all, list_any, last_or}
-use Rattle.std.proofs.lemmas.Bool.{and_parts}
-use Rattle.std.proofs.lemmas.List.{length-map}
-use Rattle.std.proofs.lemmas.List.Sums.{sum_by-cons}
-use Rattle.dump_rules.specs.Settings.{Settings}
-use Rattle.dump_filter.specs.Groups.{keeps_empty}
-use Rattle.dump_rules.specs.Renumbering.{KeptRevisions, new_number, last_kept, image}
-use Rattle.dump_trees.specs.Paths.{keeps}
-use Rattle.dump_trees.specs.Changes.{Made, is_copied, Change}
-use Rattle.dump_trees.specs.MovedLaws.{made_behind, change_behind, revisions_behind}
-use Rattle.dump_trees.specs.Revisions.{keeps_revision, names_kept, names_none, names_none_behind, kept_from}
-use Rattle.dump_trees.proofs.histories.KeptNumbers.{AreAbove}
-use Rattle.dump_history.specs.NumberGaps.{sets_mergeinfo, names_revision, name_no_revision, go_up, count_to_gap}
-use Rattle.dump_history.specs.PartLaws.{kept_as_loaded}
+use Rattle.dump_history.proofs.Prelude.{◌≡◌, suc, ◌+◌, ◌-◌, Bool, true, not, ◌&&◌, ◌||◌, ◌==◌, Option, None, option_map, cond, map, count_by, refl, sym, ap, ap₂, ◌∙◌, subst, arith, list_all, list_any, last_or, and_parts, length-map, sum_by-cons, Settings, keeps_empty, KeptRevisions, new_number, last_kept, image, keeps, Made, is_copied, Change, made_behind, change_behind, revisions_behind, keeps_revision, names_kept, names_none, names_none_behind, kept_from, AreAbove, sets_mergeinfo, names_revision, name_no_revision, go_up, count_to_gap, kept_as_loaded}
+use Rattle.std.proofs.Common.{ℕ, false, List, [], ◌∷◌, Some, filter, nat_lt, nat_le}
 use Rattle.dump_history.proofs.again.GroupChanges.{empty_rule}
 
 -- numbers that are raised

@@ -1,15 +1,6 @@
 -- Properties behind other revisions: what raised mergeinfo keeps, and what isn't raised.
-use Rattle.std.proofs.Common.{◌≡◌, ℕ, Bool, true, false, not, List, [], ◌∷◌, map, Option, Some, None, is_some, MatchBool, refl, sym, ap, ◌∙◌, subst}
-use Rattle.std.specs.List.{AllZip, list_any}
-use Rattle.std.proofs.lemmas.Bool.{and_parts, or_parts, not-true}
-use Rattle.dump_text.specs.PropertyList.{Property}
-use Rattle.dump_digest.specs.RecordParts.{is_mergeinfo}
-use Rattle.dump_trees.specs.Changes.{PropertyChange, Change}
-use Rattle.dump_trees.specs.Restriction.{KeepsEntries, AreNewProps}
-use Rattle.dump_trees.specs.MovedLaws.{change_behind, IsChangeBehind}
-use Rattle.dump_history.specs.RaisedMergeinfo.{IsRaisedValue, IsRaised}
-use Rattle.dump_history.specs.NumberGaps.{entries_of, sets_mergeinfo}
-use Rattle.dump_history.specs.DumpLaws.{sets_no_mergeinfo, PlainRevisionsStay}
+use Rattle.dump_history.proofs.Prelude.{◌≡◌, Bool, true, not, map, Option, None, is_some, MatchBool, refl, sym, ap, ◌∙◌, subst, AllZip, list_any, and_parts, or_parts, not-true, Property, is_mergeinfo, PropertyChange, Change, KeepsEntries, AreNewProps, change_behind, IsChangeBehind, IsRaisedValue, IsRaised, entries_of, sets_mergeinfo, sets_no_mergeinfo, PlainRevisionsStay}
+use Rattle.std.proofs.Common.{ℕ, false, List, [], ◌∷◌, Some}
 
 -- what is said of a property's value, by whether it is mergeinfo
 abbrev SaysOfValue : ℕ → Property → Property → Bool → Type 0

@@ -1,38 +1,8 @@
 -- What is found in a node is found exactly: a node without an obstacle makes a change, and one without an alarm a quiet
 -- change.
-use Rattle.std.proofs.Common.{◌≡◌, ◌⊎◌, ◌↔◌, ℕ, ◌<◌, Bool, true, false, not, ◌&&◌, ◌||◌, List, [], ◌∷◌, ◌++◌, filter, Option, Some, None, is_some, option_map, cond, if◌then◌else◌, refl, sym, ap, ap₂, ◌∙◌, subst, inl, inr, Contains, IsTrue, arith}
+use Rattle.dump_history.proofs.Prelude.{◌≡◌, ◌⊎◌, ◌↔◌, ◌<◌, Bool, true, not, ◌&&◌, ◌||◌, ◌++◌, Option, None, is_some, option_map, cond, if◌then◌else◌, refl, sym, ap, ap₂, ◌∙◌, subst, inl, inr, Contains, IsTrue, arith, list_any, last_or, or-true, or_parts, or_cases, copy_revision_name, property_length_name, has_header, Property, CopyRevision, MergeSource, MergeRange, first_true, second_true, first_false, second_false, both_true, not_true, not_false, header_number, DumpRecord, has_prop_delta, Settings, HasMergeLines, KeptRevisions, new_number, last_kept, image, HasMissingSource, HasForeignNumber, value_reads, reads_exactly, found, finds, missing_there, missing_back, foreign_there, foreign_back, is_copy, is_kept_node, is_mergeinfo, value_of, node_path, HasPropertyList, HasPropertyBlock, HasBadMergeinfo, IsMergeinfoValueOf, property_list_once, block_or_not, kept_revisions, stays_copy, present_number, HasBadCopyRevision, HoldsOfRecord, path_of, Made, is_copied, PropertyChange, Change, cuts_alike, is_quiet_kept, is_quiet_dropped, is_quiet, keeps_text, Patching, has_known_action, deletes, makes, made_by_kind, copy_path, copied_from, made_of, property_change_of, has_odd_delta, change_of, has_plain_texts, MakesChange, begins_at, Finding, every_finding, NodeFaults, AreNodeFaultsOf, has_kept_path, has_kept_source, is_above_prefix, is_found, findings_of, IsReadBlock, is_obstacle, is_alarm, is_unread_value, names_missing_source, names_outside, has_up_to, is_missing_number, copy_refused, faults_read, copy_faults, no_node_faults, FindingsAreOnce, ObstaclesAreExact, AlarmsAreExact}
+use Rattle.std.proofs.Common.{ℕ, false, List, [], ◌∷◌, filter, Some}
 use Rattle.std.specs.Prelude.{nat_lt, nat_le}
-use Rattle.std.specs.List.{list_any, last_or}
-use Rattle.std.proofs.Math.Bool.{or-true}
-use Rattle.std.proofs.lemmas.Bool.{or_parts, or_cases}
-use Rattle.dump_text.specs.Names.{copy_revision_name, property_length_name}
-use Rattle.dump_text.specs.HeaderLine.{has_header}
-use Rattle.dump_text.specs.PropertyList.{Property}
-use Rattle.dump_text.specs.declared.fault.FaultKind.TheVariants.{CopyRevision, MergeSource, MergeRange}
-use Rattle.dump_text.proofs.BoolLemmas.{first_true, second_true, first_false, second_false, both_true, not_true, not_false}
-use Rattle.dump_records.specs.HeaderRules.{header_number}
-use Rattle.dump_records.specs.RecordText.{DumpRecord, has_prop_delta}
-use Rattle.dump_rules.specs.Settings.{Settings}
-use Rattle.dump_rules.specs.Mergeinfo.{HasMergeLines}
-use Rattle.dump_rules.specs.Renumbering.{KeptRevisions, new_number, last_kept, image}
-use Rattle.dump_rules.specs.Rewriting.{HasMissingSource, HasForeignNumber}
-use Rattle.dump_rules.specs.steps.ReadMergeinfo.{value_reads}
-use Rattle.dump_rules.proofs.reading.MergeinfoLemmas.{reads_exactly}
-use Rattle.dump_rules.proofs.faults.FaultLemmas.{found, finds, missing_there, missing_back, foreign_there, foreign_back}
-use Rattle.dump_digest.specs.RecordParts.{is_copy, is_kept_node, is_mergeinfo, value_of, node_path, HasPropertyList, HasPropertyBlock}
-use Rattle.dump_digest.specs.ContentFaults.{HasBadMergeinfo, IsMergeinfoValueOf}
-use Rattle.dump_digest.proofs.PropertyBlocks.{property_list_once, block_or_not}
-use Rattle.dump_filter.specs.Groups.{kept_revisions}
-use Rattle.dump_filter.specs.NewHeaders.{stays_copy}
-use Rattle.dump_filter.specs.RecordFaults.{present_number, HasBadCopyRevision, HoldsOfRecord}
-use Rattle.dump_trees.specs.Paths.{path_of}
-use Rattle.dump_trees.specs.Changes.{Made, is_copied, PropertyChange, Change}
-use Rattle.dump_trees.specs.Quiet.{cuts_alike, is_quiet_kept, is_quiet_dropped, is_quiet}
-use Rattle.dump_trees.proofs.paths.PathNames.{keeps_text}
-use Rattle.dump_history.specs.RecordChanges.{Patching, has_known_action, deletes, makes, made_by_kind, copy_path, copied_from, made_of, property_change_of, has_odd_delta, change_of, has_plain_texts, MakesChange}
-use Rattle.dump_history.specs.Findings.{begins_at, Finding, every_finding, NodeFaults, AreNodeFaultsOf, has_kept_path, has_kept_source, is_above_prefix, is_found, findings_of, IsReadBlock, is_obstacle, is_alarm}
-use Rattle.dump_history.specs.steps.NodeReading.{is_unread_value, names_missing_source, names_outside, has_up_to, is_missing_number, copy_refused, faults_read, copy_faults, no_node_faults}
-use Rattle.dump_history.specs.SurveyLaws.{FindingsAreOnce, ObstaclesAreExact, AlarmsAreExact}
 use Rattle.dump_history.proofs.again.NodeChanges.{makes_change, node_change, change_is}
 
 -- some element of those that pass one test passes another where some element passes both

@@ -1,18 +1,6 @@
 -- Whether a kept node names a revision can be told, node by node, and so whether one behind a dropped revision does.
-use Rattle.std.proofs.Common.{◌≡◌, ◌↔◌, Bool, true, false, ◌&&◌, ◌||◌, List, [], ◌∷◌, if◌then◌else◌, IsTrue, MatchBool, refl, ap, ap₂, ◌∙◌, inl, inr}
-use Rattle.std.specs.List.{list_any}
-use Rattle.std.proofs.lemmas.Bool.{or_cases, or_left, or_right, and_parts, and_from}
-use Rattle.dump_records.specs.RecordText.{DumpRecord}
-use Rattle.dump_rules.specs.Settings.{Settings}
-use Rattle.dump_rules.proofs.faults.FaultLemmas.{found, finds}
-use Rattle.dump_digest.specs.RecordParts.{is_copy, is_kept_node, is_mergeinfo}
-use Rattle.dump_digest.proofs.PropertyBlocks.{property_list_once, block_or_not}
-use Rattle.dump_filter.specs.Groups.{Group, groups, keeps_group}
-use Rattle.dump_history.specs.RecordChanges.{makes}
-use Rattle.dump_history.specs.NumberGaps.{SetsMergeinfo, NamesRevision, HasNamingNode, HasNamingNodeBehind}
-use Rattle.dump_history.specs.Findings.{dump_findings}
-use Rattle.dump_history.specs.steps.NamingTests.{TellsNaming, nodes_name, groups_name, groups_name_behind}
-use Rattle.dump_history.specs.SurveyLaws.{DumpFindingsAreOnce}
+use Rattle.dump_history.proofs.Prelude.{◌≡◌, ◌↔◌, Bool, true, ◌&&◌, ◌||◌, if◌then◌else◌, IsTrue, MatchBool, refl, ap, ap₂, ◌∙◌, inl, inr, list_any, or_cases, or_left, or_right, and_parts, and_from, DumpRecord, Settings, found, finds, is_copy, is_kept_node, is_mergeinfo, property_list_once, block_or_not, Group, groups, keeps_group, makes, SetsMergeinfo, NamesRevision, HasNamingNode, HasNamingNodeBehind, dump_findings, TellsNaming, nodes_name, groups_name, groups_name_behind, DumpFindingsAreOnce}
+use Rattle.std.proofs.Common.{false, List, [], ◌∷◌}
 use Rattle.dump_history.proofs.survey.FindingLemmas.{same_truth}
 use Rattle.dump_history.proofs.survey.UnreadTest.{unread_in}
 

@@ -1,20 +1,6 @@
 -- The changes of a part of a history, with the numbers that a load gives: none of its copies is from before it.
-use Rattle.std.proofs.Common.{◌≡◌, ℕ, suc, ◌+◌, ◌-◌, ◌≤◌, Bool, true, false, not, ◌&&◌, ◌||◌, List, [], ◌∷◌, map, nat_lt, Option, Some, None, if◌then◌else◌, refl, ap, ap₂, subst, codes, arith}
-use Rattle.std.specs.List.{AllZip, list_all, list_any}
-use Rattle.std.proofs.lemmas.Bool.{or_parts}
-use Rattle.dump_text.specs.Names.{node_kind_name}
-use Rattle.dump_records.specs.RecordText.{DumpRecord}
-use Rattle.dump_rules.specs.Settings.{Settings}
-use Rattle.dump_digest.specs.RecordParts.{is_copy}
-use Rattle.dump_filter.specs.Groups.{Group}
-use Rattle.dump_trees.specs.Paths.{NodePath, keeps}
-use Rattle.dump_trees.specs.Changes.{Made, PropertyChange, Change}
-use Rattle.dump_trees.specs.Restriction.{is_above_some}
-use Rattle.dump_trees.specs.MovedLaws.{made_behind, change_behind, revisions_behind}
-use Rattle.dump_trees.specs.Quiet.{is_quiet_kept, is_quiet_dropped, is_quiet, are_quiet}
-use Rattle.dump_history.specs.RecordChanges.{Patching, says, makes, copy_revision, copied_from, made_by_kind, made_of, MakesChange}
-use Rattle.dump_history.specs.DumpChanges.{MakeChanges}
-use Rattle.dump_history.specs.Findings.{copies_from_before, has_source_before}
+use Rattle.dump_history.proofs.Prelude.{◌≡◌, suc, ◌+◌, ◌-◌, ◌≤◌, Bool, true, not, ◌&&◌, ◌||◌, map, Option, None, if◌then◌else◌, refl, ap, ap₂, subst, arith, AllZip, list_all, list_any, or_parts, node_kind_name, DumpRecord, Settings, is_copy, Group, NodePath, keeps, Made, PropertyChange, Change, is_above_some, made_behind, change_behind, revisions_behind, is_quiet_kept, is_quiet_dropped, is_quiet, are_quiet, Patching, says, makes, copy_revision, copied_from, made_by_kind, made_of, MakesChange, MakeChanges, copies_from_before, has_source_before}
+use Rattle.std.proofs.Common.{ℕ, false, List, [], ◌∷◌, nat_lt, Some, codes}
 use Rattle.dump_history.proofs.again.NodeChanges.{change_is}
 use Rattle.dump_history.proofs.restricted.PartNumbers.{raised_copied}
 

@@ -1,23 +1,6 @@
 -- Where a survey finds nothing, the law of filtered dumps has its premise.
-use Rattle.std.proofs.Common.{◌≡◌, ℕ, zero, suc, Bool, true, false, not, ◌&&◌, ◌||◌, ◌==◌, List, [], ◌∷◌, ◌++◌, length, take_while, if◌then◌else◌, MatchBool, Option, Some, None, refl, sym, ap, ◌∙◌, subst, inl, append_assoc}
-use Rattle.std.specs.List.{AllZip, list_all, list_any, last_or}
-use Rattle.std.proofs.lemmas.Bool.{eqb-true, both_ways}
-use Rattle.std.proofs.lemmas.List.{nil_from_length}
-use Rattle.dump_text.specs.declared.fault.FaultKind.TheVariants.{Order}
-use Rattle.dump_text.proofs.BoolLemmas.{first_true, second_true, first_false, second_false, both_true, not_true, not_so}
-use Rattle.dump_records.specs.RecordText.{DumpRecord}
-use Rattle.dump_rules.specs.Settings.{Settings}
-use Rattle.dump_digest.specs.RecordParts.{is_revision_record, is_node}
-use Rattle.dump_filter.specs.Groups.{Group, group_of, groups, revision_numbers, is_bare}
-use Rattle.dump_filter.specs.RecordFaults.{ends_in_group, AreFaultFree}
-use Rattle.dump_trees.specs.Changes.{Change}
-use Rattle.dump_trees.specs.Quiet.{is_quiet, are_quiet}
-use Rattle.dump_history.specs.RecordChanges.{Patching, MakesChange}
-use Rattle.dump_history.specs.DumpChanges.{counts_from, has_ordered_nodes, MakeChanges, MakeRevisions}
-use Rattle.dump_history.specs.NumberGaps.{NamesRevisionBehind, KeepsNamedNumbers}
-use Rattle.dump_history.specs.PartLaws.{MakePartRevisions}
-use Rattle.dump_history.specs.Findings.{Finding, begins_at, has_source_before, AreFindingsOf, is_obstacle, is_alarm, every_dump_finding, rise, first_has_node, is_found_in_dump, HasUnreadRevision, AreDumpFindingsOf}
-use Rattle.dump_history.specs.SurveyLaws.{AreFindingsBehind, HaveFindingsBehind, none_is, RestrictsFrom, SurveyedDumpRestricts, SurveyedDumpFrontRestricts}
+use Rattle.dump_history.proofs.Prelude.{◌≡◌, zero, suc, Bool, true, not, ◌&&◌, ◌||◌, ◌==◌, ◌++◌, length, take_while, if◌then◌else◌, MatchBool, Option, None, refl, sym, ap, ◌∙◌, subst, inl, append_assoc, AllZip, list_all, list_any, last_or, eqb-true, both_ways, nil_from_length, Order, first_true, second_true, first_false, second_false, both_true, not_true, not_so, DumpRecord, Settings, is_revision_record, is_node, Group, group_of, groups, revision_numbers, is_bare, ends_in_group, AreFaultFree, Change, is_quiet, are_quiet, Patching, MakesChange, counts_from, has_ordered_nodes, MakeChanges, MakeRevisions, NamesRevisionBehind, KeepsNamedNumbers, MakePartRevisions, Finding, begins_at, has_source_before, AreFindingsOf, is_obstacle, is_alarm, every_dump_finding, rise, first_has_node, is_found_in_dump, HasUnreadRevision, AreDumpFindingsOf, AreFindingsBehind, HaveFindingsBehind, none_is, RestrictsFrom, SurveyedDumpRestricts, SurveyedDumpFrontRestricts}
+use Rattle.std.proofs.Common.{ℕ, false, List, [], ◌∷◌, Some}
 use Rattle.dump_history.proofs.survey.FindingLemmas.{none_passes, obstacles_exact, alarms_exact}
 use Rattle.dump_history.proofs.survey.PartLemmas.{groups_lowered, lowered_quiet}
 use Rattle.dump_history.proofs.restricted.FilteredLaw.{quiet_dump_restricts, quiet_front_restricts}

@@ -1,11 +1,6 @@
 -- Whether the properties of a revision can't be read can be told, record by record.
-use Rattle.std.proofs.Common.{◌↔◌, Bool, false, List, IsTrue, inl, inr}
-use Rattle.std.specs.List.{list_any}
-use Rattle.dump_records.specs.RecordText.{DumpRecord}
-use Rattle.dump_rules.proofs.faults.FaultLemmas.{found, finds}
-use Rattle.dump_digest.specs.RecordParts.{is_revision_record}
-use Rattle.dump_digest.proofs.PropertyBlocks.{block_or_not}
-use Rattle.dump_history.specs.Findings.{IsUnreadRevision, HasUnreadRevision}
+use Rattle.dump_history.proofs.Prelude.{◌↔◌, Bool, IsTrue, inl, inr, list_any, DumpRecord, found, finds, is_revision_record, block_or_not, IsUnreadRevision, HasUnreadRevision}
+use Rattle.std.proofs.Common.{false, List}
 
 -- whether it is a revision whose properties can't be read
 unread_told : (r : DumpRecord) → (b : Bool) × (IsTrue b ↔ IsUnreadRevision r)

@@ -1,14 +1,6 @@
 -- Worked values of the changes that deltas make, and of what a survey finds in them.
-use Rattle.std.proofs.Common.{◌≡◌, ℕ, true, false, List, [], ◌∷◌, ◌++◌, Some, None, refl, inr, codes}
-use Rattle.dump_text.specs.HeaderLine.{Header}
-use Rattle.dump_text.specs.PropertyList.{Property}
-use Rattle.dump_records.specs.RecordText.{DumpRecord}
-use Rattle.dump_digest.specs.RecordParts.{HasPropertyList}
-use Rattle.dump_trees.specs.Paths.{path_of}
-use Rattle.dump_trees.specs.Changes.{PropertyChange, TextChange, Change}
-use Rattle.dump_history.specs.RecordChanges.{Patching, change_of, MakesChange}
-use Rattle.dump_history.specs.Findings.{Finding, is_found}
-use Rattle.dump_history.specs.steps.NodeReading.{no_node_faults}
+use Rattle.dump_history.proofs.Prelude.{◌≡◌, true, ◌++◌, None, refl, inr, Header, Property, DumpRecord, HasPropertyList, path_of, PropertyChange, TextChange, Change, Patching, change_of, MakesChange, Finding, is_found, no_node_faults}
+use Rattle.std.proofs.Common.{ℕ, false, List, [], ◌∷◌, Some, codes}
 use Rattle.dump_history.proofs.values.WorkedDump.{line, settings}
 
 -- a reading of text deltas: the delta comes behind the old text

@@ -1,26 +1,7 @@
 -- Worked values of what a dump makes, and of what is said of the filtered one: each tells a definition from a weaker or
 -- another one.
-use Rattle.std.proofs.Common.{◌≡◌, ℕ, true, false, List, [], ◌∷◌, ◌++◌, length, Option, Some, None, refl, ap, ◌∙◌, inl, inr, codes}
-use Rattle.std.specs.Prelude.{slice_get}
-use Rattle.dump_text.specs.HeaderLine.{Header}
-use Rattle.dump_text.specs.PropertyList.{Property}
-use Rattle.dump_text.proofs.BoolLemmas.{first_true, second_true}
-use Rattle.dump_records.specs.RecordText.{DumpRecord}
-use Rattle.dump_rules.specs.declared.options.Empty.TheVariants.{Pad, DropAll}
-use Rattle.dump_rules.specs.Settings.{Settings}
-use Rattle.dump_digest.specs.RecordParts.{HasPropertyList, HasPropertyBlock}
-use Rattle.dump_filter.specs.Groups.{Group}
-use Rattle.dump_filter.specs.NewContent.{padding_log}
-use Rattle.dump_trees.specs.Paths.{path_of, is_short}
-use Rattle.dump_trees.specs.Trees.{Node, Tree, root_alone, put}
-use Rattle.dump_trees.specs.Changes.{PropertyChange, TextChange, Change}
-use Rattle.dump_trees.specs.Restriction.{given}
-use Rattle.dump_trees.specs.Revisions.{loaded_over}
-use Rattle.dump_history.specs.RecordChanges.{Patching, copy_path, change_of, MakesChange}
-use Rattle.dump_history.specs.DumpChanges.{counts_from, has_ordered_nodes, MakeRevisions, HaveRevisionProperties, LoadsAs}
-use Rattle.dump_history.specs.DumpLaws.{keeps_numbering, TreesRestrict, KeepsProperties, RevisionsKeepProperties, LoadsRestricted, FrontLoadsRestricted, sets_no_mergeinfo}
-use Rattle.dump_history.specs.Findings.{Finding, AreFindingsOf}
-use Rattle.dump_history.specs.steps.NodeReading.{no_node_faults}
+use Rattle.dump_history.proofs.Prelude.{◌≡◌, true, ◌++◌, length, Option, None, refl, ap, ◌∙◌, inl, inr, slice_get, Header, Property, first_true, second_true, DumpRecord, Pad, DropAll, Settings, HasPropertyList, HasPropertyBlock, Group, padding_log, path_of, is_short, Node, Tree, root_alone, put, PropertyChange, TextChange, Change, given, loaded_over, Patching, copy_path, change_of, MakesChange, counts_from, has_ordered_nodes, MakeRevisions, HaveRevisionProperties, LoadsAs, keeps_numbering, TreesRestrict, KeepsProperties, RevisionsKeepProperties, LoadsRestricted, FrontLoadsRestricted, sets_no_mergeinfo, Finding, AreFindingsOf, no_node_faults}
+use Rattle.std.proofs.Common.{ℕ, false, List, [], ◌∷◌, Some, codes}
 use Rattle.dump_history.proofs.survey.FindingLemmas.{faults_of_unread}
 use Rattle.dump_history.proofs.values.WorkedDump.{line, record_at, version, zero, one, two, three, trunk, other, copy, records, settings, folder, revisions, none_of, third_tree}
 

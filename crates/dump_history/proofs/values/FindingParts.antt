@@ -1,13 +1,6 @@
 -- Parts of the worked values of findings: options, nodes and their lines.
+use Rattle.dump_history.proofs.Prelude.{Header, DumpRecord, Side, Include, Exclude, Pad, Settings, Finding, findings_of, no_node_faults}
 use Rattle.std.specs.Prelude.{ℕ, false, List, [], ◌∷◌, Some, codes}
-use Rattle.dump_text.specs.HeaderLine.{Header}
-use Rattle.dump_records.specs.RecordText.{DumpRecord}
-use Rattle.dump_rules.specs.declared.options.Side.{Side}
-use Rattle.dump_rules.specs.declared.options.Side.TheVariants.{Include, Exclude}
-use Rattle.dump_rules.specs.declared.options.Empty.TheVariants.{Pad}
-use Rattle.dump_rules.specs.Settings.{Settings}
-use Rattle.dump_history.specs.Findings.{Finding, findings_of}
-use Rattle.dump_history.specs.steps.NodeReading.{no_node_faults}
 use Rattle.dump_history.proofs.values.WorkedDump.{line, record_at}
 
 -- the options of these prefixes

@@ -1,15 +1,8 @@
 -- Worked values of what a survey finds in a node and in a dump, computed and proved by the kernel.
-use Rattle.std.proofs.Common.{true, ◌≡◌, false, [], ◌∷◌, ◌++◌, Some, None, refl, codes}
-use Rattle.dump_text.specs.HeaderLine.{Header}
-use Rattle.dump_records.specs.RecordText.{DumpRecord}
-use Rattle.dump_rules.specs.declared.options.Side.TheVariants.{Include, Exclude}
-use Rattle.dump_rules.specs.declared.options.Empty.TheVariants.{Pad}
-use Rattle.dump_rules.specs.Settings.{Settings}
-use Rattle.dump_history.specs.DumpChanges.{has_ordered_nodes}
-use Rattle.dump_history.specs.Findings.{Finding, findings_of, DumpFinding, dump_findings}
+use Rattle.dump_history.proofs.Prelude.{true, ◌≡◌, ◌++◌, None, refl, Header, DumpRecord, Include, Exclude, Pad, Settings, has_ordered_nodes, Finding, findings_of, DumpFinding, dump_findings, no_node_faults}
+use Rattle.std.proofs.Common.{false, [], ◌∷◌, Some, codes}
 use Rattle.dump_history.proofs.values.WorkedDump.{line, record_at, records, version, zero, one, two, three, trunk}
 use Rattle.dump_history.proofs.values.WorkedDump.{settings as worked_settings}
-use Rattle.dump_history.specs.steps.NodeReading.{no_node_faults}
 use Rattle.dump_history.proofs.values.FindingParts.{cut_by, include_a, exclude_a, node, from, whole_from, in_node}
 
 -- a property length

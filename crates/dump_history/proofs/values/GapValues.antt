@@ -1,18 +1,6 @@
 -- Worked values of gaps in a dump's numbers, and of nodes that name a revision behind a dropped one.
-use Rattle.std.proofs.Common.{◌≡◌, ℕ, zero, suc, Bool, true, false, ◌||◌, List, [], ◌∷◌, Some, None, refl, ap, inl, inr, arith, codes}
-use Rattle.dump_text.specs.PropertyList.{Property}
-use Rattle.dump_records.specs.RecordText.{DumpRecord}
-use Rattle.dump_rules.specs.Settings.{Settings}
-use Rattle.dump_digest.specs.RecordParts.{HasPropertyList}
-use Rattle.dump_digest.proofs.PropertyBlocks.{property_list_once}
-use Rattle.dump_filter.specs.Groups.{groups, first_number}
-use Rattle.dump_trees.specs.Paths.{path_of}
-use Rattle.dump_trees.specs.Trees.{root_alone}
-use Rattle.dump_trees.specs.Changes.{Made, PropertyChange, Change}
-use Rattle.dump_history.specs.RecordChanges.{Patching}
-use Rattle.dump_history.specs.NumberGaps.{names_revision, name_no_revision, go_up, count_to_gap, MakeRevisionsWithGaps, LoadsWithGapsAs, NamesRevision, NamesRevisionBehind, KeepsNamedNumbers}
-use Rattle.dump_history.specs.PartLaws.{MakePartRevisionsWithGaps}
-use Rattle.dump_history.specs.Findings.{DumpFinding, AreDumpFindingsOf}
+use Rattle.dump_history.proofs.Prelude.{◌≡◌, zero, suc, Bool, true, ◌||◌, None, refl, ap, inl, inr, arith, Property, DumpRecord, Settings, HasPropertyList, property_list_once, groups, first_number, path_of, root_alone, Made, PropertyChange, Change, Patching, names_revision, name_no_revision, go_up, count_to_gap, MakeRevisionsWithGaps, LoadsWithGapsAs, NamesRevision, NamesRevisionBehind, KeepsNamedNumbers, MakePartRevisionsWithGaps, DumpFinding, AreDumpFindingsOf}
+use Rattle.std.proofs.Common.{ℕ, false, List, [], ◌∷◌, Some, codes}
 use Rattle.dump_history.proofs.survey.NamingTest.{names_test, test_tells, behind_told}
 use Rattle.dump_history.proofs.values.WorkedDump.{line, record_at, version, one, two, three, trunk, other, copy, records, settings, folder, none_of, makes_trunk}
 use Rattle.dump_history.proofs.values.WorkedDump.{zero as revision_0}

@@ -1,12 +1,6 @@
 -- Worked values of the changes that nodes make, computed and proved by the kernel.
-use Rattle.std.proofs.Common.{◌≡◌, ℕ, true, false, List, [], ◌∷◌, ◌++◌, Option, Some, None, refl, inl, inr, codes}
-use Rattle.dump_text.specs.HeaderLine.{Header}
-use Rattle.dump_text.specs.PropertyList.{Property}
-use Rattle.dump_records.specs.RecordText.{DumpRecord}
-use Rattle.dump_digest.specs.RecordParts.{HasPropertyList}
-use Rattle.dump_trees.specs.Paths.{path_of}
-use Rattle.dump_trees.specs.Changes.{Made, PropertyChange, TextChange, Change}
-use Rattle.dump_history.specs.RecordChanges.{Patching, change_of, has_plain_texts, MakesChange}
+use Rattle.dump_history.proofs.Prelude.{◌≡◌, true, ◌++◌, Option, None, refl, inl, inr, Header, Property, DumpRecord, HasPropertyList, path_of, Made, PropertyChange, TextChange, Change, Patching, change_of, has_plain_texts, MakesChange}
+use Rattle.std.proofs.Common.{ℕ, false, List, [], ◌∷◌, Some, codes}
 use Rattle.dump_history.proofs.values.WorkedDump.{line}
 
 -- every delta is refused

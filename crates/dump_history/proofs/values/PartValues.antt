@@ -1,16 +1,6 @@
 -- The worked dump as a part of a history: its revisions behind revision 0, which have the numbers 7, 8 and 9 here.
-use Rattle.std.proofs.Common.{◌≡◌, ℕ, ◌+◌, true, false, List, [], ◌∷◌, map, Option, Some, None, refl, ap, arith, codes}
-use Rattle.dump_text.specs.PropertyList.{Property}
-use Rattle.dump_records.specs.RecordText.{DumpRecord}
-use Rattle.dump_rules.specs.Renumbering.{image}
-use Rattle.dump_filter.specs.Groups.{kept_revisions}
-use Rattle.dump_trees.specs.Paths.{path_of}
-use Rattle.dump_trees.specs.Trees.{root_alone}
-use Rattle.dump_trees.specs.Changes.{Made, Change}
-use Rattle.dump_trees.specs.MovedLaws.{made_behind, change_behind}
-use Rattle.dump_history.specs.RecordChanges.{Patching, MakesChange}
-use Rattle.dump_history.specs.DumpLaws.{keeps_numbering}
-use Rattle.dump_history.specs.PartLaws.{MakePartRevisions, PartLoadsAs, IsLoadedProperty, kept_as_loaded}
+use Rattle.dump_history.proofs.Prelude.{◌≡◌, ◌+◌, true, map, Option, None, refl, ap, arith, Property, DumpRecord, image, kept_revisions, path_of, root_alone, Made, Change, made_behind, change_behind, Patching, MakesChange, keeps_numbering, MakePartRevisions, PartLoadsAs, IsLoadedProperty, kept_as_loaded}
+use Rattle.std.proofs.Common.{ℕ, false, List, [], ◌∷◌, Some, codes}
 use Rattle.dump_history.proofs.again.GroupChanges.{AllMake}
 use Rattle.dump_history.proofs.again.NodeChanges.{change_once}
 use Rattle.dump_history.proofs.values.WorkedDump.{line, record_at, trunk, other, settings, folder, none_of, makes_trunk, makes_other, revisions, trees}

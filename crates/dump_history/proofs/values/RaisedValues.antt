@@ -1,15 +1,6 @@
 -- Worked values of mergeinfo behind other revisions: what is raised, and what isn't.
-use Rattle.std.proofs.Common.{◌≡◌, ℕ, ◌<◌, ◌≤◌, true, false, Bool, List, [], ◌∷◌, ◌++◌, length, Some, None, unwrap_or, bytes_eq, refl, sym, ap, subst, ◌∙◌, inl, inr, codes, arith, lit<, lit≤}
-use Rattle.std.proofs.lemmas.Bool.{both_ways}
-use Rattle.std.proofs.lemmas.List.Elements.{Contains-push, Contains-push_cases}
-use Rattle.dump_text.specs.HeaderLine.{has_byte}
-use Rattle.dump_text.specs.Number.{number_of}
-use Rattle.dump_text.specs.PropertyList.{Property}
-use Rattle.dump_rules.specs.Prefix.{bare_path}
-use Rattle.dump_rules.specs.RangeList.{HasNumber, star}
-use Rattle.dump_rules.specs.Mergeinfo.{MergeLine, IsMergeinfo}
-use Rattle.dump_rules.proofs.new_values.OneNewValue.{one_reading}
-use Rattle.dump_history.specs.RaisedMergeinfo.{HasMergedNumber, AreRaisedLines, IsRaised}
+use Rattle.dump_history.proofs.Prelude.{◌≡◌, ◌<◌, ◌≤◌, true, Bool, ◌++◌, length, None, unwrap_or, bytes_eq, refl, sym, ap, subst, ◌∙◌, inl, inr, arith, lit<, lit≤, both_ways, Contains-push, Contains-push_cases, has_byte, number_of, Property, bare_path, HasNumber, star, MergeLine, IsMergeinfo, one_reading, HasMergedNumber, AreRaisedLines, IsRaised}
+use Rattle.std.proofs.Common.{ℕ, false, List, [], ◌∷◌, Some, codes}
 
 -- properties that aren't mergeinfo stay
 

@@ -1,13 +1,7 @@
 -- More worked values of what a survey finds: each tells a definition from one that lacks a part of it.
-use Rattle.std.proofs.Common.{◌≡◌, true, false, [], ◌∷◌, filter, None, refl, codes}
-use Rattle.dump_records.specs.RecordText.{DumpRecord}
-use Rattle.dump_rules.specs.declared.options.Side.TheVariants.{Include, Exclude}
-use Rattle.dump_rules.specs.declared.options.Empty.TheVariants.{DropAll}
-use Rattle.dump_rules.specs.Settings.{Settings}
-use Rattle.dump_history.specs.Findings.{Finding, every_finding, findings_of, is_obstacle, is_alarm, DumpFinding, every_dump_finding, rise, dump_findings}
-use Rattle.dump_history.specs.SurveyLaws.{none_is}
+use Rattle.dump_history.proofs.Prelude.{◌≡◌, true, None, refl, DumpRecord, Include, Exclude, DropAll, Settings, Finding, every_finding, findings_of, is_obstacle, is_alarm, DumpFinding, every_dump_finding, rise, dump_findings, none_is, no_node_faults}
+use Rattle.std.proofs.Common.{false, [], ◌∷◌, filter, codes}
 use Rattle.dump_history.proofs.values.WorkedDump.{line, record_at, version, zero, one, two, trunk, three, copy}
-use Rattle.dump_history.specs.steps.NodeReading.{no_node_faults}
 use Rattle.dump_history.proofs.values.FindingParts.{cut_by, include_a, exclude_a, node, from, whole_from, in_node}
 
 -- a folder and what lies below it, both included

@@ -1,14 +1,6 @@
 -- Worked values of revisions whose properties can't be read.
-use Rattle.std.proofs.Common.{◌↔◌, ℕ, Bool, true, false, ◌≡◌, ◌&&◌, List, [], ◌∷◌, IsTrue, refl, ap, arith, codes}
-use Rattle.std.specs.List.{list_any}
-use Rattle.std.proofs.lemmas.Bool.{and_from, both_ways}
-use Rattle.dump_records.specs.RecordText.{DumpRecord}
-use Rattle.dump_rules.proofs.faults.FaultLemmas.{finds}
-use Rattle.dump_digest.specs.RecordParts.{is_revision_record}
-use Rattle.dump_filter.specs.Groups.{groups}
-use Rattle.dump_history.specs.NumberGaps.{NamesRevisionBehind}
-use Rattle.dump_history.specs.Findings.{DumpFinding, HasUnreadRevision, AreDumpFindingsOf}
-use Rattle.dump_history.specs.steps.NamingTests.{groups_name_behind}
+use Rattle.dump_history.proofs.Prelude.{◌↔◌, Bool, true, ◌≡◌, ◌&&◌, IsTrue, refl, ap, arith, list_any, and_from, both_ways, DumpRecord, finds, is_revision_record, groups, NamesRevisionBehind, DumpFinding, HasUnreadRevision, AreDumpFindingsOf, groups_name_behind}
+use Rattle.std.proofs.Common.{ℕ, false, List, [], ◌∷◌, codes}
 use Rattle.dump_history.proofs.survey.NamingTest.{names_test, test_tells, behind_told}
 use Rattle.dump_history.proofs.values.WorkedDump.{version, zero, one, two, trunk, settings, none_of}
 use Rattle.dump_history.proofs.values.DumpValues.{with_props, unreadable}

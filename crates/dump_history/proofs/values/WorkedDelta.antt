@@ -1,14 +1,6 @@
 -- A worked dump of version 3, as records: a file that is patched and whose properties are edited.
-use Rattle.std.proofs.Common.{◌≡◌, ℕ, false, List, [], ◌∷◌, ◌++◌, Option, Some, None, refl, inl, inr, codes}
-use Rattle.dump_text.specs.HeaderLine.{Header}
-use Rattle.dump_text.specs.PropertyList.{Property}
-use Rattle.dump_records.specs.RecordText.{DumpRecord}
-use Rattle.dump_digest.specs.RecordParts.{HasPropertyList}
-use Rattle.dump_trees.specs.Paths.{path_of}
-use Rattle.dump_trees.specs.Trees.{Node, Tree, root_alone, put}
-use Rattle.dump_trees.specs.Changes.{Made, PropertyChange, TextChange, Change}
-use Rattle.dump_history.specs.RecordChanges.{MakesChange}
-use Rattle.dump_history.specs.DumpChanges.{MakeRevisions, LoadsAs}
+use Rattle.dump_history.proofs.Prelude.{◌≡◌, ◌++◌, Option, None, refl, inl, inr, Header, Property, DumpRecord, HasPropertyList, path_of, Node, Tree, root_alone, put, Made, PropertyChange, TextChange, Change, MakesChange, MakeRevisions, LoadsAs}
+use Rattle.std.proofs.Common.{ℕ, false, List, [], ◌∷◌, Some, codes}
 use Rattle.dump_history.proofs.values.DeltaValues.{behind, removal}
 use Rattle.dump_history.proofs.values.WorkedDump.{line}
 

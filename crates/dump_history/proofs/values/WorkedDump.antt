@@ -1,19 +1,6 @@
 -- A worked dump with a dropped revision and a copy whose number changes: its records, its changes and its trees.
-use Rattle.std.proofs.Common.{◌≡◌, ℕ, true, false, List, [], ◌∷◌, ◌++◌, length, Option, Some, None, refl, sym, ap, ◌∙◌, inl, codes, lit<}
-use Rattle.dump_text.specs.HeaderLine.{Header}
-use Rattle.dump_text.specs.HeaderBlock.{is_block}
-use Rattle.dump_records.specs.DumpText.{Ending, HasRecords, IsCutInto}
-use Rattle.dump_records.specs.HeaderRules.{property_length, text_length}
-use Rattle.dump_records.specs.RecordText.{DumpRecord, record_text, is_lawful, BeginsWithRecord}
-use Rattle.dump_rules.specs.declared.options.Side.TheVariants.{Include}
-use Rattle.dump_rules.specs.declared.options.Empty.TheVariants.{DropEmptied}
-use Rattle.dump_rules.specs.Settings.{Settings}
-use Rattle.dump_digest.specs.RecordParts.{HasPropertyList}
-use Rattle.dump_trees.specs.Paths.{path_of}
-use Rattle.dump_trees.specs.Trees.{Node, Tree, root_alone, put, grafted}
-use Rattle.dump_trees.specs.Changes.{Made, Change}
-use Rattle.dump_history.specs.RecordChanges.{Patching, MakesChange}
-use Rattle.dump_history.specs.DumpChanges.{MakeRevisions, LoadsAs}
+use Rattle.dump_history.proofs.Prelude.{◌≡◌, true, ◌++◌, length, Option, None, refl, sym, ap, ◌∙◌, inl, lit<, Header, is_block, Ending, HasRecords, IsCutInto, property_length, text_length, DumpRecord, record_text, is_lawful, BeginsWithRecord, Include, DropEmptied, Settings, HasPropertyList, path_of, Node, Tree, root_alone, put, grafted, Made, Change, Patching, MakesChange, MakeRevisions, LoadsAs}
+use Rattle.std.proofs.Common.{ℕ, false, List, [], ◌∷◌, Some, codes}
 
 -- a header line
 abbrev pub line : List ℕ → List ℕ → Header

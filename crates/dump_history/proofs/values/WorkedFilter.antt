@@ -1,25 +1,8 @@
 -- The worked dump has no fault, and what the filter writes of it.
-use Rattle.std.proofs.Common.{◌≡◌, ℕ, ◌+◌, ◌<◌, ◌^◌, true, false, ◌&&◌, ◌||◌, if◌then◌else◌, not, List, [], ◌∷◌, ◌++◌, length, Some, None, refl, sym, ap, ◌∙◌, subst, inl, inr, codes, arith, lit<, append-nil, append_assoc, Contains}
+use Rattle.dump_history.proofs.Prelude.{◌≡◌, ◌+◌, ◌<◌, ◌^◌, true, ◌&&◌, ◌||◌, if◌then◌else◌, not, ◌++◌, length, None, refl, sym, ap, ◌∙◌, subst, inl, inr, arith, lit<, append-nil, append_assoc, Contains, last_or, NoFault, copy_revision_name, property_length_name, md5_name, sha1_name, has_header, with_header_value, Property, property_block_text, DumpRecord, image, is_revision_record, is_node, is_kept_node, has_lost_source, HasPropertyList, LengthsFit, group_of, is_padded, revision_number, present_revision, kept_revisions, is_whole_file, stays_copy, ends_in_group, IsOutOfOrder, HasBadCopyRevision, HoldsOfRecord, AreFaultFree, IsWrittenBlock, IsWrittenText, IsCleanText, property_list_once, AtEach, first_true, absurd_bool}
+use Rattle.std.proofs.Common.{ℕ, false, List, [], ◌∷◌, Some, codes}
 use Rattle.std.specs.Fmt.{digits}
-use Rattle.std.specs.List.{last_or}
 use Rattle.dump_text.specs.declared.fault.FaultKind.TheVariants as faults
-use Rattle.dump_text.specs.FaultTable.{NoFault}
-use Rattle.dump_text.specs.Names.{copy_revision_name, property_length_name, md5_name, sha1_name}
-use Rattle.dump_text.specs.HeaderLine.{has_header, with_header_value}
-use Rattle.dump_text.specs.PropertyList.{Property, property_block_text}
-use Rattle.dump_records.specs.RecordText.{DumpRecord}
-use Rattle.dump_rules.specs.Renumbering.{image}
-use Rattle.dump_digest.specs.RecordParts.{is_revision_record, is_node, is_kept_node, has_lost_source, HasPropertyList}
-use Rattle.dump_filter.specs.FilterLaws.{LengthsFit}
-use Rattle.dump_filter.specs.Groups.{group_of, is_padded, revision_number, present_revision, kept_revisions}
-use Rattle.dump_filter.specs.NewHeaders.{is_whole_file, stays_copy}
-use Rattle.dump_filter.specs.RecordFaults.{ends_in_group, IsOutOfOrder, HasBadCopyRevision, HoldsOfRecord, AreFaultFree}
-use Rattle.dump_filter.specs.RecordOutput.{IsWrittenBlock}
-use Rattle.dump_filter.specs.Written.{IsWrittenText}
-use Rattle.dump_filter.specs.WholeText.{IsCleanText}
-use Rattle.dump_digest.proofs.PropertyBlocks.{property_list_once}
-use Rattle.dump_filter.proofs.again.ReadAgain.{AtEach}
-use Rattle.dump_text.proofs.BoolLemmas.{first_true, absurd_bool}
 use Rattle.dump_history.proofs.values.WorkedDump.{version, zero, one, trunk, two, other, three, copy, records, dump, settings, none_of, whole}
 
 -- none of the records has a fault

@@ -1,14 +1,6 @@
 -- The law of surveyed fronts, applied to the first two of the three revisions of the worked dump.
-use Rattle.std.proofs.Common.{◌≡◌, List, [], ◌∷◌, ◌++◌, length, refl, ap, arith}
-use Rattle.dump_filter.specs.Groups.{groups}
-use Rattle.dump_trees.specs.Trees.{Tree, root_alone}
-use Rattle.dump_trees.specs.Changes.{Change}
-use Rattle.dump_trees.specs.Quiet.{nowhere_is_over}
-use Rattle.dump_trees.specs.Revisions.{loaded_over}
-use Rattle.dump_history.specs.RecordChanges.{Patching}
-use Rattle.dump_history.specs.DumpLaws.{FrontLoadsRestricted}
-use Rattle.dump_history.specs.Findings.{Finding}
-use Rattle.dump_history.specs.SurveyLaws.{HaveFindings}
+use Rattle.dump_history.proofs.Prelude.{◌≡◌, ◌++◌, length, refl, ap, arith, groups, Tree, root_alone, Change, nowhere_is_over, loaded_over, Patching, FrontLoadsRestricted, Finding, HaveFindings}
+use Rattle.std.proofs.Common.{List, [], ◌∷◌}
 use Rattle.dump_history.proofs.restricted.LoadsOnce.{later_once}
 use Rattle.dump_history.proofs.survey.SurveyLemmas.{surveyed_front}
 use Rattle.dump_history.proofs.values.WorkedDump.{records, dump, settings, trunk, other, copy, revisions, first_tree, second_tree, loads}

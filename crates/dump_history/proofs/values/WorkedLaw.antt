@@ -1,15 +1,7 @@
 -- The law of quiet dumps, applied to the worked dump.
-use Rattle.std.proofs.Common.{◌≡◌, List, [], Some, None, refl, ap, ◌∙◌, codes}
-use Rattle.dump_rules.specs.Renumbering.{image}
-use Rattle.dump_filter.specs.Groups.{kept_revisions}
-use Rattle.dump_trees.specs.Paths.{path_of}
-use Rattle.dump_trees.specs.Trees.{Node, Tree}
-use Rattle.dump_history.specs.RecordChanges.{Patching}
-use Rattle.dump_history.specs.DumpLaws.{LoadsRestricted}
+use Rattle.dump_history.proofs.Prelude.{◌≡◌, None, refl, ap, ◌∙◌, image, kept_revisions, path_of, Node, Tree, Patching, LoadsRestricted, slice_get, given, IsNewNode, IsNewProperty}
+use Rattle.std.proofs.Common.{List, [], Some, codes}
 use Rattle.dump_history.proofs.restricted.FilteredLaw.{quiet_dump_restricts}
-use Rattle.std.specs.Prelude.{slice_get}
-use Rattle.dump_trees.specs.Restriction.{given, IsNewNode}
-use Rattle.dump_filter.specs.NewContent.{IsNewProperty}
 use Rattle.dump_history.proofs.values.WorkedDump.{records, dump, settings, revisions, trees, loads, third_tree}
 use Rattle.dump_history.proofs.values.WorkedFilter.{text, clean, lengths}
 

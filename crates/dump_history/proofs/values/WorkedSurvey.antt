@@ -1,17 +1,7 @@
 -- The law of surveyed dumps, applied to the worked dump: nothing is found in it.
-use Rattle.std.proofs.Common.{◌≡◌, false, List, [], ◌∷◌, Some, refl, ap, ◌∙◌}
-use Rattle.dump_records.specs.RecordText.{DumpRecord}
-use Rattle.dump_filter.specs.Groups.{groups}
-use Rattle.dump_trees.specs.Trees.{root_alone}
-use Rattle.dump_trees.specs.Quiet.{nowhere_is_over}
-use Rattle.dump_trees.specs.Revisions.{loaded_over}
-use Rattle.dump_history.specs.RecordChanges.{Patching}
-use Rattle.dump_history.specs.DumpLaws.{LoadsRestricted, LoadsBehindFolders}
-use Rattle.dump_history.specs.Findings.{Finding, AreFindingsOf, AreDumpFindingsOf}
-use Rattle.dump_history.specs.SurveyLaws.{AreFindingsBehind, HaveFindings}
+use Rattle.dump_history.proofs.Prelude.{◌≡◌, refl, ap, ◌∙◌, DumpRecord, groups, root_alone, nowhere_is_over, loaded_over, Patching, LoadsRestricted, LoadsBehindFolders, Finding, AreFindingsOf, AreDumpFindingsOf, AreFindingsBehind, HaveFindings, no_node_faults, groups_name_behind}
+use Rattle.std.proofs.Common.{false, List, [], ◌∷◌, Some}
 use Rattle.dump_history.proofs.restricted.LoadsOnce.{later_once}
-use Rattle.dump_history.specs.steps.NodeReading.{no_node_faults}
-use Rattle.dump_history.specs.steps.NamingTests.{groups_name_behind}
 use Rattle.dump_history.proofs.survey.FindingLemmas.{faults_of_kept, faults_of_left}
 use Rattle.dump_history.proofs.survey.NamingTest.{names_test, test_tells, behind_told}
 use Rattle.dump_history.proofs.survey.SurveyLemmas.{surveyed_dump}

@@ -1,9 +1,7 @@
 -- Credits and items in flight add up to the window, after each event.
-use Rattle.std.proofs.Common.{◌≡◌, ℕ, ◌+◌, ◌<◌, Bool, true, not, ◌&&◌, IsTrue, List, [], ◌∷◌, ◌++◌, length, Option, Some, None, is_some, option_to_list, if◌then◌else◌, ap, arith}
-use Rattle.std.proofs.lemmas.Bool.{and_parts, not-true, ltb-true}
-use Rattle.std.proofs.lemmas.List.{length_push}
-use Rattle.dump_lanes.specs.PoolWorld.{PoolSize, Entry, World, opening}
-use Rattle.dump_lanes.specs.PoolEvents.{Event, is_enabled, after_event, taken_by, arrived, written_next}
+use Rattle.dump_lanes.proofs.Prelude.{◌≡◌, ℕ, ◌+◌, ◌<◌, Bool, true, ◌&&◌, List, [], ◌∷◌, ◌++◌, length, Option, Some, None, is_some, option_to_list, if◌then◌else◌, ap, arith, and_parts, not-true, ltb-true, length_push, PoolSize, Entry, World, opening, Event, is_enabled, after_event, arrived, written_next}
+use Rattle.std.proofs.Common.{not, IsTrue}
+use Rattle.dump_lanes.specs.PoolEvents.{taken_by}
 
 -- the credit that the cutter holds
 abbrev pub held : Bool → ℕ

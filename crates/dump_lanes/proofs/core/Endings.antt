@@ -1,13 +1,7 @@
 -- In each state before the end the next move may be made; and the next moves in turn lead to the end.
-use Rattle.std.proofs.Common.{◌≡◌, ◌⊎◌, inl, inr, ℕ, zero, suc, ◌+◌, ◌-◌, ◌<◌, ◌≤◌, Bool, true, false, cond, IsTrue, List, [], ◌∷◌, ◌++◌, map, find, length, get_or, Option, Some, sym, refl, ap, ◌∙◌, subst, arith}
-use Rattle.std.specs.Prelude.{unwrap_or}
-use Rattle.std.specs.List.{range_with_len}
-use Rattle.std.proofs.lemmas.Bool.{and_parts, not-true, cases_Bool}
-use Rattle.std.proofs.lemmas.List.FromFn.{length-range_with_len, get_or-range_with_len}
-use Rattle.dump_lanes.specs.PoolWorld.{PoolSize, Entry, World}
-use Rattle.dump_lanes.specs.PoolEvents.{Event, is_enabled, after_event, taken_by, arrived, written_next, IsRun}
-use Rattle.dump_lanes.specs.PoolMoves.{is_move, all_moves, next_move, who_moves, IsAllDone, IsReached, CanMove, StandsStill, NoDeadEnd, OnlyDoneStandsStill, ClosedKeepsNobody}
-use Rattle.dump_lanes.specs.PoolProgress.{progress, count_move, most_moves, AreNextMoves, EveryRunCanEnd}
+use Rattle.dump_lanes.proofs.Prelude.{◌≡◌, ◌⊎◌, inl, inr, ℕ, zero, suc, ◌+◌, ◌-◌, ◌<◌, ◌≤◌, Bool, true, false, cond, List, [], ◌∷◌, ◌++◌, map, find, length, get_or, Option, Some, sym, refl, ap, ◌∙◌, subst, arith, unwrap_or, range_with_len, and_parts, not-true, cases_Bool, length-range_with_len, get_or-range_with_len, PoolSize, Entry, World, Event, is_enabled, after_event, arrived, written_next, IsRun, is_move, all_moves, next_move, who_moves, IsAllDone, IsReached, CanMove, StandsStill, NoDeadEnd, OnlyDoneStandsStill, ClosedKeepsNobody, progress, count_move, most_moves, AreNextMoves, EveryRunCanEnd}
+use Rattle.std.proofs.Common.{IsTrue}
+use Rattle.dump_lanes.specs.PoolEvents.{taken_by}
 use Rattle.dump_lanes.proofs.core.Credits.{held}
 use Rattle.dump_lanes.proofs.core.Progress.{reached_holds, step_counts, progress_within}
 use Rattle.dump_lanes.proofs.core.Still.{IsStuck, done_where_stuck, still_where_done, may_take_once_closed}

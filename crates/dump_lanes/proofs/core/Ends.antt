@@ -1,10 +1,10 @@
 -- Where the end marks stand, after each event; so once all have arrived no item is on its way.
-use Rattle.std.proofs.Common.{◌≡◌, ◌⊎◌, inl, inr, ℕ, ◌+◌, ◌<◌, ◌≤◌, Bool, true, false, IsTrue, List, [], ◌∷◌, ◌++◌, length, get_or, set, Option, Some, None, option_to_list, sym, refl, ap, ◌∙◌, arith, subst, get_or-set_same, get_or-set_other, append-nil, true≢false}
-use Rattle.std.proofs.lemmas.Bool.{and_parts, not-true, ltb-true, cases_eq, cases_Bool}
-use Rattle.dump_lanes.specs.PoolWorld.{PoolSize, Entry, World, opening, hand_of, items_of, items_in_hands, items_on_the_way}
-use Rattle.dump_lanes.specs.PoolEvents.{Event, is_enabled, after_event, taken_by, arrived, written_next}
+use Rattle.dump_lanes.proofs.Prelude.{◌≡◌, ◌⊎◌, inl, inr, ℕ, ◌+◌, ◌<◌, ◌≤◌, Bool, true, false, List, [], ◌∷◌, ◌++◌, length, get_or, set, Option, Some, None, option_to_list, sym, refl, ap, ◌∙◌, arith, subst, true≢false, and_parts, not-true, ltb-true, cases_eq, cases_Bool, PoolSize, Entry, World, opening, hand_of, items_in_hands, items_on_the_way, Event, is_enabled, after_event, arrived, written_next, marks_in_hands}
+use Rattle.std.proofs.Common.{IsTrue, get_or-set_same, get_or-set_other, append-nil}
+use Rattle.dump_lanes.specs.PoolWorld.{items_of}
+use Rattle.dump_lanes.specs.PoolEvents.{taken_by}
 use Rattle.dump_lanes.proofs.core.Weights.{items_of-append}
-use Rattle.dump_lanes.specs.PoolProgress.{marks, marks_in_hands}
+use Rattle.dump_lanes.specs.PoolProgress.{marks}
 use Rattle.dump_lanes.proofs.core.Marks.{count_taken, AreItemsFirst, AreMarkedAfter, marks-append, item_joins, mark_joins, closes, none_left, hand_set, taken_set, not_all, no_item_in_hands, no_marks_in_hands, none_taken, none_taken_at}
 use Rattle.dump_lanes.proofs.core.Places.{IsSized, may_take, MayTake, hand_within}
 

@@ -1,7 +1,8 @@
 -- The end marks: each comes after the items of its worker, after each event.
-use Rattle.std.proofs.Common.{◌≡◌, ℕ, zero, suc, ◌+◌, ◌<◌, ◌≤◌, Bool, true, false, cond, List, [], ◌∷◌, ◌++◌, length, get_or, set, replicate, Option, None, option_to_list, refl, ap, ◌∙◌, arith, append-nil}
-use Rattle.dump_lanes.specs.PoolWorld.{Entry, items_of, items_in_hands}
-use Rattle.dump_lanes.specs.PoolProgress.{marks, marks_in_hands}
+use Rattle.dump_lanes.proofs.Prelude.{◌≡◌, ℕ, zero, suc, ◌+◌, ◌<◌, ◌≤◌, Bool, true, false, cond, List, [], ◌∷◌, ◌++◌, length, get_or, set, replicate, Option, None, option_to_list, refl, ap, ◌∙◌, arith, Entry, items_in_hands, marks_in_hands}
+use Rattle.std.proofs.Common.{append-nil}
+use Rattle.dump_lanes.specs.PoolWorld.{items_of}
+use Rattle.dump_lanes.specs.PoolProgress.{marks}
 use Rattle.dump_lanes.proofs.core.Weights.{items_of-append}
 
 -- how many workers took theirs

@@ -1,9 +1,7 @@
 -- What was released is the first items in order, after each event.
-use Rattle.std.proofs.Common.{◌≡◌, ℕ, nat_lt, IsTrue, List, [], ◌∷◌, ◌++◌, length, Option, None, option_to_list, sym, refl, ap, ◌∙◌, append_assoc, append-nil}
-use Rattle.std.specs.List.{range_with_len}
-use Rattle.std.proofs.lemmas.Bool.{and_parts}
-use Rattle.dump_lanes.specs.PoolWorld.{PoolSize, Entry, World, opening, items_released}
-use Rattle.dump_lanes.specs.PoolEvents.{Event, is_enabled, after_event, taken_by, arrived, written_next}
+use Rattle.dump_lanes.proofs.Prelude.{◌≡◌, ℕ, nat_lt, List, [], ◌∷◌, ◌++◌, length, Option, None, option_to_list, sym, refl, ap, ◌∙◌, append_assoc, range_with_len, and_parts, PoolSize, Entry, World, opening, items_released, Event, is_enabled, after_event, arrived, written_next}
+use Rattle.std.proofs.Common.{IsTrue, append-nil}
+use Rattle.dump_lanes.specs.PoolEvents.{taken_by}
 use Rattle.dump_lanes.proofs.core.Places.{is_none_from}
 use Rattle.dump_lanes.proofs.core.Weights.{range_next}
 

@@ -1,9 +1,8 @@
 -- Each item that is cut is in one place, after each event.
-use Rattle.std.proofs.Common.{◌≡◌, ◌⊎◌, inl, inr, ℕ, zero, suc, ◌+◌, ◌<◌, ◌≤◌, ◌%◌, Bool, true, false, not, ◌&&◌, nat_lt, IsTrue, List, [], ◌∷◌, ◌++◌, length, get_or, Option, Some, None, is_some, is_none, option_to_list, slice_index_or, refl, ap, arith, mod-lt}
-use Rattle.std.specs.List.{concat, range_with_len}
-use Rattle.std.proofs.lemmas.Bool.{and_parts, not-true, ltb-true, cases_lt}
-use Rattle.dump_lanes.specs.PoolWorld.{PoolSize, Entry, World, opening, hand_of, slot_of, items_of, items_in_hands}
-use Rattle.dump_lanes.specs.PoolEvents.{Event, is_enabled, after_event, taken_by, arrived, written_next, has_next}
+use Rattle.dump_lanes.proofs.Prelude.{◌≡◌, ◌⊎◌, inl, inr, ℕ, zero, suc, ◌+◌, ◌<◌, ◌≤◌, ◌%◌, Bool, true, false, ◌&&◌, nat_lt, List, [], ◌∷◌, ◌++◌, length, get_or, Option, Some, None, is_some, option_to_list, refl, ap, arith, concat, range_with_len, and_parts, not-true, ltb-true, cases_lt, PoolSize, Entry, World, opening, hand_of, slot_of, items_in_hands, Event, is_enabled, after_event, arrived, written_next, has_next}
+use Rattle.std.proofs.Common.{not, IsTrue, is_none, slice_index_or, mod-lt}
+use Rattle.dump_lanes.specs.PoolWorld.{items_of}
+use Rattle.dump_lanes.specs.PoolEvents.{taken_by}
 use Rattle.dump_lanes.proofs.core.Weights.{weigh, only, without, weigh-append, weigh_entries, weigh_hand, hands_set, no_hands, slots_set, slot_le, no_slots, weighs, without_one, weigh_range, within_range, above_range}
 
 -- rows with a place for each worker, and a slot for each item that the window admits

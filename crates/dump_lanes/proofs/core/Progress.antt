@@ -1,13 +1,9 @@
 -- Each move counts, and nothing else does: the moves of a run are those that lie behind its state.
-use Rattle.std.proofs.Common.{◌≡◌, ℕ, ◌+◌, ◌-◌, ◌*◌, ◌<◌, ◌≤◌, ◌%◌, Bool, true, false, not, ◌&&◌, IsTrue, nat_lt, List, [], ◌∷◌, ◌++◌, length, count_by, Option, Some, None, is_some, option_to_list, sym, refl, ap, ◌∙◌, arith, mod-lt}
-use Rattle.std.specs.List.{concat}
-use Rattle.std.proofs.lemmas.Bool.{and_parts, not-true, ltb-true}
-use Rattle.std.proofs.lemmas.List.{length_push}
-use Rattle.std.proofs.lemmas.List.Sums.{sum_by-cons}
-use Rattle.dump_lanes.specs.PoolWorld.{PoolSize, Entry, World, opening, hand_of, slot_of, items_of, items_in_hands}
-use Rattle.dump_lanes.specs.PoolEvents.{Event, is_enabled, after_event, taken_by, arrived, written_next, IsRun}
-use Rattle.dump_lanes.specs.PoolMoves.{is_move, IsReached}
-use Rattle.dump_lanes.specs.PoolProgress.{marks, marks_in_hands, progress, count_move, most_moves, moves_left, HasRoom, FindsPlace, NeverFull, EveryMoveCounts, NoEndlessWay}
+use Rattle.dump_lanes.proofs.Prelude.{◌≡◌, ℕ, ◌+◌, ◌-◌, ◌*◌, ◌<◌, ◌≤◌, ◌%◌, Bool, true, false, ◌&&◌, nat_lt, List, [], ◌∷◌, ◌++◌, length, count_by, Option, Some, None, is_some, option_to_list, sym, refl, ap, ◌∙◌, arith, concat, and_parts, not-true, ltb-true, length_push, sum_by-cons, PoolSize, Entry, World, opening, hand_of, slot_of, items_in_hands, Event, is_enabled, after_event, arrived, written_next, IsRun, is_move, IsReached, marks_in_hands, progress, count_move, most_moves, moves_left, HasRoom, FindsPlace, NeverFull, EveryMoveCounts, NoEndlessWay}
+use Rattle.std.proofs.Common.{not, IsTrue, mod-lt}
+use Rattle.dump_lanes.specs.PoolWorld.{items_of}
+use Rattle.dump_lanes.specs.PoolEvents.{taken_by}
+use Rattle.dump_lanes.specs.PoolProgress.{marks}
 use Rattle.dump_lanes.proofs.core.Weights.{weigh, each, without, weigh-append, weigh_entries, weigh_hand, hands_set, no_hands, slots_set, no_slots, without_one, length_is}
 use Rattle.dump_lanes.proofs.core.Marks.{marks-append, hand_set, no_marks_in_hands}
 use Rattle.dump_lanes.proofs.core.Places.{IsSized, may_take, hand_within, is_none_from, IsNext, is_next}

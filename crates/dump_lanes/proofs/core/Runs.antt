@@ -1,12 +1,8 @@
 -- Every run of the pool leads to a sound state.
-use Rattle.std.proofs.Common.{◌≡◌, ◌⊎◌, inl, inr, ℕ, ◌+◌, ◌<◌, ◌≤◌, IsTrue, All, List, [], ◌∷◌, ◌++◌, length, length-set, get_or, option_to_list, sym, ap, ◌∙◌, subst, arith}
-use Rattle.std.specs.List.{concat, range_with_len}
-use Rattle.std.proofs.lemmas.Bool.{cases_lt}
-use Rattle.std.proofs.lemmas.List.{get_or_default, length-replicate}
-use Rattle.std.proofs.lemmas.List.FromFn.{length-range_with_len}
-use Rattle.dump_lanes.specs.PoolWorld.{PoolSize, Entry, World, opening, items_of, items_in_hands, items_on_the_way, items_released, all_items}
-use Rattle.dump_lanes.specs.PoolEvents.{Event, is_enabled, after_event, taken_by, arrived, written_next, IsRun}
-use Rattle.dump_lanes.specs.PoolFacts.{times, count_in_flight, IsSound, EveryRunIsSound}
+use Rattle.dump_lanes.proofs.Prelude.{◌≡◌, ◌⊎◌, inl, inr, ℕ, ◌+◌, ◌<◌, ◌≤◌, All, List, [], ◌∷◌, ◌++◌, length, get_or, option_to_list, sym, ap, ◌∙◌, subst, arith, concat, range_with_len, cases_lt, get_or_default, length-replicate, length-range_with_len, PoolSize, Entry, World, opening, items_in_hands, items_on_the_way, items_released, all_items, Event, is_enabled, after_event, arrived, written_next, IsRun, times, count_in_flight, IsSound, EveryRunIsSound}
+use Rattle.std.proofs.Common.{IsTrue, length-set}
+use Rattle.dump_lanes.specs.PoolWorld.{items_of}
+use Rattle.dump_lanes.specs.PoolEvents.{taken_by}
 use Rattle.dump_lanes.proofs.core.Weights.{weigh, only, each, weigh-append, times_is, length_is, slot_le, within_range, above_range}
 use Rattle.dump_lanes.proofs.core.Places.{IsSized, IsEachOnce, weight, once_kept, once_first}
 use Rattle.dump_lanes.proofs.core.Credits.{IsBounded, held, bounded_kept, bounded_first}

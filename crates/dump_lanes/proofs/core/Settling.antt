@@ -1,12 +1,10 @@
 -- Once the stop is up at most one item is cut, and none once the cutter has ended; and what settles stays.
-use Rattle.std.proofs.Common.{◌≡◌, ◌⊎◌, inl, inr, ℕ, ◌+◌, ◌<◌, ◌≤◌, Bool, true, false, not, ◌&&◌, ◌||◌, cond, IsTrue, List, [], ◌∷◌, ◌++◌, Option, Some, None, option_to_list, sym, refl, ap, ◌∙◌, subst, arith, true≢false}
-use Rattle.std.proofs.lemmas.Bool.{and_parts, not-true, not_from_true, or_right}
-use Rattle.dump_lanes.specs.PoolWorld.{PoolSize, Entry, World, opening}
-use Rattle.dump_lanes.specs.PoolEvents.{Event, is_enabled, after_event, taken_by, arrived, written_next, IsRun}
+use Rattle.dump_lanes.proofs.Prelude.{◌≡◌, ◌⊎◌, inl, inr, ℕ, ◌+◌, ◌<◌, ◌≤◌, Bool, true, false, ◌&&◌, ◌||◌, cond, List, [], ◌∷◌, ◌++◌, Option, Some, None, option_to_list, sym, refl, ap, ◌∙◌, subst, arith, true≢false, and_parts, not-true, not_from_true, or_right, PoolSize, Entry, World, opening, Event, is_enabled, after_event, arrived, written_next, IsRun, looks_before_draws, AfterAStop, EndedCutsNothing, is_signal, IdleEventsSettle}
+use Rattle.std.proofs.Common.{not, IsTrue}
+use Rattle.dump_lanes.specs.PoolEvents.{taken_by}
 use Rattle.dump_lanes.proofs.core.Progress.{totals}
 use Rattle.dump_lanes.proofs.core.Weights.{weigh, each}
 use Rattle.dump_lanes.proofs.core.Runs.{Holds, run_holds, first_holds}
-use Rattle.dump_lanes.specs.PoolSettling.{looks_before_draws, AfterAStop, EndedCutsNothing, is_signal, IdleEventsSettle}
 
 -- what was noted, raised or ended stays so
 record Stays (old new : World) : Type 0 where

@@ -1,9 +1,8 @@
 -- Each item in a slot has the slot's number as its remainder, after each event; so no two share one.
-use Rattle.std.proofs.Common.{◌≡◌, ◌⊎◌, inl, inr, ℕ, zero, suc, ◌+◌, ◌<◌, ◌≤◌, ◌%◌, ◌==◌, Bool, true, false, cond, IsTrue, List, [], ◌∷◌, ◌++◌, length, get_or, set, replicate, sym, refl, ap, ◌∙◌, arith, mod-lt, get_or-set_same, get_or-set_other, eqb-true}
-use Rattle.std.proofs.lemmas.Bool.{cases_eq, cases_lt}
+use Rattle.dump_lanes.proofs.Prelude.{◌≡◌, ◌⊎◌, inl, inr, ℕ, zero, suc, ◌+◌, ◌<◌, ◌≤◌, ◌%◌, ◌==◌, Bool, true, false, cond, List, [], ◌∷◌, ◌++◌, length, get_or, set, replicate, sym, refl, ap, ◌∙◌, arith, cases_eq, cases_lt, PoolSize, Entry, World, opening, slot_of, Event, is_enabled, after_event, arrived, written_next}
+use Rattle.std.proofs.Common.{IsTrue, mod-lt, get_or-set_same, get_or-set_other, eqb-true}
 use Rattle.atomic_table.proofs.Lists.{one_turn}
-use Rattle.dump_lanes.specs.PoolWorld.{PoolSize, Entry, World, opening, slot_of}
-use Rattle.dump_lanes.specs.PoolEvents.{Event, is_enabled, after_event, taken_by, arrived, written_next}
+use Rattle.dump_lanes.specs.PoolEvents.{taken_by}
 use Rattle.dump_lanes.proofs.core.Weights.{weigh, only, without, weigh-append, only_itself, without_le}
 use Rattle.dump_lanes.proofs.core.Places.{IsSized}
 

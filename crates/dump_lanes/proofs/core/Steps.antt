@@ -1,21 +1,10 @@
 -- Every run of the pool makes steps that the rules of its queues and of its stop word allow.
-use Rattle.std.proofs.Common.{◌≡◌, ℕ, Bool, false, true≢false, nat_lt, IsTrue, List, [], ◌∷◌, ◌++◌, length, drop, map, Option, Some, None, is_some, option_to_list, sym, refl, ap, ◌∙◌, subst, arith}
-use Rattle.std.proofs.lemmas.List.{map-append}
-use Rattle.dump_lanes.specs.declared.pool.dones.Note.{Note}
-use Rattle.dump_lanes.specs.declared.protocol.Mark.{Mark}
-use Rattle.dump_lanes.specs.declared.protocol.Mark.TheVariants.{Item, End}
-use Rattle.dump_lanes.specs.declared.steps.Step.{Step}
+use Rattle.dump_lanes.proofs.Prelude.{◌≡◌, ℕ, Bool, false, true≢false, nat_lt, List, [], ◌∷◌, ◌++◌, length, drop, map, Option, Some, None, is_some, option_to_list, sym, refl, ap, ◌∙◌, subst, arith, map-append, Note, Mark, Item, End, Step, Event, is_enabled, after_event, IsRun, credits_share, credits_allow, jobs_share, jobs_allow, dones_share, lane_share, lane_allow, stop_share, cutter_puts, worker_puts, sequencer_puts, PoolSize, Entry, World, opening, hand_of, draw_step, back_step, dones_part, give_step, arrive_step, jobs_part, last_first, on_dones, events_on, events_of, CreditsAt, JobsAt, DonesAt, LaneAt, WordAt, MakesSteps, EveryRunMakesSteps}
+use Rattle.std.proofs.Common.{IsTrue}
 use Rattle.dump_lanes.specs.declared.stop.protocol.WordStep.TheVariants as kind
-use Rattle.dump_lanes.specs.PoolEvents.{Event, is_enabled, after_event, IsRun}
-use Rattle.dump_lanes.specs.PoolParts.{credits_share, credits_allow, jobs_share, jobs_allow, dones_share, lane_share, lane_allow, stop_share, cutter_puts, worker_puts, sequencer_puts}
-use Rattle.dump_lanes.specs.PoolWorld.{PoolSize, Entry, World, opening, hand_of}
 use Rattle.dump_lanes.specs.PartSteps.{AreSteps}
-use Rattle.dump_lanes.specs.steps.CreditQueue.{draw_step, back_step}
-use Rattle.dump_lanes.specs.DoneRule.{dones_part}
-use Rattle.dump_lanes.specs.steps.DoneQueue.{give_step, arrive_step}
-use Rattle.dump_lanes.specs.JobRule.{jobs_part}
 use Rattle.dump_lanes.specs.steps.JobQueue.{put_step, take_step}
-use Rattle.dump_lanes.specs.RunSteps.{mark_of, last_first, on_dones, events_on, events_of, CreditsAt, JobsAt, DonesAt, LaneAt, WordAt, MakesSteps, EveryRunMakesSteps}
+use Rattle.dump_lanes.specs.RunSteps.{mark_of}
 use Rattle.dump_lanes.proofs.DoneSteps.{give_is_step, arrive_is_step}
 use Rattle.dump_lanes.proofs.EventParts.{allows}
 use Rattle.dump_lanes.proofs.EventShares.{shares}

@@ -1,11 +1,8 @@
 -- A pool stands still where all is done, and nowhere else.
-use Rattle.std.proofs.Common.{◌≡◌, ◌⊎◌, inl, inr, ℕ, zero, suc, ◌+◌, ◌<◌, ◌≤◌, ◌%◌, ◌==◌, Bool, true, false, not, ◌&&◌, cond, IsTrue, nat_lt, List, [], ◌∷◌, ◌++◌, length, get_or, Option, Some, None, is_some, is_none, option_to_list, slice_index_or, sym, refl, ap, ◌∙◌, arith, append-nil, true≢false}
-use Rattle.std.specs.List.{concat, list_any, range_with_len}
-use Rattle.std.proofs.lemmas.Bool.{and_from, and_cases, and_left, and_right, or_left, or_right, not-false, not_from_true, not_from_false, lt-ltb, le-ltb, ltb-false, cases_Bool, cases_lt, false_from_ne_true}
-use Rattle.dump_lanes.specs.PoolWorld.{PoolSize, Entry, World, hand_of, slot_of, items_of, items_in_hands, items_released}
-use Rattle.dump_lanes.specs.PoolEvents.{Event, is_enabled, has_next}
-use Rattle.dump_lanes.specs.PoolMoves.{IsAllDone, StandsStill}
-use Rattle.dump_lanes.specs.PoolProgress.{marks, marks_in_hands}
+use Rattle.dump_lanes.proofs.Prelude.{◌≡◌, ◌⊎◌, inl, inr, ℕ, zero, suc, ◌+◌, ◌<◌, ◌≤◌, ◌%◌, ◌==◌, Bool, true, false, ◌&&◌, cond, nat_lt, List, [], ◌∷◌, ◌++◌, length, get_or, Option, Some, None, is_some, option_to_list, sym, refl, ap, ◌∙◌, arith, true≢false, concat, list_any, range_with_len, and_from, and_cases, and_left, and_right, or_left, or_right, not-false, not_from_true, not_from_false, lt-ltb, le-ltb, ltb-false, cases_Bool, cases_lt, false_from_ne_true, PoolSize, Entry, World, hand_of, slot_of, items_in_hands, items_released, Event, is_enabled, has_next, IsAllDone, StandsStill, marks_in_hands}
+use Rattle.std.proofs.Common.{not, IsTrue, is_none, slice_index_or, append-nil}
+use Rattle.dump_lanes.specs.PoolWorld.{items_of}
+use Rattle.dump_lanes.specs.PoolProgress.{marks}
 use Rattle.dump_lanes.proofs.core.Weights.{weigh, only, each, weigh-append, weighs, slot_le, length_is, within_range, above_range}
 use Rattle.dump_lanes.proofs.core.Marks.{count_taken, not_all}
 use Rattle.dump_lanes.proofs.core.Credits.{held}

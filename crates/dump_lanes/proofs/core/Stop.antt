@@ -1,8 +1,7 @@
 -- A stop that was seen is up, and one that is up has a cause, after each event.
-use Rattle.std.proofs.Common.{◌⊎◌, inl, inr, ℕ, Bool, IsTrue, List, [], ◌∷◌, refl}
-use Rattle.std.proofs.lemmas.Bool.{or_cases}
-use Rattle.dump_lanes.specs.PoolWorld.{PoolSize, Entry, World, opening}
-use Rattle.dump_lanes.specs.PoolEvents.{Event, is_enabled, after_event, taken_by, arrived, written_next}
+use Rattle.dump_lanes.proofs.Prelude.{◌⊎◌, inl, inr, ℕ, Bool, List, [], ◌∷◌, refl, or_cases, PoolSize, Entry, World, opening, Event, is_enabled, after_event, arrived, written_next}
+use Rattle.std.proofs.Common.{IsTrue}
+use Rattle.dump_lanes.specs.PoolEvents.{taken_by}
 
 -- the stop word, and what was noted of it
 pub record HasCause (up seen sequencer writer : Bool) : Type 0 where

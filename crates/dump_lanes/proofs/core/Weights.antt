@@ -1,10 +1,8 @@
 -- What the items in a list weigh, where each number has a weight.
-use Rattle.std.proofs.Common.{◌≡◌, ℕ, zero, suc, ◌+◌, ◌<◌, ◌≤◌, ◌==◌, Bool, true, false, cond, not, List, [], ◌∷◌, ◌++◌, length, get_or, set, replicate, filter, count_by, sum_by, Option, None, option_to_list, sym, refl, ap, ◌∙◌, arith, map-id, add-one, ◌||◌, ◌⊎◌, inl, inr}
-use Rattle.std.specs.List.{concat, list_any, range_with_len}
-use Rattle.std.proofs.lemmas.Bool.{eqb-true, eq-eqb, ne_eqb, cases_eq}
-use Rattle.std.proofs.lemmas.List.FromFn.{map-range_with_len_more}
-use Rattle.std.proofs.lemmas.List.Sums.{sum_by-cons}
-use Rattle.dump_lanes.specs.PoolWorld.{Entry, items_of, items_in_hands}
+use Rattle.dump_lanes.proofs.Prelude.{◌≡◌, ℕ, zero, suc, ◌+◌, ◌<◌, ◌≤◌, ◌==◌, Bool, true, false, cond, List, [], ◌∷◌, ◌++◌, length, get_or, set, replicate, filter, count_by, sum_by, Option, None, option_to_list, sym, refl, ap, ◌∙◌, arith, map-id, add-one, ◌||◌, ◌⊎◌, inl, inr, concat, list_any, range_with_len, cases_eq, map-range_with_len_more, sum_by-cons, Entry, items_in_hands}
+use Rattle.std.proofs.Common.{not}
+use Rattle.std.proofs.lemmas.Bool.{eqb-true, eq-eqb, ne_eqb}
+use Rattle.dump_lanes.specs.PoolWorld.{items_of}
 
 -- what the numbers in a list weigh together
 abbrev pub weigh : (ℕ → ℕ) → List ℕ → ℕ

@@ -59,7 +59,7 @@ pub struct Bell {
 }
 
 impl Bell {
-    // A bell that nobody has rung, in a cache line of its own.
+    /// A bell that nobody has rung, in a cache line of its own.
     fn new() -> CachePadded<Bell> {
         CachePadded::new(Bell {
             rings: AtomicU64::new(0),
@@ -98,7 +98,7 @@ impl Bell {
         }
     }
 
-    // Sleeps until the bell has rung more often than was heard, or for so long at most.
+    /// Sleeps until the bell has rung more often than was heard, or for so long at most.
     fn sleep<R: Wait>(&self, rt: &R, heard: u64, most: Option<Duration>) {
         match most {
             Some(most) => self.rings.park_timeout(rt, low_half(heard), most),

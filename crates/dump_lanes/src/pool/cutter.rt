@@ -82,7 +82,7 @@ impl<J: Drop, D: Drop> JobPort<J, D> {
     }
 }
 
-// Puts so many end marks.
+/// Puts so many end marks.
 fn put_ends<J: Drop, R: Wait>(
     rt: &R,
     queue: &JobQueue<J>,

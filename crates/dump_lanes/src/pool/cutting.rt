@@ -70,7 +70,7 @@ pub fn cut<J: Drop, D: Drop>(
     }
 }
 
-// Makes the workers' ports, each with a share of the queues and passes of its own.
+/// Makes the workers' ports, each with a share of the queues and passes of its own.
 fn cut_workers<J: Drop, D: Drop>(
     queues: &Queues<J, D>,
     jobs: &mut Pass<Mark<J>, View<Mark<J>>>,

@@ -41,7 +41,7 @@ impl<J: Drop, D: Drop> DonePort<J, D> {
     }
 }
 
-// Takes the next item, and waits for one; none once each worker has put its end mark.
+/// Takes the next item, and waits for one; none once each worker has put its end mark.
 fn take_from<D: Drop, R: Wait>(
     rt: &R,
     queue: &DoneQueue<D>,

@@ -64,7 +64,7 @@ impl<J: Drop, D: Drop> Ports<J, D> {
     }
 }
 
-// Takes in the passes of the workers.
+/// Takes in the passes of the workers.
 fn gather<J: Drop, D: Drop>(
     queues: &Queues<J, D>,
     jobs: &mut Pass<Mark<J>, View<Mark<J>>>,

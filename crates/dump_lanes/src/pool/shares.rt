@@ -33,7 +33,7 @@ pub fn share<J: Drop, D: Drop>(
     })
 }
 
-// Shares them with the workers.
+/// Shares them with the workers.
 fn share_with_workers<J: Drop, D: Drop>(
     alloc: Global,
     queues: &Arc<Queues<J, D>>,

@@ -10,7 +10,7 @@ use std::thread;
 use std::thread::{Threads, join};
 use std::time::{Clock, Duration};
 
-// Draws the only credit, and then waits for another one: whether it was told of the stop.
+/// Draws the only credit, and then waits for another one: whether it was told of the stop.
 fn draw_twice<R: Wait>(
     rt: &R,
     mut port: JobPort<u32, u32>,
@@ -26,7 +26,7 @@ fn draw_twice<R: Wait>(
     }
 }
 
-// Raises the stop when the other thread has long looked at it.
+/// Raises the stop when the other thread has long looked at it.
 fn raise_later<R: Clock>(rt: &R, word: &StopWord, mut seat: StopSeat)
     requires { seat.word ≡ word.now }
 {

@@ -8,7 +8,7 @@ use std::alloc::{AllocError, Global};
 use std::sync::Wait;
 use std::test::*;
 
-// Takes 7, gives 8, and ends.
+/// Takes 7, gives 8, and ends.
 fn answer<R: Wait>(rt: &R, mut port: WorkerPort<u32, u32>) -> Option<WorkerPort<u32, u32>>
     requires { (worker_port port).closed ≡ false }
     ensures pool { IfSome result (λ p. (worker_port p).pool ≡ (worker_port port).pool) }
@@ -99,8 +99,8 @@ fn one_item_through_a_pool(rt: HostRuntime) -> Result<(), Fail> {
     Ok(())
 }
 
-// Whichever allocation is refused, `new` answers `Memory`, or `ports` does and gives the ports when it is
-// asked again: run under `--fail-alloc 1` to `32`.
+/// Whichever allocation is refused, `new` answers `Memory`, or `ports` does and gives the ports when it is
+/// asked again: run under `--fail-alloc 1` to `32`.
 #[test]
 fn a_pool_or_no_memory(rt: HostRuntime) {
     let answered = match Pool::<u32, u32>::new(&rt, rt.alloc(), 2, 4) {

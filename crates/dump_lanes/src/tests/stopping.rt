@@ -17,7 +17,7 @@ fn one_seat_raises_and_the_other_sees(rt: HostRuntime) -> Result<(), Fail> {
     Ok(())
 }
 
-// Whichever allocation is refused, `new` answers `Memory`: run under `--fail-alloc 1` to `4`.
+/// Whichever allocation is refused, `new` answers `Memory`: run under `--fail-alloc 1` to `4`.
 #[test]
 fn a_word_or_no_memory(rt: HostRuntime) {
     match StopWord::new(rt.alloc()) {

@@ -1,17 +1,6 @@
 -- A value is refused where a line's path isn't kept, or a line that stays has a number that the dump can't have.
-use Rattle.std.proofs.Common.{◌≡◌, ◌⊎◌, ℕ, ◌<◌, zero, suc, Bool, true, false, not, ◌&&◌, ◌||◌, List, [], ◌∷◌, nat_lt, refl, sym, ap, subst, ◌∙◌, inl, inr, arith, Some, None, Option, Contains}
-use Rattle.std.specs.List.{list_any, AllZip}
-use Rattle.std.proofs.lemmas.Bool.{and_parts, or_right, or_cases, or_left, lt-ltb, ltb-true}
-use Rattle.dump_text.proofs.BoolLemmas.{both_true as both, not_true, not_false}
-use Rattle.dump_rules.specs.Settings.{Settings, keeps_path}
-use Rattle.dump_rules.specs.Renumbering.{KeptRevisions}
-use Rattle.dump_rules.specs.RangeList.{Range, HasNumber}
-use Rattle.dump_rules.specs.steps.ReadRanges.{range_of, range_parts}
-use Rattle.dump_rules.specs.Mergeinfo.{MergeLine, IsMergeLine, IsMergeinfo, HasMergeLines}
-use Rattle.dump_rules.specs.steps.ReadMergeinfo.{without_lf, value_reads}
-use Rattle.dump_rules.specs.Rewriting.{staying_lines, HasMissingSource, HasForeignNumber}
-use Rattle.dump_rules.specs.steps.Runs.{HaveNumbers, ranges_of, list_ranges}
-use Rattle.dump_rules.specs.steps.RewrittenLines.{line_list, line_misses, text_misses, range_foreign, part_foreign, list_foreign, line_foreign, text_foreign}
+use Rattle.dump_rules.proofs.Prelude.{◌≡◌, ◌⊎◌, ℕ, ◌<◌, zero, suc, Bool, true, false, not, ◌&&◌, ◌||◌, List, [], ◌∷◌, nat_lt, refl, sym, ap, subst, ◌∙◌, inl, inr, arith, Some, None, Option, Contains, list_any, AllZip, and_parts, or_right, or_cases, or_left, lt-ltb, ltb-true, not_true, not_false, Settings, keeps_path, KeptRevisions, Range, HasNumber, range_of, range_parts, MergeLine, IsMergeLine, IsMergeinfo, HasMergeLines, without_lf, value_reads, staying_lines, HasMissingSource, HasForeignNumber, HaveNumbers, ranges_of, list_ranges, line_list, line_misses, text_misses, range_foreign, part_foreign, list_foreign, line_foreign, text_foreign}
+use Rattle.dump_text.proofs.BoolLemmas.{both_true as both}
 use Rattle.dump_rules.proofs.reading.MergeinfoLemmas.{reads_exactly}
 use Rattle.dump_rules.proofs.new_values.RunsLaw.{have_numbers}
 use Rattle.dump_rules.proofs.new_values.ValueLemmas.{line_parts, texts_are}

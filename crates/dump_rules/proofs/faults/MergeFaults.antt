@@ -1,12 +1,5 @@
 -- What the two tests of a value tell, where the value is mergeinfo.
-use Rattle.std.proofs.Common.{◌≡◌, ◌↔◌, ℕ, ◌≤◌, Bool, true, List, inl, inr, Contains}
-use Rattle.std.proofs.lemmas.Bool.Decides.{leb_tells}
-use Rattle.dump_rules.specs.Settings.{Settings}
-use Rattle.dump_rules.specs.Renumbering.{KeptRevisions}
-use Rattle.dump_rules.specs.RangeList.{HasNumber}
-use Rattle.dump_rules.specs.Mergeinfo.{MergeLine, IsMergeinfo, HasMergeLines}
-use Rattle.dump_rules.specs.Rewriting.{staying_lines, HasMissingSource, HasForeignNumber}
-use Rattle.dump_rules.specs.steps.RewrittenLines.{value_misses, value_foreign}
+use Rattle.dump_rules.proofs.Prelude.{◌≡◌, ◌↔◌, ℕ, ◌≤◌, Bool, true, List, inl, inr, Contains, leb_tells, Settings, KeptRevisions, HasNumber, MergeLine, IsMergeinfo, HasMergeLines, staying_lines, HasMissingSource, HasForeignNumber, value_misses, value_foreign}
 use Rattle.dump_rules.proofs.faults.FaultLemmas.{missing_there, missing_back, foreign_there, foreign_back, has_lines}
 
 -- the test for missing sources passes of mergeinfo just where one is missing

@@ -1,10 +1,5 @@
 -- What values of mergeinfo say together, part by part and line by line.
-use Rattle.std.proofs.Common.{◌≡◌, ℕ, List, [], ◌∷◌, refl, sym, ap, ◌∙◌, Some, None, Option, option_and_then}
-use Rattle.dump_rules.specs.declared.merged.Bounds.{Bounds}
-use Rattle.dump_rules.specs.declared.merged.Merged.{Merged}
-use Rattle.dump_rules.specs.Settings.{Settings}
-use Rattle.dump_rules.specs.steps.ReadRanges.{range_of, range_parts}
-use Rattle.dump_rules.specs.steps.Merged.{widened_by, parts_bounds, list_bounds, line_merged, lines_merged}
+use Rattle.dump_rules.proofs.Prelude.{◌≡◌, ℕ, List, [], ◌∷◌, refl, sym, ap, ◌∙◌, Some, None, Option, option_and_then, Bounds, Merged, Settings, range_of, range_parts, widened_by, parts_bounds, list_bounds, line_merged, lines_merged}
 
 -- one part more
 pub bounds_first : (bounds next : Bounds) (part : List ℕ) (others all : List (List ℕ)) → all ≡ part ∷ others

@@ -1,15 +1,5 @@
 -- What values of mergeinfo say together: whether each is mergeinfo, a source is missing, a number is foreign.
-use Rattle.std.proofs.Common.{◌≡◌, ℕ, ◌-◌, ◌^◌, ◌<◌, Bool, true, false, not, ◌&&◌, ◌||◌, nat_lt, min, max, List, [], ◌∷◌, refl, sym, ap, ◌∙◌, arith, Some, None, Option, IfSome, is_some}
-use Rattle.std.specs.List.{list_all, list_any}
-use Rattle.std.proofs.lemmas.Bool.Decides.{nat_tests}
-use Rattle.dump_rules.specs.declared.merged.Bounds.{Bounds}
-use Rattle.dump_rules.specs.declared.merged.Merged.{Merged}
-use Rattle.dump_rules.specs.Settings.{Settings, keeps_path}
-use Rattle.dump_rules.specs.RangeList.{Range}
-use Rattle.dump_rules.specs.steps.ReadRanges.{range_of, range_parts}
-use Rattle.dump_rules.specs.steps.ReadMergeinfo.{line_reads, lines_read, value_reads, without_lf}
-use Rattle.dump_rules.specs.steps.RewrittenLines.{line_list, line_path, text_lines, line_misses, range_foreign, part_foreign, list_foreign, line_foreign, value_misses, value_foreign}
-use Rattle.dump_rules.specs.steps.Merged.{widened, widened_by, parts_bounds, list_bounds, is_outside, no_bounds, nothing_merged, line_said, lines_merged, text_merged}
+use Rattle.dump_rules.proofs.Prelude.{◌≡◌, ℕ, ◌-◌, ◌^◌, ◌<◌, Bool, true, false, not, ◌&&◌, ◌||◌, nat_lt, min, max, List, [], ◌∷◌, refl, sym, ap, ◌∙◌, arith, Some, None, Option, IfSome, is_some, list_all, list_any, nat_tests, Bounds, Merged, Settings, keeps_path, Range, range_of, range_parts, line_reads, lines_read, value_reads, without_lf, line_list, line_path, text_lines, line_misses, range_foreign, part_foreign, list_foreign, line_foreign, value_misses, value_foreign, widened, widened_by, parts_bounds, list_bounds, is_outside, no_bounds, nothing_merged, line_said, lines_merged, text_merged}
 
 -- the bounds of numbers
 

@@ -1,12 +1,6 @@
 -- Ranges in the order of their lower ends, joined, are the runs of their map.
-use Rattle.std.proofs.Common.{◌≡◌, ◌≢◌, ℕ, ◌+◌, ◌<◌, ◌≤◌, Bool, true, false, not, List, [], ◌∷◌, nat_le, refl, sym, subst, ◌∙◌, inl, inr, arith}
-use Rattle.std.proofs.lemmas.Bool.Decides.{nat_tests, leb_tells}
-use Rattle.std.proofs.lemmas.Bool.{and_parts}
-use Rattle.dump_rules.specs.RangeList.{Range, HasNumber, IsConsistent, AreRuns}
-use Rattle.dump_rules.specs.steps.ReadRanges.{is_other}
-use Rattle.dump_rules.specs.Rewriting.{IsSameMap}
+use Rattle.dump_rules.proofs.Prelude.{◌≡◌, ◌≢◌, ℕ, ◌+◌, ◌<◌, ◌≤◌, Bool, true, false, not, List, [], ◌∷◌, nat_le, refl, sym, subst, ◌∙◌, inl, inr, arith, nat_tests, leb_tells, and_parts, Range, HasNumber, IsConsistent, AreRuns, is_other, IsSameMap, touches, reaching, joined_from, joined, ordered_into, ordered, runs_of, HaveNumbers}
 use Rattle.dump_rules.proofs.new_values.Unique.{runs_once}
-use Rattle.dump_rules.specs.steps.Runs.{touches, reaching, joined_from, joined, ordered_into, ordered, runs_of, HaveNumbers}
 
 -- the ranges have numbers, and each begins no lower than the one before
 abbrev pub Rises : List Range → Type 0

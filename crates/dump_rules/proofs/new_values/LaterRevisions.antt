@@ -1,13 +1,6 @@
 -- A new value stays a new value where only higher revisions are kept later.
-use Rattle.std.proofs.Common.{◌≡◌, ℕ, ◌+◌, ◌<◌, ◌≤◌, Bool, true, false, cond, MatchBool, List, [], ◌∷◌, ◌++◌, suc, refl, sym, ap, ◌∙◌, arith, inl, inr, All, Contains, nat_lt}
-use Rattle.std.specs.List.{AllZip}
-use Rattle.std.proofs.lemmas.List.Elements.{All-head, All-tail, All-contains, Contains-append_left, Contains-append_cases}
-use Rattle.std.proofs.lemmas.List.Sums.{sum_by-append}
-use Rattle.dump_rules.specs.Settings.{Settings}
-use Rattle.dump_rules.specs.Renumbering.{KeptRevisions, new_number}
-use Rattle.dump_rules.specs.RangeList.{Range, HasNumber}
-use Rattle.dump_rules.specs.Mergeinfo.{MergeLine}
-use Rattle.dump_rules.specs.Rewriting.{IsRenumberedMap, IsSameMap, IsNewLine, IsNewMergeinfo, HasForeignNumber, staying_lines}
+use Rattle.dump_rules.proofs.Prelude.{◌≡◌, ℕ, ◌+◌, ◌<◌, ◌≤◌, Bool, true, false, cond, MatchBool, List, [], ◌∷◌, ◌++◌, suc, refl, sym, ap, ◌∙◌, arith, inl, inr, Contains, nat_lt, AllZip, All-head, All-tail, All-contains, Contains-append_left, Contains-append_cases, sum_by-append, Settings, KeptRevisions, new_number, Range, HasNumber, MergeLine, IsRenumberedMap, IsSameMap, IsNewLine, IsNewMergeinfo, HasForeignNumber, staying_lines}
+use Rattle.std.proofs.Common.{All}
 use Rattle.dump_rules.proofs.ReachLemmas.{below, below-cons, is_not_below}
 use Rattle.dump_rules.proofs.faults.MergeFaults.{foreign_below}
 

@@ -1,16 +1,5 @@
 -- What becomes of a line, as it is computed.
-use Rattle.std.proofs.Common.{◌≡◌, ℕ, ◌+◌, ◌<◌, Bool, true, false, ◌==◌, List, [], ◌∷◌, ◌++◌, length, take, drop, nat_lt, nat_le, position, refl, sym, ap, subst, ◌∙◌, arith, Some, None, codes}
-use Rattle.std.specs.List.{list_all, slice_split}
-use Rattle.std.proofs.lemmas.Bool.{and_parts}
-use Rattle.dump_rules.specs.RangeList.{Range, IsConsistent, runs_text}
-use Rattle.dump_rules.specs.steps.ReadRanges.{list_reads}
-use Rattle.dump_rules.specs.steps.ReadMergeinfo.{colon_end, line_reads}
-use Rattle.dump_rules.specs.Renumbering.{KeptRevisions}
-use Rattle.dump_rules.specs.steps.RisingNumbers.{RiseFrom}
-use Rattle.dump_rules.specs.Settings.{Settings}
-use Rattle.dump_rules.specs.steps.Runs.{HaveNumbers, ordered_into, ordered, joined, runs_of, list_ranges}
-use Rattle.dump_rules.specs.steps.NewRanges.{new_ranges, list_new}
-use Rattle.dump_rules.specs.steps.RewrittenLines.{line_list, with_break, with_runs, with_new_line, with_new_lines}
+use Rattle.dump_rules.proofs.Prelude.{◌≡◌, ℕ, ◌+◌, ◌<◌, Bool, true, false, ◌==◌, List, [], ◌∷◌, ◌++◌, length, take, drop, nat_lt, nat_le, position, refl, sym, ap, subst, ◌∙◌, arith, Some, None, codes, list_all, slice_split, and_parts, Range, IsConsistent, runs_text, list_reads, colon_end, line_reads, KeptRevisions, RiseFrom, Settings, HaveNumbers, ordered_into, ordered, joined, runs_of, list_ranges, new_ranges, list_new, line_list, with_break, with_runs, with_new_line, with_new_lines}
 use Rattle.dump_rules.proofs.reading.RangeLemmas.{position_split, position_whole}
 use Rattle.dump_rules.proofs.reading.RangeListLemmas.{read_is_list}
 use Rattle.dump_rules.proofs.new_values.RunsLaw.{have_numbers, list_is}

@@ -1,15 +1,5 @@
 -- The new numbers of the kept revisions of a range are a range.
-use Rattle.std.proofs.Common.{◌≡◌, ◌⊎◌, ◌↔◌, ℕ, zero, suc, ◌+◌, ◌-◌, ◌<◌, ◌≤◌, Bool, true, false, cond, List, [], ◌∷◌, length, get_or, nat_lt, nat_le, refl, sym, ap, subst, ◌∙◌, inl, inr, arith, Some, None, Option, Contains}
-use Rattle.std.proofs.lemmas.Bool.{lt-ltb}
-use Rattle.std.proofs.lemmas.Bool.Decides.{leb_tells, nat_tests}
-use Rattle.std.proofs.lemmas.List.Elements.{Contains-get_or}
-use Rattle.dump_rules.specs.RangeList.{Range, HasNumber, IsConsistent}
-use Rattle.dump_rules.specs.steps.ReadRanges.{range_of, range_parts}
-use Rattle.dump_rules.specs.Renumbering.{KeptRevisions, new_number}
-use Rattle.dump_rules.specs.steps.RisingNumbers.{RiseFrom}
-use Rattle.dump_rules.specs.Rewriting.{IsRenumberedMap}
-use Rattle.dump_rules.specs.steps.Runs.{HaveNumbers, with_range, ranges_of, list_ranges}
-use Rattle.dump_rules.specs.steps.NewRanges.{new_range, kept_range, new_ranges, parts_ranges, list_new}
+use Rattle.dump_rules.proofs.Prelude.{◌≡◌, ◌⊎◌, ◌↔◌, ℕ, zero, suc, ◌+◌, ◌-◌, ◌<◌, ◌≤◌, Bool, true, false, cond, List, [], ◌∷◌, length, get_or, nat_lt, nat_le, refl, sym, ap, subst, ◌∙◌, inl, inr, arith, Some, None, Option, Contains, lt-ltb, leb_tells, nat_tests, Contains-get_or, Range, HasNumber, IsConsistent, range_of, range_parts, KeptRevisions, new_number, RiseFrom, IsRenumberedMap, HaveNumbers, with_range, ranges_of, list_ranges, new_range, kept_range, new_ranges, parts_ranges, list_new}
 use Rattle.dump_rules.proofs.ReachLemmas.{below, up_to, below-cons, up_to-cons, none_below, from_first, image_of_some}
 
 -- counts and places

@@ -1,11 +1,5 @@
 -- A value has at most one new value.
-use Rattle.std.proofs.Common.{◌≡◌, ℕ, Bool, true, false, MatchBool, List, [], ◌∷◌, refl, sym, ap, ◌∙◌, subst}
-use Rattle.std.specs.List.{AllZip}
-use Rattle.dump_rules.specs.Settings.{Settings}
-use Rattle.dump_rules.specs.Renumbering.{KeptRevisions}
-use Rattle.dump_rules.specs.RangeList.{Range}
-use Rattle.dump_rules.specs.Mergeinfo.{MergeLine, IsMergeLine, IsMergeinfo, mergeinfo_text}
-use Rattle.dump_rules.specs.Rewriting.{IsSameMap, IsRenumberedMap, IsNewLine, IsNewMergeinfo, staying_lines, nonempty_lines}
+use Rattle.dump_rules.proofs.Prelude.{◌≡◌, ℕ, Bool, true, false, MatchBool, List, [], ◌∷◌, refl, sym, ap, ◌∙◌, subst, AllZip, Settings, KeptRevisions, Range, MergeLine, IsMergeLine, IsMergeinfo, mergeinfo_text, IsSameMap, IsRenumberedMap, IsNewLine, IsNewMergeinfo, staying_lines, nonempty_lines}
 use Rattle.dump_rules.proofs.new_values.Unique.{runs_once}
 use Rattle.dump_rules.proofs.new_values.ValueLemmas.{line_parts, texts_are}
 

@@ -1,13 +1,5 @@
 -- A new value is mergeinfo, and its own new value where everything is kept.
-use Rattle.std.proofs.Common.{◌≡◌, ℕ, ◌<◌, ◌≤◌, Bool, true, false, MatchBool, List, [], ◌∷◌, length, map, nat_lt, Contains, refl, sym, ap, subst, ◌∙◌, inl, arith}
-use Rattle.std.specs.List.{AllZip}
-use Rattle.dump_text.specs.HeaderLine.{has_byte}
-use Rattle.dump_rules.specs.Settings.{Settings, keeps_path}
-use Rattle.dump_rules.specs.Renumbering.{KeptRevisions, new_number}
-use Rattle.dump_rules.specs.steps.RisingNumbers.{RiseFrom}
-use Rattle.dump_rules.specs.RangeList.{Range, IsConsistent, AreRuns, run_text, runs_text}
-use Rattle.dump_rules.specs.Mergeinfo.{MergeLine, IsMergeLine, IsMergeinfo, HasMergeLines, merge_line_text, mergeinfo_text}
-use Rattle.dump_rules.specs.Rewriting.{IsSameMap, IsRenumberedMap, IsNewLine, IsNewMergeinfo, staying_lines, nonempty_lines}
+use Rattle.dump_rules.proofs.Prelude.{◌≡◌, ℕ, ◌<◌, ◌≤◌, Bool, true, false, MatchBool, List, [], ◌∷◌, length, map, nat_lt, Contains, refl, sym, ap, subst, ◌∙◌, inl, arith, AllZip, has_byte, Settings, keeps_path, KeptRevisions, new_number, RiseFrom, Range, IsConsistent, AreRuns, run_text, runs_text, MergeLine, IsMergeLine, IsMergeinfo, HasMergeLines, merge_line_text, mergeinfo_text, IsSameMap, IsRenumberedMap, IsNewLine, IsNewMergeinfo, staying_lines, nonempty_lines}
 use Rattle.dump_rules.proofs.ReachLemmas.{new_number_fits, from_first}
 use Rattle.dump_rules.proofs.new_values.NewRangeLemmas.{renumbered_consistent}
 use Rattle.dump_rules.proofs.new_values.RunsLaw.{AreSmall, are_small, runs_spelled}

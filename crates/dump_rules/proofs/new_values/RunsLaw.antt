@@ -1,17 +1,5 @@
 -- Each map of a range list has exactly one spelling.
-use Rattle.std.proofs.Common.{◌≡◌, ℕ, ◌<◌, ◌≤◌, ◌^◌, Bool, true, false, ◌&&◌, ◌==◌, List, [], ◌∷◌, ◌++◌, length, nat_lt, nat_le, map, refl, sym, ap, subst, ◌∙◌, inl, inr, arith, rules, Some, None, append-nil, append_assoc, codes}
-use Rattle.std.specs.List.{list_all, join_with_byte, AllZip}
-use Rattle.std.specs.Char.{is_ascii_digit}
-use Rattle.std.specs.Str.Parse.{digits_value}
-use Rattle.std.proofs.lemmas.Bool.Decides.{nat_tests}
-use Rattle.std.proofs.lemmas.Bool.{and_parts, eqb-true}
-use Rattle.std.proofs.lemmas.Str.Parse.{IsNumeralModel, numerals_by_value, digits_value_short}
-use Rattle.dump_text.specs.Number.{number_of, spelled_number}
-use Rattle.dump_text.proofs.PartLemmas.{number_of-spelled, number_spells}
-use Rattle.dump_rules.specs.RangeList.{Range, HasNumber, AreRuns, star, IsRangeText, IsRangeList, run_text, runs_text}
-use Rattle.dump_rules.specs.steps.ReadRanges.{range_parts}
-use Rattle.dump_rules.specs.RangeLaws.{EachMapHasOneSpelling}
-use Rattle.dump_rules.specs.steps.Runs.{HaveNumbers, ranges_of, list_ranges, runs_of}
+use Rattle.dump_rules.proofs.Prelude.{◌≡◌, ℕ, ◌<◌, ◌≤◌, ◌^◌, Bool, true, false, ◌&&◌, ◌==◌, List, [], ◌∷◌, ◌++◌, length, nat_lt, nat_le, map, refl, sym, ap, subst, ◌∙◌, inl, inr, arith, rules, Some, None, append-nil, append_assoc, codes, list_all, join_with_byte, AllZip, is_ascii_digit, digits_value, nat_tests, and_parts, eqb-true, IsNumeralModel, numerals_by_value, digits_value_short, number_of, spelled_number, number_of-spelled, number_spells, Range, HasNumber, AreRuns, star, IsRangeText, IsRangeList, run_text, runs_text, range_parts, EachMapHasOneSpelling, HaveNumbers, ranges_of, list_ranges, runs_of}
 use Rattle.dump_rules.proofs.reading.RangeLemmas.{number_parts, range_of_text}
 use Rattle.dump_rules.proofs.reading.RangeListLemmas.{split_joined, all_lack}
 use Rattle.dump_rules.proofs.new_values.JoinLemmas.{runs_are, same_trans, same_sym}

@@ -1,16 +1,6 @@
 -- Reading the parts of a list, sorting their ranges, and writing the runs, step by step.
-use Rattle.std.proofs.Common.{◌≡◌, ℕ, zero, suc, ◌+◌, ◌<◌, ◌≤◌, Bool, true, false, ◌==◌, List, [], ◌∷◌, ◌++◌, length, take, drop, get_or, position, map, refl, sym, ap, ◌∙◌, inl, inr, arith, Some, None, Option, All, Contains, append_assoc, codes}
-use Rattle.std.specs.List.Sorted.{IsPermutation, IsNonDecreasingBy}
-use Rattle.std.proofs.lemmas.List.{drop_more}
-use Rattle.std.proofs.lemmas.List.Elements.{All-head, All-tail, All-cons}
-use Rattle.std.proofs.lemmas.List.Sorted.{IsPermutation-sym, IsPermutation-map, All-permutation, Contains-permutation}
-use Rattle.dump_rules.specs.declared.ranges.Span.{Span}
-use Rattle.dump_rules.specs.RangeList.{Range, HasNumber, IsConsistent, run_text, runs_text}
-use Rattle.dump_rules.specs.steps.ReadRanges.{range_of, range_parts, span_range}
-use Rattle.dump_rules.specs.Renumbering.{KeptRevisions}
-use Rattle.dump_rules.specs.Rewriting.{IsSameMap}
-use Rattle.dump_rules.specs.steps.Runs.{touches, reaching, joined_from, joined, runs_of, HaveNumbers, with_range}
-use Rattle.dump_rules.specs.steps.NewRanges.{part_range, parts_ranges}
+use Rattle.dump_rules.proofs.Prelude.{◌≡◌, ℕ, zero, suc, ◌+◌, ◌<◌, ◌≤◌, Bool, true, false, ◌==◌, List, [], ◌∷◌, ◌++◌, length, take, drop, get_or, position, map, refl, sym, ap, ◌∙◌, inl, inr, arith, Some, None, Option, Contains, append_assoc, codes, IsPermutation, IsNonDecreasingBy, drop_more, All-head, All-tail, All-cons, IsPermutation-sym, IsPermutation-map, All-permutation, Contains-permutation, Span, Range, HasNumber, IsConsistent, run_text, runs_text, range_of, range_parts, span_range, KeptRevisions, IsSameMap, touches, reaching, joined_from, joined, runs_of, HaveNumbers, with_range, part_range, parts_ranges}
+use Rattle.std.proofs.Common.{All}
 use Rattle.dump_rules.proofs.reading.RangeLemmas.{position_split, position_whole}
 use Rattle.dump_rules.proofs.new_values.JoinLemmas.{Rises, runs_any_order}
 

@@ -1,18 +1,5 @@
 -- What becomes of a value: its new lines.
-use Rattle.std.proofs.Common.{◌≡◌, ◌⊎◌, ℕ, ◌+◌, ◌-◌, Bool, true, false, ◌==◌, List, [], ◌∷◌, ◌++◌, length, length-append, take, drop, map, nat_lt, refl, sym, ap, ◌∙◌, arith, codes, append_assoc, append-nil, if◌then◌else◌}
-use Rattle.std.specs.List.{slice_split, join_with_byte, AllZip}
-use Rattle.std.proofs.lemmas.Bool.Decides.{nat_tests}
-use Rattle.std.proofs.lemmas.List.{take_at, drop_at}
-use Rattle.dump_rules.specs.Settings.{Settings, keeps_path}
-use Rattle.dump_rules.specs.Renumbering.{KeptRevisions}
-use Rattle.dump_rules.specs.steps.RisingNumbers.{RiseFrom}
-use Rattle.dump_rules.specs.RangeList.{Range, runs_text}
-use Rattle.dump_rules.specs.Mergeinfo.{MergeLine, IsMergeLine, IsMergeinfo, merge_line_text}
-use Rattle.dump_rules.specs.steps.ReadMergeinfo.{colon_end, without_lf}
-use Rattle.dump_rules.specs.Rewriting.{IsNewLine, IsNewMergeinfo, staying_lines, nonempty_lines}
-use Rattle.dump_rules.specs.steps.Runs.{runs_of, list_ranges}
-use Rattle.dump_rules.specs.steps.NewRanges.{new_ranges, list_new}
-use Rattle.dump_rules.specs.steps.RewrittenLines.{line_path, line_list, text_lines, with_break, with_runs, with_new_line, with_new_lines}
+use Rattle.dump_rules.proofs.Prelude.{◌≡◌, ◌⊎◌, ℕ, ◌+◌, ◌-◌, Bool, true, false, ◌==◌, List, [], ◌∷◌, ◌++◌, length, length-append, take, drop, map, nat_lt, refl, sym, ap, ◌∙◌, arith, codes, append_assoc, append-nil, if◌then◌else◌, slice_split, join_with_byte, AllZip, nat_tests, take_at, drop_at, Settings, keeps_path, KeptRevisions, RiseFrom, Range, runs_text, MergeLine, IsMergeLine, IsMergeinfo, merge_line_text, colon_end, without_lf, IsNewLine, IsNewMergeinfo, staying_lines, nonempty_lines, runs_of, list_ranges, new_ranges, list_new, line_path, line_list, text_lines, with_break, with_runs, with_new_line, with_new_lines}
 use Rattle.dump_rules.proofs.reading.RangeListLemmas.{split_joined, list_lacks}
 use Rattle.dump_rules.proofs.reading.MergeinfoLemmas.{colon_end_is, bare, all_read}
 use Rattle.dump_rules.proofs.new_values.JoinLemmas.{runs_are}

@@ -1,16 +1,6 @@
 -- A list held against itself block by block agrees exactly where each of its parts does.
-use Rattle.std.proofs.Common.{◌≡◌, ℕ, zero, suc, ◌+◌, ◌-◌, ◌<◌, ◌≤◌, Bool, true, false, not, ◌&&◌, ◌||◌, ◌==◌, nat_le, nat_lt, max, List, [], ◌∷◌, length, take, drop, get_or, position, refl, sym, ap, ◌∙◌, inl, inr, Option, Some, None, arith}
+use Rattle.dump_rules.proofs.Prelude.{◌≡◌, ℕ, zero, suc, ◌+◌, ◌-◌, ◌<◌, ◌≤◌, Bool, true, false, not, ◌&&◌, ◌||◌, ◌==◌, nat_le, nat_lt, max, List, [], ◌∷◌, length, take, drop, get_or, position, refl, sym, ap, ◌∙◌, inl, inr, Option, Some, None, arith, list_all, list_any, IsNonDecreasingBy, IsPartitionPoint, take-length, or_cases, or_left, or_right, and_parts, and_from, and_left, and_right, not-true, not_from_false, leb-true, le-leb, le-ltb, cases_lt, false_from_ne_true, both_ways, nat_tests, length-drop, Ends, block_agrees, block_contradicts, ends_range, kind_agrees, kind_part_agrees, meets, parts_agree, raised_ends, Range, contradicts, is_other, range_of, range_parts, part_agrees, part_contradicts}
 use mathlib.Core.Bool.{beq}
-use Rattle.std.specs.List.{list_all, list_any}
-use Rattle.std.specs.List.Sorted.{IsNonDecreasingBy, IsPartitionPoint}
-use Rattle.std.proofs.Math.Seq.{take-length}
-use Rattle.std.proofs.lemmas.Bool.{or_cases, or_left, or_right, and_parts, and_from, and_left, and_right, not-true, not_from_false, leb-true, le-leb, le-ltb, cases_lt, false_from_ne_true, both_ways}
-use Rattle.std.proofs.lemmas.Bool.Decides.{nat_tests}
-use Rattle.std.proofs.lemmas.List.{length-drop}
-use Rattle.dump_rules.specs.declared.blocks.Ends.{Ends}
-use Rattle.dump_rules.specs.steps.Blocks.{block_agrees, block_contradicts, ends_range, kind_agrees, kind_part_agrees, meets, parts_agree, raised_ends}
-use Rattle.dump_rules.specs.RangeList.{Range}
-use Rattle.dump_rules.specs.steps.ReadRanges.{contradicts, is_other, range_of, range_parts, part_agrees, part_contradicts}
 use Rattle.dump_rules.proofs.reading.RangeLemmas.{position_split}
 
 -- the first part

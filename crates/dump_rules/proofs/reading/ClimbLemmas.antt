@@ -1,12 +1,5 @@
 -- Where each range begins above those of the other kind before it, no number stands as both kinds.
-use Rattle.std.proofs.Common.{◌≡◌, ℕ, ◌+◌, ◌-◌, ◌<◌, ◌≤◌, max, Bool, true, false, ◌==◌, List, [], ◌∷◌, take, drop, length, nat_lt, refl, sym, ap, ◌∙◌, inl, inr, arith, Some, None, Option, option_and_then, is_some, position}
-use Rattle.std.specs.List.{list_all, AllZip}
-use Rattle.std.proofs.lemmas.Bool.Decides.{nat_tests}
-use Rattle.std.proofs.Math.Seq.{take-length}
-use Rattle.std.proofs.lemmas.List.{length-drop}
-use Rattle.dump_rules.specs.declared.ranges.HighestNumbers.{HighestNumbers}
-use Rattle.dump_rules.specs.RangeList.{Range, HasNumber, IsConsistent}
-use Rattle.dump_rules.specs.steps.ReadRanges.{range_of, range_parts, part_agrees, raised, raised_by, highest_numbers}
+use Rattle.dump_rules.proofs.Prelude.{◌≡◌, ℕ, ◌+◌, ◌-◌, ◌<◌, ◌≤◌, max, Bool, true, false, ◌==◌, List, [], ◌∷◌, take, drop, length, nat_lt, refl, sym, ap, ◌∙◌, inl, inr, arith, Some, None, Option, option_and_then, is_some, position, list_all, AllZip, nat_tests, take-length, length-drop, HighestNumbers, Range, HasNumber, IsConsistent, range_of, range_parts, part_agrees, raised, raised_by, highest_numbers}
 use Rattle.dump_rules.proofs.reading.RangeLemmas.{position_split, position_whole, text_of_range}
 use Rattle.dump_rules.proofs.reading.RangeListLemmas.{Reads, all_agree}
 

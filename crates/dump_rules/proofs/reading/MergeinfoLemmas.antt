@@ -1,18 +1,5 @@
 -- A value is read as mergeinfo where it is some lines.
-use Rattle.std.proofs.Common.{◌≡◌, ◌⊎◌, ◌↔◌, ℕ, ◌+◌, ◌-◌, ◌<◌, ◌≤◌, Bool, true, false, not, ◌==◌, List, [], ◌∷◌, ◌++◌, take, drop, length, reverse, get_or, nat_lt, refl, sym, ap, ◌∙◌, inl, inr, arith, append_assoc, length-append, codes, bytes_eq, IsTrue}
-use Rattle.std.specs.List.{list_all, slice_split, join_with_byte, AllZip, suffix_len}
-use Rattle.std.proofs.lemmas.Bool.Decides.{nat_tests}
-use Rattle.std.proofs.lemmas.Bool.{and_parts, eqb-true, not-false}
-use Rattle.std.proofs.lemmas.List.{take-append-drop, drop_more, get_or-append-add, get_or-reverse, drop_at, length-reverse, length-take-le}
-use Rattle.std.proofs.Math.Seq.{drop-append-add, get_or-append_seam}
-use Rattle.std.proofs.lemmas.List.Splits.{join_with_byte-slice_split}
-use Rattle.std.proofs.lemmas.List.Sums.{suffix_len_is, suffix_len-le-length, prefix_len_stops}
-use Rattle.dump_text.specs.HeaderLine.{has_byte}
-use Rattle.dump_text.proofs.Unique.{has_byte-append}
-use Rattle.dump_text.proofs.ScanLemmas.{front_lacks}
-use Rattle.dump_rules.specs.Mergeinfo.{MergeLine, IsMergeLine, HasMergeLines}
-use Rattle.dump_rules.specs.steps.ReadRanges.{list_reads}
-use Rattle.dump_rules.specs.steps.ReadMergeinfo.{colon_end, line_reads, without_lf, lines_read, value_reads}
+use Rattle.dump_rules.proofs.Prelude.{◌≡◌, ◌⊎◌, ◌↔◌, ℕ, ◌+◌, ◌-◌, ◌<◌, ◌≤◌, Bool, true, false, not, ◌==◌, List, [], ◌∷◌, ◌++◌, take, drop, length, reverse, get_or, nat_lt, refl, sym, ap, ◌∙◌, inl, inr, arith, append_assoc, length-append, codes, bytes_eq, IsTrue, list_all, slice_split, join_with_byte, AllZip, suffix_len, nat_tests, and_parts, eqb-true, not-false, take-append-drop, drop_more, get_or-append-add, get_or-reverse, drop_at, length-reverse, length-take-le, drop-append-add, get_or-append_seam, join_with_byte-slice_split, suffix_len_is, suffix_len-le-length, prefix_len_stops, has_byte, has_byte-append, front_lacks, MergeLine, IsMergeLine, HasMergeLines, list_reads, colon_end, line_reads, without_lf, lines_read, value_reads}
 use Rattle.dump_rules.proofs.reading.RangeLemmas.{no_end, ends_so, front_is, ends_parts}
 use Rattle.dump_rules.proofs.reading.RangeListLemmas.{AllLack, none_all, split_joined, parts_lack, list_lacks, list_is_read, read_is_list}
 

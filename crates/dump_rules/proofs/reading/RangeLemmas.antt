@@ -1,20 +1,6 @@
 -- The range that a text is read as is the one that it spells.
-use Rattle.std.proofs.Common.{◌≡◌, ◌⊎◌, ℕ, ◌+◌, ◌-◌, ◌<◌, ◌≤◌, Bool, true, false, not, ◌&&◌, ◌==◌, List, [], ◌∷◌, ◌++◌, take, drop, length, get_or, nat_lt, nat_le, refl, sym, ap, subst, ◌∙◌, inl, inr, arith, Some, None, Option, append-nil, append_assoc, length-append, bytes_eq, position}
-use Rattle.std.specs.List.{list_all, position_or_len, slice_split}
-use Rattle.std.specs.Char.{is_ascii_digit}
-use Rattle.std.proofs.lemmas.Bool.Decides.{nat_tests}
-use Rattle.std.proofs.lemmas.Bool.{and_parts, eqb-true}
-use Rattle.std.proofs.lemmas.List.{take-append-drop, drop_more, take_at, drop_at}
-use Rattle.std.proofs.lemmas.List.Splits.{slice_split_first, slice_split_none}
-use Rattle.std.proofs.lemmas.List.Sums.{passes_at_first, fails_before_first}
-use Rattle.std.proofs.lemmas.Slice.Eq.{bytes_eq-Decides}
-use Rattle.dump_text.proofs.BoolLemmas.{equals_itself as same, first_false, second_false}
-use Rattle.dump_text.specs.Number.{is_number, number_of}
-use Rattle.dump_text.specs.HeaderLine.{has_byte}
-use Rattle.dump_text.proofs.Unique.{has_byte-append}
-use Rattle.dump_text.proofs.ScanLemmas.{has_at, back_lacks}
-use Rattle.dump_rules.specs.RangeList.{Range, star, IsSingle, IsSpan, IsRangeText}
-use Rattle.dump_rules.specs.steps.ReadRanges.{ends_in_star, without_star, both, ends_at, ends_of, range_between, range_of}
+use Rattle.dump_rules.proofs.Prelude.{◌≡◌, ◌⊎◌, ℕ, ◌+◌, ◌-◌, ◌<◌, ◌≤◌, Bool, true, false, not, ◌&&◌, ◌==◌, List, [], ◌∷◌, ◌++◌, take, drop, length, get_or, nat_lt, nat_le, refl, sym, ap, subst, ◌∙◌, inl, inr, arith, Some, None, Option, append-nil, append_assoc, length-append, bytes_eq, position, list_all, position_or_len, slice_split, is_ascii_digit, nat_tests, and_parts, eqb-true, take-append-drop, drop_more, take_at, drop_at, slice_split_first, slice_split_none, passes_at_first, fails_before_first, bytes_eq-Decides, first_false, second_false, is_number, number_of, has_byte, has_byte-append, has_at, back_lacks, Range, star, IsSingle, IsSpan, IsRangeText, ends_in_star, without_star, both, ends_at, ends_of, range_between, range_of}
+use Rattle.dump_text.proofs.BoolLemmas.{equals_itself as same}
 
 -- digits
 

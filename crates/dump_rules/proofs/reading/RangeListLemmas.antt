@@ -1,16 +1,7 @@
 -- A range list is read where it is one, and no number stands in it as both kinds.
-use Rattle.std.proofs.Common.{◌≡◌, ℕ, ◌≤◌, max, Bool, true, false, not, ◌&&◌, ◌||◌, ◌==◌, List, [], ◌∷◌, ◌++◌, nat_le, refl, sym, ap, subst, ◌∙◌, inl, inr, arith, Some, None, Option}
-use Rattle.std.specs.List.{list_all, list_any, slice_split, onto_first, join_with_byte, AllZip, All}
-use Rattle.std.specs.Char.{is_ascii_digit}
-use Rattle.std.proofs.lemmas.Bool.Decides.{nat_tests}
-use Rattle.std.proofs.lemmas.Bool.{and_parts}
-use Rattle.std.proofs.lemmas.List.Elements.{All-cons}
-use Rattle.std.proofs.lemmas.List.Splits.{slice_split_at, slice_split_none, join_with_byte-slice_split}
-use Rattle.dump_text.proofs.BoolLemmas.{equals_itself as same, first_false, second_false}
-use Rattle.dump_text.specs.HeaderLine.{has_byte}
-use Rattle.dump_text.proofs.Unique.{has_byte-append}
-use Rattle.dump_rules.specs.RangeList.{Range, HasNumber, IsConsistent, star, IsRangeText, IsRangeList}
-use Rattle.dump_rules.specs.steps.ReadRanges.{range_of, range_parts, is_other, contradicts, part_contradicts, part_agrees, list_reads}
+use Rattle.dump_rules.proofs.Prelude.{◌≡◌, ℕ, ◌≤◌, max, Bool, true, false, not, ◌&&◌, ◌||◌, ◌==◌, List, [], ◌∷◌, ◌++◌, nat_le, refl, sym, ap, subst, ◌∙◌, inl, inr, arith, Some, None, Option, list_all, list_any, slice_split, onto_first, join_with_byte, AllZip, is_ascii_digit, nat_tests, and_parts, All-cons, slice_split_at, slice_split_none, join_with_byte-slice_split, first_false, second_false, has_byte, has_byte-append, Range, HasNumber, IsConsistent, star, IsRangeText, IsRangeList, range_of, range_parts, is_other, contradicts, part_contradicts, part_agrees, list_reads}
+use Rattle.std.specs.List.{All}
+use Rattle.dump_text.proofs.BoolLemmas.{equals_itself as same}
 use Rattle.dump_rules.proofs.reading.RangeLemmas.{number_lacks, range_of_text, text_of_range}
 
 -- parts that lack the byte, joined by it, are cut into themselves

@@ -25,8 +25,8 @@ fn ranges_reach_over_others_of_their_kind(rt: HostRuntime) {
     }
 }
 
-// The even numbers fall from 20000 to 2, the odd ones with stars between them. The lists are of as
-// many ranges of either kind, and of more of the one or the other.
+/// The even numbers fall from 20000 to 2, the odd ones with stars between them. The lists are of as
+/// many ranges of either kind, and of more of the one or the other.
 #[test]
 fn twenty_thousand_ranges_of_both_kinds_in_falling_order(rt: HostRuntime) -> Result<(), Fail> {
     let rows = [

@@ -93,7 +93,7 @@ fn options_are_as_handed_in(rt: HostRuntime) -> Result<(), Fail> {
     Ok(())
 }
 
-// Run with each allocation refused in turn: options are whole, or there are none.
+/// Run with each allocation refused in turn: options are whole, or there are none.
 #[test]
 fn options_or_no_memory(rt: HostRuntime) {
     let answered = match options(rt.alloc(), Side::Include, &[b"trunk", b"tags"]) {

@@ -298,7 +298,7 @@ fn ten_thousand_ranges_in_any_order(rt: HostRuntime) -> Result<(), Fail> {
     Ok(())
 }
 
-// Run with each allocation refused in turn: there is a new value, or no memory.
+/// Run with each allocation refused in turn: there is a new value, or no memory.
 #[test]
 fn new_value_or_no_memory(rt: HostRuntime) -> Result<(), Fail> {
     each_map_has_one_spelling();

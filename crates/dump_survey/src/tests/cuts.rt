@@ -4,12 +4,12 @@ use crate::{NodeFinding, Told, survey_dump};
 use dump_rules::Side;
 use std::test::Fail;
 
-// Whether this finding names this prefix.
+/// Whether this finding names this prefix.
 fn names(told: &Told<'_, '_>, finding: NodeFinding, prefix: &[u8]) -> bool {
     told.finding == finding && told.prefix == Some(prefix)
 }
 
-// Whether two findings are told, of what is lost and of what is let in, with these prefixes.
+/// Whether two findings are told, of what is lost and of what is let in, with these prefixes.
 fn are_cut(told: &[Told<'_, '_>]) -> bool {
     match told {
         [loses, lets_in] => {

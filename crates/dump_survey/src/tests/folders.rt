@@ -5,14 +5,14 @@ use dump_rules::Side;
 use std::alloc::Global;
 use std::test::Fail;
 
-// Whether these prefixes want these folders, with a blank behind each.
+/// Whether these prefixes want these folders, with a blank behind each.
 fn is_made_first(alloc: Global, side: Side, words: &str, wanted: &str) -> Result<bool, Fail> {
     let options = rules(alloc, side, words)?;
     let folders = folders_to_make(alloc, &options)?;
     Ok(are_words(&folders, wanted))
 }
 
-// Each row has the prefixes, with blanks between them, and the folders.
+/// Each row has the prefixes, with blanks between them, and the folders.
 const MADE: [(Side, &str, &str); 7] = [
     (Side::Include, "a/b/c", "a a/b "),
     (Side::Include, "//a/b/ a/c d/e/f", "a d d/e "),

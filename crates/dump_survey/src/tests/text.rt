@@ -13,7 +13,7 @@ record 2, byte 51: the revisions of the dump are not numbered one by one\n\
 in all 1: texts that the load reads otherwise. Mend the dump: no prefix may match what the load makes of them\n\
 in all 1: numbers that do not rise by one. Renumber the dump first, by this survey's filter: include --renumber-revs /\n";
 
-// Whether a sink with this trouble leaves this answer, and these bytes.
+/// Whether a sink with this trouble leaves this answer, and these bytes.
 fn is_text(
     alloc: Global,
     trouble: Trouble,
@@ -50,7 +50,7 @@ prefix t/f: no node has a path at or below it, and none is copied from there or 
 in all 1: copies that may lose a part. Leave the same path out below the copy, or keep it below the source too\n\
 in all 1: prefixes by which nothing is done. Look whether they are spelled as in the dump\n";
 
-// Run with each allocation refused in turn: all is written, or there is no memory.
+/// Run with each allocation refused in turn: all is written, or there is no memory.
 #[test]
 fn a_text_or_no_memory(rt: HostRuntime) {
     let Ok(options) = one_prefix(rt.alloc(), Side::Exclude, b"t/f") else {

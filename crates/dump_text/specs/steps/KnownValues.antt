@@ -1,13 +1,13 @@
 -- The known names as the program has them, and their values among some header lines.
-use Rattle.std.specs.Prelude.{◌≡◌, ◌==◌, ℕ, Bool, not, ◌&&◌, List, [], ◌∷◌, length, filter, Option, slice_index_or, bytes_eq, find}
+use Rattle.std.specs.Prelude.{◌==◌, ℕ, Bool, not, ◌&&◌, List, [], ◌∷◌, length, filter, Option, slice_index_or, bytes_eq, find}
 use Rattle.std.specs.List.{position_or_len}
 use Rattle.dump_text.specs.declared.names.HeaderName.{HeaderName}
 use Rattle.dump_text.specs.declared.names.HeaderName.TheVariants.{FormatVersion, Uuid, RevisionNumber, NodePath, PropContentLength, TextContentLength, ContentLength, NodeCopyfromRev, NodeCopyfromPath, TextCopySourceMd5, TextCopySourceSha1, NodeKind, NodeAction, TextContentMd5, TextContentSha1, TextDelta, PropDelta}
 use Rattle.dump_text.specs.Names.{version_name, uuid_name, revision_name, path_name, node_kind_name, action_name, copy_revision_name, copy_path_name, property_length_name, text_length_name, content_length_name, md5_name, sha1_name, copy_md5_name, copy_sha1_name, text_delta_name, prop_delta_name}
 use Rattle.dump_text.specs.HeaderLine.{Header, has_header, header_value}
 use Rattle.dump_text.specs.steps.Scanning.{is_known}
-use Rattle.dump_text.specs.steps.ValuePlaces.{no_place, value_at}
-use Rattle.dump_text.specs.declared.value_place.ValuePlace.{ValuePlace}
+use Rattle.dump_text.specs.steps.ValuePlaces.{no_span, IsSpanOf}
+use Rattle.dump_text.specs.declared.value_place.ValueSpan.{ValueSpan}
 
 -- the bytes of a name
 abbrev pub name_text : HeaderName → List ℕ
@@ -48,14 +48,14 @@ known_name bytes = find (λ name. bytes_eq bytes (name_text name)) all_names
 abbrev pub name_place : HeaderName → ℕ
 name_place name = position_or_len (λ other. bytes_eq (name_text other) (name_text name)) all_names
 
--- the value in a dump that is noted for a name
-abbrev pub noted_value : List ℕ → List ValuePlace → HeaderName → Option (List ℕ)
-noted_value dump places name = value_at dump (slice_index_or places (name_place name) no_place)
+-- where the value of a name is noted to stand
+abbrev pub noted_span : List ValueSpan → HeaderName → ValueSpan
+noted_span spans name = slice_index_or spans (name_place name) no_span
 
 -- for each name its value among these lines stands there in the dump
-abbrev pub AreValues : List ℕ → List Header → List ValuePlace → Type 0
-AreValues dump headers places =
-    (name : HeaderName) → noted_value dump places name ≡ header_value (name_text name) headers
+abbrev pub AreValues : List ℕ → List Header → List ValueSpan → Type 0
+AreValues dump headers spans =
+    (name : HeaderName) → IsSpanOf dump (noted_span spans name) (header_value (name_text name) headers)
 
 -- whether a line of this name may follow these lines
 abbrev pub may_follow : List Header → List ℕ → Bool

@@ -1,12 +1,6 @@
 -- Each node but the root stands in folders alone: each change keeps that.
-use Rattle.std.proofs.Common.{◌≡◌, ℕ, Bool, true, false, ◌&&◌, List, [], ◌∷◌, ◌++◌, Option, Some, None, option_map, option_and_then, is_some, is_none, cond, bytes_eq, refl, sym, ap, ◌∙◌, append-nil, append_assoc}
-use Rattle.std.specs.Option.{IfSome}
-use Rattle.std.proofs.lemmas.Bool.{both_ways, and_parts}
-use Rattle.std.proofs.lemmas.Slice.Eq.{bytes_eq-Decides}
-use Rattle.dump_trees.specs.Paths.{NodePath, below, parent_of}
-use Rattle.dump_trees.specs.Trees.{Node, Tree, HasFolders, is_folder, at_or_below, grafted, at_top, put, empty_tree}
-use Rattle.dump_trees.specs.Changes.{Made, PropertyChange, TextChange, Change, History, is_folder_at, has_folder, deleted, node_put, copied, made_in, new_props, with_props, new_text, with_text, props_put, props_set, text_set, step}
-use Rattle.dump_trees.specs.StepLaws.{AllHaveFolders}
+use Rattle.dump_trees.proofs.Prelude.{◌≡◌, option_map, cond, bytes_eq, refl, sym, ap, ◌∙◌, append-nil, append_assoc, IfSome, both_ways, and_parts, bytes_eq-Decides, NodePath, below, parent_of, Node, Tree, HasFolders, is_folder, at_or_below, grafted, at_top, put, empty_tree, Made, PropertyChange, TextChange, Change, History, is_folder_at, has_folder, deleted, node_put, copied, made_in, new_props, with_props, new_text, with_text, props_put, props_set, text_set, step, AllHaveFolders}
+use Rattle.std.proofs.Common.{ℕ, Bool, true, false, ◌&&◌, List, [], ◌∷◌, ◌++◌, Option, Some, None, option_and_then, is_some, is_none}
 use Rattle.dump_trees.proofs.changes.TreeLemmas.{below_rest, below_found}
 
 -- paths

@@ -1,16 +1,6 @@
 -- A copy whose source isn't kept, and the plain file that is written of it.
-use Rattle.std.proofs.Common.{◌≡◌, ℕ, Bool, true, false, ◌&&◌, ◌||◌, List, [], ◌∷◌, ◌++◌, length, Option, Some, None, option_map, option_and_then, is_some, is_none, cond, IsTrue, refl, sym, ap, ◌∙◌, subst, subst₂, append-nil}
-use Rattle.std.specs.Option.{IfSome}
-use Rattle.std.specs.List.{AllZip}
-use Rattle.std.proofs.lemmas.Bool.{both_ways, and_parts, and_from, eqb-true}
-use Rattle.std.proofs.lemmas.List.{nil_from_length}
-use Rattle.dump_text.specs.PropertyList.{Property}
-use Rattle.dump_rules.specs.Settings.{Settings}
-use Rattle.dump_trees.specs.Paths.{NodePath, keeps, below, parent_of}
-use Rattle.dump_trees.specs.Trees.{Node, Tree, HasFolders, is_folder, at_or_below, grafted, at_top, put, empty_tree}
-use Rattle.dump_trees.specs.Changes.{PropertyChange, TextChange, has_folder, deleted, node_put, copied, edited_with, with_props, with_text, props_set, text_set}
-use Rattle.dump_trees.specs.Restriction.{NewProperty, KeepsEntries, IsNewNode, AreNewProps, IsRestricted}
-use Rattle.dump_trees.specs.Separation.{has_no_props}
+use Rattle.dump_trees.proofs.Prelude.{◌≡◌, ◌||◌, option_map, cond, IsTrue, refl, sym, ap, ◌∙◌, subst, subst₂, append-nil, IfSome, AllZip, both_ways, and_parts, and_from, eqb-true, nil_from_length, Property, Settings, NodePath, keeps, below, parent_of, Node, Tree, HasFolders, is_folder, at_or_below, grafted, at_top, put, empty_tree, PropertyChange, TextChange, has_folder, deleted, node_put, copied, edited_with, with_props, with_text, props_set, text_set, NewProperty, KeepsEntries, IsNewNode, AreNewProps, IsRestricted, has_no_props}
+use Rattle.std.proofs.Common.{ℕ, Bool, true, false, ◌&&◌, List, [], ◌∷◌, ◌++◌, length, Option, Some, None, option_and_then, is_some, is_none}
 use Rattle.dump_trees.proofs.changes.EditLemmas.{edits_new}
 use Rattle.dump_trees.proofs.paths.KeptPaths.{gives_nothing}
 use Rattle.dump_trees.proofs.changes.TreeLemmas.{below_rest, below_found, below_top, RestrictedAt, nothing_restricted, folder_restricted}

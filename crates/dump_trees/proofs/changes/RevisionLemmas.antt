@@ -1,15 +1,6 @@
 -- The changes of a revision.
-use Rattle.std.proofs.Common.{◌≡◌, Bool, true, false, List, [], ◌∷◌, Option, Some, None, option_and_then, refl, sym, subst, MatchBool}
-use Rattle.std.specs.List.{list_any}
-use Rattle.std.proofs.lemmas.Bool.{MatchBool-at_true, MatchBool-at_false, or_parts}
-use Rattle.dump_rules.specs.Settings.{Settings}
-use Rattle.dump_trees.specs.Paths.{keeps}
-use Rattle.dump_trees.specs.Trees.{Tree, HasFolders}
-use Rattle.dump_trees.specs.Changes.{Change, History, step, steps}
-use Rattle.dump_trees.specs.Restriction.{NewProperty, KeepsEntries, NewNumber, IsRestricted, IsNewChange}
-use Rattle.dump_trees.specs.StepLaws.{AllHaveFolders, AreRestricted, IsMade, IsRenumbered}
-use Rattle.dump_trees.specs.Revisions.{AreNewChanges, AllSeparate}
-use Rattle.dump_trees.specs.HistoryLaws.{EachRevisionRestricts}
+use Rattle.dump_trees.proofs.Prelude.{◌≡◌, refl, sym, subst, MatchBool, list_any, MatchBool-at_true, MatchBool-at_false, or_parts, Settings, keeps, Tree, HasFolders, Change, History, step, steps, NewProperty, KeepsEntries, NewNumber, IsRestricted, IsNewChange, AllHaveFolders, AreRestricted, IsMade, IsRenumbered, AreNewChanges, AllSeparate, EachRevisionRestricts}
+use Rattle.std.proofs.Common.{Bool, true, false, List, [], ◌∷◌, Option, Some, None, option_and_then}
 use Rattle.dump_trees.proofs.changes.StageLemmas.{Follows}
 use Rattle.dump_trees.proofs.changes.StepLemmas.{followed, change_follows, dropped_step}
 use Rattle.dump_trees.proofs.changes.FolderLemmas.{KeepsFolders, step_keeps}

@@ -1,13 +1,6 @@
 -- The stages of a change, each taken by the restricted tree as by the whole one.
-use Rattle.std.proofs.Common.{◌≡◌, ℕ, Bool, true, false, not, ◌&&◌, List, [], ◌∷◌, ◌++◌, Option, Some, None, option_map, option_and_then, is_some, is_none, cond, IsTrue, refl, sym, ap, ◌∙◌, subst}
-use Rattle.std.proofs.lemmas.Bool.{both_ways, and_parts, and_from}
-use Rattle.std.specs.List.{AllZip}
-use Rattle.dump_text.specs.PropertyList.{Property}
-use Rattle.dump_rules.specs.Settings.{Settings}
-use Rattle.dump_trees.specs.Paths.{NodePath, keeps, parent_of}
-use Rattle.dump_trees.specs.Trees.{Node, Tree, grafted, put, empty_tree}
-use Rattle.dump_trees.specs.Changes.{PropertyChange, TextChange, has_folder, deleted, node_put, copied, new_props, with_props, new_text, with_text, props_put, props_set, text_set}
-use Rattle.dump_trees.specs.Restriction.{NewProperty, KeepsEntries, IsNewNode, AreNewProps, IsRestricted}
+use Rattle.dump_trees.proofs.Prelude.{◌≡◌, not, option_map, cond, IsTrue, refl, sym, ap, ◌∙◌, subst, both_ways, and_parts, and_from, AllZip, Property, Settings, NodePath, keeps, parent_of, Node, Tree, grafted, put, empty_tree, PropertyChange, TextChange, has_folder, deleted, node_put, copied, new_props, with_props, new_text, with_text, props_put, props_set, text_set, NewProperty, KeepsEntries, IsNewNode, AreNewProps, IsRestricted}
+use Rattle.std.proofs.Common.{ℕ, Bool, true, false, ◌&&◌, List, [], ◌∷◌, ◌++◌, Option, Some, None, option_and_then, is_some, is_none}
 use Rattle.dump_trees.proofs.changes.EditLemmas.{edits_new}
 use Rattle.dump_trees.proofs.paths.KeptPaths.{gives_nothing}
 use Rattle.dump_trees.proofs.changes.TreeLemmas.{same_presence, RestrictedAt, nothing_restricted, graft_restricts, put_restricts, folder_restricted}

@@ -1,14 +1,6 @@
 -- One change.
-use Rattle.std.proofs.Common.{◌≡◌, ℕ, Bool, true, false, not, ◌&&◌, ◌||◌, List, [], ◌++◌, Option, Some, None, option_and_then, is_some, is_none, IsTrue, IsFalse, refl, sym, ap, ◌∙◌, subst}
-use Rattle.std.specs.Option.{IfSome}
-use Rattle.std.proofs.lemmas.Bool.{and_parts}
-use Rattle.dump_rules.specs.Settings.{Settings}
-use Rattle.dump_trees.specs.Paths.{NodePath, keeps}
-use Rattle.dump_trees.specs.Trees.{Node, Tree, HasFolders}
-use Rattle.dump_trees.specs.Changes.{Made, PropertyChange, TextChange, Change, History, deleted, node_put, copied, made_in, props_set, text_set, step}
-use Rattle.dump_trees.specs.Restriction.{edits_props, sets_whole_text, NewProperty, KeepsEntries, IsNewNode, AreNewProps, NewNumber, IsNewMade, IsRestricted, IsNewChange}
-use Rattle.dump_trees.specs.Separation.{has_no_props, Separates}
-use Rattle.dump_trees.specs.StepLaws.{AllHaveFolders, AreRestricted, IsMade, IsRenumbered, KeptStepRestricts, DroppedStepRestricts, EachStepRestricts}
+use Rattle.dump_trees.proofs.Prelude.{◌≡◌, not, ◌||◌, IsTrue, IsFalse, refl, sym, ap, ◌∙◌, subst, IfSome, and_parts, Settings, NodePath, keeps, Node, Tree, HasFolders, Made, PropertyChange, TextChange, Change, History, deleted, node_put, copied, made_in, props_set, text_set, step, edits_props, sets_whole_text, NewProperty, KeepsEntries, IsNewNode, AreNewProps, NewNumber, IsNewMade, IsRestricted, IsNewChange, has_no_props, Separates, AllHaveFolders, AreRestricted, IsMade, IsRenumbered, KeptStepRestricts, DroppedStepRestricts, EachStepRestricts}
+use Rattle.std.proofs.Common.{ℕ, Bool, true, false, ◌&&◌, List, [], ◌++◌, Option, Some, None, option_and_then, is_some, is_none}
 use Rattle.dump_trees.proofs.changes.StageLemmas.{Follows, follows_then, deleted_follows, node_put_follows, copied_follows, props_follow, text_follows}
 use Rattle.dump_trees.proofs.changes.PlainLemmas.{all_gone, plain_follows}
 

@@ -1,12 +1,6 @@
 -- Trees, what stands at a path and below it, and which of it the restricted tree has.
-use Rattle.std.proofs.Common.{◌≡◌, ℕ, Bool, true, false, List, [], ◌∷◌, ◌++◌, Option, Some, None, option_map, is_some, cond, bytes_eq, IsTrue, IsFalse, refl, sym, ap, ◌∙◌, subst, append-nil}
-use Rattle.std.proofs.lemmas.Bool.{both_ways}
-use Rattle.std.proofs.lemmas.Slice.Eq.{bytes_eq-Decides}
-use Rattle.dump_rules.specs.Settings.{Settings}
-use Rattle.dump_trees.specs.Paths.{NodePath, keeps, below, parent_of}
-use Rattle.dump_trees.specs.Trees.{Node, Tree, is_folder, at_or_below, grafted, at_top, put}
-use Rattle.dump_trees.specs.Changes.{is_folder_at, has_folder}
-use Rattle.dump_trees.specs.Restriction.{given, NewProperty, IsNewNode, IsRestricted}
+use Rattle.dump_trees.proofs.Prelude.{◌≡◌, option_map, cond, bytes_eq, IsTrue, IsFalse, refl, sym, ap, ◌∙◌, subst, append-nil, both_ways, bytes_eq-Decides, Settings, NodePath, keeps, below, parent_of, Node, Tree, is_folder, at_or_below, grafted, at_top, put, is_folder_at, has_folder, given, NewProperty, IsNewNode, IsRestricted}
+use Rattle.std.proofs.Common.{ℕ, Bool, true, false, List, [], ◌∷◌, ◌++◌, Option, Some, None, is_some}
 use Rattle.dump_trees.proofs.paths.KeptPaths.{gives_nothing, gives_above}
 
 -- paths

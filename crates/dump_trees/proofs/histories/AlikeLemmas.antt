@@ -1,17 +1,6 @@
 -- Loading behind other revisions, where the load sets new properties: to the changes it is as a filter that keeps all.
-use Rattle.std.proofs.Common.{◌≡◌, ℕ, ◌+◌, Bool, true, false, List, [], ◌∷◌, ◌++◌, length, Option, Some, None, option_and_then, cond, refl, sym, ap, ◌∙◌, subst, inl, inr, append_assoc}
-use Rattle.std.specs.Prelude.{slice_get, ⊤}
-use Rattle.std.specs.List.{AllZip}
-use Rattle.dump_text.specs.PropertyList.{Property}
-use Rattle.dump_rules.specs.declared.options.Side.TheVariants.{Exclude}
-use Rattle.dump_rules.specs.declared.options.Empty.TheVariants.{Pad}
-use Rattle.dump_rules.specs.Settings.{Settings}
-use Rattle.dump_trees.specs.Trees.{Node, Tree, HasFolders}
-use Rattle.dump_trees.specs.Changes.{Made, Change, History, steps}
-use Rattle.dump_trees.specs.Restriction.{given, is_given, NewProperty, KeepsEntries, NewNumber, IsNewNode, IsRestricted, sets_whole, IsNewMade, IsNewChange}
-use Rattle.dump_trees.specs.StepLaws.{AllHaveFolders, AreRestricted, IsMade}
-use Rattle.dump_trees.specs.Revisions.{loaded, AreNewChanges, AllSeparate}
-use Rattle.dump_trees.specs.MovedLaws.{made_behind, IsChangeBehind, AreRevisionsBehind, AreAlike, AllAreAlike, LoadsAlike, EachLoadsAlike}
+use Rattle.dump_trees.proofs.Prelude.{◌≡◌, ◌+◌, cond, refl, sym, ap, ◌∙◌, subst, inl, inr, append_assoc, slice_get, ⊤, AllZip, Property, Exclude, Pad, Settings, Node, Tree, HasFolders, Made, Change, History, steps, given, is_given, NewProperty, KeepsEntries, NewNumber, IsNewNode, IsRestricted, sets_whole, IsNewMade, IsNewChange, AllHaveFolders, AreRestricted, IsMade, loaded, AreNewChanges, AllSeparate, made_behind, IsChangeBehind, AreRevisionsBehind, AreAlike, AllAreAlike, LoadsAlike, EachLoadsAlike}
+use Rattle.std.proofs.Common.{ℕ, Bool, true, false, List, [], ◌∷◌, ◌++◌, length, Option, Some, None, option_and_then}
 use Rattle.dump_trees.proofs.changes.StepLemmas.{followed}
 use Rattle.dump_trees.proofs.changes.FolderLemmas.{KeepsFolders}
 use Rattle.dump_trees.proofs.changes.RevisionLemmas.{steps_keep, steps_follow}

@@ -1,19 +1,6 @@
 -- The first revisions of a dump: what is written of them, their trees and their images, whatever stands behind them.
-use Rattle.std.proofs.Common.{◌≡◌, ℕ, suc, ◌+◌, ◌≤◌, Bool, true, false, List, [], ◌∷◌, ◌++◌, length, Option, Some, None, option_map, option_and_then, cond, filter, count_by, nat_lt, nat_le, MatchBool, refl, sym, ap, ap₂, ◌∙◌, subst, arith, append-nil, append_assoc}
-use Rattle.std.specs.Prelude.{slice_get, take}
-use Rattle.std.specs.List.{last_or}
-use Rattle.std.proofs.lemmas.Bool.{MatchBool-at_true, MatchBool-at_false, and_parts, le-ltb, lt-leb, leb-true, ltb-true}
-use Rattle.std.proofs.lemmas.List.Sums.{sum_by-cons}
-use Rattle.std.proofs.Math.Seq.{take-append_seam}
-use Rattle.dump_rules.specs.Settings.{Settings}
-use Rattle.dump_rules.specs.Renumbering.{KeptRevisions, new_number, image}
-use Rattle.dump_trees.specs.Trees.{Tree, root_alone}
-use Rattle.dump_trees.specs.Changes.{Change, steps}
-use Rattle.dump_trees.specs.Restriction.{given, NewProperty, KeepsEntries, NewNumber}
-use Rattle.dump_trees.specs.StepLaws.{IsMade}
-use Rattle.dump_trees.specs.Revisions.{loaded, loaded_over, AreNewChanges, EmptyRule, keeps_revision, AreNewRevisions, kept_from, kept_of, IsWrittenNumber}
-use Rattle.dump_trees.specs.HistoryLaws.{ImagesRestrict}
-use Rattle.dump_trees.specs.FrontLaws.{FrontRestricts, EachFrontRestricts, QuietFrontRestricts, EachQuietFrontRestricts, QuietLoadsRestrict, EachQuietLoadsRestrict, BegunTreesStay, BegunImagesStay}
+use Rattle.dump_trees.proofs.Prelude.{◌≡◌, suc, ◌+◌, ◌≤◌, option_map, cond, filter, count_by, nat_lt, nat_le, MatchBool, refl, sym, ap, ap₂, ◌∙◌, subst, arith, append-nil, append_assoc, slice_get, take, last_or, MatchBool-at_true, MatchBool-at_false, and_parts, le-ltb, lt-leb, leb-true, ltb-true, sum_by-cons, take-append_seam, Settings, KeptRevisions, new_number, image, Tree, root_alone, Change, steps, given, NewProperty, KeepsEntries, NewNumber, IsMade, loaded, loaded_over, AreNewChanges, EmptyRule, keeps_revision, AreNewRevisions, kept_from, kept_of, IsWrittenNumber, ImagesRestrict, FrontRestricts, EachFrontRestricts, QuietFrontRestricts, EachQuietFrontRestricts, QuietLoadsRestrict, EachQuietLoadsRestrict, BegunTreesStay, BegunImagesStay}
+use Rattle.std.proofs.Common.{ℕ, Bool, true, false, List, [], ◌∷◌, ◌++◌, length, Option, Some, None, option_and_then}
 use Rattle.dump_trees.proofs.histories.KeptNumbers.{length_push, get_before, AreAbove, kept_above}
 use Rattle.dump_trees.proofs.histories.HistoryLemmas.{front_follows}
 use Rattle.dump_trees.proofs.quiet.QuietLemmas.{all_quiet}

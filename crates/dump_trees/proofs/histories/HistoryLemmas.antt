@@ -1,17 +1,6 @@
 -- A whole history: what holds after each revision, and so at the end.
-use Rattle.std.proofs.Common.{◌≡◌, ℕ, zero, suc, Bool, true, false, ◌&&◌, List, [], ◌∷◌, ◌++◌, length, Option, Some, None, option_and_then, cond, IsTrue, ◌⊎◌, refl, sym, ap, ◌∙◌, subst, inl, inr, not, arith, append-nil, append_assoc}
-use Rattle.std.specs.Prelude.{slice_get}
-use Rattle.std.specs.List.{list_any}
-use Rattle.std.proofs.lemmas.Bool.{MatchBool-at_true, MatchBool-at_false, both_ways, and_parts, or_parts, or_cases, not-true}
-use Rattle.dump_rules.specs.Settings.{Settings}
-use Rattle.dump_rules.specs.Renumbering.{KeptRevisions, image}
-use Rattle.dump_trees.specs.Paths.{NodePath, keeps}
-use Rattle.dump_trees.specs.Trees.{Node, Tree, HasFolders, root_alone}
-use Rattle.dump_trees.specs.Changes.{is_copied, Change, steps}
-use Rattle.dump_trees.specs.Restriction.{is_above_some, given, NewProperty, NewNumber, KeepsEntries, IsNewNode, IsRestricted}
-use Rattle.dump_trees.specs.StepLaws.{AllHaveFolders, AreRestricted, IsMade}
-use Rattle.dump_trees.specs.Revisions.{loaded, loaded_over, AreNewChanges, EmptyRule, keeps_revision, names_kept, names_none, names_none_behind, stays_numbered, AreNewRevisions, kept_from, kept_of, IsWrittenNumber, AllRevisionsSeparate}
-use Rattle.dump_trees.specs.HistoryLaws.{ImagesRestrict, HistoryRestricts, EachHistoryRestricts}
+use Rattle.dump_trees.proofs.Prelude.{◌≡◌, zero, suc, cond, IsTrue, ◌⊎◌, refl, sym, ap, ◌∙◌, subst, inl, inr, not, arith, append-nil, append_assoc, slice_get, list_any, MatchBool-at_true, MatchBool-at_false, both_ways, and_parts, or_parts, or_cases, not-true, Settings, KeptRevisions, image, NodePath, keeps, Node, Tree, HasFolders, root_alone, is_copied, Change, steps, is_above_some, given, NewProperty, NewNumber, KeepsEntries, IsNewNode, IsRestricted, AllHaveFolders, AreRestricted, IsMade, loaded, loaded_over, AreNewChanges, EmptyRule, keeps_revision, names_kept, names_none, names_none_behind, stays_numbered, AreNewRevisions, kept_from, kept_of, IsWrittenNumber, AllRevisionsSeparate, ImagesRestrict, HistoryRestricts, EachHistoryRestricts}
+use Rattle.std.proofs.Common.{ℕ, Bool, true, false, ◌&&◌, List, [], ◌∷◌, ◌++◌, length, Option, Some, None, option_and_then}
 use Rattle.dump_trees.proofs.changes.StageLemmas.{Follows}
 use Rattle.dump_trees.proofs.changes.FolderLemmas.{KeepsFolders}
 use Rattle.dump_trees.proofs.changes.RevisionLemmas.{steps_keep, steps_follow, none_written}

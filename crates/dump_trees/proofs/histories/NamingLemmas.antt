@@ -1,12 +1,6 @@
 -- Changes that name a revision by its number: where no kept one does, the numbers don't matter.
-use Rattle.std.proofs.Common.{◌≡◌, Bool, true, false, not, ◌&&◌, List, [], ◌∷◌, ◌++◌, Option, Some, None, cond, refl, sym, ap, ◌∙◌, MatchBool}
-use Rattle.std.proofs.lemmas.Bool.{and_parts, and_from, or_parts, or_from, not-true, not_from_false}
-use Rattle.std.proofs.lemmas.List.Folds.{list_all-append}
-use Rattle.dump_rules.specs.Settings.{Settings}
-use Rattle.dump_trees.specs.Paths.{keeps}
-use Rattle.dump_trees.specs.Changes.{Made, is_copied, Change}
-use Rattle.dump_trees.specs.Restriction.{NewProperty, NewNumber, IsNewMade, IsNewChange, sets_whole}
-use Rattle.dump_trees.specs.Revisions.{AreNewChanges, EmptyRule, keeps_revision, names_kept, names_none, names_none_behind}
+use Rattle.dump_trees.proofs.Prelude.{◌≡◌, not, cond, refl, sym, ap, ◌∙◌, MatchBool, and_parts, and_from, or_parts, or_from, not-true, not_from_false, list_all-append, Settings, keeps, Made, is_copied, Change, NewProperty, NewNumber, IsNewMade, IsNewChange, sets_whole, AreNewChanges, EmptyRule, keeps_revision, names_kept, names_none, names_none_behind}
+use Rattle.std.proofs.Common.{Bool, true, false, ◌&&◌, List, [], ◌∷◌, ◌++◌, Option, Some, None}
 
 -- changes without a kept copy
 

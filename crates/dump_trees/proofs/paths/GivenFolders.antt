@@ -1,14 +1,6 @@
 -- Given folders stand in given folders alone.
-use Rattle.std.proofs.Common.{◌≡◌, ℕ, Bool, true, false, not, ◌&&◌, List, [], ◌∷◌, ◌++◌, Some, None, cond, nat_eq, refl, sym, ap, ◌∙◌, subst, inl, inr, append_assoc}
-use Rattle.std.specs.List.{list_any, starts_with}
-use Rattle.std.proofs.lemmas.Bool.{and_parts, and_from, or_cases, or_left, or_right}
-use Rattle.dump_rules.specs.declared.options.Side.{Side}
-use Rattle.dump_rules.specs.declared.options.Side.TheVariants.{Include, Exclude}
-use Rattle.dump_rules.specs.Prefix.{bare_prefix}
-use Rattle.dump_rules.specs.Settings.{Settings, side_keeps}
-use Rattle.dump_trees.specs.Paths.{NodePath, path_text}
-use Rattle.dump_trees.specs.Trees.{Node, HasFolders, is_folder}
-use Rattle.dump_trees.specs.Restriction.{is_above, is_above_some, is_given, given}
+use Rattle.dump_trees.proofs.Prelude.{◌≡◌, not, cond, nat_eq, refl, sym, ap, ◌∙◌, subst, inl, inr, append_assoc, list_any, starts_with, and_parts, and_from, or_cases, or_left, or_right, Side, Include, Exclude, bare_prefix, Settings, side_keeps, NodePath, path_text, Node, HasFolders, is_folder, is_above, is_above_some, is_given, given}
+use Rattle.std.proofs.Common.{ℕ, Bool, true, false, ◌&&◌, List, [], ◌∷◌, ◌++◌, Some, None}
 use Rattle.dump_trees.proofs.paths.KeptPaths.{path_text-append, matched, matched_below}
 
 -- a text that starts with a front and more starts with the front

@@ -1,11 +1,6 @@
 -- The text of a prefix, cut into a path above it and a rest.
-use Rattle.std.proofs.Common.{◌≡◌, ℕ, true, false, List, [], ◌∷◌, ◌++◌, drop, length, nat_eq, refl, sym, ap, ap₂, ◌∙◌, subst, inl, inr, append-nil, append_assoc}
-use Rattle.std.specs.List.{list_any, starts_with}
-use Rattle.std.proofs.lemmas.Bool.{and_parts, or_cases, or_left, or_right, eqb-true}
-use Rattle.dump_rules.specs.Prefix.{bare_prefix, bare_path, begins_path, matches_path}
-use Rattle.dump_trees.specs.Paths.{NodePath, path_text}
-use Rattle.dump_trees.specs.Restriction.{is_above}
-use Rattle.dump_trees.specs.Quiet.{rest_of_prefix}
+use Rattle.dump_trees.proofs.Prelude.{◌≡◌, drop, nat_eq, refl, sym, ap, ap₂, ◌∙◌, subst, inl, inr, append-nil, append_assoc, list_any, starts_with, and_parts, or_cases, or_left, or_right, eqb-true, bare_prefix, bare_path, begins_path, matches_path, NodePath, path_text, is_above, rest_of_prefix}
+use Rattle.std.proofs.Common.{ℕ, true, false, List, [], ◌∷◌, ◌++◌, length}
 use Rattle.dump_trees.proofs.paths.KeptPaths.{reaches, reaches_more, grows, path_text-append}
 
 -- nothing, or a slash and more

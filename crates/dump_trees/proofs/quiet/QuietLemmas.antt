@@ -1,20 +1,6 @@
 -- Quiet changes are separated.
-use Rattle.std.proofs.Common.{◌≡◌, ℕ, Bool, true, false, not, ◌&&◌, ◌||◌, List, [], ◌∷◌, ◌++◌, Option, Some, None, is_some, IsTrue, IsFalse, refl, sym, ap, ap₂, ◌∙◌, subst, inl, inr, append-nil}
-use Rattle.std.specs.Prelude.{slice_get}
-use Rattle.std.specs.List.{list_any, list_all}
-use Rattle.std.proofs.lemmas.Bool.{both_ways, not-true, not-false, and_parts, and_cases, or_parts, or_cases, cond-true, cond-false}
-use Rattle.dump_rules.specs.declared.options.Side.{Side}
-use Rattle.dump_rules.specs.declared.options.Side.TheVariants.{Include, Exclude}
-use Rattle.dump_rules.specs.Prefix.{bare_prefix, bare_path, begins_path, matches_path}
-use Rattle.dump_rules.specs.Settings.{Settings, side_keeps, keeps_path}
-use Rattle.dump_trees.specs.Paths.{NodePath, path_text, keeps, below}
-use Rattle.dump_trees.specs.Trees.{Tree, root_alone}
-use Rattle.dump_trees.specs.Changes.{Made, is_copied, Change, History, step, steps}
-use Rattle.dump_trees.specs.Restriction.{is_above, is_above_some, is_lost, NewProperty, KeepsEntries}
-use Rattle.dump_trees.specs.StepLaws.{IsMade}
-use Rattle.dump_trees.specs.Separation.{has_no_props, CopySeparates, PlainSeparates, LeavesKept, Separates}
-use Rattle.dump_trees.specs.Revisions.{AllSeparate}
-use Rattle.dump_trees.specs.Quiet.{rest_of_prefix, cuts_one, cuts_alike, is_quiet_kept, is_quiet_dropped, is_quiet, is_over, holds_of_some, none_is_over, nowhere_is_over, QuietSeparates, AllQuietSeparate, QuietHistoryRestricts, EachQuietHistoryRestricts}
+use Rattle.dump_trees.proofs.Prelude.{◌≡◌, not, ◌||◌, IsTrue, IsFalse, refl, sym, ap, ap₂, ◌∙◌, subst, inl, inr, append-nil, slice_get, list_any, list_all, both_ways, not-true, not-false, and_parts, and_cases, or_parts, or_cases, cond-true, cond-false, Side, Include, Exclude, bare_prefix, bare_path, begins_path, matches_path, Settings, side_keeps, keeps_path, NodePath, path_text, keeps, below, Tree, root_alone, Made, is_copied, Change, History, step, steps, is_above, is_above_some, is_lost, NewProperty, KeepsEntries, IsMade, has_no_props, CopySeparates, PlainSeparates, LeavesKept, Separates, AllSeparate, rest_of_prefix, cuts_one, cuts_alike, is_quiet_kept, is_quiet_dropped, is_quiet, is_over, holds_of_some, none_is_over, nowhere_is_over, QuietSeparates, AllQuietSeparate, QuietHistoryRestricts, EachQuietHistoryRestricts}
+use Rattle.std.proofs.Common.{ℕ, Bool, true, false, ◌&&◌, List, [], ◌∷◌, ◌++◌, Option, Some, None, is_some}
 use Rattle.dump_trees.proofs.paths.KeptPaths.{path_text-append, begins_above, matched, matched_below, above_some}
 use Rattle.dump_trees.proofs.changes.TreeLemmas.{below_rest}
 use Rattle.dump_trees.proofs.paths.PrefixRests.{above_rest, rest_is, both_rests, any_longer}

@@ -1,8 +1,6 @@
 -- Worked values of property deltas and text deltas, as svnadmin load takes them.
-use Rattle.std.proofs.Common.{◌≡◌, ℕ, true, List, [], ◌∷◌, ◌++◌, Option, Some, None, codes, refl}
-use Rattle.dump_text.specs.PropertyList.{Property}
-use Rattle.dump_trees.specs.Trees.{Node}
-use Rattle.dump_trees.specs.Changes.{Change}
+use Rattle.dump_trees.proofs.Prelude.{◌≡◌, codes, refl, Property, Node, Change}
+use Rattle.std.proofs.Common.{ℕ, true, List, [], ◌∷◌, ◌++◌, Option, Some, None}
 use Rattle.dump_trees.proofs.values.ValueParts.{change, folder, file, copy, deletion, replacing, setting, editing, writing, patching, property, removal, stands, is_refused}
 
 abbrev p : Property

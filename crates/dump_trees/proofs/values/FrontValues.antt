@@ -1,17 +1,8 @@
 -- Worked values of numbers and of first revisions: a dump with an alarm in its third revision, and one that is refused
 -- there; the law holds of the revisions before it.
-use Rattle.std.proofs.Common.{◌≡◌, ℕ, true, false, List, [], ◌∷◌, ◌++◌, Some, None, is_none, codes, refl}
-use Rattle.std.specs.Prelude.{◌&&◌, is_some, take}
-use Rattle.dump_rules.specs.Settings.{Settings}
-use Rattle.dump_rules.specs.Renumbering.{KeptRevisions, image}
-use Rattle.dump_trees.specs.Paths.{path_of, keeps}
-use Rattle.dump_trees.specs.Trees.{Node, Tree, root_alone}
-use Rattle.dump_trees.specs.Changes.{Change}
-use Rattle.dump_trees.specs.Restriction.{given, IsNewChange}
-use Rattle.dump_trees.specs.Revisions.{loaded_over, EmptyRule, stays_numbered, AreNewRevisions, kept_of, IsWrittenNumber}
-use Rattle.dump_trees.specs.Quiet.{are_quiet}
-use Rattle.dump_trees.specs.HistoryLaws.{ImagesRestrict}
-use Rattle.dump_trees.specs.FrontLaws.{FrontLoads}
+use Rattle.dump_trees.proofs.Prelude.{◌≡◌, codes, refl, take, Settings, KeptRevisions, image, path_of, keeps, Node, Tree, root_alone, Change, given, IsNewChange, loaded_over, EmptyRule, stays_numbered, AreNewRevisions, kept_of, IsWrittenNumber, are_quiet, ImagesRestrict, FrontLoads}
+use Rattle.std.proofs.Common.{ℕ, true, false, List, [], ◌∷◌, ◌++◌, Some, None, is_none}
+use Rattle.std.specs.Prelude.{◌&&◌, is_some}
 use Rattle.dump_trees.proofs.histories.FrontLemmas.{quiet_front, quiet_loads}
 use Rattle.dump_trees.proofs.values.ValueParts.{including, excluding, none_more, as_it_was, entries_stay, change, folder, file, copy, writing, same_folder, same_file, same_copy, node_at}
 

@@ -1,13 +1,6 @@
 -- Worked values of a load behind other revisions.
-use Rattle.std.proofs.Common.{◌≡◌, ℕ, ◌==◌, Bool, true, false, not, List, [], ◌∷◌, ◌++◌, length, Option, Some, None, option_map, is_some, is_none, unwrap_or, bytes_eq, codes, refl, ap, ◌∙◌}
-use Rattle.dump_text.specs.PropertyList.{Property}
-use Rattle.dump_trees.specs.Paths.{path_of, path_text}
-use Rattle.dump_trees.specs.Trees.{Node, Tree, put, root_alone}
-use Rattle.dump_trees.specs.Changes.{Made, Change}
-use Rattle.dump_trees.specs.Restriction.{given, KeepsEntries}
-use Rattle.dump_trees.specs.StepLaws.{IsMade}
-use Rattle.dump_trees.specs.Revisions.{loaded, loaded_over}
-use Rattle.dump_trees.specs.MovedLaws.{change_behind, revisions_behind, IsChangeBehind, AreRevisionsBehind, AreAlike, AllAreAlike}
+use Rattle.dump_trees.proofs.Prelude.{◌≡◌, ◌==◌, not, option_map, unwrap_or, bytes_eq, codes, refl, ap, ◌∙◌, Property, path_of, path_text, Node, Tree, put, root_alone, Made, Change, given, KeepsEntries, IsMade, loaded, loaded_over, change_behind, revisions_behind, IsChangeBehind, AreRevisionsBehind, AreAlike, AllAreAlike}
+use Rattle.std.proofs.Common.{ℕ, Bool, true, false, List, [], ◌∷◌, ◌++◌, length, Option, Some, None, is_some, is_none}
 use Rattle.dump_trees.proofs.paths.GivenFolders.{given_folders}
 use Rattle.dump_trees.proofs.histories.AlikeLemmas.{loads_alike, given_alike}
 use Rattle.dump_trees.proofs.values.ValueParts.{including, as_it_was, change, folder, file, copy, deletion, setting, property, node_at}

@@ -1,17 +1,7 @@
 -- Worked values of the premises of the law of quiet histories: of each a dump in which it alone fails, and the law with
 -- it.
-use Rattle.std.proofs.Common.{◌≡◌, ℕ, Bool, true, false, List, [], ◌∷◌, length, Option, Some, None, option_and_then, is_some, codes, refl, sym, ap, subst, ◌∙◌}
-use Rattle.std.specs.Prelude.{slice_get}
-use Rattle.dump_text.specs.PropertyList.{Property}
-use Rattle.dump_rules.specs.Settings.{Settings}
-use Rattle.dump_rules.specs.Renumbering.{image}
-use Rattle.dump_trees.specs.Paths.{path_of}
-use Rattle.dump_trees.specs.Trees.{Node, Tree, root_alone}
-use Rattle.dump_trees.specs.Changes.{Change}
-use Rattle.dump_trees.specs.Restriction.{given, IsRestricted}
-use Rattle.dump_trees.specs.Revisions.{loaded_over, stays_numbered, kept_of, AreFiltered}
-use Rattle.dump_trees.specs.HistoryLaws.{ImagesRestrict}
-use Rattle.dump_trees.specs.Quiet.{are_quiet, nowhere_is_over}
+use Rattle.dump_trees.proofs.Prelude.{◌≡◌, codes, refl, sym, ap, subst, ◌∙◌, slice_get, Property, Settings, image, path_of, Node, Tree, root_alone, Change, given, IsRestricted, loaded_over, stays_numbered, kept_of, AreFiltered, ImagesRestrict, are_quiet, nowhere_is_over}
+use Rattle.std.proofs.Common.{ℕ, Bool, true, false, List, [], ◌∷◌, length, Option, Some, None, option_and_then, is_some}
 use Rattle.dump_trees.proofs.quiet.QuietLemmas.{quiet_history}
 use Rattle.dump_trees.proofs.values.ValueParts.{including, excluding, none_more, as_it_was, entries_stay, folder, file, copy, deletion, setting, writing, property, same_folder, same_file, same_copy}
 

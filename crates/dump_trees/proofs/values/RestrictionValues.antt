@@ -1,14 +1,7 @@
 -- Worked values of what the filter leaves: each tells a definition of a restricted tree, or of what the filter writes,
 -- from a weaker or a stronger one.
-use Rattle.std.proofs.Common.{◌≡◌, ℕ, true, false, List, [], ◌∷◌, Some, None, is_some, bytes_eq, codes, refl, ap}
-use Rattle.dump_text.specs.PropertyList.{Property}
-use Rattle.dump_rules.specs.declared.options.Side.TheVariants.{Exclude}
-use Rattle.dump_rules.specs.Settings.{Settings}
-use Rattle.dump_trees.specs.Paths.{path_of, path_text, is_short}
-use Rattle.dump_trees.specs.Trees.{Node, Tree, put, root_alone}
-use Rattle.dump_trees.specs.Changes.{Made, TextChange, Change}
-use Rattle.dump_trees.specs.Restriction.{given, IsNewNode, IsRestricted, IsNewChange}
-use Rattle.dump_trees.specs.Revisions.{AreNewChanges, AreNewRevisions}
+use Rattle.dump_trees.proofs.Prelude.{◌≡◌, bytes_eq, codes, refl, ap, Property, Exclude, Settings, path_of, path_text, is_short, Node, Tree, put, root_alone, Made, TextChange, Change, given, IsNewNode, IsRestricted, IsNewChange, AreNewChanges, AreNewRevisions}
+use Rattle.std.proofs.Common.{ℕ, true, false, List, [], ◌∷◌, Some, None, is_some}
 use Rattle.dump_trees.proofs.values.ValueParts.{including_all, including, excluding, none_more, as_it_was, change, folder, file, copy, deletion, setting, editing, writing, patching, property}
 
 -- two texts differ, and so do two lists of properties

@@ -1,18 +1,6 @@
 -- Worked values of separation: what is lost, or let in, or brought along, is not separated, and what is harmless is.
-use Rattle.std.proofs.Common.{◌≡◌, ℕ, true, false, List, [], ◌∷◌, length, Option, Some, None, option_and_then, is_some, is_none, codes, refl, sym, ap, subst, ◌∙◌}
-use Rattle.std.specs.Prelude.{slice_get}
-use Rattle.std.proofs.lemmas.Bool.{both_ways}
-use Rattle.dump_text.specs.PropertyList.{Property}
-use Rattle.dump_rules.specs.Settings.{Settings}
-use Rattle.dump_rules.specs.Renumbering.{image}
-use Rattle.dump_trees.specs.Paths.{NodePath, path_of, keeps}
-use Rattle.dump_trees.specs.Trees.{Node, Tree, put, root_alone}
-use Rattle.dump_trees.specs.Changes.{Made, Change, History, steps}
-use Rattle.dump_trees.specs.Restriction.{given, is_lost}
-use Rattle.dump_trees.specs.Separation.{has_no_props, CopySeparates, PlainSeparates, LeavesKept, Separates}
-use Rattle.dump_trees.specs.Revisions.{loaded_over, kept_of, AreFiltered, AllRevisionsSeparate}
-use Rattle.dump_trees.specs.HistoryLaws.{ImagesRestrict}
-use Rattle.dump_trees.specs.Quiet.{is_quiet, is_over, nowhere_is_over}
+use Rattle.dump_trees.proofs.Prelude.{◌≡◌, codes, refl, sym, ap, subst, ◌∙◌, slice_get, both_ways, Property, Settings, image, NodePath, path_of, keeps, Node, Tree, put, root_alone, Made, Change, History, steps, given, is_lost, has_no_props, CopySeparates, PlainSeparates, LeavesKept, Separates, loaded_over, kept_of, AreFiltered, AllRevisionsSeparate, ImagesRestrict, is_quiet, is_over, nowhere_is_over}
+use Rattle.std.proofs.Common.{ℕ, true, false, List, [], ◌∷◌, length, Option, Some, None, option_and_then, is_some, is_none}
 use Rattle.dump_trees.proofs.histories.HistoryLemmas.{history}
 use Rattle.dump_trees.proofs.quiet.QuietLemmas.{quiet_changes}
 use Rattle.dump_trees.proofs.values.ValueParts.{including, excluding, none_more, as_it_was, entries_stay, folder, file, copy, replacing, setting, writing, property, same_folder, same_file}

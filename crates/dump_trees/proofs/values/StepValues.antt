@@ -1,9 +1,6 @@
 -- Worked values of loading: each tells a definition of a change from one that svnadmin load doesn't have.
-use Rattle.std.proofs.Common.{◌≡◌, true, List, [], ◌∷◌, ◌++◌, length, Some, None, option_map, codes, refl}
-use Rattle.dump_text.specs.PropertyList.{Property}
-use Rattle.dump_trees.specs.Trees.{Node, root_alone}
-use Rattle.dump_trees.specs.Changes.{Made, Change}
-use Rattle.dump_trees.specs.Revisions.{loaded_over}
+use Rattle.dump_trees.proofs.Prelude.{◌≡◌, option_map, codes, refl, Property, Node, root_alone, Made, Change, loaded_over}
+use Rattle.std.proofs.Common.{true, List, [], ◌∷◌, ◌++◌, length, Some, None}
 use Rattle.dump_trees.proofs.values.ValueParts.{change, folder, file, copy, deletion, replacing, setting, writing, property, node_at, stands, is_refused}
 
 -- two folders with a file in each

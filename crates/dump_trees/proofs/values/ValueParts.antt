@@ -1,16 +1,6 @@
 -- Parts of the worked values: options, changes, and what stands in a loaded dump.
-use Rattle.std.proofs.Common.{◌≡◌, refl, ap}
-use Rattle.std.specs.Prelude.{ℕ, Bool, true, false, ◌&&◌, List, [], ◌∷◌, ◌++◌, length, Option, Some, None, option_and_then, is_some, is_none, slice_get}
-use Rattle.dump_text.specs.PropertyList.{Property}
-use Rattle.dump_rules.specs.declared.options.Side.TheVariants.{Include, Exclude}
-use Rattle.dump_rules.specs.declared.options.Empty.TheVariants.{DropEmptied}
-use Rattle.dump_rules.specs.Settings.{Settings}
-use Rattle.dump_trees.specs.Paths.{path_of, keeps}
-use Rattle.dump_trees.specs.Trees.{Node, Tree, root_alone}
-use Rattle.dump_trees.specs.Changes.{Made, PropertyChange, TextChange, Change}
-use Rattle.dump_trees.specs.Restriction.{NewProperty, KeepsEntries, IsNewChange}
-use Rattle.dump_trees.specs.StepLaws.{IsMade}
-use Rattle.dump_trees.specs.Revisions.{loaded_over, EmptyRule}
+use Rattle.dump_trees.proofs.Prelude.{◌≡◌, refl, ap, slice_get, Property, Include, Exclude, DropEmptied, Settings, path_of, keeps, Node, Tree, root_alone, Made, PropertyChange, TextChange, Change, NewProperty, KeepsEntries, IsNewChange, IsMade, loaded_over, EmptyRule}
+use Rattle.std.specs.Prelude.{ℕ, Bool, true, false, ◌&&◌, List, [], ◌∷◌, ◌++◌, length, Option, Some, None, option_and_then, is_some, is_none}
 
 -- options
 

@@ -1,13 +1,6 @@
 -- Worked values of the definitions, computed and proved by the kernel.
-use Rattle.std.proofs.Common.{◌≡◌, true, false, List, [], ◌∷◌, Some, None, length, codes, refl}
-use Rattle.dump_rules.specs.Renumbering.{image}
-use Rattle.dump_trees.specs.Paths.{path_text, path_of, keeps, below, parent_of}
-use Rattle.dump_trees.specs.Trees.{Node, Tree, root_alone}
-use Rattle.dump_trees.specs.Changes.{Change}
-use Rattle.dump_trees.specs.Restriction.{given}
-use Rattle.dump_trees.specs.Revisions.{loaded_over, kept_of, AreFiltered}
-use Rattle.dump_trees.specs.HistoryLaws.{ImagesRestrict}
-use Rattle.dump_trees.specs.Quiet.{is_quiet, are_quiet}
+use Rattle.dump_trees.proofs.Prelude.{◌≡◌, codes, refl, image, path_text, path_of, keeps, below, parent_of, Node, Tree, root_alone, Change, given, loaded_over, kept_of, AreFiltered, ImagesRestrict, is_quiet, are_quiet}
+use Rattle.std.proofs.Common.{true, false, List, [], ◌∷◌, Some, None, length}
 use Rattle.dump_trees.proofs.quiet.QuietLemmas.{quiet_history}
 use Rattle.dump_trees.proofs.values.ValueParts.{including, excluding, none_more, as_it_was, entries_stay, folder, file, copy, deletion, same_folder, same_file, same_copy, node_at}
 

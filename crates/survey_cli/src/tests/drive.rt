@@ -5,7 +5,7 @@ use std::alloc::Global;
 use std::io::{self, ErrorKind, Read, Write};
 use std::process::Abort;
 
-// Revision 1 copies `trunk` to `tags/one`.
+/// Revision 1 copies `trunk` to `tags/one`.
 const COPIED: &[u8] = b"SVN-fs-dump-format-version: 2\n\n\
 Revision-number: 0\n\n\
 Revision-number: 1\n\n\
@@ -25,7 +25,7 @@ in all 1: fault 12, copies of what is not kept. Include the source too, or leave
 in all 1: properties that may be lost with their source. Include the source too\n\
 leave out as well: /tags/one\n";
 
-// Fails at once, in reading and in writing.
+/// Fails at once, in reading and in writing.
 #[derive(Drop)]
 struct Broken;
 
@@ -45,7 +45,7 @@ impl Write for Broken {
     }
 }
 
-// Whether a survey under these words has this status, and leaves these lines and this on the streams.
+/// Whether a survey under these words has this status, and leaves these lines and this on the streams.
 fn is_survey<'a>(alloc: Global, words: &'a [&'a str], wanted: (u8, &[u8], &[u8])) -> bool {
     let mut reader = COPIED;
     let mut output = Vec::new(alloc);

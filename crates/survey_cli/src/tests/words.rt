@@ -16,7 +16,7 @@ struct Wanted {
     map: bool,
 }
 
-// `include` with no flag.
+/// `include` with no flag.
 const PLAIN: Wanted = Wanted {
     side: Side::Include,
     empty: Empty::Pad,
@@ -47,7 +47,7 @@ fn has_prefixes(options: &Options, prefixes: &[&str]) -> bool {
     options.prefix(prefixes.len()).is_none()
 }
 
-// Whether words give these options. The words and the prefixes stand in one text each, with spaces between them.
+/// Whether words give these options. The words and the prefixes stand in one text each, with spaces between them.
 fn is_read(alloc: Global, line: &str, prefixes: &str, wanted: Wanted) -> Result<bool, Fail> {
     let words: Vec<&str> = line.split(' ').collect(alloc)?;
     let prefixes: Vec<&str> = prefixes.split(' ').collect(alloc)?;
@@ -64,7 +64,7 @@ const FLAGS: Wanted = Wanted {
     map: true,
 };
 
-// Words, and the prefixes and the rest of what they ask for.
+/// Words, and the prefixes and the rest of what they ask for.
 const READ: [(&str, &str, Wanted); 9] = [
     ("p include a", "a", PLAIN),
     (
@@ -138,7 +138,7 @@ fn is_refused<'a>(alloc: Global, words: &'a [&'a str], usage: Usage) -> bool {
     }
 }
 
-// The same of words with spaces between them.
+/// The same of words with spaces between them.
 fn is_line_refused(alloc: Global, line: &str, usage: Usage) -> Result<bool, Fail> {
     let words: Vec<&str> = line.split(' ').collect(alloc)?;
     Ok(is_refused(alloc, words.as_slice(), usage))
@@ -194,7 +194,7 @@ fn is_two_prefixes_renumbered(options: &Options) -> bool {
         && options.renumber()
 }
 
-// Run with each allocation refused in turn: there are options, or no memory.
+/// Run with each allocation refused in turn: there are options, or no memory.
 #[test]
 fn options_or_no_memory(rt: HostRuntime) {
     let words = ["svndumpsurvey", "exclude", "--renumber-revs", "a", "b"];

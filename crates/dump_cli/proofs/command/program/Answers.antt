@@ -1,5 +1,4 @@
-use Rattle.std.proofs.Common.{ap, ◌∙◌, true}
-use Rattle.std.proofs.lemmas.Result.{IfOk-weaker}
+use Rattle.dump_cli.proofs.Prelude.{ap, ◌∙◌, true, IfOk-weaker}
 use Rattle.clap.specs.Simple.{app_of_fields, on_top}
 use Rattle.dump_cli.proofs.CommandLemmas.{one_more}
 use Rattle.dump_cli.proofs.command.program.Goals as goal

@@ -1,7 +1,4 @@
-use Rattle.std.proofs.Common.{◌≡◌, List, [], ℕ, rules, subst}
-use Rattle.std.specs.Io.KnownBytes.{append_known}
-use Rattle.dump_writer.specs.steps.SinkStates.{lent_taken}
-use Rattle.dump_pipeline.specs.RunAnswer.{RunLeaves}
+use Rattle.dump_cli.proofs.Prelude.{◌≡◌, List, [], ℕ, rules, subst, append_known, lent_taken, RunLeaves}
 use Rattle.dump_cli.proofs.DriveLemmas.{ran_and_told}
 use Rattle.dump_cli.proofs.drive.run_and_flush.Goals as goal
 

@@ -1,13 +1,8 @@
-use Rattle.std.proofs.Common.{◌≡◌, ◌∙◌, ap, drop, map, subst, sym, true, List, [], Some, Err}
-use Rattle.std.specs.Borrow.{Bor}
-use Rattle.std.specs.Option.{option_map}
+use Rattle.dump_cli.proofs.Prelude.{◌≡◌, ◌∙◌, ap, drop, map, subst, sym, true, List, [], Some, Err, Bor, option_map, program, AnswersTo, meaning_of_line, side_name, second_true}
 use Rattle.clap.specs.Kinds.{HasKind}
 use Rattle.clap.specs.Walk.{is_empty}
 use Rattle.clap.specs.Words.{takes, Text, fault_of, found_of, is_simple, is_simple_and_free, matches_of, rows_of}
-use Rattle.dump_cli.specs.CommandLine.{program}
-use Rattle.dump_cli.specs.Words.{AnswersTo, meaning_of_line, side_name}
 use Rattle.dump_cli.proofs.ProgramLemmas.{filled, free, simple}
-use Rattle.dump_text.proofs.BoolLemmas.{second_true}
 use Rattle.dump_cli.proofs.WordLemmas.{refusal_answers, refusal_unlawful, never_words, taken_answers}
 use Rattle.dump_cli.proofs.words.options_of.Goals as goal
 

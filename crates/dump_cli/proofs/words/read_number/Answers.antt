@@ -1,5 +1,4 @@
-use Rattle.std.proofs.Common.{◌≡◌, ◌∙◌, ◌≤◌, subst}
-use Rattle.std.specs.Str.Parse.{ParsesUnsigned, ExplainsUnsignedError, HasUnsignedDigitsIfOk}
+use Rattle.dump_cli.proofs.Prelude.{◌≡◌, ◌∙◌, ◌≤◌, subst, ParsesUnsigned, ExplainsUnsignedError, HasUnsignedDigitsIfOk}
 use Rattle.clap.specs.Words.{found_of}
 use Rattle.dump_cli.proofs.WordLemmas.{number_is}
 use Rattle.dump_cli.proofs.words.read_number.Goals as goal

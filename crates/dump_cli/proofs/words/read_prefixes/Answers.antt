@@ -1,7 +1,4 @@
-use Rattle.std.proofs.Common.{◌≡◌, ◌∙◌, List, [], Some, None, ap, codes, map, sym}
-use Rattle.std.specs.Option.{option_map, unwrap_or}
-use Rattle.std.specs.Borrow.{Bor}
-use Rattle.std.proofs.lemmas.Result.{IfOk-weaker}
+use Rattle.dump_cli.proofs.Prelude.{◌≡◌, ◌∙◌, List, [], Some, None, ap, codes, map, sym, option_map, unwrap_or, Bor, IfOk-weaker}
 use Rattle.clap.specs.Words.{Text, all_of, found_of, rows_of}
 use Rattle.clap.proofs.WalkLemmas.{raw_values-rows}
 use Rattle.dump_cli.proofs.words.read_prefixes.Goals as goal

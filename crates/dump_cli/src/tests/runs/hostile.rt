@@ -34,7 +34,7 @@ pub fn run_by<R: Threads + Wait + Sync, S: Sink>(
     }
 }
 
-// Whether a run into a sink with this room leaves a first part.
+/// Whether a run into a sink with this room leaves a first part.
 fn breaks_off<R: Threads + Wait + Sync>(
     rt: &R,
     alloc: Global,
@@ -52,8 +52,8 @@ fn breaks_off<R: Threads + Wait + Sync>(
     Ok(answer == wanted && Some(sink.taken()) == DUMP.get(..room))
 }
 
-// The sink takes at most so many bytes a call, and breaks off at each byte in turn. Whether each run leaves a first
-// part.
+/// The sink takes at most so many bytes a call, and breaks off at each byte in turn. Whether each run leaves a first
+/// part.
 fn breaks_at_each_byte<R: Threads + Wait + Sync>(
     rt: &R,
     alloc: Global,
@@ -118,7 +118,7 @@ impl Sink for WornOut {
     }
 }
 
-// Whether a run into such a sink fails and writes nothing.
+/// Whether a run into such a sink fails and writes nothing.
 fn is_worn_out<R: Threads + Wait + Sync>(
     rt: &R,
     alloc: Global,
@@ -140,7 +140,7 @@ fn a_worn_out_sink_fails_too(rt: HostRuntime) -> Result<(), Fail> {
     Ok(())
 }
 
-// A cut header stands behind two wrong digests, and the later of these is found first.
+/// A cut header stands behind two wrong digests, and the later of these is found first.
 #[test]
 fn a_cut_header_behind_a_wrong_digest_is_not_told(rt: HostRuntime) -> Result<(), Fail> {
     assert!(rt; is_first_of_two(&rt, rt.alloc(), WRONG_IN_2_AND_5)?);

@@ -52,7 +52,7 @@ pub fn is_run<R: Threads + Wait + Sync, G: Gate>(
     answer == wanted.0 && sink.taken() == wanted.1
 }
 
-// Whether the dump is cut down to what is under `trunk`.
+/// Whether the dump is cut down to what is under `trunk`.
 fn is_cut_down<R: Threads + Wait + Sync, G: Gate>(
     rt: &R,
     alloc: Global,
@@ -64,7 +64,7 @@ fn is_cut_down<R: Threads + Wait + Sync, G: Gate>(
     Ok(is_run(rt, alloc, DUMP, &options, plan, gate, wanted))
 }
 
-// Record 0 waits for record 1: one thread alone would wait for ever.
+/// Record 0 waits for record 1: one thread alone would wait for ever.
 #[test]
 fn records_are_checked_at_the_same_time(rt: HostRuntime) -> Result<(), Fail> {
     let gate = Holding::new(0, 0b10, 0);
@@ -73,7 +73,7 @@ fn records_are_checked_at_the_same_time(rt: HostRuntime) -> Result<(), Fail> {
     Ok(())
 }
 
-// Whether the dump is cut down into a sink that tells how many bytes it took.
+/// Whether the dump is cut down into a sink that tells how many bytes it took.
 fn is_told<R: Threads + Wait + Sync, G: Gate>(
     rt: &R,
     alloc: Global,
@@ -89,7 +89,7 @@ fn is_told<R: Threads + Wait + Sync, G: Gate>(
     Ok(run(rt, alloc, DUMP, &options, plan, gate, &mut sink) == report(2, 1))
 }
 
-// The last record waits until the first piece was written.
+/// The last record waits until the first piece was written.
 #[test]
 fn pieces_are_written_while_records_are_checked(rt: HostRuntime) -> Result<(), Fail> {
     let count = AtomicU64::new(0);
@@ -108,7 +108,7 @@ fn pieces_are_written_while_records_are_checked(rt: HostRuntime) -> Result<(), F
 const FOLDER: &[u8] =
     b"Node-path: a\nNode-kind: dir\nNode-action: add\nProp-content-length: 10\nContent-length: 10\n\nPROPS-END\n\n\n";
 
-// A file whose digest is wrong, in record 2.
+/// A file whose digest is wrong, in record 2.
 const WRONG_IN_2: &[u8] = b"SVN-fs-dump-format-version: 2\n\n\
 Revision-number: 0\nProp-content-length: 56\nContent-length: 56\n\n\
 K 8\nsvn:date\nV 27\n2024-01-02T03:04:05.000000Z\nPROPS-END\n\n\
@@ -128,7 +128,7 @@ Node-path: a/y\nNode-kind: file\nNode-action: add\nText-content-length: 3\n\
 Text-content-md5: 900150983cd24fb0d6963f7d28e17f73\nContent-length: 3\n\nabc\n\n\
 junk";
 
-// The wrong digest in record 2 is the answer.
+/// The wrong digest in record 2 is the answer.
 const SHA1_IN_RECORD_2: Answer = Answer::Fault {
     kind: FaultKind::Sha1,
     number: 2,
@@ -198,7 +198,7 @@ pub const HALF: Answer = Answer::Clean(Report {
     texts_checked: 0,
 });
 
-// Whether a run over it, through a gate, keeps half of it.
+/// Whether a run over it, through a gate, keeps half of it.
 fn is_halved<R: Threads + Wait + Sync, G: Gate>(
     rt: &R,
     alloc: Global,
@@ -212,7 +212,7 @@ fn is_halved<R: Threads + Wait + Sync, G: Gate>(
     Ok(answer == HALF && sink.taken().len() == 11_359)
 }
 
-// Whether each of its 200 records passes the gate once.
+/// Whether each of its 200 records passes the gate once.
 fn passes_once<R: Threads + Wait + Sync>(rt: &R, alloc: Global, plan: Plan) -> Result<bool, Fail> {
     let gate = Counting::new();
     let halved = is_halved(rt, alloc, plan, &gate)?;
@@ -229,7 +229,7 @@ fn each_record_passes_the_gate_once(rt: HostRuntime) -> Result<(), Fail> {
     Ok(())
 }
 
-// A worker that holds record 0 holds no other record.
+/// A worker that holds record 0 holds no other record.
 #[test]
 fn any_worker_takes_any_record(rt: HostRuntime) -> Result<(), Fail> {
     let gate = Holding::new(0, 0b11_1111_1110, 0);
@@ -238,7 +238,7 @@ fn any_worker_takes_any_record(rt: HostRuntime) -> Result<(), Fail> {
     Ok(())
 }
 
-// While record 0 is held, only the window's records are under way.
+/// While record 0 is held, only the window's records are under way.
 #[test]
 fn no_more_are_under_way_than_the_window_has(rt: HostRuntime) -> Result<(), Fail> {
     let gate = Holding::new(0, 0b1110, 100_000);
@@ -256,7 +256,7 @@ pub fn early_fault(alloc: Global) -> Result<Vec<u8>, Fail> {
     Ok(dump)
 }
 
-// Whether one worker answers that fault when three records have passed the gate.
+/// Whether one worker answers that fault when three records have passed the gate.
 fn is_stopped<R: Threads + Wait + Sync>(rt: &R, alloc: Global, dump: &[u8]) -> Result<bool, Fail> {
     let plan = plan(1, 1)?;
     let gate = Holding::new(u64::MAX, 0, 0);
@@ -270,7 +270,7 @@ fn a_fault_stops_the_cutting(rt: HostRuntime) -> Result<(), Fail> {
     Ok(())
 }
 
-// Whether a run into a sink that takes nothing fails at once.
+/// Whether a run into a sink that takes nothing fails at once.
 fn is_refused<R: Threads + Wait + Sync, G: Gate>(
     rt: &R,
     alloc: Global,
@@ -295,7 +295,7 @@ fn a_broken_sink_stops_the_cutting(rt: HostRuntime) -> Result<(), Fail> {
     Ok(())
 }
 
-// Run with each allocation refused in turn: the answer is out of memory, a thread that wasn't started, or the usual one.
+/// Run with each allocation refused in turn: the answer is out of memory, a thread that wasn't started, or the usual one.
 #[test]
 fn out_of_memory_leaves_a_first_part_over_threads(rt: HostRuntime) {
     let alloc = rt.alloc();

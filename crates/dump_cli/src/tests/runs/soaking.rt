@@ -12,7 +12,7 @@ use std::test::Fail;
 use std::thread;
 use std::thread::Threads;
 
-// What looks like chance, and is the same in each run of the tests.
+/// What looks like chance, and is the same in each run of the tests.
 fn scatter(seed: u64) -> u64 {
     let mixed = (seed ^ (seed >> 30)).wrapping_mul(0xbf58476d1ce4e5b9);
     let mixed = (mixed ^ (mixed >> 27)).wrapping_mul(0x94d049bb133111eb);
@@ -33,7 +33,7 @@ impl Gate for Delaying {
     }
 }
 
-// A sink that breaks off at some byte, or doesn't.
+/// A sink that breaks off at some byte, or doesn't.
 fn sink_of(alloc: Global, seed: u64, len: usize) -> MemorySink {
     let at = scatter(seed) % (len as u64).max(1);
     let trouble = match scatter(seed.wrapping_add(1)) % 3 {
@@ -48,7 +48,7 @@ fn sink_of(alloc: Global, seed: u64, len: usize) -> MemorySink {
     )
 }
 
-// Whether a run over threads answers and writes what one on one thread does, by the plan and the sinks of a seed.
+/// Whether a run over threads answers and writes what one on one thread does, by the plan and the sinks of a seed.
 fn is_alike<R: Threads + Wait + Sync>(
     rt: &R,
     alloc: Global,
@@ -68,7 +68,7 @@ fn is_alike<R: Threads + Wait + Sync>(
     Ok(answer == wanted && sink.taken() == plain.taken())
 }
 
-// The same for so many seeds.
+/// The same for so many seeds.
 fn agree<R: Threads + Wait + Sync>(
     rt: &R,
     alloc: Global,
@@ -84,7 +84,7 @@ fn agree<R: Threads + Wait + Sync>(
     Ok(true)
 }
 
-// The same of what is under `trunk`.
+/// The same of what is under `trunk`.
 fn agree_on_trunk<R: Threads + Wait + Sync>(
     rt: &R,
     alloc: Global,
@@ -95,7 +95,7 @@ fn agree_on_trunk<R: Threads + Wait + Sync>(
     agree(rt, alloc, dump, &options, seeds)
 }
 
-// The same of a hundred revisions that are renumbered.
+/// The same of a hundred revisions that are renumbered.
 fn agree_on_hundred<R: Threads + Wait + Sync>(rt: &R, alloc: Global) -> Result<bool, Fail> {
     let dump = hundred(alloc)?;
     let options = renumbering(alloc)?;
@@ -109,14 +109,14 @@ fn clean_dumps_are_filtered_as_on_one_thread(rt: HostRuntime) -> Result<(), Fail
     Ok(())
 }
 
-// The same of an early fault.
+/// The same of an early fault.
 fn agree_on_early_fault<R: Threads + Wait + Sync>(rt: &R, alloc: Global) -> Result<bool, Fail> {
     let dump = early_fault(alloc)?;
     let options = everything(alloc)?;
     agree(rt, alloc, &dump, &options, 3000..3200)
 }
 
-// The same of a header that is cut behind the dump.
+/// The same of a header that is cut behind the dump.
 fn agree_on_junk<R: Threads + Wait + Sync>(rt: &R, alloc: Global) -> Result<bool, Fail> {
     let mut dump = Vec::from_slice(alloc, DUMP)?;
     dump.extend_from_slice(b"junk")?;

@@ -1,5 +1,4 @@
-use Rattle.std.proofs.Common.{not, ap, sym, refl, ◌∙◌}
-use Rattle.dump_records.specs.steps.RecordViews.{record_item}
+use Rattle.dump_digest.proofs.Prelude.{not, ap, sym, refl, ◌∙◌, record_item}
 use Rattle.dump_digest.proofs.KeptLemmas.{lost_some, lost_none}
 use Rattle.dump_digest.proofs.content.has_lost_source.Goals as goal
 

@@ -1,5 +1,4 @@
-use Rattle.std.proofs.Common.{sym, ◌∙◌}
-use Rattle.dump_records.specs.steps.RecordViews.{record_item}
+use Rattle.dump_digest.proofs.Prelude.{sym, ◌∙◌, record_item}
 use Rattle.dump_digest.proofs.KeptLemmas.{kept_some, kept_none}
 use Rattle.dump_digest.proofs.content.is_kept.Goals as goal
 

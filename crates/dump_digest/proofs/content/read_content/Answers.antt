@@ -1,5 +1,4 @@
-use Rattle.std.proofs.Common.{ap, sym, ◌∙◌, is_some}
-use Rattle.dump_records.specs.steps.RecordViews.{record_item}
+use Rattle.dump_digest.proofs.Prelude.{ap, sym, ◌∙◌, is_some, record_item}
 use Rattle.dump_digest.proofs.KeptLemmas.{revision_told}
 use Rattle.dump_digest.proofs.content.read_content.Goals as goal
 

@@ -1,8 +1,4 @@
-use Rattle.std.proofs.Common.{◌∙◌, ◌↔◌, Bool, IsFalse, subst, sym}
-use Rattle.dump_records.specs.steps.RecordViews.{record_item}
-use Rattle.dump_text.proofs.BoolLemmas.{first_true}
-use Rattle.dump_digest.specs.RecordParts.{is_node}
-use Rattle.dump_digest.specs.ContentFaults.{HasBadMergeinfo}
+use Rattle.dump_digest.proofs.Prelude.{◌∙◌, ◌↔◌, Bool, IsFalse, subst, sym, record_item, first_true, is_node, HasBadMergeinfo}
 use Rattle.dump_digest.proofs.VerdictLemmas.{kept_verdict, found_properties}
 use Rattle.dump_digest.proofs.SaidLemmas.{merge_told, values_told, asked_kept, said_read, same_mergeinfo}
 use Rattle.dump_digest.proofs.content.read_kept.Goals as goal

@@ -1,6 +1,4 @@
-use Rattle.std.proofs.Common.{◌&&◌, ◌||◌, sym, ap, ◌∙◌}
-use Rattle.dump_records.specs.steps.RecordViews.{record_item}
-use Rattle.dump_digest.specs.RecordParts.{is_kept_node}
+use Rattle.dump_digest.proofs.Prelude.{◌&&◌, ◌||◌, sym, ap, ◌∙◌, record_item, is_kept_node}
 use Rattle.dump_digest.proofs.VerdictLemmas.{other_verdict, asked}
 use Rattle.dump_digest.proofs.SaidLemmas.{content_of_other}
 use Rattle.dump_digest.proofs.content.read_revision.Goals as goal

@@ -1,6 +1,4 @@
-use Rattle.std.proofs.Common.{◌≡◌, ℕ, List, length, true, refl, sym, ap, ◌∙◌, Result, Ok, Err, OnOk}
-use Rattle.std.proofs.Math.Facts.{Fits-lt-pow}
-use Rattle.std.proofs.lemmas.Slice.Eq.{bytes_eq-Decides}
+use Rattle.dump_digest.proofs.Prelude.{◌≡◌, ℕ, List, length, true, refl, sym, ap, ◌∙◌, Result, Ok, Err, OnOk, Fits-lt-pow, bytes_eq-Decides}
 use Rattle.std.specs.Result.{is_ok}
 use Rattle.hex.proofs.HexLemmas.{decode_sized-encode_lower}
 use Rattle.hex.specs.Hex.{decode_sized}

@@ -1,8 +1,5 @@
-use Rattle.std.proofs.Common.{◌↔◌, subst, List, ℕ, IsFalse}
+use Rattle.dump_digest.proofs.Prelude.{◌↔◌, subst, List, ℕ, IsFalse, md5_name, sha1_name, record_item, TellsOther}
 use Rattle.std.specs.Option.{option_copied}
-use Rattle.dump_text.specs.Names.{md5_name, sha1_name}
-use Rattle.dump_records.specs.steps.RecordViews.{record_item}
-use Rattle.dump_digest.specs.steps.Checks.{TellsOther}
 use Rattle.dump_digest.proofs.DigestLemmas.{text_there, digest_told, text_told}
 use Rattle.md5.specs.Md5.{md5}
 use Rattle.sha1.specs.Sha1.{sha1}

@@ -1,11 +1,4 @@
-use Rattle.std.proofs.Common.{sym, ap, ◌∙◌}
-use Rattle.std.proofs.lemmas.Bool.{not-false}
-use Rattle.dump_records.specs.steps.RecordViews.{record_item}
-use Rattle.dump_records.specs.declared.record.Record.{Record}
-use Rattle.dump_digest.specs.steps.DoneViews.{done_record, done_verdict}
-use Rattle.dump_digest.specs.declared.verdict.Verdict.{Verdict}
-use Rattle.dump_filter.specs.steps.State.{view_state}
-use Rattle.dump_filter.specs.steps.Decision.{is_in_order}
+use Rattle.dump_filter.proofs.Prelude.{sym, ap, ◌∙◌, not-false, record_item, Record, done_record, done_verdict, Verdict, view_state, is_in_order}
 use Rattle.dump_filter.proofs.answer.DecisionLemmas.{node_is_taken, decided_in_order}
 use Rattle.dump_filter.proofs.decide.decide.Goals as goal
 

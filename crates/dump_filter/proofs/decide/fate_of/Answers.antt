@@ -1,11 +1,5 @@
-use Rattle.std.proofs.Common.{◌≡◌, true, false, sym, ◌∙◌, subst}
-use Rattle.dump_rules.specs.Settings.{Settings}
-use Rattle.dump_records.specs.steps.RecordViews.{record_item, record_number}
+use Rattle.dump_filter.proofs.Prelude.{◌≡◌, true, false, sym, ◌∙◌, subst, Settings, record_item, record_number, Record, is_kept_node, done_record, done_verdict, view_state}
 use Rattle.dump_records.specs.declared.kind.RecordKind.TheVariants as kinds
-use Rattle.dump_records.specs.declared.record.Record.{Record}
-use Rattle.dump_digest.specs.RecordParts.{is_kept_node}
-use Rattle.dump_digest.specs.steps.DoneViews.{done_record, done_verdict}
-use Rattle.dump_filter.specs.steps.State.{view_state}
 use Rattle.dump_filter.proofs.groups.KindLemmas.{IsOfKind, of_kind}
 use Rattle.dump_filter.proofs.answer.DecisionLemmas.{fate_of_dropped, fate_of_node, fate_of_revision}
 use Rattle.dump_filter.proofs.decide.fate_of.Goals as goal

@@ -1,6 +1,4 @@
-use Rattle.std.proofs.Common.{ap, sym, ◌∙◌, subst, refl}
-use Rattle.dump_records.specs.steps.RecordViews.{record_item, record_number}
-use Rattle.dump_filter.specs.steps.Decision.{rises}
+use Rattle.dump_filter.proofs.Prelude.{ap, sym, ◌∙◌, subst, refl, record_item, record_number, rises}
 use Rattle.dump_filter.proofs.groups.KindLemmas.{IsOfKind, of_kind}
 use Rattle.dump_filter.proofs.decide.is_in_order.Goals as goal
 

@@ -1,10 +1,4 @@
-use Rattle.std.proofs.Common.{◌≡◌, true, sym, ap, ◌∙◌, subst}
-use Rattle.dump_rules.specs.Settings.{Settings}
-use Rattle.dump_records.specs.steps.RecordViews.{record_item}
-use Rattle.dump_digest.specs.RecordParts.{is_kept_node}
-use Rattle.dump_digest.specs.steps.DoneViews.{done_record, done_settings, done_verdict}
-use Rattle.dump_filter.specs.steps.State.{view_group, view_state}
-use Rattle.dump_filter.specs.steps.Decision.{kept_unless}
+use Rattle.dump_filter.proofs.Prelude.{◌≡◌, true, sym, ap, ◌∙◌, subst, Settings, record_item, is_kept_node, done_record, done_settings, done_verdict, view_group, view_state, kept_unless}
 use Rattle.dump_filter.proofs.written.CopyLemmas.{present_there}
 use Rattle.dump_filter.proofs.answer.DecisionLemmas.{node_fate_is}
 use Rattle.dump_filter.proofs.decide.node_fate.Goals as goal

@@ -1,6 +1,4 @@
-use Rattle.std.proofs.Common.{sym, ◌∙◌}
-use Rattle.dump_text.proofs.BoolLemmas.{absurd_bool}
-use Rattle.dump_records.specs.steps.RecordViews.{record_item, record_number}
+use Rattle.dump_filter.proofs.Prelude.{sym, ◌∙◌, absurd_bool, record_item, record_number}
 use Rattle.dump_filter.proofs.written.StayLemmas.{stands_as_written}
 use Rattle.dump_filter.proofs.new_lines.block_stays.Goals as goal
 use Rattle.dump_filter.proofs.new_lines.block_stays.Goals.{then-is_written, else-is_written, then-lengths_stay, else-lengths_stay}

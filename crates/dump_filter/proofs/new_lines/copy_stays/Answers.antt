@@ -1,9 +1,4 @@
-use Rattle.std.proofs.Common.{sym, ◌∙◌, subst}
-use Rattle.dump_text.specs.Names.{path_name}
-use Rattle.dump_text.specs.HeaderLine.{has_header}
-use Rattle.dump_records.specs.steps.RecordViews.{record_item}
-use Rattle.dump_records.proofs.RecordLemmas.{part_there}
-use Rattle.dump_filter.specs.steps.NewLines.{StaysCopied}
+use Rattle.dump_filter.proofs.Prelude.{sym, ◌∙◌, subst, path_name, has_header, record_item, part_there, StaysCopied}
 use Rattle.dump_filter.proofs.written.StayLemmas.{same_number}
 use Rattle.dump_filter.proofs.new_lines.copy_stays.Goals as goal
 

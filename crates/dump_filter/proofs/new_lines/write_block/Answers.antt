@@ -1,10 +1,4 @@
-use Rattle.std.proofs.Common.{rules, ◌≡◌, ◌∷◌, [], List, ◌++◌, sym, ap, ◌∙◌}
-use Rattle.std.proofs.lemmas.Grind.{flat_map-append}
-use Rattle.dump_text.specs.Names.{property_length_name, content_length_name}
-use Rattle.dump_text.specs.HeaderLine.{Header, header_text}
-use Rattle.dump_text.specs.HeaderBlock.{lines_bytes}
-use Rattle.dump_records.specs.steps.RecordViews.{record_item}
-use Rattle.dump_filter.specs.steps.NewLines.{renewed_lines, added, new_headers}
+use Rattle.dump_filter.proofs.Prelude.{rules, ◌≡◌, ◌∷◌, [], List, ◌++◌, sym, ap, ◌∙◌, flat_map-append, property_length_name, content_length_name, Header, header_text, lines_bytes, record_item, renewed_lines, added, new_headers}
 use Rattle.dump_filter.proofs.new_lines.write_block.Goals as goal
 
 lines_append : (hs ks : List Header) → lines_bytes (hs ++ ks) ≡ lines_bytes hs ++ lines_bytes ks

@@ -1,8 +1,4 @@
-use Rattle.std.proofs.Common.{◌≡◌, ◌++◌}
-use Rattle.dump_text.specs.HeaderBlock.{lines_bytes}
-use Rattle.dump_text.specs.steps.Views.{lines_left}
-use Rattle.dump_records.specs.steps.RecordViews.{record_item}
-use Rattle.dump_filter.specs.steps.NewLines.{renewed_lines}
+use Rattle.dump_filter.proofs.Prelude.{◌≡◌, ◌++◌, lines_bytes, lines_left, record_item, renewed_lines}
 use Rattle.dump_filter.proofs.new_lines.write_block.Given as goal
 
 abbrev pub invariant-loop-line : goal.invariant-loop-line

@@ -1,14 +1,8 @@
-use Rattle.std.proofs.Common.{◌≡◌, List, false, IfOk, ap, sym, subst, ◌∙◌}
-use Rattle.dump_text.specs.PropertyList.{Property}
-use Rattle.dump_records.specs.steps.RecordViews.{record_item}
-use Rattle.dump_records.specs.declared.record.Record.{Record}
-use Rattle.dump_digest.specs.steps.MergeFaults.{HasGoodMergeinfo}
-use Rattle.dump_filter.specs.steps.MadeBytes.{made_or}
-use Rattle.dump_filter.specs.NewContent.{AreNewProperties, new_block}
+use Rattle.dump_filter.proofs.Prelude.{◌≡◌, List, false, ap, sym, subst, ◌∙◌, Property, record_item, Record, HasGoodMergeinfo, made_or, AreNewProperties, new_block, HasPropertyList}
+use Rattle.std.proofs.Common.{IfOk}
 use Rattle.dump_filter.proofs.written.OutputLemmas.{if_ok}
 use Rattle.dump_filter.proofs.answer.MergeLemmas.{read_lines, asked_node}
 use Rattle.dump_filter.proofs.written.PropertyOutput.{no_mergeinfo}
-use Rattle.dump_digest.specs.RecordParts.{HasPropertyList}
 use Rattle.dump_filter.proofs.new_properties.node_properties.Goals as goal
 
 pub read_props-props-requires-clause-asked : goal.read_props-props-requires-clause-asked

@@ -1,9 +1,5 @@
-use Rattle.std.proofs.Common.{List, ℕ, sym, ◌∙◌, subst}
-use Rattle.dump_text.specs.steps.PropertyViews.{entry_property}
-use Rattle.dump_rules.specs.Rewriting.{IsNewMergeinfo}
-use Rattle.dump_filter.specs.steps.NewProperties.{property_of}
+use Rattle.dump_filter.proofs.Prelude.{List, ℕ, sym, ◌∙◌, subst, entry_property, IsNewMergeinfo, property_of, entry_value}
 use Rattle.dump_filter.proofs.written.PropertyOutput.{unchanged, with_new_value}
-use Rattle.dump_digest.proofs.SaidLemmas.{entry_value}
 use Rattle.dump_filter.proofs.new_properties.push_rewritten.Goals as goal
 
 pub returns-then-not-is_mergeinfo : goal.returns-then-not-is_mergeinfo

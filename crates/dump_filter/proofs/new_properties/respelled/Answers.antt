@@ -1,5 +1,4 @@
-use Rattle.std.proofs.Common.{◌<◌, ◌^◌, length}
-use Rattle.dump_text.specs.steps.PropertyViews.{props_bytes}
+use Rattle.dump_filter.proofs.Prelude.{◌<◌, ◌^◌, length, props_bytes}
 use Rattle.dump_filter.proofs.written.PropertyOutput.{own_spelling}
 use Rattle.dump_filter.proofs.new_properties.respelled.Goals as goal
 

@@ -1,7 +1,4 @@
-use Rattle.std.proofs.Common.{◌≡◌, ℕ, List, sym, subst, ◌∙◌}
-use Rattle.dump_text.specs.PropertyList.{property_block_text}
-use Rattle.dump_records.specs.steps.RecordViews.{record_item}
-use Rattle.dump_filter.specs.steps.MadeBytes.{made_or}
+use Rattle.dump_filter.proofs.Prelude.{◌≡◌, ℕ, List, sym, subst, ◌∙◌, property_block_text, record_item, made_or}
 use Rattle.dump_filter.proofs.written.OutputLemmas.{if_ok}
 use Rattle.dump_filter.proofs.written.PropertyOutput.{read_block, block_with, block_without}
 use Rattle.dump_filter.proofs.new_properties.respelled_block.Goals as goal

@@ -1,7 +1,4 @@
-use Rattle.std.proofs.Common.{sym, ap, ◌∙◌}
-use Rattle.dump_text.specs.PropertyList.{property_block_text}
-use Rattle.dump_records.specs.steps.RecordViews.{record_item}
-use Rattle.dump_filter.specs.steps.NewProperties.{dated_padding}
+use Rattle.dump_filter.proofs.Prelude.{sym, ap, ◌∙◌, property_block_text, record_item, dated_padding}
 use Rattle.dump_filter.proofs.written.PropertyOutput.{read_block, padding_is}
 use Rattle.dump_filter.proofs.new_properties.revision_properties.Goals as goal
 

@@ -1,5 +1,4 @@
-use Rattle.std.proofs.Common.{[], sym, ◌∙◌}
-use Rattle.dump_records.specs.steps.RecordViews.{record_item}
+use Rattle.dump_filter.proofs.Prelude.{[], sym, ◌∙◌, record_item}
 use Rattle.dump_filter.proofs.written.PropertyOutput.{read_block, no_block, block_with, block_without}
 use Rattle.dump_filter.proofs.new_properties.rewritten_block.Goals as goal
 

@@ -1,7 +1,4 @@
-use Rattle.std.proofs.Common.{sym, subst}
-use Rattle.dump_text.specs.steps.PropertyViews.{props_bytes, entry_property}
-use Rattle.dump_text.proofs.PropertyChoice.{untruncated}
-use Rattle.dump_digest.specs.steps.MergeFaults.{HasGoodMergeinfo}
+use Rattle.dump_filter.proofs.Prelude.{sym, subst, props_bytes, entry_property, untruncated, HasGoodMergeinfo}
 use Rattle.dump_filter.proofs.written.PropertyOutput.{none_rewritten, next_rewritten, all_rewritten, left_lines, entry_lines}
 use Rattle.dump_filter.proofs.new_properties.write_rewritten.Goals as goal
 

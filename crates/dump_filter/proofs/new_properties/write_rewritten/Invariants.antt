@@ -1,5 +1,4 @@
-use Rattle.dump_text.specs.steps.PropertyViews.{props_bytes, entries_text}
-use Rattle.dump_digest.specs.steps.MergeFaults.{HasGoodMergeinfo}
+use Rattle.dump_filter.proofs.Prelude.{props_bytes, entries_text, HasGoodMergeinfo}
 use Rattle.dump_filter.proofs.written.PropertyOutput.{AreRewritten}
 use Rattle.dump_filter.proofs.new_properties.write_rewritten.Given as goal
 

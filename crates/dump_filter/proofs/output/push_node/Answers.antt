@@ -1,13 +1,6 @@
-use Rattle.std.proofs.Common.{◌≡◌, List, ℕ, false, ap, sym, subst, ◌∙◌, ◌++◌, codes, OnOk}
-use Rattle.dump_text.specs.PropertyList.{Property}
-use Rattle.dump_filter.specs.steps.MadeBytes.{made_or}
-use Rattle.dump_records.specs.steps.RecordViews.{record_item}
-use Rattle.dump_records.specs.declared.record.Record.{Record}
-use Rattle.dump_filter.specs.steps.Advance.{IsOwnNode}
-use Rattle.dump_filter.specs.NewContent.{AreNewProperties, new_block}
-use Rattle.dump_filter.specs.steps.NewLines.{AreLengths, new_record}
+use Rattle.dump_filter.proofs.Prelude.{◌≡◌, List, ℕ, false, ap, sym, subst, ◌∙◌, ◌++◌, codes, Property, made_or, record_item, Record, IsOwnNode, AreNewProperties, new_block, AreLengths, new_record, HasPropertyList}
+use Rattle.std.proofs.Common.{OnOk}
 use Rattle.dump_filter.proofs.written.OutputLemmas.{on_ok, node_is}
-use Rattle.dump_digest.specs.RecordParts.{HasPropertyList}
 use Rattle.dump_filter.proofs.output.push_node.Goals as goal
 
 pub returns : goal.returns

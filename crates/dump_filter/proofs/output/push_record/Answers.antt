@@ -1,9 +1,4 @@
-use Rattle.std.proofs.Common.{◌≡◌, ℕ, Option, ap, subst, ◌∙◌, ◌++◌}
-use Rattle.std.specs.Global.{Vec}
-use Rattle.dump_text.specs.HeaderBlock.{block_text}
-use Rattle.dump_records.specs.steps.RecordViews.{record_item}
-use Rattle.dump_filter.specs.steps.MadeBytes.{made_or}
-use Rattle.dump_filter.specs.steps.NewLines.{new_headers}
+use Rattle.dump_filter.proofs.Prelude.{◌≡◌, ℕ, Option, ap, subst, ◌∙◌, ◌++◌, Vec, block_text, record_item, made_or, new_headers}
 use Rattle.dump_filter.proofs.written.OutputLemmas.{on_ok, lines_out}
 use Rattle.dump_filter.proofs.output.push_record.Goals as goal
 use Rattle.dump_filter.proofs.output.push_record.Goals.{in-Some+in_ok-push-in-Some, in-None-2+in_ok-push-in-None-2}

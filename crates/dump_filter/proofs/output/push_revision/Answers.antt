@@ -1,13 +1,7 @@
-use Rattle.std.proofs.Common.{◌≡◌, List, ap, sym, subst, ◌∙◌, ◌++◌, OnOk}
-use Rattle.dump_text.specs.PropertyList.{Property}
-use Rattle.dump_records.specs.steps.RecordViews.{record_item}
-use Rattle.dump_records.specs.declared.record.Record.{Record}
-use Rattle.dump_filter.specs.steps.MadeBytes.{made_or}
-use Rattle.dump_filter.specs.steps.NewLines.{AreLengths}
-use Rattle.dump_filter.specs.steps.OwnText.{revision_own}
+use Rattle.dump_filter.proofs.Prelude.{◌≡◌, List, ap, sym, subst, ◌∙◌, ◌++◌, Property, record_item, Record, made_or, AreLengths, revision_own, HasPropertyList}
+use Rattle.std.proofs.Common.{OnOk}
 use Rattle.dump_filter.proofs.answer.MergeLemmas.{asked_revision}
 use Rattle.dump_filter.proofs.written.OutputLemmas.{on_ok, revision_is}
-use Rattle.dump_digest.specs.RecordParts.{HasPropertyList}
 use Rattle.dump_filter.proofs.output.push_revision.Goals as goal
 
 pub read_props-requires-clause-asked : goal.read_props-requires-clause-asked

@@ -1,5 +1,4 @@
-use Rattle.std.proofs.Common.{◌≡◌}
-use Rattle.dump_filter.specs.steps.FilterState.{count_up_to, IsOfSameDump}
+use Rattle.dump_filter.proofs.Prelude.{◌≡◌, count_up_to, IsOfSameDump}
 use Rattle.dump_filter.proofs.tests.pass_all.Given as goal
 
 abbrev pub invariant-loop : goal.invariant-loop

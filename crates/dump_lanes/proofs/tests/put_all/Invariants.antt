@@ -1,5 +1,4 @@
-use Rattle.std.proofs.Common.{◌≡◌}
-use Rattle.dump_lanes.specs.steps.LaneViews.{sending}
+use Rattle.dump_lanes.proofs.Prelude.{◌≡◌, sending}
 use Rattle.dump_lanes.proofs.tests.put_all.Given as goal
 
 abbrev pub invariant-loop-number : goal.invariant-loop-number

@@ -1,6 +1,4 @@
-use Rattle.std.proofs.Common.{◌≡◌, take, length}
-use Rattle.dump_writer.specs.SinkWords.{capped}
-use Rattle.dump_writer.specs.steps.ChunkBytes.{bytes_of_chunks}
+use Rattle.dump_pipeline.proofs.Prelude.{◌≡◌, take, length, capped, bytes_of_chunks}
 use Rattle.dump_pipeline.proofs.count.piece_len.Given as goal
 
 abbrev pub invariant-loop-chunk : goal.invariant-loop-chunk

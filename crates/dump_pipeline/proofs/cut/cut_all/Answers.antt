@@ -1,9 +1,4 @@
-use Rattle.std.proofs.Common.{rules, ◌≡◌, ◌∙◌, ◌+◌, ◌≤◌, ℕ, sym, ap, subst, length, arith}
-use Rattle.dump_lanes.specs.steps.PortViews.{job_port}
-use Rattle.dump_records.specs.DumpText.{Ending}
-use Rattle.dump_records.specs.steps.RecordViews.{record_number, CutStep}
-use Rattle.dump_records.specs.declared.cutter.Cut.{Cut}
-use Rattle.dump_pipeline.specs.steps.Parts.{HasPut}
+use Rattle.dump_pipeline.proofs.Prelude.{rules, ◌≡◌, ◌∙◌, ◌+◌, ◌≤◌, ℕ, sym, ap, subst, length, arith, job_port, Ending, record_number, CutStep, Cut, HasPut}
 use Rattle.dump_pipeline.proofs.Steps.{put_more, all_put, ends_within, cut_number, cut_next, cut_end}
 use Rattle.dump_pipeline.proofs.cut.cut_all.Goals as goal
 

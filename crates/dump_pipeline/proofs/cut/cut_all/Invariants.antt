@@ -1,6 +1,4 @@
-use Rattle.std.proofs.Common.{◌≡◌}
-use Rattle.dump_lanes.specs.steps.PortViews.{job_port}
-use Rattle.dump_pipeline.specs.steps.Parts.{HasPut}
+use Rattle.dump_pipeline.proofs.Prelude.{◌≡◌, job_port, HasPut}
 use Rattle.dump_pipeline.proofs.cut.cut_all.Given as goal
 
 abbrev pub invariant-loop : goal.invariant-loop

@@ -1,16 +1,4 @@
-use Rattle.std.proofs.Common.{◌≡◌, ◌∙◌, List, length, map, All, ap, sym, subst}
-use Rattle.dump_lanes.specs.declared.pool.worker.WorkerPort.{WorkerPort}
-use Rattle.dump_lanes.specs.steps.LaneViews.{sent, receiving}
-use Rattle.dump_lanes.specs.steps.PortSides.{WorkerSide, IsDone}
-use Rattle.dump_lanes.specs.steps.PortViews.{job_port, worker_port, done_port, credit_port}
-use Rattle.dump_lanes.specs.steps.StopSeats.{Seat, joined_seat}
-use Rattle.dump_lanes.proofs.PortsTogether.{map_of_all}
-use Rattle.dump_pipeline.specs.declared.answer.Answer.{Answer}
-use Rattle.dump_pipeline.specs.declared.message.Job.{Job}
-use Rattle.dump_pipeline.specs.declared.message.Checked.{Checked}
-use Rattle.dump_pipeline.specs.declared.message.NumberedPiece.{NumberedPiece}
-use Rattle.dump_pipeline.specs.steps.Parts.{HasWorked, is_failure}
-use Rattle.dump_pipeline.specs.RunAnswer.{RunLeaves}
+use Rattle.dump_pipeline.proofs.Prelude.{◌≡◌, ◌∙◌, List, length, map, All, ap, sym, subst, WorkerPort, sent, receiving, WorkerSide, IsDone, job_port, worker_port, done_port, credit_port, Seat, joined_seat, map_of_all, Answer, Job, Checked, NumberedPiece, HasWorked, is_failure, RunLeaves}
 use Rattle.dump_pipeline.proofs.Joined.{none_astray, nothing_missing, unseen, unshut, sink_failed, ended_so}
 use Rattle.dump_pipeline.proofs.join.conclude.Goals as goal
 

@@ -1,8 +1,4 @@
-use Rattle.std.proofs.Common.{◌∙◌, ℕ, sym, ap, map}
-use Rattle.std.specs.List.{range_with_len}
-use Rattle.dump_lanes.specs.steps.PortSides.{PoolState, new_worker}
-use Rattle.dump_pipeline.specs.declared.message.Job.{Job}
-use Rattle.dump_pipeline.specs.declared.message.Checked.{Checked}
+use Rattle.dump_pipeline.proofs.Prelude.{◌∙◌, ℕ, sym, ap, map, range_with_len, PoolState, new_worker, Job, Checked}
 use Rattle.dump_pipeline.proofs.make.make_queues.Goals as goal
 
 pub returns-clause-working : goal.returns-clause-working

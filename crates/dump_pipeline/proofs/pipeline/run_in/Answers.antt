@@ -1,21 +1,5 @@
-use Rattle.std.proofs.Common.{rules, ◌≡◌, ◌∙◌, refl, ℕ, List, Option, None, sym, ap, subst, map, length, arith}
-use Rattle.std.proofs.lemmas.List.{length-replicate}
-use Rattle.dump_lanes.specs.steps.LaneViews.{sent}
-use Rattle.dump_lanes.specs.steps.SlotViews.{slot_places}
-use Rattle.dump_pipeline.specs.steps.Parts.{HasSequenced}
-use Rattle.dump_lanes.specs.declared.pool.cutter.JobPort.{JobPort}
-use Rattle.dump_lanes.specs.declared.pool.worker.WorkerPort.{WorkerPort}
-use Rattle.dump_lanes.specs.declared.pool.writer.CreditPort.{CreditPort}
-use Rattle.dump_lanes.specs.steps.PortSides.{PoolName, WriterSide, AreWorkersOf}
-use Rattle.dump_lanes.specs.steps.PortViews.{pool_state, worker_port, job_port, done_port, credit_port}
-use Rattle.dump_lanes.proofs.PortsTogether.{length_of_map, same_ports, fresh_workers, none_closed}
+use Rattle.dump_pipeline.proofs.Prelude.{rules, ◌≡◌, ◌∙◌, refl, ℕ, List, Option, None, sym, ap, subst, map, length, arith, length-replicate, sent, slot_places, HasSequenced, JobPort, WorkerPort, CreditPort, PoolName, WriterSide, AreWorkersOf, pool_state, worker_port, job_port, done_port, credit_port, length_of_map, same_ports, fresh_workers, none_closed, Job, Checked, NumberedPiece, CutterEnds, SequencerEnds, none_taken, none_given, workers_count}
 use Rattle.dump_pipeline.specs.declared.answer.Failure.TheVariants as failures
-use Rattle.dump_pipeline.specs.declared.message.Job.{Job}
-use Rattle.dump_pipeline.specs.declared.message.Checked.{Checked}
-use Rattle.dump_pipeline.specs.declared.message.NumberedPiece.{NumberedPiece}
-use Rattle.dump_pipeline.specs.declared.cut.CutterEnds.{CutterEnds}
-use Rattle.dump_pipeline.specs.declared.sequence.SequencerEnds.{SequencerEnds}
-use Rattle.dump_lanes.proofs.FreshPorts.{none_taken, none_given, workers_count}
 use Rattle.dump_pipeline.proofs.Joined.{nothing_written, threads_fail}
 use Rattle.dump_pipeline.proofs.pipeline.run_in.Goals as goal
 

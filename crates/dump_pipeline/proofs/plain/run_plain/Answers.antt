@@ -1,11 +1,5 @@
-use Rattle.std.proofs.Common.{◌≡◌, sym, ap, ◌∙◌, subst, refl, Some, Err}
-use Rattle.dump_text.specs.declared.fault.FaultKind.{FaultKind}
-use Rattle.dump_records.specs.declared.cutter.Cut.{Cut}
-use Rattle.dump_records.specs.declared.record.Record.{Record}
-use Rattle.dump_records.specs.steps.RecordViews.{record_dump, record_item, record_number, CutStep}
-use Rattle.dump_filter.specs.steps.FilterState.{Accepts, Refuses}
+use Rattle.dump_pipeline.proofs.Prelude.{◌≡◌, sym, ap, ◌∙◌, subst, refl, Some, Err, FaultKind, Cut, Record, record_dump, record_item, record_number, CutStep, Accepts, Refuses, RunLeaves}
 use Rattle.dump_pipeline.specs.declared.answer.Answer.TheVariants as answers
-use Rattle.dump_pipeline.specs.RunAnswer.{RunLeaves}
 use Rattle.dump_pipeline.proofs.RunLemmas.{begun, finished, broken, refused, no_memory, sink_failed, stepped, smaller}
 use Rattle.dump_pipeline.proofs.plain.run_plain.Goals as goal
 

@@ -1,5 +1,4 @@
-use Rattle.std.proofs.Common.{◌≡◌, ◌-◌, length}
-use Rattle.dump_pipeline.specs.steps.Progress.{Progress}
+use Rattle.dump_pipeline.proofs.Prelude.{◌≡◌, ◌-◌, length, Progress}
 use Rattle.dump_pipeline.proofs.plain.run_plain.Given as goal
 
 abbrev pub invariant-loop-record : goal.invariant-loop-record

@@ -1,8 +1,4 @@
-use Rattle.std.proofs.Common.{ap, ◌∙◌}
-use Rattle.dump_lanes.specs.steps.PortSides.{SequencerSide}
-use Rattle.dump_lanes.specs.steps.PortViews.{done_port}
-use Rattle.dump_pipeline.specs.declared.message.Checked.{Checked}
-use Rattle.dump_pipeline.specs.steps.Messages.{checked_numbers}
+use Rattle.dump_pipeline.proofs.Prelude.{ap, ◌∙◌, SequencerSide, done_port, Checked, checked_numbers}
 use Rattle.dump_pipeline.proofs.Steps.{more_taken}
 use Rattle.dump_pipeline.proofs.sequence.drain.Goals as goal
 

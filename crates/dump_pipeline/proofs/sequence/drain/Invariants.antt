@@ -1,6 +1,4 @@
-use Rattle.std.proofs.Common.{◌≡◌, ℕ, List, ◌++◌}
-use Rattle.dump_lanes.specs.steps.PortViews.{done_port}
-use Rattle.dump_pipeline.specs.steps.Messages.{checked_numbers}
+use Rattle.dump_pipeline.proofs.Prelude.{◌≡◌, ℕ, List, ◌++◌, done_port, checked_numbers}
 use Rattle.dump_pipeline.proofs.sequence.drain.Given as goal
 
 abbrev pub invariant-loop : goal.invariant-loop

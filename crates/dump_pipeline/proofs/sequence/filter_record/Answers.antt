@@ -1,11 +1,5 @@
-use Rattle.std.proofs.Common.{◌∙◌, ◌+◌, ◌++◌, ap, sym, subst, refl, Err}
-use Rattle.dump_text.specs.declared.fault.FaultKind.{FaultKind}
-use Rattle.dump_records.specs.declared.record.Record.{Record}
-use Rattle.dump_records.specs.steps.RecordViews.{record_number}
-use Rattle.dump_digest.specs.steps.DoneViews.{done_record}
-use Rattle.dump_filter.specs.steps.FilterState.{FilterState}
+use Rattle.dump_pipeline.proofs.Prelude.{◌∙◌, ◌+◌, ◌++◌, ap, sym, subst, refl, Err, FaultKind, Record, record_number, done_record, FilterState, HasFiltered, IsEndOf}
 use Rattle.dump_pipeline.specs.declared.stage.End.TheVariants as ends
-use Rattle.dump_pipeline.specs.steps.Parts.{HasFiltered, IsEndOf}
 use Rattle.dump_pipeline.proofs.Released.{steps, record_fault, memory, record_is}
 use Rattle.dump_pipeline.proofs.sequence.filter_record.Goals as goal
 

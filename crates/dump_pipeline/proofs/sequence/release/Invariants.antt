@@ -1,5 +1,4 @@
-use Rattle.std.proofs.Common.{◌≡◌}
-use Rattle.dump_lanes.specs.steps.LaneViews.{sending}
+use Rattle.dump_pipeline.proofs.Prelude.{◌≡◌, sending}
 use Rattle.dump_pipeline.proofs.sequence.release.Given as goal
 
 abbrev pub invariant-loop : goal.invariant-loop

@@ -1,20 +1,4 @@
-use Rattle.std.proofs.Common.{rules, refl, sym, ap, subst, ◌≡◌, ◌∙◌, ◌+◌, ◌++◌, ◌∷◌, [], ℕ, List, length, true, false, IsNone, Some}
-use Rattle.std.proofs.lemmas.Bool.{false≢true}
-use Rattle.dump_lanes.specs.Arrivals.{IsWaiting}
-use Rattle.dump_lanes.specs.steps.ArrivalRows.{Row}
-use Rattle.dump_lanes.specs.steps.LaneEnds.{Sending}
-use Rattle.dump_lanes.specs.steps.LaneViews.{sending}
-use Rattle.dump_lanes.specs.steps.PortSides.{SequencerSide}
-use Rattle.dump_lanes.specs.steps.PortViews.{done_port}
-use Rattle.dump_lanes.specs.steps.SlotRow.{slot_item, with_slot_item}
-use Rattle.dump_lanes.specs.steps.SlotViews.{slot_places}
-use Rattle.dump_pipeline.specs.declared.message.Checked.{Checked}
-use Rattle.dump_pipeline.specs.declared.message.Job.{Job}
-use Rattle.dump_pipeline.specs.declared.message.NumberedPiece.{NumberedPiece}
-use Rattle.dump_pipeline.specs.declared.sequence.SequencerEnds.{SequencerEnds}
-use Rattle.dump_lanes.specs.declared.ends.LaneIn.{LaneIn}
-use Rattle.dump_pipeline.specs.steps.Messages.{checked_number, checked_numbers, text_of}
-use Rattle.dump_pipeline.specs.steps.Parts.{HasReleased}
+use Rattle.dump_pipeline.proofs.Prelude.{rules, refl, sym, ap, subst, ◌≡◌, ◌∙◌, ◌+◌, ◌++◌, ◌∷◌, [], ℕ, List, length, true, false, IsNone, Some, false≢true, IsWaiting, Row, Sending, sending, SequencerSide, done_port, slot_item, with_slot_item, slot_places, Checked, Job, NumberedPiece, SequencerEnds, LaneIn, checked_number, checked_numbers, text_of, HasReleased}
 use Rattle.dump_pipeline.proofs.Released.{begins_with}
 use Rattle.dump_pipeline.proofs.Steps.{row_first, row_unlifted, row_lifted, row_passed, lifted_wrong, row_placed, place_clash, none_lifted, sequenced_so, text_released, count_released, numbers_released, ended_so, numbers_at_first}
 use Rattle.dump_pipeline.proofs.sequence.release_all.Goals as goal

@@ -1,11 +1,4 @@
-use Rattle.std.proofs.Common.{◌≡◌, length}
-use Rattle.dump_lanes.specs.Arrivals.{first_numbers}
-use Rattle.dump_lanes.specs.steps.ArrivalRows.{Row}
-use Rattle.dump_lanes.specs.steps.LaneViews.{sending}
-use Rattle.dump_lanes.specs.steps.PortViews.{done_port}
-use Rattle.dump_lanes.specs.steps.SlotViews.{slot_places}
-use Rattle.dump_pipeline.specs.steps.Messages.{checked_number, checked_numbers, piece_numbers, text_of}
-use Rattle.dump_pipeline.specs.steps.Parts.{HasReleased, is_failure, stage_end}
+use Rattle.dump_pipeline.proofs.Prelude.{◌≡◌, length, first_numbers, Row, sending, done_port, slot_places, checked_number, checked_numbers, piece_numbers, text_of, HasReleased, is_failure, stage_end}
 use Rattle.dump_pipeline.proofs.sequence.release_all.Given as goal
 
 abbrev pub invariant-loop : goal.invariant-loop

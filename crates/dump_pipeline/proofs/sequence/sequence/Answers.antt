@@ -1,13 +1,4 @@
-use Rattle.std.proofs.Common.{◌∙◌, ℕ, Bool, List, length, sym, ap, subst}
-use Rattle.dump_lanes.specs.steps.LaneEnds.{Sending}
-use Rattle.dump_lanes.specs.steps.LaneViews.{sending}
-use Rattle.dump_lanes.specs.steps.PortViews.{done_port}
-use Rattle.dump_lanes.specs.steps.SlotViews.{slot_places}
-use Rattle.dump_pipeline.specs.declared.message.Checked.{Checked}
-use Rattle.dump_pipeline.specs.declared.message.Job.{Job}
-use Rattle.dump_pipeline.specs.declared.message.NumberedPiece.{NumberedPiece}
-use Rattle.dump_pipeline.specs.declared.sequence.SequencerEnds.{SequencerEnds}
-use Rattle.dump_pipeline.specs.steps.Parts.{HasSequenced}
+use Rattle.dump_pipeline.proofs.Prelude.{◌∙◌, ℕ, Bool, List, length, sym, ap, subst, Sending, sending, done_port, slot_places, Checked, Job, NumberedPiece, SequencerEnds, HasSequenced}
 use Rattle.dump_pipeline.proofs.Steps.{sequenced_more}
 use Rattle.dump_pipeline.proofs.sequence.sequence.Goals as goal
 use Rattle.dump_pipeline.proofs.sequence.sequence.Goals.{then-stray, else-stray}

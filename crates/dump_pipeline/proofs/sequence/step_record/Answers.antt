@@ -1,8 +1,4 @@
-use Rattle.std.proofs.Common.{◌+◌, ◌++◌, subst, sym}
-use Rattle.dump_records.specs.steps.RecordViews.{record_number}
-use Rattle.dump_digest.specs.steps.DoneViews.{done_record}
-use Rattle.dump_pipeline.specs.declared.stage.Stage.{Stage}
-use Rattle.dump_pipeline.specs.steps.Parts.{HasReleased}
+use Rattle.dump_pipeline.proofs.Prelude.{◌+◌, ◌++◌, subst, sym, record_number, done_record, Stage, HasReleased}
 use Rattle.dump_pipeline.proofs.Released.{ended_with_nothing}
 use Rattle.dump_pipeline.proofs.sequence.step_record.Goals as goal
 

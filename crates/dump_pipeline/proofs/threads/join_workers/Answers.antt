@@ -1,9 +1,4 @@
-use Rattle.std.proofs.Common.{rules, vec_len}
-use Rattle.dump_lanes.specs.declared.pool.worker.WorkerPort.{WorkerPort}
-use Rattle.dump_lanes.specs.steps.PortViews.{worker_port}
-use Rattle.dump_pipeline.specs.declared.message.Job.{Job}
-use Rattle.dump_pipeline.specs.declared.message.Checked.{Checked}
-use Rattle.dump_pipeline.specs.steps.Parts.{HasWorked}
+use Rattle.dump_pipeline.proofs.Prelude.{rules, vec_len, WorkerPort, worker_port, Job, Checked, HasWorked}
 use Rattle.dump_pipeline.proofs.Steps.{map_push, all_push, len_push}
 use Rattle.dump_pipeline.proofs.threads.join_workers.Goals as goal
 

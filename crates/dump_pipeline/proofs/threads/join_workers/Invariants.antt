@@ -1,6 +1,4 @@
-use Rattle.std.proofs.Common.{◌≡◌, ◌≤◌, All, map, length, vec_len, vec_capacity}
-use Rattle.dump_lanes.specs.steps.PortViews.{worker_port}
-use Rattle.dump_pipeline.specs.steps.Parts.{HasWorked}
+use Rattle.dump_pipeline.proofs.Prelude.{◌≡◌, ◌≤◌, All, map, length, vec_len, vec_capacity, worker_port, HasWorked}
 use Rattle.dump_pipeline.proofs.threads.join_workers.Given as goal
 
 abbrev pub invariant-loop-worker : goal.invariant-loop-worker

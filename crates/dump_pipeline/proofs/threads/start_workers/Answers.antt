@@ -1,10 +1,5 @@
-use Rattle.std.proofs.Common.{rules, ap, sym, ◌∙◌, List, [], ◌∷◌, map, arith, length-append}
-use Rattle.std.proofs.lemmas.Iterator.Adapters.{YieldsList-from_vec}
-use Rattle.std.proofs.lemmas.Iterator.Consumers.{YieldsList-end}
-use Rattle.dump_lanes.specs.declared.pool.worker.WorkerPort.{WorkerPort}
-use Rattle.dump_lanes.specs.steps.PortViews.{worker_port}
-use Rattle.dump_pipeline.specs.declared.message.Job.{Job}
-use Rattle.dump_pipeline.specs.declared.message.Checked.{Checked}
+use Rattle.dump_pipeline.proofs.Prelude.{rules, ap, sym, ◌∙◌, List, [], ◌∷◌, map, arith, YieldsList-from_vec, YieldsList-end, WorkerPort, worker_port, Job, Checked}
+use Rattle.std.proofs.Common.{length-append}
 use Rattle.dump_pipeline.proofs.Steps.{map_push, map_same}
 use Rattle.dump_pipeline.proofs.threads.start_workers.Goals as goal
 

@@ -1,6 +1,4 @@
-use Rattle.std.proofs.Common.{◌≡◌, ◌≤◌, map, length, vec_len, vec_capacity}
-use Rattle.std.specs.Option.{ForSome}
-use Rattle.dump_lanes.specs.steps.PortViews.{worker_port}
+use Rattle.dump_pipeline.proofs.Prelude.{◌≡◌, ◌≤◌, map, length, vec_len, vec_capacity, ForSome, worker_port}
 use Rattle.dump_pipeline.proofs.threads.start_workers.Given as goal
 
 abbrev pub invariant-loop-port : goal.invariant-loop-port

@@ -1,6 +1,4 @@
-use Rattle.std.proofs.Common.{◌≡◌, false}
-use Rattle.dump_lanes.specs.steps.PortViews.{worker_port}
-use Rattle.dump_pipeline.specs.steps.Messages.{job_numbers, checked_numbers}
+use Rattle.dump_pipeline.proofs.Prelude.{◌≡◌, false, worker_port, job_numbers, checked_numbers}
 use Rattle.dump_pipeline.proofs.work.work.Given as goal
 
 abbrev pub invariant-loop : goal.invariant-loop

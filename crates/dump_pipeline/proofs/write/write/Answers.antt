@@ -1,11 +1,4 @@
-use Rattle.std.proofs.Common.{rules, ℕ, List, ap, sym, subst, ◌∙◌, length}
-use Rattle.dump_lanes.specs.steps.LaneEnds.{Receiving}
-use Rattle.dump_lanes.specs.steps.LaneViews.{receiving}
-use Rattle.dump_lanes.specs.steps.PortSides.{WriterSide}
-use Rattle.dump_lanes.specs.steps.PortViews.{credit_port}
-use Rattle.dump_pipeline.specs.declared.message.NumberedPiece.{NumberedPiece}
-use Rattle.dump_pipeline.specs.steps.Messages.{text_of}
-use Rattle.dump_pipeline.specs.steps.Parts.{HasReceived}
+use Rattle.dump_pipeline.proofs.Prelude.{rules, ℕ, List, ap, sym, subst, ◌∙◌, length, Receiving, receiving, WriterSide, credit_port, NumberedPiece, text_of, HasReceived}
 use Rattle.dump_pipeline.proofs.Steps.{len_push, text_more}
 use Rattle.dump_pipeline.proofs.write.write.Goals as goal
 

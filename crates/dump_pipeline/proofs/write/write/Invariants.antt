@@ -1,8 +1,4 @@
-use Rattle.std.proofs.Common.{◌≡◌, length}
-use Rattle.dump_lanes.specs.steps.LaneViews.{receiving}
-use Rattle.dump_lanes.specs.steps.PortViews.{credit_port}
-use Rattle.dump_pipeline.specs.steps.Messages.{text_of}
-use Rattle.dump_pipeline.specs.steps.Parts.{HasReceived, CountsFailed}
+use Rattle.dump_pipeline.proofs.Prelude.{◌≡◌, length, receiving, credit_port, text_of, HasReceived, CountsFailed}
 use Rattle.dump_pipeline.proofs.write.write.Given as goal
 
 abbrev pub invariant-loop : goal.invariant-loop

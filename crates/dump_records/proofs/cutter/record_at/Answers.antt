@@ -1,9 +1,4 @@
-use Rattle.std.proofs.Common.{◌+◌, ◌≤◌, sym, subst, drop, length, arith, refl, ap, ◌∙◌}
-use Rattle.dump_text.specs.HeaderBlock.{HasBlock}
-use Rattle.dump_text.specs.steps.Views.{block_dump, block_place, block_headers}
-use Rattle.dump_records.specs.RecordText.{IsCutFault}
-use Rattle.dump_records.specs.steps.HeaderReading.{IsHeaderOf}
-use Rattle.dump_records.specs.steps.Lawful.{LengthsOf}
+use Rattle.dump_records.proofs.Prelude.{◌+◌, ◌≤◌, sym, subst, drop, length, arith, refl, ap, ◌∙◌, HasBlock, block_dump, block_place, block_headers, IsCutFault, IsHeaderOf, LengthsOf}
 use Rattle.dump_records.proofs.CutLemmas.{own_record, item_record, item_cut, item_room}
 use Rattle.dump_records.proofs.PartLemmas.{handed_on, no_block, unlawful_here, short_here, stands_here}
 use Rattle.dump_records.proofs.cutter.record_at.Goals as goal

@@ -1,6 +1,4 @@
-use Rattle.std.proofs.Common.{ap, sym, ◌∙◌, is_some}
-use Rattle.dump_text.specs.Names.{copy_path_name}
-use Rattle.dump_records.specs.steps.HeaderReading.{lines_of}
+use Rattle.dump_records.proofs.Prelude.{ap, sym, ◌∙◌, is_some, copy_path_name, lines_of}
 use Rattle.dump_records.proofs.HeaderLemmas.{no_value}
 use Rattle.dump_records.proofs.header_reading.copy_source.Goals as goal
 

@@ -1,5 +1,4 @@
-use Rattle.std.proofs.Common.{sym, ap, ◌∙◌, unwrap_or}
-use Rattle.dump_records.specs.steps.HeaderReading.{lines_of}
+use Rattle.dump_records.proofs.Prelude.{sym, ap, ◌∙◌, unwrap_or, lines_of}
 use Rattle.dump_records.proofs.HeaderLemmas.{bad_sum_is}
 use Rattle.dump_records.proofs.header_reading.has_bad_sum.Goals as goal
 

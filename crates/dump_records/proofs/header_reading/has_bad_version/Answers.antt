@@ -1,7 +1,4 @@
-use Rattle.std.proofs.Common.{◌≡◌, ◌==◌, not, false, sym, ◌∙◌, refl}
-use Rattle.std.proofs.lemmas.Bool.{ne_eqb}
-use Rattle.dump_records.specs.HeaderRules.{is_read_version}
-use Rattle.dump_records.specs.steps.HeaderReading.{lines_of}
+use Rattle.dump_records.proofs.Prelude.{◌≡◌, ◌==◌, not, false, sym, ◌∙◌, refl, ne_eqb, is_read_version, lines_of}
 use Rattle.dump_records.proofs.HeaderLemmas.{bad_version_is}
 use Rattle.dump_records.proofs.header_reading.has_bad_version.Goals as goal
 

@@ -1,9 +1,4 @@
-use Rattle.std.proofs.Common.{◌≡◌, true, false, ap, sym, ◌∙◌, refl, is_some, option_and_then, option_map}
-use Rattle.dump_text.specs.Names.{version_name, revision_name, path_name}
-use Rattle.dump_text.specs.HeaderLine.{has_header}
-use Rattle.dump_text.specs.steps.ValuePlaces.{value_at}
-use Rattle.dump_records.specs.declared.kind.CopySource.{CopySource}
-use Rattle.dump_records.specs.steps.HeaderReading.{dump_of, lines_of}
+use Rattle.dump_records.proofs.Prelude.{◌≡◌, true, false, ap, sym, ◌∙◌, refl, is_some, option_and_then, option_map, version_name, revision_name, path_name, has_header, value_at, CopySource, dump_of, lines_of}
 use Rattle.dump_records.proofs.HeaderLemmas.{deciding, copy_both, copy_there, revision_there, no_number, no_value, place_there}
 use Rattle.dump_records.proofs.header_reading.parts_of.Goals as goal
 

@@ -1,6 +1,4 @@
-use Rattle.std.proofs.Common.{ℕ, ◌<◌, ◌^◌, ap, sym, ◌∙◌, is_some, subst, Option}
-use Rattle.std.specs.Option.{IfSome}
-use Rattle.dump_records.specs.steps.HeaderReading.{lines_of}
+use Rattle.dump_records.proofs.Prelude.{ℕ, ◌<◌, ◌^◌, ap, sym, ◌∙◌, is_some, subst, Option, IfSome, lines_of}
 use Rattle.dump_records.proofs.HeaderLemmas.{version_there, version_small}
 use Rattle.dump_records.proofs.header_reading.read_header.Goals as goal
 

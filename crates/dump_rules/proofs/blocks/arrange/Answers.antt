@@ -1,9 +1,4 @@
-use Rattle.std.proofs.Common.{List, sym, ap, ◌∙◌, subst, rules}
-use Rattle.std.specs.List.{list_any}
-use Rattle.std.specs.List.Sorted.{IsNonDecreasingBy}
-use Rattle.std.proofs.lemmas.List.Sorted.{IsNonDecreasingBy-from_sort_by_key, list_any-IsPermutation}
-use Rattle.dump_rules.specs.declared.blocks.Ends.{Ends}
-use Rattle.dump_rules.specs.steps.Blocks.{meets}
+use Rattle.dump_rules.proofs.Prelude.{List, sym, ap, ◌∙◌, subst, rules, list_any, IsNonDecreasingBy, IsNonDecreasingBy-from_sort_by_key, list_any-IsPermutation, Ends, meets}
 use Rattle.dump_rules.proofs.reading.BlockLemmas.{from_rises, to_rises, raised_meets}
 use Rattle.dump_rules.proofs.blocks.arrange.Goals as goal
 

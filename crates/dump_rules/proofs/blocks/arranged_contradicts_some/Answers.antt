@@ -1,5 +1,4 @@
-use Rattle.std.proofs.Common.{◌∙◌}
-use Rattle.dump_rules.specs.steps.ReadRanges.{range_parts}
+use Rattle.dump_rules.proofs.Prelude.{◌∙◌, range_parts}
 use Rattle.dump_rules.proofs.reading.BlockLemmas.{alike_contradict}
 use Rattle.dump_rules.proofs.blocks.arranged_contradicts_some.Goals as goal
 

@@ -1,6 +1,4 @@
-use Rattle.std.proofs.Common.{◌&&◌, ◌∙◌, sym, ap, not, take, Bool, Option, Bor, List, ℕ, option_copied}
-use Rattle.dump_rules.specs.steps.Blocks.{kind_agrees, parts_left}
-use Rattle.dump_rules.specs.steps.ReadRanges.{range_parts}
+use Rattle.dump_rules.proofs.Prelude.{◌&&◌, ◌∙◌, sym, ap, not, take, Bool, Option, Bor, List, ℕ, option_copied, kind_agrees, parts_left, range_parts}
 use Rattle.dump_rules.proofs.reading.BlockLemmas.{agrees_unless, one_kind_suffices}
 use Rattle.dump_rules.proofs.blocks.each_part_agrees.Goals as goal
 

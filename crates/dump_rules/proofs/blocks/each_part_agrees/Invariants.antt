@@ -1,6 +1,4 @@
-use Rattle.std.proofs.Common.{◌≡◌, option_copied}
-use Rattle.dump_rules.specs.steps.Blocks.{kind_agrees, left_size, parts_agree, parts_left}
-use Rattle.dump_rules.specs.steps.ReadRanges.{range_parts}
+use Rattle.dump_rules.proofs.Prelude.{◌≡◌, option_copied, kind_agrees, left_size, parts_agree, parts_left, range_parts}
 use Rattle.dump_rules.proofs.blocks.each_part_agrees.Given as goal
 
 abbrev pub invariant-loop-rest : goal.invariant-loop-rest

@@ -1,6 +1,4 @@
-use Rattle.std.proofs.Common.{◌≡◌, ℕ, ◌+◌, ◌≤◌, ◌&&◌, List, length, take}
-use Rattle.dump_rules.specs.steps.Blocks.{block_agrees, kind_agrees}
-use Rattle.dump_rules.specs.steps.ReadRanges.{range_parts}
+use Rattle.dump_rules.proofs.Prelude.{◌≡◌, ℕ, ◌+◌, ◌≤◌, ◌&&◌, List, length, take, block_agrees, kind_agrees, range_parts}
 use Rattle.dump_rules.proofs.blocks.fill.Given as goal
 
 abbrev pub invariant-places : goal.invariant-places

@@ -1,8 +1,4 @@
-use Rattle.std.proofs.Common.{rules, tests}
-use Rattle.std.proofs.lemmas.Iterator.Search.{any_from_yields_List}
-use Rattle.std.proofs.lemmas.Iterator.Splits.{YieldsList-from_slice_split}
-use Rattle.dump_rules.specs.steps.Blocks.{block_contradicts}
-use Rattle.dump_rules.specs.steps.ReadRanges.{range_of}
+use Rattle.dump_rules.proofs.Prelude.{rules, tests, any_from_yields_List, YieldsList-from_slice_split, block_contradicts, range_of}
 use Rattle.dump_rules.proofs.blocks.list_contradicts_some.Goals as goal
 
 pub returns : goal.returns

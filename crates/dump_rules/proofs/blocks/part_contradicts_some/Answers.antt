@@ -1,8 +1,4 @@
-use Rattle.std.proofs.Common.{◌≡◌, ◌&&◌, sym, ap, ◌∙◌, Bool, None, option_map}
-use Rattle.std.specs.List.{list_any}
-use Rattle.std.proofs.lemmas.Bool.{and_left}
-use Rattle.dump_rules.specs.steps.Blocks.{block_contradicts, meets}
-use Rattle.dump_rules.specs.steps.ReadRanges.{range_of, span_range}
+use Rattle.dump_rules.proofs.Prelude.{◌≡◌, ◌&&◌, sym, ap, ◌∙◌, Bool, None, option_map, list_any, and_left, block_contradicts, meets, range_of, span_range}
 use Rattle.dump_rules.proofs.reading.BlockLemmas.{differ, none_contradicts, meets_contradicts}
 use Rattle.dump_rules.proofs.blocks.part_contradicts_some.Goals as goal
 

@@ -1,5 +1,4 @@
-use Rattle.std.proofs.Common.{◌≡◌, ◌++◌, take, drop}
-use Rattle.dump_rules.specs.steps.Blocks.{raised_ends}
+use Rattle.dump_rules.proofs.Prelude.{◌≡◌, ◌++◌, take, drop, raised_ends}
 use Rattle.dump_rules.proofs.blocks.raise.Given as goal
 
 abbrev pub invariant-loop-ends : goal.invariant-loop-ends

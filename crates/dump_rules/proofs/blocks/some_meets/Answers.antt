@@ -1,6 +1,4 @@
-use Rattle.std.proofs.Common.{nat_le, rules}
-use Rattle.std.proofs.lemmas.List.Sorted.{IsPartitionPoint-from_clause, IsPartitionedBy-leb}
-use Rattle.dump_rules.specs.declared.blocks.Ends.{Ends}
+use Rattle.dump_rules.proofs.Prelude.{nat_le, rules, IsPartitionPoint-from_clause, IsPartitionedBy-leb, Ends}
 use Rattle.dump_rules.proofs.reading.BlockLemmas.{none_meets, last_meets}
 use Rattle.dump_rules.proofs.blocks.some_meets.Goals as goal
 

@@ -1,5 +1,4 @@
-use Rattle.std.proofs.Common.{◌≡◌, ◌+◌, ◌-◌, ◌≤◌, ◌==◌, not, take, length}
-use Rattle.std.specs.List.{suffix_len}
+use Rattle.dump_rules.proofs.Prelude.{◌≡◌, ◌+◌, ◌-◌, ◌≤◌, ◌==◌, not, take, length, suffix_len}
 use Rattle.dump_rules.proofs.mergeinfo.colon_end.Given as goal
 
 abbrev pub invariant-loop-place : goal.invariant-loop-place

@@ -1,6 +1,4 @@
-use Rattle.std.proofs.Common.{◌↔◌, ◌∙◌, IsTrue, ap, sym, subst, Bool}
-use Rattle.dump_rules.specs.Mergeinfo.{HasMergeLines}
-use Rattle.dump_rules.specs.steps.ReadMergeinfo.{lines_read}
+use Rattle.dump_rules.proofs.Prelude.{◌↔◌, ◌∙◌, IsTrue, ap, sym, subst, Bool, HasMergeLines, lines_read}
 use Rattle.dump_rules.proofs.reading.MergeinfoLemmas.{reads_exactly}
 use Rattle.dump_rules.proofs.mergeinfo.merge_reads.Goals as goal
 

@@ -1,7 +1,4 @@
-use Rattle.std.proofs.Common.{rules, tests}
-use Rattle.std.proofs.lemmas.Iterator.Search.{all_from_yields_List}
-use Rattle.std.proofs.lemmas.Iterator.Splits.{YieldsList-from_slice_split}
-use Rattle.dump_rules.specs.steps.ReadMergeinfo.{line_reads}
+use Rattle.dump_rules.proofs.Prelude.{rules, tests, all_from_yields_List, YieldsList-from_slice_split, line_reads}
 use Rattle.dump_rules.proofs.mergeinfo.parts_read.Goals as goal
 
 pub returns : goal.returns

@@ -1,5 +1,4 @@
-use Rattle.std.proofs.Common.{◌≡◌, length}
-use Rattle.dump_rules.specs.Prefix.{without_trailing_slashes}
+use Rattle.dump_rules.proofs.Prelude.{◌≡◌, length, without_trailing_slashes}
 use Rattle.dump_rules.proofs.prefix.trim_end.Given as goal
 
 abbrev pub invariant-loop-rest : goal.invariant-loop-rest

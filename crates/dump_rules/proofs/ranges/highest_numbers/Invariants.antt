@@ -1,5 +1,4 @@
-use Rattle.std.proofs.Common.{◌≡◌, length}
-use Rattle.dump_rules.specs.steps.ReadRanges.{highest_numbers, range_parts}
+use Rattle.dump_rules.proofs.Prelude.{◌≡◌, length, highest_numbers, range_parts}
 use Rattle.dump_rules.proofs.ranges.highest_numbers.Given as goal
 
 abbrev pub invariant-loop-comma : goal.invariant-loop-comma

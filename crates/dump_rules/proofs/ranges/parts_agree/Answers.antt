@@ -1,5 +1,4 @@
-use Rattle.std.proofs.Common.{sym, ap, ◌∙◌, is_some}
-use Rattle.dump_rules.specs.steps.ReadRanges.{range_parts}
+use Rattle.dump_rules.proofs.Prelude.{sym, ap, ◌∙◌, is_some, range_parts}
 use Rattle.dump_rules.proofs.reading.ClimbLemmas.{some_agrees}
 use Rattle.dump_rules.proofs.ranges.parts_agree.Goals as goal
 

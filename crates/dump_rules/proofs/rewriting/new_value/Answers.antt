@@ -1,8 +1,4 @@
-use Rattle.std.proofs.Common.{ℕ, List, [], sym, ap, subst, ◌∙◌}
-use Rattle.std.proofs.lemmas.Result.{IfOk-weaker}
-use Rattle.dump_rules.specs.steps.ReadMergeinfo.{lines_read}
-use Rattle.dump_rules.specs.steps.RewrittenLines.{text_lines, with_new_lines}
-use Rattle.dump_rules.specs.Rewriting.{IsNewMergeinfo}
+use Rattle.dump_rules.proofs.Prelude.{ℕ, List, [], sym, ap, subst, ◌∙◌, IfOk-weaker, lines_read, text_lines, with_new_lines, IsNewMergeinfo}
 use Rattle.dump_rules.proofs.reading.MergeinfoLemmas.{reads_exactly}
 use Rattle.dump_rules.proofs.new_values.ValueLemmas.{new_value}
 use Rattle.dump_rules.proofs.faults.FaultLemmas.{has_lines}

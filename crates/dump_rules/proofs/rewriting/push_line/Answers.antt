@@ -1,6 +1,4 @@
-use Rattle.std.proofs.Common.{ℕ, List, sym, ap, subst, ◌∙◌, map}
-use Rattle.dump_rules.specs.steps.ReadRanges.{span_range}
-use Rattle.dump_rules.specs.steps.NewRanges.{list_new}
+use Rattle.dump_rules.proofs.Prelude.{ℕ, List, sym, ap, subst, ◌∙◌, map, span_range, list_new}
 use Rattle.dump_rules.proofs.new_values.NewLineLemmas.{AreFit, line_fits}
 use Rattle.dump_rules.proofs.rewriting.push_line.Goals as goal
 

@@ -1,6 +1,4 @@
-use Rattle.std.proofs.Common.{◌≡◌, ◌==◌, ℕ, List, [], sym, ap, subst, ◌∙◌, OnOk}
-use Rattle.std.specs.List.{slice_split}
-use Rattle.dump_rules.specs.steps.RewrittenLines.{with_new_lines}
+use Rattle.dump_rules.proofs.Prelude.{◌≡◌, ◌==◌, ℕ, List, [], sym, ap, subst, ◌∙◌, OnOk, slice_split, with_new_lines}
 use Rattle.dump_rules.proofs.new_values.NewLineLemmas.{parts_first, lines_last, first_reads, step_lines}
 use Rattle.dump_rules.proofs.rewriting.push_lines.Goals as goal
 

@@ -1,7 +1,4 @@
-use Rattle.std.proofs.Common.{◌≡◌, ◌==◌, true, length}
-use Rattle.std.specs.List.{list_all, slice_split}
-use Rattle.dump_rules.specs.steps.ReadMergeinfo.{line_reads}
-use Rattle.dump_rules.specs.steps.RewrittenLines.{with_new_lines}
+use Rattle.dump_rules.proofs.Prelude.{◌≡◌, ◌==◌, true, length, list_all, slice_split, line_reads, with_new_lines}
 use Rattle.dump_rules.proofs.rewriting.push_lines.Given as goal
 
 abbrev pub invariant-loop-lf : goal.invariant-loop-lf

@@ -1,11 +1,4 @@
-use Rattle.std.proofs.Common.{◌<◌, ◌++◌, arith, ap, ◌∙◌, List, ℕ, map, length}
-use Rattle.std.proofs.lemmas.List.{length-map}
-use Rattle.std.proofs.lemmas.Bool.Decides.{nat_tests}
-use Rattle.std.proofs.lemmas.Result.{on_ok_weaker}
-use Rattle.dump_rules.specs.declared.ranges.Span.{Span}
-use Rattle.dump_rules.specs.RangeList.{runs_text}
-use Rattle.dump_rules.specs.steps.ReadRanges.{span_range}
-use Rattle.dump_rules.specs.steps.Runs.{joined}
+use Rattle.dump_rules.proofs.Prelude.{◌<◌, ◌++◌, arith, ap, ◌∙◌, List, ℕ, map, length, length-map, nat_tests, on_ok_weaker, Span, runs_text, span_range, joined}
 use Rattle.dump_rules.proofs.new_values.NewLineLemmas.{written_runs}
 use Rattle.dump_rules.proofs.rewriting.push_spans.Goals as goal
 

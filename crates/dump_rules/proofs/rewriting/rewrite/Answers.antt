@@ -1,9 +1,5 @@
-use Rattle.std.proofs.Common.{arith, ℕ, true, false, ◌≡◌, refl, sym, ap, ◌∙◌, Result, Ok, Err}
-use Rattle.std.specs.Result.{IsErrAnd}
-use Rattle.dump_rules.specs.declared.rewriting.RewriteFault.{RewriteFault}
+use Rattle.dump_rules.proofs.Prelude.{arith, ℕ, true, false, ◌≡◌, refl, sym, ap, ◌∙◌, Result, Ok, Err, IsErrAnd, RewriteFault, HasMissingSource, is_outside}
 use Rattle.dump_rules.specs.declared.rewriting.RewriteFault.TheVariants as faults
-use Rattle.dump_rules.specs.Rewriting.{HasMissingSource}
-use Rattle.dump_rules.specs.steps.Merged.{is_outside}
 use Rattle.dump_rules.proofs.faults.MergeFaults.{misses_means, foreign_means}
 use Rattle.dump_rules.proofs.faults.MergedMeaning.{first_sources, first_numbers}
 use Rattle.dump_rules.proofs.rewriting.rewrite.Goals as goal

@@ -1,6 +1,4 @@
-use Rattle.std.proofs.Common.{◌++◌, sym, ap, ◌∙◌, map, List}
-use Rattle.dump_rules.specs.RangeList.{Range}
-use Rattle.dump_rules.specs.steps.ReadRanges.{span_range}
+use Rattle.dump_rules.proofs.Prelude.{◌++◌, sym, ap, ◌∙◌, map, List, Range, span_range}
 use Rattle.dump_rules.proofs.new_values.RunsLemmas.{parts_step, parts_last}
 use Rattle.dump_rules.proofs.runs.parts_spans.Goals as goal
 

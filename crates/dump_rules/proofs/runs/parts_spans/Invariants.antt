@@ -1,6 +1,4 @@
-use Rattle.std.proofs.Common.{◌≡◌, ◌++◌, map, length}
-use Rattle.dump_rules.specs.steps.NewRanges.{parts_ranges}
-use Rattle.dump_rules.specs.steps.ReadRanges.{range_parts, span_range}
+use Rattle.dump_rules.proofs.Prelude.{◌≡◌, ◌++◌, map, length, parts_ranges, range_parts, span_range}
 use Rattle.dump_rules.proofs.runs.parts_spans.Given as goal
 
 abbrev pub invariant-loop-comma : goal.invariant-loop-comma

@@ -1,7 +1,4 @@
-use Rattle.std.proofs.Common.{◌+◌, ◌++◌, sym, ap, ◌∙◌, map, drop, List, ℕ, codes}
-use Rattle.dump_rules.specs.RangeList.{Range, run_text, runs_text}
-use Rattle.dump_rules.specs.steps.ReadRanges.{span_range}
-use Rattle.dump_rules.specs.steps.Runs.{joined_from}
+use Rattle.dump_rules.proofs.Prelude.{◌+◌, ◌++◌, sym, ap, ◌∙◌, map, drop, List, ℕ, codes, Range, run_text, runs_text, span_range, joined_from}
 use Rattle.dump_rules.proofs.new_values.RunsLemmas.{next_touches, next_left, written_on}
 use Rattle.dump_rules.proofs.runs.push_from.Goals as goal
 use Rattle.dump_rules.proofs.runs.push_from.Goals.{then-touches, else-touches+in_ok-push_run+in_ok-push_bytes}

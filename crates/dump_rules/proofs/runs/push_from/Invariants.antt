@@ -1,7 +1,4 @@
-use Rattle.std.proofs.Common.{◌≡◌, ◌++◌, map, drop}
-use Rattle.dump_rules.specs.RangeList.{runs_text}
-use Rattle.dump_rules.specs.steps.ReadRanges.{span_range}
-use Rattle.dump_rules.specs.steps.Runs.{joined_from}
+use Rattle.dump_rules.proofs.Prelude.{◌≡◌, ◌++◌, map, drop, runs_text, span_range, joined_from}
 use Rattle.dump_rules.proofs.runs.push_from.Given as goal
 
 abbrev pub invariant-loop-span : goal.invariant-loop-span

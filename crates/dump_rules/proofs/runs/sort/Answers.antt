@@ -1,5 +1,4 @@
-use Rattle.std.proofs.Common.{rules}
-use Rattle.std.proofs.lemmas.List.Sorted.{IsNonDecreasingBy-from_sort_by_key}
+use Rattle.dump_rules.proofs.Prelude.{rules, IsNonDecreasingBy-from_sort_by_key}
 use Rattle.dump_rules.proofs.new_values.RunsLemmas.{sorted_runs}
 use Rattle.dump_rules.proofs.runs.sort.Goals as goal
 

@@ -1,10 +1,5 @@
-use Rattle.std.proofs.Common.{◌≡◌, Bool, List, ℕ, Bor, Vec, Global, map, subst, sym, ap, ◌∙◌}
-use Rattle.std.specs.List.{list_any}
+use Rattle.dump_survey.proofs.Prelude.{◌≡◌, Bool, List, ℕ, Bor, Vec, Global, map, subst, sym, ap, ◌∙◌, list_any, Side, Need, uncovered, PathNeed, need_view, needs_of}
 use Rattle.std.specs.Result.{IfOk}
-use Rattle.dump_rules.specs.declared.options.Side.{Side}
-use Rattle.dump_survey.specs.declared.needs.Need.{Need}
-use Rattle.dump_survey.specs.KeepAsWell.{uncovered}
-use Rattle.dump_survey.specs.steps.Needs.{PathNeed, need_view, needs_of}
 use Rattle.dump_survey.proofs.NeedLemmas.{reordered, needs_match, kept_in}
 use Rattle.dump_survey.proofs.as_well.keep_as_well.Goals as goal
 use Rattle.dump_survey.proofs.as_well.keep_as_well.Goals.{then-eq, else-eq}

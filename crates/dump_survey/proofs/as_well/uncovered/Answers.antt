@@ -1,6 +1,4 @@
-use Rattle.std.proofs.Common.{◌≡◌, true, false, List, ℕ, map, Bor, Vec, Global, ap, ◌∙◌}
-use Rattle.std.specs.List.{list_any}
-use Rattle.dump_rules.specs.Prefix.{begins_path}
+use Rattle.dump_survey.proofs.Prelude.{◌≡◌, true, false, List, ℕ, map, Bor, Vec, Global, ap, ◌∙◌, list_any, begins_path}
 use Rattle.dump_survey.proofs.NeedLemmas.{path_behind, all_uncovered}
 use Rattle.dump_survey.proofs.as_well.uncovered.Goals as goal
 use Rattle.dump_survey.proofs.as_well.uncovered.Goals.{then-not-begin+in_ok-push, else-not-begin}

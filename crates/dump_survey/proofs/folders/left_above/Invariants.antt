@@ -1,5 +1,4 @@
-use Rattle.std.proofs.Common.{◌≡◌, [], flat_map, length, map}
-use Rattle.dump_survey.specs.Folders.{each_once, fronts}
+use Rattle.dump_survey.proofs.Prelude.{◌≡◌, [], flat_map, length, map, each_once, fronts}
 use Rattle.dump_survey.proofs.FolderLemmas.{left_of}
 use Rattle.dump_survey.proofs.folders.left_above.Given as goal
 

@@ -1,5 +1,4 @@
-use Rattle.std.proofs.Common.{map, sym, ap, subst}
-use Rattle.dump_survey.specs.steps.Needs.{Grown, AreNeeded, need_view}
+use Rattle.dump_survey.proofs.Prelude.{map, sym, ap, subst, Grown, AreNeeded, need_view}
 use Rattle.dump_survey.proofs.GrowthLemmas.{passes_go_on}
 use Rattle.dump_survey.proofs.growth.wanted_paths.Goals as goal
 

@@ -1,5 +1,4 @@
-use Rattle.std.proofs.Common.{map}
-use Rattle.dump_survey.specs.steps.Needs.{need_view, grown_prefixes, unmatched}
+use Rattle.dump_survey.proofs.Prelude.{map, need_view, grown_prefixes, unmatched}
 use Rattle.dump_survey.proofs.GrowthLemmas.{PassesSoFar}
 use Rattle.dump_survey.proofs.growth.wanted_paths.Given as goal
 

@@ -1,4 +1,4 @@
-use Rattle.std.proofs.Common.{◌++◌, ◌∙◌, refl, ap, sym}
+use Rattle.dump_survey.proofs.Prelude.{◌++◌, ◌∙◌, refl, ap, sym}
 use Rattle.dump_survey.specs.Kinds.{dump_kind_line}
 use Rattle.dump_survey.proofs.LineLemmas.{all_added, dump_lines, lines_if}
 use Rattle.dump_survey.proofs.kind_lines.push_dump_kinds.Goals as goal

@@ -1,13 +1,5 @@
-use Rattle.std.proofs.Common.{List, [], ◌∷◌, ◌++◌, flat_map, map, refl, ap, ◌∙◌, append-nil}
-use Rattle.dump_history.specs.Findings.{every_finding}
-use Rattle.dump_survey.specs.declared.finding.NodeFinding.{NodeFinding}
-use Rattle.dump_survey.specs.declared.prefix_findings.PrefixFinding.TheVariants.{NotShort, Idle}
-use Rattle.dump_survey.specs.DumpFindings.{listed_findings}
-use Rattle.dump_survey.specs.Kinds.{dump_kind_line, ending_kind_line, finding_kind, kind_line, prefix_kind, times_in_prefixes}
-use Rattle.dump_survey.specs.Meaning.{meaning}
-use Rattle.dump_survey.specs.PrefixFindings.{prefix_view}
-use Rattle.dump_survey.specs.SurveyEnds.{survey_ending}
-use Rattle.dump_survey.specs.steps.Counts.{count_in}
+use Rattle.dump_survey.proofs.Prelude.{List, [], ◌∷◌, ◌++◌, flat_map, map, refl, ap, ◌∙◌, append-nil, every_finding, NodeFinding, NotShort, Idle, listed_findings, ending_kind_line, finding_kind, kind_line, prefix_kind, times_in_prefixes, meaning, prefix_view, survey_ending, count_in}
+use Rattle.dump_survey.specs.Kinds.{dump_kind_line}
 use Rattle.dump_survey.proofs.LineLemmas.{all_added, map_ok}
 use Rattle.dump_survey.proofs.kind_lines.push_kind_lines.Goals as goal
 

@@ -1,7 +1,4 @@
-use Rattle.std.proofs.Common.{◌≡◌, ◌++◌, flat_map, length, map}
-use Rattle.dump_survey.specs.Kinds.{finding_kind, kind_line}
-use Rattle.dump_survey.specs.Meaning.{meaning}
-use Rattle.dump_survey.specs.steps.Counts.{count_in}
+use Rattle.dump_survey.proofs.Prelude.{◌≡◌, ◌++◌, flat_map, length, map, finding_kind, kind_line, meaning, count_in}
 use Rattle.dump_survey.proofs.kind_lines.push_node_kinds.Given as goal
 
 abbrev pub invariant-loop-left : goal.invariant-loop-left

@@ -1,6 +1,4 @@
-use Rattle.std.proofs.Common.{◌≡◌, ◌+◌, ◌≤◌, length, map}
-use Rattle.dump_survey.specs.Kinds.{times_in_prefixes}
-use Rattle.dump_survey.specs.PrefixFindings.{prefix_view}
+use Rattle.dump_survey.proofs.Prelude.{◌≡◌, ◌+◌, ◌≤◌, length, map, times_in_prefixes, prefix_view}
 use Rattle.dump_survey.proofs.kind_lines.times_in.Given as goal
 
 abbrev pub invariant-loop-left : goal.invariant-loop-left

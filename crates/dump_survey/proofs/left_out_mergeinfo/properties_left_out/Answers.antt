@@ -1,8 +1,4 @@
-use Rattle.std.proofs.Common.{◌≡◌, ◌+◌, ◌∙◌, List, [], length, ap, arith, inr, sym, length-append, zero-add, add-zero}
-use Rattle.dump_text.specs.PropertyList.{Property}
-use Rattle.dump_text.specs.steps.PropertyViews.{entry_property, entries_text}
-use Rattle.dump_text.proofs.PropertyLemmas.{entry_parts, left_of, property_block_once}
-use Rattle.dump_survey.specs.steps.LeftOutCounts.{properties_count}
+use Rattle.dump_survey.proofs.Prelude.{◌≡◌, ◌+◌, ◌∙◌, List, [], length, ap, arith, inr, sym, length-append, zero-add, add-zero, Property, entry_property, entries_text, entry_parts, left_of, property_block_once, properties_count}
 use Rattle.dump_survey.proofs.LeftOutLemmas.{entry_fits, count_next}
 use Rattle.dump_survey.proofs.left_out_mergeinfo.properties_left_out.Goals as goal
 

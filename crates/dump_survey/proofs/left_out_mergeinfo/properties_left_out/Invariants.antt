@@ -1,7 +1,4 @@
-use Rattle.std.proofs.Common.{◌≡◌, ◌+◌, ◌≤◌, List, length}
-use Rattle.dump_text.specs.PropertyList.{Property, IsPropertyBlock}
-use Rattle.dump_text.specs.steps.PropertyViews.{props_bytes, entries_text, HasEntriesLeft}
-use Rattle.dump_survey.specs.steps.LeftOutCounts.{properties_count}
+use Rattle.dump_survey.proofs.Prelude.{◌≡◌, ◌+◌, ◌≤◌, List, length, Property, IsPropertyBlock, props_bytes, entries_text, HasEntriesLeft, properties_count}
 use Rattle.dump_survey.proofs.left_out_mergeinfo.properties_left_out.Given as goal
 
 abbrev pub invariant-loop-entry : goal.invariant-loop-entry

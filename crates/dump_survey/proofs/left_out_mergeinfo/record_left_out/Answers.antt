@@ -1,5 +1,4 @@
-use Rattle.std.proofs.Common.{◌∙◌, sym}
-use Rattle.dump_records.specs.steps.RecordViews.{record_item}
+use Rattle.dump_survey.proofs.Prelude.{◌∙◌, sym, record_item}
 use Rattle.dump_survey.proofs.LeftOutLemmas.{left_out_of_other, left_out_of_read, left_out_of_unread}
 use Rattle.dump_survey.proofs.left_out_mergeinfo.record_left_out.Goals as goal
 

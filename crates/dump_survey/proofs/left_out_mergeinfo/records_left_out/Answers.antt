@@ -1,7 +1,4 @@
-use Rattle.std.proofs.Common.{subst, arith}
-use Rattle.dump_records.specs.declared.cutter.Cut.{Cut}
-use Rattle.dump_records.specs.DumpText.{Ending}
-use Rattle.dump_records.specs.steps.RecordViews.{CutStep}
+use Rattle.dump_survey.proofs.Prelude.{subst, arith, Cut, Ending, CutStep}
 use Rattle.dump_survey.proofs.LeftOutLemmas.{none_counted, counted_nearer, counted_fits, counted_more, all_counted}
 use Rattle.dump_survey.proofs.left_out_mergeinfo.records_left_out.Goals as goal
 

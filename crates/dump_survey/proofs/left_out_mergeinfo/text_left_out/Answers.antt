@@ -1,9 +1,4 @@
-use Rattle.std.proofs.Common.{◌∙◌, ◌==◌, ap, sym, count_by, rules, tests}
-use Rattle.std.specs.List.{slice_split}
-use Rattle.std.proofs.lemmas.Iterator.Consumers.{count_from_yields_List, YieldsList-from_filter, YieldsList-at}
-use Rattle.std.proofs.lemmas.Iterator.Splits.{YieldsList-from_slice_split}
-use Rattle.std.proofs.lemmas.List.Sums.{length-filter}
-use Rattle.dump_rules.specs.steps.RewrittenLines.{line_misses}
+use Rattle.dump_survey.proofs.Prelude.{◌∙◌, ◌==◌, ap, sym, count_by, rules, tests, slice_split, count_from_yields_List, YieldsList-from_filter, YieldsList-at, YieldsList-from_slice_split, length-filter, line_misses}
 use Rattle.dump_survey.proofs.LeftOutLemmas.{lines_of_some}
 use Rattle.dump_survey.proofs.left_out_mergeinfo.text_left_out.Goals as goal
 

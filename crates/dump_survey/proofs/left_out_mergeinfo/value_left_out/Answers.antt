@@ -1,6 +1,4 @@
-use Rattle.std.proofs.Common.{◌∙◌, ap, sym}
-use Rattle.dump_digest.proofs.MergeLemmas.{read_is}
-use Rattle.dump_survey.specs.steps.LeftOutCounts.{text_lines_count}
+use Rattle.dump_survey.proofs.Prelude.{◌∙◌, ap, sym, read_is, text_lines_count}
 use Rattle.dump_survey.proofs.LeftOutLemmas.{unread_count, read_count}
 use Rattle.dump_survey.proofs.left_out_mergeinfo.value_left_out.Goals as goal
 

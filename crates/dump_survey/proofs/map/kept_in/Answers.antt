@@ -1,7 +1,4 @@
-use Rattle.std.proofs.Common.{subst, arith}
-use Rattle.dump_records.specs.declared.cutter.Cut.{Cut}
-use Rattle.dump_records.specs.DumpText.{Ending}
-use Rattle.dump_records.specs.steps.RecordViews.{CutStep}
+use Rattle.dump_survey.proofs.Prelude.{subst, arith, Cut, Ending, CutStep}
 use Rattle.dump_survey.proofs.RevisionMapLemmas.{all_kept_ok, cutter_closer, kept_more, none_kept, tally_room}
 use Rattle.dump_survey.proofs.map.kept_in.Goals as goal
 

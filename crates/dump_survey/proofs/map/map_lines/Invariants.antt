@@ -1,6 +1,5 @@
-use Rattle.std.proofs.Common.{◌≡◌, ◌++◌, flat_map, length}
-use Rattle.dump_survey.specs.RevisionMap.{map_line, map_lines}
-use Rattle.dump_survey.specs.steps.KeptNumbers.{kept_view}
+use Rattle.dump_survey.proofs.Prelude.{◌≡◌, ◌++◌, flat_map, length, map_lines, kept_view}
+use Rattle.dump_survey.specs.RevisionMap.{map_line}
 use Rattle.dump_survey.proofs.map.map_lines.Given as goal
 
 abbrev pub invariant-loop-left : goal.invariant-loop-left

@@ -1,6 +1,5 @@
-use Rattle.std.proofs.Common.{rules, nat_lt}
-use Rattle.std.proofs.lemmas.List.Sorted.{IsPartitionPoint-from_clause, IsPartitionedBy-ltb}
-use Rattle.dump_rules.proofs.ReachLemmas.{count_at_point}
+use Rattle.dump_survey.proofs.Prelude.{rules, IsPartitionPoint-from_clause, IsPartitionedBy-ltb, count_at_point}
+use Rattle.std.proofs.Common.{nat_lt}
 use Rattle.dump_survey.proofs.map.written_number.Goals as goal
 
 pub returns : goal.returns

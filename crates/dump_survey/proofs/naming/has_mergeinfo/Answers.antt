@@ -1,8 +1,4 @@
-use Rattle.std.proofs.Common.{◌≡◌, [], sym, ap, ◌∙◌, inr}
-use Rattle.std.specs.List.{list_any}
-use Rattle.dump_text.specs.steps.PropertyViews.{entry_property}
-use Rattle.dump_text.proofs.PropertyLemmas.{entry_parts, left_of, property_block_once}
-use Rattle.dump_digest.specs.RecordParts.{is_mergeinfo}
+use Rattle.dump_survey.proofs.Prelude.{◌≡◌, [], sym, ap, ◌∙◌, inr, list_any, entry_property, entry_parts, left_of, property_block_once, is_mergeinfo}
 use Rattle.dump_survey.proofs.MergeinfoLemmas.{merge_stops, merge_goes}
 use Rattle.dump_survey.proofs.naming.has_mergeinfo.Goals as goal
 

@@ -1,8 +1,4 @@
-use Rattle.std.proofs.Common.{◌≡◌, List}
-use Rattle.std.specs.List.{list_any}
-use Rattle.dump_text.specs.PropertyList.{Property, IsPropertyBlock}
-use Rattle.dump_text.specs.steps.PropertyViews.{props_bytes, HasEntriesLeft}
-use Rattle.dump_digest.specs.RecordParts.{is_mergeinfo}
+use Rattle.dump_survey.proofs.Prelude.{◌≡◌, List, list_any, Property, IsPropertyBlock, props_bytes, HasEntriesLeft, is_mergeinfo}
 use Rattle.dump_survey.proofs.naming.has_mergeinfo.Given as goal
 
 abbrev pub invariant-loop-entry : goal.invariant-loop-entry

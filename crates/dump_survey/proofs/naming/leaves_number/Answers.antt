@@ -1,5 +1,4 @@
-use Rattle.std.proofs.Common.{sym, ◌∙◌}
-use Rattle.dump_records.specs.steps.RecordViews.{record_item}
+use Rattle.dump_survey.proofs.Prelude.{sym, ◌∙◌, record_item}
 use Rattle.dump_survey.proofs.LeftLemmas.{left_named}
 use Rattle.dump_survey.proofs.naming.leaves_number.Goals as goal
 

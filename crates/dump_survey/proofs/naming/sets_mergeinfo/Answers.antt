@@ -1,5 +1,4 @@
-use Rattle.std.proofs.Common.{◌≡◌, true, false, refl}
-use Rattle.dump_records.specs.steps.RecordViews.{record_item}
+use Rattle.dump_survey.proofs.Prelude.{◌≡◌, true, false, refl, record_item}
 use Rattle.dump_survey.proofs.MergeinfoLemmas.{merges_read, merges_unread}
 use Rattle.dump_survey.proofs.naming.sets_mergeinfo.Goals as goal
 

@@ -1,8 +1,4 @@
-use Rattle.std.proofs.Common.{map, option_map, subst, ap, arith}
-use Rattle.dump_records.specs.declared.cutter.Cut.{Cut}
-use Rattle.dump_records.specs.DumpText.{Ending}
-use Rattle.dump_records.specs.steps.RecordViews.{CutStep}
-use Rattle.dump_survey.specs.steps.Needs.{need_view}
+use Rattle.dump_survey.proofs.Prelude.{map, option_map, subst, ap, arith, Cut, Ending, CutStep, need_view}
 use Rattle.dump_survey.proofs.NeedLemmas.{no_needs, cutter_nearer, needs_more, all_needs, pushed, not_pushed}
 use Rattle.dump_survey.proofs.needs.needs_in.Goals as goal
 

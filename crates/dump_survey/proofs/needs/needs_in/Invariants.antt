@@ -1,5 +1,4 @@
-use Rattle.std.proofs.Common.{◌-◌, length, map}
-use Rattle.dump_survey.specs.steps.Needs.{need_view}
+use Rattle.dump_survey.proofs.Prelude.{◌-◌, length, map, need_view}
 use Rattle.dump_survey.proofs.NeedLemmas.{NeedsSoFar}
 use Rattle.dump_survey.proofs.needs.needs_in.Given as goal
 

@@ -1,5 +1,4 @@
-use Rattle.std.proofs.Common.{◌∙◌}
-use Rattle.dump_records.specs.steps.RecordViews.{record_item}
+use Rattle.dump_survey.proofs.Prelude.{◌∙◌, record_item}
 use Rattle.dump_survey.proofs.NodeLemmas.{copy_there}
 use Rattle.dump_survey.proofs.node.is_copy.Goals as goal
 

@@ -1,7 +1,5 @@
-use Rattle.std.proofs.Common.{List, ℕ, [], unwrap_or}
-use Rattle.dump_text.specs.HeaderLine.{header_value}
-use Rattle.dump_text.specs.Names.{action_name}
-use Rattle.dump_records.specs.steps.RecordViews.{record_item}
+use Rattle.dump_survey.proofs.Prelude.{List, ℕ, [], header_value, action_name, record_item}
+use Rattle.std.proofs.Common.{unwrap_or}
 use Rattle.dump_survey.proofs.ActionLemmas.{deletes_by_name, known_by_name, makes_by_name}
 use Rattle.dump_survey.proofs.node_headers.action_of.Goals as goal
 

@@ -1,7 +1,4 @@
-use Rattle.std.proofs.Common.{not, ap, ◌∙◌}
-use Rattle.dump_text.specs.HeaderLine.{has_byte}
-use Rattle.dump_text.specs.HeaderBlock.{block_text}
-use Rattle.dump_records.specs.steps.RecordViews.{record_item}
+use Rattle.dump_survey.proofs.Prelude.{not, ap, ◌∙◌, has_byte, block_text, record_item}
 use Rattle.dump_survey.proofs.PlainLemmas.{plain_block}
 use Rattle.dump_survey.proofs.plain.are_lines_plain.Goals as goal
 

@@ -1,6 +1,4 @@
-use Rattle.std.proofs.Common.{◌≡◌, [], sym, ap, ◌∙◌, inr}
-use Rattle.dump_text.specs.steps.PropertyViews.{entry_property}
-use Rattle.dump_text.proofs.PropertyLemmas.{entry_parts, left_of, property_block_once}
+use Rattle.dump_survey.proofs.Prelude.{◌≡◌, [], sym, ap, ◌∙◌, inr, entry_property, entry_parts, left_of, property_block_once}
 use Rattle.dump_survey.proofs.PlainLemmas.{are_plain, plain_stops, plain_goes}
 use Rattle.dump_survey.proofs.plain.are_names_plain.Goals as goal
 

@@ -1,8 +1,4 @@
-use Rattle.std.proofs.Common.{◌≡◌, List, not}
-use Rattle.std.specs.List.{list_all}
-use Rattle.dump_text.specs.HeaderLine.{has_byte}
-use Rattle.dump_text.specs.PropertyList.{Property, IsPropertyBlock}
-use Rattle.dump_text.specs.steps.PropertyViews.{props_bytes, HasEntriesLeft}
+use Rattle.dump_survey.proofs.Prelude.{◌≡◌, List, not, list_all, has_byte, Property, IsPropertyBlock, props_bytes, HasEntriesLeft}
 use Rattle.dump_survey.proofs.plain.are_names_plain.Given as goal
 
 abbrev pub invariant-loop-entry : goal.invariant-loop-entry

@@ -1,7 +1,4 @@
-use Rattle.std.proofs.Common.{List, ℕ, sym, ap, ◌∙◌, subst}
-use Rattle.dump_records.specs.steps.RecordViews.{record_item}
-use Rattle.dump_rules.specs.Prefix.{bare_path, begins_path}
-use Rattle.dump_survey.specs.steps.IdlePrefixes.{AreWithout}
+use Rattle.dump_survey.proofs.Prelude.{List, ℕ, sym, ap, ◌∙◌, subst, record_item, bare_path, begins_path, AreWithout}
 use Rattle.dump_survey.proofs.IdleLemmas.{both_leave, path_leaves}
 use Rattle.dump_survey.proofs.prefix_findings.leave_matched.Goals as goal
 

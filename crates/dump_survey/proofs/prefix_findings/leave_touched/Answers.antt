@@ -1,6 +1,4 @@
-use Rattle.std.proofs.Common.{refl}
-use Rattle.dump_records.specs.steps.RecordViews.{record_item}
-use Rattle.dump_survey.specs.steps.IdlePrefixes.{is_begun_by, is_below_copy}
+use Rattle.dump_survey.proofs.Prelude.{refl, record_item, is_begun_by, is_below_copy}
 use Rattle.dump_survey.proofs.IdleLemmas.{both_without}
 use Rattle.dump_survey.proofs.prefix_findings.leave_touched.Goals as goal
 

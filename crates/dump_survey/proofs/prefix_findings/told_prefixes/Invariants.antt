@@ -1,6 +1,4 @@
-use Rattle.std.proofs.Common.{◌≡◌, ◌++◌, length, map}
-use Rattle.dump_survey.specs.PrefixFindings.{prefix_view}
-use Rattle.dump_survey.specs.steps.IdlePrefixes.{prefixes_by}
+use Rattle.dump_survey.proofs.Prelude.{◌≡◌, ◌++◌, length, map, prefix_view, prefixes_by}
 use Rattle.dump_survey.proofs.prefix_findings.told_prefixes.Given as goal
 
 abbrev pub invariant-loop-left : goal.invariant-loop-left

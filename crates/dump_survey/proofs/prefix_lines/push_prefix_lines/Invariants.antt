@@ -1,6 +1,4 @@
-use Rattle.std.proofs.Common.{◌≡◌, ◌++◌, length, map}
-use Rattle.dump_survey.specs.PrefixFindings.{prefix_view}
-use Rattle.dump_survey.specs.PrefixLines.{prefix_lines}
+use Rattle.dump_survey.proofs.Prelude.{◌≡◌, ◌++◌, length, map, prefix_view, prefix_lines}
 use Rattle.dump_survey.proofs.prefix_lines.push_prefix_lines.Given as goal
 
 abbrev pub invariant-loop-left : goal.invariant-loop-left

@@ -1,5 +1,4 @@
-use Rattle.std.proofs.Common.{◌≡◌, length}
-use Rattle.dump_survey.specs.steps.Prefixes.{behind_slash}
+use Rattle.dump_survey.proofs.Prelude.{◌≡◌, length, behind_slash}
 use Rattle.dump_survey.proofs.prefixes.behind.Given as goal
 
 abbrev pub invariant-loop-front : goal.invariant-loop-front

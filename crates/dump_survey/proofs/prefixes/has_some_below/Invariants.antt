@@ -1,6 +1,4 @@
-use Rattle.std.proofs.Common.{◌≡◌, length}
-use Rattle.std.specs.List.{list_any}
-use Rattle.dump_survey.specs.steps.Prefixes.{is_below}
+use Rattle.dump_survey.proofs.Prelude.{◌≡◌, length, list_any, is_below}
 use Rattle.dump_survey.proofs.prefixes.has_some_below.Given as goal
 
 abbrev pub invariant-loop-left : goal.invariant-loop-left

@@ -1,9 +1,4 @@
-use Rattle.std.proofs.Common.{arith, ◌∙◌, ◌||◌, sym, ap}
-use Rattle.dump_rules.specs.declared.merged.Merged.{Merged}
-use Rattle.dump_rules.specs.steps.Merged.{is_outside}
-use Rattle.dump_rules.specs.steps.RewrittenLines.{value_foreign, value_misses}
-use Rattle.dump_rules.proofs.faults.MergedMeaning.{none_outside}
-use Rattle.dump_digest.proofs.SaidLemmas.{unread_value, reads_value}
+use Rattle.dump_survey.proofs.Prelude.{arith, ◌∙◌, ◌||◌, sym, ap, Merged, is_outside, value_foreign, value_misses, none_outside, unread_value, reads_value}
 use Rattle.dump_survey.proofs.RefusedLemmas.{refused_of_unread, refused_of_value}
 use Rattle.dump_survey.proofs.refused.entry_refused.Goals as goal
 

@@ -1,8 +1,4 @@
-use Rattle.std.proofs.Common.{◌≡◌, List, [], subst, inr, refl}
-use Rattle.dump_text.specs.PropertyList.{Property}
-use Rattle.dump_text.specs.steps.PropertyViews.{entry_property}
-use Rattle.dump_text.proofs.PropertyLemmas.{entry_parts, left_of, property_block_once}
-use Rattle.dump_survey.specs.steps.Found.{node_faults}
+use Rattle.dump_survey.proofs.Prelude.{◌≡◌, List, [], subst, inr, refl, Property, entry_property, entry_parts, left_of, property_block_once, node_faults}
 use Rattle.dump_survey.proofs.RefusedLemmas.{IsRefusedUpTo, refused_next, refused_at_last}
 use Rattle.dump_survey.proofs.refused.refused_in.Goals as goal
 

@@ -1,6 +1,4 @@
-use Rattle.std.proofs.Common.{List}
-use Rattle.dump_text.specs.PropertyList.{Property, IsPropertyBlock}
-use Rattle.dump_text.specs.steps.PropertyViews.{props_bytes, HasEntriesLeft}
+use Rattle.dump_survey.proofs.Prelude.{List, Property, IsPropertyBlock, props_bytes, HasEntriesLeft}
 use Rattle.dump_survey.proofs.RefusedLemmas.{IsRefusedUpTo}
 use Rattle.dump_survey.proofs.refused.refused_in.Given as goal
 

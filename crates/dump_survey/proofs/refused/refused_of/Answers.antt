@@ -1,6 +1,4 @@
-use Rattle.std.proofs.Common.{ap, ◌∙◌}
-use Rattle.dump_records.specs.steps.RecordViews.{record_item}
-use Rattle.dump_history.specs.steps.NodeReading.{faults_read}
+use Rattle.dump_survey.proofs.Prelude.{ap, ◌∙◌, record_item, faults_read}
 use Rattle.dump_survey.proofs.RefusedLemmas.{kept_refused, unread_refused}
 use Rattle.dump_survey.proofs.refused.refused_of.Goals as goal
 

@@ -1,5 +1,4 @@
-use Rattle.std.proofs.Common.{◌≡◌, length}
-use Rattle.dump_survey.specs.steps.Names.{are_short_from}
+use Rattle.dump_survey.proofs.Prelude.{◌≡◌, length, are_short_from}
 use Rattle.dump_survey.specs.declared.short_paths.Name.TheVariants.{Empty}
 use Rattle.dump_survey.proofs.short_paths.are_short.Given as goal
 

@@ -1,5 +1,4 @@
-use Rattle.std.proofs.Common.{◌≡◌, length}
-use Rattle.dump_rules.specs.Prefix.{without_leading_slashes}
+use Rattle.dump_survey.proofs.Prelude.{◌≡◌, length, without_leading_slashes}
 use Rattle.dump_survey.proofs.slashes.behind_slashes.Given as goal
 
 abbrev pub invariant-loop-rest : goal.invariant-loop-rest

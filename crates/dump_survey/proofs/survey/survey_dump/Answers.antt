@@ -1,8 +1,4 @@
-use Rattle.std.proofs.Common.{map, subst, sym, arith}
-use Rattle.dump_survey.specs.declared.surveyor.Step.{Step}
-use Rattle.dump_survey.specs.PrefixFindings.{prefix_view}
-use Rattle.dump_survey.specs.Told.{told_view}
-use Rattle.dump_survey.specs.steps.Steps.{SurveyStep}
+use Rattle.dump_survey.proofs.Prelude.{map, subst, sym, arith, Step, prefix_view, told_view, SurveyStep}
 use Rattle.dump_survey.proofs.SurveyLemmas.{HaveTold, node_told, nothing_told, node_nearer, other_nearer, all_told, prefixes_told}
 use Rattle.dump_survey.proofs.survey.survey_dump.Goals as goal
 

@@ -1,5 +1,4 @@
-use Rattle.std.proofs.Common.{◌-◌, length, map}
-use Rattle.dump_survey.specs.Told.{told_view}
+use Rattle.dump_survey.proofs.Prelude.{◌-◌, length, map, told_view}
 use Rattle.dump_survey.proofs.SurveyLemmas.{HaveTold}
 use Rattle.dump_survey.proofs.survey.survey_dump.Given as goal
 

@@ -1,5 +1,4 @@
-use Rattle.std.proofs.Common.{◌≡◌, ◌++◌, length, map}
-use Rattle.dump_survey.specs.AsWellLines.{as_well_lines}
+use Rattle.dump_survey.proofs.Prelude.{◌≡◌, ◌++◌, length, map, as_well_lines}
 use Rattle.dump_survey.proofs.survey_lines.as_well_lines.Given as goal
 
 abbrev pub invariant-loop-left : goal.invariant-loop-left

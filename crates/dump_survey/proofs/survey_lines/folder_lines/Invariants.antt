@@ -1,5 +1,4 @@
-use Rattle.std.proofs.Common.{◌≡◌, ◌++◌, length, map}
-use Rattle.dump_survey.specs.LinesBehind.{folder_lines}
+use Rattle.dump_survey.proofs.Prelude.{◌≡◌, ◌++◌, length, map, folder_lines}
 use Rattle.dump_survey.proofs.survey_lines.folder_lines.Given as goal
 
 abbrev pub invariant-loop-left : goal.invariant-loop-left

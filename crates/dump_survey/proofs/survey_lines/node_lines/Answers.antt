@@ -1,7 +1,5 @@
-use Rattle.std.proofs.Common.{◌≡◌, ℕ, ◌<◌, List, [], ◌∷◌, ◌++◌, flat_map, length, sym, ap, ◌∙◌, append-nil, refl, arith}
-use Rattle.dump_survey.specs.declared.finding.NodeFinding.{NodeFinding}
+use Rattle.dump_survey.proofs.Prelude.{◌≡◌, ℕ, ◌<◌, List, [], ◌∷◌, ◌++◌, flat_map, length, sym, ap, ◌∙◌, append-nil, refl, arith, NodeFinding, told_of_finding}
 use Rattle.dump_survey.specs.Lines.{node_line}
-use Rattle.dump_survey.specs.steps.Surveyed.{told_of_finding}
 use Rattle.dump_survey.proofs.ToldLemmas.{told_left}
 use Rattle.dump_survey.proofs.survey_lines.node_lines.Goals as goal
 

@@ -1,6 +1,5 @@
-use Rattle.std.proofs.Common.{◌≡◌, ◌++◌, length, flat_map}
+use Rattle.dump_survey.proofs.Prelude.{◌≡◌, ◌++◌, length, flat_map, told_of_finding, told_of_node}
 use Rattle.dump_survey.specs.Lines.{node_line}
-use Rattle.dump_survey.specs.steps.Surveyed.{told_of_finding, told_of_node}
 use Rattle.dump_survey.proofs.ToldLemmas.{told_left}
 use Rattle.dump_survey.proofs.survey_lines.node_lines.Given as goal
 

@@ -1,5 +1,4 @@
-use Rattle.std.proofs.Common.{◌++◌, ◌∙◌, refl, ap, sym}
-use Rattle.dump_survey.specs.DumpTold.{place_in}
+use Rattle.dump_survey.proofs.Prelude.{◌++◌, ◌∙◌, refl, ap, sym, place_in}
 use Rattle.dump_survey.specs.Lines.{at_words, dump_words}
 use Rattle.dump_survey.proofs.LineLemmas.{all_added, lines_if, told_lines}
 use Rattle.dump_survey.proofs.survey_lines.push_dump_lines.Goals as goal

@@ -1,6 +1,5 @@
-use Rattle.std.proofs.Common.{[], ◌∷◌, ◌++◌, ◌∙◌, refl, ap, codes, decimal, if◌then◌else◌}
-use Rattle.dump_survey.specs.Lines.{cut_words, finding_words, node_line, place_text, shown_path, source_text, tells_source}
-use Rattle.dump_survey.specs.Told.{told_view}
+use Rattle.dump_survey.proofs.Prelude.{[], ◌∷◌, ◌++◌, ◌∙◌, refl, ap, codes, decimal, if◌then◌else◌, finding_words, shown_path, tells_source, told_view}
+use Rattle.dump_survey.specs.Lines.{cut_words, node_line, place_text, source_text}
 use Rattle.dump_survey.proofs.LineLemmas.{all_added}
 use Rattle.dump_survey.proofs.survey_lines.push_node_line.Goals as goal
 

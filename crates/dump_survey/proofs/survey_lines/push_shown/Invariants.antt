@@ -1,4 +1,4 @@
-use Rattle.std.proofs.Common.{◌≡◌, ◌++◌, length, flat_map}
+use Rattle.dump_survey.proofs.Prelude.{◌≡◌, ◌++◌, length, flat_map}
 use Rattle.dump_survey.specs.Lines.{shown_byte}
 use Rattle.dump_survey.proofs.survey_lines.push_shown.Given as goal
 

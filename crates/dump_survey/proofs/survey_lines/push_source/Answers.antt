@@ -1,6 +1,5 @@
-use Rattle.std.proofs.Common.{[], ◌∷◌, refl, codes, decimal}
-use Rattle.dump_survey.specs.Lines.{shown_path, source_text}
-use Rattle.dump_survey.specs.Told.{told_view}
+use Rattle.dump_survey.proofs.Prelude.{[], ◌∷◌, refl, codes, decimal, shown_path, told_view}
+use Rattle.dump_survey.specs.Lines.{source_text}
 use Rattle.dump_survey.proofs.LineLemmas.{all_added, map_ok}
 use Rattle.dump_survey.proofs.survey_lines.push_source.Goals as goal
 

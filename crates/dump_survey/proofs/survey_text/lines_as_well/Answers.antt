@@ -1,5 +1,4 @@
-use Rattle.std.proofs.Common.{sym, subst}
-use Rattle.dump_survey.specs.AsWellLines.{AreAsWellLines}
+use Rattle.dump_survey.proofs.Prelude.{sym, subst, AreAsWellLines}
 use Rattle.dump_survey.proofs.SilentLemmas.{no_lines_as_well}
 use Rattle.dump_survey.proofs.survey_text.lines_as_well.Goals as goal
 

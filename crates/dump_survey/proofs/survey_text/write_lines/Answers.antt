@@ -1,5 +1,4 @@
-use Rattle.std.proofs.Common.{◌≡◌, ◌++◌, ◌∙◌, take, drop, ap, sym, subst}
-use Rattle.std.specs.Io.KnownBytes.{Appends}
+use Rattle.dump_survey.proofs.Prelude.{◌≡◌, ◌++◌, ◌∙◌, take, drop, ap, sym, subst, Appends}
 use Rattle.std.proofs.lemmas.List.{take-append-drop}
 use Rattle.dump_survey.proofs.survey_text.write_lines.Goals as goal
 

@@ -1,12 +1,4 @@
-use Rattle.std.proofs.Common.{◌∙◌, false, not, ◌==◌, List, ℕ, length, map, refl, subst, sym, ap, arith, rules}
-use Rattle.std.specs.Io.KnownBytes.{Appends}
-use Rattle.dump_writer.specs.SinkWords.{HasFailedSince}
-use Rattle.dump_survey.specs.declared.surveyor.Step.{Step}
-use Rattle.dump_survey.specs.PrefixFindings.{prefix_view}
-use Rattle.dump_survey.specs.steps.Counts.{no_counts}
-use Rattle.dump_survey.specs.steps.Steps.{SurveyStep}
-use Rattle.dump_survey.specs.steps.Surveying.{Surveying}
-use Rattle.dump_survey.specs.LinesBehind.{TakesSome}
+use Rattle.dump_survey.proofs.Prelude.{◌∙◌, false, not, ◌==◌, List, ℕ, length, map, refl, subst, sym, ap, arith, rules, Appends, HasFailedSince, Step, prefix_view, no_counts, SurveyStep, Surveying, TakesSome}
 use Rattle.dump_survey.proofs.SurveyLemmas.{node_nearer, other_nearer, prefixes_told}
 use Rattle.dump_survey.proofs.WritingLemmas.{HasWritten, at_err, no_error, broken_in_end, broken_in_node, broken_off, node_written, nothing_written, other_written, silent_written, whole_written}
 use Rattle.dump_survey.proofs.survey_text.write_survey.Goals as goal

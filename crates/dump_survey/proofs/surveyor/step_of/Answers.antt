@@ -1,8 +1,4 @@
-use Rattle.std.proofs.Common.{subst, refl, sym, ap, ◌∙◌, option_map}
-use Rattle.dump_records.specs.steps.RecordViews.{record_item}
-use Rattle.dump_survey.specs.declared.revision_numbers.Numbers.{Numbers}
-use Rattle.dump_survey.specs.declared.tally.Present.{Present}
-use Rattle.dump_survey.specs.steps.Found.{IsFoundIn}
+use Rattle.dump_survey.proofs.Prelude.{subst, refl, sym, ap, ◌∙◌, option_map, record_item, Numbers, Present, IsFoundIn}
 use Rattle.dump_survey.proofs.surveyor.step_of.Goals as goal
 
 pub returns : goal.returns

@@ -1,9 +1,5 @@
-use Rattle.std.proofs.Common.{◌≡◌, false, ◌&&◌, sym, ap, ◌∙◌, arith}
+use Rattle.dump_survey.proofs.Prelude.{◌≡◌, false, ◌&&◌, sym, ap, ◌∙◌, arith, and-false, nat_tests, record_item, makes_copy}
 use Rattle.std.specs.Prelude.{nat_lt}
-use Rattle.std.proofs.Math.Bool.{and-false}
-use Rattle.std.proofs.lemmas.Bool.Decides.{nat_tests}
-use Rattle.dump_records.specs.steps.RecordViews.{record_item}
-use Rattle.dump_history.specs.Findings.{makes_copy}
 use Rattle.dump_survey.proofs.tally.copies_from_before.Goals as goal
 
 pub returns-else-copy_revision_of-first : goal.returns-else-copy_revision_of-first

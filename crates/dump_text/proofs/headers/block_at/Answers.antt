@@ -1,9 +1,4 @@
-use Rattle.std.proofs.Common.{◌≡◌, [], ◌∷◌, ◌++◌, ◌&&◌, length, true, refl, sym, ap, ◌∙◌}
-use Rattle.std.proofs.lemmas.Bool.{eqb-true}
-use Rattle.dump_text.specs.Names.{known_names}
-use Rattle.dump_text.specs.steps.KnownValues.{name_text, all_names, may_follow}
-use Rattle.dump_text.specs.HeaderLine.{header_value}
-use Rattle.dump_text.specs.HeaderBlock.{lines_bytes}
+use Rattle.dump_text.proofs.Prelude.{◌≡◌, [], ◌∷◌, ◌++◌, ◌&&◌, length, true, refl, sym, ap, ◌∙◌, subst, eqb-true, known_names, name_text, all_names, noted_span, may_follow, IsSpanOf, header_value, lines_bytes}
 use Rattle.dump_text.proofs.BoolLemmas.{both_true}
 use Rattle.dump_text.proofs.ScanLemmas.{lines_behind, lines_more, all_more, is_line, lines_end, clash, no_line_here}
 use Rattle.dump_text.proofs.BlockLemmas.{counts_once, once_more, block_end, no_block-lines, no_block-once, no_block-empty}
@@ -20,8 +15,11 @@ returns-then-size-gt0 c =
     let empty = eqb-true _ 0 (sym c.is_empty.ensures ∙ c.if-is_empty.true) in
     let (end, read) = lines_end c.args.text.now _ c.loop-whole.rest.now _ hs is all c.in-Some.ensures empty in
     let (block, whole) = block_end c.args.text.now _ end c.if-size-gt0.true
-    (ap (counts_once known_names) read ∙ once) in
-    (block, λ name. are name ∙ ap (header_value (name_text name)) (sym (whole ∙ read)))
+    (ap (counts_once known_names) read ∙ once) in (
+      block,
+      λ name. subst (λ headers. IsSpanOf c.args.dump.now (noted_span c.loop-whole.spans name)
+          (header_value (name_text name) headers)) (sym (whole ∙ read)) (are name),
+    )
 
 pub returns-else-size-gt0 : goal.returns-else-size-gt0
 returns-else-size-gt0 c =

@@ -1,5 +1,4 @@
-use Rattle.std.proofs.Common.{◌++◌, refl}
-use Rattle.dump_text.specs.HeaderBlock.{block_text}
+use Rattle.dump_text.proofs.Prelude.{◌++◌, refl, block_text}
 use Rattle.dump_text.proofs.Unique.{block_once}
 use Rattle.dump_text.proofs.laws.blocks_are_read_as_written.Goals as goal
 

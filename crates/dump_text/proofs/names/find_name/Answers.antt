@@ -1,9 +1,4 @@
-use Rattle.std.proofs.Common.{sym, ap, ◌∙◌, bytes_eq}
-use Rattle.std.specs.List.{find}
-use Rattle.std.proofs.lemmas.List.{drop_more, drop_all}
-use Rattle.dump_text.specs.declared.names.HeaderName.{HeaderName}
-use Rattle.dump_text.specs.declared.names.HeaderName.TheVariants.{FormatVersion}
-use Rattle.dump_text.specs.steps.KnownValues.{name_text}
+use Rattle.dump_text.proofs.Prelude.{sym, ap, ◌∙◌, bytes_eq, find, drop_more, drop_all, HeaderName, FormatVersion, name_text}
 use Rattle.dump_text.proofs.NameLemmas.{find_behind, find_here}
 use Rattle.dump_text.proofs.names.find_name.Goals as goal
 

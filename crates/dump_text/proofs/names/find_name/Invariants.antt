@@ -1,6 +1,4 @@
-use Rattle.std.proofs.Common.{◌≡◌, drop, bytes_eq}
-use Rattle.std.specs.List.{find}
-use Rattle.dump_text.specs.steps.KnownValues.{name_text}
+use Rattle.dump_text.proofs.Prelude.{◌≡◌, drop, bytes_eq, find, name_text}
 use Rattle.dump_text.proofs.names.find_name.Given as goal
 
 abbrev pub invariant-loop-name : goal.invariant-loop-name

@@ -1,6 +1,4 @@
-use Rattle.std.proofs.Common.{ℕ, ◌+◌, ◌*◌, ◌<◌, ◌≤◌, ◌^◌, ◌∙◌, arith, ap, refl, sym, take}
-use Rattle.std.specs.Str.Parse.{digits_value}
-use Rattle.std.proofs.Math.Nat.{pow-le-pow_right}
+use Rattle.dump_text.proofs.Prelude.{ℕ, ◌+◌, ◌*◌, ◌<◌, ◌≤◌, ◌^◌, ◌∙◌, arith, ap, refl, sym, take, digits_value, pow-le-pow_right}
 use Rattle.dump_text.proofs.NumberLemmas.{value_more, digits_more, small_more, digit_small}
 use Rattle.dump_text.proofs.numbers.number.Goals as goal
 

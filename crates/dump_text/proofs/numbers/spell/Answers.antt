@@ -1,5 +1,4 @@
-use Rattle.std.proofs.Common.{◌≡◌, ◌+◌, ◌-◌, ◌<◌, arith, ◌∙◌}
-use Rattle.std.proofs.lemmas.List.{length-set}
+use Rattle.dump_text.proofs.Prelude.{◌≡◌, ◌+◌, ◌-◌, ◌<◌, arith, ◌∙◌, length-set}
 use Rattle.dump_text.proofs.NumberLemmas.{spelled_more, spelled_last, tenth, one_digit}
 use Rattle.dump_text.proofs.numbers.spell.Goals as goal
 use Rattle.dump_text.proofs.numbers.spell.Goals.{then-loop-left-test+else-start-gt0, else-loop-left-test}

@@ -1,6 +1,4 @@
-use Rattle.std.proofs.Common.{refl, sym, ap, ◌∙◌, ◌||◌, Bool, true, false, arith, List, [], ◌≡◌}
-use Rattle.std.proofs.lemmas.Slice.Eq.{bytes_eq-Decides}
-use Rattle.dump_text.specs.PropertyList.{Property, block_end, has_deletes}
+use Rattle.dump_text.proofs.Prelude.{refl, sym, ap, ◌∙◌, ◌||◌, Bool, true, false, arith, List, [], ◌≡◌, bytes_eq-Decides, Property, block_end, has_deletes}
 use Rattle.dump_text.proofs.BoolLemmas.{absurd_bool}
 use Rattle.dump_text.proofs.PropertyLemmas.{scanned_parts, entry_shorter, entries_more, entries_end, entries_once, deletes_step, gone_is}
 use Rattle.dump_text.proofs.WrittenLemmas.{scanned_shortest, written_step}

@@ -1,6 +1,4 @@
-use Rattle.std.proofs.Common.{◌≡◌, ◌↔◌, ◌<◌, ◌^◌, ◌||◌, true, List, length}
-use Rattle.dump_text.specs.PropertyList.{Property, AreEntries, has_deletes}
-use Rattle.dump_text.specs.steps.PropertyScan.{HasEntries, IsWritten}
+use Rattle.dump_text.proofs.Prelude.{◌≡◌, ◌↔◌, ◌<◌, ◌^◌, ◌||◌, true, List, length, Property, AreEntries, has_deletes, HasEntries, IsWritten}
 use Rattle.dump_text.proofs.props.read_entries.Given as goal
 
 abbrev pub invariant-loop-parts : goal.invariant-loop-parts

@@ -1,5 +1,4 @@
-use Rattle.std.proofs.Common.{◌||◌, sym, ap, ◌∙◌}
-use Rattle.dump_text.specs.HeaderBlock.{has_empty_line}
+use Rattle.dump_text.proofs.Prelude.{◌||◌, sym, ap, ◌∙◌, has_empty_line}
 use Rattle.dump_text.proofs.ScanLemmas.{empty_line-step, empty_line-none}
 use Rattle.dump_text.proofs.scan.finds_empty_line.Goals as goal
 

@@ -1,5 +1,4 @@
-use Rattle.std.proofs.Common.{◌≡◌, length}
-use Rattle.dump_text.specs.HeaderBlock.{has_empty_line}
+use Rattle.dump_text.proofs.Prelude.{◌≡◌, length, has_empty_line}
 use Rattle.dump_text.proofs.scan.finds_empty_line.Given as goal
 
 abbrev pub invariant-loop-others : goal.invariant-loop-others

@@ -1,5 +1,4 @@
-use Rattle.std.proofs.Common.{◌++◌, ◌∷◌, ◌+◌, take, sym, ap, ◌∙◌}
-use Rattle.std.proofs.lemmas.List.{take_rest}
+use Rattle.dump_text.proofs.Prelude.{◌++◌, ◌∷◌, ◌+◌, take, sym, ap, ◌∙◌, take_rest}
 use Rattle.dump_text.proofs.ScanLemmas.{no_place, at_place}
 use Rattle.dump_text.proofs.scan.first_line.Goals as goal
 

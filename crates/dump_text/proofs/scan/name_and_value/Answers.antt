@@ -1,6 +1,4 @@
-use Rattle.std.proofs.Common.{arith, ◌<◌, ◌+◌, length, take, subst, sym, ◌∙◌}
-use Rattle.std.proofs.lemmas.List.{take_rest}
-use Rattle.dump_text.specs.steps.Scanning.{IsCutAtColon}
+use Rattle.dump_text.proofs.Prelude.{arith, ◌<◌, ◌+◌, length, take, subst, sym, ◌∙◌, take_rest, IsCutAtColon}
 use Rattle.dump_text.proofs.ScanLemmas.{cut_at_colon, no_place, at_place, clash, colon_at, header_text-is}
 use Rattle.dump_text.proofs.scan.name_and_value.Goals as goal
 use Rattle.dump_text.proofs.scan.name_and_value.Goals.{then-colon-eq0-via-then-colon-eq0, then-colon-eq0-via-else-colon-eq0+then-whole-colon-lt2, then-colon-eq0-via-else-colon-eq0+else-whole-colon-lt2+then-whole-colon-ne32}

@@ -1,6 +1,4 @@
-use Rattle.std.proofs.Common.{sym}
-use Rattle.std.proofs.Math.ListN.{drop_of_length-le}
-use Rattle.std.proofs.lemmas.List.{take_rest}
+use Rattle.dump_text.proofs.Prelude.{sym, drop_of_length-le, take_rest}
 use Rattle.dump_text.proofs.value_place.bytes_from.Goals as goal
 
 pub returns-then-byte-text : goal.returns-then-byte-text

@@ -1,5 +1,4 @@
-use Rattle.std.proofs.Common.{◌==◌, sym, ap, ◌∙◌}
-use Rattle.std.specs.List.{before_first}
+use Rattle.dump_text.proofs.Prelude.{◌==◌, sym, ap, ◌∙◌, before_first}
 use Rattle.dump_text.proofs.PlaceLemmas.{line_before, line_whole}
 use Rattle.dump_text.proofs.value_place.line_of.Goals as goal
 

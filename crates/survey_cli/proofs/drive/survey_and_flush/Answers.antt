@@ -1,7 +1,4 @@
-use Rattle.std.proofs.Common.{◌≡◌, List, [], ℕ, rules, subst}
-use Rattle.std.specs.Io.KnownBytes.{append_known}
-use Rattle.dump_writer.specs.steps.SinkStates.{lent_taken}
-use Rattle.survey_cli.specs.steps.Answered.{Arrives}
+use Rattle.survey_cli.proofs.Prelude.{◌≡◌, List, [], ℕ, rules, subst, append_known, lent_taken, Arrives}
 use Rattle.survey_cli.proofs.DriveLemmas.{arrives_behind, written_of}
 use Rattle.survey_cli.proofs.drive.survey_and_flush.Goals as goal
 

@@ -1,5 +1,4 @@
-use Rattle.std.proofs.Common.{◌≡◌, rules, IfSome}
-use Rattle.survey_cli.specs.steps.Answered.{Arrives}
+use Rattle.survey_cli.proofs.Prelude.{◌≡◌, rules, IfSome, Arrives}
 use Rattle.survey_cli.proofs.DriveLemmas.{surveys_input}
 use Rattle.survey_cli.proofs.drive.survey_input.Goals as goal
 

@@ -1,10 +1,7 @@
-use Rattle.std.proofs.Common.{◌≡◌, ◌∙◌, ap, drop, map, subst, sym, true, List, [], Some, Err}
-use Rattle.std.specs.Borrow.{Bor}
+use Rattle.survey_cli.proofs.Prelude.{◌≡◌, ◌∙◌, ap, drop, map, subst, sym, true, List, [], Some, Err, Bor, flags, TellsCall, call_of_line, side_in}
 use Rattle.clap.specs.Kinds.{HasKind}
 use Rattle.clap.specs.Walk.{is_empty}
 use Rattle.clap.specs.Words.{takes, Text, fault_of, found_of, is_simple, is_simple_and_free, matches_of, rows_of}
-use Rattle.survey_cli.specs.CommandLine.{flags}
-use Rattle.survey_cli.specs.Words.{TellsCall, call_of_line, side_in}
 use Rattle.survey_cli.proofs.LineLemmas.{free, refusal_answers, refusal_unlawful, second_holds, simple, taken_answers}
 use Rattle.survey_cli.proofs.words.call_of.Goals as goal
 

@@ -1,6 +1,4 @@
-use Rattle.std.proofs.Common.{refl, sym, ap, ◌∙◌}
-use Rattle.dump_rules.specs.Settings.{Settings}
-use Rattle.dump_rules.specs.steps.Merged.{is_outside}
+use Rattle.dump_digest.proofs.Prelude.{refl, sym, ap, ◌∙◌, Settings, is_outside}
 use Rattle.dump_digest.proofs.done.Done.merge_fault.Goals as goal
 
 pub returns-then-content : goal.returns-then-content

@@ -1,5 +1,4 @@
-use Rattle.std.proofs.Common.{◌∙◌, sym, ap, is_some}
-use Rattle.dump_records.specs.steps.RecordViews.{record_item}
+use Rattle.dump_digest.proofs.Prelude.{◌∙◌, sym, ap, is_some, record_item}
 use Rattle.dump_digest.proofs.SaidLemmas.{properties_of, bytes_told}
 use Rattle.dump_digest.proofs.done.Done.props.Goals as goal
 

@@ -1,13 +1,4 @@
-use Rattle.std.proofs.Common.{◌≡◌, ◌||◌, Option, List, [], false, sym, ap, subst, ◌∙◌, inr, MatchOption}
-use Rattle.dump_text.specs.PropertyList.{Property}
-use Rattle.dump_text.specs.steps.PropertyViews.{entry_property}
-use Rattle.dump_text.proofs.PropertyLemmas.{entry_parts, left_of, property_block_once}
-use Rattle.dump_digest.specs.declared.node_mergeinfo.Mergeinfo.{Mergeinfo}
-use Rattle.dump_digest.specs.steps.Checks.{properties_read}
-use Rattle.dump_digest.specs.steps.ContentViews.{IsSaidBy}
-use Rattle.dump_rules.specs.steps.Merged.{is_outside}
-use Rattle.dump_rules.specs.steps.RewrittenLines.{value_misses, value_foreign}
-use Rattle.dump_rules.specs.steps.ReadMergeinfo.{value_reads}
+use Rattle.dump_digest.proofs.Prelude.{◌≡◌, ◌||◌, Option, List, [], false, sym, ap, subst, ◌∙◌, inr, MatchOption, Property, entry_property, entry_parts, left_of, property_block_once, Mergeinfo, properties_read, IsSaidBy, is_outside, value_misses, value_foreign, value_reads}
 use Rattle.dump_digest.proofs.SaidLemmas.{entry_value, IsSaidUpTo, said_at_first, said_of_other, said_of_value, not_said, said_at_last, unread_value, reads_value}
 use Rattle.dump_digest.proofs.node_mergeinfo.Mergeinfo.of.Goals as goal
 

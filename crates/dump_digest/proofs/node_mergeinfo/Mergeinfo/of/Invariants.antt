@@ -1,6 +1,4 @@
-use Rattle.std.proofs.Common.{List}
-use Rattle.dump_text.specs.PropertyList.{Property, IsPropertyBlock}
-use Rattle.dump_text.specs.steps.PropertyViews.{props_bytes, HasEntriesLeft}
+use Rattle.dump_digest.proofs.Prelude.{List, Property, IsPropertyBlock, props_bytes, HasEntriesLeft}
 use Rattle.dump_digest.proofs.SaidLemmas.{IsSaidUpTo}
 use Rattle.dump_digest.proofs.node_mergeinfo.Mergeinfo.of.Given as goal
 

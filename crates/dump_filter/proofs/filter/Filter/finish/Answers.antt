@@ -1,5 +1,4 @@
-use Rattle.std.proofs.Common.{ap, ◌∙◌}
-use Rattle.dump_filter.specs.steps.State.{State}
+use Rattle.dump_filter.proofs.Prelude.{ap, ◌∙◌, State}
 use Rattle.dump_filter.proofs.knowing.FilterLemmas.{holds, finishes, reports}
 use Rattle.dump_filter.proofs.filter.Filter.finish.Goals as goal
 

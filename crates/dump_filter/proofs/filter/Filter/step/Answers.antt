@@ -1,7 +1,4 @@
-use Rattle.std.proofs.Common.{◌≡◌, sym, ap, ◌∙◌}
-use Rattle.dump_records.specs.steps.RecordViews.{record_number}
-use Rattle.dump_digest.specs.steps.DoneViews.{done_record}
-use Rattle.dump_filter.specs.steps.FilterState.{FilterState}
+use Rattle.dump_filter.proofs.Prelude.{◌≡◌, sym, ap, ◌∙◌, record_number, done_record, FilterState}
 use Rattle.dump_filter.proofs.knowing.FilterLemmas.{holds, has_room, fault_told, never_refuses, is_read, node_is_read, held_is_revision, accepts, next_knows, knows_as}
 use Rattle.dump_filter.proofs.filter.Filter.step.Goals as goal
 

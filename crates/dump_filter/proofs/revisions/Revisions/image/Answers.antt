@@ -1,10 +1,4 @@
-use Rattle.std.proofs.Common.{Some, ap, sym, ◌∙◌, subst, arith}
-use Rattle.dump_records.specs.steps.RecordViews.{record_item}
-use Rattle.dump_rules.specs.Renumbering.{image}
-use Rattle.dump_filter.specs.Groups.{revision_number}
-use Rattle.dump_filter.specs.steps.State.{view_pending, view_group}
-use Rattle.dump_filter.specs.steps.Advance.{front_kept}
-use Rattle.dump_filter.specs.steps.Knowledge.{AreKept}
+use Rattle.dump_filter.proofs.Prelude.{Some, ap, sym, ◌∙◌, subst, arith, record_item, image, revision_number, view_pending, view_group, front_kept, AreKept}
 use Rattle.dump_filter.proofs.written.CopyLemmas.{next_fits, image_at_pending, image_before_pending}
 use Rattle.dump_filter.proofs.revisions.Revisions.image.Goals as goal
 

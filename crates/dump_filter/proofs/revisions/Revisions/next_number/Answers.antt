@@ -1,7 +1,4 @@
-use Rattle.std.proofs.Common.{ap, ◌∙◌, arith}
-use Rattle.dump_records.specs.steps.RecordViews.{record_item}
-use Rattle.dump_filter.specs.Groups.{revision_number}
-use Rattle.dump_filter.specs.steps.State.{view_pending}
+use Rattle.dump_filter.proofs.Prelude.{ap, ◌∙◌, arith, record_item, revision_number, view_pending}
 use Rattle.dump_filter.proofs.written.CopyLemmas.{next_fits}
 use Rattle.dump_filter.proofs.revisions.Revisions.next_number.Goals as goal
 

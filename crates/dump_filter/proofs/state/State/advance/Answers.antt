@@ -1,12 +1,5 @@
-use Rattle.std.proofs.Common.{◌≡◌, sym, ap, ◌∙◌, ℕ, Option, Some}
-use Rattle.dump_records.specs.declared.record.Record.{Record}
-use Rattle.dump_records.specs.steps.RecordViews.{record_item}
-use Rattle.dump_digest.specs.declared.verdict.Verdict.{Verdict}
-use Rattle.dump_digest.specs.steps.DoneViews.{done_record}
-use Rattle.dump_filter.specs.declared.fate.Fate.{Fate}
+use Rattle.dump_filter.proofs.Prelude.{◌≡◌, sym, ap, ◌∙◌, ℕ, Option, Some, Record, record_item, Verdict, done_record, Fate, State, view_state, fate_state, text_count}
 use Rattle.dump_filter.specs.declared.state.State.{State as StateFields}
-use Rattle.dump_filter.specs.steps.State.{State, view_state}
-use Rattle.dump_filter.specs.steps.Advance.{fate_state, text_count}
 use Rattle.dump_filter.proofs.state.State.advance.Goals as goal
 use Rattle.dump_filter.proofs.state.State.advance.Goals.{in-Keep+in_ok-piece-in-Keep, in-Drop, in-Hold+in_ok-piece-in-Hold, in-Pass+in_ok-piece-in-Pass}
 

@@ -1,8 +1,5 @@
-use Rattle.std.proofs.Common.{Bool, IfOk, sym, ap, subst, ◌∙◌}
-use Rattle.dump_records.specs.steps.RecordViews.{record_item}
-use Rattle.dump_digest.specs.steps.DoneViews.{done_record}
-use Rattle.dump_filter.specs.steps.State.{PresentGroup, view_group}
-use Rattle.dump_filter.specs.steps.Advance.{IsOwnRevision, IsEndText}
+use Rattle.dump_filter.proofs.Prelude.{Bool, sym, ap, subst, ◌∙◌, record_item, done_record, PresentGroup, view_group, IsOwnRevision, IsEndText}
+use Rattle.std.proofs.Common.{IfOk}
 use Rattle.dump_filter.proofs.written.OutputLemmas.{if_ok}
 use Rattle.dump_filter.proofs.state.State.end_group.Goals as goal
 

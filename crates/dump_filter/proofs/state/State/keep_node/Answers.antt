@@ -1,9 +1,4 @@
-use Rattle.std.proofs.Common.{ap, subst}
-use Rattle.dump_records.specs.steps.RecordViews.{record_item}
-use Rattle.dump_rules.specs.Renumbering.{KeptRevisions}
-use Rattle.dump_digest.specs.steps.DoneViews.{done_record}
-use Rattle.dump_filter.specs.steps.State.{State}
-use Rattle.dump_filter.specs.steps.Advance.{IsOwnNode}
+use Rattle.dump_filter.proofs.Prelude.{ap, subst, record_item, KeptRevisions, done_record, State, IsOwnNode}
 use Rattle.dump_filter.proofs.state.State.keep_node.Goals as goal
 
 pub returns-clause-piece : goal.returns-clause-piece

@@ -1,7 +1,4 @@
-use Rattle.std.proofs.Common.{ℕ, List, ◌++◌, ap, ◌∙◌}
-use Rattle.dump_records.specs.steps.RecordViews.{record_item}
-use Rattle.dump_digest.specs.steps.DoneViews.{done_record}
-use Rattle.dump_filter.specs.steps.OwnText.{revision_own}
+use Rattle.dump_filter.proofs.Prelude.{ℕ, List, ◌++◌, ap, ◌∙◌, record_item, done_record, revision_own}
 use Rattle.dump_filter.proofs.state.State.write_pending.Goals as goal
 
 pub returns-clause-piece : goal.returns-clause-piece

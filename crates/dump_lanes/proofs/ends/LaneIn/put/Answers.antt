@@ -1,7 +1,6 @@
-use Rattle.std.proofs.Common.{◌≡◌}
+use Rattle.dump_lanes.proofs.Prelude.{◌≡◌, Item}
 use Rattle.crossbeam_channel.specs.Ends.{sends_on}
 use Rattle.crossbeam_channel.specs.Err.{send_message}
-use Rattle.dump_lanes.specs.declared.protocol.Mark.TheVariants.{Item}
 use Rattle.dump_lanes.proofs.LaneSteps.{same_sending, put_item, still_puts}
 use Rattle.dump_lanes.proofs.Moves.{sends}
 use Rattle.dump_lanes.proofs.ends.LaneIn.put.Goals as goal

@@ -1,15 +1,9 @@
-use Rattle.std.proofs.Common.{◌++◌, sym, ap, ◌∙◌, ◌≡◌, arith}
+use Rattle.dump_lanes.proofs.Prelude.{◌++◌, sym, ap, ◌∙◌, ◌≡◌, arith, is_ok, View, Mark, steps_of, lane_part, sender_crew, item_steps}
 use Rattle.std.proofs.lemmas.List.{append-nil}
-use Rattle.std.specs.Result.{is_ok}
 use Rattle.crossbeam_channel.specs.Claims.{view}
-use Rattle.dump_lanes.specs.declared.passes.View.{View}
-use Rattle.dump_lanes.specs.declared.protocol.Mark.{Mark}
 use Rattle.dump_lanes.specs.steps.LaneMarks.{items_of}
-use Rattle.dump_lanes.specs.steps.OwnSteps.{steps_of}
 use Rattle.dump_lanes.proofs.LaneSteps.{whole_at_end, marked_at_end}
 use Rattle.dump_lanes.proofs.MarkLists.{is_prefix}
-use Rattle.dump_lanes.specs.LaneRule.{lane_part}
-use Rattle.dump_lanes.specs.steps.LaneQueue.{sender_crew, item_steps}
 use Rattle.dump_lanes.proofs.Moves.{sender_apart, have_item_steps, own_items, knows_put, knows_taken, totals}
 use Rattle.dump_lanes.proofs.QueueSteps.{merges, learns}
 use Rattle.dump_lanes.proofs.ends.LaneOut.settle.Goals as goal

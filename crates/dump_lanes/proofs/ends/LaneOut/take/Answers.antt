@@ -1,10 +1,6 @@
-use Rattle.std.proofs.Common.{ap, arith}
+use Rattle.dump_lanes.proofs.Prelude.{ap, arith, Ended, SenderGone, View, Mark, told}
 use Rattle.crossbeam_channel.specs.Ends.{receives_on}
-use Rattle.dump_lanes.specs.declared.ends.Told.TheVariants.{Ended, SenderGone}
-use Rattle.dump_lanes.specs.declared.passes.View.{View}
-use Rattle.dump_lanes.specs.declared.protocol.Mark.{Mark}
 use Rattle.dump_lanes.specs.steps.LaneMarks.{items_of}
-use Rattle.dump_lanes.specs.steps.LaneViews.{told}
 use Rattle.dump_lanes.proofs.LaneSteps.{same_receiving, ends_as, take_item, take_end, still_takes, ends, nothing_told}
 use Rattle.dump_lanes.proofs.ends.LaneOut.take.Goals as goal
 

@@ -1,8 +1,6 @@
-use Rattle.std.proofs.Common.{ap, subst, sym, []}
+use Rattle.dump_lanes.proofs.Prelude.{ap, subst, sym, [], View, Mark, IsPutting}
 use Rattle.crossbeam_channel.specs.Ends.{sends_on}
-use Rattle.dump_lanes.specs.declared.passes.View.{View}
-use Rattle.dump_lanes.specs.declared.protocol.Mark.{Mark}
-use Rattle.dump_lanes.specs.steps.LaneMarks.{items_of, IsPutting}
+use Rattle.dump_lanes.specs.steps.LaneMarks.{items_of}
 use Rattle.dump_lanes.proofs.LaneSteps.{same_sending, closes, close_keeps}
 use Rattle.dump_lanes.proofs.Moves.{sends}
 use Rattle.dump_lanes.proofs.ends.closing.put_end.Goals as goal

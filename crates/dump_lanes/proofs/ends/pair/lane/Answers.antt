@@ -1,6 +1,4 @@
-use Rattle.std.proofs.Common.{rules, refl}
-use Rattle.dump_lanes.specs.LaneRule.{lane_part}
-use Rattle.dump_lanes.specs.steps.LaneQueue.{sender_crew}
+use Rattle.dump_lanes.proofs.Prelude.{rules, refl, lane_part, sender_crew}
 use Rattle.dump_lanes.proofs.Moves.{sender_apart}
 use Rattle.dump_lanes.proofs.QueueSteps.{begins, forks}
 use Rattle.dump_lanes.proofs.ends.pair.lane.Goals as goal

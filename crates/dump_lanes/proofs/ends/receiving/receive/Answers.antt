@@ -1,6 +1,4 @@
-use Rattle.std.proofs.Common.{◌≡◌, ◌<◌, false, sym, subst}
-use Rattle.dump_lanes.specs.declared.passes.View.{View}
-use Rattle.dump_lanes.specs.declared.protocol.Mark.{Mark}
+use Rattle.dump_lanes.proofs.Prelude.{◌≡◌, ◌<◌, false, sym, subst, View, Mark}
 use Rattle.dump_lanes.proofs.Moves.{gets}
 use Rattle.dump_lanes.proofs.ends.receiving.receive.Goals as goal
 

@@ -1,20 +1,7 @@
-use Rattle.std.proofs.Common.{ap, sym, subst, length, ◌∙◌, ◌≡◌, All, arith}
-use Rattle.std.specs.Arc.{arc_value}
+use Rattle.dump_lanes.proofs.Prelude.{ap, sym, subst, length, ◌∙◌, ◌≡◌, All, arith, arc_value, Purse, Queues, WorkerPort, steps_of, name_of, IsSequencing, WorkerSide, IsDone, worker_port, job_port, dones_part, sequencer_crew, jobs_part, cutter_crew}
 use Rattle.crossbeam_queue.specs.Passes.{view}
-use Rattle.dump_lanes.specs.declared.pool.credits.Purse.{Purse}
-use Rattle.dump_lanes.specs.declared.pool.queues.Queues.{Queues}
-use Rattle.dump_lanes.specs.declared.pool.worker.WorkerPort.{WorkerPort}
 use Rattle.dump_lanes.specs.CreditRule.{AreSteps}
-use Rattle.dump_lanes.specs.steps.OwnSteps.{steps_of}
-use Rattle.dump_lanes.specs.steps.PoolNames.{name_of}
-use Rattle.dump_lanes.specs.steps.PoolPasses.{IsSequencing}
-use Rattle.dump_lanes.specs.steps.PortSides.{WorkerSide, IsDone}
-use Rattle.dump_lanes.specs.steps.PortViews.{worker_port, job_port}
 use Rattle.dump_lanes.proofs.CreditSteps as credits
-use Rattle.dump_lanes.specs.DoneRule.{dones_part}
-use Rattle.dump_lanes.specs.steps.DoneQueue.{sequencer_crew}
-use Rattle.dump_lanes.specs.JobRule.{jobs_part}
-use Rattle.dump_lanes.specs.steps.JobQueue.{cutter_crew}
 use Rattle.dump_lanes.proofs.DoneSteps.{sequencer_apart, knows_taken}
 use Rattle.dump_lanes.proofs.JobSteps.{cutter_apart, knows_put}
 use Rattle.dump_lanes.proofs.QueueSteps.{learns}

@@ -1,6 +1,4 @@
-use Rattle.std.proofs.Common.{ap, ◌∙◌}
-use Rattle.dump_lanes.specs.declared.protocol.Mark.{Mark}
-use Rattle.dump_lanes.specs.declared.passes.View.{View}
+use Rattle.dump_lanes.proofs.Prelude.{ap, ◌∙◌, Mark, View}
 use Rattle.dump_lanes.proofs.JobSteps.{puts}
 use Rattle.dump_lanes.proofs.pool.cutter.put_ends.Goals as goal
 

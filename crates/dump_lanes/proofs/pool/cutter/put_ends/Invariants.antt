@@ -1,6 +1,5 @@
-use Rattle.std.proofs.Common.{◌≡◌}
+use Rattle.dump_lanes.proofs.Prelude.{◌≡◌, after_ends}
 use Rattle.crossbeam_queue.specs.Passes.{view, IsSamePass}
-use Rattle.dump_lanes.specs.steps.JobQueue.{after_ends}
 use Rattle.dump_lanes.proofs.pool.cutter.put_ends.Given as goal
 
 abbrev pub invariant-loop : goal.invariant-loop

@@ -1,5 +1,4 @@
-use Rattle.std.proofs.Common.{ap}
-use Rattle.dump_lanes.specs.declared.pool.credits.Purse.{Purse}
+use Rattle.dump_lanes.proofs.Prelude.{ap, Purse}
 use Rattle.dump_lanes.proofs.CreditSteps.{forks}
 use Rattle.dump_lanes.proofs.pool.cutting.cut.Goals as goal
 

@@ -1,22 +1,5 @@
-use Rattle.std.proofs.Common.{ap, sym, subst, ◌∙◌, ◌≡◌, ◌+◌, ◌-◌, ◌<◌, ℕ, ◌++◌, [], ◌∷◌, List, map, length, All, slice_index_or, rules, arith}
-use Rattle.std.proofs.lemmas.Iterator.Adapters.{YieldsList-from_vec}
-use Rattle.std.proofs.lemmas.Iterator.Consumers.{YieldsList-turn, YieldsList-end}
-use Rattle.std.proofs.lemmas.List.{length-append}
-use Rattle.std.specs.Arc.{arc_value}
-use Rattle.std.specs.List.{range_with_len}
-use Rattle.dump_lanes.specs.declared.passes.TheConstants.{PARTS}
-use Rattle.dump_lanes.specs.declared.pool.dones.Note.{Note}
-use Rattle.dump_lanes.specs.declared.protocol.Mark.{Mark}
-use Rattle.dump_lanes.specs.declared.passes.View.{View}
-use Rattle.dump_lanes.specs.declared.pool.queues.Queues.{Queues}
-use Rattle.dump_lanes.specs.DoneRule.{dones_part}
-use Rattle.dump_lanes.specs.steps.DoneQueue.{sequencer_crew}
-use Rattle.dump_lanes.specs.JobRule.{jobs_part}
-use Rattle.dump_lanes.specs.steps.JobQueue.{cutter_crew}
-use Rattle.dump_lanes.specs.steps.QueueRule.{leading, after_fork}
-use Rattle.dump_lanes.specs.steps.PoolNames.{state_of}
-use Rattle.dump_lanes.specs.steps.PortSides.{new_worker}
-use Rattle.dump_lanes.specs.steps.PortViews.{worker_port}
+use Rattle.dump_lanes.proofs.Prelude.{ap, sym, subst, ◌∙◌, ◌≡◌, ◌+◌, ◌-◌, ◌<◌, ℕ, ◌++◌, [], ◌∷◌, List, map, length, All, rules, arith, YieldsList-from_vec, YieldsList-turn, YieldsList-end, length-append, arc_value, range_with_len, PARTS, Note, Mark, View, Queues, dones_part, sequencer_crew, jobs_part, cutter_crew, leading, after_fork, state_of, new_worker, worker_port}
+use Rattle.std.proofs.Common.{slice_index_or}
 use Rattle.dump_lanes.proofs.DoneSteps.{sequencer_apart}
 use Rattle.dump_lanes.proofs.JobSteps.{cutter_apart}
 use Rattle.dump_lanes.proofs.QueueSteps.{forks}

@@ -1,11 +1,5 @@
-use Rattle.std.proofs.Common.{◌≡◌, ◌-◌, ◌≤◌, map, length, vec_len, vec_capacity}
-use Rattle.std.specs.List.{range_with_len}
+use Rattle.dump_lanes.proofs.Prelude.{◌≡◌, ◌-◌, ◌≤◌, map, length, vec_len, vec_capacity, range_with_len, PARTS, leading, state_of, new_worker, worker_port}
 use Rattle.crossbeam_queue.specs.Passes.{view, IsPassOf}
-use Rattle.dump_lanes.specs.declared.passes.TheConstants.{PARTS}
-use Rattle.dump_lanes.specs.steps.QueueRule.{leading}
-use Rattle.dump_lanes.specs.steps.PoolNames.{state_of}
-use Rattle.dump_lanes.specs.steps.PortSides.{new_worker}
-use Rattle.dump_lanes.specs.steps.PortViews.{worker_port}
 use Rattle.dump_lanes.proofs.pool.cutting.cut_workers.Given as goal
 
 abbrev pub invariant-loop-share : goal.invariant-loop-share

@@ -1,6 +1,5 @@
-use Rattle.std.proofs.Common.{◌≡◌, false}
+use Rattle.dump_lanes.proofs.Prelude.{◌≡◌, false, Seat}
 use Rattle.crossbeam_queue.specs.Passes.{view, IsSamePass}
-use Rattle.dump_lanes.specs.steps.StopSeats.{Seat}
 use Rattle.dump_lanes.proofs.pool.drawing.draw_from.Given as goal
 
 -- the seat, whether it has looked or not

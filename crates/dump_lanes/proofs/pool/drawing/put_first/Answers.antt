@@ -1,5 +1,4 @@
-use Rattle.std.proofs.Common.{ap}
-use Rattle.dump_lanes.specs.declared.pool.credits.Purse.{Purse}
+use Rattle.dump_lanes.proofs.Prelude.{ap, Purse}
 use Rattle.dump_lanes.proofs.CreditSteps.{fills}
 use Rattle.dump_lanes.proofs.pool.drawing.put_first.Goals as goal
 

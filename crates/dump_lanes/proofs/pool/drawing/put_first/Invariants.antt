@@ -1,6 +1,5 @@
-use Rattle.std.proofs.Common.{◌≡◌, true, []}
+use Rattle.dump_lanes.proofs.Prelude.{◌≡◌, true, [], purse}
 use Rattle.crossbeam_queue.specs.Passes.{view, IsSamePass}
-use Rattle.dump_lanes.specs.steps.CreditQueue.{purse}
 use Rattle.dump_lanes.proofs.pool.drawing.put_first.Given as goal
 
 abbrev pub invariant-loop : goal.invariant-loop

@@ -1,6 +1,5 @@
-use Rattle.std.proofs.Common.{◌≡◌, ◌+◌, ◌≤◌, []}
+use Rattle.dump_lanes.proofs.Prelude.{◌≡◌, ◌+◌, ◌≤◌, [], HasRead, count_ends, marks_in}
 use Rattle.crossbeam_queue.specs.Passes.{view, IsSamePass}
-use Rattle.dump_lanes.specs.steps.PoolPasses.{HasRead, count_ends, marks_in}
 use Rattle.dump_lanes.proofs.pool.sequencer.take_from.Given as goal
 
 abbrev pub invariant-loop-left : goal.invariant-loop-left

@@ -1,8 +1,4 @@
-use Rattle.std.proofs.Common.{◌∙◌, arith}
-use Rattle.dump_lanes.specs.DoneRule.{dones_part}
-use Rattle.dump_lanes.specs.steps.DoneQueue.{sequencer_crew}
-use Rattle.dump_lanes.specs.JobRule.{jobs_part}
-use Rattle.dump_lanes.specs.steps.JobQueue.{cutter_crew}
+use Rattle.dump_lanes.proofs.Prelude.{◌∙◌, arith, dones_part, sequencer_crew, jobs_part, cutter_crew}
 use Rattle.dump_lanes.proofs.DoneSteps.{sequencer_apart}
 use Rattle.dump_lanes.proofs.JobSteps.{cutter_apart}
 use Rattle.dump_lanes.proofs.QueueSteps.{merges}

@@ -1,5 +1,4 @@
-use Rattle.std.proofs.Common.{◌≡◌, ◌≤◌, All, vec_len, vec_capacity}
-use Rattle.std.specs.Arc.{arc_value}
+use Rattle.dump_lanes.proofs.Prelude.{◌≡◌, ◌≤◌, All, vec_len, vec_capacity, arc_value}
 use Rattle.dump_lanes.proofs.pool.shares.share_with_workers.Given as goal
 
 abbrev pub invariant-loop : goal.invariant-loop

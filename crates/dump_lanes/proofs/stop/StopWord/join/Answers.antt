@@ -1,5 +1,4 @@
-use Rattle.std.proofs.Common.{ap, sym, ◌∙◌, arith}
-use Rattle.dump_lanes.specs.steps.StopSeats.{Seat}
+use Rattle.dump_lanes.proofs.Prelude.{ap, sym, ◌∙◌, arith, Seat}
 use Rattle.dump_lanes.proofs.StopSteps.{joins, checks}
 use Rattle.dump_lanes.proofs.stop.StopWord.join.Goals as goal
 

@@ -1,6 +1,4 @@
-use Rattle.std.proofs.Common.{◌≡◌, All, map}
-use Rattle.dump_lanes.specs.steps.PortSides.{IsDone}
-use Rattle.dump_lanes.specs.steps.PortViews.{worker_port}
+use Rattle.dump_lanes.proofs.Prelude.{◌≡◌, All, map, IsDone, worker_port}
 use Rattle.dump_lanes.proofs.tests.pooling.answer_all.Given as goal
 
 abbrev pub invariant-loop-port : goal.invariant-loop-port

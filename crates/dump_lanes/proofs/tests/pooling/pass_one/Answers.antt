@@ -1,7 +1,4 @@
-use Rattle.std.proofs.Common.{◌∙◌, ℕ, ap, sym, subst, map}
-use Rattle.dump_lanes.specs.declared.pool.worker.WorkerPort.{WorkerPort}
-use Rattle.dump_lanes.specs.steps.PortSides.{PoolName, CutterSide, WorkerSide, AreWorkersOf, IsDone}
-use Rattle.dump_lanes.specs.steps.PortViews.{worker_port}
+use Rattle.dump_lanes.proofs.Prelude.{◌∙◌, ℕ, ap, sym, subst, map, WorkerPort, PoolName, CutterSide, WorkerSide, AreWorkersOf, IsDone, worker_port}
 use Rattle.dump_lanes.proofs.PortsTogether.{same_ports, map_of_all}
 use Rattle.dump_lanes.proofs.tests.pooling.pass_one.Goals as goal
 

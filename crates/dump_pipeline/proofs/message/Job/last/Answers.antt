@@ -1,8 +1,4 @@
-use Rattle.std.proofs.Common.{rules, ◌+◌, ◌<◌, ◌^◌}
-use Rattle.dump_records.specs.declared.record.Record.{Record}
-use Rattle.dump_records.specs.steps.CutRecords.{EndsAfter}
-use Rattle.dump_pipeline.specs.declared.message.LastWord.{LastWord}
-use Rattle.dump_pipeline.specs.steps.Endings.{ending_of}
+use Rattle.dump_pipeline.proofs.Prelude.{rules, ◌+◌, ◌<◌, ◌^◌, Record, EndsAfter, LastWord, ending_of}
 use Rattle.dump_pipeline.proofs.Ends.{for_err}
 use Rattle.dump_pipeline.proofs.message.Job.last.Goals as goal
 

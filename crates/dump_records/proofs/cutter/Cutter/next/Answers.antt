@@ -1,7 +1,4 @@
-use Rattle.std.proofs.Common.{◌≡◌, ◌+◌, ◌≤◌, length, subst, refl, arith}
-use Rattle.dump_records.specs.steps.CutterState.{CutterState}
-use Rattle.dump_records.specs.DumpText.{Ending}
-use Rattle.dump_records.specs.steps.CutRecords.{EndsAfter}
+use Rattle.dump_records.proofs.Prelude.{◌≡◌, ◌+◌, ◌≤◌, length, subst, refl, arith, CutterState, Ending, EndsAfter}
 use Rattle.dump_records.proofs.CutLemmas.{gap_in, room_behind, ends_whole, ends_broken}
 use Rattle.dump_records.proofs.cutter.Cutter.next.Goals as goal
 use Rattle.dump_records.proofs.cutter.Cutter.next.Goals.{else-place-self-via-then-place-self+else-self-gt0, else-place-self-via-else-place-self}

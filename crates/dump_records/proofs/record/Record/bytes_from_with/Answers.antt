@@ -1,8 +1,4 @@
-use Rattle.std.proofs.Common.{◌≡◌, ap, ap₂, slice_range, take, drop, ◌++◌, ◌+◌, ◌∙◌, length, ◌==◌, sym, arith}
-use Rattle.std.proofs.lemmas.Bool.Decides.{Decides-eqb}
-use Rattle.std.proofs.lemmas.List.{take_rest}
-use Rattle.std.proofs.lemmas.Slice.Eq.{slice_eq-Decides}
-use Rattle.std.specs.List.{starts_with}
+use Rattle.dump_records.proofs.Prelude.{◌≡◌, ap, ap₂, slice_range, take, drop, ◌++◌, ◌+◌, ◌∙◌, length, ◌==◌, sym, arith, Decides-eqb, take_rest, slice_eq-Decides, starts_with}
 use Rattle.dump_records.proofs.RecordLemmas.{end_of_record}
 use Rattle.dump_records.proofs.RestLemmas.{slice_join}
 use Rattle.dump_records.proofs.record.Record.bytes_from_with.Goals as goal

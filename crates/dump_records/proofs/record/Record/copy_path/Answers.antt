@@ -1,10 +1,4 @@
-use Rattle.std.proofs.Common.{ap, sym, ◌∙◌, option_and_then}
-use Rattle.dump_text.specs.Names.{path_name, copy_path_name}
-use Rattle.dump_text.specs.HeaderLine.{has_header}
-use Rattle.dump_text.specs.steps.ValuePlaces.{value_at}
-use Rattle.dump_text.proofs.ValueLemmas.{if_copied}
-use Rattle.dump_records.specs.declared.kind.CopySource.{CopySource}
-use Rattle.dump_records.specs.steps.RecordViews.{record_item, IsInBlock}
+use Rattle.dump_records.proofs.Prelude.{ap, sym, ◌∙◌, option_and_then, path_name, copy_path_name, has_header, value_at, if_copied, CopySource, record_item, IsInBlock}
 use Rattle.dump_records.proofs.RecordLemmas.{value_in_block, part_there}
 use Rattle.dump_records.proofs.record.Record.copy_path.Goals as goal
 

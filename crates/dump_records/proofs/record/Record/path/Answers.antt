@@ -1,11 +1,4 @@
-use Rattle.std.proofs.Common.{◌≡◌, ◌⊎◌, List, ℕ, ap, sym, ◌∙◌, inl, inr}
-use Rattle.dump_text.specs.Names.{path_name}
-use Rattle.dump_text.specs.steps.ValuePlaces.{value_at}
-use Rattle.dump_text.specs.declared.value_place.ValuePlace.{ValuePlace}
-use Rattle.dump_records.specs.declared.kind.CopySource.{CopySource}
-use Rattle.dump_records.specs.declared.kind.KindParts.{KindParts}
-use Rattle.dump_records.specs.declared.kind.KindParts.TheVariants.{Node, Copy}
-use Rattle.dump_records.specs.steps.KindReading.{path_in}
+use Rattle.dump_records.proofs.Prelude.{◌≡◌, ◌⊎◌, List, ℕ, ap, sym, ◌∙◌, inl, inr, path_name, value_at, ValuePlace, CopySource, KindParts, Node, Copy, path_in}
 use Rattle.dump_records.proofs.RecordLemmas.{copy_in_block}
 use Rattle.dump_records.proofs.record.Record.path.Goals as goal
 

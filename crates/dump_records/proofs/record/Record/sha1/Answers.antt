@@ -1,5 +1,4 @@
-use Rattle.std.proofs.Common.{◌∙◌}
-use Rattle.dump_text.specs.Names.{sha1_name}
+use Rattle.dump_records.proofs.Prelude.{◌∙◌, sha1_name}
 use Rattle.dump_records.proofs.RecordLemmas.{copy_in_block}
 use Rattle.dump_records.proofs.record.Record.sha1.Goals as goal
 

@@ -1,6 +1,4 @@
-use Rattle.std.proofs.Common.{ap, slice_range, ◌∙◌}
-use Rattle.dump_text.specs.steps.Views.{block_after}
-use Rattle.dump_records.specs.steps.RecordViews.{record_dump}
+use Rattle.dump_records.proofs.Prelude.{ap, slice_range, ◌∙◌, block_after, record_dump}
 use Rattle.dump_records.proofs.RestLemmas.{slice_join}
 use Rattle.dump_records.proofs.record.Record.start_of.Goals as goal
 

@@ -1,5 +1,4 @@
-use Rattle.std.proofs.Common.{◌≡◌, ℕ, ◌<◌, false, take, get_or, bytes_eq}
-use Rattle.std.specs.List.{list_any}
+use Rattle.dump_rules.proofs.Prelude.{◌≡◌, ℕ, ◌<◌, false, take, get_or, bytes_eq, list_any}
 use Rattle.dump_rules.proofs.bare.BarePrefixes.begin.Given as goal
 
 abbrev pub invariant-loop-place : goal.invariant-loop-place

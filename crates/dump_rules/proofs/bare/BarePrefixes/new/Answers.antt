@@ -1,6 +1,4 @@
-use Rattle.std.proofs.Common.{◌≡◌, ◌++◌, ◌∷◌, [], ℕ, length, map, take, Bor, sym, ap, ◌∙◌, List, arith}
-use Rattle.std.specs.List.{list_any}
-use Rattle.dump_rules.specs.Prefix.{bare_prefix, begins_path}
+use Rattle.dump_rules.proofs.Prelude.{◌≡◌, ◌++◌, ◌∷◌, [], ℕ, length, map, take, Bor, sym, ap, ◌∙◌, List, arith, list_any, bare_prefix, begins_path}
 use Rattle.dump_rules.proofs.BarePrefixLemmas.{begin_more, within_more, bares_more}
 use Rattle.dump_rules.proofs.bare.BarePrefixes.new.Goals as goal
 

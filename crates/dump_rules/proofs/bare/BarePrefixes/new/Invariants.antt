@@ -1,6 +1,4 @@
-use Rattle.std.proofs.Common.{map, take}
-use Rattle.dump_rules.specs.Prefix.{bare_prefix}
-use Rattle.dump_rules.specs.steps.PrefixSearch.{AreWithin, BeginSame}
+use Rattle.dump_rules.proofs.Prelude.{map, take, bare_prefix, AreWithin, BeginSame}
 use Rattle.dump_rules.proofs.bare.BarePrefixes.new.Given as goal
 
 abbrev pub invariant-loop-prefix : goal.invariant-loop-prefix

@@ -1,6 +1,4 @@
-use Rattle.std.proofs.Common.{sym, ap, ◌∙◌}
-use Rattle.dump_rules.specs.steps.ReadRanges.{range_parts}
-use Rattle.dump_rules.specs.steps.Merged.{parts_bounds}
+use Rattle.dump_rules.proofs.Prelude.{sym, ap, ◌∙◌, range_parts, parts_bounds}
 use Rattle.dump_rules.proofs.reading.RangeLemmas.{position_whole}
 use Rattle.dump_rules.proofs.faults.MergedLemmas.{bounds_first, list_bounds_is}
 use Rattle.dump_rules.proofs.new_values.NewLineLemmas.{parts_first}

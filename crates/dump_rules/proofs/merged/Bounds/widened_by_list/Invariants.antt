@@ -1,6 +1,4 @@
-use Rattle.std.proofs.Common.{◌≡◌, length}
-use Rattle.dump_rules.specs.steps.ReadRanges.{range_parts}
-use Rattle.dump_rules.specs.steps.Merged.{parts_bounds}
+use Rattle.dump_rules.proofs.Prelude.{◌≡◌, length, range_parts, parts_bounds}
 use Rattle.dump_rules.proofs.merged.Bounds.widened_by_list.Given as goal
 
 abbrev pub invariant-loop-comma : goal.invariant-loop-comma

@@ -1,7 +1,4 @@
-use Rattle.std.proofs.Common.{◌≡◌, ◌↔◌, Bool, IsTrue, is_some, sym, ap, subst, ◌∙◌}
-use Rattle.dump_rules.specs.Mergeinfo.{HasMergeLines}
-use Rattle.dump_rules.specs.steps.Merged.{lines_merged, text_merged}
-use Rattle.dump_rules.specs.steps.RewrittenLines.{text_lines}
+use Rattle.dump_rules.proofs.Prelude.{◌≡◌, ◌↔◌, Bool, IsTrue, is_some, sym, ap, subst, ◌∙◌, HasMergeLines, lines_merged, text_merged, text_lines}
 use Rattle.dump_rules.proofs.reading.MergeinfoLemmas.{reads_exactly}
 use Rattle.dump_rules.proofs.faults.MergedMeaning.{read_value, said_sources, said_numbers}
 use Rattle.dump_rules.proofs.merged.Merged.with.Goals as goal

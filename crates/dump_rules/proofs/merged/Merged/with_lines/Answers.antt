@@ -1,5 +1,4 @@
-use Rattle.std.proofs.Common.{sym, ap, ◌∙◌}
-use Rattle.dump_rules.specs.steps.Merged.{lines_merged}
+use Rattle.dump_rules.proofs.Prelude.{sym, ap, ◌∙◌, lines_merged}
 use Rattle.dump_rules.proofs.reading.RangeLemmas.{position_whole}
 use Rattle.dump_rules.proofs.faults.MergedLemmas.{lines_first, lines_bad, lines_last}
 use Rattle.dump_rules.proofs.new_values.NewLineLemmas.{parts_first}

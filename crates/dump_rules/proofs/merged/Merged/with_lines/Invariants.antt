@@ -1,6 +1,4 @@
-use Rattle.std.proofs.Common.{◌≡◌, ◌==◌, length}
-use Rattle.std.specs.List.{slice_split}
-use Rattle.dump_rules.specs.steps.Merged.{lines_merged}
+use Rattle.dump_rules.proofs.Prelude.{◌≡◌, ◌==◌, length, slice_split, lines_merged}
 use Rattle.dump_rules.proofs.merged.Merged.with_lines.Given as goal
 
 abbrev pub invariant-loop-lf : goal.invariant-loop-lf

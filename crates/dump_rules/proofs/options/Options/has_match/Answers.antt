@@ -1,7 +1,4 @@
-use Rattle.std.proofs.Common.{List, ℕ, ap, sym, ◌∙◌}
-use Rattle.std.specs.List.{list_any}
-use Rattle.dump_rules.specs.Prefix.{bare_path, bare_prefix, begins_path, matches_path}
-use Rattle.dump_rules.specs.Settings.{Settings}
+use Rattle.dump_rules.proofs.Prelude.{List, ℕ, ap, sym, ◌∙◌, list_any, bare_path, bare_prefix, begins_path, matches_path, Settings}
 use Rattle.dump_rules.proofs.PrefixLemmas.{any_mapped}
 use Rattle.dump_rules.proofs.options.Options.has_match.Goals as goal
 

@@ -1,6 +1,4 @@
-use Rattle.std.proofs.Common.{List, ℕ, map, Bor, ap, sym, ◌∙◌}
-use Rattle.std.specs.List.{list_any}
-use Rattle.dump_rules.specs.Prefix.{bare_prefix, begins_path}
+use Rattle.dump_rules.proofs.Prelude.{List, ℕ, map, Bor, ap, sym, ◌∙◌, list_any, bare_prefix, begins_path}
 use Rattle.dump_rules.proofs.BarePrefixLemmas.{mapped_twice}
 use Rattle.dump_rules.proofs.options.Options.new.Goals as goal
 

@@ -1,6 +1,4 @@
-use Rattle.std.proofs.Common.{rules, ap, ◌∙◌, nat_lt, count_by}
-use Rattle.std.proofs.lemmas.List.Sorted.{IsPartitionPoint-from_clause}
-use Rattle.dump_rules.specs.Renumbering.{KeptRevisions}
+use Rattle.dump_rules.proofs.Prelude.{rules, ap, ◌∙◌, nat_lt, count_by, IsPartitionPoint-from_clause, KeptRevisions}
 use Rattle.dump_rules.proofs.ReachLemmas.{parted_below, count_at_point}
 use Rattle.dump_rules.proofs.reach.Reach.below.Goals as goal
 

@@ -1,5 +1,4 @@
-use Rattle.std.proofs.Common.{ap, sym, arith}
-use Rattle.dump_rules.specs.Renumbering.{KeptRevisions}
+use Rattle.dump_rules.proofs.Prelude.{ap, sym, arith, KeptRevisions}
 use Rattle.dump_rules.proofs.ReachLemmas.{rise_pushed}
 use Rattle.dump_rules.proofs.reach.Reach.push.Goals as goal
 

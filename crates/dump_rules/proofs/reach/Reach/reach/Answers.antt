@@ -1,7 +1,4 @@
-use Rattle.std.proofs.Common.{◌≡◌, ℕ, ◌+◌, Some, subst, rules, arith, ap, sym, ◌∙◌, nat_le, count_by}
-use Rattle.std.proofs.lemmas.List.Sorted.{IsPartitionPoint-from_clause}
-use Rattle.dump_rules.specs.Renumbering.{KeptRevisions}
-use Rattle.dump_rules.specs.steps.RisingNumbers.{RiseFrom}
+use Rattle.dump_rules.proofs.Prelude.{◌≡◌, ℕ, ◌+◌, Some, subst, rules, arith, ap, sym, ◌∙◌, nat_le, count_by, IsPartitionPoint-from_clause, KeptRevisions, RiseFrom}
 use Rattle.dump_rules.proofs.ReachLemmas.{parted_from_rise, count_at_point, image_of_none, image_of_some}
 use Rattle.dump_rules.proofs.reach.Reach.reach.Goals as goal
 use Rattle.dump_rules.proofs.reach.Reach.reach.Goals.{After-partition_point-up_to}

@@ -1,6 +1,4 @@
-use Rattle.std.proofs.Common.{subst, ap, sym, arith}
-use Rattle.dump_rules.specs.Renumbering.{KeptRevisions}
-use Rattle.dump_rules.specs.steps.RisingNumbers.{RiseFrom}
+use Rattle.dump_rules.proofs.Prelude.{subst, ap, sym, arith, KeptRevisions, RiseFrom}
 use Rattle.dump_rules.proofs.new_values.NewRangeLemmas.{new_range_none, new_range_some, new_range_fits}
 use Rattle.dump_rules.proofs.reach.Reach.span.Goals as goal
 

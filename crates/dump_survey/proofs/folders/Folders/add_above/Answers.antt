@@ -1,5 +1,4 @@
-use Rattle.std.proofs.Common.{◌+◌, ◌<◌, ◌==◌, length, get_or, sym, ap, ◌∙◌, arith}
-use Rattle.dump_survey.specs.Folders.{each_once}
+use Rattle.dump_survey.proofs.Prelude.{◌+◌, ◌<◌, ◌==◌, length, get_or, sym, ap, ◌∙◌, arith, each_once}
 use Rattle.dump_survey.proofs.FolderLemmas.{all_fronts, fronts_from, kept_passes, left_of, no_front, other_passes, place_adds, place_passes}
 use Rattle.dump_survey.proofs.folders.Folders.add_above.Goals as goal
 use Rattle.dump_survey.proofs.folders.Folders.add_above.Goals.{then-byte-eq47+then-not-keeps+in_ok-add, else-byte-eq47, else-byte-eq47-via-then-byte-eq47+else-not-keeps, else-byte-eq47-via-else-byte-eq47}

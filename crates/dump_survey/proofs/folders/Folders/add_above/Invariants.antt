@@ -1,5 +1,4 @@
-use Rattle.std.proofs.Common.{◌≡◌}
-use Rattle.dump_survey.specs.Folders.{each_once, fronts}
+use Rattle.dump_survey.proofs.Prelude.{◌≡◌, each_once, fronts}
 use Rattle.dump_survey.proofs.FolderLemmas.{fronts_from, left_of}
 use Rattle.dump_survey.proofs.folders.Folders.add_above.Given as goal
 

@@ -1,7 +1,4 @@
-use Rattle.std.proofs.Common.{◌≡◌, ◌||◌, Bool, true, false, List, ℕ, map, refl, sym, ap, ◌∙◌, subst}
-use Rattle.std.specs.List.{list_any}
-use Rattle.dump_rules.specs.Prefix.{bare_path, begins_path}
-use Rattle.dump_survey.specs.steps.Needs.{Grown, grown_prefixes, is_matched}
+use Rattle.dump_survey.proofs.Prelude.{◌≡◌, ◌||◌, Bool, true, false, List, ℕ, map, refl, sym, ap, ◌∙◌, subst, list_any, bare_path, begins_path, Grown, grown_prefixes, is_matched}
 use Rattle.dump_survey.proofs.GrowthLemmas.{grown_matches}
 use Rattle.dump_survey.proofs.growth.Growth.matches.Goals as goal
 

@@ -1,5 +1,4 @@
-use Rattle.std.proofs.Common.{sym, ◌∙◌, map}
-use Rattle.dump_survey.specs.steps.Needs.{need_view}
+use Rattle.dump_survey.proofs.Prelude.{sym, ◌∙◌, map, need_view}
 use Rattle.dump_survey.proofs.GrowthLemmas.{pass_adds}
 use Rattle.dump_survey.proofs.growth.Growth.pass.Goals as goal
 

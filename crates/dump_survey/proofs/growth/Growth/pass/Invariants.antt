@@ -1,5 +1,4 @@
-use Rattle.std.proofs.Common.{length, map}
-use Rattle.dump_survey.specs.steps.Needs.{need_view}
+use Rattle.dump_survey.proofs.Prelude.{length, map, need_view}
 use Rattle.dump_survey.proofs.GrowthLemmas.{PassSoFar}
 use Rattle.dump_survey.proofs.growth.Growth.pass.Given as goal
 

@@ -1,7 +1,4 @@
-use Rattle.std.proofs.Common.{◌≡◌, ◌||◌, ◌++◌, ◌∷◌, [], ℕ, List, length, bytes_eq, sym, ap, ◌∙◌, arith}
-use Rattle.std.specs.List.{list_any}
-use Rattle.dump_rules.specs.Prefix.{bare_prefix, begins_path}
-use Rattle.dump_rules.proofs.BarePrefixLemmas.{begin_more, within_more}
+use Rattle.dump_survey.proofs.Prelude.{◌≡◌, ◌||◌, ◌++◌, ◌∷◌, [], ℕ, List, length, bytes_eq, sym, ap, ◌∙◌, arith, list_any, bare_prefix, begins_path, begin_more, within_more}
 use Rattle.dump_survey.proofs.FolderLemmas.{any_inserted, any_pushed}
 use Rattle.dump_survey.proofs.prefix_set.PrefixSet.add.Goals as goal
 

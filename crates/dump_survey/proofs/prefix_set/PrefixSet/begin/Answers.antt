@@ -1,7 +1,4 @@
-use Rattle.std.proofs.Common.{◌<◌, length, sym, ◌∙◌, arith}
-use Rattle.std.proofs.lemmas.List.{get_or-take, length-take}
-use Rattle.dump_rules.specs.steps.PrefixSearch.{AreWithin}
-use Rattle.dump_rules.proofs.BarePrefixLemmas.{empty_begins, whole_begins, cut_begins, none_begins}
+use Rattle.dump_survey.proofs.Prelude.{◌<◌, length, sym, ◌∙◌, arith, get_or-take, length-take, AreWithin, empty_begins, whole_begins, cut_begins, none_begins}
 use Rattle.dump_survey.proofs.prefix_set.PrefixSet.begin.Goals as goal
 use Rattle.dump_survey.proofs.prefix_set.PrefixSet.begin.Goals.{then-has-via-then-has, then-has-via-else-has+then-has-2}
 

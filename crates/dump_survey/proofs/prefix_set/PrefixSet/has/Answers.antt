@@ -1,6 +1,4 @@
-use Rattle.std.proofs.Common.{bytes_eq, ap, ◌∙◌, List, ℕ}
-use Rattle.std.specs.List.{list_any}
-use Rattle.dump_rules.proofs.BarePrefixLemmas.{any_found}
+use Rattle.dump_survey.proofs.Prelude.{bytes_eq, ap, ◌∙◌, List, ℕ, list_any, any_found}
 use Rattle.dump_survey.proofs.prefix_set.PrefixSet.has.Goals as goal
 
 pub returns : goal.returns

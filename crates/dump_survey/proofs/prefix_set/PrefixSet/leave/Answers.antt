@@ -1,5 +1,4 @@
-use Rattle.std.proofs.Common.{◌<◌, length, sym, ◌∙◌, arith}
-use Rattle.std.proofs.lemmas.List.{get_or-take, length-take}
+use Rattle.dump_survey.proofs.Prelude.{◌<◌, length, sym, ◌∙◌, arith, get_or-take, length-take}
 use Rattle.dump_survey.proofs.LeavingLemmas.{all_left, front_left, none_left}
 use Rattle.dump_survey.proofs.prefix_set.PrefixSet.leave.Goals as goal
 use Rattle.dump_survey.proofs.prefix_set.PrefixSet.leave.Goals.{then-byte-eq47, else-byte-eq47}

@@ -1,7 +1,4 @@
-use Rattle.std.proofs.Common.{◌≡◌, List, ℕ, not, filter, map, rules, subst}
-use Rattle.std.proofs.lemmas.Fn.{filter_same}
-use Rattle.dump_rules.specs.Prefix.{begins_path}
-use Rattle.dump_survey.specs.steps.IdlePrefixes.{AreWithout}
+use Rattle.dump_survey.proofs.Prelude.{◌≡◌, List, ℕ, not, filter, map, rules, subst, filter_same, begins_path, AreWithout}
 use Rattle.dump_survey.proofs.LeavingLemmas.{texts_filtered, within_filtered}
 use Rattle.dump_survey.proofs.prefix_set.PrefixSet.leave_below.Goals as goal
 

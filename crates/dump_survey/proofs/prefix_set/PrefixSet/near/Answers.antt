@@ -1,5 +1,4 @@
-use Rattle.std.proofs.Common.{arith}
-use Rattle.dump_rules.specs.steps.PrefixSearch.{AreWithin}
+use Rattle.dump_survey.proofs.Prelude.{arith, AreWithin}
 use Rattle.dump_survey.proofs.LeavingLemmas.{among_within}
 use Rattle.dump_survey.proofs.prefix_set.PrefixSet.near.Goals as goal
 

@@ -1,6 +1,4 @@
-use Rattle.std.proofs.Common.{◌≡◌, ◌||◌, List, ℕ, length, map}
-use Rattle.dump_rules.specs.Prefix.{bare_prefix}
-use Rattle.dump_survey.specs.steps.IdlePrefixes.{is_among}
+use Rattle.dump_survey.proofs.Prelude.{◌≡◌, ◌||◌, List, ℕ, length, map, bare_prefix, is_among}
 use Rattle.dump_survey.proofs.prefix_set.PrefixSet.of.Given as goal
 
 abbrev pub invariant-loop-left : goal.invariant-loop-left

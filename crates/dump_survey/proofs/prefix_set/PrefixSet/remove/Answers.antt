@@ -1,5 +1,4 @@
-use Rattle.std.proofs.Common.{List, ℕ, bytes_eq, map, subst}
-use Rattle.dump_survey.specs.steps.IdlePrefixes.{AreWithout}
+use Rattle.dump_survey.proofs.Prelude.{List, ℕ, bytes_eq, map, subst, AreWithout}
 use Rattle.dump_survey.proofs.LeavingLemmas.{text_removed, within_less}
 use Rattle.dump_survey.proofs.prefix_set.PrefixSet.remove.Goals as goal
 

@@ -1,5 +1,4 @@
-use Rattle.std.proofs.Common.{◌++◌, ◌+◌, ℕ, List, Bor, map, drop, sym, ap, ap₂, ◌∙◌, option_copied}
-use Rattle.dump_rules.specs.Prefix.{bare_prefix}
+use Rattle.dump_survey.proofs.Prelude.{◌++◌, ◌+◌, ℕ, List, Bor, map, drop, sym, ap, ap₂, ◌∙◌, option_copied, bare_prefix}
 use Rattle.dump_survey.proofs.PrefixLemmas.{bare_more, bare_all}
 use Rattle.dump_survey.proofs.prefixes.Prefixes.of.Goals as goal
 

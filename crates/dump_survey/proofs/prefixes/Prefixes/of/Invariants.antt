@@ -1,5 +1,4 @@
-use Rattle.std.proofs.Common.{◌≡◌, ◌-◌, ◌++◌, length, map, drop, vec_len}
-use Rattle.dump_rules.specs.Prefix.{bare_prefix}
+use Rattle.dump_survey.proofs.Prelude.{◌≡◌, ◌-◌, ◌++◌, length, map, drop, vec_len, bare_prefix}
 use Rattle.dump_survey.proofs.prefixes.Prefixes.of.Given as goal
 
 abbrev pub invariant-loop-prefix : goal.invariant-loop-prefix

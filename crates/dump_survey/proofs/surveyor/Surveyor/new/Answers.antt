@@ -1,6 +1,4 @@
-use Rattle.std.proofs.Common.{Bor, List, ℕ, false, map, refl, ap, ◌∙◌, subst}
-use Rattle.dump_rules.specs.Prefix.{bare_prefix}
-use Rattle.dump_survey.specs.steps.Folders.{HaveSame}
+use Rattle.dump_survey.proofs.Prelude.{Bor, List, ℕ, false, map, refl, ap, ◌∙◌, subst, bare_prefix, HaveSame}
 use Rattle.dump_survey.proofs.SurveyorLemmas.{at_first}
 use Rattle.dump_survey.proofs.surveyor.Surveyor.new.Goals as goal
 

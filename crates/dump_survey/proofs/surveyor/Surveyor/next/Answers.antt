@@ -1,15 +1,6 @@
-use Rattle.std.proofs.Common.{◌≡◌, ◌⊎◌, ◌↔◌, Bool, ◌||◌, IsTrue, sym, ap, ◌∙◌, subst}
-use Rattle.std.proofs.lemmas.Bool.{or_left}
+use Rattle.dump_survey.proofs.Prelude.{◌≡◌, ◌⊎◌, ◌↔◌, Bool, ◌||◌, IsTrue, sym, ap, ◌∙◌, subst, or_left, Cut, DumpRecord, record_item, CutStep, IsUnreadRevision, TellsNaming, leaves_number, SurveyStep, Surveying}
 use Rattle.std.specs.Result.{IfOk}
-use Rattle.dump_records.specs.declared.cutter.Cut.{Cut}
-use Rattle.dump_records.specs.RecordText.{DumpRecord}
-use Rattle.dump_records.specs.steps.RecordViews.{record_item, CutStep}
-use Rattle.dump_history.specs.Findings.{IsUnreadRevision}
-use Rattle.dump_history.specs.steps.NamingTests.{TellsNaming}
 use Rattle.dump_survey.specs.declared.surveyor.End.TheVariants as ends
-use Rattle.dump_survey.specs.steps.Naming.{leaves_number}
-use Rattle.dump_survey.specs.steps.Steps.{SurveyStep}
-use Rattle.dump_survey.specs.steps.Surveying.{Surveying}
 use Rattle.dump_survey.proofs.SurveyorLemmas.{ended, room, goes_on, stepped_ok}
 use Rattle.dump_survey.proofs.UnreadLemmas.{still_unread, now_unread}
 use Rattle.dump_survey.proofs.surveyor.Surveyor.next.Goals as goal

@@ -1,8 +1,5 @@
-use Rattle.std.proofs.Common.{Bor, List, ℕ, map, ap, ◌∙◌, subst}
+use Rattle.dump_survey.proofs.Prelude.{Bor, List, ℕ, map, ap, ◌∙◌, subst, prefix_view, ArePrefixesTold, Surveying}
 use Rattle.std.specs.Result.{IfOk}
-use Rattle.dump_survey.specs.PrefixFindings.{prefix_view}
-use Rattle.dump_survey.specs.steps.Steps.{ArePrefixesTold}
-use Rattle.dump_survey.specs.steps.Surveying.{Surveying}
 use Rattle.dump_survey.proofs.SurveyorLemmas.{told_so_far}
 use Rattle.dump_survey.proofs.surveyor.Surveyor.told_prefixes.Goals as goal
 

@@ -1,7 +1,4 @@
-use Rattle.std.proofs.Common.{◌++◌, List, map, sym, ap}
-use Rattle.dump_survey.specs.declared.finding.NodeFinding.{NodeFinding}
-use Rattle.dump_survey.specs.Told.{told_view}
-use Rattle.dump_survey.specs.steps.Surveyed.{told_of_finding}
+use Rattle.dump_survey.proofs.Prelude.{◌++◌, List, map, sym, ap, NodeFinding, told_view, told_of_finding}
 use Rattle.dump_survey.proofs.ToldLemmas.{told_left}
 use Rattle.dump_survey.proofs.told.SurveyedNode.tell.Goals as goal
 

@@ -1,6 +1,4 @@
-use Rattle.std.proofs.Common.{◌≡◌, ◌++◌, length, map}
-use Rattle.dump_survey.specs.Told.{told_view}
-use Rattle.dump_survey.specs.steps.Surveyed.{told_of_finding, told_of_node}
+use Rattle.dump_survey.proofs.Prelude.{◌≡◌, ◌++◌, length, map, told_view, told_of_finding, told_of_node}
 use Rattle.dump_survey.proofs.ToldLemmas.{told_left}
 use Rattle.dump_survey.proofs.told.SurveyedNode.tell.Given as goal
 

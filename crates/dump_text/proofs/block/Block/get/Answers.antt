@@ -1,6 +1,4 @@
-use Rattle.std.proofs.Common.{sym, ap, ◌∙◌}
-use Rattle.dump_text.specs.HeaderLine.{header_value}
-use Rattle.dump_text.specs.steps.Views.{line_header, lines_left}
+use Rattle.dump_text.proofs.Prelude.{sym, ap, ◌∙◌, header_value, line_header, lines_left}
 use Rattle.dump_text.proofs.BlockLemmas.{value_between, rest_between, value_behind}
 use Rattle.dump_text.proofs.block.Block.get.Goals as goal
 

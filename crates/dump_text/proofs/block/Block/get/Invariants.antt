@@ -1,7 +1,4 @@
-use Rattle.std.proofs.Common.{◌≡◌}
-use Rattle.dump_text.specs.HeaderLine.{header_value}
-use Rattle.dump_text.specs.steps.ReadHeaders.{IsPartBetween}
-use Rattle.dump_text.specs.steps.Views.{lines_left, lines_text, block_dump, block_place, block_after, block_headers}
+use Rattle.dump_text.proofs.Prelude.{◌≡◌, header_value, IsPartBetween, lines_left, lines_text, block_dump, block_place, block_after, block_headers}
 use Rattle.dump_text.proofs.block.Block.get.Given as goal
 
 abbrev pub invariant-loop-line : goal.invariant-loop-line

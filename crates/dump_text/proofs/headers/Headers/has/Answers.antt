@@ -1,6 +1,4 @@
-use Rattle.std.proofs.Common.{ap, ◌∙◌, is_some}
-use Rattle.dump_text.specs.steps.KnownValues.{name_text}
-use Rattle.dump_text.specs.steps.Views.{block_headers}
+use Rattle.dump_text.proofs.Prelude.{ap, ◌∙◌, is_some, name_text, block_headers}
 use Rattle.dump_text.proofs.BlockLemmas.{has_value}
 use Rattle.dump_text.proofs.ValueLemmas.{place_has}
 use Rattle.dump_text.proofs.headers.Headers.has.Goals as goal

@@ -1,8 +1,4 @@
-use Rattle.std.proofs.Common.{◌++◌, ◌∙◌, arith, ap, sym, take}
-use Rattle.std.proofs.lemmas.List.{take-append-drop}
-use Rattle.dump_text.specs.steps.KnownValues.{name_text}
-use Rattle.dump_text.specs.HeaderLine.{header_value}
-use Rattle.dump_text.specs.steps.ReadHeaders.{headers_of}
+use Rattle.dump_text.proofs.Prelude.{◌++◌, ◌∙◌, arith, ap, sym, subst, take, take-append-drop, name_text, noted_span, IsSpanOf, header_value, headers_of}
 use Rattle.dump_text.proofs.BlockLemmas.{block_there, all_left, lines_there}
 use Rattle.dump_text.proofs.headers.Headers.read.Goals as goal
 
@@ -26,7 +22,7 @@ pub invariant_of-result : goal.invariant_of-result
 invariant_of-result c =
     let dump = c.args.dump.now in
     record {
-      known = λ name. c.in-Some.ensures.1 name
-          ∙ ap (λ t. header_value (name_text name) (headers_of t))
-          (lines_there dump _ c.args.place c.in-Some.found.0 (all_left dump c.args.place));
+      known = λ name. subst (λ t. IsSpanOf dump (noted_span c.in-Some.found.1 name)
+          (header_value (name_text name) (headers_of t)))
+          (lines_there dump _ c.args.place c.in-Some.found.0 (all_left dump c.args.place)) (c.in-Some.ensures.1 name);
     }

@@ -1,6 +1,4 @@
-use Rattle.std.proofs.Common.{ap, ◌∙◌, bytes_eq}
-use Rattle.std.specs.List.{find}
-use Rattle.dump_text.specs.steps.KnownValues.{name_text}
+use Rattle.dump_text.proofs.Prelude.{ap, ◌∙◌, bytes_eq, find, name_text}
 use Rattle.dump_text.proofs.NameLemmas.{known_by_length}
 use Rattle.dump_text.proofs.names.HeaderName.of.Goals as goal
 

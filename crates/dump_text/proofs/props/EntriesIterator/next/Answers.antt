@@ -1,6 +1,4 @@
-use Rattle.std.proofs.Common.{refl, sym, subst}
-use Rattle.std.proofs.Math.Logic.{∥∥₁_map}
-use Rattle.dump_text.specs.PropertyList.{IsEntry}
+use Rattle.dump_text.proofs.Prelude.{refl, sym, subst, ∥∥₁_map, IsEntry}
 use Rattle.dump_text.proofs.PropertyLemmas.{scanned_parts, parts_entry, properties_left, block_ends}
 use Rattle.dump_text.proofs.props.EntriesIterator.next.Goals as goal
 

@@ -1,6 +1,4 @@
-use Rattle.std.proofs.Common.{◌≡◌, ◌&&◌, false, [], sym, ap, ◌∙◌, inr, is_some, bytes_eq}
-use Rattle.dump_text.specs.steps.PropertyReading.{property_value}
-use Rattle.dump_text.specs.steps.PropertyViews.{entry_property}
+use Rattle.dump_text.proofs.Prelude.{◌≡◌, ◌&&◌, false, [], sym, ap, ◌∙◌, inr, is_some, bytes_eq, property_value, entry_property}
 use Rattle.dump_text.proofs.BoolLemmas.{both_true}
 use Rattle.dump_text.proofs.PropertyLemmas.{entry_parts, left_of, value_here, value_behind, value_between, rest_between, property_block_once, value_there, no_value_there}
 use Rattle.dump_text.proofs.props.Props.get.Goals as goal

@@ -1,8 +1,4 @@
-use Rattle.std.proofs.Common.{◌≡◌, List, length}
-use Rattle.dump_text.specs.PropertyList.{Property, IsPropertyBlock}
-use Rattle.dump_text.specs.steps.PropertyReading.{property_value}
-use Rattle.dump_text.specs.steps.ReadHeaders.{IsPartBetween}
-use Rattle.dump_text.specs.steps.PropertyViews.{props_bytes, entries_text, HasEntriesLeft}
+use Rattle.dump_text.proofs.Prelude.{◌≡◌, List, length, Property, IsPropertyBlock, property_value, IsPartBetween, props_bytes, entries_text, HasEntriesLeft}
 use Rattle.dump_text.proofs.props.Props.get.Given as goal
 
 abbrev pub invariant-loop-entry : goal.invariant-loop-entry

@@ -1,7 +1,4 @@
-use Rattle.std.proofs.Common.{[], arith, refl, sym, ap, ◌≡◌, ◌∙◌, inl, inr}
-use Rattle.std.proofs.lemmas.List.{nil_from_length}
-use Rattle.std.proofs.lemmas.Bool.{eqb-true}
-use Rattle.dump_text.specs.PropertyList.{has_deletes}
+use Rattle.dump_text.proofs.Prelude.{[], arith, refl, sym, ap, ◌≡◌, ◌∙◌, inl, inr, nil_from_length, eqb-true, has_deletes}
 use Rattle.dump_text.proofs.PropertyLemmas.{entries_some}
 use Rattle.dump_text.proofs.WrittenLemmas.{spelled_is, none_spelled}
 use Rattle.dump_text.proofs.props.Props.read_with_deletes.Goals as goal

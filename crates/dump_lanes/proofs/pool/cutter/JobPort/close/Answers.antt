@@ -1,7 +1,5 @@
-use Rattle.std.proofs.Common.{ℕ, ap, ◌∙◌}
+use Rattle.dump_lanes.proofs.Prelude.{ℕ, ap, ◌∙◌, Queues, job_port}
 use Rattle.crossbeam_queue.specs.Passes.{view}
-use Rattle.dump_lanes.specs.declared.pool.queues.Queues.{Queues}
-use Rattle.dump_lanes.specs.steps.PortViews.{job_port}
 use Rattle.dump_lanes.proofs.PortSteps.{cut_ends, cut_ends_put, cut_ends_marks, cutter_is}
 use Rattle.dump_lanes.proofs.pool.cutter.JobPort.close.Goals as goal
 
