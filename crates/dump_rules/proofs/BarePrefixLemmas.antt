@@ -1,6 +1,12 @@
 -- The bare prefixes that begin a path: one of its parts before a slash, itself, or the empty one.
-use Rattle.dump_rules.proofs.Prelude.{◌≡◌, ℕ, zero, suc, ◌+◌, ◌<◌, ◌≤◌, Bool, true, false, ◌||◌, List, [], ◌∷◌, ◌++◌, take, drop, length, get_or, map, nat_lt, bytes_eq, Bor, refl, sym, ap, ◌∙◌, inl, inr, arith, list_any, slice_cmp, is_eq, match_ordering, nat_cmp, Ordering, Less, Equal, Greater, is_at, insert_key, or_cases, or_parts, or_from, or_left, or_right, and_parts, and_from, false_from_ne_true, both_ways, ltb-true, lt-ltb, nat_tests, length-take-le, take_more, map-append, is_eq-slice_cmp, bytes_eq-Decides, bare_prefix, begins_path, AreWithin, BeginSame, has_slash_first}
-use Rattle.dump_rules.proofs.PrefixLemmas.{slash_behind, any_mapped}
+use Rattle.dump_rules.proofs.Prelude.{◌≡◌, ℕ, zero, suc, ◌+◌, ◌<◌, ◌≤◌, Bool, true, false, ◌||◌, List, [], ◌∷◌, ◌++◌, take, drop, length, get_or, map, nat_lt, bytes_eq, Result, Ok, Err, refl, sym, ap, ◌∙◌, inl, inr, arith, list_any, slice_cmp, is_eq, nat_cmp, Ordering, Less, Equal, Greater, or_cases, or_parts, or_from, cases_lt, or_left, or_right, and_parts, and_from, false_from_ne_true, both_ways, ltb-true, lt-ltb, nat_tests, length-take-le, take_more, map-append, is_eq-slice_cmp, bytes_eq-Decides, bare_prefix, begins_path, bare_at, AreWithin, IsIndexed, has_slash_first}
+use Rattle.std.proofs.lemmas.List.Sorted.{searchable_from_sorted}
+use Rattle.std.proofs.lemmas.List.Folds.{list_any-append, list_any_at, list_any_none}
+use Rattle.std.specs.Cmp.Lexicographic.{nat_list_cmp_total}
+use Rattle.std.specs.Ordering.{ordering_reverse}
+use Rattle.std.specs.Result.{is_ok}
+use Rattle.std.specs.List.Sorted.{IsBinarySearchResult, IsSearchInRange}
+use Rattle.dump_rules.proofs.PrefixLemmas.{slash_behind}
 
 -- a slash at a place of a path
 
@@ -95,90 +101,67 @@ none_begins path near longest reach (prefix ∷ prefixes) within some other clea
 
 -- one more prefix
 
-swapped : (a b c : Bool) → (a || (b || c)) ≡ (b || (a || c))
-swapped true true c = refl
-swapped true false c = refl
-swapped false b c = refl
+-- whether some of the first bare prefixes passes a test, where one more stands there
+bare_more : (prefixes : List (List ℕ)) (place : ℕ) → place < length prefixes → (test : List ℕ → Bool)
+    → list_any test (map bare_prefix (take (place + 1) prefixes))
+    ≡ (list_any test (map bare_prefix (take place prefixes)) || (test (bare_at prefixes place) || false))
+bare_more prefixes place low test = rw (take_more prefixes place [] low)
+    (ap (list_any test) (map-append bare_prefix (take place prefixes) (get_or prefixes place [] ∷ []))
+    ∙ list_any-append test (map bare_prefix (take place prefixes)) (bare_at prefixes place ∷ []))
 
-any_inserted : {V : Type 0} (items : V → List ℕ) (p : List ℕ → Bool) (k : V) (ks : List V)
-    → list_any (λ v. p (items v)) (insert_key (λ x y. slice_cmp nat_cmp (items x) (items y)) ks k)
-    ≡ (p (items k) || list_any (λ v. p (items v)) ks)
-any_inserted items p k [] = refl
-any_inserted {V} items p k (x ∷ xs) = at (any_inserted items p k xs) (slice_cmp nat_cmp (items k) (items x)) refl
+-- an index of the first prefixes, and the next place
+pub place_more : (prefixes : List (List ℕ)) (index : List ℕ) (place : ℕ) → place < length prefixes
+    → ((test : List ℕ → Bool) → list_any (λ n. test (bare_at prefixes n)) index
+    ≡ list_any test (map bare_prefix (take place prefixes))) → (test : List ℕ → Bool)
+    → list_any (λ n. test (bare_at prefixes n)) (index ++ place ∷ [])
+    ≡ list_any test (map bare_prefix (take (place + 1) prefixes))
+place_more prefixes index place low all test =
+    list_any-append (λ n. test (bare_at prefixes n)) index (place ∷ [])
+    ∙ ap (λ b. b || (test (bare_at prefixes place) || false)) (all test) ∙ sym (bare_more prefixes place low test)
+
+-- texts within a length are within a greater one
+pub within_wider : (low high : ℕ) → low ≤ high → (texts : List (List ℕ)) → AreWithin low texts → AreWithin high texts
+within_wider low high up texts within = false_from_ne_true _ (λ some. both_ways _ within
+    (any_keeps _ _ (λ text long. lt-ltb _ _ (further text (ltb-true _ _ long))) texts some))
   where
-    twice : (a b : Bool) → (a || b) ≡ (a || (a || b))
-    twice true b = refl
-    twice false b = refl
+    further : (text : List ℕ) → high < length text → low < length text
+    further text long = omega arith
 
-    at : list_any (λ v. p (items v)) (insert_key (λ x y. slice_cmp nat_cmp (items x) (items y)) xs k) ≡
-        (p (items k) || list_any (λ v. p (items v)) xs)
-        → (o : Ordering) → slice_cmp nat_cmp (items k) (items x) ≡ o
-        → list_any (λ v. p (items v)) (match_ordering o (k ∷ x ∷ xs) (x ∷ xs)
-        (x ∷ insert_key (λ x y. slice_cmp nat_cmp (items x) (items y)) xs k))
-        ≡ (p (items k) || list_any (λ v. p (items v)) (x ∷ xs))
-    at behind Less is = refl
-    at behind Equal is =
-        let same : items k ≡ items x = (bytes_eq-Decides (items k) (items x)).0
-        (sym (is_eq-slice_cmp (items k) (items x)) ∙ ap is_eq is) in
-        twice (p (items x)) (list_any (λ v. p (items v)) xs)
-        ∙ ap (λ t. p t || (p (items x) || list_any (λ v. p (items v)) xs)) (sym same)
-    at behind Greater is =
-        ap (λ b. p (items x) || b) behind ∙ swapped (p (items x)) (p (items k)) (list_any (λ v. p (items v)) xs)
+-- the first bare prefixes and the next one are within a length that is no less than theirs
+pub within_more : (prefixes : List (List ℕ)) (place low high : ℕ) → place < length prefixes → low ≤ high
+    → length (bare_at prefixes place) ≤ high → AreWithin low (map bare_prefix (take place prefixes))
+    → AreWithin high (map bare_prefix (take (place + 1) prefixes))
+within_more prefixes place low high inside up fits within =
+    bare_more prefixes place inside (λ text. nat_lt high (length text))
+    ∙ or_from _ _ (within_wider low high up _ within) (or_from _ _ (grind (arith, nat_tests)) refl)
 
-any_pushed : (p : List ℕ → Bool) (texts : List (List ℕ)) (text : List ℕ) → list_any p (texts ++ text ∷ []) ≡
-    (p text || list_any p texts)
-any_pushed p [] text = refl
-any_pushed p (t ∷ texts) text = ap (λ b. p t || b) (any_pushed p texts text) ∙ swapped (p t) (p text) (list_any p texts)
+-- a search
 
--- a text that is looked up by the order of the set is one of its texts
-pub any_found : {V : Type 0} (items : V → List ℕ) (text : List ℕ) (ks : List V)
-    → list_any (is_at (λ k. slice_cmp nat_cmp text (items k))) ks ≡ list_any (λ prefix. bytes_eq text prefix)
-    (map items ks)
-any_found items text [] = refl
-any_found items text (x ∷ xs) =
-    ap (λ b. b || list_any (is_at (λ k. slice_cmp nat_cmp text (items k))) xs) (is_eq-slice_cmp text (items x))
-    ∙ ap (λ b. bytes_eq text (items x) || b) (any_found items text xs)
-
--- a prefix that is put in begins the paths that it begins at the end of the list
-pub begin_more : {V : Type 0} (items : V → List ℕ) (ks : List V) (k : V) (bares : List (List ℕ))
-    → BeginSame (map items ks) bares
-    → BeginSame (map items (insert_key (λ x y. slice_cmp nat_cmp (items x) (items y)) ks k)) (bares ++ items k ∷ [])
-begin_more items ks k bares same path =
-    let begins = λ (prefix : List ℕ). begins_path prefix path in
-    any_mapped items begins (insert_key (λ x y. slice_cmp nat_cmp (items x) (items y)) ks k)
-    ∙ any_inserted items begins k ks
-    ∙ ap (λ b. begins (items k) || b) (sym (any_mapped items begins ks) ∙ same path)
-    ∙ sym (any_pushed begins bares (items k))
-
--- a text that is put in is within a length as it and the others are
-pub within_more : {V : Type 0} (items : V → List ℕ) (ks : List V) (k : V) (low high : ℕ) → low ≤ high
-    → length (items k) ≤ high
-    → AreWithin low (map items ks) → AreWithin high
-    (map items (insert_key (λ x y. slice_cmp nat_cmp (items x) (items y)) ks k))
-within_more items ks k low high up fits within =
-    let longer = λ (text : List ℕ). nat_lt high (length text) in
-    any_mapped items longer (insert_key (λ x y. slice_cmp nat_cmp (items x) (items y)) ks k)
-    ∙ any_inserted items longer k ks
-    ∙ or_from _ _ (grind (arith, nat_tests)) (sym (any_mapped items longer ks) ∙ wider (map items ks) within)
+same_by_order : (text prefix : List ℕ) (r : Ordering) → slice_cmp nat_cmp prefix text ≡ r
+    → bytes_eq text prefix ≡ is_eq r
+same_by_order text prefix r is =
+    sym (is_eq-slice_cmp text prefix) ∙ ap is_eq (nat_list_cmp_total.antisymm text prefix)
+    ∙ ap (λ o. is_eq (ordering_reverse o)) is ∙ turned r
   where
-    wider : (texts : List (List ℕ)) → AreWithin low texts → AreWithin high texts
-    wider texts less = false_from_ne_true _ (λ some. both_ways _ less
-        (any_keeps _ _ (λ text long. lt-ltb _ _ (further text (ltb-true _ _ long))) texts some))
-      where
-        further : (text : List ℕ) → high < length text → low < length text
-        further text long = omega arith
+    turned : (r : Ordering) → is_eq (ordering_reverse r) ≡ is_eq r
+    turned Less = refl
+    turned Equal = refl
+    turned Greater = refl
 
--- what holds where a call succeeds
--- the bare forms of one prefix more
-pub bares_more : (prefixes : List (Bor (List ℕ))) (n : ℕ) (d : Bor (List ℕ)) → n < length prefixes
-    → map (λ (prefix : Bor (List ℕ)). bare_prefix prefix.now) (take (n + 1) prefixes)
-    ≡ map (λ (prefix : Bor (List ℕ)). bare_prefix prefix.now) (take n prefixes) ++ bare_prefix
-    (get_or prefixes n d).now ∷ []
-bares_more prefixes n d low = rw (take_more prefixes n d low)
-    (map-append (λ (prefix : Bor (List ℕ)). bare_prefix prefix.now) (take n prefixes) (get_or prefixes n d ∷ []))
-
--- the texts mapped in one pass or in two
-pub mapped_twice : {X : Type 0} (items : X → List ℕ) (bare : List ℕ → List ℕ) (xs : List X)
-    → map bare (map items xs) ≡ map (λ x. bare (items x)) xs
-mapped_twice items bare [] = refl
-mapped_twice items bare (x ∷ xs) = ap (λ texts. bare (items x) ∷ texts) (mapped_twice items bare xs)
+-- a binary search of the index finds a text where it is a bare prefix
+pub search_finds : (prefixes : List (List ℕ)) (index : List ℕ) (longest : ℕ) (text : List ℕ) (r : Result ℕ ℕ)
+    → IsIndexed prefixes index longest → IsSearchInRange r (length index)
+    → IsBinarySearchResult (λ place. slice_cmp nat_cmp (bare_at prefixes place) text) index r
+    → is_ok r ≡ list_any (λ prefix. bytes_eq text prefix) (map bare_prefix prefixes)
+search_finds prefixes index longest text (Ok i) indexed inside at =
+    sym (list_any_at (λ place. bytes_eq text (bare_at prefixes place)) index i 0 inside
+    (same_by_order text _ Equal (at 0)))
+    ∙ indexed.all (bytes_eq text)
+search_finds prefixes index longest text (Err i) indexed inside at =
+    let parted = at (searchable_from_sorted nat_list_cmp_total (bare_at prefixes) index text indexed.ascends) in
+    sym (list_any_none (λ place. bytes_eq text (bare_at prefixes place)) index (λ k d within.
+    elim (cases_lt k i) [
+      | inl low ↦ same_by_order text _ Less (parted.0 k d (omega arith) low)
+      | inr high ↦ same_by_order text _ Greater (parted.1 k d high within)
+    ]))
+    ∙ indexed.all (bytes_eq text)

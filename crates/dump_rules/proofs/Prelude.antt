@@ -36,7 +36,7 @@ pub use Rattle.dump_rules.specs.Settings.{Settings, keeps_path, side_keeps}
 pub use Rattle.dump_rules.specs.steps.Blocks.{block_agrees, block_contradicts, ends_range, kind_agrees, kind_part_agrees, left_size, meets, parts_agree, parts_left, raised_ends}
 pub use Rattle.dump_rules.specs.steps.Merged.{is_outside, line_merged, line_said, lines_merged, list_bounds, no_bounds, nothing_merged, parts_bounds, text_merged, widened, widened_by}
 pub use Rattle.dump_rules.specs.steps.NewRanges.{kept_range, list_new, new_range, new_ranges, part_range, parts_ranges}
-pub use Rattle.dump_rules.specs.steps.PrefixSearch.{AreWithin, BeginSame, has_slash_first}
+pub use Rattle.dump_rules.specs.steps.PrefixSearch.{AreWithin, IsIndexed, bare_at, has_slash_first, is_before}
 pub use Rattle.dump_rules.specs.steps.ReadMergeinfo.{colon_end, line_reads, lines_read, value_reads, without_lf}
 pub use Rattle.dump_rules.specs.steps.ReadRanges.{both, contradicts, ends_at, ends_in_star, ends_of, highest_numbers, is_other, list_reads, part_agrees, part_contradicts, raised, raised_by, range_between, range_of, range_parts, span_range, without_star}
 pub use Rattle.dump_rules.specs.steps.RewrittenLines.{line_foreign, line_list, line_misses, line_path, list_foreign, part_foreign, range_foreign, text_foreign, text_lines, text_misses, value_foreign, value_misses, with_break, with_new_line, with_new_lines, with_runs}

@@ -77,7 +77,6 @@
 //! the filter, and a `Reach` renumbers whether or not one asks for it.
 #![tactic(auto)]
 
-mod bare;
 mod blocks;
 pub mod laws;
 mod memory;
@@ -85,6 +84,7 @@ mod merged;
 mod mergeinfo;
 mod options;
 mod prefix;
+mod prefixes;
 mod ranges;
 mod reach;
 mod rewriting;

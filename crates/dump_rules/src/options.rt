@@ -4,9 +4,9 @@ ghost use Rattle.std.specs.List.{list_any};
 ghost use Rattle.dump_rules.specs.Prefix.{matches_path};
 ghost use Rattle.dump_rules.specs.Settings.{keeps_path};
 
-use crate::bare::BarePrefixes;
 use crate::memory::Memory;
 use crate::prefix::trim_path;
+use crate::prefixes::Prefixes;
 use std::alloc::Global;
 use std::marker::Model;
 
@@ -28,12 +28,11 @@ pub enum Empty {
     DropAll,
 }
 
-/// The filter's options, with their own copies of the prefixes, once as they were handed in and once to be looked up.
+/// The filter's options, with their own copies of the prefixes.
 #[derive(Drop)]
 pub struct Options {
     side: Side,
-    prefixes: Vec<Vec<u8>>,
-    bare: BarePrefixes,
+    prefixes: Prefixes,
     empty: Empty,
     renumber: bool,
     preserve: bool,
@@ -41,35 +40,18 @@ pub struct Options {
 }
 
 impl Model for Options {
-    ghost use Rattle.std.specs.Prelude.{map};
-    ghost use Rattle.dump_rules.specs.Prefix.{bare_prefix};
-    ghost use Rattle.dump_rules.specs.steps.PrefixSearch.{BeginSame};
     ghost use Rattle.dump_rules.specs.Settings.{Settings};
 
     ghost Value = { Settings };
 
     ghost view = { λ o. record {
       side = o.side;
-      prefixes = map (λ prefix. prefix.items) o.prefixes.items;
+      prefixes = o.prefixes;
       empty = o.empty;
       renumber = o.renumber;
       preserve = o.preserve;
       skip_missing = o.skip_missing;
     } };
-
-    ghost invariant = { λ o. BeginSame o.bare (map (λ prefix. bare_prefix prefix.items) o.prefixes.items) };
-}
-
-/// Copies of texts, in their order.
-fn copies(alloc: Global, texts: &[&[u8]]) -> Result<Vec<Vec<u8>>, Memory>
-    ensures { IfOk result (λ copied. map (λ text. text.items) copied.items ≡ map (λ text. text.now) texts.now) }
-{
-    let mut copied = Vec::new(alloc);
-    for text in texts {
-        let copy = Vec::from_slice(alloc, text)?;
-        copied.push(copy)?;
-    }
-    Ok(copied)
 }
 
 impl Options {
@@ -77,7 +59,7 @@ impl Options {
     pub(crate) fn has_match(&self, path: &[u8]) -> bool
         ensures { result ≡ list_any (λ prefix. matches_path prefix path.now) self.now.prefixes }
     {
-        self.bare.begin(trim_path(path))
+        self.prefixes.begin(trim_path(path))
     }
 
     /// Options with copies of the prefixes.
@@ -99,12 +81,10 @@ impl Options {
           skip_missing = skip_missing;
         }) }
     {
-        let bare = BarePrefixes::new(alloc, prefixes)?;
-        let prefixes = copies(alloc, prefixes)?;
+        let prefixes = Prefixes::new(alloc, prefixes)?;
         Ok(Options {
             side,
             prefixes,
-            bare,
             empty,
             renumber,
             preserve,
@@ -123,10 +103,7 @@ impl Options {
     pub fn prefix(&self, n: usize) -> Option<&[u8]>
         ensures { option_copied result ≡ slice_get self.now.prefixes n }
     {
-        match self.prefixes.get(n) {
-            Some(prefix) => Some(prefix.as_slice()),
-            None => None,
-        }
+        self.prefixes.get(n)
     }
 
     /// What becomes of revisions without a kept node.

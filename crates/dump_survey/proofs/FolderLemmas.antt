@@ -1,5 +1,6 @@
 -- The folders to make before the load.
-use Rattle.dump_survey.proofs.Prelude.{◌≡◌, ◌≢◌, ℕ, ◌+◌, ◌-◌, ◌<◌, ◌≤◌, Bool, true, false, not, ◌&&◌, ◌||◌, ◌==◌, List, [], ◌∷◌, ◌++◌, take, drop, length, get_or, map, flat_map, filter, bytes_eq, if◌then◌else◌, Bor, refl, sym, ap, ap₂, ◌∙◌, arith, append_assoc, append-nil, list_any, slice_cmp, is_eq, match_ordering, nat_cmp, Ordering, Less, Equal, Greater, insert_key, nat_tests, take_more, drop_more, drop_all, map-append, take-length, is_eq-slice_cmp, bytes_eq-Decides, Settings, keeps_path, each_once, fronts, with_new, HaveSame}
+use Rattle.dump_survey.proofs.Prelude.{◌≡◌, ◌≢◌, ℕ, ◌+◌, ◌-◌, ◌<◌, ◌≤◌, Bool, true, false, not, ◌&&◌, ◌||◌, ◌==◌, List, [], ◌∷◌, ◌++◌, take, drop, length, get_or, map, flat_map, filter, bytes_eq, if◌then◌else◌, Bor, refl, sym, ap, ap₂, ◌∙◌, arith, append_assoc, append-nil, list_any, slice_cmp, is_eq, match_ordering, nat_cmp, Ordering, Less, Equal, Greater, insert_key, nat_tests, take_more, drop_more, drop_all, map-append, take-length, is_eq-slice_cmp, bytes_eq-Decides, is_at, or_from, begins_path, AreWithin, within_wider, Settings, keeps_path, each_once, fronts, with_new, BeginSame, HaveSame}
+use Rattle.std.proofs.Common.{nat_lt}
 
 -- a folder that is looked up
 
@@ -37,6 +38,32 @@ pub any_pushed : (p : List ℕ → Bool) (texts : List (List ℕ)) (text : List 
     (p text || list_any p texts)
 any_pushed p [] text = refl
 any_pushed p (t ∷ texts) text = ap (λ b. p t || b) (any_pushed p texts text) ∙ swapped (p t) (p text) (list_any p texts)
+
+-- a text that is looked up by the order of the set is one of its texts
+pub any_found : {V : Type 0} (items : V → List ℕ) (text : List ℕ) (ks : List V)
+    → list_any (is_at (λ k. slice_cmp nat_cmp text (items k))) ks ≡ list_any (λ prefix. bytes_eq text prefix)
+    (map items ks)
+any_found items text [] = refl
+any_found items text (x ∷ xs) =
+    ap (λ b. b || list_any (is_at (λ k. slice_cmp nat_cmp text (items k))) xs) (is_eq-slice_cmp text (items x))
+    ∙ ap (λ b. bytes_eq text (items x) || b) (any_found items text xs)
+
+-- a prefix that is put in begins the paths that it begins at the end of the list
+pub begin_more : {V : Type 0} (items : V → List ℕ) (ks : List V) (k : V) (bares : List (List ℕ))
+    → BeginSame (map items ks) bares
+    → BeginSame (map items (insert_key (λ x y. slice_cmp nat_cmp (items x) (items y)) ks k)) (bares ++ items k ∷ [])
+begin_more items ks k bares same path =
+    let begins = λ (prefix : List ℕ). begins_path prefix path in
+    any_inserted items begins k ks ∙ ap (λ b. begins (items k) || b) (same path) ∙ sym (any_pushed begins bares (items k))
+
+-- a text that is put in is within a length as it and the others are
+pub within_more : {V : Type 0} (items : V → List ℕ) (ks : List V) (k : V) (low high : ℕ) → low ≤ high
+    → length (items k) ≤ high
+    → AreWithin low (map items ks) → AreWithin high
+    (map items (insert_key (λ x y. slice_cmp nat_cmp (items x) (items y)) ks k))
+within_more items ks k low high up fits within =
+    any_inserted items (λ text. nat_lt high (length text)) k ks
+    ∙ or_from _ _ (grind (arith, nat_tests)) (within_wider low high up (map items ks) within)
 
 -- one more folder in both
 pub known_more : {V : Type 0} (items : V → List ℕ) (ks : List V) (k : V) (folders : List (Bor (List ℕ)))

@@ -63,7 +63,7 @@ pub use Rattle.dump_records.specs.RecordText.{DumpRecord, is_lawful, record_text
 pub use Rattle.dump_records.specs.steps.CutRecords.{EndsAfter, IsRecordOf}
 pub use Rattle.dump_records.specs.steps.CutterState.{CutterState}
 pub use Rattle.dump_records.specs.steps.RecordViews.{CutStep, part_of_node, record_item, record_number}
-pub use Rattle.dump_rules.proofs.BarePrefixLemmas.{any_found, begin_more, cut_begins, empty_begins, none_begins, whole_begins, within_more}
+pub use Rattle.dump_rules.proofs.BarePrefixLemmas.{cut_begins, empty_begins, none_begins, whole_begins, within_wider}
 pub use Rattle.dump_rules.proofs.PrefixLemmas.{any_mapped}
 pub use Rattle.dump_rules.proofs.ReachLemmas.{count_at_point}
 pub use Rattle.dump_rules.proofs.faults.FaultLemmas.{finds, found}
@@ -75,7 +75,7 @@ pub use Rattle.dump_rules.specs.Prefix.{bare_path, bare_prefix, begins_path, mat
 pub use Rattle.dump_rules.specs.Renumbering.{KeptRevisions}
 pub use Rattle.dump_rules.specs.Settings.{Settings, keeps_path, side_keeps}
 pub use Rattle.dump_rules.specs.steps.Merged.{is_outside}
-pub use Rattle.dump_rules.specs.steps.PrefixSearch.{AreWithin, BeginSame}
+pub use Rattle.dump_rules.specs.steps.PrefixSearch.{AreWithin}
 pub use Rattle.dump_rules.specs.steps.ReadMergeinfo.{colon_end, value_reads, without_lf}
 pub use Rattle.dump_rules.specs.steps.RewrittenLines.{line_misses, line_path, text_lines, value_foreign, value_misses}
 pub use Rattle.dump_survey.specs.AsWellLines.{AreAsWellLines, as_well_lines}
@@ -98,7 +98,7 @@ pub use Rattle.dump_survey.specs.SurveyTies.{EachCutNamesPrefix, SilentSurveyRes
 pub use Rattle.dump_survey.specs.Told.{AreTold, IsToldOf, IsToldOfNode, NodeTold, present_after, told_in, told_naming, told_view}
 pub use Rattle.dump_survey.specs.steps.Actions.{action_named, is_deleting, is_known_action, is_making}
 pub use Rattle.dump_survey.specs.steps.Counts.{AreWithNode, count_in, no_counts}
-pub use Rattle.dump_survey.specs.steps.Folders.{HaveSame}
+pub use Rattle.dump_survey.specs.steps.Folders.{BeginSame, HaveSame}
 pub use Rattle.dump_survey.specs.steps.Found.{AreFaultsBy, IsFoundIn, has_found, listed, node_faults}
 pub use Rattle.dump_survey.specs.steps.IdlePrefixes.{AreIdle, AreWithout, is_among, is_begun_by, is_below_copy, is_touched_by, prefixes_by, told_by}
 pub use Rattle.dump_survey.specs.steps.KeptNumbers.{AreKeptIn, ended_numbers, kept_view, numbers_before}

@@ -21,7 +21,7 @@ struct Growth<'o, 'a> {
 impl<'o, 'a> Model for Growth<'o, 'a> {
     ghost use Rattle.std.specs.Prelude.{map};
     ghost use Rattle.dump_rules.specs.Prefix.{bare_prefix};
-    ghost use Rattle.dump_rules.specs.steps.PrefixSearch.{BeginSame};
+    ghost use Rattle.dump_survey.specs.steps.Folders.{BeginSame};
     ghost use Rattle.dump_survey.specs.steps.Needs.{Grown};
 
     ghost Value = { Grown };

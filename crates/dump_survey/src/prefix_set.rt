@@ -2,8 +2,7 @@
 ghost use Rattle.std.specs.Prelude.{◌≡◌, ◌↔◌, ◌++◌, ◌∷◌, ◌≤◌, ◌<◌, [], List, ℕ, IfOk, IsTrue, OnErr, OnOk, bytes_eq, length, map, true};
 ghost use Rattle.std.specs.List.{list_any};
 ghost use Rattle.dump_rules.specs.Prefix.{bare_prefix, begins_path};
-ghost use Rattle.dump_rules.specs.steps.PrefixSearch.{BeginSame};
-ghost use Rattle.dump_survey.specs.steps.Folders.{HaveSame};
+ghost use Rattle.dump_survey.specs.steps.Folders.{BeginSame, HaveSame};
 ghost use Rattle.dump_survey.specs.steps.IdlePrefixes.{AreWithout, is_among};
 
 use crate::prefixes::begins_path;

@@ -58,17 +58,41 @@ both_changes touches old mid new others first second = record {
 pub no_change : (touches : List ℕ → Bool) (headers : List Header) → IsChange touches headers headers
 no_change touches headers = record { lines = λ all. all; once = λ name few. few; same = λ name free. refl }
 
+-- what holds of a line with this name, and of a line with another, holds of each
+pub of_name : (name : List ℕ) (h : Header) (P : Header → Type 0)
+    → (is_named name h ≡ true → P (record { name = name; value = h.value })) → (is_named name h ≡ false → P h) → P h
+of_name name h P here other = cases (is_named name h) refl
+  where
+    cases : (b : Bool) → is_named name h ≡ b → P h
+    cases true is = subst (λ (n : List ℕ). P (record { name = n; value = h.value }))
+        (sym ((bytes_eq-Decides h.name name).0 is)) (here is)
+    cases false is = other is
+
+-- what holds of lines that get a length in their line, get none, or get a line for it, holds of the lines with it
+pub of_length : (name : List ℕ) (n : ℕ) (headers : List Header) (P : List Header → Type 0)
+    → (has_header name headers ≡ true → P (with_header_value name (spelled_number n) headers))
+    → (has_header name headers ≡ false → (n == 0) ≡ true → P headers)
+    → (has_header name headers ≡ false → (n == 0) ≡ false
+    → P (headers ++ record { name = name; value = spelled_number n } ∷ []))
+    → P (with_length name n headers)
+of_length name n headers P there zero joins = cases (has_header name headers) (n == 0) refl refl
+  where
+    cases : (has none : Bool) → has_header name headers ≡ has → (n == 0) ≡ none → P (with_length name n headers)
+    cases true none is z = rw is (there is)
+    cases false true is z = rw (is, z) (zero is z)
+    cases false false is z = rw (is, z) (joins is z)
+
 -- new values
+
+same_bytes : (bytes : List ℕ) → bytes_eq bytes bytes ≡ true
+same_bytes bytes = (bytes_eq-Decides bytes bytes).1 refl
 
 abbrev changed : List ℕ → List ℕ → Header → Header
 changed name value h = if is_named name h then record { name = name; value = value } else h
 
 changed_name : (name value : List ℕ) (h : Header) → (changed name value h).name ≡ h.name
-changed_name name value h = cases (is_named name h) refl
-  where
-    cases : (b : Bool) → is_named name h ≡ b → (changed name value h).name ≡ h.name
-    cases true is = rw is (sym ((bytes_eq-Decides h.name name).0 is))
-    cases false is = rw is refl
+changed_name name value h = of_name name h (λ h. (changed name value h).name ≡ h.name)
+    (λ is. rw (same_bytes name) refl) (λ is. rw is refl)
 
 -- a new value in a line adds no name and takes none away
 pub put_has : (other name value : List ℕ) (headers : List Header)
@@ -125,9 +149,6 @@ put_change name value headers no_lf = record {
   once = λ other few. ap (λ n. nat_le n 1) (put_count other name value headers) ∙ few;
   same = λ other apart. ap (option_map (λ (h : Header). h.value)) (put_other name value other apart headers);
 }
-
-same_bytes : (bytes : List ℕ) → bytes_eq bytes bytes ≡ true
-same_bytes bytes = (bytes_eq-Decides bytes bytes).1 refl
 
 pub put_own : (name value : List ℕ) (headers : List Header) → has_header name headers ≡ true
     → header_value name (with_header_value name value headers) ≡ Some value
@@ -317,18 +338,11 @@ told_put name n headers missing = by_case (has_header name headers) refl
 
 -- a length put into its line, or added where there is none, is told
 pub told_length : (name : List ℕ) (n : ℕ) (headers : List Header) → IsTold name n (with_length name n headers)
-told_length name n headers = by_case (has_header name headers) refl
-  where
-    by_zero : has_header name headers ≡ false → (z : Bool) → (n == 0) ≡ z
-        → IsTold name n (if n == 0 then headers else headers ++ record { name = name; value = spelled_number n } ∷ [])
-    by_zero none true z = rw (z, none) (eqb-true n 0 z)
-    by_zero none false z =
-        rw (z, join_has name (record { name = name; value = spelled_number n }) headers, none, same_bytes name)
-        (join_own name (record { name = name; value = spelled_number n }) headers none (same_bytes name))
-
-    by_case : (b : Bool) → has_header name headers ≡ b → IsTold name n (with_length name n headers)
-    by_case true is = rw is (told_put name n headers (λ none. absurd (absurd_bool (has_header name headers) is none)))
-    by_case false is = rw is (by_zero is (n == 0) refl)
+told_length name n headers = of_length name n headers (IsTold name n)
+    (λ is. told_put name n headers (λ none. absurd (absurd_bool (has_header name headers) is none)))
+    (λ none zero. rw none (eqb-true n 0 zero))
+    (λ none some. rw (join_has name (record { name = name; value = spelled_number n }) headers, none, same_bytes name)
+    (join_own name (record { name = name; value = spelled_number n }) headers none (same_bytes name)))
 
 -- a number has no LF in its digits
 pub spelled_line : (n : ℕ) → n < 10 ^ 18 → has_byte 10 (spelled_number n) ≡ false
@@ -338,58 +352,44 @@ spelled_line n small = (spelled_spells n (omega arith)).one_line
 pub length_change : (name : List ℕ) (n : ℕ) (headers : List Header) → n < 10 ^ 18
     → (has_byte 10 (spelled_number n) ≡ false → is_header (record { name = name; value = spelled_number n }) ≡ true)
     → IsChange (λ other. bytes_eq name other) headers (with_length name n headers)
-length_change name n headers small good = by_case (has_header name headers) refl
-  where
-    by_zero : has_header name headers ≡ false → (z : Bool) → (n == 0) ≡ z
-        → IsChange (λ other. bytes_eq name other) headers
-        (if n == 0 then headers else headers ++ record { name = name; value = spelled_number n } ∷ [])
-    by_zero none true z = rw z (no_change (λ other. bytes_eq name other) headers)
-    by_zero none false z = rw z (join_change name (spelled_number n) headers none (good (spelled_line n small)))
-
-    by_case : (b : Bool) → has_header name headers ≡ b → IsChange (λ other. bytes_eq name other) headers
-        (with_length name n headers)
-    by_case true is = rw is (put_change name (spelled_number n) headers (spelled_line n small))
-    by_case false is = rw is (by_zero is (n == 0) refl)
+length_change name n headers small good = of_length name n headers (IsChange (λ other. bytes_eq name other) headers)
+    (λ has. put_change name (spelled_number n) headers (spelled_line n small))
+    (λ none zero. no_change (λ other. bytes_eq name other) headers)
+    (λ none some. join_change name (spelled_number n) headers none (good (spelled_line n small)))
 
 -- a told number is read, and told again it changes nothing
+
+-- what holds where a line tells the number, and where there is none and the number is 0, holds where it is told
+of_told : (name : List ℕ) (n : ℕ) (headers : List Header) (P : Type 0) → IsTold name n headers
+    → (has_header name headers ≡ true → header_value name headers ≡ Some (spelled_number n) → P)
+    → (has_header name headers ≡ false → n ≡ 0 → P) → P
+of_told name n headers P told there zero = cases (has_header name headers) refl told
+  where
+    cases : (b : Bool) → has_header name headers ≡ b
+        → MatchBool b (header_value name headers ≡ Some (spelled_number n)) (n ≡ 0) → P
+    cases true is t = there is t
+    cases false is t = zero is t
 
 -- a told number is read as that length, and none of its name is unreadable
 pub told_reads : (name : List ℕ) (n : ℕ) (headers : List Header) → n < 10 ^ 18 → IsTold name n headers
     → (header_length name headers ≡ n) × ((has_header name headers && is_none (header_number name headers)) ≡ false)
-told_reads name n headers small told = by_case (has_header name headers) refl told
-  where
-    by_case : (b : Bool) → has_header name headers ≡ b
-        → MatchBool b (header_value name headers ≡ Some (spelled_number n)) (n ≡ 0)
-        → (header_length name headers ≡ n) × ((has_header name headers && is_none (header_number name headers)) ≡ false)
-    by_case true is t =
-        let number : header_number name headers ≡ Some n =
-        ap (option_and_then number_of) t ∙ number_of-spelled n small in
-        (ap (λ o. unwrap_or o 0) number, rw (is, number) refl)
-    by_case false is t = (
-      ap (λ o. unwrap_or o 0) (sym (no_number name headers is)) ∙ sym t,
-      rw is refl,
-    )
+told_reads name n headers small told = of_told name n headers _ told
+    (λ is t.
+    let number : header_number name headers ≡ Some n =
+    ap (option_and_then number_of) t ∙ number_of-spelled n small in
+    (ap (λ o. unwrap_or o 0) number, rw (is, number) refl))
+    (λ is t. (ap (λ o. unwrap_or o 0) (sym (no_number name headers is)) ∙ sym t, rw is refl))
 
 -- a told number, put into its line again, changes nothing
 pub told_put_again : (name : List ℕ) (n : ℕ) (headers : List Header) → nat_le (count_named name headers) 1 ≡ true
     → IsTold name n headers
     → with_header_value name (spelled_number n) headers ≡ headers
-told_put_again name n headers few told = by_case (has_header name headers) refl told
-  where
-    by_case : (b : Bool) → has_header name headers ≡ b
-        → MatchBool b (header_value name headers ≡ Some (spelled_number n)) (n ≡ 0)
-        → with_header_value name (spelled_number n) headers ≡ headers
-    by_case true is t = put_same name (spelled_number n) headers few t
-    by_case false is t = put_absent name (spelled_number n) headers is
+told_put_again name n headers few told = of_told name n headers _ told
+    (λ is t. put_same name (spelled_number n) headers few t) (λ is t. put_absent name (spelled_number n) headers is)
 
 -- a told length, put into its line again, changes nothing
 pub told_length_again : (name : List ℕ) (n : ℕ) (headers : List Header) → nat_le (count_named name headers) 1 ≡ true
     → IsTold name n headers
     → with_length name n headers ≡ headers
-told_length_again name n headers few told = by_case (has_header name headers) refl told
-  where
-    by_case : (b : Bool) → has_header name headers ≡ b
-        → MatchBool b (header_value name headers ≡ Some (spelled_number n)) (n ≡ 0)
-        → with_length name n headers ≡ headers
-    by_case true is t = rw is (put_same name (spelled_number n) headers few t)
-    by_case false is t = rw (is, t) refl
+told_length_again name n headers few told = of_told name n headers _ told
+    (λ is t. rw is (put_same name (spelled_number n) headers few t)) (λ is t. rw (is, t) refl)

@@ -1,9 +1,9 @@
 -- A block that is written as it stands: under its own numbers and lengths, spelled as they are written.
-use Rattle.dump_filter.proofs.Prelude.{◌≡◌, ℕ, ◌+◌, ◌==◌, nat_eq, nat_le, Bool, true, false, not, ◌&&◌, ◌||◌, List, length, refl, sym, ap, ◌∙◌, Option, Some, None, is_none, unwrap_or, option_and_then, option_eq, eqb-true, not-false, bytes_eq-Decides, number_of, spelled_number, revision_name, copy_revision_name, property_length_name, text_length_name, content_length_name, Header, has_header, count_named, header_value, first_true, second_true, first_false, second_false, false_true, not_so, absurd_bool, header_number, header_length, property_length, text_length, has_bad_number, has_bad_lengths, are_spelled, is_spelled, are_written, DumpRecord, BeginsWithRecord, keeps, CopyChange, Same, Renumbered, Dropped, Changes, with_lengths, AreLengths, StaysCopied, copy_number, lines_that_stay, new_headers, put_all}
+use Rattle.dump_filter.proofs.Prelude.{◌≡◌, ℕ, ◌+◌, ◌==◌, nat_eq, nat_le, Bool, true, false, not, ◌&&◌, ◌||◌, List, length, refl, sym, ap, ◌∙◌, Option, Some, None, is_none, unwrap_or, option_and_then, option_eq, eqb-true, not-false, bytes_eq-Decides, number_of, spelled_number, revision_name, copy_revision_name, property_length_name, text_length_name, content_length_name, Header, has_header, count_named, header_value, first_true, second_true, first_false, second_false, false_true, not_so, absurd_bool, header_number, header_length, property_length, text_length, has_bad_number, has_bad_lengths, are_spelled, is_spelled, are_written, DumpRecord, BeginsWithRecord, keeps, CopyChange, Same, Renumbered, Dropped, Changes, with_lengths, AreLengths, StaysCopied, copied_headers, new_headers, put_all}
 use Rattle.dump_filter.proofs.written.HeaderLemmas.{no_length}
 use Rattle.dump_filter.proofs.again.LineChanges.{IsTold, put_same}
 use Rattle.dump_filter.proofs.again.Headers.{AreTold, known_once, lengths_again}
-use Rattle.dump_filter.proofs.written.LineLemmas.{lines_are, all_stay}
+use Rattle.dump_filter.proofs.written.LineLemmas.{lengths_are}
 
 -- a number that is told the same as another one is that one
 pub same_number : (x : Option ℕ) (n : ℕ) → option_eq nat_eq x (Some n) ≡ true → x ≡ Some n
@@ -142,19 +142,11 @@ put_known name (Some n) headers few spelled same =
     put_same name (spelled_number n) headers few (spelled_value name n headers spelled (same n refl))
 
 copy_put : (copy : CopyChange) (headers : List Header) → nat_le (count_named copy_revision_name headers) 1 ≡ true
-    → is_spelled copy_revision_name headers ≡ true → StaysCopied copy headers
-    → put_all copy_revision_name (copy_number copy) headers ≡ headers
+    → is_spelled copy_revision_name headers ≡ true → StaysCopied copy headers → copied_headers copy headers ≡ headers
 copy_put Same headers few spelled same = refl
 copy_put (Renumbered n) headers few spelled same =
     put_same copy_revision_name (spelled_number n) headers few (spelled_value copy_revision_name n headers spelled same)
 copy_put Dropped headers few spelled same = absurd same
-
--- no line goes where the copy source stays
-no_line_goes : (copy : CopyChange) (headers : List Header) → StaysCopied copy headers
-    → lines_that_stay copy headers ≡ headers
-no_line_goes Same headers same = all_stay headers
-no_line_goes (Renumbered n) headers same = all_stay headers
-no_line_goes Dropped headers same = absurd same
 
 -- the block of a record under its own numbers and lengths, all of them written as they stand
 pub stands_as_written : (number : ℕ) (text : List ℕ) (r : DumpRecord) (after : List ℕ) (c : Changes)
@@ -165,12 +157,9 @@ pub stands_as_written : (number : ℕ) (text : List ℕ) (r : DumpRecord) (after
 stands_as_written number text r after c b written lengths revision copy =
     let parts = parts_of r.headers written in
     let headers = r.headers in
-    lines_are c headers r.props r.text lengths
-    ∙ ap (λ (l : List Header). with_lengths r.props r.text
-    (put_all copy_revision_name (copy_number c.copy) (put_all revision_name c.revision l)))
-    (no_line_goes c.copy headers copy)
-    ∙ ap (λ (l : List Header). with_lengths r.props r.text (put_all copy_revision_name (copy_number c.copy) l))
+    lengths_are c headers r.props r.text lengths
+    ∙ ap (λ (l : List Header). with_lengths r.props r.text (put_all revision_name c.revision l))
+    (copy_put c.copy headers (known_once copy_revision_name refl headers b.block) parts.copy copy)
+    ∙ ap (with_lengths r.props r.text)
     (put_known revision_name c.revision headers (known_once revision_name refl headers b.block) parts.revision revision)
-    ∙ ap (with_lengths r.props r.text) (copy_put c.copy headers
-    (known_once copy_revision_name refl headers b.block) parts.copy copy)
     ∙ lengths_again r.props r.text headers b.block (told_all number text r after b written)

@@ -1,4 +1,4 @@
--- The lines of a block under new numbers, line by line.
+-- The lines of a block under new numbers, as a whole and line by line.
 use Rattle.std.specs.Prelude.{◌≡◌, ℕ, ◌+◌, Bool, false, not, ◌==◌, List, [], ◌∷◌, ◌++◌, length, map, filter, Option, Some, None, bytes_eq, if◌then◌else◌}
 use Rattle.std.specs.List.{list_any}
 use Rattle.dump_text.specs.Number.{spelled_number}
@@ -6,6 +6,8 @@ use Rattle.dump_text.specs.Names.{revision_name, copy_revision_name, copy_names,
 use Rattle.dump_text.specs.HeaderLine.{Header, has_header, with_header_value}
 use Rattle.dump_text.specs.HeaderBlock.{block_text}
 use Rattle.dump_records.specs.HeaderRules.{header_number}
+use Rattle.dump_filter.specs.NewHeaders.{with_length}
+use Rattle.dump_filter.specs.steps.OwnText.{copied_headers}
 use Rattle.dump_filter.specs.declared.fate.CopyChange.{CopyChange}
 use Rattle.dump_filter.specs.declared.fate.CopyChange.TheVariants.{Same, Renumbered, Dropped}
 use Rattle.dump_filter.specs.declared.new_lines.Changes.{Changes}
@@ -61,11 +63,6 @@ renewed_lines c headers = map (renewed c) (lines_that_stay c.copy headers)
 abbrev pub added : List ℕ → ℕ → List Header → List Header
 added name n headers = if has_header name headers then [] else if n == 0 then [] else numbered name n ∷ []
 
--- the lines of a block as they are written
-abbrev pub new_headers : Changes → List Header → List Header
-new_headers c headers =
-    (renewed_lines c headers ++ added property_length_name c.props headers) ++ added content_length_name c.content headers
-
 -- a copy source that these lines tell stays as it stands
 abbrev pub StaysCopied : CopyChange → List Header → Type 0
 StaysCopied Same headers = Unit
@@ -78,11 +75,19 @@ pub record AreLengths (props text : List ℕ) (c : Changes) : Type 0 where
   pub text_is : c.text ≡ length text
   pub content_is : c.content ≡ length props + length text
 
--- a record of these lines as they are written, with its properties and its text
-abbrev pub new_record : Changes → List Header → List ℕ → List ℕ → List ℕ
-new_record c headers props text = block_text (new_headers c headers) ++ props ++ text
-
 -- the lines with this number where they have this name, if there is a number
 abbrev pub put_all : List ℕ → Option ℕ → List Header → List Header
 put_all name None headers = headers
 put_all name (Some n) headers = with_header_value name (spelled_number n) headers
+
+-- the lines of a block as they are written
+abbrev pub new_headers : Changes → List Header → List Header
+new_headers c headers =
+    with_length content_length_name c.content
+    (with_header_value text_length_name (spelled_number c.text)
+    (with_length property_length_name c.props
+    (put_all revision_name c.revision (copied_headers c.copy headers))))
+
+-- a record of these lines as they are written, with its properties and its text
+abbrev pub new_record : Changes → List Header → List ℕ → List ℕ → List ℕ
+new_record c headers props text = block_text (new_headers c headers) ++ props ++ text

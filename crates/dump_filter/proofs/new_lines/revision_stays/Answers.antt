@@ -1,4 +1,4 @@
-use Rattle.dump_filter.proofs.Prelude.{◌≡◌, ap, sym, ◌∙◌, nat_eq, option_eq}
+use Rattle.dump_filter.proofs.Prelude.{ap, sym, ◌∙◌, nat_eq, option_eq}
 use Rattle.dump_filter.proofs.written.StayLemmas.{same_number}
 use Rattle.dump_filter.proofs.new_lines.revision_stays.Goals as goal
 

@@ -1,4 +1,5 @@
 use Rattle.dump_filter.proofs.Prelude.{rules, ◌≡◌, ◌∷◌, [], List, ◌++◌, sym, ap, ◌∙◌, flat_map-append, property_length_name, content_length_name, Header, header_text, lines_bytes, record_item, renewed_lines, added, new_headers}
+use Rattle.dump_filter.proofs.written.LineLemmas.{lines_are}
 use Rattle.dump_filter.proofs.new_lines.write_block.Goals as goal
 
 lines_append : (hs ks : List Header) → lines_bytes (hs ++ ks) ≡ lines_bytes hs ++ lines_bytes ks
@@ -16,5 +17,5 @@ returns c =
     c.in_ok-push_missing-2.ensures headers c.has_content.ensures
     ∙ ap (λ t. t ++ lines_bytes content) (c.in_ok-push_missing.ensures headers c.has_props.ensures
     ∙ ap (λ t. t ++ lines_bytes props) (sym front) ∙ sym (lines_append old props))
-    ∙ sym (lines_append (old ++ props) content) in
+    ∙ sym (lines_append (old ++ props) content) ∙ ap lines_bytes (sym (lines_are changes headers)) in
     c.in_ok-extend_from_slice.ensures.items ∙ ap (λ t. t ++ 10 ∷ []) out

@@ -1,5 +1,5 @@
-use Rattle.dump_survey.proofs.Prelude.{ℕ, List, Bor, bytes_eq, map, sym, ap, ◌∙◌, list_any, any_found}
-use Rattle.dump_survey.proofs.FolderLemmas.{added_new, known_more, known_stays}
+use Rattle.dump_survey.proofs.Prelude.{ℕ, List, Bor, bytes_eq, map, sym, ap, ◌∙◌, list_any}
+use Rattle.dump_survey.proofs.FolderLemmas.{added_new, any_found, known_more, known_stays}
 use Rattle.dump_survey.proofs.folders.Folders.add.Goals as goal
 use Rattle.dump_survey.proofs.folders.Folders.add.Goals.{in-Ok, in-Err}
 

@@ -1,4 +1,5 @@
-use Rattle.dump_survey.proofs.Prelude.{bytes_eq, ap, ◌∙◌, List, ℕ, list_any, any_found}
+use Rattle.dump_survey.proofs.Prelude.{bytes_eq, ap, ◌∙◌, List, ℕ, list_any}
+use Rattle.dump_survey.proofs.FolderLemmas.{any_found}
 use Rattle.dump_survey.proofs.prefix_set.PrefixSet.has.Goals as goal
 
 pub returns : goal.returns

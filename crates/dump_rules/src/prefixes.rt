@@ -1,0 +1,112 @@
+//! The prefixes of the options, looked up by what stands between their slashes.
+ghost use Rattle.std.specs.Prelude.{◌≡◌, IfOk, bytes_eq, map, option_copied, slice_get};
+ghost use Rattle.std.specs.List.{list_any};
+ghost use Rattle.dump_rules.specs.Prefix.{bare_prefix, begins_path};
+ghost use Rattle.dump_rules.specs.steps.PrefixSearch.{bare_at};
+
+use crate::memory::Memory;
+use crate::prefix::trim_slashes;
+use std::alloc::Global;
+use std::marker::Model;
+
+/// Prefixes as they were handed in, and an index of them: their places, in the order of the bare prefixes there.
+#[derive(Drop)]
+pub(crate) struct Prefixes {
+    texts: Vec<Vec<u8>>,
+    index: Vec<usize>,
+    longest: usize,
+}
+
+impl Model for Prefixes {
+    ghost use Rattle.std.specs.Prelude.{ℕ, List, map};
+    ghost use Rattle.dump_rules.specs.steps.PrefixSearch.{IsIndexed};
+
+    ghost Value = { List (List ℕ) };
+
+    ghost view = { λ prefixes. map (λ text. text.items) prefixes.texts.items };
+
+    ghost invariant = { λ prefixes. IsIndexed (map (λ text. text.items) prefixes.texts.items) prefixes.index.items prefixes.longest };
+}
+
+/// Copies of texts, in their order.
+fn copies(alloc: Global, texts: &[&[u8]]) -> Result<Vec<Vec<u8>>, Memory>
+    ensures { IfOk result (λ copied. map (λ text. text.items) copied.items ≡ map (λ text. text.now) texts.now) }
+{
+    let mut copied = Vec::new(alloc);
+    for text in texts {
+        let copy = Vec::from_slice(alloc, text)?;
+        copied.push(copy)?;
+    }
+    Ok(copied)
+}
+
+/// The bare prefix at a place; empty where there is none.
+fn bare_at(prefixes: &[Vec<u8>], place: usize) -> &[u8]
+    ensures { result.now ≡ bare_at (map (λ text. text.items) prefixes.now) place }
+{
+    match prefixes.get(place) {
+        Some(prefix) => trim_slashes(prefix),
+        None => b"",
+    }
+}
+
+impl Prefixes {
+    /// Copies of the prefixes, in their order.
+    pub(crate) fn new(alloc: Global, prefixes: &[&[u8]]) -> Result<Prefixes, Memory>
+        ensures { IfOk result (λ made. made ≡ map (λ prefix. prefix.now) prefixes.now) }
+    {
+        let texts = copies(alloc, prefixes)?;
+        let mut index = Vec::new(alloc);
+        let mut longest = 0;
+        for (place, prefix) in prefixes.iter().enumerate() {
+            longest = trim_slashes(prefix).len().max(longest);
+            index.push(place)?;
+        }
+        let given = texts.as_slice();
+        index.sort_unstable_by(|a, b| bare_at(given, *a).cmp(bare_at(given, *b)));
+        Ok(Prefixes {
+            texts,
+            index,
+            longest,
+        })
+    }
+
+    /// The prefix with this index, as it was handed in.
+    pub(crate) fn get(&self, n: usize) -> Option<&[u8]>
+        ensures { option_copied result ≡ slice_get self.now n }
+    {
+        match self.texts.get(n) {
+            Some(prefix) => Some(prefix.as_slice()),
+            None => None,
+        }
+    }
+
+    /// Whether the text is a bare prefix.
+    fn has(&self, text: &[u8]) -> bool
+        ensures { result ≡ list_any (λ prefix. bytes_eq text.now prefix) (map bare_prefix self.now) }
+    {
+        let texts = self.texts.as_slice();
+        self.index
+            .binary_search_by(|place| bare_at(texts, *place).cmp(text))
+            .is_ok()
+    }
+
+    /// Whether a bare prefix begins the path. One that does is the path, or the part of it before
+    /// a slash, or empty, so these are looked up, unless they are longer than all prefixes. A
+    /// look-up costs the logarithm of the number of prefixes, times the bytes that the text and a
+    /// prefix have in common; no path costs more than one as long as the longest prefix.
+    pub(crate) fn begin(&self, path: &[u8]) -> bool
+        ensures { result ≡ list_any (λ prefix. begins_path prefix path.now) (map bare_prefix self.now) }
+    {
+        if self.has(b"") || self.has(path) {
+            return true;
+        }
+        let search_end = self.longest.saturating_add(1).min(path.len());
+        for (place, byte) in path[..search_end].iter().enumerate() {
+            if *byte == b'/' && self.has(&path[..place]) {
+                return true;
+            }
+        }
+        false
+    }
+}
