@@ -84,7 +84,7 @@ mod merged;
 mod mergeinfo;
 mod options;
 mod prefix;
-mod prefixes;
+mod prefix_index;
 mod ranges;
 mod reach;
 mod rewriting;

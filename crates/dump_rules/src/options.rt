@@ -6,7 +6,7 @@ ghost use Rattle.dump_rules.specs.Settings.{keeps_path};
 
 use crate::memory::Memory;
 use crate::prefix::trim_path;
-use crate::prefixes::Prefixes;
+use crate::prefix_index::IndexedPrefixes;
 use std::alloc::Global;
 use std::marker::Model;
 
@@ -32,7 +32,7 @@ pub enum Empty {
 #[derive(Drop)]
 pub struct Options {
     side: Side,
-    prefixes: Prefixes,
+    prefixes: IndexedPrefixes,
     empty: Empty,
     renumber: bool,
     preserve: bool,
@@ -81,7 +81,7 @@ impl Options {
           skip_missing = skip_missing;
         }) }
     {
-        let prefixes = Prefixes::new(alloc, prefixes)?;
+        let prefixes = IndexedPrefixes::new(alloc, prefixes)?;
         Ok(Options {
             side,
             prefixes,

@@ -1,7 +1,7 @@
 use Rattle.dump_rules.proofs.Prelude.{◌<◌, length, map, sym, ◌∙◌, arith, get_or-take, length-take, bare_prefix, AreWithin}
 use Rattle.dump_rules.proofs.BarePrefixLemmas.{empty_begins, whole_begins, cut_begins, none_begins}
-use Rattle.dump_rules.proofs.prefixes.Prefixes.begin.Goals as goal
-use Rattle.dump_rules.proofs.prefixes.Prefixes.begin.Goals.{then-has-via-then-has, then-has-via-else-has+then-has-2}
+use Rattle.dump_rules.proofs.prefix_index.IndexedPrefixes.begin.Goals as goal
+use Rattle.dump_rules.proofs.prefix_index.IndexedPrefixes.begin.Goals.{then-has-via-then-has, then-has-via-else-has+then-has-2}
 
 pub returns-then-has : goal.returns-then-has
 returns-then-has c =

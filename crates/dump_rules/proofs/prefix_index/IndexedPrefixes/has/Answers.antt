@@ -2,7 +2,7 @@ use Rattle.dump_rules.proofs.Prelude.{List, ℕ, ap, subst, ◌∙◌, rules, le
 use Rattle.std.proofs.lemmas.Fn.{always_returns_same}
 use Rattle.std.specs.List.Sorted.{IsBinarySearchResult, IsSearchInRange}
 use Rattle.dump_rules.proofs.BarePrefixLemmas.{search_finds}
-use Rattle.dump_rules.proofs.prefixes.Prefixes.has.Goals as goal
+use Rattle.dump_rules.proofs.prefix_index.IndexedPrefixes.has.Goals as goal
 
 pub returns : goal.returns
 returns c =

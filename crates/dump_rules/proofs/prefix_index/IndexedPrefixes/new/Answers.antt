@@ -4,7 +4,7 @@ use Rattle.std.proofs.lemmas.List.{get_or-map}
 use Rattle.std.proofs.lemmas.List.Sorted.{ranks_by}
 use Rattle.std.specs.Cmp.Lexicographic.{nat_list_cmp_total}
 use Rattle.dump_rules.proofs.BarePrefixLemmas.{place_more, within_more}
-use Rattle.dump_rules.proofs.prefixes.Prefixes.new.Goals as goal
+use Rattle.dump_rules.proofs.prefix_index.IndexedPrefixes.new.Goals as goal
 
 pub loop-place-preserved : goal.loop-place-preserved
 loop-place-preserved c =

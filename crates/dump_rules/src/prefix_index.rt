@@ -11,13 +11,13 @@ use std::marker::Model;
 
 /// Prefixes as they were handed in, and an index of them: their places, in the order of the bare prefixes there.
 #[derive(Drop)]
-pub(crate) struct Prefixes {
+pub(crate) struct IndexedPrefixes {
     texts: Vec<Vec<u8>>,
     index: Vec<usize>,
     longest: usize,
 }
 
-impl Model for Prefixes {
+impl Model for IndexedPrefixes {
     ghost use Rattle.std.specs.Prelude.{ℕ, List, map};
     ghost use Rattle.dump_rules.specs.steps.PrefixSearch.{IsIndexed};
 
@@ -50,9 +50,9 @@ fn bare_at(prefixes: &[Vec<u8>], place: usize) -> &[u8]
     }
 }
 
-impl Prefixes {
+impl IndexedPrefixes {
     /// Copies of the prefixes, in their order.
-    pub(crate) fn new(alloc: Global, prefixes: &[&[u8]]) -> Result<Prefixes, Memory>
+    pub(crate) fn new(alloc: Global, prefixes: &[&[u8]]) -> Result<IndexedPrefixes, Memory>
         ensures { IfOk result (λ made. made ≡ map (λ prefix. prefix.now) prefixes.now) }
     {
         let texts = copies(alloc, prefixes)?;
@@ -64,7 +64,7 @@ impl Prefixes {
         }
         let given = texts.as_slice();
         index.sort_unstable_by(|a, b| bare_at(given, *a).cmp(bare_at(given, *b)));
-        Ok(Prefixes {
+        Ok(IndexedPrefixes {
             texts,
             index,
             longest,

@@ -1,5 +1,5 @@
 use Rattle.dump_rules.proofs.Prelude.{◌≡◌, ℕ, Bool, List, map, take, list_any, bare_prefix, bare_at, AreWithin}
-use Rattle.dump_rules.proofs.prefixes.Prefixes.new.Given as goal
+use Rattle.dump_rules.proofs.prefix_index.IndexedPrefixes.new.Given as goal
 
 abbrev pub invariant-loop-place : goal.invariant-loop-place
 invariant-loop-place l =
