@@ -1,20 +1,18 @@
 -- The bare prefixes that begin a path: one of its parts before a slash, itself, or the empty one.
-use Rattle.dump_rules.proofs.Prelude.{◌≡◌, ℕ, zero, suc, ◌+◌, ◌<◌, ◌≤◌, Bool, true, false, ◌||◌, List, [], ◌∷◌, ◌++◌, take, drop, length, get_or, map, nat_lt, bytes_eq, Bor, refl, sym, ap, ◌∙◌, inl, inr, arith, list_any, slice_cmp, is_eq, match_ordering, nat_cmp, Ordering, Less, Equal, Greater, is_at, insert_key, or_cases, or_parts, or_from, or_left, or_right, and_parts, and_from, false_from_ne_true, both_ways, ltb-true, lt-ltb, nat_tests, length-take-le, take_more, map-append, is_eq-slice_cmp, bytes_eq-Decides, bare_prefix, begins_path, AreWithin, BeginSame, has_slash_first}
+use Rattle.dump_rules.proofs.Prelude.{◌≡◌, ℕ, zero, suc, ◌+◌, ◌<◌, ◌≤◌, Bool, true, false, ◌||◌, List, [], ◌∷◌, ◌++◌, take, drop, length, get_or, map, nat_lt, bytes_eq, Bor, refl, sym, ap, ◌∙◌, inl, inr, arith, list_any, slice_cmp, is_eq, match_ordering, nat_cmp, Ordering, Less, Equal, Greater, is_at, insert_key, or_assoc, or_comm, or_self_left, or_cases, or_parts, or_from, or_left, or_right, and_parts, and_from, false_from_ne_true, both_ways, ltb-true, lt-ltb, nat_tests, length-take-le, take_more, map-append, is_eq-slice_cmp, bytes_eq-Decides, bare_prefix, begins_path, AreWithin, BeginSame, has_slash_first}
 use Rattle.dump_rules.proofs.PrefixLemmas.{slash_behind, any_mapped}
 
 -- a slash at a place of a path
 
 slash_at : (n : ℕ) (path : List ℕ) → has_slash_first (drop n path) ≡ true → (n < length path) × (get_or path n 0 ≡ 47)
-slash_at zero [] some = let bad : false ≡ true = some in cc
 slash_at zero (b ∷ path) some = grind (arith, nat_tests)
-slash_at (suc n) [] some = let bad : false ≡ true = some in cc
 slash_at (suc n) (b ∷ path) some = let behind = slash_at n path some in (omega arith, behind.1)
+slash_at n path some = let bad : false ≡ true = some in cc
 
 slash_first : (n : ℕ) (path : List ℕ) → n < length path → get_or path n 0 ≡ 47 → has_slash_first (drop n path) ≡ true
-slash_first zero [] low is = absurd (omega arith)
 slash_first zero (b ∷ path) low is = grind (arith, nat_tests)
-slash_first (suc n) [] low is = absurd (omega arith)
 slash_first (suc n) (b ∷ path) low is = slash_first n path (omega arith) is
+slash_first n path low is = absurd (omega arith)
 
 -- one prefix
 
@@ -96,9 +94,7 @@ none_begins path near longest reach (prefix ∷ prefixes) within some other clea
 -- one more prefix
 
 swapped : (a b c : Bool) → (a || (b || c)) ≡ (b || (a || c))
-swapped true true c = refl
-swapped true false c = refl
-swapped false b c = refl
+swapped a b c = sym (or_assoc a b c) ∙ ap (λ t. t || c) (or_comm a b) ∙ or_assoc b a c
 
 any_inserted : {V : Type 0} (items : V → List ℕ) (p : List ℕ → Bool) (k : V) (ks : List V)
     → list_any (λ v. p (items v)) (insert_key (λ x y. slice_cmp nat_cmp (items x) (items y)) ks k)
@@ -106,10 +102,6 @@ any_inserted : {V : Type 0} (items : V → List ℕ) (p : List ℕ → Bool) (k 
 any_inserted items p k [] = refl
 any_inserted {V} items p k (x ∷ xs) = at (any_inserted items p k xs) (slice_cmp nat_cmp (items k) (items x)) refl
   where
-    twice : (a b : Bool) → (a || b) ≡ (a || (a || b))
-    twice true b = refl
-    twice false b = refl
-
     at : list_any (λ v. p (items v)) (insert_key (λ x y. slice_cmp nat_cmp (items x) (items y)) xs k) ≡
         (p (items k) || list_any (λ v. p (items v)) xs)
         → (o : Ordering) → slice_cmp nat_cmp (items k) (items x) ≡ o
@@ -120,7 +112,7 @@ any_inserted {V} items p k (x ∷ xs) = at (any_inserted items p k xs) (slice_cm
     at behind Equal is =
         let same : items k ≡ items x = (bytes_eq-Decides (items k) (items x)).0
         (sym (is_eq-slice_cmp (items k) (items x)) ∙ ap is_eq is) in
-        twice (p (items x)) (list_any (λ v. p (items v)) xs)
+        sym (or_self_left (p (items x)) (list_any (λ v. p (items v)) xs))
         ∙ ap (λ t. p t || (p (items x) || list_any (λ v. p (items v)) xs)) (sym same)
     at behind Greater is =
         ap (λ b. p (items x) || b) behind ∙ swapped (p (items x)) (p (items k)) (list_any (λ v. p (items v)) xs)
@@ -168,7 +160,6 @@ within_more items ks k low high up fits within =
         further : (text : List ℕ) → high < length text → low < length text
         further text long = omega arith
 
--- what holds where a call succeeds
 -- the bare forms of one prefix more
 pub bares_more : (prefixes : List (Bor (List ℕ))) (n : ℕ) (d : Bor (List ℕ)) → n < length prefixes
     → map (λ (prefix : Bor (List ℕ)). bare_prefix prefix.now) (take (n + 1) prefixes)
