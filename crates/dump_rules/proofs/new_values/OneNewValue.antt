@@ -28,7 +28,8 @@ pub one_reading : (value : List ℕ) (a b : List MergeLine) → IsMergeinfo valu
 one_reading value a b is_a is_b =
     let same : is_a.0 ≡ is_b.0 = sym (texts_are is_a.0 a is_a.1 value is_a.2)
     ∙ texts_are is_b.0 b is_b.1 value is_b.2 in
-    zip_once IsMergeLine one_line is_b.0 a b (subst (λ (texts : List (List ℕ)). AllZip IsMergeLine texts a) same is_a.1) is_b.1
+    zip_once IsMergeLine one_line is_b.0 a b
+    (subst (λ (texts : List (List ℕ)). AllZip IsMergeLine texts a) same is_a.1) is_b.1
 
 -- their new lines
 
@@ -53,7 +54,7 @@ pub one_new_value : (settings : Settings) (kept : KeptRevisions) (value a b : Li
 one_new_value settings kept value a b (lines_a, new_a, is_a, all_a, written_a)
     (lines_b, new_b, is_b, all_b, written_b) =
     let same = one_reading value lines_a lines_b is_a is_b in
-    let new_same = zip_once (IsNewLine settings kept) (one_new_line settings kept) (staying_lines settings lines_b) new_a new_b
-    (subst (λ (lines : List MergeLine). AllZip (IsNewLine settings kept)
+    let new_same = zip_once (IsNewLine settings kept) (one_new_line settings kept)
+    (staying_lines settings lines_b) new_a new_b (subst (λ (lines : List MergeLine). AllZip (IsNewLine settings kept)
     (staying_lines settings lines) new_a) same all_a) all_b in
     written_a ∙ ap (λ (lines : List MergeLine). mergeinfo_text (nonempty_lines lines)) new_same ∙ sym written_b

@@ -187,7 +187,8 @@ texts_are texts lines all value is = ap text_lines (bare texts lines all value i
     cut [] lines all = refl
     cut (text ∷ texts) [] all = absurd all
     cut (text ∷ texts) (line ∷ lines) all =
-        cut_some (join_with_byte 10 (text ∷ texts)) (text ∷ texts) (joined_some 10 text texts (text_some text line all.0))
+        cut_some (join_with_byte 10 (text ∷ texts)) (text ∷ texts)
+        (joined_some 10 text texts (text_some text line all.0))
         (split_joined 10 text texts (all_read (text ∷ texts) (line ∷ lines) all).1)
 
 -- the lines of mergeinfo, rewritten one by one, are its new value

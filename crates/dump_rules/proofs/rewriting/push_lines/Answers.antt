@@ -18,7 +18,8 @@ loop-lf-preserved c =
     record {
       read = (first_reads line.now lines _ cut c.loop-lf.invariant.read).1;
       written = c.loop-lf.invariant.written
-          ∙ step_lines c.args.options.now c.args.reach.now c.loop-lf.out.items c.push_line.new.out.items line.now lines _ cut c.in_ok-push_line.ensures;
+          ∙ step_lines c.args.options.now c.args.reach.now c.loop-lf.out.items c.push_line.new.out.items line.now
+          lines _ cut c.in_ok-push_line.ensures;
     }
 
 pub push_line-requires-2-clause-reads : goal.push_line-requires-2-clause-reads

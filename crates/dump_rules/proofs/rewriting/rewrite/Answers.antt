@@ -21,9 +21,9 @@ pub returns-then-has_foreign_number : goal.returns-then-has_foreign_number
 returns-then-has_foreign_number c =
     let misses = first_misses c.args.options.now c.new.result c.in-Some.said c.args.value.now _ c.new.ensures
     c.in-Some.ensures.sources c.misses_source.ensures c.requires.reads in
-    let foreign = first_foreign c.args.options.now c.args.reach.now c.first.result c.args.now c.new.result c.in-Some.said c.args.value.now
-    _ (omega (arith, c.first.type_inv, c.first.ensures.first)) c.first.ensures.first c.new.ensures
-    (c.in-Some.ensures.numbers c.args.reach.now.first c.args.now) c.has_foreign_number.ensures c.requires.reads in
+    let foreign = first_foreign c.args.options.now c.args.reach.now c.first.result c.args.now c.new.result
+    c.in-Some.said c.args.value.now _ (omega (arith, c.first.type_inv, c.first.ensures.first)) c.first.ensures.first
+    c.new.ensures (c.in-Some.ensures.numbers c.args.reach.now.first c.args.now) c.has_foreign_number.ensures c.requires.reads in
     record {
       new = search rules;
       source = (λ e. cc, λ h. absurd (both_ways _ c.if-misses_source.false (misses.1 h)));
@@ -37,9 +37,9 @@ pub returns-in_err-new_value : goal.returns-in_err-new_value
 returns-in_err-new_value c =
     let misses = first_misses c.args.options.now c.new.result c.in-Some.said c.args.value.now _ c.new.ensures
     c.in-Some.ensures.sources c.misses_source.ensures c.requires.reads in
-    let foreign = first_foreign c.args.options.now c.args.reach.now c.first.result c.args.now c.new.result c.in-Some.said c.args.value.now
-    _ (omega (arith, c.first.type_inv, c.first.ensures.first)) c.first.ensures.first c.new.ensures
-    (c.in-Some.ensures.numbers c.args.reach.now.first c.args.now) c.has_foreign_number.ensures c.requires.reads in
+    let foreign = first_foreign c.args.options.now c.args.reach.now c.first.result c.args.now c.new.result
+    c.in-Some.said c.args.value.now _ (omega (arith, c.first.type_inv, c.first.ensures.first)) c.first.ensures.first
+    c.new.ensures (c.in-Some.ensures.numbers c.args.reach.now.first c.args.now) c.has_foreign_number.ensures c.requires.reads in
     let memory = only_memory c.from_residual.result c.from_residual.ensures.1 in
     record {
       new = search rules;
@@ -57,9 +57,9 @@ pub returns : goal.returns
 returns c =
     let misses = first_misses c.args.options.now c.new.result c.in-Some.said c.args.value.now _ c.new.ensures
     c.in-Some.ensures.sources c.misses_source.ensures c.requires.reads in
-    let foreign = first_foreign c.args.options.now c.args.reach.now c.first.result c.args.now c.new.result c.in-Some.said c.args.value.now
-    _ (omega (arith, c.first.type_inv, c.first.ensures.first)) c.first.ensures.first c.new.ensures
-    (c.in-Some.ensures.numbers c.args.reach.now.first c.args.now) c.has_foreign_number.ensures c.requires.reads in
+    let foreign = first_foreign c.args.options.now c.args.reach.now c.first.result c.args.now c.new.result
+    c.in-Some.said c.args.value.now _ (omega (arith, c.first.type_inv, c.first.ensures.first)) c.first.ensures.first
+    c.new.ensures (c.in-Some.ensures.numbers c.args.reach.now.first c.args.now) c.has_foreign_number.ensures c.requires.reads in
     record {
       new = search rules;
       source = (λ e. cc, λ h. absurd (both_ways _ c.if-misses_source.false (misses.1 h)));

@@ -5,7 +5,8 @@ use Rattle.dump_rules.proofs.runs.parts_spans.Goals as goal
 pub loop-comma-preserved : goal.loop-comma-preserved
 loop-comma-preserved c =
     c.loop-comma.invariant
-    ∙ parts_step c.args.renumber c.args.reach.now c.loop-comma.rest.now c.cut_at.result.0.now c.cut_at.result.1.now c.in-Some.comma _ _ (sym c.find.ensures ∙ c.in-Some.is)
+    ∙ parts_step c.args.renumber c.args.reach.now c.loop-comma.rest.now c.cut_at.result.0.now
+    c.cut_at.result.1.now c.in-Some.comma _ _ (sym c.find.ensures ∙ c.in-Some.is)
     c.cut_at.ensures.before c.cut_at.ensures.behind c.in_ok-push_new.ensures
 
 pub returns : goal.returns

@@ -18,4 +18,5 @@ pub returns : goal.returns
 returns c =
     c.widened_by.ensures
     ∙ sym (list_bounds_is c.args.bounds c.args.list.now ∙ c.loop-comma.invariant
-    ∙ ap (parts_bounds c.loop-comma.bounds) (position_whole 44 c.loop-comma.rest.now (sym c.find.ensures ∙ c.in_default.is)))
+    ∙ ap (parts_bounds c.loop-comma.bounds)
+    (position_whole 44 c.loop-comma.rest.now (sym c.find.ensures ∙ c.in_default.is)))
