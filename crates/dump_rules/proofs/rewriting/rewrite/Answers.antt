@@ -23,7 +23,8 @@ returns-then-has_foreign_number c =
     c.in-Some.ensures.sources c.misses_source.ensures c.requires.reads in
     let foreign = first_foreign c.args.options.now c.args.reach.now c.first.result c.args.now c.new.result
     c.in-Some.said c.args.value.now _ (omega (arith, c.first.type_inv, c.first.ensures.first)) c.first.ensures.first
-    c.new.ensures (c.in-Some.ensures.numbers c.args.reach.now.first c.args.now) c.has_foreign_number.ensures c.requires.reads in
+    c.new.ensures (c.in-Some.ensures.numbers c.args.reach.now.first c.args.now) c.has_foreign_number.ensures
+    c.requires.reads in
     record {
       new = search rules;
       source = (λ e. cc, λ h. absurd (both_ways _ c.if-misses_source.false (misses.1 h)));
@@ -39,7 +40,8 @@ returns-in_err-new_value c =
     c.in-Some.ensures.sources c.misses_source.ensures c.requires.reads in
     let foreign = first_foreign c.args.options.now c.args.reach.now c.first.result c.args.now c.new.result
     c.in-Some.said c.args.value.now _ (omega (arith, c.first.type_inv, c.first.ensures.first)) c.first.ensures.first
-    c.new.ensures (c.in-Some.ensures.numbers c.args.reach.now.first c.args.now) c.has_foreign_number.ensures c.requires.reads in
+    c.new.ensures (c.in-Some.ensures.numbers c.args.reach.now.first c.args.now) c.has_foreign_number.ensures
+    c.requires.reads in
     let memory = only_memory c.from_residual.result c.from_residual.ensures.1 in
     record {
       new = search rules;
@@ -59,7 +61,8 @@ returns c =
     c.in-Some.ensures.sources c.misses_source.ensures c.requires.reads in
     let foreign = first_foreign c.args.options.now c.args.reach.now c.first.result c.args.now c.new.result
     c.in-Some.said c.args.value.now _ (omega (arith, c.first.type_inv, c.first.ensures.first)) c.first.ensures.first
-    c.new.ensures (c.in-Some.ensures.numbers c.args.reach.now.first c.args.now) c.has_foreign_number.ensures c.requires.reads in
+    c.new.ensures (c.in-Some.ensures.numbers c.args.reach.now.first c.args.now) c.has_foreign_number.ensures
+    c.requires.reads in
     record {
       new = search rules;
       source = (λ e. cc, λ h. absurd (both_ways _ c.if-misses_source.false (misses.1 h)));
