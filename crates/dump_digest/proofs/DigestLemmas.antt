@@ -1,5 +1,5 @@
 -- A header tells another digest than the text's exactly where it stands there, and isn't it.
-use Rattle.dump_digest.proofs.Prelude.{◌≡◌, ◌↔◌, ℕ, Bool, true, false, ◌||◌, List, refl, sym, ap, ◌∙◌, Option, Some, None, is_some, Bor, IsFalse, if◌then◌else◌, same_Some, md5_name, sha1_name, has_header, header_value, DumpRecord, has_value, some_copied, has_whole_text, TellsOther, HasOtherDigest, is_told_text}
+use Rattle.dump_digest.proofs.Prelude.{◌≡◌, ◌↔◌, ℕ, Bool, true, false, ◌||◌, List, refl, sym, ap, ◌∙◌, Option, Some, None, is_some, Bor, IsFalse, if◌then◌else◌, same_Some, inl, inr, cases_Bool, not_so, md5_name, sha1_name, has_header, header_value, DumpRecord, has_value, some_copied, has_whole_text, TellsOther, HasOtherDigest, is_told_text}
 use Rattle.std.proofs.Common.{option_copied}
 
 -- the text of a record, where it has one that isn't a delta
@@ -9,18 +9,13 @@ whole_part r = if has_whole_text r then Some r.text else None
 -- a text that is taken from a record is its whole text
 pub text_there : (r : DumpRecord) (text : List ℕ) → Some text ≡ whole_part r → (has_whole_text r ≡ true)
     × (text ≡ r.text)
-text_there r text is = by_whole (has_whole_text r) refl
-  where
-    by_whole : (b : Bool) → has_whole_text r ≡ b → (has_whole_text r ≡ true) × (text ≡ r.text)
-    by_whole true e = (e, same_Some text r.text (is ∙ rw e refl))
-    by_whole false e = let bad : Some text ≡ None = is ∙ rw e refl in cc
+text_there r text is = elim (cases_Bool (has_whole_text r)) [
+  | inl e ↦ (e, same_Some text r.text (is ∙ rw e refl))
+  | inr e ↦ let bad : Some text ≡ None = is ∙ rw e refl in cc
+]
 
 pub no_text : (r : DumpRecord) → None ≡ whole_part r → has_whole_text r ≡ false
-no_text r is = by_whole (has_whole_text r) refl
-  where
-    by_whole : (b : Bool) → has_whole_text r ≡ b → has_whole_text r ≡ false
-    by_whole true e = let bad : None ≡ Some r.text = is ∙ rw e refl in cc
-    by_whole false e = e
+no_text r is = not_so _ (λ e. let bad : None ≡ Some r.text = is ∙ rw e refl in cc)
 
 -- a digest isn't ok exactly where the record tells another of its text
 pub digest_told : (name : List ℕ) (r : DumpRecord) (size : ℕ) (digest : List ℕ) (ok : Bool) (told : Option (List ℕ))

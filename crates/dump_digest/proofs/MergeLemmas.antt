@@ -1,39 +1,32 @@
 -- Mergeinfo is bad where a property of its name has a value that isn't mergeinfo.
-use Rattle.dump_digest.proofs.Prelude.{◌≡◌, ◌↔◌, ℕ, zero, suc, Bool, true, false, List, [], ◌∷◌, refl, sym, ap, subst, ◌∙◌, arith, Contains, IsTrue, IsFalse, absurd_bool, Bool-set, ∥∥₁_elim, and_parts, Property, property_block_once, DumpRecord, Settings, HasMergeLines, value_reads, reads_exactly, is_kept_node, is_mergeinfo, value_of, HasPropertyList, HasPropertyBlock, HasBadMergeinfo, property_reads, properties_read}
+use Rattle.dump_digest.proofs.Prelude.{◌≡◌, ◌↔◌, ℕ, zero, suc, Bool, true, false, List, [], ◌∷◌, refl, sym, ap, subst, ◌∙◌, arith, Contains, IsTrue, IsFalse, inl, inr, absurd_bool, not_so, cases_Bool, same_from_decides, Bool-set, ∥∥₁_elim, and_parts, Property, property_block_once, DumpRecord, Settings, HasMergeLines, value_reads, reads_exactly, is_kept_node, is_mergeinfo, value_of, HasPropertyList, HasPropertyBlock, HasBadMergeinfo, property_reads, properties_read}
 
 -- one property
 
 -- a value was read exactly where it is some lines
 pub read_is : (value : List ℕ) (reads : Bool) → (IsTrue reads ↔ HasMergeLines value) → reads ≡ value_reads value
-read_is value reads means = by_reads reads refl (value_reads value) refl
-  where
-    by_reads : (a : Bool) → reads ≡ a → (b : Bool) → value_reads value ≡ b → reads ≡ value_reads value
-    by_reads true e true f = e ∙ sym f
-    by_reads true e false f = absurd (absurd_bool _ ((reads_exactly value).1 (means.0 e)) f)
-    by_reads false e true f = absurd (absurd_bool _ (means.1 ((reads_exactly value).0 f)) e)
-    by_reads false e false f = e ∙ sym f
+read_is value reads means =
+    same_from_decides {P = HasMergeLines value} reads (value_reads value) means (reads_exactly value)
 
 pub record BadEntry (p : Property) : Type 0 where
   pub named : IsTrue (is_mergeinfo p)
   pub none : ¬ HasMergeLines (value_of p)
 
 bad_entry : (p : Property) → property_reads p ≡ false → BadEntry p
-bad_entry p bad = by_name (is_mergeinfo p) refl
-  where
-    by_name : (b : Bool) → is_mergeinfo p ≡ b → BadEntry p
-    by_name true e = record {
-      named = e;
-      none = λ has. absurd_bool _ ((reads_exactly (value_of p)).1 has)
-          (let unread : value_reads (value_of p) ≡ property_reads p = rw e refl in unread ∙ bad);
-    }
-    by_name false e = let read : true ≡ property_reads p = rw e refl in absurd (absurd_bool _ (sym read) bad)
+bad_entry p bad = elim (cases_Bool (is_mergeinfo p)) [
+  | inl e ↦ record {
+    named = e;
+    none = λ has. absurd_bool _ ((reads_exactly (value_of p)).1 has)
+        (let unread : value_reads (value_of p) ≡ property_reads p = rw e refl in unread ∙ bad);
+  }
+  | inr e ↦ let read : true ≡ property_reads p = rw e refl in absurd (absurd_bool _ (sym read) bad)
+]
 
 entry_bad : (p : Property) → BadEntry p → property_reads p ≡ false
-entry_bad p bad = by_value (value_reads (value_of p)) refl
-  where
-    by_value : (b : Bool) → value_reads (value_of p) ≡ b → property_reads p ≡ false
-    by_value true e = absurd (bad.none ((reads_exactly (value_of p)).0 e))
-    by_value false e = let named = bad.named in rw (named, e) refl
+entry_bad p bad =
+    let unread = not_so (value_reads (value_of p)) (λ e. bad.none ((reads_exactly (value_of p)).0 e)) in
+    let named = bad.named in
+    rw (named, unread) refl
 
 -- all properties
 
@@ -43,15 +36,13 @@ HasBadEntry ps = (p : Property) × Contains ps p × BadEntry p
 -- properties that can't all be read have one that is bad
 pub bad_of : (ps : List Property) → properties_read ps ≡ false → HasBadEntry ps
 bad_of [] bad = cc
-bad_of (p ∷ ps) bad = by_first (property_reads p) refl (bad_of ps)
-  where
-    by_first : (b : Bool) → property_reads p ≡ b → (properties_read ps ≡ false → HasBadEntry ps) → HasBadEntry (p ∷ ps)
-    by_first false e later = (p, (0, omega arith, refl), bad_entry p e)
-    by_first true e later =
-        let rest : properties_read (p ∷ ps) ≡ properties_read ps = rw e refl in
-        let found = later (sym rest ∙ bad) in
-        let within = found.1.1 in
-        (found.0, (suc found.1.0, omega arith, found.1.2), found.2)
+bad_of (p ∷ ps) bad = elim (cases_Bool (property_reads p)) [
+  | inl e ↦
+      let found = bad_of ps (rw e at bad) in
+      let within = found.1.1 in
+      (found.0, (suc found.1.0, omega arith, found.1.2), found.2)
+  | inr e ↦ (p, (0, omega arith, refl), bad_entry p e)
+]
 
 read_none : (ps : List Property) (p : Property) → properties_read ps ≡ true → Contains ps p → property_reads p ≡ true
 read_none [] p read (i, within, is) = absurd (omega arith)
@@ -74,16 +65,12 @@ merge_means settings r ok ps kept block is = (
 )
   where
     found : HasBadMergeinfo settings r → IsFalse ok
-    found (value, (k, qs, other, p, within, named, same), none) = by_ok ok refl
-      where
-        by_ok : (b : Bool) → ok ≡ b → IsFalse ok
-        by_ok false e = e
-        by_ok true e =
-            let lists = property_block_once r.props qs ps other.0 block.0 in
-            let here = subst (λ (l : List Property). Contains l p) lists within in
-            let read = read_none ps p (sym is ∙ e) here in
-            let entry : BadEntry p = record { named = named; none = λ has. none (subst HasMergeLines same has) } in
-            absurd (absurd_bool _ read (entry_bad p entry))
+    found (value, (k, qs, other, p, within, named, same), none) = not_so ok (λ e.
+        let lists = property_block_once r.props qs ps other.0 block.0 in
+        let here = subst (λ (l : List Property). Contains l p) lists within in
+        let read = read_none ps p (sym is ∙ e) here in
+        let entry : BadEntry p = record { named = named; none = λ has. none (subst HasMergeLines same has) } in
+        absurd_bool _ read (entry_bad p entry))
 
 -- a record whose property block can't be read has no bad mergeinfo
 pub merge_unread : (settings : Settings) (r : DumpRecord) → ¬ HasPropertyBlock r → IsFalse true

@@ -1,9 +1,10 @@
 -- The words of std, of the definitions and of the lemmas below, for the proofs of this crate.
 pub use Rattle.std.proofs.Common.{Bool, Bor, Contains, Err, IfSome, IsFalse, IsNone, IsSome, IsTrue, List, MatchOption, None, Ok, OnOk, Option, Result, Some, [], ap, arith, bytes_eq, codes, false, if◌then◌else◌, inl, inr, is_some, length, lit<, not, refl, subst, suc, sym, true, unwrap_or, zero, ℕ, ◌&&◌, ◌<◌, ◌^◌, ◌||◌, ◌↔◌, ◌∙◌, ◌∷◌, ◌≡◌, ◌≢◌, ◌⊎◌}
-pub use Rattle.std.proofs.Math.Bool.{Bool-set}
+pub use Rattle.std.proofs.Math.Bool.{Bool-set, or-false, or-true, or_assoc}
 pub use Rattle.std.proofs.Math.Facts.{Fits-lt-pow}
 pub use Rattle.std.proofs.Math.Logic.{∥∥₁_elim}
-pub use Rattle.std.proofs.lemmas.Bool.{and_parts, false≢true, or_right}
+pub use Rattle.std.proofs.lemmas.Bool.{and_parts, cases_Bool, false≢true, or_right, true_from_ne_false}
+pub use Rattle.std.proofs.lemmas.Bool.Decides.{same_from_decides}
 pub use Rattle.std.proofs.lemmas.Option.{same_Some}
 pub use Rattle.std.proofs.lemmas.Slice.Eq.{bytes_eq-Decides}
 pub use Rattle.std.specs.List.{list_any}
@@ -19,7 +20,7 @@ pub use Rattle.dump_records.proofs.Unique.{keeps}
 pub use Rattle.dump_records.specs.HeaderRules.{has_bad_number, header_number}
 pub use Rattle.dump_records.specs.RecordText.{DumpRecord, is_lawful}
 pub use Rattle.dump_records.specs.steps.RecordViews.{record_item}
-pub use Rattle.dump_rules.proofs.faults.MergedMeaning.{none_outside, or_false, or_or}
+pub use Rattle.dump_rules.proofs.faults.MergedMeaning.{none_outside}
 pub use Rattle.dump_rules.proofs.reading.MergeinfoLemmas.{reads_exactly}
 pub use Rattle.dump_rules.specs.Mergeinfo.{HasMergeLines}
 pub use Rattle.dump_rules.specs.Settings.{Settings, keeps_path}

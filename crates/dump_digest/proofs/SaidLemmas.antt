@@ -1,5 +1,5 @@
 -- What the mergeinfo of some properties says, property by property.
-use Rattle.dump_digest.proofs.Prelude.{◌≡◌, ◌↔◌, ◌<◌, ◌^◌, ℕ, Bool, true, false, ◌&&◌, ◌||◌, List, [], ◌∷◌, refl, sym, ap, subst, ◌∙◌, Option, Some, None, IsSome, IsNone, IfSome, is_some, unwrap_or, if◌then◌else◌, MatchOption, IsTrue, IsFalse, or_right, false≢true, list_any, ForSome, Props, PropsReading, Property, IsPropertyBlock, Entry, props_bytes, entry_property, IsReadingOf, absurd_bool, both_true, second_true, DumpRecord, Bounds, Merged, Settings, HasMergeLines, is_outside, no_bounds, nothing_merged, value_misses, value_foreign, value_reads, or_false, or_or, none_outside, Content, Verdict, IsVerdict, Mergeinfo, is_revision_record, is_kept_node, is_mergeinfo, value_of, HasPropertyList, HasPropertyBlock, properties_read, HasBadMergeinfo, misses, is_foreign, IsSaidBy, IsContent, ArePropertiesOf, is_asked}
+use Rattle.dump_digest.proofs.Prelude.{◌≡◌, ◌↔◌, ◌<◌, ◌^◌, ℕ, Bool, true, false, ◌&&◌, ◌||◌, List, [], ◌∷◌, refl, sym, ap, subst, ◌∙◌, Option, Some, None, IsSome, IsNone, IfSome, is_some, unwrap_or, if◌then◌else◌, MatchOption, IsTrue, IsFalse, or_right, false≢true, list_any, ForSome, Props, PropsReading, Property, IsPropertyBlock, Entry, props_bytes, entry_property, IsReadingOf, absurd_bool, both_true, second_true, DumpRecord, Bounds, Merged, Settings, HasMergeLines, is_outside, no_bounds, nothing_merged, value_misses, value_foreign, value_reads, or-false, or-true, or_assoc, true_from_ne_false, none_outside, Content, Verdict, IsVerdict, Mergeinfo, is_revision_record, is_kept_node, is_mergeinfo, value_of, HasPropertyList, HasPropertyBlock, properties_read, HasBadMergeinfo, misses, is_foreign, IsSaidBy, IsContent, ArePropertiesOf, is_asked}
 use Rattle.dump_digest.proofs.MergeLemmas.{read_is, merge_means, merge_unread}
 use Rattle.dump_digest.proofs.PropertyBlocks.{block_stable}
 
@@ -21,10 +21,6 @@ said_at_first s ps said is = record {
   numbers = λ first present fits. ap (λ b. b || list_any (is_foreign s first present) ps)
       (sym (ap (λ (m : Merged). is_outside s first present m.numbers) is ∙ none_outside s first present fits));
 }
-
-or_true : (a c : Bool) → (a || (true || c)) ≡ true
-or_true true c = refl
-or_true false c = refl
 
 -- one more property that isn't mergeinfo
 pub said_of_other : (s : Settings) (ps qs others : List Property) (p : Property) (found : Bool) (said : Merged)
@@ -51,14 +47,14 @@ pub said_of_value : (s : Settings) (ps qs others : List Property) (p : Property)
 said_of_value s ps qs others p found said next is named reads sources numbers up = record {
   read = up.read ∙ ap properties_read is ∙ rw (named, reads) refl;
   found_is = up.found_is ∙ ap (λ (l : List Property). found || list_any is_mergeinfo l) is
-      ∙ rw named (or_true found (list_any is_mergeinfo others));
+      ∙ rw named (or-true found);
   sources = up.sources ∙ ap (λ (l : List Property). said.misses || list_any (misses s) l) is
-      ∙ rw named (sym (or_or said.misses (value_misses s (value_of p)) (list_any (misses s) others)))
+      ∙ rw named (sym (or_assoc said.misses (value_misses s (value_of p)) (list_any (misses s) others)))
       ∙ ap (λ b. b || list_any (misses s) others) (sym sources);
   numbers = λ first present fits. up.numbers first present fits
       ∙ ap (λ (l : List Property). is_outside s first present said.numbers || list_any
       (is_foreign s first present) l) is
-      ∙ rw named (sym (or_or (is_outside s first present said.numbers) (value_foreign s first present (value_of p))
+      ∙ rw named (sym (or_assoc (is_outside s first present said.numbers) (value_foreign s first present (value_of p))
       (list_any (is_foreign s first present) others)))
       ∙ ap (λ b. b || list_any (is_foreign s first present) others) (sym (numbers first present));
 }
@@ -75,9 +71,9 @@ pub said_at_last : (s : Settings) (ps : List Property) (found : Bool) (said : Me
     → IsSaidBy s ps (record { found = found; said = said })
 said_at_last s ps found said up = record {
   read = up.read;
-  found = sym (up.found_is ∙ sym (or_false found));
-  sources = sym (up.sources ∙ sym (or_false said.misses));
-  numbers = λ first present fits. sym (up.numbers first present fits ∙ sym (or_false (is_outside s first present said.numbers)));
+  found = sym (up.found_is ∙ or-false found);
+  sources = sym (up.sources ∙ or-false said.misses);
+  numbers = λ first present fits. sym (up.numbers first present fits ∙ or-false (is_outside s first present said.numbers));
 }
 
 -- the value of an entry is that of its property
@@ -185,10 +181,6 @@ pub bytes_told : (bytes : List ℕ) (found : Props) → props_bytes found ≡ by
     → ForSome (Some found) (λ props. props_bytes props ≡ bytes)
 bytes_told bytes found is = λ props e. ap props_bytes (let one : props ≡ found = cc in one) ∙ is
 
-not_so_false : (b : Bool) → (b ≡ false → ⊥) → b ≡ true
-not_so_false true bad = refl
-not_so_false false bad = absurd (bad refl)
-
 -- what was read of a record that is asked for its properties is them
 pub properties_of : (s : Settings) (r : DumpRecord) (c : Content) (found : Option Props) → IsContent s r c
     → is_some found ≡ is_some c.props → ForSome found (λ props. props_bytes props ≡ r.props)
@@ -201,6 +193,6 @@ properties_of s r c found is same bytes asked = record {
         (second_true (is_asked s r) c.verdict.props_ok (sym is.asked ∙ sym same ∙ some))
         (is.verdict_is.props.1 (asked, none))),
     λ has. same ∙ is.asked ∙ both_true (is_asked s r) c.verdict.props_ok asked
-        (not_so_false c.verdict.props_ok (λ bad. (is.verdict_is.props.0 bad).1 has)),
+        (true_from_ne_false c.verdict.props_ok (λ bad. (is.verdict_is.props.0 bad).1 has)),
   );
 }

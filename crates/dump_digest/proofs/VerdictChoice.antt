@@ -1,5 +1,5 @@
 -- Each record has a verdict.
-use Rattle.dump_digest.proofs.Prelude.{◌≡◌, ◌≢◌, ◌⊎◌, ◌↔◌, ℕ, Bool, true, false, ◌||◌, List, refl, sym, ap, ◌∙◌, inl, inr, Option, Some, None, IsTrue, IsFalse, Result, Ok, Err, bytes_eq, same_Some, ForSome, ∥∥₁_elim, bytes_eq-Decides, md5_name, sha1_name, has_header, header_value, Property, absurd_bool, false_true, not_so, DumpRecord, Settings, is_revision_record, is_kept_node, has_whole_text, is_checked_text, value_of, HasPropertyList, HasPropertyBlock, HasBadProperties, DiffersFromDigest, HasBadMd5, HasBadSha1, HasBadMergeinfo, properties_read, IsVerdict, Verdict}
+use Rattle.dump_digest.proofs.Prelude.{◌≡◌, ◌≢◌, ◌⊎◌, ◌↔◌, ℕ, Bool, true, false, ◌||◌, List, refl, sym, ap, ◌∙◌, inl, inr, Option, Some, None, IsTrue, IsFalse, Result, Ok, Err, bytes_eq, same_Some, ForSome, ∥∥₁_elim, cases_Bool, bytes_eq-Decides, md5_name, sha1_name, has_header, header_value, Property, absurd_bool, false_true, not_so, DumpRecord, Settings, is_revision_record, is_kept_node, has_whole_text, is_checked_text, value_of, HasPropertyList, HasPropertyBlock, HasBadProperties, DiffersFromDigest, HasBadMd5, HasBadSha1, HasBadMergeinfo, properties_read, IsVerdict, Verdict}
 use Rattle.dump_digest.proofs.MergeLemmas.{bad_of, merge_means}
 use Rattle.dump_digest.proofs.PropertyBlocks.{block_or_not}
 use Rattle.md5.specs.Md5.{md5}
@@ -11,14 +11,13 @@ use Rattle.hex.specs.declared.error.FromHexError.{FromHexError}
 pub bad_choice : (settings : Settings) (r : DumpRecord) → IsTrue (is_kept_node settings r) → (ps : List Property)
     → HasPropertyList r ps
     → HasBadMergeinfo settings r ⊎ (¬ HasBadMergeinfo settings r)
-bad_choice settings r keep ps block = by_read (properties_read ps) refl
-  where
-    by_read : (b : Bool) → properties_read ps ≡ b → HasBadMergeinfo settings r ⊎ (¬ HasBadMergeinfo settings r)
-    by_read true read = inr (λ bad. absurd_bool (properties_read ps) read
-        ((merge_means settings r (properties_read ps) ps keep block refl).1 ∣ bad ∣₁))
-    by_read false bad =
-        let (p, within, entry) = bad_of ps bad in
-        inl (value_of p, (keep, ps, block, p, within, entry.named, refl), entry.none)
+bad_choice settings r keep ps block = elim (cases_Bool (properties_read ps)) [
+  | inl read ↦ inr (λ bad. absurd_bool (properties_read ps) read
+      ((merge_means settings r (properties_read ps) ps keep block refl).1 ∣ bad ∣₁))
+  | inr bad ↦
+      let (p, within, entry) = bad_of ps bad in
+      inl (value_of p, (keep, ps, block, p, within, entry.named, refl), entry.none)
+]
 
 -- what holds or doesn't is told by a truth value
 abbrev IsTold : Type 0 → Type 0
@@ -53,11 +52,10 @@ properties_choice settings r =
     ])
 
 same_bytes : (a b : List ℕ) → (a ≢ b) ⊎ (¬ (a ≢ b))
-same_bytes a b = by_case (bytes_eq a b) refl
-  where
-    by_case : (c : Bool) → bytes_eq a b ≡ c → (a ≢ b) ⊎ (¬ (a ≢ b))
-    by_case true is = inr (λ other. other ((bytes_eq-Decides a b).0 is))
-    by_case false is = inl (λ same. absurd_bool (bytes_eq a b) ((bytes_eq-Decides a b).1 same) is)
+same_bytes a b = elim (cases_Bool (bytes_eq a b)) [
+  | inl is ↦ inr (λ other. other ((bytes_eq-Decides a b).0 is))
+  | inr is ↦ inl (λ same. absurd_bool (bytes_eq a b) ((bytes_eq-Decides a b).1 same) is)
+]
 
 decoded_choice : (decoded : Result (List ℕ) FromHexError) (digest : List ℕ) → (decoded ≢ Ok digest)
     ⊎ (¬ (decoded ≢ Ok digest))
@@ -96,14 +94,13 @@ sha1_choice settings r =
     (so (is_kept_node settings r)) (so (has_whole_text r)) (digest_choice sha1_name r 20 (sha1 r.text))
 
 merge_choice : (settings : Settings) (r : DumpRecord) → HasBadMergeinfo settings r ⊎ (¬ HasBadMergeinfo settings r)
-merge_choice settings r = by_kept (is_kept_node settings r) refl
-  where
-    by_kept : (b : Bool) → is_kept_node settings r ≡ b → HasBadMergeinfo settings r ⊎ (¬ HasBadMergeinfo settings r)
-    by_kept true keep = elim (block_or_not r) [
-      | inl (ps, list) ↦ bad_choice settings r keep ps list
-      | inr none ↦ inr (λ (value, of, bad). none (of.1, of.2))
-    ]
-    by_kept false drop = inr (λ (value, of, bad). absurd_bool (is_kept_node settings r) of.0 drop)
+merge_choice settings r = elim (cases_Bool (is_kept_node settings r)) [
+  | inl keep ↦ elim (block_or_not r) [
+    | inl (ps, list) ↦ bad_choice settings r keep ps list
+    | inr none ↦ inr (λ (value, of, bad). none (of.1, of.2))
+  ]
+  | inr drop ↦ inr (λ (value, of, bad). absurd_bool (is_kept_node settings r) of.0 drop)
+]
 
 -- each record has a verdict
 pub verdict_exists : (settings : Settings) (r : DumpRecord) → (v : Verdict) × IsVerdict settings r v

@@ -1,19 +1,11 @@
 -- What a verdict's parts mean together.
-use Rattle.dump_digest.proofs.Prelude.{◌≡◌, ◌↔◌, Bool, true, false, ◌||◌, refl, sym, ◌∙◌, Option, is_some, IsTrue, IsFalse, IsSome, absurd_bool, or_right, md5_name, sha1_name, DumpRecord, Settings, Verdict, is_revision_record, is_kept_node, HasPropertyBlock, HasBadMergeinfo, HasOtherDigest, is_told_text, IsVerdict}
+use Rattle.dump_digest.proofs.Prelude.{◌≡◌, ◌↔◌, Bool, true, false, ◌||◌, refl, sym, ap, ◌∙◌, not_so, or-false, Option, is_some, IsTrue, IsFalse, IsSome, absurd_bool, or_right, md5_name, sha1_name, DumpRecord, Settings, Verdict, is_revision_record, is_kept_node, HasPropertyBlock, HasBadMergeinfo, HasOtherDigest, is_told_text, IsVerdict}
 use Rattle.dump_digest.proofs.MergeLemmas.{merge_other}
 use Rattle.md5.specs.Md5.{md5}
 use Rattle.sha1.specs.Sha1.{sha1}
 
-or_none : (a b : Bool) → b ≡ false → (a || b) ≡ a
-or_none true b e = refl
-or_none false b e = e
-
 unread : (r : DumpRecord) (ok : Bool) → (IsTrue ok ↔ HasPropertyBlock r) → IsFalse ok ↔ (¬ HasPropertyBlock r)
-unread r ok means = (λ none has. absurd_bool _ (means.1 has) none, λ none. by_ok ok refl none)
-  where
-    by_ok : (b : Bool) → ok ≡ b → ¬ HasPropertyBlock r → IsFalse ok
-    by_ok true e none = absurd (none (means.0 e))
-    by_ok false e none = e
+unread r ok means = (λ none has. absurd_bool _ (means.1 has) none, λ none. not_so ok (λ e. none (means.0 e)))
 
 -- properties that aren't asked
 pub not_asked : (r : DumpRecord) → IsFalse (is_revision_record r) → IsFalse true
@@ -56,7 +48,7 @@ pub other_verdict : (settings : Settings) (r : DumpRecord) (props_ok : Bool) →
     (record { props_ok = props_ok; md5_ok = true; sha1_ok = true; merge_ok = true; checked = false })
 other_verdict settings r props_ok other props = record {
   props =
-      let revision = or_none (is_revision_record r) (is_kept_node settings r) other in
+      let revision = ap (λ b. is_revision_record r || b) other ∙ or-false (is_revision_record r) in
       (λ e. let bad = props.0 e in (revision ∙ bad.0, bad.1), λ bad. props.1 (sym revision ∙ bad.0, bad.1));
   md5 = (λ e. cc, λ bad. absurd (absurd_bool _ bad.0 other));
   sha1 = (λ e. cc, λ bad. absurd (absurd_bool _ bad.0 other));

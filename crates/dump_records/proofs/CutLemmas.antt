@@ -1,18 +1,14 @@
 -- A dump cut record by record.
-use Rattle.dump_records.proofs.Prelude.{◌≡◌, ◌≢◌, ◌⊎◌, ℕ, zero, suc, ◌+◌, ◌-◌, ◌<◌, ◌≤◌, Bool, true, false, ◌==◌, List, [], ◌∷◌, ◌++◌, take, drop, length, refl, sym, ap, ◌∙◌, subst, arith, append_assoc, length-append, inl, inr, append-nil, length-drop, drop_at, drop-drop, drop_all, take_rest, eqb-true, eqb-false, FaultKind, block_text, lines_bytes, starts_with_lf, version_from, DumpRecord, record_text, BeginsWithRecord, IsCutFault, Ending, line_feeds, IsCutInto, HaveVersions, EndsAfter, IsRecordOf, last_version, IsCutUpTo, IsGap, StandsAt, FollowsRecords, record_between, Block, block_dump, block_place, block_after}
+use Rattle.dump_records.proofs.Prelude.{◌≡◌, ◌≢◌, ◌⊎◌, ℕ, suc, ◌+◌, ◌-◌, ◌<◌, ◌≤◌, Bool, true, false, ◌==◌, List, [], ◌∷◌, ◌++◌, take, drop, length, refl, sym, ap, ◌∙◌, subst, arith, append_assoc, length-append, inl, inr, append-nil, length-drop, drop_at, drop-drop, drop_all, take_rest, eqb-true, eqb_tells, nil_from_length, length-replicate, replicate-append-replicate, FaultKind, block_text, lines_bytes, starts_with_lf, version_from, DumpRecord, record_text, BeginsWithRecord, IsCutFault, Ending, line_feeds, IsCutInto, HaveVersions, EndsAfter, IsRecordOf, last_version, IsCutUpTo, IsGap, StandsAt, FollowsRecords, record_between, Block, block_dump, block_place, block_after}
 use Rattle.dump_records.proofs.Versions.{last_append, versions_append}
 
-lfs_add : (m n : ℕ) → line_feeds m ++ line_feeds n ≡ line_feeds (m + n)
-lfs_add zero n = let e : n ≡ 0 + n = omega arith in ap line_feeds e
-lfs_add (suc m) n = let e : suc (m + n) ≡ suc m + n = omega arith in ap (λ t. 10 ∷ t) (lfs_add m n) ∙ ap line_feeds e
-
 lfs_join : (m n : ℕ) (rest : List ℕ) → line_feeds m ++ (line_feeds n ++ rest) ≡ line_feeds (m + n) ++ rest
-lfs_join m n rest = sym (append_assoc (line_feeds m) (line_feeds n) rest) ∙ ap (λ t. t ++ rest) (lfs_add m n)
+lfs_join m n rest = sym (append_assoc (line_feeds m) (line_feeds n) rest)
+    ∙ ap (λ t. t ++ rest) (replicate-append-replicate m n 10)
 
 -- some LFs are as long as their count
 pub lfs_length : (n : ℕ) → length (line_feeds n) ≡ n
-lfs_length zero = refl
-lfs_length (suc n) = ap suc (lfs_length n)
+lfs_length n = length-replicate n 10
 
 -- a text is some LFs and a rest that doesn't begin with one
 pub record Stripped (text : List ℕ) : Type 0 where
@@ -238,17 +234,12 @@ module _ (dump : List ℕ) (number place version gap : ℕ) (up : IsCutUpTo dump
         at.count,
       )
     where
-      no_records : (rs : List DumpRecord) → length rs ≡ 0 → rs ≡ []
-      no_records [] none = refl
-      no_records (r ∷ rs) none = absurd (omega arith)
-
       some_left : (drop (place + gap) dump ≢ []) ⊎ (at.records ≡ [])
-      some_left = elim (place + gap == length dump) as
-          (λ (t : Bool). (place + gap == length dump) ≡ t → (drop (place + gap) dump ≢ []) ⊎ (at.records ≡ [])) [
-            | true ↦ λ is. inr (no_records at.records (at.count ∙ first (eqb-true _ _ is)))
-            | false ↦ λ is. inl (λ none. let size = ap length none in let left = length-drop (place + gap) dump in eqb-false
-                (place + gap) (length dump) is (omega arith))
-          ] refl
+      some_left = elim (eqb_tells (place + gap) (length dump)) [
+        | inl (e, is) ↦ inr (nil_from_length at.records (at.count ∙ first is))
+        | inr (e, other) ↦
+            inl (λ none. let size = ap length none in let left = length-drop (place + gap) dump in other (omega arith))
+      ]
 
 -- the LFs in a part of a dump up to its end
 pub gap_in : (dump : List ℕ) (place gap : ℕ) → IsGap (take (length dump - place) (drop place dump)) gap

@@ -1,5 +1,5 @@
 -- What lawful header lines tell of their record's kind and numbers.
-use Rattle.dump_records.proofs.Prelude.{◌≡◌, ℕ, ◌+◌, ◌<◌, ◌^◌, arith, ◌==◌, ◌&&◌, ◌||◌, not, Bool, true, false, List, [], ◌∷◌, refl, sym, ap, ◌∙◌, Option, Some, None, is_some, is_none, count_by, option_and_then, unwrap_or, none-some, eqb-true, IfSome, version_name, uuid_name, revision_name, path_name, copy_revision_name, copy_path_name, content_length_name, deciding_names, length_names, list_any, number_of, Header, has_header, header_value, first_false, second_false, false_true, is_there, value_at, ValuePlace, has_value, place_has, header_number, header_length, property_length, text_length, version_from, is_one_alone, has_bad_kind, is_read_version, has_bad_version, has_bad_number, KindParts, Version, Uuid, Revision, Node, Copy, version_in, IsKindOf}
+use Rattle.dump_records.proofs.Prelude.{◌≡◌, ℕ, ◌+◌, ◌<◌, ◌^◌, arith, ◌==◌, ◌&&◌, ◌||◌, not, Bool, true, false, List, [], ◌∷◌, refl, sym, ap, ◌∙◌, Option, Some, None, is_some, is_none, count_by, option_and_then, unwrap_or, none-some, and-false, nat_tests, true_from_ne_false, eqb-true, IfSome, version_name, uuid_name, revision_name, path_name, copy_revision_name, copy_path_name, content_length_name, deciding_names, length_names, list_any, number_of, Header, has_header, header_value, first_false, second_false, false_true, is_there, value_at, ValuePlace, has_value, place_has, header_number, header_length, property_length, text_length, version_from, is_one_alone, has_bad_kind, is_read_version, has_bad_version, has_bad_number, KindParts, Version, version_in, IsKindOf}
 
 -- of four names exactly one is there
 pub record OneKind (v u s n : Bool) : Type 0 where
@@ -10,13 +10,6 @@ pub record OneKind (v u s n : Bool) : Type 0 where
   pub left : v ≡ false → s ≡ false → n ≡ false → u ≡ true
 
 one_kind : (v u s n : Bool) → not (count_by (λ (b : Bool). b) (v ∷ u ∷ s ∷ n ∷ []) == 1) ≡ false → OneKind v u s n
-one_kind true true true true bad = absurd (false_true (sym bad))
-one_kind true true true false bad = absurd (false_true (sym bad))
-one_kind true true false true bad = absurd (false_true (sym bad))
-one_kind true true false false bad = absurd (false_true (sym bad))
-one_kind true false true true bad = absurd (false_true (sym bad))
-one_kind true false true false bad = absurd (false_true (sym bad))
-one_kind true false false true bad = absurd (false_true (sym bad))
 one_kind true false false false good = record {
   node = λ is. absurd (false_true is);
   uuid = λ is. absurd (false_true is);
@@ -24,9 +17,6 @@ one_kind true false false false good = record {
   version = λ is. (refl, refl, refl);
   left = λ no_version no_revision no_node. absurd (false_true (sym no_version));
 }
-one_kind false true true true bad = absurd (false_true (sym bad))
-one_kind false true true false bad = absurd (false_true (sym bad))
-one_kind false true false true bad = absurd (false_true (sym bad))
 one_kind false true false false good = record {
   node = λ is. absurd (false_true is);
   uuid = λ is. (refl, refl, refl);
@@ -34,7 +24,6 @@ one_kind false true false false good = record {
   version = λ is. absurd (false_true is);
   left = λ no_version no_revision no_node. refl;
 }
-one_kind false false true true bad = absurd (false_true (sym bad))
 one_kind false false true false good = record {
   node = λ is. absurd (false_true is);
   uuid = λ is. absurd (false_true is);
@@ -49,7 +38,7 @@ one_kind false false false true good = record {
   version = λ is. absurd (false_true is);
   left = λ no_version no_revision no_node. absurd (false_true (sym no_node));
 }
-one_kind false false false false bad = absurd (false_true (sym bad))
+one_kind v u s n bad = absurd (grind (arith, nat_tests, bad))
 
 -- the deciding names of lines of some kind
 pub deciding : (headers : List Header) → has_bad_kind headers ≡ false
@@ -101,37 +90,31 @@ pub place_there : (name dump : List ℕ) (headers : List Header) (place : ValueP
 place_there name dump headers place is =
     value_there name headers (value_at dump place) is ∙ sym (place_has dump place)
 
+-- what is there just where a line is
+both_there : (b : Bool) (n : Option ℕ) → (b ≡ true → n ≡ None → ⊥) → (b ≡ false → None ≡ n) → b ≡ is_some n
+both_there true (Some n) some none = refl
+both_there true None some none = absurd (some refl refl)
+both_there false None some none = refl
+both_there false (Some n) some none = absurd (none-some n (none refl))
+
 -- a number is there where its line is, unless that line gives none
 number_there : (name : List ℕ) (headers : List Header)
     → (has_header name headers && is_none (header_number name headers)) ≡ false
     → has_header name headers ≡ is_some (header_number name headers)
-number_there name headers good = cases (has_header name headers) refl (header_number name headers) refl
-  where
-    cases : (b : Bool) → has_header name headers ≡ b → (n : Option ℕ) → header_number name headers ≡ n → b ≡ is_some n
-    cases true has (Some n) number = refl
-    cases true has None number = absurd (false_true (sym good ∙ rw (has, number) refl))
-    cases false has None number = refl
-    cases false has (Some n) number = absurd (none-some n (no_number name headers has ∙ number))
+number_there name headers good = both_there _ _
+    (λ has none. false_true (sym good ∙ rw (has, none) refl)) (no_number name headers)
 
 -- a line has the name that gives a number
 number_from : (name : List ℕ) (headers : List Header) (n : ℕ) → header_number name headers ≡ Some n
     → has_header name headers ≡ true
-number_from name headers n is = cases (has_header name headers) refl
-  where
-    cases : (b : Bool) → has_header name headers ≡ b → b ≡ true
-    cases true has = refl
-    cases false has = absurd (none-some n (no_number name headers has ∙ is))
+number_from name headers n is = true_from_ne_false _ (λ none. none-some n (no_number name headers none ∙ is))
 
 -- a version that is a number is bad where it isn't read
 pub bad_version_is : (number n : ℕ) (headers : List Header) → header_number version_name headers ≡ Some n
     → has_bad_version number headers ≡ not (is_read_version n)
 bad_version_is number n headers is =
     let has : has_header version_name headers ≡ true = number_from version_name headers n is in
-    rw (has, is) (second (number == 0) (not (is_read_version n)))
-  where
-    second : (a b : Bool) → ((a && false) || b) ≡ b
-    second true b = refl
-    second false b = refl
+    rw (has, is) (ap (λ b. b || not (is_read_version n)) (and-false (number == 0)))
 
 -- a content length that is a number is bad where it isn't the sum of the other two
 pub bad_sum_is : (headers : List Header) (content props text : ℕ)
@@ -165,19 +148,12 @@ module _ (headers : List Header) (good : has_bad_number headers ≡ false) where
 -- a version that is read is a number
 pub version_there : (number : ℕ) (headers : List Header) → has_bad_version number headers ≡ false
     → is_some (header_number version_name headers) ≡ has_header version_name headers
-version_there number headers good =
-    cases (has_header version_name headers) refl (header_number version_name headers) refl
+version_there number headers good = sym (both_there _ _
+    (λ has none. false_true (sym read ∙ rw (has, none) refl)) (no_number version_name headers))
   where
     read : (has_header version_name headers
         && not (is_read_version (unwrap_or (header_number version_name headers) 0))) ≡ false
     read = second_false (number == 0 && not (has_header version_name headers)) _ good
-
-    cases : (b : Bool) → has_header version_name headers ≡ b → (n : Option ℕ) → header_number version_name headers ≡ n
-        → is_some n ≡ b
-    cases true has (Some n) found = refl
-    cases true has None found = absurd (false_true (sym read ∙ rw (has, found) refl))
-    cases false has None found = refl
-    cases false has (Some n) found = absurd (none-some n (no_number version_name headers has ∙ found))
 
 -- and it is a small one
 pub version_small : (number : ℕ) (headers : List Header) → has_bad_version number headers ≡ false
@@ -204,15 +180,6 @@ version_said dump headers (Version number) before said =
     let has : has_header version_name headers ≡ true = sym said.version in
     let found : header_number version_name headers ≡ Some number = sym said.version_number in
     rw (has, found) refl
-version_said dump headers Uuid before said =
-    let has : has_header version_name headers ≡ false = sym said.version in
-    rw has refl
-version_said dump headers (Revision number) before said =
-    let has : has_header version_name headers ≡ false = sym said.version in
-    rw has refl
-version_said dump headers (Node path) before said =
-    let has : has_header version_name headers ≡ false = sym said.version in
-    rw has refl
-version_said dump headers (Copy path source) before said =
+version_said dump headers parts before said =
     let has : has_header version_name headers ≡ false = sym said.version in
     rw has refl

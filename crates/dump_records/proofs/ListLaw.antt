@@ -1,5 +1,5 @@
 -- Each dump has a list of records: at each place either a record stands or a fault is found, and a record takes bytes.
-use Rattle.dump_records.proofs.Prelude.{◌≡◌, ◌≢◌, ◌⊎◌, ℕ, zero, suc, ◌+◌, ◌<◌, ◌≤◌, nat_lt, Bool, true, false, ◌==◌, List, [], ◌∷◌, ◌++◌, take, drop, length, refl, sym, ap, ◌∙◌, subst, arith, append_assoc, length-append, inl, inr, list_all, length-drop, take-append-drop, length-take-le, eqb-true, eqb-false, FaultKind, has_byte, header_text, is_header, count_named, is_block, lines_bytes, block_text, BeginsWithBlock, HasBlock, block_fault, IsFirstLine, IsCutAtColon, IsNoHeader, HasLines, Split, split, Cut, Lacks, first_of, lawful, split_once, lawful_lines, lines_once, regroup, clash, lines_behind, no_line_here, header_text-is, is_line, version_from, property_length, text_length, DumpRecord, record_text, BeginsWithRecord, is_lawful, IsCutFault, Ending, line_feeds, IsCutInto, HaveVersions, HasEnding, HasRecords, EachDumpHasOneList, header_fault, no_block-lines}
+use Rattle.dump_records.proofs.Prelude.{◌≡◌, ◌≢◌, ◌⊎◌, ℕ, zero, suc, ◌+◌, ◌<◌, ◌≤◌, nat_lt, Bool, true, false, ◌==◌, List, [], ◌∷◌, ◌++◌, take, drop, length, refl, sym, ap, ◌∙◌, subst, arith, append_assoc, length-append, inl, inr, list_all, length-drop, take-append-drop, length-take-le, nil_from_length, eqb-true, eqb-false, FaultKind, has_byte, header_text, is_header, is_block, lines_bytes, block_text, BeginsWithBlock, HasBlock, block_fault, IsFirstLine, IsCutAtColon, IsNoHeader, HasLines, Split, split, Cut, Lacks, first_of, lawful, split_once, lawful_lines, lines_once, regroup, clash, lines_behind, no_line_here, header_text-is, is_line, version_from, property_length, text_length, DumpRecord, record_text, BeginsWithRecord, is_lawful, IsCutFault, Ending, line_feeds, IsCutInto, HaveVersions, HasEnding, HasRecords, EachDumpHasOneList, header_fault, no_block-lines}
 use borrow.Author.Tests.{ltb-true, ltb-false}
 use Rattle.dump_text.specs.declared.fault.FaultKind.TheVariants as faults
 use Rattle.dump_text.specs.HeaderLine as line
@@ -237,15 +237,11 @@ each_dump_has_one_list dump =
     (l.rest, l.cut, l.versions, has_ending l.records l.rest l.ending l.ends) in
     (l.records, l.ending, has, λ others end other. records_once dump others l.records end l.ending other has)
   where
-    no_records : (rs : List DumpRecord) → 0 + length rs ≡ 0 → rs ≡ []
-    no_records [] none = refl
-    no_records (r ∷ rs) none = absurd (omega arith)
-
     has_ending : (records : List DumpRecord) (rest : List ℕ) (ending : Ending)
         → EndsWith (length dump) (0 + length records) rest ending → HasEnding dump records rest ending
     has_ending records rest Ending.Whole (none, some) = (none, omega arith)
     has_ending records rest (Ending.Broken fault place) (why, at, cause) = (
-      (elim why [ inl some ↦ inl some | inr none ↦ inr (no_records records none) ]),
+      (elim why [ inl some ↦ inl some | inr none ↦ inr (nil_from_length records (omega arith)) ]),
       at,
       subst (λ (n : ℕ). IsCutFault n rest fault) (let e : 0 + length records ≡ length records = omega arith in e) cause,
     )

@@ -1,5 +1,5 @@
 -- Why no record stands at a place, and what stands there else.
-use Rattle.dump_records.proofs.Prelude.{◌≡◌, ◌≢◌, ℕ, ◌+◌, ◌-◌, ◌<◌, ◌≤◌, get_or, Bool, true, false, List, ◌++◌, take, drop, length, slice_range, refl, sym, ap, ◌∙◌, subst, arith, append_assoc, unwrap_or, Result, Ok, Err, not_so, take-append-drop, length-drop, length-take-le, drop-drop, drop_more, drop_all, ne_eqb, IsErrAnd, IfErr, line_feeds, FaultKind, fault_code, block_text, starts_with_lf, has_empty_line, BeginsWithBlock, HasBlock, block_fault, headers_between, IsBlockBetween, block_once, property_length, text_length, has_bad_kind, has_bad_version, has_bad_number, has_bad_lengths, BeginsWithRecord, is_lawful, HasBlockWith, HoldsOfText, IsCutFault, record_between, version_in, header_fault, IsUnlawful, LengthsOf, Lengths, RecordHeader, IsHeaderOf, Block, block_dump, block_place, block_after, block_headers, IsGap, StandsAt}
+use Rattle.dump_records.proofs.Prelude.{◌≡◌, ◌≢◌, ℕ, ◌+◌, ◌-◌, ◌<◌, ◌≤◌, get_or, Bool, true, false, List, ◌++◌, take, drop, length, slice_range, refl, sym, ap, ◌∙◌, subst, arith, append_assoc, unwrap_or, Result, Ok, Err, absurd_bool, not_so, take-append-drop, length-drop, length-take-le, drop-drop, drop_more, drop_all, ne_eqb, IsErrAnd, IfErr, line_feeds, FaultKind, fault_code, block_text, starts_with_lf, has_empty_line, BeginsWithBlock, HasBlock, block_fault, headers_between, IsBlockBetween, block_once, property_length, text_length, has_bad_kind, has_bad_version, has_bad_number, has_bad_lengths, BeginsWithRecord, is_lawful, HasBlockWith, HoldsOfText, IsCutFault, record_between, version_in, header_fault, IsUnlawful, LengthsOf, Lengths, RecordHeader, IsHeaderOf, Block, block_dump, block_place, block_after, block_headers, IsGap, StandsAt}
 use Rattle.dump_text.specs.declared.fault.FaultKind.TheVariants as faults
 use Rattle.dump_text.specs.HeaderLine as line
 use Rattle.dump_records.proofs.Unique.{keeps}
@@ -35,9 +35,6 @@ holds_here : (text : List ℕ) (headers : List line.Header) (after : List ℕ) (
 holds_here text headers after test b (hs, x, other, holds) = ap test (block_once text headers hs after x b other).0
     ∙ holds
 
-clash : (b : Bool) → b ≡ false → b ≡ true → ⊥
-clash b f t = let bad : false ≡ true = sym f ∙ t in cc
-
 module _ (number : ℕ) (text : List ℕ) (headers : List line.Header) (after : List ℕ)
     (b : BeginsWithBlock text headers after) where
   -- no fault below this number holds where the tests below it fail
@@ -48,23 +45,15 @@ module _ (number : ℕ) (text : List ℕ) (headers : List line.Header) (after : 
   none_below n small kind version num lengths faults.HeaderCut low h = h.0 (headers, after, b)
   none_below n small kind version num lengths faults.Header low h = h.0 (headers, after, b)
   none_below n small kind version num lengths faults.Kind low h =
-      clash (has_bad_kind headers) (kind low) (holds_here text headers after has_bad_kind b h)
+      absurd_bool _ (holds_here text headers after has_bad_kind b h) (kind low)
   none_below n small kind version num lengths faults.Version low h =
-      clash (has_bad_version number headers) (version low) (holds_here text headers after (has_bad_version number) b h)
+      absurd_bool _ (holds_here text headers after (has_bad_version number) b h) (version low)
   none_below n small kind version num lengths faults.Number low h =
-      clash (has_bad_number headers) (num low) (holds_here text headers after has_bad_number b h)
+      absurd_bool _ (holds_here text headers after has_bad_number b h) (num low)
   none_below n small kind version num lengths faults.Lengths low h =
-      clash (has_bad_lengths headers) (lengths low) (holds_here text headers after has_bad_lengths b h)
+      absurd_bool _ (holds_here text headers after has_bad_lengths b h) (lengths low)
   none_below n small kind version num lengths faults.ContentCut low h = absurd (omega arith)
-  none_below n small kind version num lengths faults.Order low h = h
-  none_below n small kind version num lengths faults.Props low h = h
-  none_below n small kind version num lengths faults.Md5 low h = h
-  none_below n small kind version num lengths faults.Sha1 low h = h
-  none_below n small kind version num lengths faults.CopySource low h = h
-  none_below n small kind version num lengths faults.CopyRevision low h = h
-  none_below n small kind version num lengths faults.MergeInfo low h = h
-  none_below n small kind version num lengths faults.MergeSource low h = h
-  none_below n small kind version num lengths faults.MergeRange low h = h
+  none_below n small kind version num lengths other low h = h
 
   -- the first rule that the lines break is the fault
   pub unlawful : is_lawful number headers ≡ false → IsCutFault number text (header_fault number headers)
@@ -96,7 +85,7 @@ module _ (number : ℕ) (text : List ℕ) (headers : List line.Header) (after : 
       }
       cases false false false false is-k is-v is-n is-l =
           let all : is_lawful number headers ≡ true = rw (is-k, is-v, is-n, is-l) refl in
-          absurd (clash (is_lawful number headers) broken all)
+          absurd (absurd_bool _ all broken)
 
   -- too few bytes are left behind lawful lines
   pub cut_short : is_lawful number headers ≡ true → length after < property_length headers + text_length headers

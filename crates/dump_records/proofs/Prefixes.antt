@@ -1,8 +1,8 @@
 -- The first records of a dump: there is one list of each length, so a truncated fact about them is a fact.
-use Rattle.dump_records.proofs.Prelude.{◌≡◌, ℕ, ◌+◌, ◌≤◌, false, List, [], ◌∷◌, ◌++◌, take, drop, length, refl, sym, ap, ◌∙◌, subst, arith, ∥∥₁_elim, ∥∥₁_map, Coded, Coded-set, coded_ℕ, coded_list, take-append-drop, length-take-le, take_all, block_text, starts_with_lf, block_front, blank_once, header-eq, DumpRecord, record_text, BeginsWithRecord, Ending, IsCutInto, HaveVersions, HasRecords, BeginsWithRecords, EndsAfter, IsRecordOf}
+use Rattle.dump_records.proofs.Prelude.{◌≡◌, ℕ, ◌+◌, ◌≤◌, List, [], ◌∷◌, ◌++◌, take, drop, length, refl, sym, ap, ◌∙◌, subst, arith, ∥∥₁_elim, ∥∥₁_map, Coded, Coded-set, coded_ℕ, coded_list, take-append-drop, length-take-le, take_all, block_text, blank_once, header-eq, DumpRecord, record_text, BeginsWithRecord, Ending, IsCutInto, HaveVersions, HasRecords, BeginsWithRecords, EndsAfter, IsRecordOf}
 use base.Stored.{coded×, coded_via}
 use Rattle.dump_text.specs.HeaderLine as line
-use Rattle.dump_records.proofs.Unique.{content, begins, parts_once, record_once, version_once, record-eq, goes_on, EndsWith, ending_of}
+use Rattle.dump_records.proofs.Unique.{front_of, parts_once, first_once, record-eq, goes_on, EndsWith, ending_of}
 use Rattle.dump_records.proofs.Versions.{versions_prefix}
 use Rattle.dump_records.proofs.ListLaw.{each_dump_has_one_list}
 
@@ -19,11 +19,6 @@ record_coded = coded_via (coded× coded_ℕ (coded× coded_ℕ (coded× (coded_l
 
 pub same_records : (rs ss : List DumpRecord) → IsProp (rs ≡ ss)
 same_records rs ss = Coded-set (coded_list record_coded) rs ss
-
--- the rest behind some records doesn't begin with an LF
-front_of : (number : ℕ) (text : List ℕ) (r : DumpRecord) (after : List ℕ) → BeginsWithRecord number text r after
-    → starts_with_lf text ≡ false
-front_of number text r after b = block_front text r.headers (content r after) (begins number text r after b)
 
 -- what is cut into records is cut into the first of them
 pub cut_prefix : (number place : ℕ) (text rest : List ℕ) (rs ss : List DumpRecord) → IsCutInto number place text
@@ -50,22 +45,11 @@ cut_once : (number place before : ℕ) (text x y : List ℕ) (rs ss : List DumpR
 cut_once number place before text x y [] [] same cut cut' have have' = refl
 cut_once number place before text x y [] (s ∷ ss) same cut cut' have have' = absurd (omega arith)
 cut_once number place before text x y (r ∷ rs) [] same cut cut' have have' = absurd (omega arith)
-cut_once number place before text x y (r ∷ rs) (s ∷ ss) same (lfs, start, after, at, is, b, more)
-    (lfs', start', after', at', is', c, more') (v, have) (v', have') =
-    let gaps = blank_once lfs lfs' start start' (front_of number start r after b) (front_of number start' s after' c)
-    (sym at ∙ at') in
-    let places : r.place ≡ s.place = is ∙ ap (λ (k : ℕ). place + k) gaps.0 ∙ sym is' in
-    let b' = subst (λ (t : List ℕ). BeginsWithRecord number t r after) gaps.1 b in
-    let versions = version_once number before start' r s after after' v v' b' c in
-    let one = record_once number start' r s after after' places versions b' c in
-    let ends : s.place + length (record_text s) ≡ r.place + length (record_text r) = ap
-    (λ (d : DumpRecord). d.place + length (record_text d)) (sym one.0) in
-    let moved = subst (λ (k : ℕ). IsCutInto (number + 1) k after ss y) ends
-    (subst (λ (t : List ℕ). IsCutInto (number + 1) (s.place + length (record_text s)) t ss y) (sym one.1) more') in
-    let have_same = subst (λ (w : ℕ). HaveVersions w ss) (sym versions) have' in
+cut_once number place before text x y (r ∷ rs) (s ∷ ss) same cut cut' have have' =
+    let (after, one, more, more', versions) = first_once number place before text x y r s rs ss cut cut' have have' in
     let rest = cut_once (number + 1) (r.place + length (record_text r)) r.version after x y rs ss (omega arith)
-    more moved have have_same in
-    (λ i. one.0 i ∷ rest i)
+    more more' have.1 versions in
+    (λ i. one i ∷ rest i)
 
 -- two lists of as many records that a dump begins with are the same
 pub begins_once : (dump : List ℕ) (rs ss : List DumpRecord) → length rs ≡ length ss → BeginsWithRecords dump rs
@@ -88,7 +72,7 @@ cut_within size number place text x y (r ∷ all) (s ∷ ss) e (lfs, start, afte
     let gaps = blank_once lfs lfs' start start' (front_of number start r after b) (front_of number start' s after' c)
     (sym at ∙ at') in
     let places : r.place ≡ s.place = is ∙ ap (λ (k : ℕ). place + k) gaps.0 ∙ sym is' in
-    let one = parts_once number start' r s after after'
+    let one = parts_once number number start' r s after after'
     (subst (λ (t : List ℕ). BeginsWithRecord number t r after) gaps.1 b) c in
     let sizes : length (record_text r) ≡ length (record_text s) =
     λ i. length (block_text (one.0 i) ++ one.1 i ++ one.2 i) in

@@ -1,5 +1,5 @@
 -- A dump has at most one list of records.
-use Rattle.dump_records.proofs.Prelude.{◌≡◌, ◌≢◌, ◌⊎◌, ℕ, ◌+◌, ◌<◌, refl, sym, ◌∙◌, ap, subst, Bool, true, false, ◌&&◌, not, List, [], ◌∷◌, ◌++◌, length, arith, append_assoc, length-append, inl, inr, ◌==◌, if◌then◌else◌, first_true, second_true, neither_below, FaultKind, fault_code, IsLeastFault, block_text, BeginsWithBlock, block_once, block_front, block_some, split_by_length, blank_once, version_from, property_length, text_length, has_bad_kind, has_bad_version, has_bad_number, has_bad_lengths, DumpRecord, record_text, BeginsWithRecord, is_lawful, HoldsOfText, IsCutFault, Ending, IsCutInto, HaveVersions, HasEnding, HasRecords, NoRecordBeginsAnother}
+use Rattle.dump_records.proofs.Prelude.{◌≡◌, ◌≢◌, ◌⊎◌, ℕ, ◌+◌, ◌<◌, refl, sym, ◌∙◌, ap, subst, Bool, true, false, not, List, [], ◌∷◌, ◌++◌, length, arith, append_assoc, length-append, inl, inr, ◌==◌, if◌then◌else◌, and_parts, neither_below, FaultKind, fault_code, IsLeastFault, block_text, starts_with_lf, BeginsWithBlock, block_once, block_front, block_some, split_by_length, blank_once, version_from, property_length, text_length, has_bad_kind, has_bad_version, has_bad_number, has_bad_lengths, DumpRecord, record_text, BeginsWithRecord, is_lawful, HoldsOfText, IsCutFault, Ending, IsCutInto, HaveVersions, HasEnding, HasRecords, NoRecordBeginsAnother}
 use Rattle.dump_text.specs.declared.fault.FaultKind.TheVariants as faults
 use Rattle.dump_text.specs.HeaderLine as line
 
@@ -20,18 +20,23 @@ begins number text r after b = record {
       ∙ append_assoc (block_text r.headers) r.props (r.text ++ after);
 }
 
+-- a text that begins with a record doesn't begin with an LF
+pub front_of : (number : ℕ) (text : List ℕ) (r : DumpRecord) (after : List ℕ) → BeginsWithRecord number text r after
+    → starts_with_lf text ≡ false
+front_of number text r after b = block_front text r.headers (content r after) (begins number text r after b)
+
 -- records of the same place, version, lines, properties and text are the same
 pub record-eq : (r s : DumpRecord) → r.place ≡ s.place → r.version ≡ s.version → r.headers ≡ s.headers
     → r.props ≡ s.props → r.text ≡ s.text → r ≡ s
 record-eq r s p v h q t = λ i. record { place = p i; version = v i; headers = h i; props = q i; text = t i }
 
 -- a text begins with the parts of at most one record
-pub parts_once : (number : ℕ) (text : List ℕ) (r s : DumpRecord) (x y : List ℕ)
-    → BeginsWithRecord number text r x → BeginsWithRecord number text s y
+pub parts_once : (number other : ℕ) (text : List ℕ) (r s : DumpRecord) (x y : List ℕ)
+    → BeginsWithRecord number text r x → BeginsWithRecord other text s y
     → (r.headers ≡ s.headers) × (r.props ≡ s.props) × (r.text ≡ s.text) × (x ≡ y)
-parts_once number text r s x y b c =
+parts_once number other text r s x y b c =
     let blocks = block_once text r.headers s.headers (content r x) (content s y) (begins number text r x b)
-    (begins number text s y c) in
+    (begins other text s y c) in
     let contents = split_by_length r.props s.props (r.text ++ x) (s.text ++ y)
     (b.props_fit ∙ ap property_length blocks.0 ∙ sym c.props_fit) blocks.1 in
     let texts = split_by_length r.text s.text x y (b.text_fits ∙ ap text_length blocks.0
@@ -43,7 +48,7 @@ pub record_once : (number : ℕ) (text : List ℕ) (r s : DumpRecord) (x y : Lis
     → r.place ≡ s.place → r.version ≡ s.version
     → BeginsWithRecord number text r x → BeginsWithRecord number text s y → (r ≡ s) × (x ≡ y)
 record_once number text r s x y place version b c =
-    let same = parts_once number text r s x y b c in
+    let same = parts_once number number text r s x y b c in
     (record-eq r s place version same.0 same.1 same.2, same.3)
 
 -- where one version was in force before, one is for the record at the front of a text
@@ -51,7 +56,7 @@ pub version_once : (number before : ℕ) (text : List ℕ) (r s : DumpRecord) (x
     → r.version ≡ version_from before r.headers → s.version ≡ version_from before s.headers
     → BeginsWithRecord number text r x → BeginsWithRecord number text s y → r.version ≡ s.version
 version_once number before text r s x y is is' b c =
-    is ∙ ap (version_from before) (parts_once number text r s x y b c).0 ∙ sym is'
+    is ∙ ap (version_from before) (parts_once number number text r s x y b c).0 ∙ sym is'
 
 -- what a lawful block's lines don't break
 pub record Keeps (number : ℕ) (headers : List line.Header) : Type 0 where
@@ -63,17 +68,14 @@ pub record Keeps (number : ℕ) (headers : List line.Header) : Type 0 where
 -- a lawful block breaks none of the rules
 pub keeps : (number : ℕ) (headers : List line.Header) → is_lawful number headers ≡ true → Keeps number headers
 keeps number headers e =
-    let k = not (has_bad_kind headers) in
-    let v = not (has_bad_version number headers) in
-    let n = not (has_bad_number headers) in
-    let l = not (has_bad_lengths headers) in
-    let three = first_true (k && v && n) l e in
-    let two = first_true (k && v) n three in
+    let four = and_parts _ (not (has_bad_lengths headers)) e in
+    let three = and_parts _ (not (has_bad_number headers)) four.0 in
+    let two = and_parts (not (has_bad_kind headers)) (not (has_bad_version number headers)) three.0 in
     record {
-      kind = clash (has_bad_kind headers) (first_true k v two);
-      version = clash (has_bad_version number headers) (second_true k v two);
-      number_ok = clash (has_bad_number headers) (second_true (k && v) n three);
-      lengths = clash (has_bad_lengths headers) (second_true (k && v && n) l e);
+      kind = clash (has_bad_kind headers) two.0;
+      version = clash (has_bad_version number headers) two.1;
+      number_ok = clash (has_bad_number headers) three.1;
+      lengths = clash (has_bad_lengths headers) four.1;
     }
 
 module _ (number : ℕ) (text : List ℕ) (r : DumpRecord) (after : List ℕ) (b : BeginsWithRecord number text r after) where
@@ -104,15 +106,7 @@ module _ (number : ℕ) (text : List ℕ) (r : DumpRecord) (after : List ℕ) (b
   none_holds faults.Lengths (headers, x, c, bad) = (keeps number r.headers b.lawful).lengths
       (ap has_bad_lengths (sym (same headers x c).0) ∙ bad)
   none_holds faults.ContentCut (headers, x, c, short) = enough x headers (same headers x c).0 (same headers x c).1 short
-  none_holds faults.Order h = h
-  none_holds faults.Props h = h
-  none_holds faults.Md5 h = h
-  none_holds faults.Sha1 h = h
-  none_holds faults.CopySource h = h
-  none_holds faults.CopyRevision h = h
-  none_holds faults.MergeInfo h = h
-  none_holds faults.MergeSource h = h
-  none_holds faults.MergeRange h = h
+  none_holds kind h = h
 
 -- the kind with this number
 kind_of_code : ℕ → FaultKind
@@ -127,21 +121,7 @@ kind_of_code n =
 decoded : (kind : FaultKind) → kind_of_code (fault_code kind) ≡ kind
 unfolding kind_of_code
 decoded faults.HeaderCut = refl
-decoded faults.Header = refl
-decoded faults.Kind = refl
-decoded faults.Version = refl
-decoded faults.Number = refl
-decoded faults.Lengths = refl
-decoded faults.ContentCut = refl
-decoded faults.Order = refl
-decoded faults.Props = refl
-decoded faults.Md5 = refl
-decoded faults.Sha1 = refl
-decoded faults.CopySource = refl
-decoded faults.CopyRevision = refl
-decoded faults.MergeInfo = refl
-decoded faults.MergeSource = refl
-decoded faults.MergeRange = refl
+decoded kind = refl
 
 -- a number is that of one fault
 pub code_once : (a b : FaultKind) → fault_code a ≡ fault_code b → a ≡ b
@@ -185,6 +165,29 @@ goes_on size count x Ending.Whole r after b a =
     (begins count x r after b))
 goes_on size count x (Ending.Broken fault place) r after b a = none_holds count x r after b fault a.2.holds
 
+-- the first records of two lists of one text are one, and the others are cut from one text
+pub first_once : (number place before : ℕ) (text x y : List ℕ) (r s : DumpRecord) (rs ss : List DumpRecord)
+    → IsCutInto number place text (r ∷ rs) x → IsCutInto number place text (s ∷ ss) y
+    → HaveVersions before (r ∷ rs) → HaveVersions before (s ∷ ss)
+    → (after : List ℕ) × (r ≡ s) × IsCutInto (number + 1) (r.place + length (record_text r)) after rs x
+    × IsCutInto (number + 1) (r.place + length (record_text r)) after ss y × HaveVersions r.version ss
+first_once number place before text x y r s rs ss (lfs, start, after, at, is, b, more)
+    (lfs', start', after', at', is', c, more') (v, have) (v', have') =
+    let gaps = blank_once lfs lfs' start start' (front_of number start r after b) (front_of number start' s after' c)
+    (sym at ∙ at') in
+    let places : r.place ≡ s.place = is ∙ ap (λ (k : ℕ). place + k) gaps.0 ∙ sym is' in
+    let b' = subst (λ (t : List ℕ). BeginsWithRecord number t r after) gaps.1 b in
+    let versions = version_once number before start' r s after after' v v' b' c in
+    let one = record_once number start' r s after after' places versions b' c in
+    let ends = subst (λ (d : DumpRecord). IsCutInto (number + 1) (d.place + length (record_text d)) after' ss y)
+    (sym one.0) more' in (
+      after,
+      one.0,
+      more,
+      subst (λ (t : List ℕ). IsCutInto (number + 1) (r.place + length (record_text r)) t ss y) (sym one.1) ends,
+      subst (λ (w : ℕ). HaveVersions w ss) (sym versions) have',
+    )
+
 -- two lists of records of one text, which end, are one
 cuts_once : (size number place before count other : ℕ) (text : List ℕ) (rs ss : List DumpRecord) (x y : List ℕ)
     (e f : Ending) → count ≡ number + length rs → other ≡ number + length ss
@@ -198,35 +201,21 @@ cuts_once size number place before count other text [] [] x y e f n m (lfs, at, 
     (refl, ends_once size count x y e f same.1 a (subst (λ (k : ℕ). EndsWith size k y f) counts b))
 cuts_once size number place before count other text [] (s ∷ ss) x y e f n m (lfs, at, front)
     (lfs', start, after, at', is, b, more) have have' a z =
-    let same = blank_once lfs lfs' x start front (block_front start s.headers (content s after)
-    (begins number start s after b)) (sym at ∙ at') in
+    let same = blank_once lfs lfs' x start front (front_of number start s after b) (sym at ∙ at') in
     let counts : number ≡ count = omega arith in
     absurd (goes_on size count x e s after (subst (λ (k : ℕ). BeginsWithRecord k x s after) counts
     (subst (λ (t : List ℕ). BeginsWithRecord number t s after) (sym same.1) b)) a)
 cuts_once size number place before count other text (r ∷ rs) [] x y e f n m (lfs, start, after, at, is, b, more)
     (lfs', at', front') have have' a z =
-    let same = blank_once lfs lfs' start y (block_front start r.headers (content r after)
-    (begins number start r after b)) front' (sym at ∙ at') in
+    let same = blank_once lfs lfs' start y (front_of number start r after b) front' (sym at ∙ at') in
     let counts : number ≡ other = omega arith in
     absurd (goes_on size other y f r after (subst (λ (k : ℕ). BeginsWithRecord k y r after) counts
     (subst (λ (t : List ℕ). BeginsWithRecord number t r after) same.1 b)) z)
-cuts_once size number place before count other text (r ∷ rs) (s ∷ ss) x y e f n m
-    (lfs, start, after, at, is, b, more) (lfs', start', after', at', is', c, more') (v, have) (v', have') a z =
-    let same = blank_once lfs lfs' start start' (block_front start r.headers (content r after)
-    (begins number start r after b)) (block_front start' s.headers (content s after')
-    (begins number start' s after' c)) (sym at ∙ at') in
-    let places : r.place ≡ s.place = is ∙ ap (λ (k : ℕ). place + k) same.0 ∙ sym is' in
-    let b' = subst (λ (t : List ℕ). BeginsWithRecord number t r after) same.1 b in
-    let versions = version_once number before start' r s after after' v v' b' c in
-    let one = record_once number start' r s after after' places versions b' c in
-    let ends : s.place + length (record_text s) ≡ r.place + length (record_text r) = ap
-    (λ (d : DumpRecord). d.place + length (record_text d)) (sym one.0) in
-    let moved = subst (λ (k : ℕ). IsCutInto (number + 1) k after ss y) ends
-    (subst (λ (t : List ℕ). IsCutInto (number + 1) (s.place + length (record_text s)) t ss y) (sym one.1) more') in
-    let have_same = subst (λ (w : ℕ). HaveVersions w ss) (sym versions) have' in
+cuts_once size number place before count other text (r ∷ rs) (s ∷ ss) x y e f n m cut cut' have have' a z =
+    let (after, one, more, more', versions) = first_once number place before text x y r s rs ss cut cut' have have' in
     let rest = cuts_once size (number + 1) (r.place + length (record_text r)) r.version count other after rs ss x y e f
-    (omega arith) (omega arith) more moved have have_same a z in
-    ((λ i. one.0 i ∷ rest.0 i), rest.1)
+    (omega arith) (omega arith) more more' have.1 versions a z in
+    ((λ i. one i ∷ rest.0 i), rest.1)
 
 -- how a list of records ends is told by its length and the dump's
 pub ending_of : (dump : List ℕ) (records : List DumpRecord) (rest : List ℕ) (e : Ending) → HasEnding dump records rest e
@@ -253,8 +242,4 @@ no_record_begins_another m n r s more b c e =
       text_fits = b.text_fits;
       spelled = e;
     } in
-    let blocks = block_once (record_text s) r.headers s.headers (content r more) (content s [])
-    (begins m (record_text s) r more longer) (begins n (record_text s) s [] c) in
-    let contents = split_by_length r.props s.props (r.text ++ more) (s.text ++ [])
-    (b.props_fit ∙ ap property_length blocks.0 ∙ sym c.props_fit) blocks.1 in
-    (split_by_length r.text s.text more [] (b.text_fits ∙ ap text_length blocks.0 ∙ sym c.text_fits) contents.1).1
+    (parts_once m n (record_text s) r s more [] longer c).3

@@ -11,16 +11,14 @@ use Rattle.dump_rules.proofs.PrefixLemmas.{slash_behind}
 -- a slash at a place of a path
 
 slash_at : (n : ℕ) (path : List ℕ) → has_slash_first (drop n path) ≡ true → (n < length path) × (get_or path n 0 ≡ 47)
-slash_at zero [] some = let bad : false ≡ true = some in cc
 slash_at zero (b ∷ path) some = grind (arith, nat_tests)
-slash_at (suc n) [] some = let bad : false ≡ true = some in cc
 slash_at (suc n) (b ∷ path) some = let behind = slash_at n path some in (omega arith, behind.1)
+slash_at n path some = let bad : false ≡ true = some in cc
 
 slash_first : (n : ℕ) (path : List ℕ) → n < length path → get_or path n 0 ≡ 47 → has_slash_first (drop n path) ≡ true
-slash_first zero [] low is = absurd (omega arith)
 slash_first zero (b ∷ path) low is = grind (arith, nat_tests)
-slash_first (suc n) [] low is = absurd (omega arith)
 slash_first (suc n) (b ∷ path) low is = slash_first n path (omega arith) is
+slash_first n path low is = absurd (omega arith)
 
 -- one prefix
 

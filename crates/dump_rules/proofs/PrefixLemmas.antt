@@ -1,12 +1,8 @@
 -- A prefix and a slash at the front of a path.
-use Rattle.dump_rules.proofs.Prelude.{◌≡◌, ℕ, Bool, true, false, ◌&&◌, ◌||◌, List, [], ◌∷◌, ◌++◌, take, drop, length, map, nat_eq, bytes_eq, refl, ap, ◌∙◌, arith, starts_with, list_any, and-true, has_slash_first}
+use Rattle.dump_rules.proofs.Prelude.{◌≡◌, ℕ, Bool, ◌&&◌, ◌||◌, List, [], ◌∷◌, ◌++◌, take, drop, length, map, nat_eq, bytes_eq, refl, sym, ap, ◌∙◌, arith, starts_with, list_any, and-true, and_assoc, has_slash_first}
 
 eq_sym : (a b : ℕ) → nat_eq a b ≡ nat_eq b a
 eq_sym a b = grind arith
-
-and_assoc : (a b c : Bool) → (a && (b && c)) ≡ ((a && b) && c)
-and_assoc true b c = refl
-and_assoc false b c = refl
 
 -- a path begins with a prefix and a slash where it begins with the prefix and a slash comes next
 pub slash_behind : (prefix path : List ℕ)
@@ -19,7 +15,7 @@ slash_behind (a ∷ prefix) (b ∷ path) =
     ap (λ t. nat_eq a b && t) (slash_behind prefix path)
     ∙ ap (λ t. t && (bytes_eq (take (length prefix) path) prefix && has_slash_first (drop (length prefix) path)))
     (eq_sym a b)
-    ∙ and_assoc (nat_eq b a) (bytes_eq (take (length prefix) path) prefix) (has_slash_first (drop (length prefix) path))
+    ∙ sym (and_assoc (nat_eq b a) (bytes_eq (take (length prefix) path) prefix) _)
 
 -- a mapped list has an element that passes where the list has one whose image passes
 pub any_mapped : {X Y : Type 0} (f : X → Y) (p : Y → Bool) (xs : List X) → list_any p (map f xs) ≡ list_any

@@ -235,13 +235,12 @@ from_first first (k ∷ numbers) up (suc j) d within =
     omega arith
 
 rises : (first : ℕ) (numbers : List ℕ) → RiseFrom first numbers → IsNonDecreasing numbers
-rises first [] up i j d under within = absurd (omega arith)
 rises first (k ∷ numbers) up zero zero d under within = omega arith
 rises first (k ∷ numbers) up zero (suc j) d under within =
     let later = from_first (k + 1) numbers up.1 j d (omega arith) in omega arith
-rises first (k ∷ numbers) up (suc i) zero d under within = absurd (omega arith)
 rises first (k ∷ numbers) up (suc i) (suc j) d under within = rises (k + 1) numbers up.1 i j d (omega arith)
     (omega arith)
+rises first numbers up i j d under within = absurd (omega arith)
 
 -- what a search asks of the kept numbers
 pub parted_from_rise : (first n : ℕ) (numbers : List ℕ) → RiseFrom first numbers

@@ -1,9 +1,9 @@
 -- A block, from the lines that a scan finds.
-use Rattle.dump_text.proofs.Prelude.{◌≡◌, ℕ, zero, suc, ◌+◌, ◌-◌, ◌<◌, ◌≤◌, nat_lt, nat_le, Bool, true, false, not, ◌&&◌, ◌||◌, List, [], ◌∷◌, ◌++◌, take, drop, length, slice_range, refl, sym, ap, ◌∙◌, subst, arith, length-append, bytes_eq, is_some, if◌then◌else◌, codes, list_all, list_any, take_at, drop_at, append-nil, length-drop, length-take, length-take-le, drop-drop, drop-take, take-take, sum_by-cons, sum_by-append, list_all-append, flat_map-append, bytes_eq-Decides, known_names, is_header, header_text, is_named, has_header, header_value, count_named, is_block, lines_bytes, block_text, BeginsWithBlock, HasBlock, headers_of, AreHeaderLines, IsBlockBetween, IsPartBetween, may_follow, IsLinesEnd, IsBlockEnd, HasLines}
+use Rattle.dump_text.proofs.Prelude.{◌≡◌, ℕ, zero, suc, ◌+◌, ◌-◌, ◌<◌, ◌≤◌, nat_lt, nat_le, Bool, true, false, not, ◌&&◌, ◌||◌, List, [], ◌∷◌, ◌++◌, take, drop, length, slice_range, refl, sym, ap, ◌∙◌, inl, inr, subst, arith, length-append, bytes_eq, is_some, if◌then◌else◌, codes, list_all, list_any, take_at, drop_at, append-nil, length-drop, length-take, length-take-le, drop-drop, drop-take, take-take, sum_by-cons, sum_by-append, list_all-append, flat_map-append, and_parts, cases_Bool, bytes_eq-Decides, known_names, is_header, is_named, has_header, header_value, count_named, is_block, lines_bytes, block_text, BeginsWithBlock, HasBlock, headers_of, AreHeaderLines, IsBlockBetween, IsPartBetween, may_follow, IsLinesEnd, IsBlockEnd, HasLines}
 use Rattle.std.proofs.Common.{append_assoc}
 use Rattle.dump_text.specs.HeaderLine as line
 use Rattle.dump_text.proofs.Unique.{lines_once, lawful_lines, ended}
-use Rattle.dump_text.proofs.BoolLemmas.{first_true, second_true, absurd_bool}
+use Rattle.dump_text.proofs.BoolLemmas.{first_true, absurd_bool}
 use Rattle.dump_text.proofs.ScanLemmas.{headers_of-lines, lines_behind}
 
 -- whether each of these names stands at most once
@@ -24,7 +24,7 @@ has_count name (h ∷ hs) =
   where
     sum : (b : Bool) (n : ℕ) → (b || nat_lt 0 n) ≡ nat_lt 0 ((if b then 1 else 0) + n)
     sum true n = grind arith
-    sum false n = grind arith
+    sum b n = grind arith
 
 -- one more line keeps a name at most once where it isn't of this name or no other line is
 one_name : (name : List ℕ) (h : line.Header) (hs : List line.Header)
@@ -89,11 +89,9 @@ once_front : (names : List (List ℕ)) (xs ys : List line.Header) → counts_onc
     → counts_once names xs ≡ true
 once_front [] xs ys once = refl
 once_front (name ∷ names) xs ys once =
-    let first = first_true (nat_le (count_named name (xs ++ ys)) 1) (counts_once names (xs ++ ys)) once in
-    let few : nat_le (count_named name xs) 1 ≡ true = let sum = count_append name xs ys in grind (arith, first, sum) in
-    let more = once_front names xs ys (second_true (nat_le (count_named name (xs ++ ys)) 1)
-    (counts_once names (xs ++ ys)) once) in
-    rw (few, more) refl
+    let parts = and_parts (nat_le (count_named name (xs ++ ys)) 1) (counts_once names (xs ++ ys)) once in
+    let few : nat_le (count_named name xs) 1 ≡ true = grind (arith, parts.0, count_append name xs ys) in
+    rw (few, once_front names xs ys parts.1) refl
 
 -- the lines that a scan found are those of each block that stands there
 same_lines : (text rest : List ℕ) (hs : List line.Header) (size : ℕ) → IsLinesEnd text size
@@ -153,15 +151,14 @@ no_block-once text others hs all is twice (ks, rest, b) =
     ∙ append_assoc (lines_bytes hs) (lines_bytes more) (10 ∷ rest)
     ∙ ap (λ t. lines_bytes hs ++ t) (sym left) ∙ sym is ∙ spelled in
     let same = (lines_once (hs ++ more) ks rest rest both all' whole).0 in
-    let once = second_true (nat_lt 0 (length ks) && list_all is_header ks) (counts_once known_names ks) b.block in
+    let once = (and_parts _ (counts_once known_names ks) b.block).1 in
     absurd_bool _ (once_front known_names hs more (ap (counts_once known_names) same ∙ once)) twice
 
 -- where the empty line comes first, no block begins
 pub no_block-empty : (text : List ℕ) (size : ℕ) → IsLinesEnd text size → size ≤ 0 → ¬ HasBlock text
 no_block-empty text size found none (hs, rest, b) =
     let same = same_lines text rest hs size found b in
-    let some = first_true (nat_lt 0 (length hs)) (list_all is_header hs)
-    (first_true (nat_lt 0 (length hs) && list_all is_header hs) (counts_once known_names hs) b.block) in
+    let some = first_true (nat_lt 0 (length hs)) _ (first_true _ (counts_once known_names hs) b.block) in
     let zero_is : size ≡ 0 = omega arith in
     let empty : hs ≡ [] = same ∙ ap (λ n. headers_of (take n text)) zero_is in
     let bad : true ≡ false = sym some ∙ ap (λ (g : List line.Header). nat_lt 0 (length g)) empty in
@@ -171,6 +168,19 @@ no_block-empty text size found none (hs, rest, b) =
 pub no_block-lines : (text : List ℕ) → ¬ HasLines text → ¬ HasBlock text
 no_block-lines text none (hs, rest, b) =
     none (hs, rest, lawful_lines hs b.block, b.spelled ∙ append_assoc (lines_bytes hs) (10 ∷ []) rest)
+
+-- a block takes the bytes from its place up to its end
+pub block_size : (dump : List ℕ) (place after : ℕ) → IsBlockBetween dump place after
+    → place + length (block_text (headers_of (slice_range dump place after))) ≡ after
+block_size dump place after stands =
+    let hs = headers_of (slice_range dump place after) in
+    let b = stands.block in
+    let inside = stands.inside in
+    let sizes = ap length b.spelled ∙ length-append (block_text hs) (drop after dump) in
+    let size = length-append (lines_bytes hs) (10 ∷ []) in
+    let whole = length-drop place dump in
+    let behind = length-drop after dump in
+    omega arith
 
 -- the bytes of a block's lines in its dump
 pub record LinesOf (dump : List ℕ) (place after : ℕ) (text : List ℕ) : Type 0 where
@@ -183,12 +193,9 @@ pub lines_of : (dump : List ℕ) (place after : ℕ) → IsBlockBetween dump pla
 lines_of dump place after stands =
     let hs = headers_of (slice_range dump place after) in
     let b = stands.block in
-    let inside = stands.inside in
     let all = lawful_lines hs b.block in
-    let sizes = ap length b.spelled ∙ length-append (block_text hs) (drop after dump) in
-    let size = length-append (lines_bytes hs) (10 ∷ []) in
-    let whole = length-drop place dump in
-    let behind = length-drop after dump in
+    let size = block_size dump place after stands in
+    let line = length-append (lines_bytes hs) (10 ∷ []) in
     let count : length (lines_bytes hs) ≡ after - 1 - place = omega arith in
     let is : take (after - 1 - place) (drop place dump) ≡ lines_bytes hs =
     ap (take (after - 1 - place)) (b.spelled ∙ append_assoc (lines_bytes hs) (10 ∷ []) (drop after dump))
@@ -252,38 +259,18 @@ pub block_bytes : (dump : List ℕ) (place after : ℕ) → IsBlockBetween dump 
     → slice_range dump place after ≡ block_text (headers_of (slice_range dump place after))
 block_bytes dump place after stands =
     let text = block_text (headers_of (slice_range dump place after)) in
-    let b = stands.block in
-    let inside = stands.inside in
-    let sizes = ap length b.spelled ∙ length-append text (drop after dump) in
-    let size = length-append (lines_bytes (headers_of (slice_range dump place after))) (10 ∷ []) in
-    let whole = length-drop place dump in
-    let behind = length-drop after dump in
+    let size = block_size dump place after stands in
     let count : length text ≡ after - place = omega arith in
-    ap (take (after - place)) b.spelled ∙ take_at text (drop after dump) (after - place) count
-
--- a block takes the bytes from its place up to its end
-pub block_size : (dump : List ℕ) (place after : ℕ) → IsBlockBetween dump place after
-    → place + length (block_text (headers_of (slice_range dump place after))) ≡ after
-block_size dump place after stands =
-    let hs = headers_of (slice_range dump place after) in
-    let b = stands.block in
-    let inside = stands.inside in
-    let sizes = ap length b.spelled ∙ length-append (block_text hs) (drop after dump) in
-    let size = length-append (lines_bytes hs) (10 ∷ []) in
-    let whole = length-drop place dump in
-    let behind = length-drop after dump in
-    omega arith
+    ap (take (after - place)) stands.block.spelled ∙ take_at text (drop after dump) (after - place) count
 
 -- a name has a line where it has a value
 pub has_value : (name : List ℕ) (headers : List line.Header)
     → is_some (header_value name headers) ≡ has_header name headers
 has_value name [] = refl
-has_value name (h ∷ headers) = cases (is_named name h) refl (has_value name headers)
-  where
-    cases : (b : Bool) → is_named name h ≡ b → is_some (header_value name headers) ≡ has_header name headers
-        → is_some (header_value name (h ∷ headers)) ≡ has_header name (h ∷ headers)
-    cases true is more = rw is refl
-    cases false is more = rw is more
+has_value name (h ∷ headers) = elim (cases_Bool (is_named name h)) [
+  | inl is ↦ rw is refl
+  | inr is ↦ rw is (has_value name headers)
+]
 
 -- a block at a place, from one at the front of the text there
 pub block_there : (dump text : List ℕ) (place size : ℕ) → text ≡ drop place dump → place ≤ length dump

@@ -28,14 +28,12 @@ not_true false h = refl
 
 -- nothing is both true and false
 pub absurd_bool : (b : Bool) → b ≡ true → b ≡ false → ⊥
-absurd_bool true t f = cc
-absurd_bool false t f = cc
+absurd_bool b t f = cc
 
 -- where the first and the second hold, both hold
 pub both_true : (a b : Bool) → a ≡ true → b ≡ true → (a && b) ≡ true
 both_true true true t u = refl
-both_true true false t u = cc
-both_true false b t u = cc
+both_true a b t u = cc
 
 -- of what is false the denial is true
 pub not_false : (a : Bool) → a ≡ false → not a ≡ true

@@ -1,8 +1,7 @@
 -- A part of an entry, a letter and a length and that many bytes, stands at the front of a text in one way.
-use Rattle.dump_text.proofs.Prelude.{◌≡◌, ℕ, ◌<◌, ◌^◌, nat_lt, nat_le, Bool, true, false, ◌&&◌, ◌==◌, List, [], ◌∷◌, ◌++◌, ◌+◌, get_or, drop, length, length-append, refl, sym, ap, ◌∙◌, arith, Option, Some, None, if◌then◌else◌, list_all, is_ascii_digit, digits_value, AllDigits, decimal_is_IsNumeral, length-decimal-le, drop_at, get_or-drop, digit_from_value, has_byte, is_number, number_of, spelled_number, sized_text, IsFirstLine, IsSized, HasSized, IsLetter}
+use Rattle.dump_text.proofs.Prelude.{◌≡◌, ℕ, ◌<◌, ◌^◌, nat_lt, nat_le, Bool, true, false, ◌==◌, List, [], ◌∷◌, ◌++◌, ◌+◌, get_or, drop, length, length-append, refl, sym, ap, ◌∙◌, arith, Option, Some, None, if◌then◌else◌, list_all, is_ascii_digit, digits_value, AllDigits, and_parts, decimal_is_IsNumeral, length-decimal-le, drop_at, get_or-drop, digit_from_value, has_byte, is_number, number_of, spelled_number, sized_text, IsFirstLine, IsSized, HasSized, IsLetter}
 use Rattle.std.proofs.Common.{append_assoc}
 use Rattle.dump_text.proofs.Unique.{tail-eq, split_once, split_by_length}
-use Rattle.dump_text.proofs.BoolLemmas.{first_true, second_true}
 
 -- the digits spell a number, and none of them is LF
 pub record Spells (digits : List ℕ) (n : ℕ) : Type 0 where
@@ -12,10 +11,9 @@ pub record Spells (digits : List ℕ) (n : ℕ) : Type 0 where
 no_lf : (digits : List ℕ) → list_all is_ascii_digit digits ≡ true → has_byte 10 digits ≡ false
 no_lf [] all = refl
 no_lf (c ∷ digits) all =
-    let one = first_true (is_ascii_digit c) (list_all is_ascii_digit digits) all in
-    let other : (c == 10) ≡ false = grind (arith, one) in
-    let more = no_lf digits (second_true (is_ascii_digit c) (list_all is_ascii_digit digits) all) in
-    rw (other, more) refl
+    let parts = and_parts (is_ascii_digit c) (list_all is_ascii_digit digits) all in
+    let other : (c == 10) ≡ false = grind (arith, parts.0) in
+    rw other (no_lf digits parts.1)
 
 some_eq : (m n : ℕ) → Path (Option ℕ) (Some m) (Some n) → m ≡ n
 some_eq m n e = cc
@@ -26,8 +24,7 @@ number_spells digits n e =
     elim (is_number digits) as (λ (b : Bool). is_number digits ≡ b
     → (if b then Some (digits_value 10 digits) else None) ≡ Some n → Spells digits n) [
       | true ↦ λ is read. record {
-        one_line = no_lf digits (second_true (nat_lt 0 (length digits) && nat_le (length digits) 18)
-            (list_all is_ascii_digit digits) is);
+        one_line = no_lf digits (and_parts _ (list_all is_ascii_digit digits) is).1;
         value = some_eq _ _ read;
       }
       | false ↦ λ is read. cc
@@ -38,8 +35,7 @@ ascii_digits [] all = refl
 ascii_digits (c ∷ digits) all =
     let range = digit_from_value c all.0 in
     let one : is_ascii_digit c ≡ true = grind (arith, range) in
-    let more = ascii_digits digits all.1 in
-    rw (one, more) refl
+    rw one (ascii_digits digits all.1)
 
 -- the digits that are written spell their number
 pub spelled_spells : (n : ℕ) → n < 2 ^ 64 → Spells (spelled_number n) n

@@ -1,8 +1,7 @@
 -- Where the value of a line stands in its dump.
-use Rattle.dump_text.proofs.Prelude.{◌≡◌, ℕ, ◌+◌, ◌-◌, ◌<◌, ◌==◌, false, List, [], ◌∷◌, ◌++◌, take, drop, length, refl, sym, ap, ◌∙◌, arith, length-append, Some, before_first, position_or_len, take_at, drop_at, take_all, ne_eqb, has_byte, IsFirstLine, IsCutAtColon, IsSpanOf}
+use Rattle.dump_text.proofs.Prelude.{◌≡◌, ℕ, ◌+◌, ◌-◌, ◌<◌, ◌==◌, false, List, [], ◌∷◌, ◌++◌, take, drop, length, refl, sym, ap, ◌∙◌, arith, length-append, Some, before_first, take_at, drop_at, take_all, ne_eqb, has_byte, IsFirstLine, IsCutAtColon, IsSpanOf}
 use Rattle.std.proofs.Common.{append_assoc}
-use Rattle.dump_text.proofs.BoolLemmas.{first_false, second_false}
-use Rattle.dump_text.proofs.ScanLemmas.{position_at, back_lacks}
+use Rattle.dump_text.proofs.ScanLemmas.{nowhere, position_at, back_lacks}
 
 -- a text is its first line, where an LF ends that
 pub line_before : (whole rest : List ℕ) → has_byte 10 whole ≡ false
@@ -12,14 +11,7 @@ line_before whole rest none =
 
 -- and where no LF is in it
 pub line_whole : (text : List ℕ) → has_byte 10 text ≡ false → before_first (λ b. b == 10) text ≡ text
-line_whole text none = let at = nowhere text none in take_all _ text (omega arith)
-  where
-    nowhere : (text : List ℕ) → has_byte 10 text ≡ false → position_or_len (λ b. b == 10) text ≡ length text
-    nowhere [] none = refl
-    nowhere (c ∷ text) none =
-        let no = first_false (c == 10) (has_byte 10 text) none in
-        let more = nowhere text (second_false (c == 10) (has_byte 10 text) none) in
-        rw no (ap (λ n. 1 + n) more ∙ omega arith)
+line_whole text none = let at = nowhere 10 text none in take_all _ text (omega arith)
 
 -- the dump that ends with a value, an LF and other bytes is longer than these
 pub front_size : (dump value behind front : List ℕ) → dump ≡ front ++ (value ++ 10 ∷ behind)

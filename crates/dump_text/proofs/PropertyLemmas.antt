@@ -1,5 +1,5 @@
 -- Property blocks are cut into entries in one way.
-use Rattle.dump_text.proofs.Prelude.{◌≡◌, ◌↔◌, ◌⊎◌, ℕ, ◌<◌, ◌&&◌, ◌||◌, Bool, true, false, List, [], ◌∷◌, ◌++◌, get_or, length, lit<, refl, sym, ap, ◌∙◌, subst, arith, Option, Some, None, is_some, is_none, if◌then◌else◌, inl, inr, codes, bytes_eq, same_Some, and-false, ∥∥₁_elim, Coded-set, coded_list, coded_ℕ, append-nil, Property, sized_text, IsEntry, AreEntries, IsPropertyBlock, block_end, has_deletes, HasPropertyChanges, property_value, IsPartBetween, Parts, Entry, entry_property, Set, Deleted, IsSized, HasSized, HasEntry, HasEntries, IsEntryOf, parts_property, parts_rest}
+use Rattle.dump_text.proofs.Prelude.{◌≡◌, ◌↔◌, ◌⊎◌, ℕ, ◌<◌, ◌&&◌, ◌||◌, Bool, true, false, List, [], ◌∷◌, ◌++◌, get_or, length, lit<, refl, sym, ap, ◌∙◌, subst, arith, Option, Some, None, is_some, is_none, if◌then◌else◌, inl, inr, codes, bytes_eq, same_Some, and-false, or_assoc, ∥∥₁_elim, Coded-set, coded_list, coded_ℕ, append-nil, Property, sized_text, IsEntry, AreEntries, IsPropertyBlock, block_end, has_deletes, HasPropertyChanges, property_value, IsPartBetween, Parts, Entry, entry_property, Set, Deleted, IsSized, HasSized, HasEntry, HasEntries, IsEntryOf, parts_property, parts_rest}
 use Rattle.std.proofs.Common.{append_assoc}
 use Rattle.dump_text.proofs.BlockLemmas.{part_of_part}
 use Rattle.dump_text.proofs.PartLemmas.{sized_cut, part_once, part_inside}
@@ -221,12 +221,8 @@ deletes_step ps deletes text p rest e (qs, all, is) =
       left.others,
       left.entries,
       is ∙ ap (λ (l : List Property). deletes || has_deletes l) left.list
-          ∙ moved deletes (is_none p.value) (has_deletes left.others),
+          ∙ sym (or_assoc deletes (is_none p.value) (has_deletes left.others)),
     )
-  where
-    moved : (a b c : Bool) → (a || (b || c)) ≡ ((a || b) || c)
-    moved true b c = refl
-    moved false b c = refl
 
 -- an entry is gone where its property has no value
 pub gone_is : (e : Entry) (p : Property) → entry_property e ≡ p → e.gone ≡ is_none p.value

@@ -1,5 +1,5 @@
 -- A text is cut at a byte in one way, and so into header lines.
-use Rattle.dump_text.proofs.Prelude.{◌≡◌, ℕ, suc, ◌+◌, ◌-◌, ◌<◌, ◌≤◌, nat_lt, Bool, true, false, ◌||◌, ◌==◌, List, [], ◌∷◌, ◌++◌, take, drop, map, filter, length, get_or, slice_index, refl, sym, ap, ◌∙◌, arith, length-append, codes, Option, Some, None, position, list_all, position_or_len, All, take-append-drop, drop_more, get_or-take, get_or-drop, length-drop, length-take-le, take_at, drop_at, append-nil, flat_map_more, nil_from_length, All-cons, position-Some, position_or_len_is, fails_before_first, slice_split_at, eqb-true, or_right, nat_tests, list_all-append, has_byte, header_text, is_header, lines_bytes, starts_with_lf, has_empty_line, header_of, headers_of, AreHeaderLines, IsFirstAt, IsFirstLine, IsCutAtColon, IsNoHeader, IsLinesEnd}
+use Rattle.dump_text.proofs.Prelude.{◌≡◌, ℕ, suc, ◌+◌, ◌-◌, ◌<◌, ◌≤◌, nat_lt, true, false, ◌||◌, ◌==◌, List, [], ◌∷◌, ◌++◌, take, drop, map, filter, length, get_or, slice_index, refl, sym, ap, ◌∙◌, arith, length-append, codes, Option, Some, None, position, list_all, position_or_len, All, take-append-drop, drop_more, get_or-take, get_or-drop, length-drop, length-take-le, take_at, drop_at, append-nil, flat_map_more, nil_from_length, All-cons, position-Some, position_or_len_is, fails_before_first, slice_split_at, eqb-true, or_from, or_right, nat_tests, list_all-append, has_byte, header_text, is_header, lines_bytes, starts_with_lf, has_empty_line, header_of, headers_of, AreHeaderLines, IsFirstAt, IsFirstLine, IsCutAtColon, IsNoHeader, IsLinesEnd}
 use Rattle.std.proofs.Common.{append_assoc}
 use Rattle.memchr.specs.Find.{IsFirstByte, is_byte}
 use Rattle.dump_text.proofs.BoolLemmas.{equals_itself as same, absurd_bool, not_so, first_true, first_false, second_false}
@@ -10,15 +10,8 @@ use Rattle.dump_text.proofs.Unique.{split_once, Lawful, lawful, text_no_lf, regr
 pub lacks : (b : ℕ) (text : List ℕ) → ((k : ℕ) → k < length text → (slice_index text k == b) ≡ true → ⊥)
     → has_byte b text ≡ false
 lacks b [] none = refl
-lacks b (c ∷ text) none = lacks_cons b c text (none 0 (omega arith))
+lacks b (c ∷ text) none = or_from _ _ (not_so (c == b) (none 0 (omega arith)))
     (lacks b text (λ k small is. none (suc k) (omega arith) is))
-  where
-    lacks_cons : (b c : ℕ) (text : List ℕ) → ((c == b) ≡ true → ⊥) → has_byte b text ≡ false
-        → has_byte b (c ∷ text) ≡ false
-    lacks_cons b c text head tail = elim (c == b) as (λ (v : Bool). (v ≡ true → ⊥) → (v || has_byte b text) ≡ false) [
-      | true ↦ λ bad. absurd (bad refl)
-      | false ↦ λ bad. tail
-    ] head
 
 -- a byte that stands behind a front is in the text
 pub has_at : (b : ℕ) (front rest : List ℕ) → has_byte b (front ++ b ∷ rest) ≡ true
@@ -50,14 +43,9 @@ pub no_place : (b : ℕ) (text : List ℕ) → None ≡ position (λ c. c == b) 
 no_place b text is = lacks b text (λ k small here. absurd_bool (get_or text k 0 == b) here (other k small))
   where
     other : (k : ℕ) → k < length text → (get_or text k 0 == b) ≡ false
-    other k small = by_inside (nat_lt (position_or_len (λ c. c == b) text) (length text)) refl
-      where
-        by_inside : (t : Bool) → nat_lt (position_or_len (λ c. c == b) text) (length text) ≡ t
-            → (get_or text k 0 == b) ≡ false
-        by_inside true e = let bad : None ≡ Some (position_or_len (λ c. c == b) text) = is ∙ rw e refl in cc
-        by_inside false e =
-            let over : length text ≤ position_or_len (λ c. c == b) text = grind (arith, nat_tests) in
-            fails_before_first (λ c. c == b) text k 0 (omega arith)
+    other k small =
+        let over : length text ≤ position_or_len (λ c. c == b) text = grind (arith, nat_tests) in
+        fails_before_first (λ c. c == b) text k 0 (omega arith)
 
 -- and its place is that where it stands first
 pub at_place : (b : ℕ) (text : List ℕ) (k : ℕ) → Some k ≡ position (λ c. c == b) text → IsFirstAt b text k
@@ -112,11 +100,17 @@ header_of-text name value none =
     ∙ drop_at (name ++ 58 ∷ []) (32 ∷ value) (length name + 1) (length-append name (58 ∷ [])) in
     header-is _ _ _ _ front (ap (drop 1) back)
 
-none_all : (b : ℕ) (text : List ℕ) → has_byte b text ≡ false → All (λ (c : ℕ). (c == b) ≡ false) text
+-- each byte of a text that lacks the byte is another
+pub none_all : (b : ℕ) (text : List ℕ) → has_byte b text ≡ false → All (λ (c : ℕ). (c == b) ≡ false) text
 none_all b [] none = λ k d small. absurd (omega arith)
 none_all b (c ∷ text) none =
     All-cons (λ (x : ℕ). (x == b) ≡ false) c text (first_false (c == b) (has_byte b text) none)
     (none_all b text (second_false (c == b) (has_byte b text) none))
+
+-- a byte that a text lacks is sought up to its end
+pub nowhere : (b : ℕ) (text : List ℕ) → has_byte b text ≡ false → position_or_len (λ c. c == b) text ≡ length text
+nowhere b text none = position_or_len_is (λ c. c == b) text (length text) 0 (omega arith)
+    (λ k small. none_all b text none k 0 small) (λ under. absurd (omega arith))
 
 -- the lines of a text, after its first one
 pub headers_of-cons : (whole rest : List ℕ) → nat_lt 0 (length whole) ≡ true → has_byte 10 whole ≡ false
@@ -192,14 +186,11 @@ first_header (h ∷ hs) text whole rest all is first =
       first = h;
       others = hs;
       list = refl;
-      good = first_of h hs all;
+      good = first_true (is_header h) (list_all is_header hs) all;
       text = cut.0;
       all = all_rest h hs all;
       left = cut.1;
     }
-  where
-    first_of : (h : line.Header) (hs : List line.Header) → list_all is_header (h ∷ hs) ≡ true → is_header h ≡ true
-    first_of h hs all = first_true (is_header h) (list_all is_header hs) all
 
 -- no lines are left where no LF is
 pub no_lines : (hs : List line.Header) (text : List ℕ) → text ≡ lines_bytes hs → has_byte 10 text ≡ false → hs ≡ []
@@ -222,9 +213,7 @@ lines_left hs whole rest f =
 pub front_lacks : (b : ℕ) (x y : List ℕ) → has_byte b (x ++ y) ≡ false → has_byte b x ≡ false
 front_lacks b [] y none = refl
 front_lacks b (c ∷ x) y none =
-    let no = first_false (c == b) (has_byte b (x ++ y)) none in
-    let more = front_lacks b x y (second_false (c == b) (has_byte b (x ++ y)) none) in
-    rw (no, more) refl
+    rw (first_false (c == b) _ none) (front_lacks b x y (second_false (c == b) _ none))
 
 -- a byte that a text lacks is not in its back
 pub back_lacks : (b : ℕ) (x y : List ℕ) → has_byte b (x ++ y) ≡ false → has_byte b y ≡ false
@@ -273,18 +262,14 @@ colon_at h whole k good is at =
 pub empty_line-none : (text : List ℕ) → has_byte 10 text ≡ false → has_empty_line text ≡ false
 empty_line-none [] none = refl
 empty_line-none (c ∷ text) none =
-    let no = first_false (c == 10) (has_byte 10 text) none in
-    let more = empty_line-none text (second_false (c == 10) (has_byte 10 text) none) in
-    rw (no, more) refl
+    rw (first_false (c == 10) _ none) (empty_line-none text (second_false (c == 10) _ none))
 
 -- behind a line the empty line begins the rest, or stands in it
 pub empty_line-step : (whole rest : List ℕ) → has_byte 10 whole ≡ false → has_empty_line (whole ++ 10 ∷ rest) ≡
     (starts_with_lf rest || has_empty_line rest)
 empty_line-step [] rest none = refl
 empty_line-step (c ∷ whole) rest none =
-    let no = first_false (c == 10) (has_byte 10 whole) none in
-    let more = empty_line-step whole rest (second_false (c == 10) (has_byte 10 whole) none) in
-    rw no more
+    rw (first_false (c == 10) _ none) (empty_line-step whole rest (second_false (c == 10) _ none))
 
 -- the lines of a text, by its first one
 pub headers_step : (text whole rest name value : List ℕ) → IsFirstLine text whole rest → IsCutAtColon whole name value

@@ -1,6 +1,6 @@
 -- The digits of a number, beside those that are written of it: they are the same but for leading zeros.
-use Rattle.dump_text.proofs.Prelude.{rules, ◌≡◌, ℕ, ◌<◌, ◌≤◌, ◌^◌, nat_lt, nat_le, Bool, true, false, not, ◌&&◌, ◌==◌, List, get_or, length, bytes_eq, decimal, Option, Some, None, if◌then◌else◌, sym, ap, ◌∙◌, refl, arith, zero, suc, list_all, is_ascii_digit, digits_value, decimal_digit, decimal-digits_value, first_decimal, IsNumeralModel, IsDigitsTest, numerals_by_value, digits_value_short, bytes_eq-Decides, is_number, number_of, spelled_number}
-use Rattle.dump_text.proofs.BoolLemmas.{first_true, second_true, not_so}
+use Rattle.dump_text.proofs.Prelude.{rules, ◌≡◌, ℕ, ◌<◌, ◌≤◌, ◌^◌, nat_lt, nat_le, Bool, true, false, not, ◌==◌, List, get_or, length, bytes_eq, decimal, Option, Some, None, if◌then◌else◌, sym, ap, ◌∙◌, refl, arith, zero, suc, list_all, is_ascii_digit, digits_value, decimal_digit, decimal-digits_value, first_decimal, IsNumeralModel, IsDigitsTest, numerals_by_value, digits_value_short, and_parts, bytes_eq-Decides, is_number, number_of, spelled_number}
+use Rattle.dump_text.proofs.BoolLemmas.{not_so}
 
 digits_test : IsDigitsTest (λ ds. list_all is_ascii_digit ds ≡ true)
 digits_test = search rules
@@ -29,12 +29,8 @@ is_read digits n e =
 
     parts : is_number digits ≡ true → digits_value 10 digits ≡ n → IsRead digits n
     parts is value =
-        let sizes = first_true (nat_lt 0 (length digits) && nat_le (length digits) 18)
-        (list_all is_ascii_digit digits) is in
-        let all = second_true (nat_lt 0 (length digits) && nat_le (length digits) 18)
-        (list_all is_ascii_digit digits) is in
-        let some = first_true (nat_lt 0 (length digits)) (nat_le (length digits) 18) sizes in
-        let few = second_true (nat_lt 0 (length digits)) (nat_le (length digits) 18) sizes in
+        let (sizes, all) = and_parts _ (list_all is_ascii_digit digits) is in
+        let (some, few) = and_parts (nat_lt 0 (length digits)) (nat_le (length digits) 18) sizes in
         let at_most : length digits ≤ 18 = grind (arith, few) in
         let short = digits_value_short numerals digits 18 all at_most in
         record { some = grind (arith, some); few = at_most; all = all; value = value; small = omega (arith, short, value) }

@@ -1,5 +1,5 @@
 -- A text begins with at most one block.
-use Rattle.dump_text.proofs.Prelude.{◌≡◌, ℕ, zero, suc, nat_lt, refl, sym, ◌∙◌, ap, subst, true, false, ◌&&◌, not, ◌==◌, List, [], ◌∷◌, ◌++◌, length, codes, arith, length-append, flat_map, nat_le, replicate, not-true, or_right, list_all, known_names, has_byte, header_text, is_header, is_block, block_text, starts_with_lf, has_empty_line, BeginsWithBlock}
+use Rattle.dump_text.proofs.Prelude.{◌≡◌, ℕ, zero, suc, nat_lt, refl, sym, ◌∙◌, ap, subst, true, false, ◌&&◌, not, ◌==◌, List, [], ◌∷◌, ◌++◌, length, codes, arith, length-append, flat_map, nat_le, replicate, and_parts, not-true, or_right, list_all, known_names, has_byte, header_text, is_header, is_block, block_text, starts_with_lf, has_empty_line, BeginsWithBlock}
 use Rattle.std.proofs.Common.{append_assoc}
 use Rattle.dump_text.proofs.BoolLemmas.{first_true, second_true, first_false, second_false}
 use Rattle.dump_text.specs.HeaderLine as line
@@ -39,17 +39,14 @@ pub record Lawful (h : line.Header) : Type 0 where
 -- a header that may stand in a block lacks what would break its line
 pub lawful : (h : line.Header) → is_header h ≡ true → Lawful h
 lawful h e =
-    let last = second_true (nat_lt 0 (length h.name) && not (has_byte 58 h.name) && not (has_byte 10 h.name))
-    (not (has_byte 10 h.value)) e in
-    let three = first_true (nat_lt 0 (length h.name) && not (has_byte 58 h.name) && not (has_byte 10 h.name))
-    (not (has_byte 10 h.value)) e in
-    let third = second_true (nat_lt 0 (length h.name) && not (has_byte 58 h.name)) (not (has_byte 10 h.name)) three in
-    let two = first_true (nat_lt 0 (length h.name) && not (has_byte 58 h.name)) (not (has_byte 10 h.name)) three in
+    let four = and_parts _ (not (has_byte 10 h.value)) e in
+    let three = and_parts _ (not (has_byte 10 h.name)) four.0 in
+    let two = and_parts (nat_lt 0 (length h.name)) (not (has_byte 58 h.name)) three.0 in
     record {
-      some = first_true (nat_lt 0 (length h.name)) (not (has_byte 58 h.name)) two;
-      no_colon = not-true (has_byte 58 h.name) (second_true (nat_lt 0 (length h.name)) (not (has_byte 58 h.name)) two);
-      no_lf = not-true (has_byte 10 h.name) third;
-      value_no_lf = not-true (has_byte 10 h.value) last;
+      some = two.0;
+      no_colon = not-true (has_byte 58 h.name) two.1;
+      no_lf = not-true (has_byte 10 h.name) three.1;
+      value_no_lf = not-true (has_byte 10 h.value) four.1;
     }
 
 -- a byte that two texts lack is not in both together
@@ -57,9 +54,7 @@ pub has_byte-append : (c : ℕ) (xs ys : List ℕ) → has_byte c xs ≡ false �
     → has_byte c (xs ++ ys) ≡ false
 has_byte-append c [] ys nx ny = ny
 has_byte-append c (x ∷ xs) ys nx ny =
-    let first = first_false (x == c) (has_byte c xs) nx in
-    let rest = has_byte-append c xs ys (second_false (x == c) (has_byte c xs) nx) ny in
-    rw (first, rest) refl
+    rw (first_false (x == c) _ nx) (has_byte-append c xs ys (second_false (x == c) _ nx) ny)
 
 -- a lawful header line has no LF
 pub text_no_lf : (h : line.Header) → Lawful h → has_byte 10 (header_text h) ≡ false
@@ -125,8 +120,7 @@ lines_once (h ∷ hs) (k ∷ ks) x y l m e =
 pub lawful_lines : (headers : List line.Header) → is_block headers ≡ true → list_all is_header headers ≡ true
 lawful_lines headers e =
     second_true (nat_lt 0 (length headers)) (list_all is_header headers)
-    (first_true (nat_lt 0 (length headers) && list_all is_header headers)
-    (list_all (λ name. nat_le (line.count_named name headers) 1) known_names) e)
+    (first_true _ (list_all (λ name. nat_le (line.count_named name headers) 1) known_names) e)
 
 -- a text begins with at most one block
 pub block_once : (text : List ℕ) (hs ks : List line.Header) (x y : List ℕ) → BeginsWithBlock text hs x

@@ -1,5 +1,5 @@
 -- The values of the known names among header lines, line by line.
-use Rattle.dump_text.proofs.Prelude.{◌≡◌, ◌≢◌, ℕ, zero, suc, replicate, ◌<◌, ◌==◌, not, ◌&&◌, Bool, true, false, List, [], ◌∷◌, ◌++◌, length, refl, sym, ap, ◌∙◌, arith, subst, bytes_eq, Option, Some, None, is_some, Bor, slice_index_or, slice_set, slice_range, none-some, same_Some, option_copied, IfSome, eqb-true, eqb-false, get_or-set_other, get_or-set_same, bytes_eq-Decides, HeaderName, name_text, name_place, known_name, noted_span, AreValues, may_follow, is_named, has_header, header_value, lines_bytes, headers_between, IsBlockBetween, IsPartBetween, is_known, is_there, no_span, value_at, IsSpanOf, ValuePlace, ValueSpan}
+use Rattle.dump_text.proofs.Prelude.{◌≡◌, ◌≢◌, ℕ, zero, suc, replicate, ◌<◌, ◌==◌, not, ◌&&◌, Bool, true, false, List, [], ◌∷◌, ◌++◌, length, refl, sym, ap, ◌∙◌, inl, inr, arith, subst, bytes_eq, Option, Some, None, is_some, Bor, slice_index_or, slice_set, slice_range, none-some, same_Some, option_copied, IfSome, cases_Bool, eqb-true, eqb-false, get_or-set_other, get_or-set_same, bytes_eq-Decides, HeaderName, name_text, name_place, known_name, noted_span, AreValues, may_follow, is_named, has_header, header_value, lines_bytes, headers_between, IsBlockBetween, IsPartBetween, is_known, is_there, no_span, value_at, IsSpanOf, ValuePlace, ValueSpan}
 use denote.Enum.Declared.{tag_of}
 use Rattle.dump_text.specs.contracts.names.HeaderName as enum
 use Rattle.dump_text.specs.HeaderLine as line
@@ -15,11 +15,7 @@ some_copied (Some x) = refl
 
 -- a place has a value where it says so
 pub place_has : (dump : List ℕ) (place : ValuePlace) → is_there place ≡ is_some (value_at dump place)
-place_has dump place = cases (is_there place) refl
-  where
-    cases : (b : Bool) → is_there place ≡ b → is_there place ≡ is_some (value_at dump place)
-    cases true is = rw is refl
-    cases false is = rw is refl
+place_has dump place = elim (cases_Bool (is_there place)) [ inl is ↦ rw is refl | inr is ↦ rw is refl ]
 
 -- no value is noted before the first line
 pub none_noted : (dump : List ℕ) (count : ℕ) → AreValues dump [] (replicate count no_span)
@@ -37,12 +33,10 @@ none_noted dump count name = subst (λ span. IsSpanOf dump span None) (sym (all_
 value_other : (name : List ℕ) (hs : List line.Header) (h : line.Header) → is_named name h ≡ false
     → header_value name (hs ++ h ∷ []) ≡ header_value name hs
 value_other name [] h other = rw other refl
-value_other name (g ∷ hs) h other = cases (is_named name g) refl (value_other name hs h other)
-  where
-    cases : (b : Bool) → is_named name g ≡ b → header_value name (hs ++ h ∷ []) ≡ header_value name hs
-        → header_value name (g ∷ (hs ++ h ∷ [])) ≡ header_value name (g ∷ hs)
-    cases true is more = rw is refl
-    cases false is more = rw is more
+value_other name (g ∷ hs) h other = elim (cases_Bool (is_named name g)) [
+  | inl is ↦ rw is refl
+  | inr is ↦ rw is (value_other name hs h other)
+]
 
 -- the first line of a name gives its value
 value_first : (name : List ℕ) (hs : List line.Header) (h : line.Header) → has_header name hs ≡ false
@@ -50,9 +44,7 @@ value_first : (name : List ℕ) (hs : List line.Header) (h : line.Header) → ha
     → header_value name (hs ++ h ∷ []) ≡ Some h.value
 value_first name [] h none is = rw is refl
 value_first name (g ∷ hs) h none is =
-    let no = first_false (is_named name g) (has_header name hs) none in
-    let more = value_first name hs h (second_false (is_named name g) (has_header name hs) none) is in
-    rw no more
+    rw (first_false (is_named name g) _ none) (value_first name hs h (second_false (is_named name g) _ none) is)
 
 -- the line of a name and value
 abbrev pub line_of : List ℕ → List ℕ → line.Header
@@ -151,19 +143,15 @@ value_lent dump place after stands name value is =
     in_lines : (hs : List line.Header) (tail : List ℕ) → IsPartBetween dump place after (lines_bytes hs ++ tail)
         → header_value name hs ≡ Some value → IsPartBetween dump place after value
     in_lines [] tail part is = cc
-    in_lines (h ∷ hs) tail part is = cases (is_named name h) refl (λ left here. in_lines hs tail left here)
-      where
-        cases : (b : Bool) → is_named name h ≡ b
-            → (IsPartBetween dump place after (lines_bytes hs ++ tail) → header_value name hs ≡ Some value
-            → IsPartBetween dump place after value)
-            → IsPartBetween dump place after value
-        cases true here more =
-            subst (IsPartBetween dump place after) (same_Some h.value value (rw here at is))
-            (value_between dump place after _ (line.header_text h) h.name h.value (lines_bytes hs ++ tail) part
-            (regroup h hs tail) refl)
-        cases false other more =
-            more (rest_between dump place after _ (line.header_text h) (lines_bytes hs ++ tail) part
-            (regroup h hs tail)) (rw other at is)
+    in_lines (h ∷ hs) tail part is = elim (cases_Bool (is_named name h)) [
+      | inl here ↦
+          subst (IsPartBetween dump place after) (same_Some h.value value (rw here at is))
+          (value_between dump place after _ (line.header_text h) h.name h.value (lines_bytes hs ++ tail) part
+          (regroup h hs tail) refl)
+      | inr other ↦
+          in_lines hs tail (rest_between dump place after _ (line.header_text h) (lines_bytes hs ++ tail) part
+          (regroup h hs tail)) (rw other at is)
+    ]
 
 -- what holds of a copied value holds of the value
 pub if_copied : (r : Option (Bor (List ℕ))) (P : List ℕ → Type 0)

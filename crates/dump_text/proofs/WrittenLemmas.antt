@@ -1,7 +1,7 @@
 -- A property block as it is written: which texts are one, and that it is read again as its list.
-use Rattle.dump_text.proofs.Prelude.{◌≡◌, ◌↔◌, ◌⊎◌, ℕ, ◌<◌, ◌^◌, ◌&&◌, Bool, true, false, List, [], ◌∷◌, ◌++◌, get_or, length, lit<, flat_map, refl, sym, ap, ◌∙◌, subst, arith, Option, Some, None, inl, inr, codes, bytes_eq, same_Some, none-some, All, All-nil, All-cons, All-head, All-tail, bytes_eq-Decides, spelled_number, Property, sized_text, IsEntry, AreEntries, IsPropertyBlock, block_end, change_text, entry_text, property_block_text, HasPropertyChanges, Parts, Set, Deleted, IsSized, IsEntryOf, IsWritten, parts_property, parts_rest, is_shortest, are_shortest}
+use Rattle.dump_text.proofs.Prelude.{◌≡◌, ◌↔◌, ◌⊎◌, ℕ, ◌<◌, ◌^◌, ◌&&◌, Bool, true, false, List, [], ◌∷◌, ◌++◌, get_or, length, lit<, flat_map, refl, sym, ap, ◌∙◌, subst, arith, Option, Some, None, inl, inr, codes, bytes_eq, same_Some, none-some, All, All-nil, All-cons, All-head, All-tail, same_from_decides, bytes_eq-Decides, spelled_number, Property, sized_text, IsEntry, AreEntries, IsPropertyBlock, block_end, change_text, entry_text, property_block_text, HasPropertyChanges, Parts, Set, Deleted, IsSized, IsEntryOf, IsWritten, parts_property, parts_rest, is_shortest, are_shortest}
 use Rattle.std.proofs.Common.{append_assoc}
-use Rattle.dump_text.proofs.BoolLemmas.{absurd_bool, first_true, second_true, both_true}
+use Rattle.dump_text.proofs.BoolLemmas.{not_so, first_true, second_true, both_true}
 use Rattle.dump_text.proofs.PartLemmas.{number_spells, spelled_spells, number_of-spelled, sized_once, part_inside}
 use Rattle.dump_text.proofs.PropertyLemmas.{EntryParts, entry_parts, scanned_parts, entry_shorter, property-eq, apart, begins_with, no_entry-end}
 
@@ -234,26 +234,15 @@ written_list text ps qs small (inr all) is = lists text ps qs small all is
 pub spelled_is : (text : List ℕ) (spelled : Bool) → length text < 2 ^ 64 → (spelled ≡ true → IsWritten text)
     → (IsWritten text → spelled ≡ true)
     → (ps : List Property) → IsPropertyBlock text ps → spelled ≡ bytes_eq text (property_block_text ps)
-spelled_is text spelled small to from ps is = cases spelled refl (bytes_eq text (property_block_text ps)) refl
-  where
-    equal : (bytes_eq text (property_block_text ps) ≡ true) ↔ (text ≡ property_block_text ps)
-    equal = bytes_eq-Decides text (property_block_text ps)
-
-    cases : (s : Bool) → spelled ≡ s → (b : Bool) → bytes_eq text (property_block_text ps) ≡ b → s ≡ b
-    cases true so true same = refl
-    cases false so false same = refl
-    cases true so false same =
-        let (qs, at) = to so in
-        absurd (absurd_bool _ (equal.1 (at ∙ ap property_block_text (sym (written_list text ps qs small is at)))) same)
-    cases false so true same = absurd (absurd_bool spelled (from (ps, equal.0 same)) so)
+spelled_is text spelled small to from ps is = same_from_decides {P = text ≡ property_block_text ps} spelled _ (
+  λ so. let (qs, at) = to so in at ∙ ap property_block_text (sym (written_list text ps qs small is at)),
+  λ same. from (ps, same),
+) (bytes_eq-Decides text (property_block_text ps))
 
 -- no bytes are no property block as it is written
 pub none_spelled : (text : List ℕ) → text ≡ [] → (ps : List Property) → false ≡ bytes_eq text (property_block_text ps)
-none_spelled text none ps = cases (bytes_eq text (property_block_text ps)) refl
-  where
-    cases : (b : Bool) → bytes_eq text (property_block_text ps) ≡ b → false ≡ b
-    cases true same = absurd (no_text ps (sym none ∙ (bytes_eq-Decides text (property_block_text ps)).0 same))
-    cases false same = refl
+none_spelled text none ps = sym (not_so _ (λ same.
+    no_text ps (sym none ∙ (bytes_eq-Decides text (property_block_text ps)).0 same)))
 
 -- and the other way: what is known by the list holds of the bytes
 pub written_is : (text : List ℕ) (spelled : Bool) → length text < 2 ^ 64 → HasPropertyChanges text

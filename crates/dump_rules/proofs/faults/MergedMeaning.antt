@@ -1,5 +1,6 @@
 -- What values of mergeinfo say together: whether each is mergeinfo, a source is missing, a number is foreign.
-use Rattle.dump_rules.proofs.Prelude.{◌≡◌, ℕ, ◌-◌, ◌^◌, ◌<◌, Bool, true, false, not, ◌&&◌, ◌||◌, nat_lt, min, max, List, [], ◌∷◌, refl, sym, ap, ◌∙◌, arith, Some, None, Option, IfSome, is_some, list_all, list_any, nat_tests, Bounds, Merged, Settings, keeps_path, Range, range_of, range_parts, line_reads, lines_read, value_reads, without_lf, line_list, line_path, text_lines, line_misses, range_foreign, part_foreign, list_foreign, line_foreign, value_misses, value_foreign, widened, widened_by, parts_bounds, list_bounds, is_outside, no_bounds, nothing_merged, line_said, lines_merged, text_merged}
+use Rattle.dump_rules.proofs.Prelude.{◌≡◌, ℕ, ◌-◌, ◌^◌, ◌<◌, Bool, true, false, not, ◌&&◌, ◌||◌, nat_lt, min, max, List, [], ◌∷◌, refl, sym, ap, ◌∙◌, arith, Some, None, Option, IfSome, is_some, list_all, list_any, nat_tests, inl, inr, cases_Bool, le-ltb, and-false, and-or_distrib_left, and-true, or-false, or_assoc, Bounds, Merged, Settings, keeps_path, Range, range_of, range_parts, line_reads, lines_read, value_reads, without_lf, line_list, line_path, text_lines, line_misses, range_foreign, part_foreign, list_foreign, line_foreign, value_misses, value_foreign, widened, widened_by, parts_bounds, list_bounds, is_outside, no_bounds, line_said, lines_merged, text_merged}
+use Rattle.dump_rules.proofs.reading.BlockLemmas.{crossed}
 
 -- the bounds of numbers
 
@@ -10,37 +11,15 @@ lesser_below : (a b first : ℕ) → nat_lt (min a b) first ≡ (nat_lt a first 
 lesser_below a b first = grind (arith, nat_tests)
 
 two_of_each : (a b c d k : Bool) → ((a || b) || (k && (c || d))) ≡ ((a || (k && c)) || (b || (k && d)))
-two_of_each true b c d k = refl
-two_of_each false true c d true = either c
-  where
-    either : (c : Bool) → true ≡ (c || true)
-    either true = refl
-    either false = refl
-two_of_each false true c d false = refl
-two_of_each false false c d true = refl
-two_of_each false false c d false = refl
+two_of_each a b c d k = ap (λ t. (a || b) || t) (and-or_distrib_left k c d) ∙ crossed a b (k && c) (k && d)
 
 -- truth values
 
--- false behind an or changes nothing
-pub or_false : (a : Bool) → a ≡ (a || false)
-or_false true = refl
-or_false false = refl
-
--- an or of three doesn't depend on where the brackets stand
-pub or_or : (a b c : Bool) → ((a || b) || c) ≡ (a || (b || c))
-or_or true b c = refl
-or_or false b c = refl
-
 none : (a r : Bool) → a ≡ (a || (r && false))
-none true r = refl
-none false true = refl
-none false false = refl
+none a r = sym (ap (λ t. a || t) (and-false r) ∙ or-false a)
 
 spread : (a r x y : Bool) → ((a || (r && x)) || (r && y)) ≡ (a || (r && (x || y)))
-spread true r x y = refl
-spread false true x y = refl
-spread false false x y = refl
+spread a r x y = or_assoc a (r && x) (r && y) ∙ ap (λ t. a || t) (sym (and-or_distrib_left r x y))
 
 module _ (s : Settings) (first now : ℕ) where
   outside_widened : (b : Bounds) (r : Range)
@@ -52,21 +31,21 @@ module _ (s : Settings) (first now : ℕ) where
 
   outside_part : (bounds : Bounds) (o : Option Range)
       → is_outside s first now (widened_by bounds o) ≡ (is_outside s first now bounds || part_foreign s first now o)
-  outside_part bounds None = or_false (is_outside s first now bounds)
+  outside_part bounds None = sym (or-false (is_outside s first now bounds))
   outside_part bounds (Some r) = outside_widened bounds r
 
   outside_parts : (bounds : Bounds) (parts : List (List ℕ)) → is_outside s first now (parts_bounds bounds parts)
       ≡ (is_outside s first now bounds || list_any (λ part. part_foreign s first now (range_of part)) parts)
-  outside_parts bounds [] = or_false (is_outside s first now bounds)
+  outside_parts bounds [] = sym (or-false (is_outside s first now bounds))
   outside_parts bounds (part ∷ parts) =
       outside_parts (widened_by bounds (range_of part)) parts
       ∙ ap (λ b. b || list_any (λ p. part_foreign s first now (range_of p)) parts) (outside_part bounds (range_of part))
-      ∙ or_or (is_outside s first now bounds) (part_foreign s first now (range_of part))
+      ∙ or_assoc (is_outside s first now bounds) (part_foreign s first now (range_of part))
       (list_any (λ p. part_foreign s first now (range_of p)) parts)
 
   outside_list : (bounds : Bounds) (list : List ℕ) → is_outside s first now (list_bounds bounds list)
       ≡ (is_outside s first now bounds || list_foreign s first now list)
-  outside_list bounds [] = or_false (is_outside s first now bounds)
+  outside_list bounds [] = sym (or-false (is_outside s first now bounds))
   outside_list bounds (b ∷ list) = outside_parts bounds (range_parts (b ∷ list))
 
   outside_line : (said : Merged) (line : List ℕ) → is_outside s first now (line_said s said line).numbers
@@ -77,7 +56,7 @@ module _ (s : Settings) (first now : ℕ) where
           → is_outside s first now (line_said s said line).numbers
           ≡ (is_outside s first now said.numbers || (s.renumber && line_foreign s first now line))
       by_kept true e true f = rw (e, f) (outside_list said.numbers (line_list line))
-      by_kept true e false f = rw (e, f) (or_false (is_outside s first now said.numbers))
+      by_kept true e false f = rw (e, f) (sym (or-false (is_outside s first now said.numbers)))
       by_kept false e r f = rw e (none (is_outside s first now said.numbers) s.renumber)
 
   outside_lines : (said last : Merged) (lines : List (List ℕ)) → lines_merged s said lines ≡ Some last
@@ -89,20 +68,14 @@ module _ (s : Settings) (first now : ℕ) where
       outside_of : Option Merged → Bool
       outside_of None = false
       outside_of (Some m) = is_outside s first now m.numbers
-  outside_lines said last (line ∷ lines) is =
-      by_line (outside_lines (line_said s said line) last lines) (line_reads line) refl
-    where
-      by_line : (lines_merged s (line_said s said line) lines ≡ Some last → is_outside s first now last.numbers
-          ≡ (is_outside s first now (line_said s said line).numbers ||
-          (s.renumber && list_any (line_foreign s first now) lines)))
-          → (b : Bool) → line_reads line ≡ b → is_outside s first now last.numbers
-          ≡ (is_outside s first now said.numbers || (s.renumber && list_any (line_foreign s first now) (line ∷ lines)))
-      by_line later false e = let bad : Path (Option Merged) None (Some last) = rw e at is in cc
-      by_line later true e =
-          later (rw e at is)
-          ∙ ap (λ b. b || (s.renumber && list_any (line_foreign s first now) lines)) (outside_line said line)
-          ∙ spread (is_outside s first now said.numbers) s.renumber (line_foreign s first now line)
-          (list_any (line_foreign s first now) lines)
+  outside_lines said last (line ∷ lines) is = elim (cases_Bool (line_reads line)) [
+    | inl e ↦
+        outside_lines (line_said s said line) last lines (rw e at is)
+        ∙ ap (λ b. b || (s.renumber && list_any (line_foreign s first now) lines)) (outside_line said line)
+        ∙ spread (is_outside s first now said.numbers) s.renumber (line_foreign s first now line)
+        (list_any (line_foreign s first now) lines)
+    | inr e ↦ let bad : Path (Option Merged) None (Some last) = rw e at is in cc
+  ]
 
   -- a value's numbers are outside bounds where those said before are, or one of its own
   pub outside_value : (said last : Merged) (value : List ℕ) → text_merged s said value ≡ Some last
@@ -114,16 +87,11 @@ module _ (s : Settings) where
       → (line_said s said line).misses ≡ (said.misses || (not s.skip_missing && line_misses s line))
   missed_line said line = by_kept (keeps_path s (line_path line)) refl s.renumber refl
     where
-      some : (a k : Bool) → (a || k) ≡ (a || (k && true))
-      some true k = refl
-      some false true = refl
-      some false false = refl
-
       by_kept : (k : Bool) → keeps_path s (line_path line) ≡ k → (r : Bool) → s.renumber ≡ r
           → (line_said s said line).misses ≡ (said.misses || (not s.skip_missing && line_misses s line))
       by_kept true e true f = rw (e, f) (none said.misses (not s.skip_missing))
       by_kept true e false f = rw (e, f) (none said.misses (not s.skip_missing))
-      by_kept false e r f = rw e (some said.misses (not s.skip_missing))
+      by_kept false e r f = rw e (ap (λ t. said.misses || t) (sym (and-true (not s.skip_missing))))
 
   missed_lines : (said last : Merged) (lines : List (List ℕ)) → lines_merged s said lines ≡ Some last
       → last.misses ≡ (said.misses || (not s.skip_missing && list_any (line_misses s) lines))
@@ -132,18 +100,13 @@ module _ (s : Settings) where
       misses_of : Option Merged → Bool
       misses_of None = false
       misses_of (Some m) = m.misses
-  missed_lines said last (line ∷ lines) is =
-      by_line (missed_lines (line_said s said line) last lines) (line_reads line) refl
-    where
-      by_line : (lines_merged s (line_said s said line) lines ≡ Some last
-          → last.misses ≡ ((line_said s said line).misses || (not s.skip_missing && list_any (line_misses s) lines)))
-          → (b : Bool) → line_reads line ≡ b
-          → last.misses ≡ (said.misses || (not s.skip_missing && list_any (line_misses s) (line ∷ lines)))
-      by_line later false e = let bad : Path (Option Merged) None (Some last) = rw e at is in cc
-      by_line later true e =
-          later (rw e at is)
-          ∙ ap (λ b. b || (not s.skip_missing && list_any (line_misses s) lines)) (missed_line said line)
-          ∙ spread said.misses (not s.skip_missing) (line_misses s line) (list_any (line_misses s) lines)
+  missed_lines said last (line ∷ lines) is = elim (cases_Bool (line_reads line)) [
+    | inl e ↦
+        missed_lines (line_said s said line) last lines (rw e at is)
+        ∙ ap (λ b. b || (not s.skip_missing && list_any (line_misses s) lines)) (missed_line said line)
+        ∙ spread said.misses (not s.skip_missing) (line_misses s line) (list_any (line_misses s) lines)
+    | inr e ↦ let bad : Path (Option Merged) None (Some last) = rw e at is in cc
+  ]
 
   -- a source is missing where one was before, or in this value
   pub missed_value : (said last : Merged) (value : List ℕ) → text_merged s said value ≡ Some last
@@ -152,13 +115,10 @@ module _ (s : Settings) where
 
   read_lines : (said : Merged) (lines : List (List ℕ)) → is_some (lines_merged s said lines) ≡ list_all line_reads lines
   read_lines said [] = refl
-  read_lines said (line ∷ lines) = by_line (read_lines (line_said s said line) lines) (line_reads line) refl
-    where
-      by_line : is_some (lines_merged s (line_said s said line) lines) ≡ list_all line_reads lines
-          → (b : Bool) → line_reads line ≡ b
-          → is_some (lines_merged s said (line ∷ lines)) ≡ list_all line_reads (line ∷ lines)
-      by_line later true e = rw e later
-      by_line later false e = rw e refl
+  read_lines said (line ∷ lines) = elim (cases_Bool (line_reads line)) [
+    | inl e ↦ rw e (read_lines (line_said s said line) lines)
+    | inr e ↦ rw e refl
+  ]
 
   read_text : (said : Merged) (text : List ℕ) → is_some (lines_merged s said (text_lines text)) ≡ lines_read text
   read_text said [] = refl
@@ -183,30 +143,7 @@ pub said_numbers : (s : Settings) (first now : ℕ) (said : Merged) (value : Lis
 said_numbers s first now said value None is = tt
 said_numbers s first now said value (Some m) is = outside_value s first now said m value (sym is)
 
--- what the first value says alone
-pub first_sources : (s : Settings) (said last : Merged) (value : List ℕ) → said ≡ nothing_merged
-    → last.misses ≡ (said.misses || value_misses s value) → last.misses ≡ value_misses s value
-first_sources s said last value none is = is ∙ ap (λ (m : Merged). m.misses || value_misses s value) none
-
 -- no number lies outside of no bounds
 pub none_outside : (s : Settings) (first now : ℕ) → first < 2 ^ 64 → is_outside s first now no_bounds ≡ false
-none_outside s first now fits = rw (above_none, below_none) (by_skip s.skip_missing)
-  where
-    above_none : nat_lt now 0 ≡ false
-    above_none = grind (arith, nat_tests)
-
-    below_none : nat_lt (2 ^ 64 - 1) first ≡ false
-    below_none = grind (arith, nat_tests)
-
-    by_skip : (skip : Bool) → (false || (not skip && false)) ≡ false
-    by_skip true = refl
-    by_skip false = refl
-
--- where no value said anything before, a number is outside where this value has a foreign one
-pub first_numbers : (s : Settings) (first now : ℕ) (said last : Merged) (value : List ℕ) → first < 2 ^ 64
-    → said ≡ nothing_merged
-    → is_outside s first now last.numbers ≡ (is_outside s first now said.numbers || value_foreign s first now value)
-    → is_outside s first now last.numbers ≡ value_foreign s first now value
-first_numbers s first now said last value fits none is =
-    is ∙ ap (λ (m : Merged). is_outside s first now m.numbers || value_foreign s first now value) none
-    ∙ ap (λ b. b || value_foreign s first now value) (none_outside s first now fits)
+none_outside s first now fits =
+    rw (le-ltb now 0 (omega arith), le-ltb (2 ^ 64 - 1) first (omega arith)) (and-false (not s.skip_missing))

@@ -1,5 +1,5 @@
 -- Ranges in the order of their lower ends, joined, are the runs of their map.
-use Rattle.dump_rules.proofs.Prelude.{◌≡◌, ◌≢◌, ℕ, ◌+◌, ◌<◌, ◌≤◌, Bool, true, false, not, List, [], ◌∷◌, nat_le, refl, sym, subst, ◌∙◌, inl, inr, arith, nat_tests, leb_tells, and_parts, Range, HasNumber, IsConsistent, AreRuns, is_other, IsSameMap, touches, reaching, joined_from, joined, ordered_into, ordered, runs_of, HaveNumbers}
+use Rattle.dump_rules.proofs.Prelude.{◌≡◌, ◌≢◌, ℕ, ◌+◌, ◌<◌, ◌≤◌, Bool, true, false, not, List, [], ◌∷◌, nat_le, refl, sym, subst, ◌∙◌, inl, inr, arith, leb-true, leb-false, cases_Bool, leb_tells, and_parts, Range, HasNumber, IsConsistent, AreRuns, is_other, IsSameMap, touches, reaching, joined_from, joined, ordered_into, ordered, runs_of, HaveNumbers}
 use Rattle.dump_rules.proofs.new_values.Unique.{runs_once}
 
 -- the ranges have numbers, and each begins no lower than the one before
@@ -20,34 +20,28 @@ rises_rest r (s ∷ rest) up = up.2
 
 alike : (a b : Bool) → not (is_other a b) ≡ true → a ≡ b
 alike true true e = refl
-alike true false e = let bad : false ≡ true = e in cc
-alike false true e = let bad : false ≡ true = e in cc
 alike false false e = refl
+alike a b e = let bad : false ≡ true = e in cc
 
 alike_so : (a b : Bool) → a ≡ b → not (is_other a b) ≡ true
 alike_so true true e = refl
-alike_so true false e = cc
-alike_so false true e = cc
 alike_so false false e = refl
+alike_so a b e = cc
 
 clash : (a b : Bool) (ranges : List Range) (n : ℕ) → a ≢ b → IsConsistent ranges → HasNumber ranges a n
     → HasNumber ranges b n → ⊥
-clash true true ranges n other consistent one two = other refl
 clash true false ranges n other consistent one two = consistent n one two
 clash false true ranges n other consistent one two = consistent n two one
-clash false false ranges n other consistent one two = other refl
+clash a b ranges n other consistent one two = other refl
 
 touching : (r s : Range) → touches r s ≡ true → (r.inheritable ≡ s.inheritable) × (s.from ≤ r.to + 1)
 touching r s e =
     let parts = and_parts (not (is_other r.inheritable s.inheritable)) (nat_le s.from (r.to + 1)) e in
-    let near = parts.1 in
-    (alike r.inheritable s.inheritable parts.0, grind (arith, nat_tests))
+    (alike r.inheritable s.inheritable parts.0, leb-true s.from (r.to + 1) parts.1)
 
 apart : (r s : Range) → touches r s ≡ false → r.inheritable ≡ s.inheritable → r.to + 1 < s.from
 apart r s e same =
-    let kind = alike_so r.inheritable s.inheritable same in
-    let far : nat_le s.from (r.to + 1) ≡ false = rw kind at e in
-    grind (arith, nat_tests)
+    leb-false s.from (r.to + 1) (rw (alike_so r.inheritable s.inheritable same) at e)
 
 -- maps
 
@@ -161,15 +155,11 @@ are_joined r [] up consistent = record {
   first = (r, [], refl, refl, refl);
 }
 are_joined r (s ∷ rest) up consistent =
-    go (touches r s) refl (are_joined (reaching r s.to) rest)
-    (are_joined s rest up.2 (λ n one two. consistent n (inr one) (inr two)))
-  where
-    go : (t : Bool) → touches r s ≡ t
-        → (Rises (reaching r s.to ∷ rest) → IsConsistent (reaching r s.to ∷ rest) → AreJoined (reaching r s.to) rest
-        (joined_from (reaching r s.to) rest))
-        → AreJoined s rest (joined_from s rest) → AreJoined r (s ∷ rest) (joined_from r (s ∷ rest))
-    go true e one two = rw e (together r s rest up consistent e one)
-    go false e one two = rw e (separate r s rest up consistent e two)
+    elim (cases_Bool (touches r s)) [
+      | inl e ↦ rw e (together r s rest up consistent e (are_joined (reaching r s.to) rest))
+      | inr e ↦ rw e (separate r s rest up consistent e
+          (are_joined s rest up.2 (λ n one two. consistent n (inr one) (inr two))))
+    ]
 
 -- ranges that rise and don't contradict each other, joined, are runs, and mean the same map
 pub joined_runs : (ranges : List Range) → Rises ranges → IsConsistent ranges → AreRuns (joined ranges)
@@ -199,27 +189,22 @@ into_order r [] order up = record {
   same = λ kind n. (λ h. h, λ h. h);
   behind = λ low has first before. (has, first, order);
 }
-into_order r (s ∷ rest) order up = go (nat_le r.from s.from) refl (into_order r rest order (rises_rest s rest up))
-  where
-    go : (t : Bool) → nat_le r.from s.from ≡ t → AreOrdered r rest (ordered_into r rest)
-        → AreOrdered r (s ∷ rest) (ordered_into r (s ∷ rest))
-    go true e later =
-        let low : r.from ≤ s.from = grind (arith, nat_tests) in
-        rw e (record {
-          up = (order, low, up);
-          same = λ kind n. (λ h. h, λ h. h);
-          behind = λ first has under before. (has, under, (order, low, up));
-        })
-    go false e later =
-        let high : s.from ≤ r.from = grind (arith, nat_tests) in
-        let has = rises_first s rest up in
-        let behind = later.behind s has high up in
-        rw e (record {
-          up = behind;
-          same = same_trans (r ∷ s ∷ rest) (s ∷ r ∷ rest) (s ∷ ordered_into r rest) (swapped r s rest)
-              (same_cons s (r ∷ rest) (ordered_into r rest) later.same);
-          behind = λ first some under before. (some, before.1, behind);
-        })
+into_order r (s ∷ rest) order up = elim (leb_tells r.from s.from) [
+  | inl (e, low) ↦ rw e (record {
+    up = (order, low, up);
+    same = λ kind n. (λ h. h, λ h. h);
+    behind = λ first has under before. (has, under, (order, low, up));
+  })
+  | inr (e, high) ↦
+      let later = into_order r rest order (rises_rest s rest up) in
+      let behind = later.behind s (rises_first s rest up) (omega arith) up in
+      rw e (record {
+        up = behind;
+        same = same_trans (r ∷ s ∷ rest) (s ∷ r ∷ rest) (s ∷ ordered_into r rest) (swapped r s rest)
+            (same_cons s (r ∷ rest) (ordered_into r rest) later.same);
+        behind = λ first some under before. (some, before.1, behind);
+      })
+]
 
 pub in_order : (ranges : List Range) → HaveNumbers ranges → Rises (ordered ranges) × IsSameMap ranges (ordered ranges)
 in_order [] have = (tt, λ kind n. (λ h. h, λ h. h))

@@ -13,11 +13,8 @@ none_lower : (now k : ℕ) (more : List ℕ) → All (λ later. now < later) mor
 none_lower now k [] all low = refl
 none_lower now k (later ∷ more) all low =
     let high : now < later = All-head (λ n. now < n) later more all in
-    below-cons k later more ∙ rw (
-      is_not_below later k (omega arith),
-      none_lower now k more
-          (All-tail (λ n. now < n) later more all) low,
-    ) refl
+    let rest = none_lower now k more (All-tail (λ n. now < n) later more all) low in
+    below-cons k later more ∙ rw (is_not_below later k (omega arith), rest) refl
 
 pub same_number : (kept : KeptRevisions) (more : List ℕ) (now k : ℕ) → All (λ later. now < later) more → k ≤ now
     → new_number (with_later kept more) k ≡ new_number kept k
@@ -89,13 +86,12 @@ each_line : (settings : Settings) (before after : KeptRevisions) (lines new_line
     → IsNewLine settings after old new)
     → AllZip (IsNewLine settings before) lines new_lines → AllZip (IsNewLine settings after) lines new_lines
 each_line settings before after [] [] one all = tt
-each_line settings before after [] (new ∷ new_lines) one all = absurd all
-each_line settings before after (old ∷ lines) [] one all = absurd all
 each_line settings before after (old ∷ lines) (new ∷ new_lines) one all = (
   one old new (0, omega arith, refl) all.0,
   each_line settings before after lines new_lines (λ o n has. one o n
       (let within = has.1 in (suc has.0, omega arith, has.2))) all.1,
 )
+each_line settings before after lines new_lines one all = absurd all
 
 -- a new value stays one after higher revisions are kept, where the old value has no foreign number
 pub later_revisions : (settings : Settings) (kept : KeptRevisions) (more : List ℕ) (now : ℕ) (value new : List ℕ)

@@ -1,5 +1,5 @@
 -- What becomes of a line, as it is computed.
-use Rattle.dump_rules.proofs.Prelude.{◌≡◌, ℕ, ◌+◌, ◌<◌, Bool, true, false, ◌==◌, List, [], ◌∷◌, ◌++◌, length, take, drop, nat_lt, nat_le, position, refl, sym, ap, subst, ◌∙◌, arith, Some, None, codes, list_all, slice_split, and_parts, Range, IsConsistent, runs_text, list_reads, colon_end, line_reads, KeptRevisions, RiseFrom, Settings, HaveNumbers, ordered_into, ordered, joined, runs_of, list_ranges, new_ranges, list_new, line_list, with_break, with_runs, with_new_line, with_new_lines}
+use Rattle.dump_rules.proofs.Prelude.{◌≡◌, ℕ, ◌+◌, ◌<◌, Bool, true, false, ◌==◌, List, [], ◌∷◌, ◌++◌, length, take, drop, nat_lt, nat_le, position, refl, sym, ap, subst, ◌∙◌, arith, Some, None, codes, list_all, slice_split, inl, inr, cases_Bool, and_parts, Range, IsConsistent, runs_text, list_reads, colon_end, line_reads, KeptRevisions, RiseFrom, Settings, HaveNumbers, ordered_into, ordered, joined, runs_of, list_ranges, new_ranges, list_new, line_list, with_break, with_runs, with_new_line, with_new_lines}
 use Rattle.dump_rules.proofs.reading.RangeLemmas.{position_split, position_whole}
 use Rattle.dump_rules.proofs.reading.RangeListLemmas.{read_is_list}
 use Rattle.dump_rules.proofs.new_values.RunsLaw.{have_numbers, list_is}
@@ -11,12 +11,10 @@ use Rattle.dump_rules.proofs.new_values.NewRangeLemmas.{renumbered, unchanged, r
 some_ordered : (r : Range) (rest : List Range) → (first : Range) × (later : List Range)
     × (ordered_into r rest ≡ first ∷ later)
 some_ordered r [] = (r, [], refl)
-some_ordered r (s ∷ rest) = go (nat_le r.from s.from) refl
-  where
-    go : (t : Bool) → nat_le r.from s.from ≡ t → (first : Range) × (later : List Range)
-        × (ordered_into r (s ∷ rest) ≡ first ∷ later)
-    go true e = (r, s ∷ rest, rw e refl)
-    go false e = (s, ordered_into r rest, rw e refl)
+some_ordered r (s ∷ rest) = elim (cases_Bool (nat_le r.from s.from)) [
+  | inl e ↦ (r, s ∷ rest, rw e refl)
+  | inr e ↦ (s, ordered_into r rest, rw e refl)
+]
 
 some_runs : (r : Range) (rest : List Range) → (first : Range) × (later : List Range)
     × (runs_of (r ∷ rest) ≡ first ∷ later)
@@ -40,9 +38,7 @@ pub written_runs : (out path a b new : List ℕ) (sorted ranges : List Range) �
     → joined sorted ≡ runs_of ranges → a ≡ with_break out ++ path → b ≡ a ++ codes ":"
     → new ≡ b ++ runs_text (joined sorted) → new ≡ with_runs out path (runs_of ranges)
 written_runs out path a b new sorted ranges some same first second third =
-    third ∙ ap (λ (l : List Range). b ++ runs_text l) same
-    ∙ ap (λ (t : List ℕ). t ++ runs_text (runs_of ranges)) (second ∙ ap (λ (t : List ℕ). t ++ codes ":") first)
-    ∙ with_runs_some out path ranges some
+    rw (third, second, first, same) (with_runs_some out path ranges some)
 
 -- the ranges of a list that is read
 
@@ -85,9 +81,7 @@ pub parts_first : (b : ℕ) (rest part others : List ℕ) (k : ℕ) → position
     → part ≡ take k rest
     → others ≡ drop (k + 1) rest → slice_split (λ c. c == b) rest ≡ part ∷ slice_split (λ c. c == b) others
 parts_first b rest part others k is first later =
-    position_split b k rest is
-    ∙ ap (λ (l : List ℕ). l ∷ slice_split (λ c. c == b) (drop (k + 1) rest)) (sym first)
-    ∙ ap (λ (t : List ℕ). part ∷ slice_split (λ c. c == b) t) (sym later)
+    rw (first, later) (position_split b k rest is)
 
 -- a text without an LF is one line
 pub lines_last : (rest : List ℕ) → position (λ b. b == 10) rest ≡ None → slice_split (λ b. b == 10) rest ≡ rest ∷ []

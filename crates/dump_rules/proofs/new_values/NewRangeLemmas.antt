@@ -1,5 +1,5 @@
 -- The new numbers of the kept revisions of a range are a range.
-use Rattle.dump_rules.proofs.Prelude.{◌≡◌, ◌⊎◌, ◌↔◌, ℕ, zero, suc, ◌+◌, ◌-◌, ◌<◌, ◌≤◌, Bool, true, false, cond, List, [], ◌∷◌, length, get_or, nat_lt, nat_le, refl, sym, ap, subst, ◌∙◌, inl, inr, arith, Some, None, Option, Contains, lt-ltb, leb_tells, nat_tests, Contains-get_or, Range, HasNumber, IsConsistent, range_of, range_parts, KeptRevisions, new_number, RiseFrom, IsRenumberedMap, HaveNumbers, with_range, ranges_of, list_ranges, new_range, kept_range, new_ranges, parts_ranges, list_new}
+use Rattle.dump_rules.proofs.Prelude.{◌≡◌, ◌⊎◌, ◌↔◌, ℕ, zero, suc, ◌+◌, ◌-◌, ◌<◌, ◌≤◌, Bool, true, false, cond, List, [], ◌∷◌, length, get_or, nat_lt, nat_le, refl, sym, ap, subst, ◌∙◌, inl, inr, arith, Some, None, Option, Contains, lt-ltb, le-ltb, ltb-true, both_ways, cases_Bool, get_or_default, leb_tells, nat_tests, Contains-get_or, Range, HasNumber, IsConsistent, range_of, range_parts, KeptRevisions, new_number, RiseFrom, IsRenumberedMap, HaveNumbers, with_range, ranges_of, list_ranges, new_range, kept_range, new_ranges, part_range, parts_ranges, list_new}
 use Rattle.dump_rules.proofs.ReachLemmas.{below, up_to, below-cons, up_to-cons, none_below, from_first, image_of_some}
 
 -- counts and places
@@ -134,33 +134,28 @@ within_new kept up r k n has is low high =
 with_new : (kept : KeptRevisions) → RiseFrom kept.first kept.numbers → (r : Range) (ranges : List Range) (kind : Bool)
     (n : ℕ)
     → HasNumber (with_range (new_range kept r) ranges) kind n ↔ (IsNewOf kept r kind n ⊎ HasNumber ranges kind n)
-with_new kept up r ranges kind n = go (nat_lt (below r.from kept.numbers) (up_to r.to kept.numbers)) refl
-  where
-    go : (t : Bool) → nat_lt (below r.from kept.numbers) (up_to r.to kept.numbers) ≡ t
-        → HasNumber (with_range (new_range kept r) ranges) kind n ↔ (IsNewOf kept r kind n ⊎ HasNumber ranges kind n)
-    go true e =
-        let some : below r.from kept.numbers < up_to r.to kept.numbers = grind (arith, nat_tests) in
-        rw e (
-          (λ h. elim h [
-            | inl here ↦ inl (new_of kept up r kind n here.0 some here.1 here.2)
-            | inr later ↦ inr later
-          ]),
-          (λ h. elim h [
-            | inl here ↦ let w = within_new kept up r here.0 n here.1 here.2 here.3.1 here.3.2 in inl
-                (here.3.0, w.low, w.high)
-            | inr later ↦ inr later
-          ]),
-        )
-    go false e = rw e (
-      (λ h. inr h),
-      (λ h. elim h [
-        | inl here ↦
-            let w = within_new kept up r here.0 n here.1 here.2 here.3.1 here.3.2 in
-            let some = w.some in
-            absurd (grind (arith, nat_tests))
-        | inr later ↦ later
-      ]),
-    )
+with_new kept up r ranges kind n = elim (cases_Bool (nat_lt (below r.from kept.numbers) (up_to r.to kept.numbers))) [
+  | inl e ↦ rw e (
+    (λ h. elim h [
+      | inl here ↦ inl (new_of kept up r kind n here.0 (ltb-true _ _ e) here.1 here.2)
+      | inr later ↦ inr later
+    ]),
+    (λ h. elim h [
+      | inl here ↦
+          let w = within_new kept up r here.0 n here.1 here.2 here.3.1 here.3.2 in inl (here.3.0, w.low, w.high)
+      | inr later ↦ inr later
+    ]),
+  )
+  | inr e ↦ rw e (
+    (λ h. inr h),
+    (λ h. elim h [
+      | inl here ↦
+          let w = within_new kept up r here.0 n here.1 here.2 here.3.1 here.3.2 in
+          absurd (both_ways _ e (lt-ltb _ _ w.some))
+      | inr later ↦ later
+    ]),
+  )
+]
 
 -- as it is computed
 
@@ -168,8 +163,7 @@ with_new kept up r ranges kind n = go (nat_lt (below r.from kept.numbers) (up_to
 pub new_range_none : (kept : KeptRevisions) (r : Range) → up_to r.to kept.numbers ≤ below r.from kept.numbers
     → new_range kept r ≡ None
 new_range_none kept r none =
-    let test : nat_lt (below r.from kept.numbers) (up_to r.to kept.numbers) ≡ false = grind (arith, nat_tests) in
-    rw test refl
+    rw (le-ltb (below r.from kept.numbers) (up_to r.to kept.numbers) none) refl
 
 -- a range with a kept revision becomes the new numbers from its first kept revision's to its last one's
 pub new_range_some : (kept : KeptRevisions) (r : Range) (first low high : ℕ) → first ≡ kept.first
@@ -226,21 +220,10 @@ once : (kept : KeptRevisions) → RiseFrom kept.first kept.numbers → (j k n : 
     → Contains kept.numbers k
     → new_number kept j ≡ n → new_number kept k ≡ n → j ≡ k
 once kept up j k n has_j has_k is_j is_k =
-    let a = place_of kept up j has_j in
-    let b = place_of kept up k has_k in
-    let at_a = a.2 in
-    let at_b = b.2 in
-    let count_a = a.3 in
-    let count_b = b.3 in
-    elim (leb_tells j k) [
-      | inl t ↦ elim (leb_tells k j) [
-        | inl u ↦ let x = t.1 in let y = u.1 in omega arith
-        | inr u ↦ let far = high_below kept.first k kept.numbers up a.0 j a.1 (let h = u.1 in omega arith) in absurd
-            (omega arith)
-      ]
-      | inr t ↦ let far = high_below kept.first j kept.numbers up b.0 k b.1 (let h = t.1 in omega arith) in absurd
-          (omega arith)
-    ]
+    let (i, inside, at_i, count_i) = place_of kept up j has_j in
+    let (m, within, at_m, count_m) = place_of kept up k has_k in
+    let same : i ≡ m = omega arith in
+    sym at_i ∙ get_or_default kept.numbers i j k inside ∙ ap (λ p. get_or kept.numbers p k) same ∙ at_m
 
 -- renumbered ranges have no number as both kinds, where the old ones have none
 pub renumbered_consistent : (kept : KeptRevisions) → RiseFrom kept.first kept.numbers → (old new : List Range)
@@ -253,28 +236,23 @@ renumbered_consistent kept up old new map consistent n plain starred =
 -- with renumbering, each new range has numbers
 pub new_have_numbers : (kept : KeptRevisions) (ranges : List Range) → HaveNumbers (new_ranges true kept ranges)
 new_have_numbers kept [] = tt
-new_have_numbers kept (r ∷ rest) = go (nat_lt (below r.from kept.numbers) (up_to r.to kept.numbers)) refl
-    (new_have_numbers kept rest)
-  where
-    go : (t : Bool) → nat_lt (below r.from kept.numbers) (up_to r.to kept.numbers) ≡ t
-        → HaveNumbers (new_ranges true kept rest) → HaveNumbers (new_ranges true kept (r ∷ rest))
-    go true e later =
-        let some : below r.from kept.numbers < up_to r.to kept.numbers = grind (arith, nat_tests) in
-        rw e (omega arith, later)
-    go false e later = rw e later
+new_have_numbers kept (r ∷ rest) = elim (cases_Bool (nat_lt (below r.from kept.numbers) (up_to r.to kept.numbers))) [
+  | inl e ↦ let some = ltb-true _ _ e in rw e (omega arith, new_have_numbers kept rest)
+  | inr e ↦ rw e (new_have_numbers kept rest)
+]
 
 -- the parts of a list
 
 pub parts_new : (renumber : Bool) (kept : KeptRevisions) (parts : List (List ℕ))
     → parts_ranges renumber kept parts ≡ new_ranges renumber kept (ranges_of parts)
 parts_new renumber kept [] = refl
-parts_new renumber kept (part ∷ parts) = go (range_of part) refl (parts_new renumber kept parts)
-  where
-    go : (o : Option Range) → range_of part ≡ o → parts_ranges renumber kept parts ≡ new_ranges renumber kept
-        (ranges_of parts)
-        → parts_ranges renumber kept (part ∷ parts) ≡ new_ranges renumber kept (ranges_of (part ∷ parts))
-    go None e later = rw e later
-    go (Some r) e later = rw e (ap (with_range (kept_range renumber kept r)) later)
+parts_new renumber kept (part ∷ parts) =
+    let later = parts_new renumber kept parts in
+    elim (range_of part) as (λ (o : Option Range). with_range (part_range renumber kept o)
+    (parts_ranges renumber kept parts) ≡ new_ranges renumber kept (with_range o (ranges_of parts))) [
+      | None ↦ later
+      | Some r ↦ ap (with_range (kept_range renumber kept r)) later
+    ]
 
 -- what becomes of a range list is what becomes of the ranges that it is read as
 pub list_new_is : (renumber : Bool) (kept : KeptRevisions) (list : List ℕ)

@@ -1,5 +1,5 @@
 -- A new value is mergeinfo, and its own new value where everything is kept.
-use Rattle.dump_rules.proofs.Prelude.{◌≡◌, ℕ, ◌<◌, ◌≤◌, Bool, true, false, MatchBool, List, [], ◌∷◌, length, map, nat_lt, Contains, refl, sym, ap, subst, ◌∙◌, inl, arith, AllZip, has_byte, Settings, keeps_path, KeptRevisions, new_number, RiseFrom, Range, IsConsistent, AreRuns, run_text, runs_text, MergeLine, IsMergeLine, IsMergeinfo, HasMergeLines, merge_line_text, mergeinfo_text, IsSameMap, IsRenumberedMap, IsNewLine, IsNewMergeinfo, staying_lines, nonempty_lines}
+use Rattle.dump_rules.proofs.Prelude.{◌≡◌, ℕ, ◌<◌, ◌≤◌, Bool, true, false, MatchBool, List, [], ◌∷◌, length, map, nat_lt, Contains, refl, sym, ap, subst, ◌∙◌, inl, inr, arith, cases_Bool, AllZip, has_byte, Settings, keeps_path, KeptRevisions, new_number, RiseFrom, Range, IsConsistent, AreRuns, run_text, runs_text, MergeLine, IsMergeLine, IsMergeinfo, HasMergeLines, merge_line_text, mergeinfo_text, IsSameMap, IsRenumberedMap, IsNewLine, IsNewMergeinfo, staying_lines, nonempty_lines}
 use Rattle.dump_rules.proofs.ReachLemmas.{new_number_fits, from_first}
 use Rattle.dump_rules.proofs.new_values.NewRangeLemmas.{renumbered_consistent}
 use Rattle.dump_rules.proofs.new_values.RunsLaw.{AreSmall, are_small, runs_spelled}
@@ -77,9 +77,7 @@ all_own : (settings : Settings) (kept : KeptRevisions) → RiseFrom kept.first k
     → AllZip IsMergeLine texts lines → AllZip (IsNewLine settings kept) (staying_lines settings lines) new_lines
     → AreOwn new_lines
 all_own settings kept up positive [] [] [] all made = tt
-all_own settings kept up positive [] [] (new ∷ new_lines) all made = absurd made
-all_own settings kept up positive [] (line ∷ lines) new_lines all made = absurd all
-all_own settings kept up positive (text ∷ texts) [] new_lines all made = absurd all
+all_own settings kept up positive [] [] new_lines all made = absurd made
 all_own settings kept up positive (text ∷ texts) (line ∷ lines) new_lines all made =
     go (keeps_path settings line.path) refl new_lines
     (λ rest more. all_own settings kept up positive texts lines rest all.1 more) made
@@ -92,24 +90,21 @@ all_own settings kept up positive (text ∷ texts) (line ∷ lines) new_lines al
         let here = rw e at made in
         (new_own settings kept text line new up positive all.0 here.0, later rest here.1)
     go false e new_lines later made = later new_lines (rw e at made)
+all_own settings kept up positive texts lines new_lines all made = absurd all
 
 some_own : (lines : List MergeLine) → AreOwn lines → AreOwn (nonempty_lines lines)
 some_own [] own = tt
-some_own (line ∷ lines) own = go (nat_lt 0 (length line.ranges)) refl (some_own lines own.1)
-  where
-    go : (t : Bool) → nat_lt 0 (length line.ranges) ≡ t → AreOwn (nonempty_lines lines)
-        → AreOwn (nonempty_lines (line ∷ lines))
-    go true e later = rw e (own.0, later)
-    go false e later = rw e later
+some_own (line ∷ lines) own = elim (cases_Bool (nat_lt 0 (length line.ranges))) [
+  | inl e ↦ rw e (own.0, some_own lines own.1)
+  | inr e ↦ rw e (some_own lines own.1)
+]
 
 some_twice : (lines : List MergeLine) → nonempty_lines (nonempty_lines lines) ≡ nonempty_lines lines
 some_twice [] = refl
-some_twice (line ∷ lines) = go (nat_lt 0 (length line.ranges)) refl (some_twice lines)
-  where
-    go : (t : Bool) → nat_lt 0 (length line.ranges) ≡ t → nonempty_lines (nonempty_lines lines) ≡ nonempty_lines lines
-        → nonempty_lines (nonempty_lines (line ∷ lines)) ≡ nonempty_lines (line ∷ lines)
-    go true e later = rw e (rw e (ap (λ (l : List MergeLine). line ∷ l) later))
-    go false e later = rw e later
+some_twice (line ∷ lines) = elim (cases_Bool (nat_lt 0 (length line.ranges))) [
+  | inl e ↦ rw e (rw e (ap (λ (l : List MergeLine). line ∷ l) (some_twice lines)))
+  | inr e ↦ rw e (some_twice lines)
+]
 
 all_spelled : (lines : List MergeLine) → AreOwn lines → AllZip IsMergeLine (map merge_line_text lines) lines
 all_spelled [] own = tt

@@ -1,7 +1,7 @@
 -- Each map of a range list has exactly one spelling.
-use Rattle.dump_rules.proofs.Prelude.{◌≡◌, ℕ, ◌<◌, ◌≤◌, ◌^◌, Bool, true, false, ◌&&◌, ◌==◌, List, [], ◌∷◌, ◌++◌, length, nat_lt, nat_le, map, refl, sym, ap, subst, ◌∙◌, inl, inr, arith, rules, Some, None, append-nil, append_assoc, codes, list_all, join_with_byte, AllZip, is_ascii_digit, digits_value, nat_tests, and_parts, eqb-true, IsNumeralModel, numerals_by_value, digits_value_short, number_of, spelled_number, number_of-spelled, number_spells, Range, HasNumber, AreRuns, star, IsRangeText, IsRangeList, run_text, runs_text, range_parts, EachMapHasOneSpelling, HaveNumbers, ranges_of, list_ranges, runs_of}
+use Rattle.dump_rules.proofs.Prelude.{◌≡◌, ℕ, ◌<◌, ◌≤◌, ◌^◌, Bool, true, false, ◌==◌, List, [], ◌∷◌, ◌++◌, length, nat_lt, nat_le, map, refl, sym, ap, subst, ◌∙◌, inl, inr, arith, rules, Some, None, append-nil, append_assoc, codes, list_all, join_with_byte, AllZip, is_ascii_digit, digits_value, leb-true, and_parts, eqb-true, IsNumeralModel, numerals_by_value, digits_value_short, number_of, spelled_number, number_of-spelled, number_spells, Range, HasNumber, AreRuns, star, IsRangeText, IsRangeList, run_text, runs_text, range_parts, EachMapHasOneSpelling, HaveNumbers, ranges_of, list_ranges, runs_of}
 use Rattle.dump_rules.proofs.reading.RangeLemmas.{number_parts, range_of_text}
-use Rattle.dump_rules.proofs.reading.RangeListLemmas.{split_joined, all_lack}
+use Rattle.dump_rules.proofs.reading.RangeListLemmas.{split_joined, joined_some, all_lack}
 use Rattle.dump_rules.proofs.new_values.JoinLemmas.{runs_are, same_trans, same_sym}
 use Rattle.dump_rules.proofs.new_values.Unique.{runs_once, first_in_order, later_runs}
 
@@ -14,28 +14,23 @@ own = numerals_by_value (λ (ds : List ℕ). list_all is_ascii_digit ds ≡ true
 pub number_small : (digits : List ℕ) (n : ℕ) → number_of digits ≡ Some n → n < 10 ^ 18
 number_small digits n is =
     let value = (number_spells digits n is).value in
-    let parts = and_parts (nat_lt 0 (length digits) && nat_le (length digits) 18) (list_all is_ascii_digit digits)
-    (number_parts digits n is) in
+    let parts = and_parts _ (list_all is_ascii_digit digits) (number_parts digits n is) in
     let sizes = and_parts (nat_lt 0 (length digits)) (nat_le (length digits) 18) parts.0 in
-    let size = sizes.1 in
-    let few : length digits ≤ 18 = grind (arith, nat_tests) in
-    let small = digits_value_short own digits 18 parts.1 few in
+    let small = digits_value_short own digits 18 parts.1 (leb-true (length digits) 18 sizes.1) in
     subst (λ (m : ℕ). m < 10 ^ 18) value small
 
 -- a range's ends
 pub end_small : (text : List ℕ) (r : Range) → IsRangeText text r → r.to < 10 ^ 18
 end_small text r is = elim is.spelled [
-  | inl single ↦ let small = number_small single.0 r.from single.1 in let same = single.2 in subst
-      (λ (m : ℕ). m < 10 ^ 18) (sym same) small
+  | inl single ↦ subst (λ (m : ℕ). m < 10 ^ 18) (sym single.2) (number_small single.0 r.from single.1)
   | inr span ↦ number_small span.1 r.to span.3
 ]
 
 -- each range that a text spells has numbers
 pub have_numbers : (parts : List (List ℕ)) (ranges : List Range) → AllZip IsRangeText parts ranges → HaveNumbers ranges
 have_numbers [] [] all = tt
-have_numbers [] (r ∷ ranges) all = absurd all
-have_numbers (part ∷ parts) [] all = absurd all
 have_numbers (part ∷ parts) (r ∷ ranges) all = (all.0.order, have_numbers parts ranges all.1)
+have_numbers parts ranges all = absurd all
 
 -- each number of a range list is small
 abbrev pub AreSmall : List Range → Type 0
@@ -44,8 +39,6 @@ AreSmall ranges = (kind : Bool) (n : ℕ) → HasNumber ranges kind n → (1 ≤
 -- each number of ranges that texts spell is at least one and less than ten to the eighteenth
 pub are_small : (parts : List (List ℕ)) (ranges : List Range) → AllZip IsRangeText parts ranges → AreSmall ranges
 are_small [] [] all kind n has = absurd has
-are_small [] (r ∷ ranges) all kind n has = absurd all
-are_small (part ∷ parts) [] all kind n has = absurd all
 are_small (part ∷ parts) (r ∷ ranges) all kind n (inl has) =
     let low = all.0.low in
     let first = has.1 in
@@ -53,6 +46,7 @@ are_small (part ∷ parts) (r ∷ ranges) all kind n (inl has) =
     let small = end_small part r all.0 in
     (omega arith, omega arith)
 are_small (part ∷ parts) (r ∷ ranges) all kind n (inr has) = are_small parts ranges all.1 kind n has
+are_small parts ranges all kind n has = absurd all
 
 -- runs are spelled
 
@@ -102,21 +96,9 @@ not_empty r is = let bad : None ≡ Some r = range_of_text [] r is in cc
 
 ranges_are : (parts : List (List ℕ)) (ranges : List Range) → AllZip IsRangeText parts ranges → ranges ≡ ranges_of parts
 ranges_are [] [] all = refl
-ranges_are [] (r ∷ ranges) all = absurd all
-ranges_are (part ∷ parts) [] all = absurd all
 ranges_are (part ∷ parts) (r ∷ ranges) all =
-    let here = range_of_text part r all.0 in
-    rw here (ap (λ l. r ∷ l) (ranges_are parts ranges all.1))
-
-joined_some : (part : List ℕ) (parts : List (List ℕ)) (b : ℕ) (text : List ℕ) → part ≡ b ∷ text → (c : ℕ)
-    × (rest : List ℕ) × (join_with_byte 44 (part ∷ parts) ≡ c ∷ rest)
-joined_some part [] b text is = (b, text, is)
-joined_some part (next ∷ parts) b text is = (
-  b,
-  text ++ 44 ∷ join_with_byte 44 (next ∷ parts),
-  ap
-      (λ (t : List ℕ). t ++ 44 ∷ join_with_byte 44 (next ∷ parts)) is,
-)
+    rw (range_of_text part r all.0) (ap (λ l. r ∷ l) (ranges_are parts ranges all.1))
+ranges_are parts ranges all = absurd all
 
 -- a range list is read as the ranges that it is
 pub list_is : (list : List ℕ) (ranges : List Range) → IsRangeList list ranges → ranges ≡ list_ranges list
@@ -129,7 +111,7 @@ list_is list ranges is = go list is.0 ranges is.1 is.2
     go [] (part ∷ parts) [] all e = refl
     go [] ([] ∷ parts) (r ∷ ranges) all e = absurd (not_empty r all.0)
     go [] ((c ∷ part) ∷ parts) (r ∷ ranges) all e =
-        let some = joined_some (c ∷ part) parts c part refl in
+        let some = joined_some 44 (c ∷ part) parts (c, part, refl) in
         let bad : [] ≡ some.0 ∷ some.1 = e ∙ some.2 in cc
     go (b ∷ list) (part ∷ parts) ranges all e =
         let cut : range_parts (b ∷ list) ≡ part ∷ parts =

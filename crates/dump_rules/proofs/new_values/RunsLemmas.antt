@@ -1,5 +1,5 @@
 -- Reading the parts of a list, sorting their ranges, and writing the runs, step by step.
-use Rattle.dump_rules.proofs.Prelude.{◌≡◌, ℕ, zero, suc, ◌+◌, ◌<◌, ◌≤◌, Bool, true, false, ◌==◌, List, [], ◌∷◌, ◌++◌, length, take, drop, get_or, position, map, refl, sym, ap, ◌∙◌, inl, inr, arith, Some, None, Option, Contains, append_assoc, codes, IsPermutation, IsNonDecreasingBy, drop_more, All-head, All-tail, All-cons, IsPermutation-sym, IsPermutation-map, All-permutation, Contains-permutation, Span, Range, HasNumber, IsConsistent, run_text, runs_text, range_of, range_parts, span_range, KeptRevisions, IsSameMap, touches, reaching, joined_from, joined, runs_of, HaveNumbers, with_range, part_range, parts_ranges}
+use Rattle.dump_rules.proofs.Prelude.{◌≡◌, ℕ, zero, suc, ◌+◌, ◌<◌, ◌≤◌, Bool, true, false, ◌==◌, List, [], ◌∷◌, ◌++◌, length, take, drop, get_or, position, map, refl, sym, ap, ◌∙◌, inl, inr, arith, Some, None, Option, Contains, append_assoc, cases_Bool, codes, IsPermutation, IsNonDecreasingBy, drop_more, All-head, All-tail, All-cons, IsPermutation-sym, IsPermutation-map, All-permutation, Contains-permutation, Span, Range, HasNumber, IsConsistent, run_text, runs_text, range_of, range_parts, span_range, KeptRevisions, IsSameMap, touches, reaching, joined_from, joined, runs_of, HaveNumbers, with_range, part_range, parts_ranges}
 use Rattle.std.proofs.Common.{All}
 use Rattle.dump_rules.proofs.reading.RangeLemmas.{position_split, position_whole}
 use Rattle.dump_rules.proofs.new_values.JoinLemmas.{Rises, runs_any_order}
@@ -26,13 +26,8 @@ pub parts_step : (renumber : Bool) (kept : KeptRevisions) (rest part behind : Li
     → new ≡ old ++ with_range (part_range renumber kept (range_of part)) []
     → old ++ parts_ranges renumber kept (range_parts rest) ≡ new ++ parts_ranges renumber kept (range_parts behind)
 parts_step renumber kept rest part behind k old new is first later more =
-    ap (λ l. old ++ l) (parts_first renumber kept rest k is)
-    ∙ sym (append_assoc old (with_range (part_range renumber kept (range_of (take k rest))) [])
-    (parts_ranges renumber kept (range_parts (drop (k + 1) rest))))
-    ∙ ap (λ (t : List ℕ). (old ++ with_range (part_range renumber kept (range_of t)) []) ++ parts_ranges renumber kept
-    (range_parts (drop (k + 1) rest))) (sym first)
-    ∙ ap (λ (l : List Range). l ++ parts_ranges renumber kept (range_parts (drop (k + 1) rest))) (sym more)
-    ∙ ap (λ (t : List ℕ). new ++ parts_ranges renumber kept (range_parts t)) (sym later)
+    rw (more, first, later) (ap (λ l. old ++ l) (parts_first renumber kept rest k is)
+    ∙ sym (append_assoc old (with_range (part_range renumber kept (range_of (take k rest))) []) _))
 
 -- what becomes of the parts of a list without a comma is what becomes of that one
 pub parts_last : (renumber : Bool) (kept : KeptRevisions) (rest : List ℕ) → position (λ b. b == 44) rest ≡ None
@@ -74,11 +69,8 @@ all_numbers (r ∷ rest) have = All-cons (λ (r : Range). r.from ≤ r.to) r res
 
 have_from_all : (ranges : List Range) → All (λ r. r.from ≤ r.to) ranges → HaveNumbers ranges
 have_from_all [] all = tt
-have_from_all (r ∷ rest) all = (
-  All-head (λ (r : Range). r.from ≤ r.to) r rest all,
-  have_from_all rest
-      (All-tail (λ (r : Range). r.from ≤ r.to) r rest all),
-)
+have_from_all (r ∷ rest) all =
+    let P = λ (r : Range). r.from ≤ r.to in (All-head P r rest all, have_from_all rest (All-tail P r rest all))
 
 rises_spans : (spans : List Span) → IsNonDecreasingBy (λ s. s.from) spans → HaveNumbers (map span_range spans)
     → Rises (map span_range spans)
@@ -113,20 +105,15 @@ touched r s rest e = rw e refl
 pub some_joined : (r : Range) (rest : List Range) → (first : Range) × (later : List Range)
     × (joined_from r rest ≡ first ∷ later)
 some_joined r [] = (r, [], refl)
-some_joined r (s ∷ rest) = go (touches r s) refl (some_joined (reaching r s.to) rest)
-  where
-    go : (t : Bool) → touches r s ≡ t → ((first : Range) × (later : List Range)
-        × (joined_from (reaching r s.to) rest ≡ first ∷ later))
-        → (first : Range) × (later : List Range) × (joined_from r (s ∷ rest) ≡ first ∷ later)
-    go true e found = (found.0, found.1, rw e found.2)
-    go false e found = (r, joined_from s rest, rw e refl)
+some_joined r (s ∷ rest) = elim (cases_Bool (touches r s)) [
+  | inl e ↦ let found = some_joined (reaching r s.to) rest in (found.0, found.1, rw e found.2)
+  | inr e ↦ (r, joined_from s rest, rw e refl)
+]
 
 text_before : (r first : Range) (later runs : List Range) → runs ≡ first ∷ later
     → runs_text (r ∷ runs) ≡ run_text r ++ codes "," ++ runs_text runs
 text_before r first later runs is =
-    ap (λ (l : List Range). runs_text (r ∷ l)) is
-    ∙ sym (append_assoc (run_text r) (codes ",") (runs_text (first ∷ later)))
-    ∙ ap (λ (l : List Range). run_text r ++ codes "," ++ runs_text l) (sym is)
+    rw is (sym (append_assoc (run_text r) (codes ",") (runs_text (first ∷ later))))
 
 left : (r s : Range) (rest : List Range) → touches r s ≡ false
     → runs_text (joined_from r (s ∷ rest)) ≡ run_text r ++ codes "," ++ runs_text (joined_from s rest)
@@ -157,6 +144,4 @@ next_left run spans i d within e =
 pub written_on : (run comma rest old mid new : List ℕ) → mid ≡ old ++ run → new ≡ mid ++ comma
     → old ++ (run ++ comma ++ rest) ≡ new ++ rest
 written_on run comma rest old mid new first second =
-    sym (append_assoc old (run ++ comma) rest)
-    ∙ ap (λ (t : List ℕ). t ++ rest) (sym (append_assoc old run comma) ∙ ap (λ (t : List ℕ). t ++ comma) (sym first)
-    ∙ sym second)
+    rw (second, first) (simp append_assoc)

@@ -1,6 +1,6 @@
 -- What becomes of a value: its new lines.
-use Rattle.dump_rules.proofs.Prelude.{◌≡◌, ◌⊎◌, ℕ, ◌+◌, ◌-◌, Bool, true, false, ◌==◌, List, [], ◌∷◌, ◌++◌, length, length-append, take, drop, map, nat_lt, refl, sym, ap, ◌∙◌, arith, codes, append_assoc, append-nil, if◌then◌else◌, slice_split, join_with_byte, AllZip, nat_tests, take_at, drop_at, Settings, keeps_path, KeptRevisions, RiseFrom, Range, runs_text, MergeLine, IsMergeLine, IsMergeinfo, merge_line_text, colon_end, without_lf, IsNewLine, IsNewMergeinfo, staying_lines, nonempty_lines, runs_of, list_ranges, new_ranges, list_new, line_path, line_list, text_lines, with_break, with_runs, with_new_line, with_new_lines}
-use Rattle.dump_rules.proofs.reading.RangeListLemmas.{split_joined, list_lacks}
+use Rattle.dump_rules.proofs.Prelude.{◌≡◌, ◌⊎◌, ℕ, ◌+◌, ◌-◌, Bool, true, false, ◌==◌, List, [], ◌∷◌, ◌++◌, length, length-append, take, drop, map, nat_lt, refl, sym, ap, ◌∙◌, arith, codes, append_assoc, append-nil, inl, inr, cases_Bool, if◌then◌else◌, slice_split, join_with_byte, AllZip, nat_tests, take_at, drop_at, Settings, keeps_path, KeptRevisions, RiseFrom, Range, runs_text, MergeLine, IsMergeLine, IsMergeinfo, merge_line_text, colon_end, without_lf, IsNewLine, IsNewMergeinfo, staying_lines, nonempty_lines, runs_of, list_ranges, new_ranges, list_new, line_path, line_list, text_lines, with_break, with_runs, with_new_line, with_new_lines}
+use Rattle.dump_rules.proofs.reading.RangeListLemmas.{HasFirst, split_joined, joined_some, list_lacks}
 use Rattle.dump_rules.proofs.reading.MergeinfoLemmas.{colon_end_is, bare, all_read}
 use Rattle.dump_rules.proofs.new_values.JoinLemmas.{runs_are}
 use Rattle.dump_rules.proofs.new_values.RunsLaw.{have_numbers, list_is}
@@ -70,43 +70,23 @@ pub all_new : (settings : Settings) (kept : KeptRevisions) → RiseFrom kept.fir
     → AllZip (IsNewLine settings kept) (staying_lines settings lines)
     (map (new_line settings kept) (staying_lines settings lines))
 all_new settings kept up [] [] all = tt
-all_new settings kept up [] (line ∷ lines) all = absurd all
-all_new settings kept up (text ∷ texts) [] all = absurd all
-all_new settings kept up (text ∷ texts) (line ∷ lines) all = go (keeps_path settings line.path) refl
-    (all_new settings kept up texts lines all.1)
-  where
-    go : (t : Bool) → keeps_path settings line.path ≡ t
-        → AllZip (IsNewLine settings kept) (staying_lines settings lines)
-        (map (new_line settings kept) (staying_lines settings lines))
-        → AllZip (IsNewLine settings kept) (staying_lines settings (line ∷ lines))
-        (map (new_line settings kept) (staying_lines settings (line ∷ lines)))
-    go true e later = rw e (
-      new_runs settings.renumber settings kept up line (ranges_of_line_fit text line all.0) refl,
-      later,
-    )
-    go false e later = rw e later
+all_new settings kept up (text ∷ texts) (line ∷ lines) all =
+    let later = all_new settings kept up texts lines all.1 in
+    elim (cases_Bool (keeps_path settings line.path)) [
+      | inl e ↦ rw e (new_runs settings.renumber settings kept up line (ranges_of_line_fit text line all.0) refl, later)
+      | inr e ↦ rw e later
+    ]
+all_new settings kept up texts lines all = absurd all
 
 -- lines joined
 
-abbrev IsSome : List ℕ → Type 0
-IsSome text = (b : ℕ) × (rest : List ℕ) × (text ≡ b ∷ rest)
-
 abbrev AllSome : List (List ℕ) → Type 0
 AllSome [] = Unit {0}
-AllSome (text ∷ texts) = IsSome text × AllSome texts
+AllSome (text ∷ texts) = HasFirst text × AllSome texts
 
-all_some_push : (texts : List (List ℕ)) (text : List ℕ) → AllSome texts → IsSome text → AllSome (texts ++ text ∷ [])
+all_some_push : (texts : List (List ℕ)) (text : List ℕ) → AllSome texts → HasFirst text → AllSome (texts ++ text ∷ [])
 all_some_push [] text all some = (some, tt)
 all_some_push (first ∷ texts) text all some = (all.0, all_some_push texts text all.1 some)
-
-joined_some : (first : List ℕ) (texts : List (List ℕ)) → IsSome first → IsSome (join_with_byte 10 (first ∷ texts))
-joined_some first [] some = some
-joined_some first (next ∷ texts) some = (
-  some.0,
-  some.1 ++ 10 ∷ join_with_byte 10 (next ∷ texts),
-  ap
-      (λ (t : List ℕ). t ++ 10 ∷ join_with_byte 10 (next ∷ texts)) some.2,
-)
 
 joined_push : (first : List ℕ) (texts : List (List ℕ)) (text : List ℕ)
     → join_with_byte 10 (first ∷ texts) ++ 10 ∷ text ≡ join_with_byte 10 ((first ∷ texts) ++ text ∷ [])
@@ -115,7 +95,7 @@ joined_push first (next ∷ texts) text =
     append_assoc first (10 ∷ join_with_byte 10 (next ∷ texts)) (10 ∷ text) ∙ ap (λ (t : List ℕ). first ++ 10 ∷ t)
     (joined_push next texts text)
 
-break_some : (out : List ℕ) → IsSome out → with_break out ≡ out ++ 10 ∷ []
+break_some : (out : List ℕ) → HasFirst out → with_break out ≡ out ++ 10 ∷ []
 break_some [] some = let bad : [] ≡ some.0 ∷ some.1 = some.2 in cc
 break_some (b ∷ out) some = refl
 
@@ -123,68 +103,19 @@ with_line : (done : List (List ℕ)) (text : List ℕ) → AllSome done
     → with_break (join_with_byte 10 done) ++ text ≡ join_with_byte 10 (done ++ text ∷ [])
 with_line [] text all = refl
 with_line (first ∷ texts) text all =
-    ap (λ (t : List ℕ). t ++ text) (break_some (join_with_byte 10 (first ∷ texts)) (joined_some first texts all.0))
+    ap (λ (t : List ℕ). t ++ text) (break_some (join_with_byte 10 (first ∷ texts)) (joined_some 10 first texts all.0))
     ∙ append_assoc (join_with_byte 10 (first ∷ texts)) (10 ∷ []) text
     ∙ joined_push first texts text
 
-line_some : (path list : List ℕ) → IsSome (path ++ codes ":" ++ list)
+line_some : (path list : List ℕ) → HasFirst (path ++ codes ":" ++ list)
 line_some [] list = (58, list, refl)
 line_some (b ∷ path) list = (b, path ++ codes ":" ++ list, refl)
 
--- lines that stay, and those that have numbers
-
-staying_first : (settings : Settings) (line : MergeLine) (lines : List MergeLine) → keeps_path settings line.path ≡ true
-    → staying_lines settings (line ∷ lines) ≡ line ∷ staying_lines settings lines
-staying_first settings line lines e = rw e refl
-
-staying_none : (settings : Settings) (line : MergeLine) (lines : List MergeLine) → keeps_path settings line.path ≡ false
-    → staying_lines settings (line ∷ lines) ≡ staying_lines settings lines
-staying_none settings line lines e = rw e refl
-
-nonempty_none : (line : MergeLine) (lines : List MergeLine) → line.ranges ≡ []
-    → nonempty_lines (line ∷ lines) ≡ nonempty_lines lines
-nonempty_none line lines is =
-    let test : nat_lt 0 (length line.ranges) ≡ false = ap (λ (l : List Range). nat_lt 0 (length l)) is in
-    rw test refl
-
-nonempty_first : (line : MergeLine) (lines : List MergeLine) (r : Range) (runs : List Range) → line.ranges ≡ r ∷ runs
-    → nonempty_lines (line ∷ lines) ≡ line ∷ nonempty_lines lines
-nonempty_first line lines r runs is =
-    let size = ap (λ (l : List Range). length l) is in
-    let test : nat_lt 0 (length line.ranges) ≡ true = grind (arith, nat_tests) in
-    rw test refl
+-- the texts of the new lines that have numbers
 
 abbrev new_texts : Settings → KeptRevisions → List MergeLine → List (List ℕ)
 new_texts settings kept lines = map merge_line_text
     (nonempty_lines (map (new_line settings kept) (staying_lines settings lines)))
-
-texts_none : (settings : Settings) (kept : KeptRevisions) (line : MergeLine) (lines : List MergeLine)
-    → keeps_path settings line.path ≡ false
-    → new_texts settings kept lines ≡ new_texts settings kept (line ∷ lines)
-texts_none settings kept line lines e =
-    ap (λ (l : List MergeLine). map merge_line_text (nonempty_lines (map (new_line settings kept) l)))
-    (sym (staying_none settings line lines e))
-
-texts_empty : (settings : Settings) (kept : KeptRevisions) (line : MergeLine) (lines : List MergeLine)
-    → keeps_path settings line.path ≡ true
-    → (new_line settings kept line).ranges ≡ [] → new_texts settings kept lines ≡ new_texts settings kept (line ∷ lines)
-texts_empty settings kept line lines e is =
-    sym (ap (λ (l : List MergeLine). map merge_line_text (nonempty_lines (map (new_line settings kept) l)))
-    (staying_first settings line lines e)
-    ∙ ap (map merge_line_text) (nonempty_none (new_line settings kept line)
-    (map (new_line settings kept) (staying_lines settings lines)) is))
-
-texts_some : (settings : Settings) (kept : KeptRevisions) (line : MergeLine) (lines : List MergeLine) (r : Range)
-    (runs : List Range) → keeps_path settings line.path ≡ true
-    → (new_line settings kept line).ranges ≡ r ∷ runs
-    → (line.path ++ codes ":" ++ runs_text (r ∷ runs)) ∷ new_texts settings kept lines ≡ new_texts settings kept
-    (line ∷ lines)
-texts_some settings kept line lines r runs e is =
-    sym (ap (λ (l : List MergeLine). map merge_line_text (nonempty_lines (map (new_line settings kept) l)))
-    (staying_first settings line lines e)
-    ∙ ap (map merge_line_text) (nonempty_first (new_line settings kept line)
-    (map (new_line settings kept) (staying_lines settings lines)) r runs is)
-    ∙ ap (λ (l : List Range). (line.path ++ codes ":" ++ runs_text l) ∷ new_texts settings kept lines) is)
 
 -- what a line adds
 
@@ -207,8 +138,6 @@ written : (settings : Settings) (kept : KeptRevisions) (texts : List (List ℕ))
     → with_new_lines settings kept (join_with_byte 10 done) texts ≡ join_with_byte 10
     (done ++ new_texts settings kept lines)
 written settings kept [] [] all done some = sym (ap (join_with_byte 10) (append-nil done))
-written settings kept [] (line ∷ lines) all done some = absurd all
-written settings kept (text ∷ texts) [] all done some = absurd all
 written settings kept (text ∷ texts) (line ∷ lines) all done some =
     ap (λ (out : List ℕ). with_new_lines settings kept out texts)
     (added_is settings kept (join_with_byte 10 done) text line all.0)
@@ -221,37 +150,19 @@ written settings kept (text ∷ texts) (line ∷ lines) all done some =
         (join_with_byte 10 more) texts ≡ join_with_byte 10 (more ++ new_texts settings kept lines))
         → with_new_lines settings kept (line_added settings kept
         (join_with_byte 10 done) line) texts ≡ join_with_byte 10 (done ++ new_texts settings kept (line ∷ lines))
-    go false e runs is later =
-        ap (λ (t : Bool). with_new_lines settings kept
-        (if t then with_runs (join_with_byte 10 done) line.path
-        (new_line settings kept line).ranges else join_with_byte 10 done) texts) e
-        ∙ later done some ∙ ap (λ (l : List (List ℕ)). join_with_byte 10 (done ++ l))
-        (texts_none settings kept line lines e)
-    go true e [] is later =
-        ap (λ (t : Bool). with_new_lines settings kept
-        (if t then with_runs (join_with_byte 10 done) line.path
-        (new_line settings kept line).ranges else join_with_byte 10 done) texts) e
-        ∙ ap (λ (l : List Range). with_new_lines settings kept
-        (with_runs (join_with_byte 10 done) line.path l) texts) is
-        ∙ later done some ∙ ap (λ (l : List (List ℕ)). join_with_byte 10 (done ++ l))
-        (texts_empty settings kept line lines e is)
+    go false e runs is later = rw e (later done some)
+    go true e [] is later = rw (e, is) (later done some)
     go true e (r ∷ runs) is later =
-        ap (λ (t : Bool). with_new_lines settings kept
-        (if t then with_runs (join_with_byte 10 done) line.path
-        (new_line settings kept line).ranges else join_with_byte 10 done) texts) e
-        ∙ ap (λ (l : List Range). with_new_lines settings kept
-        (with_runs (join_with_byte 10 done) line.path l) texts) is
-        ∙ ap (λ (out : List ℕ). with_new_lines settings kept out texts)
-        (ap (λ (t : List ℕ). t ++ runs_text (r ∷ runs))
-        (append_assoc (with_break (join_with_byte 10 done)) line.path (codes ":"))
-        ∙ append_assoc (with_break (join_with_byte 10 done)) (line.path ++ codes ":") (runs_text (r ∷ runs))
-        ∙ with_line done (line.path ++ codes ":" ++ runs_text (r ∷ runs)) some)
-        ∙ later (done ++ (line.path ++ codes ":" ++ runs_text (r ∷ runs)) ∷ [])
-        (all_some_push done (line.path ++ codes ":" ++ runs_text (r ∷ runs)) some
-        (line_some line.path (runs_text (r ∷ runs))))
-        ∙ ap (join_with_byte 10) (append_assoc done ((line.path ++ codes ":" ++ runs_text (r ∷ runs)) ∷ [])
-        (new_texts settings kept lines))
-        ∙ ap (λ (l : List (List ℕ)). join_with_byte 10 (done ++ l)) (texts_some settings kept line lines r runs e is)
+        let text : List ℕ = line.path ++ codes ":" ++ runs_text (r ∷ runs) in
+        let front = with_break (join_with_byte 10 done) in
+        let numbered : nat_lt 0 (length (r ∷ runs)) ≡ true = grind (arith, nat_tests) in
+        let put : with_runs (join_with_byte 10 done) line.path (r ∷ runs) ≡ join_with_byte 10 (done ++ text ∷ []) =
+        ap (λ (t : List ℕ). t ++ runs_text (r ∷ runs)) (append_assoc front line.path (codes ":"))
+        ∙ append_assoc front (line.path ++ codes ":") (runs_text (r ∷ runs)) ∙ with_line done text some in
+        rw (e, is, numbered) (ap (λ (out : List ℕ). with_new_lines settings kept out texts) put
+        ∙ later (done ++ text ∷ []) (all_some_push done text some (line_some line.path (runs_text (r ∷ runs))))
+        ∙ ap (join_with_byte 10) (append_assoc done (text ∷ []) (new_texts settings kept lines)))
+written settings kept texts lines all done some = absurd all
 
 -- values
 
@@ -261,12 +172,12 @@ pub texts_are : (texts : List (List ℕ)) (lines : List MergeLine) → AllZip Is
     → text_lines (without_lf value) ≡ texts
 texts_are texts lines all value is = ap text_lines (bare texts lines all value is) ∙ cut texts lines all
   where
-    cut_some : (text : List ℕ) (parts : List (List ℕ)) → IsSome text → slice_split (λ c. c == 10) text ≡ parts
+    cut_some : (text : List ℕ) (parts : List (List ℕ)) → HasFirst text → slice_split (λ c. c == 10) text ≡ parts
         → text_lines text ≡ parts
     cut_some [] parts some e = let bad : [] ≡ some.0 ∷ some.1 = some.2 in cc
     cut_some (b ∷ text) parts some e = e
 
-    text_some : (text : List ℕ) (line : MergeLine) → IsMergeLine text line → IsSome text
+    text_some : (text : List ℕ) (line : MergeLine) → IsMergeLine text line → HasFirst text
     text_some text line is =
         let some = line_some line.path is.spelled.0 in
         (some.0, some.1, is.spelled.2 ∙ some.2)
@@ -276,7 +187,8 @@ texts_are texts lines all value is = ap text_lines (bare texts lines all value i
     cut [] lines all = refl
     cut (text ∷ texts) [] all = absurd all
     cut (text ∷ texts) (line ∷ lines) all =
-        cut_some (join_with_byte 10 (text ∷ texts)) (text ∷ texts) (joined_some text texts (text_some text line all.0))
+        cut_some (join_with_byte 10 (text ∷ texts)) (text ∷ texts)
+        (joined_some 10 text texts (text_some text line all.0))
         (split_joined 10 text texts (all_read (text ∷ texts) (line ∷ lines) all).1)
 
 -- the lines of mergeinfo, rewritten one by one, are its new value

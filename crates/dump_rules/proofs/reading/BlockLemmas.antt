@@ -1,17 +1,6 @@
 -- A list held against itself block by block agrees exactly where each of its parts does.
-use Rattle.dump_rules.proofs.Prelude.{◌≡◌, ℕ, zero, suc, ◌+◌, ◌-◌, ◌<◌, ◌≤◌, Bool, true, false, not, ◌&&◌, ◌||◌, ◌==◌, nat_le, nat_lt, max, List, [], ◌∷◌, length, take, drop, get_or, position, refl, sym, ap, ◌∙◌, inl, inr, Option, Some, None, arith, list_all, list_any, IsNonDecreasingBy, IsPartitionPoint, take-length, or_cases, or_left, or_right, and_parts, and_from, and_left, and_right, not-true, not_from_false, leb-true, le-leb, le-ltb, cases_lt, false_from_ne_true, both_ways, nat_tests, length-drop, Ends, block_agrees, block_contradicts, ends_range, kind_agrees, kind_part_agrees, meets, parts_agree, raised_ends, Range, contradicts, is_other, range_of, range_parts, part_agrees, part_contradicts}
+use Rattle.dump_rules.proofs.Prelude.{◌≡◌, ℕ, zero, suc, ◌-◌, ◌<◌, ◌≤◌, Bool, true, false, not, ◌&&◌, ◌||◌, nat_le, nat_lt, max, List, [], ◌∷◌, length, get_or, refl, sym, ap, ◌∙◌, inl, inr, Option, Some, None, arith, list_all, list_any, IsNonDecreasingBy, IsPartitionPoint, Any-from_list_any, get_or_default, list_any_at, list_any_none, or_cases, or_left, or_right, and_parts, and_from, and_left, and_right, not-true, not_from_false, leb-true, le-leb, le-ltb, cases_lt, false_from_ne_true, both_ways, nat_tests, Ends, block_agrees, block_contradicts, ends_range, kind_agrees, kind_part_agrees, meets, parts_agree, raised_ends, Range, contradicts, is_other, range_of, part_agrees, part_contradicts}
 use mathlib.Core.Bool.{beq}
-use Rattle.dump_rules.proofs.reading.RangeLemmas.{position_split}
-
--- the first part
-
--- the parts of a list are the text before its first comma, and then the parts behind it
-pub cut_first : (k : ℕ) (list : List ℕ) → position (λ b. b == 44) list ≡ Some k
-    → range_parts list ≡ take k list ∷ range_parts (take (length list - (k + 1)) (drop (k + 1) list))
-cut_first k list is =
-    let size = length-drop (k + 1) list in
-    let whole = ap (λ n. take n (drop (k + 1) list)) (sym size) ∙ take-length (drop (k + 1) list) in
-    position_split 44 k list is ∙ ap (λ (t : List ℕ). take k list ∷ range_parts t) (sym whole)
 
 -- the block held against the parts
 
@@ -20,22 +9,19 @@ pub none_contradicts : (kind : Bool) (block : List Ends) → block_contradicts k
 none_contradicts kind [] = refl
 none_contradicts kind (ends ∷ block) = none_contradicts kind block
 
-any_none : (parts : List (List ℕ)) → list_any (λ part. false) parts ≡ false
-any_none [] = refl
-any_none (part ∷ parts) = any_none parts
+-- of four, the first and the third or the second and the fourth
+pub crossed : (a b c d : Bool) → ((a || b) || (c || d)) ≡ ((a || c) || (b || d))
+crossed true b c d = refl
+crossed false true true d = refl
+crossed false true false d = refl
+crossed false false c d = refl
 
 any_or : (f g : List ℕ → Bool) (parts : List (List ℕ)) → list_any (λ part. f part || g part) parts ≡
     (list_any f parts || list_any g parts)
 any_or f g [] = refl
 any_or f g (part ∷ parts) =
-    ap (λ (b : Bool). (f part || g part) || b) (any_or f g parts) ∙ swapped (f part) (g part) (list_any f parts)
+    ap (λ (b : Bool). (f part || g part) || b) (any_or f g parts) ∙ crossed (f part) (g part) (list_any f parts)
     (list_any g parts)
-  where
-    swapped : (a b c d : Bool) → ((a || b) || (c || d)) ≡ ((a || c) || (b || d))
-    swapped true b c d = refl
-    swapped false true true d = refl
-    swapped false true false d = refl
-    swapped false false c d = refl
 
 neither : (a b : Bool) → (not a && not b) ≡ not (a || b)
 neither true b = refl
@@ -44,7 +30,7 @@ neither false b = refl
 -- a block agrees with all parts where none of these contradicts one of its ranges
 pub agrees_unless : (kind : Bool) (all : List (List ℕ)) (block : List Ends)
     → block_agrees kind all block ≡ not (list_any (λ part. block_contradicts kind block (range_of part)) all)
-agrees_unless kind all [] = ap not (sym (any_none all))
+agrees_unless kind all [] = ap not (sym (list_any_none (λ part. false) all (λ k d low. refl)))
 agrees_unless kind all (ends ∷ block) =
     let one = λ (part : List ℕ). part_contradicts (ends_range kind ends) (range_of part) in
     let others = λ (part : List ℕ). block_contradicts kind block (range_of part) in
@@ -56,23 +42,13 @@ agrees_unless kind all (ends ∷ block) =
 
 any_place : {X : Type 0} (f : X → Bool) (d : X) (xs : List X) → list_any f xs ≡ true
     → (k : ℕ) × (k < length xs) × (f (get_or xs k d) ≡ true)
-any_place f d [] some = let bad : false ≡ true = some in cc
-any_place f d (x ∷ xs) some =
-    elim (or_cases _ _ some) [
-      | inl here ↦ (0, omega arith, here)
-      | inr there ↦ let behind = any_place f d xs there in (suc behind.0, omega arith, behind.2)
-    ]
-
-place_any : {X : Type 0} (f : X → Bool) (d : X) (xs : List X) (k : ℕ) → k < length xs → f (get_or xs k d) ≡ true
-    → list_any f xs ≡ true
-place_any f d [] k low is = absurd (omega arith)
-place_any f d (x ∷ xs) zero low is = or_left _ _ is
-place_any f d (x ∷ xs) (suc k) low is = or_right _ _ (place_any f d xs k (omega arith) is)
+any_place f d xs some =
+    let at = Any-from_list_any f xs some in
+    (at.0, at.2, ap f (get_or_default xs at.0 d at.1 at.2 ∙ at.3) ∙ at.4)
 
 none_any : {X : Type 0} (f : X → Bool) (d : X) (xs : List X) → ((k : ℕ) → k < length xs → f (get_or xs k d) ≡ false)
     → list_any f xs ≡ false
-none_any f d xs none = false_from_ne_true _ (λ some. let at = any_place f d xs some in both_ways _
-    (none at.0 at.1) at.2)
+none_any f d xs none = list_any_none f xs (λ k e low. ap f (get_or_default xs k e d low) ∙ none k low)
 
 all_place : {X : Type 0} (f : X → Bool) (d : X) (xs : List X) → list_all f xs ≡ true → (k : ℕ) → k < length xs
     → f (get_or xs k d) ≡ true
@@ -107,12 +83,11 @@ contradicts_back r s is =
     other false false is = is
 
 third_kind : (a b c : Bool) → is_other a b ≡ true → is_other b c ≡ true → is_other a c ≡ false
-third_kind true true c one two = let bad : false ≡ true = one in cc
 third_kind true false true one two = refl
-third_kind true false false one two = let bad : false ≡ true = two in cc
-third_kind false true true one two = let bad : false ≡ true = two in cc
+third_kind true false c one two = let bad : false ≡ true = two in cc
 third_kind false true false one two = refl
-third_kind false false c one two = let bad : false ≡ true = one in cc
+third_kind false true c one two = let bad : false ≡ true = two in cc
+third_kind a b c one two = let bad : false ≡ true = one in cc
 
 -- a range s of which it is known that its part agrees doesn't contradict the range r of a part of the other kind
 unlike : (kind : Bool) (all : List (List ℕ)) (r : Range) (k : ℕ) → k < length all → range_of (get_or all k []) ≡ Some r
@@ -126,7 +101,7 @@ unlike kind all r k low is other (Some s) agrees contra =
       | inr near ↦
           let back : part_contradicts s (range_of (get_or all k [])) ≡ true =
           ap (part_contradicts s) is ∙ contradicts_back r s contra in
-          both_ways _ (not-true _ near) (place_any _ [] all k low back)
+          both_ways _ (not-true _ near) (list_any_at _ all k [] low back)
     ]
 
 whole : (kind : Bool) (all : List (List ℕ)) → kind_agrees kind all all ≡ true → (k : ℕ) → k < length all
@@ -245,7 +220,7 @@ raised_meets from to block up =
         let d : Ends = record { from = 0; to = 0 } in
         let at = any_place (λ (e : Ends). nat_le e.from to) d block some in
         let zero_from = leb-true _ _ none in
-        place_any (meets from to) d block at.0 at.1 (and_from _ _ at.2 (le-leb _ _ (omega arith)))
+        list_any_at (meets from to) block at.0 d at.1 (and_from _ _ at.2 (le-leb _ _ (omega arith)))
 
 -- where no range begins at or before its end, none has a number in common with it
 pub none_meets : (from to begun : ℕ) (block : List Ends) → begun ≤ 0
@@ -262,7 +237,7 @@ pub last_meets : (from to begun : ℕ) (block : List Ends) (d : Ends) → 0 < be
     → nat_le from (get_or block (begun - 1) d).to ≡ list_any (meets from to) block
 last_meets from to begun block d some fits point up =
     same_if _ _
-    (λ reaches. place_any (meets from to) d block (begun - 1) (omega arith)
+    (λ reaches. list_any_at (meets from to) block (begun - 1) d (omega arith)
     (and_from _ _ (point.0 (begun - 1) d (omega arith) (omega arith)) reaches))
     (λ met.
     let at = any_place (meets from to) d block met in

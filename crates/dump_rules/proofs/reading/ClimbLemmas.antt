@@ -1,12 +1,16 @@
 -- Where each range begins above those of the other kind before it, no number stands as both kinds.
-use Rattle.dump_rules.proofs.Prelude.{◌≡◌, ℕ, ◌+◌, ◌-◌, ◌<◌, ◌≤◌, max, Bool, true, false, ◌==◌, List, [], ◌∷◌, take, drop, length, nat_lt, refl, sym, ap, ◌∙◌, inl, inr, arith, Some, None, Option, option_and_then, is_some, position, list_all, AllZip, nat_tests, take-length, length-drop, HighestNumbers, Range, HasNumber, IsConsistent, range_of, range_parts, part_agrees, raised, raised_by, highest_numbers}
-use Rattle.dump_rules.proofs.reading.RangeLemmas.{position_split, position_whole, text_of_range}
+use Rattle.dump_rules.proofs.Prelude.{◌≡◌, ℕ, ◌+◌, ◌-◌, ◌<◌, ◌≤◌, max, Bool, true, false, not, ◌==◌, List, [], ◌∷◌, take, drop, length, nat_lt, refl, sym, ap, subst, ◌∙◌, inl, inr, arith, ltb-true, cond_some, option_and_then_some, Some, None, Option, option_and_then, is_some, position, list_all, AllZip, HighestNumbers, Range, HasNumber, IsConsistent, range_of, range_parts, part_agrees, raised, raised_by, highest_numbers}
+use Rattle.dump_rules.proofs.reading.RangeLemmas.{position_split, position_whole, cut_first}
 use Rattle.dump_rules.proofs.reading.RangeListLemmas.{Reads, all_agree}
+
+-- the highest number of a kind
+abbrev highest_of : HighestNumbers → Bool → ℕ
+highest_of highest true = highest.inheritable
+highest_of highest false = highest.starred
 
 -- the numbers of each kind are above the highest of the other
 abbrev AreAbove : HighestNumbers → List Range → Type 0
-AreAbove highest ranges = ((n : ℕ) → HasNumber ranges true n → highest.starred < n)
-    × ((n : ℕ) → HasNumber ranges false n → highest.inheritable < n)
+AreAbove highest ranges = (kind : Bool) (n : ℕ) → HasNumber ranges kind n → highest_of highest (not kind) < n
 
 record Climb (highest : HighestNumbers) (parts : List (List ℕ)) : Type 0 where
   ranges : List Range
@@ -14,114 +18,71 @@ record Climb (highest : HighestNumbers) (parts : List (List ℕ)) : Type 0 where
   consistent : IsConsistent ranges
   over : AreAbove highest ranges
 
-climb-cons : (highest : HighestNumbers) (part : List ℕ) (parts : List (List ℕ)) (r : Range) (next : HighestNumbers) → range_of part ≡ Some r
-    → raised highest r ≡ Some next
-    → Climb next parts → Climb highest (part ∷ parts)
-climb-cons highest part parts r next read up rest = kinds r.inheritable refl
+-- a range that raises the highest numbers begins above the other kind's, and its own kind's reaches its end
+record Raised (highest : HighestNumbers) (r : Range) (next : HighestNumbers) : Type 0 where
+  above : highest_of highest (not r.inheritable) < r.from
+  reaches : r.to ≤ highest_of next r.inheritable
+  plain : highest.inheritable ≤ next.inheritable
+  starred : highest.starred ≤ next.starred
+
+raised_is : (highest : HighestNumbers) (from to : ℕ) (kind : Bool) (next : HighestNumbers)
+    → raised highest (record { from = from; to = to; inheritable = kind }) ≡ Some next
+    → Raised highest (record { from = from; to = to; inheritable = kind }) next
+raised_is highest from to true next up =
+    let made : HighestNumbers = record { inheritable = max highest.inheritable to; starred = highest.starred } in
+    let parts = cond_some (nat_lt highest.starred from) made next up in
+    let plain = ap (λ (t : HighestNumbers). t.inheritable) parts.1 in
+    let starred = ap (λ (t : HighestNumbers). t.starred) parts.1 in
+    record { above = ltb-true _ _ parts.0; reaches = omega arith; plain = omega arith; starred = omega arith }
+raised_is highest from to false next up =
+    let made : HighestNumbers = record { inheritable = highest.inheritable; starred = max highest.starred to } in
+    let parts = cond_some (nat_lt highest.inheritable from) made next up in
+    let plain = ap (λ (t : HighestNumbers). t.inheritable) parts.1 in
+    let starred = ap (λ (t : HighestNumbers). t.starred) parts.1 in
+    record { above = ltb-true _ _ parts.0; reaches = omega arith; plain = omega arith; starred = omega arith }
+
+climb-cons : (highest : HighestNumbers) (part : List ℕ) (parts : List (List ℕ)) (r : Range) (next : HighestNumbers)
+    → range_of part ≡ Some r → raised highest r ≡ Some next → Climb next parts → Climb highest (part ∷ parts)
+climb-cons highest part parts r next read up rest = record {
+  ranges = r ∷ rest.ranges;
+  reads = (read, rest.reads);
+  consistent = apart;
+  over = over;
+}
   where
-    order : r.from ≤ r.to
-    order = (text_of_range part r read).order
+    is : Raised highest r next
+    is = raised_is highest r.from r.to r.inheritable next up
 
-    kinds : (kind : Bool) → r.inheritable ≡ kind → Climb highest (part ∷ parts)
-    kinds true kind = low (nat_lt highest.starred r.from) refl
-      where
-        low : (t : Bool) → nat_lt highest.starred r.from ≡ t → Climb highest (part ∷ parts)
-        low false e = let bad : Path (Option HighestNumbers) None (Some next) = rw (kind, e) at up in cc
-        low true e =
-            let made : Path (Option HighestNumbers)
-            (Some (record { inheritable = max highest.inheritable r.to; starred = highest.starred })) (Some next) = rw
-            (kind, e) at up in
-            let one : Path HighestNumbers
-            (record { inheritable = max highest.inheritable r.to; starred = highest.starred }) next = cc in
-            let plain = ap (λ (t : HighestNumbers). t.inheritable) one in
-            let starred = ap (λ (t : HighestNumbers). t.starred) one in
-            let far : highest.starred < r.from = grind (arith, nat_tests) in
-            record {
-              ranges = r ∷ rest.ranges;
-              reads = (read, rest.reads);
-              consistent = λ n first second. apart n plain first second;
-              over = (λ n has. plain_over n starred far has, λ n has. starred_over n plain has);
-            }
-          where
-            apart : (n : ℕ) → max highest.inheritable r.to ≡ next.inheritable → HasNumber (r ∷ rest.ranges) true n
-                → HasNumber (r ∷ rest.ranges) false n → ⊥
-            apart n plain first (inl here) = let bad : true ≡ false = sym kind ∙ here.0 in cc
-            apart n plain (inl here) (inr later) = let over = rest.over.1 n later in let high = here.2 in omega arith
-            apart n plain (inr first) (inr second) = rest.consistent n first second
+    low : (kind : Bool) (n : ℕ) → r.inheritable ≡ kind → n ≤ r.to → highest_of next kind < n → ⊥
+    low kind n same high over =
+        let reaches = subst (λ (k : Bool). r.to ≤ highest_of next k) same is.reaches in omega arith
 
-            plain_over : (n : ℕ) → highest.starred ≡ next.starred → highest.starred < r.from
-                → HasNumber (r ∷ rest.ranges) true n → highest.starred < n
-            plain_over n starred far (inl here) = let high = here.1 in omega arith
-            plain_over n starred far (inr later) = let over = rest.over.0 n later in omega arith
+    apart : (n : ℕ) → HasNumber (r ∷ rest.ranges) true n → HasNumber (r ∷ rest.ranges) false n → ⊥
+    apart n (inl here) (inl there) = let bad : true ≡ false = sym here.0 ∙ there.0 in cc
+    apart n (inl here) (inr later) = low true n here.0 here.2 (rest.over false n later)
+    apart n (inr later) (inl here) = low false n here.0 here.2 (rest.over true n later)
+    apart n (inr first) (inr second) = rest.consistent n first second
 
-            starred_over : (n : ℕ) → max highest.inheritable r.to ≡ next.inheritable → HasNumber (r ∷ rest.ranges) false n
-                → highest.inheritable < n
-            starred_over n plain (inl here) = let bad : true ≡ false = sym kind ∙ here.0 in cc
-            starred_over n plain (inr later) = let over = rest.over.1 n later in omega arith
-    kinds false kind = low (nat_lt highest.inheritable r.from) refl
-      where
-        low : (t : Bool) → nat_lt highest.inheritable r.from ≡ t → Climb highest (part ∷ parts)
-        low false e = let bad : Path (Option HighestNumbers) None (Some next) = rw (kind, e) at up in cc
-        low true e =
-            let made : Path (Option HighestNumbers)
-            (Some (record { inheritable = highest.inheritable; starred = max highest.starred r.to })) (Some next) = rw
-            (kind, e) at up in
-            let one : Path HighestNumbers
-            (record { inheritable = highest.inheritable; starred = max highest.starred r.to }) next = cc in
-            let plain = ap (λ (t : HighestNumbers). t.inheritable) one in
-            let starred = ap (λ (t : HighestNumbers). t.starred) one in
-            let far : highest.inheritable < r.from = grind (arith, nat_tests) in
-            record {
-              ranges = r ∷ rest.ranges;
-              reads = (read, rest.reads);
-              consistent = λ n first second. apart n starred first second;
-              over = (λ n has. plain_over n starred has, λ n has. starred_over n plain far has);
-            }
-          where
-            apart : (n : ℕ) → max highest.starred r.to ≡ next.starred → HasNumber (r ∷ rest.ranges) true n
-                → HasNumber (r ∷ rest.ranges) false n → ⊥
-            apart n starred (inl here) second = let bad : false ≡ true = sym kind ∙ here.0 in cc
-            apart n starred (inr later) (inl here) = let over = rest.over.0 n later in let high = here.2 in omega arith
-            apart n starred (inr first) (inr second) = rest.consistent n first second
+    over : AreAbove highest (r ∷ rest.ranges)
+    over kind n (inl here) =
+        let above = subst (λ (k : Bool). highest_of highest (not k) < r.from) here.0 is.above in
+        let first = here.1 in
+        omega arith
+    over true n (inr later) = let above = rest.over true n later in let keeps = is.starred in omega arith
+    over false n (inr later) = let above = rest.over false n later in let keeps = is.plain in omega arith
 
-            plain_over : (n : ℕ) → max highest.starred r.to ≡ next.starred → HasNumber (r ∷ rest.ranges) true n
-                → highest.starred < n
-            plain_over n starred (inl here) = let bad : false ≡ true = sym kind ∙ here.0 in cc
-            plain_over n starred (inr later) = let over = rest.over.0 n later in omega arith
-
-            starred_over : (n : ℕ) → highest.inheritable ≡ next.inheritable → highest.inheritable < r.from
-                → HasNumber (r ∷ rest.ranges) false n → highest.inheritable < n
-            starred_over n plain far (inl here) = let high = here.1 in omega arith
-            starred_over n plain far (inr later) = let over = rest.over.1 n later in omega arith
-
-climbs : (highest : HighestNumbers) (parts : List (List ℕ)) (last : HighestNumbers) → highest_numbers highest parts ≡ Some last → Climb highest parts
+climbs : (highest : HighestNumbers) (parts : List (List ℕ)) (last : HighestNumbers)
+    → highest_numbers highest parts ≡ Some last → Climb highest parts
 climbs highest [] last is =
-    record {
-      ranges = [];
-      reads = tt;
-      consistent = λ n has. absurd has;
-      over =
-          (λ n has. absurd has, λ n has. absurd has);
-    }
-climbs highest (part ∷ parts) last is = go (range_of part) refl is (λ next later. climbs next parts last later)
+    record { ranges = []; reads = tt; consistent = λ n has. absurd has; over = λ kind n has. absurd has }
+climbs highest (part ∷ parts) last is =
+    option_and_then_some (λ next. highest_numbers next parts) (raised_by highest (range_of part)) last is
+    (λ next up more. go (range_of part) refl next up (climbs next parts last more))
   where
-    go : (o : Option Range) → range_of part ≡ o → option_and_then (λ next. highest_numbers next parts)
-        (raised_by highest o) ≡ Some last
-        → ((next : HighestNumbers) → highest_numbers next parts ≡ Some last → Climb next parts) → Climb highest (part ∷ parts)
-    go None e is more = let bad : Path (Option HighestNumbers) None (Some last) = is in cc
-    go (Some r) e is more = up (raised highest r) refl is
-      where
-        up : (o : Option HighestNumbers) → raised highest r ≡ o → option_and_then (λ next. highest_numbers next parts) o ≡ Some last
-            → Climb highest (part ∷ parts)
-        up None f is = let bad : Path (Option HighestNumbers) None (Some last) = is in cc
-        up (Some next) f is = climb-cons highest part parts r next e f (more next is)
-
--- the parts of such a list agree
-climb_agrees : (highest : HighestNumbers) (parts : List (List ℕ)) (last : HighestNumbers) → highest_numbers highest parts ≡ Some last
-    → list_all (λ part. part_agrees parts (range_of part)) parts ≡ true
-climb_agrees highest parts last is =
-    let up = climbs highest parts last is in
-    all_agree parts up.ranges up.reads up.consistent parts up.ranges up.reads (λ kind n has. has)
+    go : (o : Option Range) → range_of part ≡ o → (next : HighestNumbers) → raised_by highest o ≡ Some next
+        → Climb next parts → Climb highest (part ∷ parts)
+    go None e next up later = let bad : Path (Option HighestNumbers) None (Some next) = up in cc
+    go (Some r) e next up later = climb-cons highest part parts r next e up later
 
 -- one part more
 
@@ -135,10 +96,7 @@ pub climb_some : (highest : HighestNumbers) (list : List ℕ) (k : ℕ) (next : 
     → raised_by highest (range_of (take k list)) ≡ Some next
     → highest_numbers highest (range_parts list) ≡ highest_numbers next (range_parts (take (length list - (k + 1)) (drop (k + 1) list)))
 climb_some highest list k next here some =
-    let size = length-drop (k + 1) list in
-    let rest : take (length list - (k + 1)) (drop (k + 1) list) ≡ drop (k + 1) list =
-    ap (λ n. take n (drop (k + 1) list)) (sym size) ∙ take-length (drop (k + 1) list) in
-    ap (highest_numbers highest) (position_split 44 k list here) ∙ rw (some, rest) refl
+    ap (highest_numbers highest) (cut_first k list here) ∙ rw some refl
 
 -- a list without a comma is highest_numbers where its one part is
 pub climb_last : (highest : HighestNumbers) (list : List ℕ) → position (λ b. b == 44) list ≡ None
@@ -157,4 +115,6 @@ some_agrees highest parts some = go (highest_numbers highest parts) refl some
     go : (o : Option HighestNumbers) → highest_numbers highest parts ≡ o → is_some o ≡ true
         → list_all (λ part. part_agrees parts (range_of part)) parts ≡ true
     go None e some = let bad : false ≡ true = some in cc
-    go (Some last) e some = climb_agrees highest parts last e
+    go (Some last) e some =
+        let up = climbs highest parts last e in
+        all_agree parts up.ranges up.reads up.consistent parts up.ranges up.reads (λ kind n has. has)

@@ -1,7 +1,7 @@
 -- A value is read as mergeinfo where it is some lines.
-use Rattle.dump_rules.proofs.Prelude.{◌≡◌, ◌⊎◌, ◌↔◌, ℕ, ◌+◌, ◌-◌, ◌<◌, ◌≤◌, Bool, true, false, not, ◌==◌, List, [], ◌∷◌, ◌++◌, take, drop, length, reverse, get_or, nat_lt, refl, sym, ap, ◌∙◌, inl, inr, arith, append_assoc, length-append, codes, bytes_eq, IsTrue, list_all, slice_split, join_with_byte, AllZip, suffix_len, nat_tests, and_parts, eqb-true, not-false, take-append-drop, drop_more, get_or-append-add, get_or-reverse, drop_at, length-reverse, length-take-le, drop-append-add, get_or-append_seam, join_with_byte-slice_split, suffix_len_is, suffix_len-le-length, prefix_len_stops, has_byte, has_byte-append, front_lacks, MergeLine, IsMergeLine, HasMergeLines, list_reads, colon_end, line_reads, without_lf, lines_read, value_reads}
+use Rattle.dump_rules.proofs.Prelude.{◌≡◌, ◌⊎◌, ◌↔◌, ℕ, ◌+◌, ◌-◌, ◌<◌, ◌≤◌, Bool, true, false, not, ◌==◌, List, [], ◌∷◌, ◌++◌, take, drop, length, reverse, get_or, nat_lt, refl, sym, ap, ◌∙◌, inl, inr, arith, append_assoc, length-append, codes, bytes_eq, IsTrue, list_all, slice_split, join_with_byte, AllZip, suffix_len, nat_tests, and_from, and_parts, cases_Bool, ltb-true, none_all, eqb-true, not-false, take-append-drop, drop_more, get_or-append-add, get_or-reverse, drop_at, length-reverse, length-take-le, drop-append-add, get_or-append_seam, join_with_byte-slice_split, suffix_len_is, suffix_len-le-length, prefix_len_stops, has_byte, has_byte-append, front_lacks, MergeLine, IsMergeLine, HasMergeLines, list_reads, colon_end, line_reads, without_lf, lines_read, value_reads}
 use Rattle.dump_rules.proofs.reading.RangeLemmas.{no_end, ends_so, front_is, ends_parts}
-use Rattle.dump_rules.proofs.reading.RangeListLemmas.{AllLack, none_all, split_joined, parts_lack, list_lacks, list_is_read, read_is_list}
+use Rattle.dump_rules.proofs.reading.RangeListLemmas.{AllLack, split_joined, parts_lack, list_lacks, list_is_read, read_is_list}
 
 -- colons
 
@@ -89,8 +89,7 @@ read_is_line : (text : List ℕ) → line_reads text ≡ true → has_byte 10 te
     × IsMergeLine text line
 read_is_line text reads one_line =
     let parts = and_parts (nat_lt 1 (colon_end text)) (list_reads (drop (colon_end text) text)) reads in
-    let first = parts.0 in
-    let far : 1 < colon_end text = grind (arith, nat_tests) in
+    let far = ltb-true 1 (colon_end text) parts.0 in
     let list = read_is_list (drop (colon_end text) text) parts.1 in
     let size = length-take-le (colon_end text - 1) text (omega arith) in (
       record { path = take (colon_end text - 1) text; ranges = list.0 },
@@ -141,13 +140,11 @@ joined part (next ∷ parts) line (second ∷ lines) all =
 pub all_read : (texts : List (List ℕ)) (lines : List MergeLine) → AllZip IsMergeLine texts lines
     → (list_all line_reads texts ≡ true) × AllLack 10 texts
 all_read [] [] all = (refl, tt)
-all_read [] (line ∷ lines) all = absurd all
-all_read (text ∷ texts) [] all = absurd all
 all_read (text ∷ texts) (line ∷ lines) all =
     let first = line_is_read text line all.0 in
     let rest = all_read texts lines all.1 in
-    let reads = first.reads in
-    (rw reads rest.0, (first.one_line, rest.1))
+    (and_from _ _ first.reads rest.0, (first.one_line, rest.1))
+all_read texts lines all = absurd all
 
 lines_from_reads : (texts : List (List ℕ)) → list_all line_reads texts ≡ true → AllLack 10 texts
     → (lines : List MergeLine) × AllZip IsMergeLine texts lines
@@ -188,11 +185,10 @@ bare texts lines all value (inr is) =
     ap without_lf is ∙ rw (ends_so 10 (join_with_byte 10 texts)) (front_is 10 (join_with_byte 10 texts))
 
 value_parts : (value : List ℕ) → (value ≡ without_lf value) ⊎ (value ≡ without_lf value ++ 10 ∷ [])
-value_parts value = go (ends_in_lf value) refl
-  where
-    go : (t : Bool) → ends_in_lf value ≡ t → (value ≡ without_lf value) ⊎ (value ≡ without_lf value ++ 10 ∷ [])
-    go true e = inr (rw e (ends_parts 10 value e))
-    go false e = inl (rw e refl)
+value_parts value = elim (cases_Bool (ends_in_lf value)) [
+  | inl e ↦ inr (rw e (ends_parts 10 value e))
+  | inr e ↦ inl (rw e refl)
+]
 
 -- exactly the values that are some lines are read
 pub reads_exactly : (value : List ℕ) → IsTrue (value_reads value) ↔ HasMergeLines value

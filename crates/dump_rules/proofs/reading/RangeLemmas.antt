@@ -1,5 +1,5 @@
 -- The range that a text is read as is the one that it spells.
-use Rattle.dump_rules.proofs.Prelude.{◌≡◌, ◌⊎◌, ℕ, ◌+◌, ◌-◌, ◌<◌, ◌≤◌, Bool, true, false, not, ◌&&◌, ◌==◌, List, [], ◌∷◌, ◌++◌, take, drop, length, get_or, nat_lt, nat_le, refl, sym, ap, subst, ◌∙◌, inl, inr, arith, Some, None, Option, append-nil, append_assoc, length-append, bytes_eq, position, list_all, position_or_len, slice_split, is_ascii_digit, nat_tests, and_parts, eqb-true, take-append-drop, drop_more, take_at, drop_at, slice_split_first, slice_split_none, passes_at_first, fails_before_first, bytes_eq-Decides, first_false, second_false, is_number, number_of, has_byte, has_byte-append, has_at, back_lacks, Range, star, IsSingle, IsSpan, IsRangeText, ends_in_star, without_star, both, ends_at, ends_of, range_between, range_of}
+use Rattle.dump_rules.proofs.Prelude.{◌≡◌, ◌⊎◌, ℕ, ◌+◌, ◌-◌, ◌≤◌, Bool, true, false, not, ◌&&◌, ◌==◌, List, [], ◌∷◌, ◌++◌, take, drop, length, nat_le, refl, sym, ap, subst, ◌∙◌, inl, inr, arith, Some, None, Option, append-nil, append_assoc, length-append, length-drop, take-length, range_parts, bytes_eq, position, list_all, slice_split, is_ascii_digit, nat_tests, and_parts, take-append-drop, take_at, drop_at, slice_split_at, slice_split_none, bytes_eq-Decides, both_ways, cases_Bool, false_from_ne_true, leb-true, le-leb, le-ltb, lt-ltb, not-not, at_place, no_place, none_all, nowhere, position_at, is_number, number_of, has_byte, has_byte-append, has_at, back_lacks, Range, star, IsSingle, IsSpan, IsRangeText, ends_in_star, without_star, both, ends_at, ends_of, range_between, range_of}
 use Rattle.dump_text.proofs.BoolLemmas.{equals_itself as same}
 
 -- digits
@@ -12,16 +12,14 @@ digits_lack : (b : ℕ) (text : List ℕ) → is_ascii_digit b ≡ false → lis
 digits_lack b [] other all = refl
 digits_lack b (c ∷ text) other all =
     let parts = and_parts _ _ all in
-    let first = not_digit b c other parts.0 in
-    rw first (digits_lack b text other parts.1)
+    rw (not_digit b c other parts.0) (digits_lack b text other parts.1)
 
 -- a text that is read as a number passes the test for numbers
 pub number_parts : (text : List ℕ) (n : ℕ) → number_of text ≡ Some n → is_number text ≡ true
-number_parts text n is = go (is_number text) refl
-  where
-    go : (b : Bool) → is_number text ≡ b → is_number text ≡ true
-    go true e = e
-    go false e = let bad : None ≡ Some n = rw e at is in cc
+number_parts text n is = elim (cases_Bool (is_number text)) [
+  | inl e ↦ e
+  | inr e ↦ let bad : None ≡ Some n = rw e at is in cc
+]
 
 -- a text that is read as a number lacks each byte that is no digit
 pub number_lacks : (b : ℕ) (text : List ℕ) (n : ℕ) → is_ascii_digit b ≡ false → number_of text ≡ Some n
@@ -47,16 +45,9 @@ drop_lacks b k text none = back_lacks b (take k text) (drop k text) (ap (has_byt
 
 -- a text without the byte doesn't end in it
 pub no_end : (b : ℕ) (text : List ℕ) → has_byte b text ≡ false → bytes_eq (drop (length text - 1) text) (b ∷ []) ≡ false
-no_end b text none = go (bytes_eq (drop (length text - 1) text) (b ∷ [])) refl
-  where
-    go : (t : Bool) → bytes_eq (drop (length text - 1) text) (b ∷ []) ≡ t → bytes_eq (drop (length text - 1) text)
-        (b ∷ []) ≡ false
-    go false e = e
-    go true e =
-        let same = (bytes_eq-Decides (drop (length text - 1) text) (b ∷ [])).0 e in
-        let bad : true ≡ false = sym (has_at b [] []) ∙ ap (has_byte b) (sym same)
-        ∙ drop_lacks b (length text - 1) text none in
-        cc
+no_end b text none = false_from_ne_true _ (λ e.
+    let same = (bytes_eq-Decides (drop (length text - 1) text) (b ∷ [])).0 e in
+    both_ways _ (drop_lacks b (length text - 1) text none) (ap (has_byte b) same ∙ has_at b [] []))
 
 -- a text with the byte behind it does
 pub ends_so : (b : ℕ) (body : List ℕ) → bytes_eq (drop (length (body ++ b ∷ []) - 1) (body ++ b ∷ [])) (b ∷ []) ≡ true
@@ -80,91 +71,43 @@ star_cut body true none = rw (append-nil body, no_end 42 body none) refl
 star_cut body false none = rw (ends_so 42 body) (front_is 42 body)
 
 star_parts : (text : List ℕ) → text ≡ without_star text ++ star (not (ends_in_star text))
-star_parts text = go (ends_in_star text) refl
-  where
-    go : (t : Bool) → ends_in_star text ≡ t → text ≡ without_star text ++ star (not (ends_in_star text))
-    go true e = rw e (ends_parts 42 text e)
-    go false e = rw e (sym (append-nil text))
+star_parts text = elim (cases_Bool (ends_in_star text)) [
+  | inl e ↦ rw e (ends_parts 42 text e)
+  | inr e ↦ rw e (sym (append-nil text))
+]
 
 -- dashes
 
-place_none : (b : ℕ) (text : List ℕ) → has_byte b text ≡ false → position_or_len (λ c. c == b) text ≡ length text
-place_none b [] none = refl
-place_none b (c ∷ text) none =
-    let other = first_false (c == b) (has_byte b text) none in
-    let later = place_none b text (second_false (c == b) (has_byte b text) none) in
-    rw other (ap (λ n. 1 + n) later ∙ omega arith)
-
-place_at : (b : ℕ) (front rest : List ℕ) → has_byte b front ≡ false → position_or_len (λ c. c == b)
-    (front ++ b ∷ rest) ≡ length front
-place_at b [] rest none = rw (same b) refl
-place_at b (c ∷ front) rest none =
-    let other = first_false (c == b) (has_byte b front) none in
-    let later = place_at b front rest (second_false (c == b) (has_byte b front) none) in
-    rw other (ap (λ n. 1 + n) later ∙ omega arith)
-
 position_none : (b : ℕ) (text : List ℕ) → has_byte b text ≡ false → position (λ c. c == b) text ≡ None
 position_none b text none =
-    let over : nat_lt (position_or_len (λ c. c == b) text) (length text) ≡ false =
-    ap (λ n. nat_lt n (length text)) (place_none b text none) ∙ (grind (arith, nat_tests)) in
-    rw over refl
+    rw (nowhere b text none, le-ltb (length text) (length text) (omega arith)) refl
 
 position_some : (b : ℕ) (front rest : List ℕ) → has_byte b front ≡ false
     → position (λ c. c == b) (front ++ b ∷ rest) ≡ Some (length front)
 position_some b front rest none =
     let size = length-append front (b ∷ rest) in
-    let is = place_at b front rest none in
-    let below : length front < length (front ++ b ∷ rest) = omega arith in
-    let within : nat_lt (length front) (length (front ++ b ∷ rest)) ≡ true = grind (arith, nat_tests) in
-    let inside : nat_lt (position_or_len (λ c. c == b) (front ++ b ∷ rest)) (length (front ++ b ∷ rest)) ≡ true =
-    ap (λ n. nat_lt n (length (front ++ b ∷ rest))) is ∙ within in
-    rw inside (ap Some is)
-
-position_parts : (b k : ℕ) (text : List ℕ) → position (λ c. c == b) text ≡ Some k → text ≡ take k text ++ b ∷ drop
-    (k + 1) text
-position_parts b k text is = go (nat_lt (position_or_len (λ c. c == b) text) (length text)) refl
-  where
-    go : (t : Bool) → nat_lt (position_or_len (λ c. c == b) text) (length text) ≡ t → text ≡ take k text ++ b ∷ drop
-        (k + 1) text
-    go false e = let bad : None ≡ Some k = rw e at is in cc
-    go true e =
-        let found : Some (position_or_len (λ c. c == b) text) ≡ Some k = rw e at is in
-        let place : position_or_len (λ c. c == b) text ≡ k = cc in
-        let inside : position_or_len (λ c. c == b) text < length text = grind (arith, nat_tests) in
-        let below : k < length text = omega arith in
-        let here : (get_or text k 0 == b) ≡ true =
-        ap (λ n. get_or text n 0 == b) (sym place) ∙ passes_at_first (λ c. c == b) text 0 inside in
-        sym (take-append-drop k text)
-        ∙ ap (λ t. take k text ++ t) (drop_more text k 0 below ∙ ap (λ c. c ∷ drop (k + 1) text)
-        (eqb-true (get_or text k 0) b here))
+    rw (position_at b front rest none, lt-ltb (length front) (length (front ++ b ∷ rest)) (omega arith)) refl
 
 -- a text is cut at its first such byte
 pub position_split : (b k : ℕ) (text : List ℕ) → position (λ c. c == b) text ≡ Some k
     → slice_split (λ c. c == b) text ≡ take k text ∷ slice_split (λ c. c == b) (drop (k + 1) text)
-position_split b k text is = go (nat_lt (position_or_len (λ c. c == b) text) (length text)) refl
-  where
-    go : (t : Bool) → nat_lt (position_or_len (λ c. c == b) text) (length text) ≡ t
-        → slice_split (λ c. c == b) text ≡ take k text ∷ slice_split (λ c. c == b) (drop (k + 1) text)
-    go false e = let bad : None ≡ Some k = rw e at is in cc
-    go true e =
-        let found : Some (position_or_len (λ c. c == b) text) ≡ Some k = rw e at is in
-        let place : position_or_len (λ c. c == b) text ≡ k = cc in
-        let inside : position_or_len (λ c. c == b) text < length text = grind (arith, nat_tests) in
-        slice_split_first (λ c. c == b) text 0 inside
-        ∙ ap (λ n. take n text ∷ slice_split (λ c. c == b) (drop (n + 1) text)) place
+position_split b k text is =
+    let at = at_place b text k (sym is) in
+    ap (slice_split (λ c. c == b)) at.cut
+    ∙ slice_split_at (λ c. c == b) (take k text) b (drop (k + 1) text) (none_all b (take k text) at.before) (same b)
 
 -- and is whole where there is none
 pub position_whole : (b : ℕ) (text : List ℕ) → position (λ c. c == b) text ≡ None
     → slice_split (λ c. c == b) text ≡ text ∷ []
-position_whole b text is = go (nat_lt (position_or_len (λ c. c == b) text) (length text)) refl
-  where
-    go : (t : Bool) → nat_lt (position_or_len (λ c. c == b) text) (length text) ≡ t
-        → slice_split (λ c. c == b) text ≡ text ∷ []
-    go true e = let bad : Some (position_or_len (λ c. c == b) text) ≡ None = rw e at is in cc
-    go false e =
-        let over : length text ≤ position_or_len (λ c. c == b) text = grind (arith, nat_tests) in
-        slice_split_none (λ c. c == b) text (λ k d small.
-        fails_before_first (λ c. c == b) text k d (omega arith))
+position_whole b text is = slice_split_none (λ c. c == b) text (none_all b text (no_place b text (sym is)))
+
+-- the parts of a list are the text before its first comma, and then the parts behind it
+pub cut_first : (k : ℕ) (list : List ℕ) → position (λ b. b == 44) list ≡ Some k
+    → range_parts list ≡ take k list ∷ range_parts (take (length list - (k + 1)) (drop (k + 1) list))
+cut_first k list is =
+    let size = length-drop (k + 1) list in
+    let whole = ap (λ n. take n (drop (k + 1) list)) (sym size) ∙ take-length (drop (k + 1) list) in
+    position_split 44 k list is ∙ ap (λ (t : List ℕ). take k list ∷ range_parts t) (sym whole)
 
 ends_single : (text : List ℕ) (n : ℕ) → number_of text ≡ Some n → ends_of text ≡ Some (n, n)
 ends_single text n is =
@@ -187,20 +130,14 @@ ends_span from_text to_text from to is_from is_to =
 between : (from to : ℕ) (kind : Bool) → 1 ≤ from → from ≤ to → range_between (Some (from, to)) kind ≡ Some
     (record { from = from; to = to; inheritable = kind })
 between from to kind low order =
-    let first : nat_le 1 from ≡ true = grind (arith, nat_tests) in
-    let second : nat_le from to ≡ true = grind (arith, nat_tests) in
-    rw (first, second) refl
-
-not_not : (b : Bool) → not (not b) ≡ b
-not_not true = refl
-not_not false = refl
+    rw (le-leb 1 from low, le-leb from to order) refl
 
 -- what a text spells is read
 spelled : (body : List ℕ) (r : Range) → has_byte 42 body ≡ false → ends_of body ≡ Some (r.from, r.to) → 1 ≤ r.from
     → r.from ≤ r.to
     → range_of (body ++ star r.inheritable) ≡ Some r
 spelled body r none ends low order =
-    rw (star_cut body r.inheritable none, star_is body r.inheritable none, not_not r.inheritable, ends)
+    rw (star_cut body r.inheritable none, star_is body r.inheritable none, not-not r.inheritable, ends)
     (between r.from r.to r.inheritable low order)
 
 -- a text that is a range is read as that range
@@ -239,10 +176,8 @@ between_parts (Some (from, to)) kind r is = go (nat_le 1 from && nat_le from to)
     go false e = let bad : None ≡ Some r = rw e at is in cc
     go true e =
         let parts = and_parts (nat_le 1 from) (nat_le from to) e in
-        let first = parts.0 in
-        let second = parts.1 in
-        let low : 1 ≤ from = grind (arith, nat_tests) in
-        let order : from ≤ to = grind (arith, nat_tests) in
+        let low = leb-true 1 from parts.0 in
+        let order = leb-true from to parts.1 in
         let made : Some (record { from = from; to = to; inheritable = kind }) ≡ Some r = rw e at is in
         let one : Path Range (record { from = from; to = to; inheritable = kind }) r = cc in
         let f = ap (λ (x : Range). x.from) one in
@@ -262,7 +197,7 @@ ends_parts_of body r is = go (position (λ b. b == 45) body) refl is
         inl (body, parts.0, one, refl)
     go (Some k) e is =
         let parts = both_parts (number_of (take k body)) (number_of (drop (k + 1) body)) r.from r.to is in
-        let cut = position_parts 45 k body e in
+        let cut = (at_place 45 body k (sym e)).cut in
         inr (
           take k body,
           drop (k + 1) body,

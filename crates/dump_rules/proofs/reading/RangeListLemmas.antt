@@ -1,17 +1,9 @@
 -- A range list is read where it is one, and no number stands in it as both kinds.
-use Rattle.dump_rules.proofs.Prelude.{◌≡◌, ℕ, ◌≤◌, max, Bool, true, false, not, ◌&&◌, ◌||◌, ◌==◌, List, [], ◌∷◌, ◌++◌, nat_le, refl, sym, ap, subst, ◌∙◌, inl, inr, arith, Some, None, Option, list_all, list_any, slice_split, onto_first, join_with_byte, AllZip, is_ascii_digit, nat_tests, and_parts, All-cons, slice_split_at, slice_split_none, join_with_byte-slice_split, first_false, second_false, has_byte, has_byte-append, Range, HasNumber, IsConsistent, star, IsRangeText, IsRangeList, range_of, range_parts, is_other, contradicts, part_contradicts, part_agrees, list_reads}
-use Rattle.std.specs.List.{All}
+use Rattle.dump_rules.proofs.Prelude.{◌≡◌, ℕ, ◌≤◌, max, Bool, true, false, not, ◌==◌, List, [], ◌∷◌, ◌++◌, nat_le, refl, sym, ap, subst, ◌∙◌, inl, inr, arith, Some, None, Option, list_all, list_any, slice_split, onto_first, join_with_byte, AllZip, is_ascii_digit, and_from, and_parts, or_cases, or_left, or_right, not_from_false, false_from_ne_true, cases_Bool, le-leb, leb-true, none_all, slice_split_at, slice_split_none, join_with_byte-slice_split, first_false, second_false, has_byte, has_byte-append, Range, HasNumber, IsConsistent, star, IsRangeText, IsRangeList, range_of, range_parts, is_other, contradicts, part_contradicts, part_agrees, list_reads}
 use Rattle.dump_text.proofs.BoolLemmas.{equals_itself as same}
 use Rattle.dump_rules.proofs.reading.RangeLemmas.{number_lacks, range_of_text, text_of_range}
 
 -- parts that lack the byte, joined by it, are cut into themselves
-
--- each byte of a text that lacks the byte is another
-pub none_all : (b : ℕ) (text : List ℕ) → has_byte b text ≡ false → All (λ c. (c == b) ≡ false) text
-none_all b [] none = λ k d small. absurd (omega arith)
-none_all b (c ∷ text) none =
-    All-cons (λ x. (x == b) ≡ false) c text (first_false (c == b) (has_byte b text) none)
-    (none_all b text (second_false (c == b) (has_byte b text) none))
 
 -- each part lacks the byte
 abbrev pub AllLack : ℕ → List (List ℕ) → Type 0
@@ -33,12 +25,10 @@ onto_lack b c (part ∷ parts) other lack = (rw other lack.0, lack.1)
 -- the parts that a text is cut into lack the byte
 pub parts_lack : (b : ℕ) (text : List ℕ) → AllLack b (slice_split (λ c. c == b) text)
 parts_lack b [] = (refl, tt)
-parts_lack b (c ∷ text) = go (c == b) refl (parts_lack b text)
-  where
-    go : (t : Bool) → (c == b) ≡ t → AllLack b (slice_split (λ x. x == b) text)
-        → AllLack b (slice_split (λ x. x == b) (c ∷ text))
-    go true e lack = rw e (refl, lack)
-    go false e lack = rw e (onto_lack b c (slice_split (λ x. x == b) text) e lack)
+parts_lack b (c ∷ text) = elim (cases_Bool (c == b)) [
+  | inl e ↦ rw e (refl, parts_lack b text)
+  | inr e ↦ rw e (onto_lack b c (slice_split (λ x. x == b) text) e (parts_lack b text))
+]
 
 -- the parts that are read
 
@@ -46,19 +36,11 @@ parts_lack b (c ∷ text) = go (c == b) refl (parts_lack b text)
 abbrev pub Reads : List ℕ → Range → Type 0
 Reads part r = range_of part ≡ Some r
 
-reads_from_texts : (parts : List (List ℕ)) (ranges : List Range) → AllZip IsRangeText parts ranges
-    → AllZip Reads parts ranges
-reads_from_texts [] [] all = tt
-reads_from_texts [] (r ∷ ranges) all = absurd all
-reads_from_texts (part ∷ parts) [] all = absurd all
-reads_from_texts (part ∷ parts) (r ∷ ranges) all = (range_of_text part r all.0, reads_from_texts parts ranges all.1)
-
-texts_from_reads : (parts : List (List ℕ)) (ranges : List Range) → AllZip Reads parts ranges
-    → AllZip IsRangeText parts ranges
-texts_from_reads [] [] all = tt
-texts_from_reads [] (r ∷ ranges) all = absurd all
-texts_from_reads (part ∷ parts) [] all = absurd all
-texts_from_reads (part ∷ parts) (r ∷ ranges) all = (text_of_range part r all.0, texts_from_reads parts ranges all.1)
+zip_map : {A B : Type 0} (P Q : A → B → Type 0) → ((x : A) (y : B) → P x y → Q x y) → (xs : List A) (ys : List B)
+    → AllZip P xs ys → AllZip Q xs ys
+zip_map P Q each [] [] all = tt
+zip_map P Q each (x ∷ xs) (y ∷ ys) all = (each x y all.0, zip_map P Q each xs ys all.1)
+zip_map P Q each xs ys all = absurd all
 
 -- a number that stands in the ranges is in one of the parts
 number_in_part : (parts : List (List ℕ)) (ranges : List Range) → AllZip Reads parts ranges → (kind : Bool) (n : ℕ)
@@ -66,19 +48,11 @@ number_in_part : (parts : List (List ℕ)) (ranges : List Range) → AllZip Read
     → (test : Option Range → Bool) → ((r : Range) → r.inheritable ≡ kind → r.from ≤ n → n ≤ r.to → test (Some r) ≡ true)
     → list_any (λ part. test (range_of part)) parts ≡ true
 number_in_part [] [] all kind n has test passes = absurd has
-number_in_part [] (r ∷ ranges) all kind n has test passes = absurd all
-number_in_part (part ∷ parts) [] all kind n has test passes = absurd all
 number_in_part (part ∷ parts) (r ∷ ranges) all kind n (inl here) test passes =
-    let first : test (range_of part) ≡ true = ap test all.0 ∙ passes r here.0 here.1 here.2 in
-    rw first refl
+    or_left _ _ (ap test all.0 ∙ passes r here.0 here.1 here.2)
 number_in_part (part ∷ parts) (r ∷ ranges) all kind n (inr later) test passes =
-    let rest = number_in_part parts ranges all.1 kind n later test passes in
-    go (test (range_of part)) rest
-  where
-    go : (t : Bool) → list_any (λ p. test (range_of p)) parts ≡ true
-        → (t || list_any (λ p. test (range_of p)) parts) ≡ true
-    go true rest = refl
-    go false rest = rest
+    or_right _ _ (number_in_part parts ranges all.1 kind n later test passes)
+number_in_part parts ranges all kind n has test passes = absurd all
 
 -- a range of the list that passes
 abbrev Passing : List Range → (Range → Bool) → Type 0
@@ -88,46 +62,33 @@ Passing ranges test = (s : Range) × (test s ≡ true) × (s.from ≤ s.to)
 part_passes : (parts : List (List ℕ)) (ranges : List Range) → AllZip Reads parts ranges → (r : Range)
     → list_any (λ part. part_contradicts r (range_of part)) parts ≡ true → Passing ranges (contradicts r)
 part_passes [] [] all r some = let bad : false ≡ true = some in cc
-part_passes [] (s ∷ ranges) all r some = absurd all
-part_passes (part ∷ parts) [] all r some = absurd all
-part_passes (part ∷ parts) (s ∷ ranges) all r some =
-    go (contradicts r s) refl (rw all.0 at some) (λ rest. part_passes parts ranges all.1 r rest)
-  where
-    go : (t : Bool) → contradicts r s ≡ t → (contradicts r s || list_any
-        (λ p. part_contradicts r (range_of p)) parts) ≡ true
-        → (list_any (λ p. part_contradicts r (range_of p)) parts ≡ true → Passing ranges (contradicts r))
-        → Passing (s ∷ ranges) (contradicts r)
-    go true e some rest = (s, e, (text_of_range part s all.0).order, (λ n low high. inl (refl, low, high)))
-    go false e some rest =
-        let found = rest (rw e at some) in
-        (found.0, found.1, found.2, (λ n low high. inr (found.3 n low high)))
+part_passes (part ∷ parts) (s ∷ ranges) all r some = elim (or_cases (contradicts r s) _ (rw all.0 at some)) [
+  | inl e ↦ (s, e, (text_of_range part s all.0).order, (λ n low high. inl (refl, low, high)))
+  | inr later ↦
+      let found = part_passes parts ranges all.1 r later in
+      (found.0, found.1, found.2, (λ n low high. inr (found.3 n low high)))
+]
+part_passes parts ranges all r some = absurd all
 
 -- contradictions
 
 overlap : (r s : Range) (n : ℕ) → is_other r.inheritable s.inheritable ≡ true → r.from ≤ n → n ≤ r.to → s.from ≤ n
     → n ≤ s.to → contradicts r s ≡ true
 overlap r s n other r_low r_high s_low s_high =
-    let first : r.from ≤ s.to = omega arith in
-    let second : s.from ≤ r.to = omega arith in
-    let one : nat_le r.from s.to ≡ true = grind (arith, nat_tests) in
-    let two : nat_le s.from r.to ≡ true = grind (arith, nat_tests) in
-    rw (other, one, two) refl
+    rw (other, le-leb r.from s.to (omega arith), le-leb s.from r.to (omega arith)) refl
 
 overlap_parts : (r s : Range) → contradicts r s ≡ true → (is_other r.inheritable s.inheritable ≡ true) × (r.from ≤ s.to)
     × (s.from ≤ r.to)
 overlap_parts r s h =
-    let outer = and_parts (is_other r.inheritable s.inheritable && nat_le r.from s.to) (nat_le s.from r.to) h in
+    let outer = and_parts _ (nat_le s.from r.to) h in
     let inner = and_parts (is_other r.inheritable s.inheritable) (nat_le r.from s.to) outer.0 in
-    let one = inner.1 in
-    let two = outer.1 in
-    (inner.0, grind (arith, nat_tests), grind (arith, nat_tests))
+    (inner.0, leb-true r.from s.to inner.1, leb-true s.from r.to outer.1)
 
 unlike : (a b : Bool) (ranges : List Range) (n : ℕ) → is_other a b ≡ true → IsConsistent ranges → HasNumber ranges a n
     → HasNumber ranges b n → ⊥
-unlike true true ranges n other consistent one two = let bad : false ≡ true = other in cc
 unlike true false ranges n other consistent one two = consistent n one two
 unlike false true ranges n other consistent one two = consistent n two one
-unlike false false ranges n other consistent one two = let bad : false ≡ true = other in cc
+unlike a b ranges n other consistent one two = let bad : false ≡ true = other in cc
 
 all_not_any : {X : Type 0} (test : X → Bool) (xs : List X) → list_all test xs ≡ true
     → list_any (λ x. not (test x)) xs ≡ true → ⊥
@@ -157,27 +118,21 @@ pub all_agree : (parts : List (List ℕ)) (ranges : List Range) → AllZip Reads
     → ((kind : Bool) (n : ℕ) → HasNumber found kind n → HasNumber ranges kind n)
     → list_all (λ part. part_agrees parts (range_of part)) some ≡ true
 all_agree parts ranges all consistent [] [] these into = refl
-all_agree parts ranges all consistent [] (r ∷ found) these into = absurd these
-all_agree parts ranges all consistent (part ∷ some) [] these into = absurd these
 all_agree parts ranges all consistent (part ∷ some) (r ∷ found) these into =
     let rest = all_agree parts ranges all consistent some found these.1 (λ kind n has. into kind n (inr has)) in
-    let first : part_agrees parts (range_of part) ≡ true = ap (part_agrees parts) these.0
-    ∙ agrees (list_any (λ p. part_contradicts r (range_of p)) parts) refl in
-    rw first rest
+    and_from _ _ (ap (part_agrees parts) these.0 ∙ not_from_false _ (false_from_ne_true _ clash)) rest
   where
-    agrees : (t : Bool) → list_any (λ p. part_contradicts r (range_of p)) parts ≡ t → part_agrees parts (Some r) ≡ true
-    agrees false e = rw e refl
-    agrees true e =
+    clash : list_any (λ p. part_contradicts r (range_of p)) parts ≡ true → ⊥
+    clash e =
         let other = part_passes parts ranges all r e in
         let s = other.0 in
-        let clash = overlap_parts r s other.1 in
+        let (unlike_kinds, one, two) = overlap_parts r s other.1 in
         let r_order = (text_of_range part r these.0).order in
         let s_order = other.2 in
-        let one = clash.1 in
-        let two = clash.2 in
-        absurd (unlike r.inheritable s.inheritable ranges (max r.from s.from) clash.0 consistent
+        unlike r.inheritable s.inheritable ranges (max r.from s.from) unlike_kinds consistent
         (into r.inheritable (max r.from s.from) (inl (refl, omega arith, omega arith)))
-        (other.3 (max r.from s.from) (omega arith) (omega arith)))
+        (other.3 (max r.from s.from) (omega arith) (omega arith))
+all_agree parts ranges all consistent some found these into = absurd these
 
 read_all : (parts some : List (List ℕ)) → list_all (λ part. part_agrees parts (range_of part)) some ≡ true
     → (found : List Range) × AllZip Reads some found
@@ -192,6 +147,19 @@ read_all parts (part ∷ some) agree =
         → (found : List Range) × AllZip Reads (part ∷ some) found
     go None e agrees rest = let bad : false ≡ true = rw e at agrees in cc
     go (Some r) e agrees rest = (r ∷ rest.0, (e, rest.1))
+
+-- texts that are joined
+
+-- the text is a byte and others
+abbrev pub HasFirst : List ℕ → Type 0
+HasFirst text = (b : ℕ) × (rest : List ℕ) × (text ≡ b ∷ rest)
+
+-- texts that are joined begin with a byte where the first of them does
+pub joined_some : (byte : ℕ) (first : List ℕ) (texts : List (List ℕ)) → HasFirst first
+    → HasFirst (join_with_byte byte (first ∷ texts))
+joined_some byte first [] some = some
+joined_some byte first (next ∷ texts) (b, rest, is) =
+    let more = byte ∷ join_with_byte byte (next ∷ texts) in (b, rest ++ more, ap (λ (t : List ℕ). t ++ more) is)
 
 -- range lists
 
@@ -255,7 +223,7 @@ list_is_read (b ∷ list) ranges is consistent =
     go (part ∷ parts) all e =
         let cut : range_parts (b ∷ list) ≡ part ∷ parts =
         ap range_parts e ∙ split_joined 44 part parts (all_lack 44 (part ∷ parts) ranges refl refl all) in
-        let reads = reads_from_texts (part ∷ parts) ranges all in
+        let reads = zip_map IsRangeText Reads range_of_text (part ∷ parts) ranges all in
         subst (λ (l : List (List ℕ)). list_all (λ p. part_agrees l (range_of p)) l ≡ true) (sym cut)
         (all_agree (part ∷ parts) ranges reads consistent (part ∷ parts) ranges reads (λ kind n has. has))
 
@@ -268,7 +236,7 @@ read_is_list (b ∷ list) reads =
       found.0,
       (
         range_parts (b ∷ list),
-        texts_from_reads (range_parts (b ∷ list)) found.0 found.1,
+        zip_map Reads IsRangeText text_of_range (range_parts (b ∷ list)) found.0 found.1,
         sym
             (join_with_byte-slice_split 44 (b ∷ list)),
       ),

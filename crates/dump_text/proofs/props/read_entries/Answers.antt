@@ -1,4 +1,4 @@
-use Rattle.dump_text.proofs.Prelude.{refl, sym, ap, ◌∙◌, ◌||◌, Bool, true, false, arith, List, [], ◌≡◌, bytes_eq-Decides, Property, block_end, has_deletes}
+use Rattle.dump_text.proofs.Prelude.{sym, ap, ◌∙◌, ◌||◌, or-false, Bool, arith, List, [], ◌≡◌, bytes_eq-Decides, Property, block_end, has_deletes}
 use Rattle.dump_text.proofs.BoolLemmas.{absurd_bool}
 use Rattle.dump_text.proofs.PropertyLemmas.{scanned_parts, entry_shorter, entries_more, entries_end, entries_once, deletes_step, gone_is}
 use Rattle.dump_text.proofs.WrittenLemmas.{scanned_shortest, written_step}
@@ -35,12 +35,8 @@ returns-then-eq c =
       deletes = λ ps all.
           let (qs, more, is) = before.deletes ps all in
           sym (is ∙ ap (λ (l : List Property). c.loop-parts.deletes || has_deletes l)
-          (entries_once _ qs [] more end) ∙ or_false c.loop-parts.deletes);
+          (entries_once _ qs [] more end) ∙ or-false c.loop-parts.deletes);
     }
-  where
-    or_false : (b : Bool) → (b || false) ≡ b
-    or_false true = refl
-    or_false false = refl
 
 pub returns-else-eq : goal.returns-else-eq
 returns-else-eq c = λ has.

@@ -6,11 +6,9 @@ use Rattle.dump_rules.proofs.merged.Bounds.widened_by_list.Goals as goal
 
 pub loop-comma-preserved : goal.loop-comma-preserved
 loop-comma-preserved c =
-    let at = c.find.ensures in
-    let here = c.in-Some.is in
     let rest = c.loop-comma.rest.now in
-    let cut = parts_first 44 rest c.cut_at.result.0.now c.cut_at.result.1.now c.in-Some.comma (sym at ∙ here)
-    c.cut_at.ensures.before c.cut_at.ensures.behind in
+    let cut = parts_first 44 rest c.cut_at.result.0.now c.cut_at.result.1.now c.in-Some.comma
+    (sym c.find.ensures ∙ c.in-Some.is) c.cut_at.ensures.before c.cut_at.ensures.behind in
     c.loop-comma.invariant
     ∙ bounds_first c.loop-comma.bounds _ c.cut_at.result.0.now (range_parts c.cut_at.result.1.now)
     (range_parts rest) cut
@@ -18,8 +16,7 @@ loop-comma-preserved c =
 
 pub returns : goal.returns
 returns c =
-    let at = c.find.ensures in
-    let none = c.in_default.is in
     c.widened_by.ensures
     ∙ sym (list_bounds_is c.args.bounds c.args.list.now ∙ c.loop-comma.invariant
-    ∙ ap (parts_bounds c.loop-comma.bounds) (position_whole 44 c.loop-comma.rest.now (sym at ∙ none)))
+    ∙ ap (parts_bounds c.loop-comma.bounds)
+    (position_whole 44 c.loop-comma.rest.now (sym c.find.ensures ∙ c.in_default.is)))

@@ -6,33 +6,25 @@ use Rattle.dump_rules.proofs.merged.Merged.with_lines.Goals as goal
 
 pub returns-in_err-merged : goal.returns-in_err-merged
 returns-in_err-merged c =
-    let at = c.find.ensures in
-    let here = c.in-Some.is in
     let line = c.cut_at.result.0.now in
-    let others = c.cut_at.result.1.now in
-    let cut = parts_first 10 c.loop-lf.rest.now line others c.in-Some.lf
-    (sym at ∙ here) c.cut_at.ensures.before c.cut_at.ensures.behind in
+    let cut = parts_first 10 c.loop-lf.rest.now line c.cut_at.result.1.now c.in-Some.lf
+    (sym c.find.ensures ∙ c.in-Some.is) c.cut_at.ensures.before c.cut_at.ensures.behind in
     c.from_residual.ensures
     ∙ sym (c.loop-lf.invariant ∙ lines_bad c.args.options.now c.loop-lf.merged line _ _ cut
     (sym c.with_line.ensures ∙ c.in_err-merged.was))
 
 pub loop-lf-preserved : goal.loop-lf-preserved
 loop-lf-preserved c =
-    let at = c.find.ensures in
-    let here = c.in-Some.is in
     let line = c.cut_at.result.0.now in
-    let others = c.cut_at.result.1.now in
-    let cut = parts_first 10 c.loop-lf.rest.now line others c.in-Some.lf
-    (sym at ∙ here) c.cut_at.ensures.before c.cut_at.ensures.behind in
+    let cut = parts_first 10 c.loop-lf.rest.now line c.cut_at.result.1.now c.in-Some.lf
+    (sym c.find.ensures ∙ c.in-Some.is) c.cut_at.ensures.before c.cut_at.ensures.behind in
     c.loop-lf.invariant
     ∙ lines_first c.args.options.now c.loop-lf.merged c.in_ok-merged.merged line _ _ cut
     (sym c.with_line.ensures ∙ c.in_ok-merged.was)
 
 pub returns : goal.returns
 returns c =
-    let at = c.find.ensures in
-    let none = c.in_default.is in
     c.with_line-2.ensures
     ∙ sym (c.loop-lf.invariant ∙ ap (lines_merged c.args.options.now c.loop-lf.merged)
-    (position_whole 10 c.loop-lf.rest.now (sym at ∙ none))
+    (position_whole 10 c.loop-lf.rest.now (sym c.find.ensures ∙ c.in_default.is))
     ∙ lines_last c.args.options.now c.loop-lf.merged c.loop-lf.rest.now)

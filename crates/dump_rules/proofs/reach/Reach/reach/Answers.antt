@@ -7,14 +7,13 @@ found : (c : After-partition_point-up_to) → c.partition_point-up_to.result ≡
     (λ k. nat_le k c.args.revision) c.args.self.now.numbers
 found c =
     let is = c.deref.ensures.value in
+    let p = λ (k : ℕ). nat_le k c.args.revision in
+    let search_of = c.partition_point-up_to in
     let parted = parted_from_rise c.self.inside.first c.args.revision c.self.inside.numbers.items c.self.invariant in
-    let point = IsPartitionPoint-from_clause
-    (λ k. nat_le k c.args.revision) c.deref.result.now _ c.partition_point-up_to.ensures.partitioned (rw is parted)
+    let point = IsPartitionPoint-from_clause p c.deref.result.now _ search_of.ensures.partitioned (rw is parted)
     (λ a r q k. search rules) in
-    count_at_point
-    (λ k. nat_le k c.args.revision) c.partition_point-up_to.result c.deref.result.now c.partition_point-up_to.ensures.bound point
-    ∙ ap (count_by (λ k. nat_le k c.args.revision)) is
-    ∙ ap (λ (kept : KeptRevisions). count_by (λ k. nat_le k c.args.revision) kept.numbers) c.self.view_is
+    count_at_point p search_of.result c.deref.result.now search_of.ensures.bound point
+    ∙ ap (count_by p) (is ∙ ap (λ (kept : KeptRevisions). kept.numbers) c.self.view_is)
 
 risen : (c : After-partition_point-up_to) → RiseFrom c.args.self.now.first c.args.self.now.numbers
 risen c = subst (λ (kept : KeptRevisions). RiseFrom kept.first kept.numbers) c.self.view_is c.self.invariant
