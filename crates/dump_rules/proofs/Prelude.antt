@@ -1,6 +1,6 @@
 -- The words of std, of the definitions and of the lemmas below, for the proofs of this crate.
 pub use Rattle.std.proofs.Common.{Bool, Bor, Contains, Err, IfSome, IsTrue, List, MatchBool, None, Ok, OnOk, Option, Result, Some, [], ap, append-nil, append_assoc, arith, bytes_eq, codes, cond, count_by, drop, false, filter, get_or, if◌then◌else◌, inl, inr, is_some, length, length-append, lit<, lit≤, map, max, min, nat_eq, nat_le, nat_lt, not, option_and_then, option_copied, option_map, position, refl, reverse, rules, subst, suc, sym, take, tests, true, zero, ℕ, ◌&&◌, ◌++◌, ◌+◌, ◌-◌, ◌<◌, ◌==◌, ◌^◌, ◌||◌, ◌↔◌, ◌∙◌, ◌∷◌, ◌≡◌, ◌≢◌, ◌≤◌, ◌⊎◌}
-pub use Rattle.std.proofs.Math.Bool.{and-false, and-or_distrib_left, and-true, and_assoc, not-not, or-false, or_assoc, or_comm, or_self_left}
+pub use Rattle.std.proofs.Math.Bool.{and-false, and-or_distrib_left, and-true, and_assoc, not-not, or-false, or_assoc}
 pub use Rattle.std.proofs.Math.Seq.{drop-append-add, get_or-append_seam, take-length}
 pub use Rattle.std.proofs.lemmas.Bool.{and_from, and_left, and_parts, and_right, both_ways, cases_Bool, cases_lt, eqb-true, false_from_ne_true, le-leb, le-ltb, leb-false, leb-true, lt-ltb, ltb-true, not-false, not-true, not_from_false, or_cases, or_from, or_left, or_parts, or_right}
 pub use Rattle.std.proofs.lemmas.Bool.Decides.{leb_tells, nat_tests}
