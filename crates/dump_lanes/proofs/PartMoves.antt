@@ -28,21 +28,10 @@ other_thread t u differs e = true≢false (sym (is_same_thread t) ∙ (ap (is_th
 
 one_thread : (t u : Thread) → is_thread t u ≡ true → u ≡ t
 one_thread Thread.Cutter Thread.Cutter e = refl
-one_thread Thread.Cutter (Thread.Worker k) e = absurd (true≢false (sym e))
-one_thread Thread.Cutter Thread.Sequencer e = absurd (true≢false (sym e))
-one_thread Thread.Cutter Thread.Writer e = absurd (true≢false (sym e))
-one_thread (Thread.Worker j) Thread.Cutter e = absurd (true≢false (sym e))
 one_thread (Thread.Worker j) (Thread.Worker k) e = ap Thread.Worker (sym (eqb-true j k e))
-one_thread (Thread.Worker j) Thread.Sequencer e = absurd (true≢false (sym e))
-one_thread (Thread.Worker j) Thread.Writer e = absurd (true≢false (sym e))
-one_thread Thread.Sequencer Thread.Cutter e = absurd (true≢false (sym e))
-one_thread Thread.Sequencer (Thread.Worker k) e = absurd (true≢false (sym e))
 one_thread Thread.Sequencer Thread.Sequencer e = refl
-one_thread Thread.Sequencer Thread.Writer e = absurd (true≢false (sym e))
-one_thread Thread.Writer Thread.Cutter e = absurd (true≢false (sym e))
-one_thread Thread.Writer (Thread.Worker k) e = absurd (true≢false (sym e))
-one_thread Thread.Writer Thread.Sequencer e = absurd (true≢false (sym e))
 one_thread Thread.Writer Thread.Writer e = refl
+one_thread t u e = absurd (true≢false (sym e))
 
 one_or_not : (t u : Thread) (same : Bool) → is_thread t u ≡ same
     → ((u ≡ t) × (is_thread t u ≡ true)) ⊎ ((u ≢ t) × (is_thread t u ≡ false))
@@ -85,20 +74,15 @@ module _ {E : Type 0} where
       ap (λ l. all ++ l) (none s y.1) ∙ (append-nil all ∙ (rest ∙ ap (λ b. all_put part (cond b (s ∷ own) own))
       (sym y.1)))) (one_or_other t (thread_of (event_of s.event)))
 
+  -- the part whose entries go the other way
+  abbrev swapped : Part E → Part E
+  swapped part = record part { puts = part.takes; takes = part.puts }
+
   -- and where one alone takes, what left likewise
   pub taken_alone : (part : Part E) (t : Thread)
       → ((s : Step E) → is_thread t (thread_of (event_of s.event)) ≡ false → part.takes s ≡ [])
       → (steps : List (Step E)) → all_taken part steps ≡ all_taken part (steps_of t steps)
-  taken_alone part t none [] = refl
-  taken_alone part t none (s ∷ before) =
-      let all : List E = all_taken part before in
-      let own : List (Step E) = steps_of t before in
-      let rest : all ≡ all_taken part own = taken_alone part t none before in
-      ⊎_elim (λ (y : (thread_of (event_of s.event) ≡ t) × (is_thread t (thread_of (event_of s.event)) ≡ true)).
-      ap (λ l. l ++ part.takes s) rest ∙ ap (λ b. all_taken part (cond b (s ∷ own) own)) (sym y.1))
-      (λ (y : (thread_of (event_of s.event) ≢ t) × (is_thread t (thread_of (event_of s.event)) ≡ false)).
-      ap (λ l. all ++ l) (none s y.1) ∙ (append-nil all ∙ (rest ∙ ap (λ b. all_taken part (cond b (s ∷ own) own))
-      (sym y.1)))) (one_or_other t (thread_of (event_of s.event)))
+  taken_alone part t none steps = put_alone (swapped part) t none steps
 
   -- what joined weighs what its steps weigh, and what left likewise
   pub put_weight : (part : Part E) (weight : E → ℕ) (steps : List (Step E))
@@ -111,11 +95,7 @@ module _ {E : Type 0} where
 
   pub taken_weight : (part : Part E) (weight : E → ℕ) (steps : List (Step E))
       → sum_by weight (all_taken part steps) ≡ sum_by (λ s. sum_by weight (part.takes s)) steps
-  taken_weight part weight [] = refl
-  taken_weight part weight (s ∷ before) =
-      let a = sum_by-append weight (all_taken part before) (part.takes s) in
-      let b = sum_by-cons (λ s. sum_by weight (part.takes s)) s before in
-      let t = taken_weight part weight before in omega arith
+  taken_weight part weight steps = put_weight (swapped part) weight steps
 
   -- what left in all steps is what left in the earlier ones, and then what left in the later ones
   pub all_taken-append : (part : Part E) (xs ys : List (Step E))
@@ -128,10 +108,7 @@ module _ {E : Type 0} where
   -- and what joined likewise
   pub all_put-append : (part : Part E) (xs ys : List (Step E))
       → all_put part (xs ++ ys) ≡ all_put part ys ++ all_put part xs
-  all_put-append part [] ys = sym (append-nil (all_put part ys))
-  all_put-append part (s ∷ xs) ys =
-      ap (λ l. l ++ part.puts s) (all_put-append part xs ys) ∙ append_assoc (all_put part ys) (all_put part xs)
-      (part.puts s)
+  all_put-append part xs ys = all_taken-append (swapped part) xs ys
 
   -- a part holds what was put less what was taken, in order
   pub in_order : (part : Part E) (happened : List (Step E)) (items : List E) → AreSteps part happened items

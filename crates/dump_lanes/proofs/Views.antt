@@ -43,12 +43,6 @@ module _ {V : Type 0} where
   within (x ∷ xs) zero v e = omega arith
   within (x ∷ xs) (suc pass) v e = let t = within xs pass v e in omega arith
 
-  -- a change of one view leaves as many views
-  pub set_long : (views : List V) (pass : ℕ) (w : V) → length (set views pass w) ≡ length views
-  set_long [] pass w = refl
-  set_long (x ∷ xs) zero w = refl
-  set_long (x ∷ xs) (suc pass) w = ap suc (set_long xs pass w)
-
   -- each pass that is less than the number of views has a view
   pub at_some : (views : List V) (pass : ℕ) → pass < length views → (v : V) × (get_elem? views pass ≡ some v)
   at_some [] pass lt = absurd (omega arith)

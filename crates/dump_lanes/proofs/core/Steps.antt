@@ -19,24 +19,12 @@ credits_step size free Event.Draw before may h = (
   (free, record { one_credit = refl; allowed = may; share = refl }, h.1),
   ap (λ l. Event.Draw ∷ l) h.2,
 )
-credits_step size free (Event.Cut last) before may h = h
-credits_step size free Event.CutMark before may h = h
-credits_step size free (Event.Take k) before may h = h
-credits_step size free (Event.Put k) before may h = h
-credits_step size free Event.Arrive before may h = h
-credits_step size free Event.SequencerNotes before may h = h
-credits_step size free Event.WriterNotes before may h = h
-credits_step size free Event.Release before may h = h
-credits_step size free Event.Write before may h = h
 credits_step size free Event.Give before may h = (
   back_step ∷ h.0,
   (free, record { one_credit = refl; allowed = refl; share = refl }, h.1),
   ap (λ l. Event.Give ∷ l) h.2,
 )
-credits_step size free Event.SequencerRaises before may h = h
-credits_step size free Event.WriterRaises before may h = h
-credits_step size free Event.Look before may h = h
-credits_step size free Event.Shut before may h = h
+credits_step size free event before may h = h
 
 cut_jobs : (jobs : List Entry) (x : Entry) (happened : List (Step (Mark ℕ))) → AreSteps jobs_part happened
     (map mark_of jobs)
@@ -57,7 +45,6 @@ take_jobs k (x ∷ rest) before may h = (
 
 jobs_step : (w : World) (event : Event) (before : List Event) → IsTrue (jobs_allow w.jobs event) → JobsAt before w.jobs
     → JobsAt (event ∷ before) (jobs_share w.jobs (cutter_puts w event) event)
-jobs_step w Event.Draw before may h = h
 jobs_step w (Event.Cut last) before may h = (
   put_step (Item w.cut) ∷ h.0,
   cut_jobs w.jobs (Entry.Item w.cut) h.0 h.1,
@@ -71,17 +58,7 @@ jobs_step w Event.CutMark before may h = (
       (λ l. Event.CutMark ∷ l) h.2,
 )
 jobs_step w (Event.Take k) before may h = take_jobs k w.jobs before may h
-jobs_step w (Event.Put k) before may h = h
-jobs_step w Event.Arrive before may h = h
-jobs_step w Event.SequencerNotes before may h = h
-jobs_step w Event.WriterNotes before may h = h
-jobs_step w Event.Release before may h = h
-jobs_step w Event.Write before may h = h
-jobs_step w Event.Give before may h = h
-jobs_step w Event.SequencerRaises before may h = h
-jobs_step w Event.WriterRaises before may h = h
-jobs_step w Event.Look before may h = h
-jobs_step w Event.Shut before may h = h
+jobs_step w event before may h = h
 
 put_done : (k : ℕ) (hand : Option Entry) (dones : List Entry) (before : List Event) → IsTrue (is_some hand)
     → DonesAt before dones
@@ -116,21 +93,9 @@ arrive_done (x ∷ rest) before may h = first_note h.0 h.2 x rest before h.1 h.3
 dones_step : (size : PoolSize) (w : World) (event : Event) (before : List Event) → IsTrue (is_enabled size w event)
     → DonesAt before w.dones
     → DonesAt (event ∷ before) (dones_share w.dones (worker_puts w event) event)
-dones_step size w Event.Draw before may h = h
-dones_step size w (Event.Cut last) before may h = h
-dones_step size w Event.CutMark before may h = h
-dones_step size w (Event.Take k) before may h = h
 dones_step size w (Event.Put k) before may h = put_done k (hand_of w k) w.dones before may h
 dones_step size w Event.Arrive before may h = arrive_done w.dones before may h
-dones_step size w Event.SequencerNotes before may h = h
-dones_step size w Event.WriterNotes before may h = h
-dones_step size w Event.Release before may h = h
-dones_step size w Event.Write before may h = h
-dones_step size w Event.Give before may h = h
-dones_step size w Event.SequencerRaises before may h = h
-dones_step size w Event.WriterRaises before may h = h
-dones_step size w Event.Look before may h = h
-dones_step size w Event.Shut before may h = h
+dones_step size w event before may h = h
 
 write_lane : (lane : List ℕ) (before : List Event) → IsTrue (nat_lt 0 (length lane)) → LaneAt before lane
     → LaneAt (Event.Write ∷ before) (drop 1 lane)
@@ -144,14 +109,6 @@ write_lane (x ∷ rest) before may h = (
 
 lane_step : (w : World) (event : Event) (before : List Event) → IsTrue (lane_allow w.lane event) → LaneAt before w.lane
     → LaneAt (event ∷ before) (lane_share w.lane (sequencer_puts w event) event)
-lane_step w Event.Draw before may h = h
-lane_step w (Event.Cut last) before may h = h
-lane_step w Event.CutMark before may h = h
-lane_step w (Event.Take k) before may h = h
-lane_step w (Event.Put k) before may h = h
-lane_step w Event.Arrive before may h = h
-lane_step w Event.SequencerNotes before may h = h
-lane_step w Event.WriterNotes before may h = h
 lane_step w Event.Release before may h = (
   release w.released ∷ h.0,
   (w.lane, release_is_step w.released w.lane, h.1),
@@ -159,29 +116,14 @@ lane_step w Event.Release before may h = (
       (λ l. Event.Release ∷ l) h.2,
 )
 lane_step w Event.Write before may h = write_lane w.lane before may h
-lane_step w Event.Give before may h = h
-lane_step w Event.SequencerRaises before may h = h
-lane_step w Event.WriterRaises before may h = h
-lane_step w Event.Look before may h = h
-lane_step w Event.Shut before may h = h
+lane_step w event before may h = h
 
 word_step : (up : Bool) (event : Event) (before : List Event) → WordAt before up
     → WordAt (event ∷ before) (stop_share up event)
-word_step up Event.Draw before h = h
-word_step up (Event.Cut last) before h = h
-word_step up Event.CutMark before h = h
-word_step up (Event.Take k) before h = h
-word_step up (Event.Put k) before h = h
-word_step up Event.Arrive before h = h
-word_step up Event.SequencerNotes before h = h
-word_step up Event.WriterNotes before h = h
-word_step up Event.Release before h = h
-word_step up Event.Write before h = h
-word_step up Event.Give before h = h
 word_step up Event.SequencerRaises before h = (kind.Raise ∷ h.0, (up, raise_is_step up, h.1), (refl, h.2))
 word_step up Event.WriterRaises before h = (kind.Raise ∷ h.0, (up, raise_is_step up, h.1), (refl, h.2))
 word_step up Event.Look before h = (kind.Look up ∷ h.0, (up, look_is_step up up refl, h.1), (refl, h.2))
-word_step up Event.Shut before h = h
+word_step up event before h = h
 
 step_makes : (size : PoolSize) (w : World) (event : Event) (before : List Event) → IsTrue (is_enabled size w event)
     → MakesSteps size before w → MakesSteps size (event ∷ before) (after_event size w event)
