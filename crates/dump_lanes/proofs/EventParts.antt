@@ -1,8 +1,9 @@
 -- What a step of one thread leaves to the others, and what its shared parts allow.
-use Rattle.dump_lanes.proofs.Prelude.{◌≢◌, ℕ, ap, refl, true, false, ◌&&◌, nat_lt, List, [], ◌∷◌, Some, None, PoolSize, Entry, World, Event, is_enabled, Thread, IsSameFor, LeavesOthers, PartsAllow, length, and_parts}
+use Rattle.dump_lanes.proofs.Prelude.{◌≢◌, ℕ, ap, refl, true, false, ◌&&◌, nat_lt, List, [], ◌∷◌, Some, None, PoolSize, Entry, World, Event, is_enabled, Thread, IsSameFor, LeavesOthers, PartsAllow, length, and_parts, credits_allow, jobs_allow, lane_allow}
 use Rattle.std.proofs.lemmas.List.{get_or-set_other}
 use Rattle.std.specs.Prelude.{IsTrue, not}
 use Rattle.dump_lanes.specs.PoolEvents.{taken_by}
+use Rattle.dump_lanes.specs.PoolParts.{dones_allow}
 use Rattle.dump_lanes.proofs.core.FirstEntry.{by_done, by_piece}
 
 -- another worker has another number
@@ -52,25 +53,14 @@ leaves size w Event.Write other h =
     by_piece (IsSameFor other w) size w w.lane (same_own other w) (λ n rest. same_own other w)
 leaves size w event other h = same_own other w
 
+parts_allow : {w : World} {event : Event} → IsTrue (credits_allow w.credits event) → IsTrue (jobs_allow w.jobs event)
+    → IsTrue (dones_allow w.dones event) → IsTrue (lane_allow w.lane event) → PartsAllow w event
+parts_allow credits jobs dones lane = record { credits = credits; jobs = jobs; dones = dones; lane = lane }
+
 -- an event that may happen is allowed by each part
 pub allows : (size : PoolSize) (w : World) (event : Event) → IsTrue (is_enabled size w event) → PartsAllow w event
-allows size w Event.Draw h = record {
-  credits = (and_parts (not w.cutter_ended && not w.holds_credit) _ h).1;
-  jobs = refl;
-  dones = refl;
-  lane = refl;
-}
-allows size w (Event.Take worker) h = record {
-  credits = refl;
-  jobs = (and_parts _ (nat_lt 0 (length w.jobs)) h).1;
-  dones = refl;
-  lane = refl;
-}
-allows size w Event.Arrive h = record { credits = refl; jobs = refl; dones = h; lane = refl }
-allows size w Event.Write h = record {
-  credits = refl;
-  jobs = refl;
-  dones = refl;
-  lane = (and_parts (nat_lt 0 (length w.lane)) _ h).0;
-}
-allows size w event h = record { credits = refl; jobs = refl; dones = refl; lane = refl }
+allows size w Event.Draw h = parts_allow (and_parts (not w.cutter_ended && not w.holds_credit) _ h).1 refl refl refl
+allows size w (Event.Take worker) h = parts_allow refl (and_parts _ (nat_lt 0 (length w.jobs)) h).1 refl refl
+allows size w Event.Arrive h = parts_allow refl refl h refl
+allows size w Event.Write h = parts_allow refl refl refl (and_parts (nat_lt 0 (length w.lane)) _ h).0
+allows size w event h = parts_allow refl refl refl refl

@@ -89,9 +89,7 @@ module _ {E : Type 0} where
       → sum_by weight (all_put part steps) ≡ sum_by (λ s. sum_by weight (part.puts s)) steps
   put_weight part weight [] = refl
   put_weight part weight (s ∷ before) =
-      let a = sum_by-append weight (all_put part before) (part.puts s) in
-      let b = sum_by-cons (λ s. sum_by weight (part.puts s)) s before in
-      let t = put_weight part weight before in omega arith
+      let t = put_weight part weight before in omega (arith, sum_by-append {X = E}, sum_by-cons {X = Step E})
 
   pub taken_weight : (part : Part E) (weight : E → ℕ) (steps : List (Step E))
       → sum_by weight (all_taken part steps) ≡ sum_by (λ s. sum_by weight (part.takes s)) steps
@@ -191,8 +189,7 @@ module _ {E : Type 0} (owner : Thread → ℕ) (happened : List (Step E)) where
       → Knows owner happened pass steps → Knows owner (s ∷ happened) pass steps
   knows_else pass steps s apart h =
       record {
-        own = λ t e. h.own t e ∙ sym (step_other t s happened
-            (λ k. apart (sym (ap owner k) ∙ e)));
+        own = λ t e. h.own t e ∙ sym (step_other t s happened (λ k. apart (sym (ap owner k) ∙ e)));
         others = h.others;
       }
 
@@ -256,7 +253,6 @@ module _ {E : Type 0} (owner : Thread → ℕ) (happened : List (Step E)) where
   -- a pass that was taken in has no thread left, and knows no step
   pub knows_join_spent : (pass other : ℕ) (two : other ≢ pass) → Knows (joined owner pass other two) happened other []
   knows_join_spent pass other two = record {
-    own = λ t e. absurd
-        (joined_left owner pass other two t e);
+    own = λ t e. absurd (joined_left owner pass other two t e);
     others = λ t ne. refl;
   }

@@ -2,7 +2,7 @@
 use Rattle.dump_lanes.proofs.Prelude.{◌≡◌, ◌<◌, ◌==◌, ℕ, zero, suc, true, false, List, [], ◌∷◌, ◌++◌, length, map, replicate, flat_map, sum_by, All, Contains, sym, refl, ap, ◌∙◌, subst, append_assoc, arith, range_with_len, length-append, Note, Queues, WorkerPort, Mark, End, View, dones_part, sequencer_crew, jobs_part, cutter_crew, after_join, AreItemsThen, mark_if, name_of, count_ends, marks_in, EndsLast, IsCutting, IsSequencing, steps_of, Thread, PoolName, PoolState, CutterSide, WorkerSide, new_cutter, new_worker, AreWorkersOf, IsDone, all_given, worker_port, steps_by, HasTakenIn, HasJobsOf, HasDonesOf, done_steps, length-map-range_with_len, get_or-map-range_with_len}
 use Rattle.std.proofs.Common.{slice_index_or}
 use Rattle.std.proofs.lemmas.Bool.{eqb-true}
-use Rattle.std.proofs.lemmas.List.{append-nil, length-map}
+use Rattle.std.proofs.lemmas.List.{append-nil, get_or-map, length-map}
 use Rattle.std.proofs.lemmas.List.Elements.{All-map, All-push}
 use mathlib.Core.List.{map-map}
 use mathlib.Core.Logic.{dite}
@@ -16,19 +16,13 @@ use Rattle.dump_lanes.proofs.PoolMarks.{count_ends-append}
 use Rattle.dump_lanes.proofs.Settling.{one_end, all_jobs, all_dones, HasEnded, AllEndLast, all_end_last-append, marks_in-append, flat_map-then}
 
 module _ {X Y : Type 0} where
-  index_of_map : (f : X → Y) (xs : List X) (k : ℕ) (d : X) → slice_index_or (map f xs) k (f d) ≡ f
-      (slice_index_or xs k d)
-  index_of_map f [] k d = refl
-  index_of_map f (x ∷ xs) zero d = refl
-  index_of_map f (x ∷ xs) (suc k) d = index_of_map f xs k d
-
   -- a mapped list is as long as the list
   pub length_of_map : (f : X → Y) (xs : List X) → length (map f xs) ≡ length xs
   length_of_map f xs = length-map xs f
 
   -- what holds of each element of a list after a function
   pub all_of_map : (P : Y → Type 0) (f : X → Y) (xs : List X) → All P (map f xs) → All (λ x. P (f x)) xs
-  all_of_map P f xs h k d lt = subst P (index_of_map f xs k d)
+  all_of_map P f xs h k d lt = subst P (get_or-map f xs k d (f d) lt)
       (h k (f d) (subst (λ n. k < n) (sym (length_of_map f xs)) lt))
 
 module _ {P E : Type 0} where
@@ -231,10 +225,9 @@ module _ {J D : Type 0} where
       let as_long : length (map side new) ≡ length (map side old) = length_of_map side new
       ∙ (long ∙ sym (length_of_map side old)) in
       record {
-        same_pool = λ k d lt.
-            sym (index_of_map of_pool (map side new) k d)
-            ∙ (ap (λ l. slice_index_or l k (of_pool d)) all_pools
-            ∙ (index_of_map of_pool (map side old) k d ∙ h.same_pool k d (subst (λ n. k < n) as_long lt)));
+        same_pool = all_of_map (λ n. n ≡ pool) of_pool (map side new)
+            (subst (All (λ n. n ≡ pool)) (sym all_pools)
+            (map_of_all (λ n. n ≡ pool) of_pool (map side old) h.same_pool));
         as_many = as_long ∙ h.as_many;
         each = λ n lt. subst (λ l. Contains l n) (sym all_indexes) (h.each n lt);
       }

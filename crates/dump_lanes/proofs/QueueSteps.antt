@@ -94,9 +94,7 @@ module _ {E : Type 0} (part : Part E) (crew : Crew) (apart : AreApart crew) wher
         parts = let a = sum_by-set parts_of views pass v after at in let p = h.parts in omega arith;
         made = λ weight.
             let a = sum_by-set (made_weight weight) views pass v after at in
-            let k = h.made weight in
-            let b = sum_by-cons weight s v.steps in
-            let c = sum_by-cons weight s h.happened in omega arith;
+            let k = h.made weight in omega (arith, sum_by-cons {X = Step E});
         owned = λ t. let l = length-set views pass after in let o = h.owned t in omega arith;
         fits = AllViews-set (Fits part crew h.owner happened) views pass after one others;
       } in subst (λ x. IsQueueOf part crew new (set views pass x)) (sym is) now

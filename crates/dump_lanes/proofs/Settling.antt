@@ -26,9 +26,7 @@ module _ {X Y : Type 0} where
   pub sum_by-map : (f : X → Y) (weight : Y → ℕ) (xs : List X) → sum_by weight (map f xs) ≡ sum_by (λ x. weight (f x)) xs
   sum_by-map f weight [] = refl
   sum_by-map f weight (x ∷ xs) =
-      let a = sum_by-cons weight (f x) (map f xs) in
-      let b = sum_by-cons (λ x. weight (f x)) x xs in
-      let t = sum_by-map f weight xs in omega arith
+      let t = sum_by-map f weight xs in omega (arith, sum_by-cons {X = X}, sum_by-cons {X = Y})
 
 module _ {T : Type 0} where
   abbrev end_weight : Mark T → ℕ
@@ -48,11 +46,8 @@ module _ {T : Type 0} where
       (items_of marks)
   weigh_items weight [] = refl
   weigh_items weight (Item x ∷ marks) =
-      let a = sum_by-cons (item_weight weight) (Item x) marks in
-      let b = sum_by-cons weight x (items_of marks) in
-      let t = weigh_items weight marks in omega arith
-  weigh_items weight (End ∷ marks) = let a = sum_by-cons
-      (item_weight weight) End marks in let t = weigh_items weight marks in omega arith
+      let t = weigh_items weight marks in omega (arith, sum_by-cons {X = T}, sum_by-cons {X = Mark T})
+  weigh_items weight (End ∷ marks) = let t = weigh_items weight marks in omega (arith, sum_by-cons {X = Mark T})
 
   ends_of_items : (xs : List T) → count_ends (map {B = Mark T} Item xs) ≡ 0
   ends_of_items [] = refl

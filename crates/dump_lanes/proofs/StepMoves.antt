@@ -20,10 +20,7 @@ module _ {E : Type 0} where
   one_each part [] items h = refl
   one_each part (s ∷ before) items h =
       let t = one_each part before h.0 h.2 in
-      let o = ap length h.1.one_entry in
-      let a = length-append (part.puts s) (part.takes s) in
-      let b = length-append (all_put part before) (part.puts s) in
-      let c = length-append (all_taken part before) (part.takes s) in omega arith
+      let o = ap length h.1.one_entry in omega (arith, length-append {A = E})
 
   none : {A : Type 0} (x : E) → [] ≡ x ∷ [] → A
   none x e = absurd (let l = ap length e in omega arith)

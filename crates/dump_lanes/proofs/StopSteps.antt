@@ -108,8 +108,7 @@ begins = record {
   fits = AllViews-one (Fits false) (marks 4 false false []) record {
     raises = λ r. r;
     sees = λ r. r;
-    spends = λ none.
-        (refl, refl);
+    spends = λ none. (refl, refl);
   };
 }
 
@@ -137,17 +136,14 @@ looks slots id me shared s h long at small =
       steps = (h.up, look_is_step h.up (n == 1) (found_is h.up n e), h.steps);
       made = λ weight.
           let k = sum_by-set (made_by weight) s.views id me.0 w at in
-          let all = h.made weight in
-          let a = sum_by-cons weight step me.0.steps in
-          let b = sum_by-cons weight step h.happened in omega arith;
+          let all = h.made weight in omega (arith, sum_by-cons {X = WordStep});
       someone = λ up. keep_some s.views id me.0 w at (λ r. r) (h.someone up);
       shares = let k = sum_by-set share_of s.views id me.0 w at in let all = h.shares in omega arith;
       fits = AllViews-set
           (Fits h.up) s.views id w record {
             raises = mine.raises;
             sees = seen_up h.up n e;
-            spends = λ none. absurd
-                (omega arith);
+            spends = λ none. absurd (omega arith);
           } (λ j u other d. h.fits j u d);
     } in (w, keeps, tt, after, told)
 
@@ -198,14 +194,11 @@ raises slots id me shared s h long at small =
       steps = (h.up, raise_is_step h.up, h.steps);
       made = λ weight.
           let k = sum_by-set (made_by weight) s.views id me.0 w at in
-          let all = h.made weight in
-          let a = sum_by-cons weight kind.Raise me.0.steps in
-          let b = sum_by-cons weight kind.Raise h.happened in omega arith;
+          let all = h.made weight in omega (arith, sum_by-cons {X = WordStep});
       someone = λ up. record {
         seat = id;
         view = w;
-        stands = set_here s.views id w
-            (within s.views id me.0 at);
+        stands = set_here s.views id w (within s.views id me.0 at);
         raised = refl;
       };
       shares = let k = sum_by-set share_of s.views id me.0 w at in let all = h.shares in omega arith;
@@ -248,8 +241,7 @@ splits id v even shared s h at =
           record {
             seat = x.seat;
             view = x.view;
-            stands = at_longer cut
-                (r ∷ []) x.seat x.view x.stands;
+            stands = at_longer cut (r ∷ []) x.seat x.view x.stands;
             raised = x.raised;
           };
       shares = let k = sum_by-set share_of s.views id v w at in let l = sum_by_push share_of cut r in let all = h.shares in omega arith;
@@ -282,8 +274,7 @@ joins id v other u shared s h at two at' =
     }) in
     let none : Fits h.up other spent = record {
       raises = λ r. absurd (true≢false (sym r));
-      sees = λ r. absurd
-          (true≢false (sym r));
+      sees = λ r. absurd (true≢false (sym r));
       spends = λ e. (refl, refl);
     } in
     record {

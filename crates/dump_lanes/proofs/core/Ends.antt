@@ -160,13 +160,8 @@ item_closed size w k n e lt s h (inl t) all =
     (λ (o : Option Entry). items_of (option_to_list o)) e in
     absurd (cc)
 item_closed size w k n e lt s h (inr f) all =
-    absurd (omega (
-      arith,
-      h.on_the_way,
-      s.each_mark,
-      not_all w.marks_taken k
-          (omega (arith, s.each_hand, s.each_mark)) f,
-    ))
+    let fewer = not_all w.marks_taken k (omega (arith, s.each_hand, s.each_mark)) f in
+    absurd (omega (arith, h.on_the_way, s.each_mark))
 
 put_closed : (size : PoolSize) (w : World) (k : ℕ) (hand : Option Entry) → hand_of w k ≡ hand → k < length w.hands
     → IsSized size w
@@ -187,13 +182,7 @@ put_ending : (size : PoolSize) (w : World) (k : ℕ) → IsTrue (is_enabled size
 put_ending size w k e s h =
     let lt : k < length w.hands = hand_within w.hands k e in
     record {
-      on_the_way = omega (
-        arith,
-        h.on_the_way,
-        hand_set w.hands k None lt,
-        marks-append w.dones
-            (option_to_list (hand_of w k)),
-      );
+      on_the_way = omega (arith, h.on_the_way, hand_set, marks-append);
       own_last = own_at w.hands w.marks_taken w.marks_taken k None lt h.own_last (λ x. refl) (λ j ne t. t);
       closed = put_closed size w k (hand_of w k) refl lt s h;
     }

@@ -1,5 +1,5 @@
 -- Each item that is cut is in one place, after each event.
-use Rattle.dump_lanes.proofs.Prelude.{◌≡◌, ◌⊎◌, inl, inr, ℕ, zero, suc, ◌+◌, ◌<◌, ◌≤◌, ◌%◌, Bool, true, false, nat_lt, List, [], ◌∷◌, ◌++◌, length, get_or, Option, Some, None, is_some, option_to_list, refl, ap, arith, concat, range_with_len, and_parts, not-true, ltb-true, cases_lt, PoolSize, Entry, World, opening, hand_of, slot_of, items_in_hands, Event, is_enabled, after_event, arrived, written_next, has_next, set}
+use Rattle.dump_lanes.proofs.Prelude.{◌≡◌, ℕ, zero, suc, ◌+◌, ◌<◌, ◌≤◌, ◌%◌, Bool, true, false, nat_lt, List, [], ◌∷◌, ◌++◌, length, get_or, Option, Some, None, is_some, option_to_list, refl, ap, arith, concat, range_with_len, and_parts, not-true, ltb-true, PoolSize, Entry, World, opening, hand_of, slot_of, items_in_hands, Event, is_enabled, after_event, arrived, written_next, has_next, set}
 use Rattle.std.proofs.Common.{not, IsTrue, is_none, slice_index_or, mod-lt}
 use Rattle.dump_lanes.specs.PoolWorld.{items_of}
 use Rattle.dump_lanes.specs.PoolEvents.{taken_by}
@@ -47,8 +47,7 @@ may_take size w k e =
     record {
       within = ltb-true k size.workers c.0;
       empty = is_none_from (hand_of w k) c.1;
-      unmarked = not-true
-          (slice_index_or w.marks_taken k false) b.1;
+      unmarked = not-true (slice_index_or w.marks_taken k false) b.1;
     }
 
 -- a hand that holds something is a worker's
@@ -72,12 +71,7 @@ slot_within size w n s = omega (arith, s.each_slot, mod-lt n s.some_slot)
 -- after an item arrives the slots weigh what it weighs more
 pub arrival_weight : (f : ℕ → ℕ) (size : PoolSize) (w : World) (n : ℕ) → IsSized size w
     → weigh f (concat (set w.slots (n % size.window) (slot_of size w n ++ n ∷ []))) ≡ weigh f (concat w.slots) + f n
-arrival_weight f size w n s =
-    omega (
-      arith,
-      slots_set f w.slots (n % size.window) (slot_of size w n ++ n ∷ []) (slot_within size w n s),
-      weigh-append f (slot_of size w n) (n ∷ []),
-    )
+arrival_weight f size w n s = let lt = slot_within size w n s in omega (arith, slots_set, weigh-append)
 
 arrive_once : (size : PoolSize) (w : World) (dones : List Entry) → IsSized size w
     → IsEachOnce (record w { dones = dones }) → IsEachOnce (arrived size (record w { dones = dones }) dones)
@@ -95,33 +89,22 @@ pub record IsNext (size : PoolSize) (w : World) : Type 0 where
   pub below : w.released < w.cut
   pub single : weigh (only w.released) (slot_of size w w.released) ≡ 1
 
-by_order : (size : PoolSize) (w : World) → (w.released < w.cut) ⊎ (w.cut ≤ w.released)
-    → 0 < weigh (only w.released) (slot_of size w w.released)
-    → weigh (only w.released) (slot_of size w w.released) ≤ weigh (only w.released) (range_with_len 0 w.cut)
-    → IsNext size w
-by_order size w (inl lt) here all = record { below = lt; single = omega (arith, within_range w.released w.cut lt) }
-by_order size w (inr le) here all = absurd (omega (arith, above_range w.released w.cut le))
-
 -- where the sequencer finds the next item, that item is cut and stands in its slot once
 pub is_next : (size : PoolSize) (w : World) → IsEachOnce w → IsTrue (has_next size w) → IsNext size w
 is_next size w h e =
-    let here : 0 < weigh (only w.released) (slot_of size w w.released) = weighs w.released
-    (slot_of size w w.released) e in
+    let here = weighs w.released (slot_of size w w.released) e in
     let all : weigh (only w.released) (slot_of size w w.released) ≤ weigh (only w.released) (range_with_len 0 w.cut) =
     omega (arith, h (only w.released), slot_le (only w.released) w.slots (w.released % size.window)) in
-    by_order size w (cases_lt w.released w.cut) here all
+    let below : w.released < w.cut = grind (arith, above_range w.released w.cut) in
+    record { below = below; single = omega (arith, within_range w.released w.cut below) }
 
 -- after the next item is released the slots weigh what it weighs less
 pub release_weight : (f : ℕ → ℕ) (size : PoolSize) (w : World) → IsNext size w → IsSized size w
     → weigh f (concat (set w.slots (w.released % size.window) (without w.released (slot_of size w w.released)))) + f
     w.released ≡ weigh f (concat w.slots)
 release_weight f size w next s =
-    omega (
-      arith,
-      slots_set f w.slots (w.released % size.window) (without w.released (slot_of size w w.released))
-          (slot_within size w w.released s),
-      without_one f w.released (slot_of size w w.released) next.single,
-    )
+    let lt = slot_within size w w.released s in
+    omega (arith, slots_set, without_one f w.released (slot_of size w w.released) next.single)
 
 -- each event
 pub once_kept : (size : PoolSize) (w : World) (event : Event) → IsTrue (is_enabled size w event) → IsSized size w
@@ -132,12 +115,7 @@ once_kept size w Event.CutMark e s h = λ f. omega (arith, h f, weigh_entries f 
 once_kept size w (Event.Take k) e s h =
     let may = may_take size w k e in take_once w k w.jobs (omega (arith, may.within, s.each_hand)) may.empty h
 once_kept size w (Event.Put k) e s h =
-    λ f. omega (
-      arith,
-      h f,
-      weigh_entries f w.dones (option_to_list (hand_of w k)),
-      hands_set f w.hands k None (hand_within w.hands k e),
-    )
+    λ f. omega (arith, h f, weigh_entries, hands_set f w.hands k None (hand_within w.hands k e))
 once_kept size w Event.Arrive e s h = arrive_once size w w.dones s h
 once_kept size w Event.Release e s h =
     λ f. omega (arith, h f, release_weight f size w (is_next size w h e) s, weigh-append f w.lane (w.released ∷ []))

@@ -36,20 +36,10 @@ take_counts : (w : World) (k : ℕ) (jobs : List Entry) → 0 < length jobs → 
 take_counts w k [] some lt free = absurd (omega (arith, some))
 take_counts w k (Entry.Item n ∷ rest) some lt free =
     let bare : marks (option_to_list (hand_of w k)) ≡ 0 = ap (λ (o : Option Entry). marks (option_to_list o)) free in
-    omega (
-      arith,
-      ap (weigh_hand each) free,
-      hands_set each w.hands k (Some (Entry.Item n)) lt,
-      hand_set w.hands k (Some (Entry.Item n)) lt,
-    )
+    omega (arith, ap (weigh_hand each) free, hands_set, hand_set)
 take_counts w k (Entry.Mark ∷ rest) some lt free =
     let bare : marks (option_to_list (hand_of w k)) ≡ 0 = ap (λ (o : Option Entry). marks (option_to_list o)) free in
-    omega (
-      arith,
-      ap (weigh_hand each) free,
-      hands_set each w.hands k (Some Entry.Mark) lt,
-      hand_set w.hands k (Some Entry.Mark) lt,
-    )
+    omega (arith, ap (weigh_hand each) free, hands_set, hand_set)
 
 arrive_counts : (size : PoolSize) (w : World) (dones : List Entry) → 0 < length dones → IsSized size w
     → weighed (arrived size (record w { dones = dones }) dones) ≡ weighed (record w { dones = dones }) + 1
@@ -68,9 +58,8 @@ step_weighs : (size : PoolSize) (w : World) (event : Event) → IsTrue (is_enabl
 step_weighs size w Event.Draw e h = let may = may_draw size w e in omega arith
 step_weighs size w (Event.Cut last) e h =
     let one = may_cut size w last e in
-    omega (arith, weigh_entries each w.jobs (Entry.Item w.cut ∷ []), marks-append w.jobs (Entry.Item w.cut ∷ []))
-step_weighs size w Event.CutMark e h =
-    omega (arith, weigh_entries each w.jobs (Entry.Mark ∷ []), marks-append w.jobs (Entry.Mark ∷ []))
+    omega (arith, weigh_entries, marks-append)
+step_weighs size w Event.CutMark e h = omega (arith, weigh_entries, marks-append)
 step_weighs size w (Event.Take k) e h =
     let may = may_take size w k e in
     take_counts w k w.jobs (ltb-true 0 (length w.jobs) (and_parts _ (nat_lt 0 (length w.jobs)) e).1)
@@ -78,25 +67,14 @@ step_weighs size w (Event.Take k) e h =
 step_weighs size w (Event.Put k) e h =
     let lt : k < length w.hands = hand_within w.hands k e in
     let one : weigh_hand each (hand_of w k) + marks (option_to_list (hand_of w k)) ≡ 1 = one_in_hand (hand_of w k) e in
-    omega (
-      arith,
-      weigh_entries each w.dones (option_to_list (hand_of w k)),
-      marks-append w.dones (option_to_list (hand_of w k)),
-      hands_set each w.hands k None lt,
-      hand_set w.hands k None lt,
-    )
+    omega (arith, weigh_entries, marks-append, hands_set, hand_set)
 step_weighs size w Event.Arrive e h = arrive_counts size w w.dones (ltb-true 0 (length w.dones) e) h.sized
 step_weighs size w Event.Release e h =
-    omega (
-      arith,
-      release_weight each size w (is_next size w h.once e) h.sized,
-      weigh-append each w.lane (w.released ∷ []),
-    )
+    omega (arith, release_weight each size w (is_next size w h.once e) h.sized, weigh-append)
 step_weighs size w Event.Write e h =
     let tests = and_parts (nat_lt 0 (length w.lane)) _ e in
     write_counts w w.lane (ltb-true 0 (length w.lane) tests.0) (is_none_from w.writing tests.1)
-step_weighs size w Event.Give e h =
-    omega (arith, weigh-append each w.finished (option_to_list w.writing), one_in w.writing e)
+step_weighs size w Event.Give e h = omega (arith, weigh-append, one_in w.writing e)
 step_weighs size w event e h = omega arith
 
 -- a move adds one to the moves behind a state, and another event none
@@ -135,22 +113,15 @@ reached_holds size w r = run_holds size r.events (opening size) w r.run (first_h
 
 none_behind : (size : PoolSize) → progress (opening size) ≡ 0
 none_behind size =
-    progress_is (opening size)
-    ∙ omega (
-      arith,
-      ap (weigh each) (no_hands size.workers),
-      ap (weigh each) (no_slots size.window),
-      no_marks_in_hands size.workers,
-    )
+    let hands = ap (weigh each) (no_hands size.workers) in
+    let slots = ap (weigh each) (no_slots size.window) in
+    omega (arith, progress_is (opening size), no_marks_in_hands size.workers)
 
 counts_all : (size : PoolSize) (events : List Event) (w : World) → 0 < size.workers → 0 < size.window
     → IsRun size events (opening size) w → count_by is_move events ≡ progress w
 counts_all size events w some_worker some_slot run =
-    omega (
-      arith,
-      none_behind size,
-      run_counts size events (opening size) w run (first_holds size some_worker some_slot),
-    )
+    let h = first_holds size some_worker some_slot in
+    omega (arith, none_behind size, run_counts size events (opening size) w run h)
 
 -- the moves of a run are counted by the state that it leads to
 pub every_move_counts : EveryMoveCounts

@@ -112,17 +112,7 @@ module _ (size : PoolSize) (w : World) (h : Holds size w) where
   released_cut = omega (arith, released_each, h.once each, range_each w.cut)
 
   credits : w.credits + held w.holds_credit + count_in_flight w ≡ size.window
-  credits =
-      omega (
-        arith,
-        h.bounded,
-        h.once each,
-        range_each w.cut,
-        flight_weight each w,
-        length_is w.finished,
-        length_is
-            (items_on_the_way w ++ concat w.slots ++ w.lane ++ option_to_list w.writing),
-      )
+  credits = omega (arith, h.bounded, h.once each, range_each w.cut, flight_weight each w, length_is)
 
   -- what is in a slot is cut, is alone, and was not released
   below_cut : (k m : ℕ) → 0 < weigh (only m) (get_or w.slots k []) → m < w.cut

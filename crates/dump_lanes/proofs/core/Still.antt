@@ -1,10 +1,10 @@
 -- A pool stands still where all is done, and nowhere else.
-use Rattle.dump_lanes.proofs.Prelude.{◌≡◌, ℕ, zero, suc, ◌+◌, ◌<◌, ◌≤◌, ◌%◌, ◌==◌, Bool, true, false, ◌&&◌, cond, nat_lt, List, [], ◌∷◌, ◌++◌, length, get_or, Option, Some, None, is_some, option_to_list, sym, refl, ap, ◌∙◌, arith, true≢false, concat, list_any, range_with_len, and_from, and_cases, and_left, and_right, or_left, or_right, not-false, not_from_true, not_from_false, lt-ltb, le-ltb, ltb-false, cases_Bool, cases_lt, false_from_ne_true, PoolSize, Entry, World, hand_of, slot_of, items_in_hands, items_released, Event, is_enabled, has_next, IsAllDone, StandsStill, marks_in_hands, ⊎_elim}
+use Rattle.dump_lanes.proofs.Prelude.{◌≡◌, ℕ, zero, suc, ◌+◌, ◌<◌, ◌≤◌, ◌%◌, ◌==◌, Bool, true, false, ◌&&◌, cond, nat_lt, List, [], ◌∷◌, ◌++◌, length, get_or, Option, Some, None, is_some, option_to_list, sym, refl, ap, ◌∙◌, arith, true≢false, concat, list_any, range_with_len, and_from, and_cases, and_left, and_right, or_left, or_right, not-false, not_from_true, not_from_false, lt-ltb, le-ltb, ltb-false, cases_Bool, cases_lt, false_from_ne_true, PoolSize, Entry, World, hand_of, slot_of, items_in_hands, items_released, Event, is_enabled, has_next, IsAllDone, StandsStill, marks_in_hands, ⊎_elim, replicate}
 use Rattle.std.proofs.Common.{not, IsTrue, is_none, slice_index_or, append-nil}
 use Rattle.dump_lanes.specs.PoolWorld.{items_of}
 use Rattle.dump_lanes.specs.PoolProgress.{marks}
-use Rattle.dump_lanes.proofs.core.Weights.{weigh, only, each, weigh-append, weighs, slot_le, length_is, within_range, above_range}
-use Rattle.dump_lanes.proofs.core.Marks.{count_taken, not_all}
+use Rattle.dump_lanes.proofs.core.Weights.{weigh, only, each, weigh-append, weighs, slot_le, length_is, no_hands, within_range, above_range}
+use Rattle.dump_lanes.proofs.core.Marks.{count_taken, no_marks_in_hands, not_all}
 use Rattle.dump_lanes.proofs.core.Credits.{held}
 use Rattle.dump_lanes.proofs.core.Progress.{Totals, totals, entries_are}
 use Rattle.dump_lanes.proofs.core.Runs.{Holds, released_weight, range_each, released_cut}
@@ -30,17 +30,11 @@ none_from None e = refl
 none_from (Some x) e = absurd (true≢false e)
 
 -- hands that hold nothing
-no_items_held : (hands : List (Option Entry)) → ((k : ℕ) → k < length hands → is_some (get_or hands k None) ≡ false)
-    → items_in_hands hands ≡ []
-no_items_held [] bare = refl
-no_items_held (None ∷ hands) bare = no_items_held hands (λ k lt. bare (suc k) (omega arith))
-no_items_held (Some h ∷ hands) bare = absurd (true≢false (bare zero (omega arith)))
-
-no_marks_held : (hands : List (Option Entry)) → ((k : ℕ) → k < length hands → is_some (get_or hands k None) ≡ false)
-    → marks_in_hands hands ≡ 0
-no_marks_held [] bare = refl
-no_marks_held (None ∷ hands) bare = let more = no_marks_held hands (λ k lt. bare (suc k) (omega arith)) in omega arith
-no_marks_held (Some h ∷ hands) bare = absurd (true≢false (bare zero (omega arith)))
+bare_hands : (hands : List (Option Entry)) → ((k : ℕ) → k < length hands → is_some (get_or hands k None) ≡ false)
+    → hands ≡ replicate (length hands) None
+bare_hands [] bare = refl
+bare_hands (None ∷ hands) bare = ap (λ l. None ∷ l) (bare_hands hands (λ k lt. bare (suc k) (omega arith)))
+bare_hands (Some h ∷ hands) bare = absurd (true≢false (bare zero (omega arith)))
 
 all_taken : (taken : List Bool) → ((k : ℕ) → k < length taken → get_or taken k false ≡ true)
     → count_taken taken ≡ length taken
@@ -152,10 +146,10 @@ module _ (size : PoolSize) (w : World) (h : Holds size w) where
     each_hand k lt = s.no_put k (omega (arith, lt, h.sized.each_hand))
 
     hands : items_in_hands w.hands ≡ []
-    hands = no_items_held w.hands each_hand
+    hands = ap items_in_hands (bare_hands w.hands each_hand) ∙ no_hands (length w.hands)
 
     hand_marks : marks_in_hands w.hands ≡ 0
-    hand_marks = no_marks_held w.hands each_hand
+    hand_marks = ap marks_in_hands (bare_hands w.hands each_hand) ∙ no_marks_in_hands (length w.hands)
 
     quiet : items_of w.jobs ≡ [] → IsQuiet size w
     quiet none = record {
@@ -287,12 +281,8 @@ module _ (size : PoolSize) (w : World) (h : Holds size w) (d : IsAllDone size w)
 
   no_next : has_next size w ≡ true → ⊥
   no_next e =
-      omega (
-        arith,
-        weighs w.released (slot_of size w w.released) e,
-        slot_le (only w.released) w.slots (w.released % size.window),
-        weighs_none (only w.released),
-      )
+      let here = weighs w.released (slot_of size w w.released) e in
+      omega (arith, slot_le, weighs_none (only w.released))
 
   -- where all is done no move may be made
   pub still_where_done : StandsStill size w
