@@ -1,5 +1,5 @@
 -- Each move on a pool's queue of credits keeps its rule.
-use Rattle.dump_lanes.proofs.Prelude.{◌≡◌, ◌≢◌, ◌≤◌, ℕ, ◌+◌, suc, true, false, true≢false, ⊎_elim, List, [], ◌∷◌, ◌++◌, length, set, sym, refl, ap, ◌∙◌, subst, arith, lt-ltb, ltb-true, length-append, Purse, Move, Thread, credits_share, credits_allow, event_of, is_thread, steps_of, CreditStep, draw_step, back_step, drawn_in, back_in, purse, after_first, after_draw, after_back, cutter_purse, writer_purse, joined_purse, spent_purse, IsCreditQueue}
+use Rattle.dump_lanes.proofs.Prelude.{◌≡◌, ◌≢◌, ◌≤◌, ℕ, ◌+◌, suc, true, true≢false, List, [], ◌∷◌, ◌++◌, length, set, sym, refl, ap, ◌∙◌, subst, arith, lt-ltb, ltb-true, length-append, Purse, Move, Thread, credits_share, credits_allow, event_of, steps_of, CreditStep, draw_step, back_step, drawn_in, back_in, purse, after_first, after_draw, after_back, cutter_purse, writer_purse, joined_purse, spent_purse, IsCreditQueue}
 use Rattle.std.proofs.Common.{IsTrue, length-set}
 use mathlib.Core.Option.{some}
 use lib.ListN.{get_elem?}
@@ -8,7 +8,7 @@ use Rattle.crossbeam_queue.specs.Fifo.{Pushes, Pops, Forks, Merges, Learns}
 use Rattle.dump_lanes.specs.declared.steps.Move.TheVariants as move
 use Rattle.dump_lanes.specs.CreditRule.{put_by, taken_by, IsStep, AreSteps}
 use Rattle.dump_lanes.specs.steps.CreditQueue.{Fits, KnowsSteps}
-use Rattle.dump_lanes.proofs.PartMoves.{other_thread, one_or_other, forked, forked_stays, forked_to, joined as joined_owner, joined_is, joined_comes, knows_step, knows_else, knows_fork_left, knows_fork_else, knows_fork_new, knows_join_both, knows_join_else, knows_join_spent}
+use Rattle.dump_lanes.proofs.PartMoves.{other_thread, same_or_other, forked, forked_stays, forked_to, joined as joined_owner, joined_is, joined_comes, knows_step, knows_else, knows_fork_left, knows_fork_else, knows_fork_new, knows_join_both, knows_join_else, knows_join_spent}
 use Rattle.dump_lanes.proofs.Views.{AllViews, AllViews-set, AllViews-one, AllViews-more, within}
 
 -- the cutter's step, and the writer's, is the credits' share of its event
@@ -46,9 +46,7 @@ cutter_not_writer = other_thread Thread.Cutter Thread.Writer refl
 -- a pass that has the writer and all others has all
 has_all : (owner : Thread → ℕ) (pass : ℕ) → ((t : Thread) → t ≢ Thread.Writer → owner t ≡ pass)
     → owner Thread.Writer ≡ pass → (t : Thread) → owner t ≡ pass
-has_all owner pass others writer t =
-    ⊎_elim (λ (y : (t ≡ Thread.Writer) × (is_thread Thread.Writer t ≡ true)). ap owner y.0 ∙ writer)
-    (λ (y : (t ≢ Thread.Writer) × (is_thread Thread.Writer t ≡ false)). others t y.0) (one_or_other Thread.Writer t)
+has_all owner pass others writer t = same_or_other Thread.Writer t (λ e. ap owner e ∙ writer) (others t)
 
 module _ {T : Type 0} where
   length_more : (items : List T) (x : T) → length (items ++ x ∷ []) ≡ length items + 1

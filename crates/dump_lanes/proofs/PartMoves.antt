@@ -1,5 +1,5 @@
 -- One more step of a history: whose it is, and what it moves.
-use Rattle.dump_lanes.proofs.Prelude.{◌≡◌, ◌≢◌, ◌==◌, ◌⊎◌, inl, inr, ℕ, Bool, true, false, true≢false, List, [], ◌∷◌, ◌++◌, cond, sum_by, sym, refl, ap, ◌∙◌, subst, ⊎_elim, append_assoc, arith, sum_by-append, sum_by-cons, filter-append, Step, Thread, thread_of, event_of, Part, all_put, is_thread, steps_of, Knows}
+use Rattle.dump_lanes.proofs.Prelude.{◌≡◌, ◌≢◌, ◌==◌, ℕ, true, false, true≢false, List, [], ◌∷◌, ◌++◌, cond, sum_by, sym, refl, ap, ◌∙◌, subst, ⊎_elim, append_assoc, arith, sum_by-append, sum_by-cons, filter-append, Step, Thread, thread_of, event_of, Part, all_put, is_thread, steps_of, Knows, cases_Bool}
 use Rattle.std.proofs.Common.{eq-eqb, ne_eqb}
 use Rattle.std.proofs.lemmas.Bool.{eqb-true}
 use Rattle.std.proofs.lemmas.List.{append-nil}
@@ -33,19 +33,17 @@ one_thread Thread.Sequencer Thread.Sequencer e = refl
 one_thread Thread.Writer Thread.Writer e = refl
 one_thread t u e = absurd (true≢false (sym e))
 
-one_or_not : (t u : Thread) (same : Bool) → is_thread t u ≡ same
-    → ((u ≡ t) × (is_thread t u ≡ true)) ⊎ ((u ≢ t) × (is_thread t u ≡ false))
-one_or_not t u true e = inl (one_thread t u e, e)
-one_or_not t u false e = inr (λ k. other_thread t u e (sym k), e)
-
--- a thread is this one, or another
-pub one_or_other : (t u : Thread) → ((u ≡ t) × (is_thread t u ≡ true)) ⊎ ((u ≢ t) × (is_thread t u ≡ false))
-one_or_other t u = one_or_not t u (is_thread t u) refl
+-- by whether a thread is this one or another
+pub same_or_other : {A : Type 0} (t u : Thread) → (u ≡ t → A) → (u ≢ t → A) → A
+same_or_other t u same other =
+    ⊎_elim (λ (e : is_thread t u ≡ true). same (one_thread t u e))
+    (λ (e : is_thread t u ≡ false). other (λ k. other_thread t u e (sym k))) (cases_Bool (is_thread t u))
 
 -- other threads aren't this one
 pub not_thread : (t u : Thread) → t ≢ u → is_thread t u ≡ false
-not_thread t u ne = ⊎_elim (λ (y : (u ≡ t) × (is_thread t u ≡ true)). absurd (ne (sym y.0)))
-    (λ (y : (u ≢ t) × (is_thread t u ≡ false)). y.1) (one_or_other t u)
+not_thread t u ne =
+    ⊎_elim (λ (e : is_thread t u ≡ true). absurd (ne (sym (one_thread t u e)))) (λ (e : is_thread t u ≡ false). e)
+    (cases_Bool (is_thread t u))
 
 module _ {E : Type 0} where
   -- a step joins what is known of its thread, and what happened
@@ -68,11 +66,11 @@ module _ {E : Type 0} where
       let all : List E = all_put part before in
       let own : List (Step E) = steps_of t before in
       let rest : all ≡ all_put part own = put_alone part t none before in
-      ⊎_elim (λ (y : (thread_of (event_of s.event) ≡ t) × (is_thread t (thread_of (event_of s.event)) ≡ true)).
-      ap (λ l. l ++ part.puts s) rest ∙ ap (λ b. all_put part (cond b (s ∷ own) own)) (sym y.1))
-      (λ (y : (thread_of (event_of s.event) ≢ t) × (is_thread t (thread_of (event_of s.event)) ≡ false)).
-      ap (λ l. all ++ l) (none s y.1) ∙ (append-nil all ∙ (rest ∙ ap (λ b. all_put part (cond b (s ∷ own) own))
-      (sym y.1)))) (one_or_other t (thread_of (event_of s.event)))
+      ⊎_elim (λ (y : is_thread t (thread_of (event_of s.event)) ≡ true).
+      ap (λ l. l ++ part.puts s) rest ∙ ap (λ b. all_put part (cond b (s ∷ own) own)) (sym y))
+      (λ (y : is_thread t (thread_of (event_of s.event)) ≡ false).
+      ap (λ l. all ++ l) (none s y) ∙ (append-nil all ∙ (rest ∙ ap (λ b. all_put part (cond b (s ∷ own) own)) (sym y))))
+      (cases_Bool (is_thread t (thread_of (event_of s.event))))
 
   -- the part whose entries go the other way
   abbrev swapped : Part E → Part E
@@ -135,9 +133,8 @@ module _ (owner : Thread → ℕ) (next : Thread) (new : ℕ) where
 
   -- a thread that now has another pass than the new one had that pass before
   pub forked_had : (t : Thread) (j : ℕ) → j ≢ new → forked t ≡ j → owner t ≡ j
-  forked_had t j ne e = ⊎_elim (λ (y : (t ≡ next) × (is_thread next t ≡ true)). absurd
-      (ne (sym e ∙ forked_to t y.0)))
-      (λ (y : (t ≢ next) × (is_thread next t ≡ false)). sym (forked_stays t y.0) ∙ e) (one_or_other next t)
+  forked_had t j ne e =
+      same_or_other next t (λ s. absurd (ne (sym e ∙ forked_to t s))) (λ o. sym (forked_stays t o) ∙ e)
 
   -- a thread of a pass that this one didn't belong to still has that pass
   pub forked_kept : (t : Thread) (j : ℕ) → owner next ≢ j → owner t ≡ j → forked t ≡ j
@@ -199,10 +196,9 @@ module _ {E : Type 0} (owner : Thread → ℕ) (happened : List (Step E)) where
       → Knows owner happened pass steps → Knows (forked owner next new) happened pass steps
   knows_fork_left pass next new steps apart none h = record {
     own = λ t e. h.own t (forked_had owner next new t pass apart e);
-    others = λ t ne. ⊎_elim (λ (y : (t ≡ next) × (is_thread next t ≡ true)). subst
-        (λ (w : Thread). steps_of w steps ≡ []) (sym y.0) none)
-        (λ (y : (t ≢ next) × (is_thread next t ≡ false)). h.others t (λ e. ne (forked_stays owner next new t y.0 ∙ e)))
-        (one_or_other next t);
+    others = λ t ne.
+        same_or_other next t (λ s. subst (λ (w : Thread). steps_of w steps ≡ []) (sym s) none)
+        (λ o. h.others t (λ e. ne (forked_stays owner next new t o ∙ e)));
   }
 
   -- a pass that didn't have the thread knows its threads' steps after that one went to a new pass
@@ -217,10 +213,9 @@ module _ {E : Type 0} (owner : Thread → ℕ) (happened : List (Step E)) where
   pub knows_fork_new : (next : Thread) (new : ℕ) → ((t : Thread) → owner t ≢ new) → steps_of next happened ≡ []
       → Knows (forked owner next new) happened new []
   knows_fork_new next new fresh none = record {
-    own = λ t e. ⊎_elim (λ (y : (t ≡ next) × (is_thread next t ≡ true)). subst
-        (λ (w : Thread). [] ≡ steps_of w happened) (sym y.0) (sym none))
-        (λ (y : (t ≢ next) × (is_thread next t ≡ false)). absurd
-        (fresh t (sym (forked_stays owner next new t y.0) ∙ e))) (one_or_other next t);
+    own = λ t e.
+        same_or_other next t (λ s. subst (λ (w : Thread). [] ≡ steps_of w happened) (sym s) (sym none))
+        (λ o. absurd (fresh t (sym (forked_stays owner next new t o) ∙ e)));
     others = λ t ne. refl;
   }
 

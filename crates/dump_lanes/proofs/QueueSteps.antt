@@ -9,7 +9,7 @@ use Rattle.crossbeam_queue.specs.Fifo.{Pushes, Pops, Forks, Merges, Learns}
 use Rattle.atomic_table.proofs.Lists.{set_else}
 use Rattle.dump_lanes.specs.PartSteps.{IsStep, all_taken}
 use Rattle.dump_lanes.specs.steps.QueueRule.{spent, Fits, KnowsSteps}
-use Rattle.dump_lanes.proofs.PartMoves.{step_other, put_alone, taken_alone, put_weight, taken_weight, all_put-append, all_taken-append, forked, forked_stays, forked_to, forked_had, forked_kept, joined as joined_owner, joined_is, joined_kept, joined_had, joined_left, joined_stays, joined_comes, one_or_other, knows_step, knows_else, knows_fork_left, knows_fork_else, knows_fork_new, knows_join_both, knows_join_else, knows_join_spent}
+use Rattle.dump_lanes.proofs.PartMoves.{step_other, put_alone, taken_alone, put_weight, taken_weight, all_put-append, all_taken-append, forked, forked_stays, forked_to, forked_had, forked_kept, joined as joined_owner, joined_is, joined_kept, joined_had, joined_left, joined_stays, joined_comes, same_or_other, knows_step, knows_else, knows_fork_left, knows_fork_else, knows_fork_new, knows_join_both, knows_join_else, knows_join_spent}
 use Rattle.dump_lanes.proofs.Views.{AllViews, AllViews-set, AllViews-one, AllViews-more, within, at_some, sum_by-set, sum_by-least, sum_by-alone}
 
 -- the threads of a crew are all different
@@ -189,10 +189,8 @@ module _ {E : Type 0} (part : Part E) (crew : Crew) (apart : AreApart crew) wher
         owned = λ t.
             let o = h.owned t in
             let a = length-append cut (right ∷ []) in
-            ⊎_elim (λ (y : (t ≡ next) × (is_thread next t ≡ true)).
-            let g = forked_to h.owner next new t y.0 in omega arith)
-            (λ (y : (t ≢ next) × (is_thread next t ≡ false)).
-            let k = forked_stays h.owner next new t y.0 in omega arith) (one_or_other next t);
+            same_or_other next t (λ s. let g = forked_to h.owner next new t s in omega arith)
+            (λ apart. let k = forked_stays h.owner next new t apart in omega arith);
         fits = AllViews-more (Fits part crew owner h.happened) cut right
             (AllViews-set (Fits part crew owner h.happened) views pass left one others) last;
       }

@@ -1,5 +1,5 @@
 -- In each state before the end the next move may be made; and the next moves in turn lead to the end.
-use Rattle.dump_lanes.proofs.Prelude.{◌≡◌, ◌⊎◌, inl, inr, ℕ, zero, suc, ◌+◌, ◌-◌, ◌<◌, ◌≤◌, Bool, true, false, cond, List, [], ◌∷◌, ◌++◌, map, find, length, get_or, Option, Some, sym, refl, ap, ◌∙◌, subst, arith, unwrap_or, range_with_len, and_parts, not-true, cases_Bool, length-range_with_len, get_or-range_with_len, PoolSize, World, Event, is_enabled, after_event, IsRun, is_move, all_moves, next_move, who_moves, IsAllDone, IsReached, CanMove, StandsStill, NoDeadEnd, OnlyDoneStandsStill, ClosedKeepsNobody, progress, count_move, most_moves, AreNextMoves, EveryRunCanEnd, ⊎_elim}
+use Rattle.dump_lanes.proofs.Prelude.{◌≡◌, ◌⊎◌, inl, inr, ℕ, zero, suc, ◌+◌, ◌-◌, ◌<◌, ◌≤◌, Bool, true, false, cond, List, [], ◌∷◌, ◌++◌, map, find, length, get_or, Option, Some, sym, refl, ap, ◌∙◌, subst, arith, unwrap_or, range_with_len, and_parts, not-true, cases_Bool, length-range_with_len, get_or-range_with_len, PoolSize, World, Event, is_enabled, after_event, IsRun, is_move, all_moves, next_move, IsAllDone, IsReached, StandsStill, NoDeadEnd, OnlyDoneStandsStill, ClosedKeepsNobody, progress, count_move, most_moves, AreNextMoves, EveryRunCanEnd, ⊎_elim}
 use Rattle.std.proofs.Common.{IsTrue}
 use Rattle.dump_lanes.proofs.core.FirstEntry.{by_job, by_done, by_piece}
 use Rattle.dump_lanes.proofs.core.Credits.{held}
@@ -136,11 +136,6 @@ module _ (size : PoolSize) (w : World) where
       (λ (none : NonePass (is_enabled size w) (all_moves size)). inl (done_where_stuck size w h (stuck none)))
       (find_first (is_enabled size w) (all_moves size) all_next)
 
-  as_move : IsAllDone size w ⊎ MayMove size w
-      → IsAllDone size w ⊎ (IsTrue (is_move (next_move size w)) × IsTrue (is_enabled size w (next_move size w)))
-  as_move (inl d) = inl d
-  as_move (inr m) = inr (next_moves (next_move size w) m.next, m.enabled)
-
   still_stuck : StandsStill size w → IsStuck size w
   still_stuck s = record {
     no_give = s Event.Give refl;
@@ -156,17 +151,20 @@ module _ (size : PoolSize) (w : World) where
 
 next_or_done : (size : PoolSize) (w : World) → IsReached size w
     → IsAllDone size w ⊎ (IsTrue (is_move (next_move size w)) × IsTrue (is_enabled size w (next_move size w)))
-next_or_done size w r = as_move size w (done_or_moves size w (reached_holds size w r))
-
-by_thread : (size : PoolSize) (w : World)
-    → IsAllDone size w ⊎ (IsTrue (is_move (next_move size w)) × IsTrue (is_enabled size w (next_move size w)))
-    → IsAllDone size w ⊎ CanMove size w (who_moves size w)
-by_thread size w (inl d) = inl d
-by_thread size w (inr m) = inr (next_move size w, m.0, m.1, refl)
+next_or_done size w r =
+    ⊎_elim (λ (d : IsAllDone size w). inl d)
+    (λ (m : MayMove size w). inr (next_moves (next_move size w) m.next, m.enabled))
+    (done_or_moves size w (reached_holds size w r))
 
 -- in each state that a run reaches all is done, or the thread that the state names can make the next move
 pub no_dead_end : NoDeadEnd
-no_dead_end = record { who = λ size w r. by_thread size w (next_or_done size w r); next = next_or_done }
+no_dead_end = record {
+  who = λ size w r.
+      ⊎_elim (λ (d : IsAllDone size w). inl d)
+      (λ (m : IsTrue (is_move (next_move size w)) × IsTrue (is_enabled size w (next_move size w))).
+      inr (next_move size w, m.0, m.1, refl)) (next_or_done size w r);
+  next = next_or_done;
+}
 
 -- a pool stands still where all is done, and nowhere else
 pub only_done_stands_still : OnlyDoneStandsStill

@@ -35,31 +35,25 @@ cut_jobs : (size : PoolSize) (w : World) (last : Bool) → w.cutter_ended ≡ fa
     → HasJobs size.workers last w.marks_put (w.jobs ++ Entry.Item w.cut ∷ []) w.marks_taken
 cut_jobs size w last e h =
     let none : w.marks_put ≡ 0 = h.after_end e in
-    let more : marks (w.jobs ++ Entry.Item w.cut ∷ []) ≡ marks w.jobs + 0 = marks-append w.jobs
-    (Entry.Item w.cut ∷ []) in
-    let before : w.marks_put ≡ marks w.jobs + count_taken w.marks_taken = h.in_queue in
     record {
       after_end = λ x. none;
       enough = h.enough;
-      in_queue = omega arith;
-      items_first = item_joins w.jobs w.cut (omega arith);
-      no_item = λ lt. absurd (omega arith);
+      in_queue = omega (arith, h.in_queue, marks-append);
+      items_first = item_joins w.jobs w.cut (omega (arith, h.in_queue));
+      no_item = λ lt. absurd (omega (arith, h.in_queue, lt));
     }
 
 mark_jobs : (size : PoolSize) (w : World) → w.cutter_ended ≡ true → w.marks_put < size.workers
     → HasJobs size.workers w.cutter_ended w.marks_put w.jobs w.marks_taken
     → HasJobs size.workers w.cutter_ended (w.marks_put + 1) (w.jobs ++ Entry.Mark ∷ []) w.marks_taken
-mark_jobs size w e lt h =
-    let more : marks (w.jobs ++ Entry.Mark ∷ []) ≡ marks w.jobs + 1 = marks-append w.jobs (Entry.Mark ∷ []) in
-    let before : w.marks_put ≡ marks w.jobs + count_taken w.marks_taken = h.in_queue in
-    record {
-      after_end = λ x. absurd (true≢false (sym e ∙ x));
-      enough = omega arith;
-      in_queue = omega arith;
-      items_first = mark_joins w.jobs h.items_first;
-      no_item = λ less. items_of-append w.jobs (Entry.Mark ∷ [])
-          ∙ (append-nil (items_of w.jobs) ∙ h.no_item (omega arith));
-    }
+mark_jobs size w e lt h = record {
+  after_end = λ x. absurd (true≢false (sym e ∙ x));
+  enough = omega arith;
+  in_queue = omega (arith, h.in_queue, marks-append);
+  items_first = mark_joins w.jobs h.items_first;
+  no_item = λ less. items_of-append w.jobs (Entry.Mark ∷ [])
+      ∙ (append-nil (items_of w.jobs) ∙ h.no_item (omega (arith, less, marks-append)));
+}
 
 end_jobs : (size : PoolSize) (w : World) (ended : Bool) → w.cutter_ended ≡ false
     → HasJobs size.workers w.cutter_ended w.marks_put w.jobs w.marks_taken

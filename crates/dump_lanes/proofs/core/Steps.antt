@@ -1,5 +1,5 @@
 -- Every run of the pool makes steps that the rules of its queues and of its stop word allow.
-use Rattle.dump_lanes.proofs.Prelude.{◌≡◌, ℕ, Bool, false, true≢false, nat_lt, List, [], ◌∷◌, ◌++◌, length, drop, map, Option, Some, None, is_some, option_to_list, sym, refl, ap, ◌∙◌, subst, arith, map-append, Note, Mark, Item, End, Step, Event, is_enabled, after_event, IsRun, credits_share, credits_allow, jobs_share, jobs_allow, dones_share, lane_share, lane_allow, stop_share, cutter_puts, worker_puts, sequencer_puts, PoolSize, Entry, World, opening, hand_of, draw_step, back_step, dones_part, give_step, arrive_step, jobs_part, last_first, on_dones, events_on, events_of, CreditsAt, JobsAt, DonesAt, LaneAt, WordAt, MakesSteps, EveryRunMakesSteps, Part, event_of}
+use Rattle.dump_lanes.proofs.Prelude.{◌≡◌, ℕ, Bool, true≢false, nat_lt, List, [], ◌∷◌, ◌++◌, length, drop, map, Option, Some, None, is_some, option_to_list, sym, refl, ap, ◌∙◌, subst, arith, map-append, Note, Mark, Item, End, Step, Event, is_enabled, after_event, IsRun, credits_share, credits_allow, jobs_share, jobs_allow, dones_share, lane_share, lane_allow, stop_share, cutter_puts, worker_puts, sequencer_puts, PoolSize, Entry, World, opening, hand_of, draw_step, back_step, dones_part, give_step, arrive_step, jobs_part, last_first, on_dones, events_on, events_of, CreditsAt, JobsAt, DonesAt, LaneAt, WordAt, MakesSteps, EveryRunMakesSteps, Part, event_of}
 use Rattle.std.proofs.Common.{IsTrue}
 use Rattle.dump_lanes.specs.declared.stop.protocol.WordStep.TheVariants as kind
 use Rattle.dump_lanes.specs.PartSteps.{AreSteps, IsStep}

@@ -1,4 +1,4 @@
-use Rattle.dump_pipeline.proofs.Prelude.{◌≡◌, ◌∙◌, List, length, map, ap, sym, subst, WorkerPort, sent, receiving, WorkerSide, IsDone, job_port, worker_port, done_port, credit_port, Seat, joined_seat, map_of_all, Answer, Job, Checked, NumberedPiece, HasWorked, is_failure, RunLeaves, ℕ, ◌+◌, ◌≤◌}
+use Rattle.dump_pipeline.proofs.Prelude.{◌≡◌, ◌∙◌, List, length, map, ap, sym, subst, WorkerPort, sent, WorkerSide, IsDone, job_port, worker_port, done_port, credit_port, Seat, joined_seat, map_of_all, Answer, Job, Checked, NumberedPiece, HasWorked, is_failure, RunLeaves, ℕ, ◌+◌, ◌≤◌}
 use Rattle.dump_pipeline.proofs.Joined.{AreJoined, none_astray, nothing_missing, unseen, unshut, sink_failed, ended_so}
 use Rattle.dump_pipeline.proofs.join.conclude.Given.{Over}
 use Rattle.dump_pipeline.proofs.join.conclude.Goals.{After-settle}
