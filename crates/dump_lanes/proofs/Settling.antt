@@ -23,6 +23,7 @@ module _ {X Y : Type 0} where
   pub map-then : (f : X → Y) (xs : List X) (x : X) → map f (xs ++ x ∷ []) ≡ map f xs ++ f x ∷ []
   map-then f xs x = map-append f xs (x ∷ [])
 
+  -- a sum over a mapped list is the sum over the list of what each element is mapped to
   pub sum_by-map : (f : X → Y) (weight : Y → ℕ) (xs : List X) → sum_by weight (map f xs) ≡ sum_by (λ x. weight (f x)) xs
   sum_by-map f weight [] = refl
   sum_by-map f weight (x ∷ xs) =
