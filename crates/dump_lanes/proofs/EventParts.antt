@@ -48,7 +48,7 @@ leaves size w Event.Write Thread.Writer h = absurd (h refl)
 leaves size w Event.Give Thread.Writer h = absurd (h refl)
 leaves size w Event.WriterRaises Thread.Writer h = absurd (h refl)
 leaves size w Event.Arrive other h =
-    by_done (IsSameFor other w) size w w.dones (same_own other w) (λ n rest. same_own other w) (λ rest. same_own other w)
+    let same = same_own other w in by_done (IsSameFor other w) size w w.dones same (λ n rest. same) (λ rest. same)
 leaves size w Event.Write other h =
     by_piece (IsSameFor other w) size w w.lane (same_own other w) (λ n rest. same_own other w)
 leaves size w event other h = same_own other w

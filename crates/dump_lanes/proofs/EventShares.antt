@@ -15,7 +15,8 @@ arrive_shares : (size : PoolSize) (w : World) (dones : List Entry)
 arrive_shares size w [] = record { credits = refl; jobs = refl; dones = refl; lane = refl; stop = refl }
 arrive_shares size w (Entry.Item n ∷ rest) =
     record { credits = refl; jobs = refl; dones = refl; lane = refl; stop = refl }
-arrive_shares size w (Entry.Mark ∷ rest) = record { credits = refl; jobs = refl; dones = refl; lane = refl; stop = refl }
+arrive_shares size w (Entry.Mark ∷ rest) =
+    record { credits = refl; jobs = refl; dones = refl; lane = refl; stop = refl }
 
 write_shares : (size : PoolSize) (w : World) (lane : List ℕ) → SharesEvent size (record w { lane = lane }) Event.Write
 write_shares size w [] = record { credits = refl; jobs = refl; dones = refl; lane = refl; stop = refl }

@@ -91,4 +91,5 @@ module _ {V : Type 0} where
       let most = sum_by-least share xs pass v at in
       let c = sum_by-cons share x xs in
       let none : f x ≡ 0 = idle 0 x refl (omega arith) in
-      let rest = sum_by-alone share f xs pass v (λ p. idle (suc p)) at (omega arith) in omega (arith, sum_by-cons {X = V})
+      let rest = sum_by-alone share f xs pass v (λ p. idle (suc p)) at (omega arith) in
+      omega (arith, sum_by-cons {X = V})

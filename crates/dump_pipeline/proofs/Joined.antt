@@ -48,14 +48,16 @@ module _ {D : Type 0} {run : Ghosts D} where
         ∙ (weighs_numbers job_number (all_taken ws) cutter.put h.jobs f ∙ ap (sum_by f) h.cut.numbers))
 
     order : (b : Bool) → stray ≡ b
-        → MatchBool b (Clash window (length put) (checked_numbers taken)) (IsWaiting (length put) (checked_numbers taken))
+        → MatchBool b (Clash window (length put) (checked_numbers taken))
+        (IsWaiting (length put) (checked_numbers taken))
     order b e = subst (λ (b : Bool). MatchBool b (Clash window (length put) (checked_numbers taken))
         (IsWaiting (length put) (checked_numbers taken))) e h.sequenced.order
 
     -- the sequencer met no item that was astray
     pub none_astray : stray ≡ false
     none_astray =
-        ⊎_elim (λ (astray : stray ≡ true). absurd (no_clash window (length put) h.cut.count (checked_numbers taken) arrived
+        ⊎_elim (λ (astray : stray ≡ true).
+        absurd (no_clash window (length put) h.cut.count (checked_numbers taken) arrived
         (let c = h.cut.credits in let f = h.few in omega arith) (order true astray)))
         (λ (fine : stray ≡ false). fine) (cases_Bool stray)
 

@@ -195,7 +195,8 @@ limit_kept : (size : PoolSize) (w : World) (event : Event) → is_next event ≡
 limit_kept size w (Event.Cut last) m e = last_cut w last m (not-true w.cutter_ended (and_parts w.holds_credit _ e).1)
 limit_kept size w (Event.Take k) m e =
     by_job (λ v. limit v ≡ limit w) size w k w.jobs refl (λ n rest. refl) (λ rest. refl)
-limit_kept size w Event.Arrive m e = by_done (λ v. limit v ≡ limit w) size w w.dones refl (λ n rest. refl) (λ rest. refl)
+limit_kept size w Event.Arrive m e =
+    by_done (λ v. limit v ≡ limit w) size w w.dones refl (λ n rest. refl) (λ rest. refl)
 limit_kept size w Event.Write m e = by_piece (λ v. limit v ≡ limit w) size w w.lane refl (λ n rest. refl)
 limit_kept size w event m e = cc
 

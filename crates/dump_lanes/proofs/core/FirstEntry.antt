@@ -4,7 +4,8 @@ use Rattle.dump_lanes.specs.PoolEvents.{taken_by}
 
 module _ (P : World → Type 0) (size : PoolSize) (w : World) where
   -- after a worker took a job, where there was none, an item or an end mark
-  pub by_job : (k : ℕ) (jobs : List Entry) → P w → ((n : ℕ) (rest : List Entry) → P (taken_by w k (Entry.Item n ∷ rest)))
+  pub by_job : (k : ℕ) (jobs : List Entry) → P w
+      → ((n : ℕ) (rest : List Entry) → P (taken_by w k (Entry.Item n ∷ rest)))
       → ((rest : List Entry) → P (taken_by w k (Entry.Mark ∷ rest))) → P (taken_by w k jobs)
   by_job k [] none item mark = none
   by_job k (Entry.Item n ∷ rest) none item mark = item n rest

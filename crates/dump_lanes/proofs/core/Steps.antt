@@ -41,7 +41,8 @@ put_is_step jobs x =
 take_jobs : (k : ℕ) (jobs : List Entry) (before : List Event) → IsTrue (nat_lt 0 (length jobs)) → JobsAt before jobs
     → JobsAt (Event.Take k ∷ before) (drop 1 jobs)
 take_jobs k [] before may h = absurd (true≢false (sym may))
-take_jobs k (x ∷ rest) before may h = one_more (take_step k (mark_of x)) (take_is_step k (mark_of x) (map mark_of rest)) h
+take_jobs k (x ∷ rest) before may h =
+    one_more (take_step k (mark_of x)) (take_is_step k (mark_of x) (map mark_of rest)) h
 
 jobs_step : (w : World) (event : Event) (before : List Event) → IsTrue (jobs_allow w.jobs event) → JobsAt before w.jobs
     → JobsAt (event ∷ before) (jobs_share w.jobs (cutter_puts w event) event)

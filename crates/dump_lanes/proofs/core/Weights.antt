@@ -64,7 +64,8 @@ pub hands_set : (f : ℕ → ℕ) (hands : List (Option Entry)) (k : ℕ) (hand 
     (items_in_hands hands) + weigh_hand f hand
 hands_set f [] k hand lt = absurd (omega arith)
 hands_set f (h ∷ hands) zero hand lt = omega (arith, weigh-append)
-hands_set f (h ∷ hands) (suc k) hand lt = let more = hands_set f hands k hand (omega arith) in omega (arith, weigh-append)
+hands_set f (h ∷ hands) (suc k) hand lt =
+    let more = hands_set f hands k hand (omega arith) in omega (arith, weigh-append)
 
 -- there are no items in empty hands
 pub no_hands : (n : ℕ) → items_in_hands (replicate n None) ≡ []
@@ -76,7 +77,8 @@ pub slots_set : (f : ℕ → ℕ) (slots : List (List ℕ)) (k : ℕ) (slot : Li
     → weigh f (concat (set slots k slot)) + weigh f (get_or slots k []) ≡ weigh f (concat slots) + weigh f slot
 slots_set f [] k slot lt = absurd (omega arith)
 slots_set f (s ∷ slots) zero slot lt = omega (arith, weigh-append)
-slots_set f (s ∷ slots) (suc k) slot lt = let more = slots_set f slots k slot (omega arith) in omega (arith, weigh-append)
+slots_set f (s ∷ slots) (suc k) slot lt =
+    let more = slots_set f slots k slot (omega arith) in omega (arith, weigh-append)
 
 -- no slot weighs more than all slots together
 pub slot_le : (f : ℕ → ℕ) (slots : List (List ℕ)) (k : ℕ) → weigh f (get_or slots k []) ≤ weigh f (concat slots)
