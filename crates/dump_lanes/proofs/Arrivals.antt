@@ -1,79 +1,53 @@
 -- Numbered items that arrive in any order and are released in theirs.
-use Rattle.dump_lanes.proofs.Prelude.{◌≡◌, ◌≢◌, ◌⊎◌, inl, inr, ℕ, zero, suc, ◌+◌, ◌<◌, ◌≤◌, ◌%◌, List, [], ◌∷◌, ◌++◌, length, Option, Some, None, slice_set, sum_by, refl, sym, ap, ◌∙◌, subst, arith, append_assoc, replicate, cases_lt, cases_eq, set-get_or, length-replicate, none-some, sum_by-cons, sum_by-append, sum_by_push, sum_by-set, WeighsSame, first_numbers, Lacks, IsWaiting, Clash, slot_item, with_slot_item, held, Row, Taken, Wrong}
+use Rattle.dump_lanes.proofs.Prelude.{◌≡◌, ◌≢◌, inl, inr, ℕ, zero, suc, ◌+◌, ◌<◌, ◌≤◌, ◌%◌, List, [], ◌∷◌, ◌++◌, length, Option, Some, None, slice_set, sum_by, refl, sym, ap, ◌∙◌, subst, arith, append_assoc, replicate, cases_eq, set-get_or, length-replicate, none-some, sum_by-cons, sum_by-append, sum_by_push, sum_by-set, WeighsSame, first_numbers, Lacks, IsWaiting, Clash, slot_item, with_slot_item, held, Row, Taken, Wrong, ◌⊎◌}
 use Rattle.std.proofs.Common.{slice_index_or}
 use Rattle.std.proofs.lemmas.List.{length-set, get_or-set_same, get_or-set_other}
 use Rattle.std.proofs.Math.Nat.{mod-lt}
-use Rattle.dump_lanes.proofs.core.Weights.{weigh, weigh-append, only, only_itself, only_other, within_range, above_range, range_next}
+use Rattle.dump_lanes.proofs.core.Weights.{weigh, weigh_is_sum, weigh-append, only, only_itself, only_other, within_range, above_range, range_next}
+use Rattle.dump_lanes.proofs.core.Marks.{get_or_replicate}
 use Rattle.dump_lanes.proofs.core.Slots.{near}
-
-sum_is : (f : ℕ → ℕ) (xs : List ℕ) → sum_by f xs ≡ weigh f xs
-sum_is f [] = refl
-sum_is f (x ∷ xs) = let more = sum_is f xs in omega (arith, sum_by-cons f x xs)
 
 -- what both lists weigh
 weighed : (f : ℕ → ℕ) (xs ys : List ℕ) → WeighsSame xs ys → weigh f xs ≡ weigh f ys
-weighed f xs ys h = sym (sum_is f xs) ∙ (h f ∙ sum_is f ys)
+weighed f xs ys h = weigh_is_sum f xs ∙ (h f ∙ sym (weigh_is_sum f ys))
 
 once_at_most : (m count : ℕ) → weigh (only m) (first_numbers count) ≤ 1
-once_at_most m count = by (cases_lt m count)
-  where
-    by : ((m < count) ⊎ (count ≤ m)) → weigh (only m) (first_numbers count) ≤ 1
-    by (inl lt) = let e = within_range m count lt in omega arith
-    by (inr le) = let e = above_range m count le in omega arith
+once_at_most m count = grind (arith, within_range m count, above_range m count)
+
+-- where the first so many arrived, those released and the others weigh what they weigh
+split_weight : (released count : ℕ) (arrived others : List ℕ) → WeighsSame arrived (first_numbers count)
+    → WeighsSame arrived (first_numbers released ++ others)
+    → (f : ℕ → ℕ) → weigh f (first_numbers released) + weigh f others ≡ weigh f (first_numbers count)
+split_weight released count arrived others all same f =
+    sym (weigh-append f (first_numbers released) others)
+    ∙ (sym (weighed f arrived (first_numbers released ++ others) same) ∙ weighed f arrived (first_numbers count) all)
 
 -- one of the first that comes after those released
 comes_after : (count released m : ℕ) (rest : List ℕ) → weigh (only m) (first_numbers released) +
     (1 + weigh (only m) rest) ≡ weigh (only m) (first_numbers count)
     → (released ≤ m) × (m < count)
-comes_after count released m rest e = (low (cases_lt m released), high (cases_lt m count))
-  where
-    most : weigh (only m) (first_numbers count) ≤ 1
-    most = once_at_most m count
-
-    low : ((m < released) ⊎ (released ≤ m)) → released ≤ m
-    low (inl lt) = let one = within_range m released lt in absurd (omega (arith, most, e))
-    low (inr le) = le
-
-    high : ((m < count) ⊎ (count ≤ m)) → m < count
-    high (inl lt) = lt
-    high (inr le) = let none = above_range m count le in absurd (omega (arith, e))
+comes_after count released m rest e =
+    (grind (arith, within_range m released, once_at_most m count), grind (arith, above_range m count))
 
 -- where the first so many arrived, each once, no two clash
 pub no_clash : (window released count : ℕ) (arrived : List ℕ) → WeighsSame arrived (first_numbers count)
     → count ≤ released + window
     → Clash window released arrived → ⊥
-no_clash window released count arrived all most (Taken m n rest same turn) = apart
-    (near window released count m n a.0 b.0 a.1 b.1 most turn)
-  where
-    total : (f : ℕ → ℕ) → weigh f (first_numbers released) + (f m + (f n + weigh f rest)) ≡ weigh f
-        (first_numbers count)
-    total f = sym (weigh-append f (first_numbers released) (m ∷ n ∷ rest))
-        ∙ (sym (weighed f arrived (first_numbers released ++ m ∷ n ∷ rest) same)
-        ∙ weighed f arrived (first_numbers count) all)
-
-    a : (released ≤ m) × (m < count)
-    a = comes_after count released m (n ∷ rest) (let t = total (only m) in let e = only_itself m in omega arith)
-
-    b : (released ≤ n) × (n < count)
-    b = comes_after count released n (m ∷ rest) (let t = total (only n) in let e = only_itself n in omega arith)
-
-    apart : m ≡ n → ⊥
-    apart e =
-        let t = total (only n) in
-        let one = only_itself n in
-        let other : only n m ≡ 1 = ap (only n) e ∙ one in
-        let most' = once_at_most n count in omega arith
-no_clash window released count arrived all most (Wrong m rest same turn other) = other
-    (near window released (suc m) m released a.0 (omega arith) (omega arith) (let x = a.0 in omega arith)
-    (let x = a.1 in omega arith) turn)
-  where
-    total : (f : ℕ → ℕ) → weigh f (first_numbers released) + (f m + weigh f rest) ≡ weigh f (first_numbers count)
-    total f = sym (weigh-append f (first_numbers released) (m ∷ rest))
-        ∙ (sym (weighed f arrived (first_numbers released ++ m ∷ rest) same)
-        ∙ weighed f arrived (first_numbers count) all)
-
-    a : (released ≤ m) × (m < count)
-    a = comes_after count released m rest (let t = total (only m) in let e = only_itself m in omega arith)
+no_clash window released count arrived all most (Taken m n rest same turn) =
+    let of_m = split_weight released count arrived (m ∷ n ∷ rest) all same (only m) in
+    let of_n = split_weight released count arrived (m ∷ n ∷ rest) all same (only n) in
+    let one_m = only_itself m in
+    let one_n = only_itself n in
+    let a = comes_after count released m (n ∷ rest) (omega arith) in
+    let b = comes_after count released n (m ∷ rest) (omega arith) in
+    let e = near window released count m n a.0 b.0 a.1 b.1 most turn in
+    let other : only n m ≡ 1 = ap (only n) e ∙ one_n in
+    let once = once_at_most n count in omega arith
+no_clash window released count arrived all most (Wrong m rest same turn other) =
+    let of_m = split_weight released count arrived (m ∷ rest) all same (only m) in
+    let one = only_itself m in
+    let a = comes_after count released m rest (omega arith) in
+    other (near window released (suc m) m released a.0 (omega arith) (omega arith) (omega arith) (omega arith) turn)
 
 lacks_none : (n : ℕ) (ns : List ℕ) → Lacks n ns → weigh (only n) ns ≡ 0
 lacks_none n [] h = refl
@@ -84,46 +58,32 @@ lacks_none n (m ∷ ns) h =
 -- where the first so many arrived, each once, and the next to be released isn't there, all were released
 pub none_waits : (released count : ℕ) (arrived : List ℕ) → WeighsSame arrived (first_numbers count)
     → IsWaiting released arrived → released ≡ count
-none_waits released count arrived all w = by (cases_lt released count) (cases_lt count released)
-  where
-    total : (f : ℕ → ℕ) → weigh f (first_numbers released) + weigh f w.others ≡ weigh f (first_numbers count)
-    total f = sym (weigh-append f (first_numbers released) w.others)
-        ∙ (sym (weighed f arrived (first_numbers released ++ w.others) w.same)
-        ∙ weighed f arrived (first_numbers count) all)
+none_waits released count arrived all w =
+    let none = lacks_none released w.others w.lacks in
+    let a = split_weight released count arrived w.others all w.same (only released) in
+    let b = split_weight released count arrived w.others all w.same (only count) in
+    grind (
+      arith,
+      within_range released count,
+      above_range released released,
+      within_range count released,
+      above_range count count,
+    )
 
-    by : ((released < count) ⊎ (count ≤ released)) → ((count < released) ⊎ (released ≤ count)) → released ≡ count
-    by (inl lt) y =
-        let one = within_range released count lt in
-        let none = above_range released released (omega arith) in
-        let lacks = lacks_none released w.others w.lacks in
-        let t = total (only released) in absurd (omega arith)
-    by (inr le) (inl lt) =
-        let one = within_range count released lt in
-        let none = above_range count count (omega arith) in
-        let t = total (only count) in absurd (omega arith)
-    by (inr le) (inr le') = omega arith
+then_more : (released : ℕ) (arrived others more : List ℕ) → WeighsSame arrived (first_numbers released ++ others)
+    → WeighsSame (arrived ++ more) (first_numbers released ++ (others ++ more))
+then_more released arrived others more h f =
+    sum_by-append f arrived more ∙ (ap (λ k. k + sum_by f more) (h f)
+    ∙ (sym (sum_by-append f (first_numbers released ++ others) more)
+    ∙ ap (sum_by f) (append_assoc (first_numbers released) others more)))
 
 -- what still comes changes no clash
 pub still_clash : (window released : ℕ) (arrived more : List ℕ) → Clash window released arrived
     → Clash window released (arrived ++ more)
-still_clash window released arrived more (Taken m n rest same turn) = Taken m n (rest ++ more)
-    (then_more (m ∷ n ∷ rest) same) turn
-  where
-    then_more : (others : List ℕ) → WeighsSame arrived (first_numbers released ++ others) → WeighsSame (arrived ++ more)
-        (first_numbers released ++ (others ++ more))
-    then_more others h f =
-        sum_by-append f arrived more ∙ (ap (λ k. k + sum_by f more) (h f)
-        ∙ (sym (sum_by-append f (first_numbers released ++ others) more)
-        ∙ ap (sum_by f) (append_assoc (first_numbers released) others more)))
-still_clash window released arrived more (Wrong m rest same turn other) = Wrong m (rest ++ more)
-    (then_more (m ∷ rest) same) turn other
-  where
-    then_more : (others : List ℕ) → WeighsSame arrived (first_numbers released ++ others) → WeighsSame (arrived ++ more)
-        (first_numbers released ++ (others ++ more))
-    then_more others h f =
-        sum_by-append f arrived more ∙ (ap (λ k. k + sum_by f more) (h f)
-        ∙ (sym (sum_by-append f (first_numbers released ++ others) more)
-        ∙ ap (sum_by f) (append_assoc (first_numbers released) others more)))
+still_clash window released arrived more (Taken m n rest same turn) =
+    Taken m n (rest ++ more) (then_more released arrived (m ∷ n ∷ rest) more same) turn
+still_clash window released arrived more (Wrong m rest same turn other) =
+    Wrong m (rest ++ more) (then_more released arrived (m ∷ rest) more same) turn other
 
 module _ {T : Type 0} (number : T → ℕ) where
   -- what an item in a place weighs
@@ -170,26 +130,13 @@ module _ {T : Type 0} (number : T → ℕ) where
   none_held zero = refl
   none_held (suc n) = none_held n
 
-  none_stands : (n k : ℕ) (item : T) → slice_index_or (replicate n None) k None ≡ Some item → ⊥
-  none_stands zero k item e = none-some item e
-  none_stands (suc n) zero item e = none-some item e
-  none_stands (suc n) (suc k) item e = none_stands n k item e
-
   -- at first nothing has arrived, and each place is free
   pub empty_row : (window : ℕ) → Row number window 0 [] (replicate window None)
   empty_row window = record {
     wide = length-replicate window None;
-    placed = λ k item e. absurd (none_stands window k item e);
+    placed = λ k item e. absurd (none-some item (sym (get_or_replicate window k None) ∙ e));
     same = λ f. ap (sum_by f) (sym (none_held window));
   }
-
-  from_some : T → Option T → T
-  from_some d None = d
-  from_some d (Some x) = x
-
-  same_some : (a b : T) → Some a ≡ Some b → a ≡ b
-  unfolding from_some
-  same_some a b e = ap (from_some a) e
 
   -- what stands in a row after a change
   placed_set : (places : List (Option T)) (window i : ℕ) (new : Option T) → i < length places
@@ -215,14 +162,10 @@ module _ {T : Type 0} (number : T → ℕ) where
       record {
         wide = length-set places i (Some item) ∙ r.wide;
         placed = placed_set places window i (Some item) lt r.placed
-            (λ x e. ap (λ (y : T). number y % window) (sym (same_some item x e)) ∙ ap (λ (w : ℕ). number item % w)
-            (sym r.wide));
-        same = λ f.
-            let a = sum_by_push f arrived (number item) in
-            let b = r.same f in
-            let c = sum_by-append f (first_numbers released) (places_of places) in
-            let d = sum_by-append f (first_numbers released) (places_of (slice_set places i (Some item))) in
-            let e = put_in f places i item lt free in omega arith;
+            (λ x e.
+            let same : x ≡ item = cc in
+            ap (λ (y : T). number y % window) same ∙ ap (λ (w : ℕ). number item % w) (sym r.wide));
+        same = λ f. omega (arith, sum_by-append {X = ℕ}, sum_by_push {X = ℕ}, r.same f, put_in f places i item lt free);
       }
 
   -- the next item is released
@@ -238,11 +181,9 @@ module _ {T : Type 0} (number : T → ℕ) where
         placed = placed_set places window i None lt r.placed (λ x e. absurd (none-some x e));
         same = λ f.
             let b = r.same f in
-            let c = sum_by-append f (first_numbers released) (places_of places) in
-            let d = sum_by-append f (first_numbers (released + 1)) (places_of (slice_set places i None)) in
             let e = taken_out f places i item lt stands in
             let g = ap (sum_by f) (range_next released) ∙ sum_by_push f (first_numbers released) released in
-            let h : f (number item) ≡ f released = ap f is in omega arith;
+            let h : f (number item) ≡ f released = ap f is in omega (arith, sum_by-append {X = ℕ});
       }
 
   -- the next arrives, and is released without a place in the row
@@ -253,11 +194,9 @@ module _ {T : Type 0} (number : T → ℕ) where
     wide = r.wide;
     placed = r.placed;
     same = λ f.
-        let a = sum_by_push f arrived released in
         let b = r.same f in
-        let c = sum_by-append f (first_numbers released) (places_of places) in
-        let d = sum_by-append f (first_numbers (released + 1)) (places_of places) in
-        let e = ap (sum_by f) (range_next released) ∙ sum_by_push f (first_numbers released) released in omega arith;
+        let e = ap (sum_by f) (range_next released) ∙ sum_by_push f (first_numbers released) released in
+        omega (arith, sum_by-append {X = ℕ}, sum_by_push {X = ℕ});
   }
 
   -- nothing is released
@@ -298,12 +237,7 @@ module _ {T : Type 0} (number : T → ℕ) where
       let lt : i < length places = mod-lt released some in
       let rest : List ℕ = places_of (slice_set places i None) in
       Wrong (number item) rest
-      (λ f.
-      let b = r.same f in
-      let c = sum_by-append f (first_numbers released) (places_of places) in
-      let d = sum_by-append f (first_numbers released) (number item ∷ rest) in
-      let g = sum_by-cons f (number item) rest in
-      let e = taken_out f places i item lt stands in omega arith)
+      (λ f. omega (arith, sum_by-append {X = ℕ}, sum_by-cons {X = ℕ}, r.same f, taken_out f places i item lt stands))
       (r.placed i item stands ∙ ap (λ (w : ℕ). released % w) r.wide)
       other
 
@@ -317,11 +251,7 @@ module _ {T : Type 0} (number : T → ℕ) where
       let rest : List ℕ = places_of (slice_set places i None) in
       Taken (number other) (number item) rest
       (λ f.
-      let a = sum_by_push f arrived (number item) in
       let b = r.same f in
-      let c = sum_by-append f (first_numbers released) (places_of places) in
-      let d = sum_by-append f (first_numbers released) (number other ∷ number item ∷ rest) in
-      let g = sum_by-cons f (number other) (number item ∷ rest) in
-      let h = sum_by-cons f (number item) rest in
-      let e = taken_out f places i other lt stands in omega arith)
+      let e = taken_out f places i other lt stands in
+      omega (arith, sum_by-append {X = ℕ}, sum_by-cons {X = ℕ}, sum_by_push {X = ℕ}))
       (r.placed i other stands ∙ ap (λ (w : ℕ). number item % w) r.wide)

@@ -1,6 +1,6 @@
 -- Each move on a pool's queue of credits keeps its rule.
-use Rattle.dump_lanes.proofs.Prelude.{◌≡◌, ◌≢◌, ◌≤◌, ℕ, ◌+◌, suc, true, false, true≢false, ⊎_elim, List, [], ◌∷◌, ◌++◌, length, set, sym, refl, ap, ◌∙◌, subst, arith, lt-ltb, ltb-true, length-append, Purse, Move, Thread, credits_share, credits_allow, event_of, is_thread, steps_of, CreditStep, draw_step, back_step, drawn_in, back_in, purse, after_first, after_draw, after_back, cutter_purse, writer_purse, joined_purse, spent_purse, IsCreditQueue}
-use Rattle.std.proofs.Common.{IsTrue}
+use Rattle.dump_lanes.proofs.Prelude.{◌≡◌, ◌≢◌, ◌≤◌, ℕ, ◌+◌, suc, true, true≢false, List, [], ◌∷◌, ◌++◌, length, set, sym, refl, ap, ◌∙◌, subst, arith, lt-ltb, ltb-true, length-append, Purse, Move, Thread, credits_share, credits_allow, event_of, steps_of, CreditStep, draw_step, back_step, drawn_in, back_in, purse, after_first, after_draw, after_back, cutter_purse, writer_purse, joined_purse, spent_purse, IsCreditQueue}
+use Rattle.std.proofs.Common.{IsTrue, length-set}
 use mathlib.Core.Option.{some}
 use lib.ListN.{get_elem?}
 use Rattle.atomic_table.proofs.Lists.{set_else}
@@ -8,8 +8,8 @@ use Rattle.crossbeam_queue.specs.Fifo.{Pushes, Pops, Forks, Merges, Learns}
 use Rattle.dump_lanes.specs.declared.steps.Move.TheVariants as move
 use Rattle.dump_lanes.specs.CreditRule.{put_by, taken_by, IsStep, AreSteps}
 use Rattle.dump_lanes.specs.steps.CreditQueue.{Fits, KnowsSteps}
-use Rattle.dump_lanes.proofs.PartMoves.{other_thread, one_or_other, forked, forked_stays, forked_to, joined as joined_owner, joined_is, joined_comes, knows_step, knows_else, knows_fork_left, knows_fork_else, knows_fork_new, knows_join_both, knows_join_else, knows_join_spent}
-use Rattle.dump_lanes.proofs.Views.{AllViews, AllViews-set, AllViews-one, AllViews-more, within, set_long}
+use Rattle.dump_lanes.proofs.PartMoves.{other_thread, same_or_other, forked, forked_stays, forked_to, joined as joined_owner, joined_is, joined_comes, knows_step, knows_else, knows_fork_left, knows_fork_else, knows_fork_new, knows_join_both, knows_join_else, knows_join_spent}
+use Rattle.dump_lanes.proofs.Views.{AllViews, AllViews-set, AllViews-one, AllViews-more, within}
 
 -- the cutter's step, and the writer's, is the credits' share of its event
 draw_is_step : (free : ℕ) → IsStep (suc free) draw_step free
@@ -22,15 +22,9 @@ back_is_step free = record { one_credit = refl; allowed = refl; share = refl }
 pub one_balance : (old new : ℕ) (m : Move) → put_by (event_of m) + taken_by (event_of m) ≡ 1
     → IsTrue (credits_allow old (event_of m))
     → new ≡ credits_share old (event_of m) → old + put_by (event_of m) ≡ taken_by (event_of m) + new
-one_balance old new move.Cut one may e = absurd (omega arith)
-one_balance old new move.CutMark one may e = absurd (omega arith)
-one_balance old new (move.Take k) one may e = absurd (omega arith)
-one_balance old new (move.Put k) one may e = absurd (omega arith)
-one_balance old new move.Arrive one may e = absurd (omega arith)
-one_balance old new move.Release one may e = absurd (omega arith)
-one_balance old new move.Write one may e = absurd (omega arith)
 one_balance old new move.Draw one may e = let a = ltb-true 0 old may in omega arith
 one_balance old new move.Give one may e = omega arith
+one_balance old new m one may e = absurd (omega arith)
 
 -- the credits that were drawn and are free are those that were there at first and came back
 pub balance : (first : ℕ) (happened : List CreditStep) (free : ℕ) → AreSteps first happened free
@@ -52,9 +46,7 @@ cutter_not_writer = other_thread Thread.Cutter Thread.Writer refl
 -- a pass that has the writer and all others has all
 has_all : (owner : Thread → ℕ) (pass : ℕ) → ((t : Thread) → t ≢ Thread.Writer → owner t ≡ pass)
     → owner Thread.Writer ≡ pass → (t : Thread) → owner t ≡ pass
-has_all owner pass others writer t =
-    ⊎_elim (λ (y : (t ≡ Thread.Writer) × (is_thread Thread.Writer t ≡ true)). ap owner y.0 ∙ writer)
-    (λ (y : (t ≢ Thread.Writer) × (is_thread Thread.Writer t ≡ false)). others t y.0) (one_or_other Thread.Writer t)
+has_all owner pass others writer t = same_or_other Thread.Writer t (λ e. ap owner e ∙ writer) (others t)
 
 module _ {T : Type 0} where
   length_more : (items : List T) (x : T) → length (items ++ x ∷ []) ≡ length items + 1
@@ -101,69 +93,63 @@ module _ {T : Type 0} where
         fits = AllViews-set (Fits h.owner (h.first + 1) h.happened) views pass w one others;
       } in (w, after, refl)
 
+  -- a pass makes a step of its own, where it fits then, and the others still fit
+  one_step : (pass : ℕ) (w : Purse) (s : CreditStep) (items new : List T) (views : List Purse)
+      (h : IsCreditQueue items views) → IsStep (length items) s (length new)
+      → Fits h.owner h.first (s ∷ h.happened) pass w
+      → ((j : ℕ) (u : Purse) → j ≢ pass → Fits h.owner h.first h.happened j u
+      → Fits h.owner h.first (s ∷ h.happened) j u) → IsCreditQueue new (set views pass w)
+  one_step pass w s items new views h step one others = record {
+    owner = h.owner;
+    first = h.first;
+    happened = s ∷ h.happened;
+    steps = (length items, step, h.steps);
+    fits = AllViews-set (Fits h.owner h.first (s ∷ h.happened)) views pass w one
+        (λ j u other e. others j u other (h.fits j u e));
+  }
+
   -- a credit is drawn
   pub draws : (pass : ℕ) (v : Purse) → v.draws ≡ true → Pops IsCreditQueue pass v (λ (x : T) w. w ≡ after_draw v)
   draws pass v may x items views h at =
-      let w : Purse = after_draw v in
       let mine = h.fits pass v at in
       let d = mine.draws may in
-      let happened : List CreditStep = draw_step ∷ h.happened in
       let owns : h.owner Thread.Cutter ≡ pass = d.0 Thread.Cutter cutter_not_writer in
-      let one : Fits h.owner h.first happened pass w = record {
+      let one : Fits h.owner h.first (draw_step ∷ h.happened) pass (after_draw v) = record {
         draws = λ p. (d.0, ap (λ k. k + 1) d.1);
         gives = λ p. let g = mine.gives p in (g.0, g.1, let e = g.2 in omega arith);
         knows = knows_step h.owner h.happened pass v.steps draw_step owns mine.knows;
-      } in
-      let others : (j : ℕ) (u : Purse) → j ≢ pass → get_elem? views j ≡ some u
-      → Fits h.owner h.first happened j u =
-      λ j u other e.
-      let f = h.fits j u e in record {
-        draws = λ p. absurd (other (sym ((f.draws p).0 Thread.Cutter cutter_not_writer) ∙ owns));
-        gives = λ p. let g = f.gives p in (g.0, g.1, let e = g.2 in omega arith);
-        knows = knows_else h.owner h.happened j u.steps draw_step (λ o. other (sym o ∙ owns)) f.knows;
-      } in
-      let after : IsCreditQueue items (set views pass w) = record {
-        owner = h.owner;
-        first = h.first;
-        happened = happened;
-        steps = (length (x ∷ items), draw_is_step (length items), h.steps);
-        fits = AllViews-set (Fits h.owner h.first happened) views pass w one others;
-      } in (w, after, refl)
+      } in (
+        after_draw v,
+        one_step pass (after_draw v) draw_step (x ∷ items) items views h (draw_is_step (length items)) one
+            (λ j u other f. record {
+              draws = λ p. absurd (other (sym ((f.draws p).0 Thread.Cutter cutter_not_writer) ∙ owns));
+              gives = λ p. let g = f.gives p in (g.0, g.1, let e = g.2 in omega arith);
+              knows = knows_else h.owner h.happened j u.steps draw_step (λ o. other (sym o ∙ owns)) f.knows;
+            }),
+        refl,
+      )
 
   -- a credit is given back
   pub gives : (n pass : ℕ) (v : Purse) (x : T) → v.gives ≡ true → Pushes IsCreditQueue n pass v x
       (λ w. w ≡ after_back v)
   gives n pass v x may items views room h at =
-      let w : Purse = after_back v in
       let mine = h.fits pass v at in
       let g = mine.gives may in
-      let happened : List CreditStep = back_step ∷ h.happened in
-      let owns : h.owner Thread.Writer ≡ pass = g.0 in
-      let one : Fits h.owner h.first happened pass w = record {
+      let one : Fits h.owner h.first (back_step ∷ h.happened) pass (after_back v) = record {
         draws = λ p. let d = mine.draws p in (d.0, let e = d.1 in omega arith);
         gives = λ p. (g.0, g.1, ap (λ k. k + 1) g.2);
-        knows = knows_step h.owner h.happened pass v.steps back_step owns mine.knows;
-      } in
-      let others : (j : ℕ) (u : Purse) → j ≢ pass → get_elem? views j ≡ some u
-      → Fits h.owner h.first happened j u =
-      λ j u other e.
-      let f = h.fits j u e in record {
-        draws = λ p. let d = f.draws p in (d.0, let e = d.1 in omega arith);
-        gives = λ p. absurd (other (sym (f.gives p).0 ∙ g.0));
-        knows = knows_else h.owner h.happened j u.steps back_step (λ o. other (sym o ∙ owns)) f.knows;
-      } in
-      let after : IsCreditQueue (items ++ x ∷ []) (set views pass w) = record {
-        owner = h.owner;
-        first = h.first;
-        happened = happened;
-        steps = (
-          length items,
-          subst (IsStep (length items) back_step) (sym (length_more items x))
-              (back_is_step (length items)),
-          h.steps,
-        );
-        fits = AllViews-set (Fits h.owner h.first happened) views pass w one others;
-      } in (w, after, refl)
+        knows = knows_step h.owner h.happened pass v.steps back_step g.0 mine.knows;
+      } in (
+        after_back v,
+        one_step pass (after_back v) back_step items (items ++ x ∷ []) views h
+            (subst (IsStep (length items) back_step) (sym (length_more items x)) (back_is_step (length items))) one
+            (λ j u other f. record {
+              draws = λ p. let d = f.draws p in (d.0, let e = d.1 in omega arith);
+              gives = λ p. absurd (other (sym (f.gives p).0 ∙ g.0));
+              knows = knows_else h.owner h.happened j u.steps back_step (λ o. other (sym o ∙ g.0)) f.knows;
+            }),
+        refl,
+      )
 
   -- the first pass is cut into the cutter's and the writer's
   pub forks : (pass : ℕ) (v : Purse) → v.draws ≡ true → v.gives ≡ true → v.drawn ≡ 0 → v.back ≡ 0
@@ -178,7 +164,7 @@ module _ {T : Type 0} where
       (sym g.2 ∙ none_back) in
       let unwritten : steps_of Thread.Writer h.happened ≡ [] = ap (steps_of Thread.Writer) none in
       let cut : List Purse = set views pass left in
-      let long = set_long views pass left in
+      let long = length-set views pass left in
       let here = within views pass v at in
       let new : ℕ = length cut in
       let owner : Thread → ℕ = forked h.owner Thread.Writer new in

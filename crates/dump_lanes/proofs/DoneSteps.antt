@@ -1,5 +1,5 @@
 -- Each move on a pool's queue of dones keeps its rule.
-use Rattle.dump_lanes.proofs.Prelude.{◌≡◌, ◌≢◌, ◌==◌, ◌<◌, ℕ, true, false, true≢false, inl, inr, List, [], ◌∷◌, ◌++◌, length, cond, sym, refl, ap, ◌∙◌, arith, lt-ltb, Note, Move, View, Thread, thread_of, event_of, is_thread, after_put, after_take, dones_part, sequencer_crew, give_step, arrive_step, IsDoneQueue}
+use Rattle.dump_lanes.proofs.Prelude.{◌≡◌, ◌==◌, ◌<◌, ℕ, true, false, true≢false, inl, inr, List, [], ◌∷◌, ◌++◌, length, cond, sym, refl, ap, arith, lt-ltb, Note, Move, View, Thread, thread_of, event_of, is_thread, after_put, after_take, dones_part, sequencer_crew, give_step, arrive_step, IsDoneQueue}
 use Rattle.std.proofs.Common.{eq-eqb}
 use Rattle.std.proofs.lemmas.List.{append-nil}
 use Rattle.crossbeam_queue.specs.Fifo.{Pushes, Pops}
@@ -7,16 +7,16 @@ use Rattle.dump_lanes.specs.declared.steps.Move.TheVariants as move
 use Rattle.dump_lanes.specs.PartSteps.{IsStep, all_taken}
 use Rattle.dump_lanes.specs.steps.QueueRule.{KnowsSteps}
 use Rattle.dump_lanes.specs.DoneRule.{taken_by}
-use Rattle.dump_lanes.proofs.PartMoves.{worker_number}
+use Rattle.dump_lanes.proofs.PartMoves.{worker_number, other_thread}
 use Rattle.dump_lanes.proofs.QueueSteps as queue
 use Rattle.dump_lanes.proofs.QueueSteps.{AreApart}
 
-worker_not_sequencer : (k : ℕ) → Thread.Worker k ≢ Thread.Sequencer
-worker_not_sequencer k e = true≢false (sym (eq-eqb k k refl) ∙ ap (is_thread (Thread.Worker k)) e)
-
 -- the sequencer and the workers are different threads
 pub sequencer_apart : AreApart sequencer_crew
-sequencer_apart = record { leader = worker_not_sequencer; others = λ j k ne e. ne (worker_number e) }
+sequencer_apart = record {
+  leader = λ k. other_thread (Thread.Worker k) Thread.Sequencer refl;
+  others = λ j k ne e. ne (worker_number e);
+}
 
 module _ {T : Type 0} where
   -- a worker's step, and the sequencer's, is the dones' share of its event
@@ -56,14 +56,8 @@ module _ {T : Type 0} where
   taken_by_sequencer : (m : Move) (x : Note T) → is_thread Thread.Sequencer (thread_of (event_of m)) ≡ false
       → taken_by (event_of m) x ≡ []
   taken_by_sequencer move.Arrive x e = absurd (true≢false e)
-  taken_by_sequencer move.Cut x e = refl
-  taken_by_sequencer move.CutMark x e = refl
-  taken_by_sequencer (move.Take k) x e = refl
-  taken_by_sequencer (move.Put k) x e = refl
-  taken_by_sequencer move.Draw x e = refl
-  taken_by_sequencer move.Give x e = refl
   taken_by_sequencer move.Release x e = absurd (true≢false e)
-  taken_by_sequencer move.Write x e = refl
+  taken_by_sequencer m x e = refl
 
   -- a pass with all parts knows all that was taken
   pub knows_taken : (v : View (Note T)) (items : List (Note T)) (k : KnowsSteps dones_part sequencer_crew v items)

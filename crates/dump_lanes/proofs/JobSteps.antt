@@ -1,6 +1,5 @@
 -- Each move on a pool's queue of jobs keeps its rule.
-use Rattle.dump_lanes.proofs.Prelude.{◌≡◌, ◌≢◌, ◌<◌, ℕ, true, false, true≢false, inl, inr, List, [], ◌∷◌, ◌++◌, length, sym, refl, ap, ◌∙◌, arith, lt-ltb, Mark, Item, End, Move, View, Thread, thread_of, event_of, all_put, is_thread, after_put, jobs_part, cut_event, cutter_crew, after_job, IsJobQueue}
-use Rattle.std.proofs.Common.{eq-eqb}
+use Rattle.dump_lanes.proofs.Prelude.{◌≡◌, ◌<◌, ℕ, true, false, true≢false, inl, inr, List, [], ◌∷◌, ◌++◌, length, refl, ap, arith, lt-ltb, Mark, Item, End, Move, View, Thread, thread_of, event_of, all_put, is_thread, after_put, jobs_part, cutter_crew, after_job, IsJobQueue}
 use Rattle.std.proofs.lemmas.List.{append-nil}
 use Rattle.crossbeam_queue.specs.Fifo.{Pushes, Pops}
 use Rattle.dump_lanes.specs.declared.steps.Move.TheVariants as move
@@ -8,16 +7,16 @@ use Rattle.dump_lanes.specs.PartSteps.{IsStep}
 use Rattle.dump_lanes.specs.steps.QueueRule.{KnowsSteps}
 use Rattle.dump_lanes.specs.JobRule.{put_by}
 use Rattle.dump_lanes.specs.steps.JobQueue.{put_step, take_step}
-use Rattle.dump_lanes.proofs.PartMoves.{worker_number}
+use Rattle.dump_lanes.proofs.PartMoves.{worker_number, other_thread}
 use Rattle.dump_lanes.proofs.QueueSteps as queue
 use Rattle.dump_lanes.proofs.QueueSteps.{AreApart}
 
-worker_not_cutter : (k : ℕ) → Thread.Worker k ≢ Thread.Cutter
-worker_not_cutter k e = true≢false (sym (eq-eqb k k refl) ∙ ap (is_thread (Thread.Worker k)) e)
-
 -- the cutter and the workers are different threads
 pub cutter_apart : AreApart cutter_crew
-cutter_apart = record { leader = worker_not_cutter; others = λ j k ne e. ne (worker_number e) }
+cutter_apart = record {
+  leader = λ k. other_thread (Thread.Worker k) Thread.Cutter refl;
+  others = λ j k ne e. ne (worker_number e);
+}
 
 module _ {T : Type 0} where
   -- the cutter's step, and a worker's, is the jobs' share of its event
@@ -34,23 +33,13 @@ module _ {T : Type 0} where
     in_turn = ap (λ l. x ∷ l) (append-nil items);
   }
 
-  cut_thread : (x : Mark T) → thread_of (event_of (cut_event x)) ≡ Thread.Cutter
-  cut_thread (Item x) = refl
-  cut_thread End = refl
-
-  cut_puts : (x : Mark T) → jobs_part.puts (put_step x) ≡ x ∷ []
-  cut_puts (Item x) = refl
-  cut_puts End = refl
-
-  cut_takes : (x : Mark T) → jobs_part.takes (put_step x) ≡ []
-  cut_takes (Item x) = refl
-  cut_takes End = refl
-
   -- the cutter puts a mark
   pub puts : (n pass : ℕ) (v : View (Mark T)) (x : Mark T) → v.leads ≡ true
       → Pushes IsJobQueue n pass v x (λ w. w ≡ after_put v (put_step x))
-  puts n pass v x leads = queue.puts jobs_part cutter_crew cutter_apart n pass v (put_step x)
-      (inl (leads, cut_thread x)) (cut_is_step x) (cut_puts x) (cut_takes x)
+  puts n pass v (Item x) leads = queue.puts jobs_part cutter_crew cutter_apart n pass v (put_step (Item x))
+      (inl (leads, refl)) (cut_is_step (Item x)) refl refl
+  puts n pass v End leads = queue.puts jobs_part cutter_crew cutter_apart n pass v (put_step End) (inl (leads, refl))
+      (cut_is_step End) refl refl
 
   -- a worker takes a mark
   pub takes : (pass : ℕ) (v : View (Mark T)) → v.leads ≡ false → 0 < v.parts
@@ -62,13 +51,8 @@ module _ {T : Type 0} where
       → put_by (event_of m) x ≡ []
   put_by_cutter move.Cut x e = absurd (true≢false e)
   put_by_cutter move.CutMark x e = absurd (true≢false e)
-  put_by_cutter (move.Take k) x e = refl
-  put_by_cutter (move.Put k) x e = refl
-  put_by_cutter move.Arrive x e = refl
   put_by_cutter move.Draw x e = absurd (true≢false e)
-  put_by_cutter move.Give x e = refl
-  put_by_cutter move.Release x e = refl
-  put_by_cutter move.Write x e = refl
+  put_by_cutter m x e = refl
 
   -- a pass with all parts knows all that was put
   pub knows_put : (v : View (Mark T)) (items : List (Mark T)) (k : KnowsSteps jobs_part cutter_crew v items)

@@ -1,5 +1,5 @@
 -- What a call leaves an end with.
-use Rattle.dump_lanes.proofs.Prelude.{◌≡◌, Bool, true, List, [], ◌∷◌, ◌++◌, sym, ap, ◌∙◌, subst, Result, Ok, Err, MatchResult, Told, MayCome, Ended, SenderGone, View, Mark, Item, End, LaneEnd, IsWholeAtEnd, AreItemsThen, IsPutting, IsTaking, mark_if, after_put, after_take, lane_of, sending_of, receiving_of, told, ComesAgain}
+use Rattle.dump_lanes.proofs.Prelude.{◌≡◌, Bool, true, List, [], ◌∷◌, ◌++◌, sym, ap, ◌∙◌, subst, Result, Ok, Err, MatchResult, Told, MayCome, Ended, View, Mark, Item, End, LaneEnd, IsWholeAtEnd, AreItemsThen, IsPutting, IsTaking, mark_if, after_put, after_take, lane_of, sending_of, receiving_of, told, ComesAgain}
 use Rattle.atomic_table.specs.declared.badge.Badge.{Badge}
 use Rattle.crossbeam_channel.specs.Claims.{Pass, IsSeatAt, view}
 use Rattle.crossbeam_channel.specs.declared.flavors.array.Doing.{Doing}
@@ -82,14 +82,12 @@ module _ {T : Type 0} where
   pub whole_at_end : (put taken left : List (Mark T)) (marked : Bool) (end : Told)
       → AreItemsThen (mark_if marked) put → AreItemsThen (mark_of end) taken → put ≡ taken ++ left
       → IsWholeAtEnd (told end) (items_of put) (items_of taken)
-  whole_at_end put taken left marked MayCome hp ht e = tt
   whole_at_end put taken left marked Ended hp ht e = is_whole put taken marked left hp ht e
-  whole_at_end put taken left marked SenderGone hp ht e = tt
+  whole_at_end put taken left marked end hp ht e = tt
 
   -- the end was told only where its mark was put
   pub marked_at_end : (put taken left : List (Mark T)) (marked : Bool) (end : Told)
       → AreItemsThen (mark_if marked) put → AreItemsThen (mark_of end) taken → put ≡ taken ++ left
       → told end ≡ LaneEnd.Ended → marked ≡ true
-  marked_at_end put taken left marked MayCome hp ht e is = absurd (cc)
   marked_at_end put taken left marked Ended hp ht e is = is_marked put taken marked left hp ht e
-  marked_at_end put taken left marked SenderGone hp ht e is = absurd (cc)
+  marked_at_end put taken left marked end hp ht e is = absurd (cc)

@@ -16,9 +16,7 @@ module _ {T : Type 0} where
 
   -- the end mark joins
   pub items_of-then_end : (ms : List (Mark T)) → items_of (ms ++ End ∷ []) ≡ items_of ms
-  items_of-then_end [] = refl
-  items_of-then_end (Item x ∷ ms) = ap (λ l. x ∷ l) (items_of-then_end ms)
-  items_of-then_end (End ∷ ms) = items_of-then_end ms
+  items_of-then_end ms = items_of-append ms (End ∷ []) ∙ append-nil (items_of ms)
 
   all_items : (ms : List (Mark T)) → AreItemsThen [] ms → ms ≡ map Item (items_of ms)
   all_items ms h = h ∙ append-nil (map Item (items_of ms))

@@ -107,13 +107,7 @@ module _ {T : Type 0} where
     put_is = ap items_of (append-nil (all_put lane_part before)) ∙ h.put_is;
     taken_is = items_of-then_end (all_taken lane_part before) ∙ h.taken_is;
   }
-  one_more move.Cut x before held items one turn h = no_mark x one
-  one_more move.CutMark x before held items one turn h = no_mark x one
-  one_more (move.Take k) x before held items one turn h = no_mark x one
-  one_more (move.Put k) x before held items one turn h = no_mark x one
-  one_more move.Arrive x before held items one turn h = no_mark x one
-  one_more move.Draw x before held items one turn h = no_mark x one
-  one_more move.Give x before held items one turn h = no_mark x one
+  one_more m x before held items one turn h = no_mark x one
 
   -- the items of a lane have one history, which is that of the marks without the end mark's steps
   pub have_item_steps : (happened : List (Step (Mark T))) (items : List (Mark T)) → AreSteps lane_part happened items
@@ -152,26 +146,12 @@ module _ {T : Type 0} where
   put_by_sequencer : (m : Move) (x : Mark T) → is_thread Thread.Sequencer (thread_of (event_of m)) ≡ false
       → put_by (event_of m) x ≡ []
   put_by_sequencer move.Release x e = absurd (true≢false e)
-  put_by_sequencer move.Cut x e = refl
-  put_by_sequencer move.CutMark x e = refl
-  put_by_sequencer (move.Take k) x e = refl
-  put_by_sequencer (move.Put k) x e = refl
-  put_by_sequencer move.Arrive x e = refl
-  put_by_sequencer move.Draw x e = refl
-  put_by_sequencer move.Give x e = refl
-  put_by_sequencer move.Write x e = refl
+  put_by_sequencer m x e = refl
 
   taken_by_writer : (m : Move) (x : Mark T) → is_thread Thread.Writer (thread_of (event_of m)) ≡ false
       → taken_by (event_of m) x ≡ []
   taken_by_writer move.Write x e = absurd (true≢false e)
-  taken_by_writer move.Cut x e = refl
-  taken_by_writer move.CutMark x e = refl
-  taken_by_writer (move.Take k) x e = refl
-  taken_by_writer (move.Put k) x e = refl
-  taken_by_writer move.Arrive x e = refl
-  taken_by_writer move.Draw x e = refl
-  taken_by_writer move.Give x e = refl
-  taken_by_writer move.Release x e = refl
+  taken_by_writer m x e = refl
 
   module _ (v : View (Mark T)) (items : List (Mark T)) (k : KnowsSteps lane_part sender_crew v items) where
     -- a pass with all parts knows all that was put, and all that was taken

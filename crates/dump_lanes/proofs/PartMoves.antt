@@ -1,5 +1,5 @@
 -- One more step of a history: whose it is, and what it moves.
-use Rattle.dump_lanes.proofs.Prelude.{◌≡◌, ◌≢◌, ◌==◌, ◌⊎◌, inl, inr, ℕ, Bool, true, false, true≢false, List, [], ◌∷◌, ◌++◌, cond, sum_by, sym, refl, ap, ◌∙◌, subst, ⊎_elim, append_assoc, arith, sum_by-append, sum_by-cons, filter-append, Step, Thread, thread_of, event_of, Part, all_put, is_thread, steps_of, Knows}
+use Rattle.dump_lanes.proofs.Prelude.{◌≡◌, ◌≢◌, ◌==◌, ℕ, true, false, true≢false, List, [], ◌∷◌, ◌++◌, cond, sum_by, sym, refl, ap, ◌∙◌, subst, ⊎_elim, append_assoc, arith, sum_by-append, sum_by-cons, filter-append, Step, Thread, thread_of, event_of, Part, all_put, is_thread, steps_of, Knows, cases_Bool}
 use Rattle.std.proofs.Common.{eq-eqb, ne_eqb}
 use Rattle.std.proofs.lemmas.Bool.{eqb-true}
 use Rattle.std.proofs.lemmas.List.{append-nil}
@@ -28,35 +28,22 @@ other_thread t u differs e = true≢false (sym (is_same_thread t) ∙ (ap (is_th
 
 one_thread : (t u : Thread) → is_thread t u ≡ true → u ≡ t
 one_thread Thread.Cutter Thread.Cutter e = refl
-one_thread Thread.Cutter (Thread.Worker k) e = absurd (true≢false (sym e))
-one_thread Thread.Cutter Thread.Sequencer e = absurd (true≢false (sym e))
-one_thread Thread.Cutter Thread.Writer e = absurd (true≢false (sym e))
-one_thread (Thread.Worker j) Thread.Cutter e = absurd (true≢false (sym e))
 one_thread (Thread.Worker j) (Thread.Worker k) e = ap Thread.Worker (sym (eqb-true j k e))
-one_thread (Thread.Worker j) Thread.Sequencer e = absurd (true≢false (sym e))
-one_thread (Thread.Worker j) Thread.Writer e = absurd (true≢false (sym e))
-one_thread Thread.Sequencer Thread.Cutter e = absurd (true≢false (sym e))
-one_thread Thread.Sequencer (Thread.Worker k) e = absurd (true≢false (sym e))
 one_thread Thread.Sequencer Thread.Sequencer e = refl
-one_thread Thread.Sequencer Thread.Writer e = absurd (true≢false (sym e))
-one_thread Thread.Writer Thread.Cutter e = absurd (true≢false (sym e))
-one_thread Thread.Writer (Thread.Worker k) e = absurd (true≢false (sym e))
-one_thread Thread.Writer Thread.Sequencer e = absurd (true≢false (sym e))
 one_thread Thread.Writer Thread.Writer e = refl
+one_thread t u e = absurd (true≢false (sym e))
 
-one_or_not : (t u : Thread) (same : Bool) → is_thread t u ≡ same
-    → ((u ≡ t) × (is_thread t u ≡ true)) ⊎ ((u ≢ t) × (is_thread t u ≡ false))
-one_or_not t u true e = inl (one_thread t u e, e)
-one_or_not t u false e = inr (λ k. other_thread t u e (sym k), e)
-
--- a thread is this one, or another
-pub one_or_other : (t u : Thread) → ((u ≡ t) × (is_thread t u ≡ true)) ⊎ ((u ≢ t) × (is_thread t u ≡ false))
-one_or_other t u = one_or_not t u (is_thread t u) refl
+-- by whether a thread is this one or another
+pub same_or_other : {A : Type 0} (t u : Thread) → (u ≡ t → A) → (u ≢ t → A) → A
+same_or_other t u same other =
+    ⊎_elim (λ (e : is_thread t u ≡ true). same (one_thread t u e))
+    (λ (e : is_thread t u ≡ false). other (λ k. other_thread t u e (sym k))) (cases_Bool (is_thread t u))
 
 -- other threads aren't this one
 pub not_thread : (t u : Thread) → t ≢ u → is_thread t u ≡ false
-not_thread t u ne = ⊎_elim (λ (y : (u ≡ t) × (is_thread t u ≡ true)). absurd (ne (sym y.0)))
-    (λ (y : (u ≢ t) × (is_thread t u ≡ false)). y.1) (one_or_other t u)
+not_thread t u ne =
+    ⊎_elim (λ (e : is_thread t u ≡ true). absurd (ne (sym (one_thread t u e)))) (λ (e : is_thread t u ≡ false). e)
+    (cases_Bool (is_thread t u))
 
 module _ {E : Type 0} where
   -- a step joins what is known of its thread, and what happened
@@ -79,43 +66,32 @@ module _ {E : Type 0} where
       let all : List E = all_put part before in
       let own : List (Step E) = steps_of t before in
       let rest : all ≡ all_put part own = put_alone part t none before in
-      ⊎_elim (λ (y : (thread_of (event_of s.event) ≡ t) × (is_thread t (thread_of (event_of s.event)) ≡ true)).
-      ap (λ l. l ++ part.puts s) rest ∙ ap (λ b. all_put part (cond b (s ∷ own) own)) (sym y.1))
-      (λ (y : (thread_of (event_of s.event) ≢ t) × (is_thread t (thread_of (event_of s.event)) ≡ false)).
-      ap (λ l. all ++ l) (none s y.1) ∙ (append-nil all ∙ (rest ∙ ap (λ b. all_put part (cond b (s ∷ own) own))
-      (sym y.1)))) (one_or_other t (thread_of (event_of s.event)))
+      ⊎_elim (λ (y : is_thread t (thread_of (event_of s.event)) ≡ true).
+      ap (λ l. l ++ part.puts s) rest ∙ ap (λ b. all_put part (cond b (s ∷ own) own)) (sym y))
+      (λ (y : is_thread t (thread_of (event_of s.event)) ≡ false).
+      ap (λ l. all ++ l) (none s y) ∙ (append-nil all ∙ (rest ∙ ap (λ b. all_put part (cond b (s ∷ own) own)) (sym y))))
+      (cases_Bool (is_thread t (thread_of (event_of s.event))))
+
+  -- the part whose entries go the other way
+  abbrev swapped : Part E → Part E
+  swapped part = record part { puts = part.takes; takes = part.puts }
 
   -- and where one alone takes, what left likewise
   pub taken_alone : (part : Part E) (t : Thread)
       → ((s : Step E) → is_thread t (thread_of (event_of s.event)) ≡ false → part.takes s ≡ [])
       → (steps : List (Step E)) → all_taken part steps ≡ all_taken part (steps_of t steps)
-  taken_alone part t none [] = refl
-  taken_alone part t none (s ∷ before) =
-      let all : List E = all_taken part before in
-      let own : List (Step E) = steps_of t before in
-      let rest : all ≡ all_taken part own = taken_alone part t none before in
-      ⊎_elim (λ (y : (thread_of (event_of s.event) ≡ t) × (is_thread t (thread_of (event_of s.event)) ≡ true)).
-      ap (λ l. l ++ part.takes s) rest ∙ ap (λ b. all_taken part (cond b (s ∷ own) own)) (sym y.1))
-      (λ (y : (thread_of (event_of s.event) ≢ t) × (is_thread t (thread_of (event_of s.event)) ≡ false)).
-      ap (λ l. all ++ l) (none s y.1) ∙ (append-nil all ∙ (rest ∙ ap (λ b. all_taken part (cond b (s ∷ own) own))
-      (sym y.1)))) (one_or_other t (thread_of (event_of s.event)))
+  taken_alone part t none steps = put_alone (swapped part) t none steps
 
   -- what joined weighs what its steps weigh, and what left likewise
   pub put_weight : (part : Part E) (weight : E → ℕ) (steps : List (Step E))
       → sum_by weight (all_put part steps) ≡ sum_by (λ s. sum_by weight (part.puts s)) steps
   put_weight part weight [] = refl
   put_weight part weight (s ∷ before) =
-      let a = sum_by-append weight (all_put part before) (part.puts s) in
-      let b = sum_by-cons (λ s. sum_by weight (part.puts s)) s before in
-      let t = put_weight part weight before in omega arith
+      let t = put_weight part weight before in omega (arith, sum_by-append {X = E}, sum_by-cons {X = Step E})
 
   pub taken_weight : (part : Part E) (weight : E → ℕ) (steps : List (Step E))
       → sum_by weight (all_taken part steps) ≡ sum_by (λ s. sum_by weight (part.takes s)) steps
-  taken_weight part weight [] = refl
-  taken_weight part weight (s ∷ before) =
-      let a = sum_by-append weight (all_taken part before) (part.takes s) in
-      let b = sum_by-cons (λ s. sum_by weight (part.takes s)) s before in
-      let t = taken_weight part weight before in omega arith
+  taken_weight part weight steps = put_weight (swapped part) weight steps
 
   -- what left in all steps is what left in the earlier ones, and then what left in the later ones
   pub all_taken-append : (part : Part E) (xs ys : List (Step E))
@@ -128,10 +104,7 @@ module _ {E : Type 0} where
   -- and what joined likewise
   pub all_put-append : (part : Part E) (xs ys : List (Step E))
       → all_put part (xs ++ ys) ≡ all_put part ys ++ all_put part xs
-  all_put-append part [] ys = sym (append-nil (all_put part ys))
-  all_put-append part (s ∷ xs) ys =
-      ap (λ l. l ++ part.puts s) (all_put-append part xs ys) ∙ append_assoc (all_put part ys) (all_put part xs)
-      (part.puts s)
+  all_put-append part xs ys = all_taken-append (swapped part) xs ys
 
   -- a part holds what was put less what was taken, in order
   pub in_order : (part : Part E) (happened : List (Step E)) (items : List E) → AreSteps part happened items
@@ -160,9 +133,8 @@ module _ (owner : Thread → ℕ) (next : Thread) (new : ℕ) where
 
   -- a thread that now has another pass than the new one had that pass before
   pub forked_had : (t : Thread) (j : ℕ) → j ≢ new → forked t ≡ j → owner t ≡ j
-  forked_had t j ne e = ⊎_elim (λ (y : (t ≡ next) × (is_thread next t ≡ true)). absurd
-      (ne (sym e ∙ forked_to t y.0)))
-      (λ (y : (t ≢ next) × (is_thread next t ≡ false)). sym (forked_stays t y.0) ∙ e) (one_or_other next t)
+  forked_had t j ne e =
+      same_or_other next t (λ s. absurd (ne (sym e ∙ forked_to t s))) (λ o. sym (forked_stays t o) ∙ e)
 
   -- a thread of a pass that this one didn't belong to still has that pass
   pub forked_kept : (t : Thread) (j : ℕ) → owner next ≢ j → owner t ≡ j → forked t ≡ j
@@ -214,8 +186,7 @@ module _ {E : Type 0} (owner : Thread → ℕ) (happened : List (Step E)) where
       → Knows owner happened pass steps → Knows owner (s ∷ happened) pass steps
   knows_else pass steps s apart h =
       record {
-        own = λ t e. h.own t e ∙ sym (step_other t s happened
-            (λ k. apart (sym (ap owner k) ∙ e)));
+        own = λ t e. h.own t e ∙ sym (step_other t s happened (λ k. apart (sym (ap owner k) ∙ e)));
         others = h.others;
       }
 
@@ -225,10 +196,9 @@ module _ {E : Type 0} (owner : Thread → ℕ) (happened : List (Step E)) where
       → Knows owner happened pass steps → Knows (forked owner next new) happened pass steps
   knows_fork_left pass next new steps apart none h = record {
     own = λ t e. h.own t (forked_had owner next new t pass apart e);
-    others = λ t ne. ⊎_elim (λ (y : (t ≡ next) × (is_thread next t ≡ true)). subst
-        (λ (w : Thread). steps_of w steps ≡ []) (sym y.0) none)
-        (λ (y : (t ≢ next) × (is_thread next t ≡ false)). h.others t (λ e. ne (forked_stays owner next new t y.0 ∙ e)))
-        (one_or_other next t);
+    others = λ t ne.
+        same_or_other next t (λ s. subst (λ (w : Thread). steps_of w steps ≡ []) (sym s) none)
+        (λ o. h.others t (λ e. ne (forked_stays owner next new t o ∙ e)));
   }
 
   -- a pass that didn't have the thread knows its threads' steps after that one went to a new pass
@@ -243,10 +213,9 @@ module _ {E : Type 0} (owner : Thread → ℕ) (happened : List (Step E)) where
   pub knows_fork_new : (next : Thread) (new : ℕ) → ((t : Thread) → owner t ≢ new) → steps_of next happened ≡ []
       → Knows (forked owner next new) happened new []
   knows_fork_new next new fresh none = record {
-    own = λ t e. ⊎_elim (λ (y : (t ≡ next) × (is_thread next t ≡ true)). subst
-        (λ (w : Thread). [] ≡ steps_of w happened) (sym y.0) (sym none))
-        (λ (y : (t ≢ next) × (is_thread next t ≡ false)). absurd
-        (fresh t (sym (forked_stays owner next new t y.0) ∙ e))) (one_or_other next t);
+    own = λ t e.
+        same_or_other next t (λ s. subst (λ (w : Thread). [] ≡ steps_of w happened) (sym s) (sym none))
+        (λ o. absurd (fresh t (sym (forked_stays owner next new t o) ∙ e)));
     others = λ t ne. refl;
   }
 
@@ -279,7 +248,6 @@ module _ {E : Type 0} (owner : Thread → ℕ) (happened : List (Step E)) where
   -- a pass that was taken in has no thread left, and knows no step
   pub knows_join_spent : (pass other : ℕ) (two : other ≢ pass) → Knows (joined owner pass other two) happened other []
   knows_join_spent pass other two = record {
-    own = λ t e. absurd
-        (joined_left owner pass other two t e);
+    own = λ t e. absurd (joined_left owner pass other two t e);
     others = λ t ne. refl;
   }

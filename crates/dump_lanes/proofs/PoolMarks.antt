@@ -25,6 +25,8 @@ module _ {T : Type 0} where
   items_of-then_ends ms n =
       items_of-append ms (replicate n End) ∙ (ap (λ l. items_of ms ++ l) (items_of-ends T n) ∙ append-nil (items_of ms))
 
-  -- a note joins
-  pub marks_in-then : (notes : List (Note T)) (n : Note T) → marks_in (notes ++ n ∷ []) ≡ marks_in notes ++ n.mark ∷ []
-  marks_in-then notes n = map-append (λ (k : Note T). k.mark) notes (n ∷ [])
+  -- a note with this mark joins
+  pub marks_in-then : (notes : List (Note T)) (n : Note T) (m : Mark T) → n.mark ≡ m
+      → marks_in (notes ++ n ∷ []) ≡ marks_in notes ++ m ∷ []
+  marks_in-then notes n m is =
+      map-append (λ (k : Note T). k.mark) notes (n ∷ []) ∙ ap (λ k. marks_in notes ++ k ∷ []) is

@@ -104,10 +104,8 @@ module _ {T : Type 0} where
   give_item worker closed v w n x mine is unended h e =
       let before : AreItemsThen [] (marks_in v.put) = subst
       (λ b. AreItemsThen (mark_if b) (marks_in v.put)) unended h.marks in
-      let joined : marks_in (v.put ++ n ∷ []) ≡ marks_in v.put ++ Item x ∷ [] = marks_in-then v.put n
-      ∙ ap (λ m. marks_in v.put ++ m ∷ []) is in
-      let all : AreItemsThen [] (marks_in (v.put ++ n ∷ [])) = subst (AreItemsThen []) (sym joined)
-      (then_item (marks_in v.put) x before) in
+      let all : AreItemsThen [] (marks_in (v.put ++ n ∷ [])) = subst (AreItemsThen [])
+      (sym (marks_in-then v.put n (Item x) is)) (then_item (marks_in v.put) x before) in
       let after : IsGiving worker false (after_put v (give_step n)) = record {
         follows = h.follows;
         from = h.from;
@@ -124,8 +122,7 @@ module _ {T : Type 0} where
       → w ≡ after_put v (give_step n) → items_of (marks_in w.put) ≡ items_of (marks_in v.put) ++ x ∷ []
   give_item_given v w n x is e =
       ap (λ (k : View (Note T)). items_of (marks_in k.put)) e
-      ∙ (ap items_of (marks_in-then v.put n ∙ ap (λ m. marks_in v.put ++ m ∷ []) is)
-      ∙ items_of-then_item (marks_in v.put) x)
+      ∙ (ap items_of (marks_in-then v.put n (Item x) is) ∙ items_of-then_item (marks_in v.put) x)
 
   -- a worker put its end mark
   pub give_end : (worker : ℕ) (closed : Bool) (v w : View (Note T)) (n : Note T) → n.from ≡ worker → n.mark ≡ End
@@ -134,10 +131,8 @@ module _ {T : Type 0} where
   give_end worker closed v w n mine is unended h e =
       let before : AreItemsThen [] (marks_in v.put) = subst
       (λ b. AreItemsThen (mark_if b) (marks_in v.put)) unended h.marks in
-      let joined : marks_in (v.put ++ n ∷ []) ≡ marks_in v.put ++ End ∷ [] = marks_in-then v.put n
-      ∙ ap (λ m. marks_in v.put ++ m ∷ []) is in
-      let all : AreItemsThen (End ∷ []) (marks_in (v.put ++ n ∷ [])) = subst (AreItemsThen (End ∷ [])) (sym joined)
-      (then_end (marks_in v.put) before) in
+      let all : AreItemsThen (End ∷ []) (marks_in (v.put ++ n ∷ [])) = subst (AreItemsThen (End ∷ []))
+      (sym (marks_in-then v.put n End is)) (then_end (marks_in v.put) before) in
       let after : IsGiving worker true (after_put v (give_step n)) = record {
         follows = h.follows;
         from = h.from;
@@ -155,57 +150,50 @@ module _ {T : Type 0} where
       → w ≡ after_put v (give_step n) → items_of (marks_in w.put) ≡ items_of (marks_in v.put)
   give_end_given v w n is e =
       ap (λ (k : View (Note T)). items_of (marks_in k.put)) e
-      ∙ (ap items_of (marks_in-then v.put n ∙ ap (λ m. marks_in v.put ++ m ∷ []) is)
-      ∙ items_of-then_end (marks_in v.put))
+      ∙ (ap items_of (marks_in-then v.put n End is) ∙ items_of-then_end (marks_in v.put))
 
   -- the sequencer took a note with an item
   pub read_item : (v w w' : View (Note T)) (n : Note T) (x : T) → n.mark ≡ Item x → HasRead [] v w
       → w' ≡ after_take w (arrive_step n) → HasRead (x ∷ []) v w'
   read_item v w w' n x is h e =
       let before = h.taken ∙ append-nil (items_of (marks_in v.taken)) in
-      let one : marks_in (w.taken ++ n ∷ []) ≡ marks_in w.taken ++ Item x ∷ [] = marks_in-then w.taken n
-      ∙ ap (λ m. marks_in w.taken ++ m ∷ []) is in
       let after : HasRead (x ∷ []) v (after_take w (arrive_step n)) = record {
         leads = h.leads;
         parts = h.parts;
         made = h.made;
         put = h.put;
         puts_none = h.puts_none;
-        taken = ap items_of one ∙ (items_of-then_item (marks_in w.taken) x ∙ ap (λ l. l ++ x ∷ []) before);
+        taken = ap items_of (marks_in-then w.taken n (Item x) is)
+            ∙ (items_of-then_item (marks_in w.taken) x ∙ ap (λ l. l ++ x ∷ []) before);
       } in subst (HasRead (x ∷ []) v) (sym e) after
 
   -- where an item arrived at the sequencer, as many end marks have arrived as before
   pub read_item_ends : (w w' : View (Note T)) (n : Note T) (x : T) → n.mark ≡ Item x
       → w' ≡ after_take w (arrive_step n) → count_ends (marks_in w'.taken) ≡ count_ends (marks_in w.taken)
   read_item_ends w w' n x is e =
-      let one : marks_in (w.taken ++ n ∷ []) ≡ marks_in w.taken ++ Item x ∷ [] = marks_in-then w.taken n
-      ∙ ap (λ m. marks_in w.taken ++ m ∷ []) is in
       ap (λ (k : View (Note T)). count_ends (marks_in k.taken)) e
-      ∙ (ap count_ends one ∙ (let a = count_ends-append (marks_in w.taken) (Item x ∷ []) in omega arith))
+      ∙ (ap count_ends (marks_in-then w.taken n (Item x) is)
+      ∙ (let a = count_ends-append (marks_in w.taken) (Item x ∷ []) in omega arith))
 
   -- the sequencer took a worker's end mark
   pub read_end : (v w w' : View (Note T)) (n : Note T) → n.mark ≡ End → HasRead [] v w
       → w' ≡ after_take w (arrive_step n) → HasRead [] v w'
   read_end v w w' n is h e =
-      let one : marks_in (w.taken ++ n ∷ []) ≡ marks_in w.taken ++ End ∷ [] = marks_in-then w.taken n
-      ∙ ap (λ m. marks_in w.taken ++ m ∷ []) is in
       let after : HasRead [] v (after_take w (arrive_step n)) = record {
         leads = h.leads;
         parts = h.parts;
         made = h.made;
         put = h.put;
         puts_none = h.puts_none;
-        taken = ap items_of one ∙ (items_of-then_end (marks_in w.taken) ∙ h.taken);
+        taken = ap items_of (marks_in-then w.taken n End is) ∙ (items_of-then_end (marks_in w.taken) ∙ h.taken);
       } in subst (HasRead [] v) (sym e) after
 
   -- where an end mark arrived at the sequencer, one more has arrived than before
   pub read_end_ends : (w w' : View (Note T)) (n : Note T) → n.mark ≡ End
       → w' ≡ after_take w (arrive_step n) → count_ends (marks_in w'.taken) ≡ count_ends (marks_in w.taken) + 1
   read_end_ends w w' n is e =
-      let one : marks_in (w.taken ++ n ∷ []) ≡ marks_in w.taken ++ End ∷ [] = marks_in-then w.taken n
-      ∙ ap (λ m. marks_in w.taken ++ m ∷ []) is in
       ap (λ (k : View (Note T)). count_ends (marks_in k.taken)) e
-      ∙ (ap count_ends one ∙ count_ends-append (marks_in w.taken) (End ∷ []))
+      ∙ (ap count_ends (marks_in-then w.taken n End is) ∙ count_ends-append (marks_in w.taken) (End ∷ []))
 
   -- the sequencer took notes
   pub sequences : (workers left left' : ℕ) (items : List T) (v w : View (Note T)) → IsSequencing workers left v

@@ -1,8 +1,10 @@
 -- What a pool's ports say together, once each is closed and has taken its last.
-use Rattle.dump_lanes.proofs.Prelude.{◌≡◌, ◌+◌, ◌<◌, ◌==◌, ℕ, zero, suc, true, false, List, [], ◌∷◌, ◌++◌, length, map, replicate, flat_map, sum_by, All, Contains, sym, refl, ap, ◌∙◌, subst, append_assoc, arith, range_with_len, length-append, Note, Queues, WorkerPort, Mark, End, View, dones_part, sequencer_crew, jobs_part, cutter_crew, after_join, AreItemsThen, mark_if, name_of, count_ends, marks_in, EndsLast, IsCutting, IsSequencing, steps_of, Thread, PoolName, PoolState, CutterSide, WorkerSide, new_cutter, new_worker, AreWorkersOf, IsDone, all_given, worker_port, steps_by, HasTakenIn, HasJobsOf, HasDonesOf, done_steps}
+use Rattle.dump_lanes.proofs.Prelude.{◌≡◌, ◌<◌, ◌==◌, ℕ, suc, true, false, List, [], ◌∷◌, ◌++◌, length, map, replicate, flat_map, sum_by, All, Contains, sym, refl, ap, ◌∙◌, subst, append_assoc, arith, range_with_len, length-append, Note, Queues, WorkerPort, Mark, End, View, dones_part, sequencer_crew, jobs_part, cutter_crew, after_join, AreItemsThen, mark_if, name_of, count_ends, marks_in, EndsLast, IsCutting, IsSequencing, steps_of, Thread, PoolName, PoolState, CutterSide, WorkerSide, new_cutter, new_worker, AreWorkersOf, IsDone, all_given, worker_port, steps_by, HasTakenIn, HasJobsOf, HasDonesOf, done_steps, length-map-range_with_len, get_or-map-range_with_len}
 use Rattle.std.proofs.Common.{slice_index_or}
 use Rattle.std.proofs.lemmas.Bool.{eqb-true}
-use Rattle.std.proofs.lemmas.List.{append-nil}
+use Rattle.std.proofs.lemmas.List.{append-nil, get_or-map, length-map}
+use Rattle.std.proofs.lemmas.List.Elements.{All-map, All-push}
+use mathlib.Core.List.{map-map}
 use mathlib.Core.Logic.{dite}
 use native.Mathlib.Decide.{ℕ_discrete}
 use Rattle.crossbeam_queue.specs.Passes.{view}
@@ -14,20 +16,13 @@ use Rattle.dump_lanes.proofs.PoolMarks.{count_ends-append}
 use Rattle.dump_lanes.proofs.Settling.{one_end, all_jobs, all_dones, HasEnded, AllEndLast, all_end_last-append, marks_in-append, flat_map-then}
 
 module _ {X Y : Type 0} where
-  index_of_map : (f : X → Y) (xs : List X) (k : ℕ) (d : X) → slice_index_or (map f xs) k (f d) ≡ f
-      (slice_index_or xs k d)
-  index_of_map f [] k d = refl
-  index_of_map f (x ∷ xs) zero d = refl
-  index_of_map f (x ∷ xs) (suc k) d = index_of_map f xs k d
-
   -- a mapped list is as long as the list
   pub length_of_map : (f : X → Y) (xs : List X) → length (map f xs) ≡ length xs
-  length_of_map f [] = refl
-  length_of_map f (x ∷ xs) = ap suc (length_of_map f xs)
+  length_of_map f xs = length-map xs f
 
   -- what holds of each element of a list after a function
   pub all_of_map : (P : Y → Type 0) (f : X → Y) (xs : List X) → All P (map f xs) → All (λ x. P (f x)) xs
-  all_of_map P f xs h k d lt = subst P (index_of_map f xs k d)
+  all_of_map P f xs h k d lt = subst P (get_or-map f xs k d (f d) lt)
       (h k (f d) (subst (λ n. k < n) (sym (length_of_map f xs)) lt))
 
 module _ {P E : Type 0} where
@@ -72,40 +67,13 @@ module _ {P E : Type 0} (pass_of : P → View E) where
             ∙ ap (λ l. l ++ old.steps) (sym (steps_by-then ps p)));
       } in subst (HasTakenIn pass_of (ps ++ p ∷ []) old) (sym e) after
 
-length_range : (a n : ℕ) → length (range_with_len a n) ≡ n
-length_range a zero = refl
-length_range a (suc n) = ap suc (length_range (a + 1) n)
-
-map_twice : {X Y Z : Type 0} (f : X → Y) (h : Y → Z) (xs : List X) → map h (map f xs) ≡ map (λ x. h (f x)) xs
-map_twice f h [] = refl
-map_twice f h (x ∷ xs) = ap (λ l. h (f x) ∷ l) (map_twice f h xs)
-
-all_rest : {X : Type 0} (P : X → Type 0) (x : X) (xs : List X) → All P (x ∷ xs) → All P xs
-all_rest P x xs h k d lt = h (suc k) d (omega arith)
-
 -- what holds of each element after a function holds of a list after that function
 pub map_of_all : {X Y : Type 0} (P : Y → Type 0) (f : X → Y) (xs : List X) → All (λ x. P (f x)) xs → All P (map f xs)
-map_of_all P f [] h k d lt = absurd (omega arith)
-map_of_all P f (x ∷ xs) h zero d lt = h 0 x (omega arith)
-map_of_all P f (x ∷ xs) h (suc k) d lt = map_of_all P f xs (all_rest (λ y. P (f y)) x xs h) k d (omega arith)
+map_of_all P f xs h = All-map P f xs h
 
 -- one more element of which a fact holds
 pub all_then : {X : Type 0} (P : X → Type 0) (xs : List X) (x : X) → All P xs → P x → All P (xs ++ x ∷ [])
-all_then P [] x h p zero d lt = p
-all_then P [] x h p (suc k) d lt = absurd (omega arith)
-all_then P (y ∷ xs) x h p zero d lt = h 0 d (omega arith)
-all_then P (y ∷ xs) x h p (suc k) d lt = all_then P xs x (all_rest P y xs h) p k d (omega arith)
-
-numbers_found : (J D : Type 0) (pool : PoolState) (a n k : ℕ) → k < n
-    → (i : ℕ) × (i < length (map (λ (w : WorkerSide J D). w.index)
-    (map (new_worker {J = J} {D = D} pool) (range_with_len a n))))
-    × ((d : ℕ) → slice_index_or (map (λ (w : WorkerSide J D). w.index)
-    (map (new_worker {J = J} {D = D} pool) (range_with_len a n))) i d ≡ a + k)
-numbers_found J D pool a zero k lt = absurd (omega arith)
-numbers_found J D pool a (suc n) zero lt = (0, omega arith, λ d. omega arith)
-numbers_found J D pool a (suc n) (suc k) lt =
-    let t = numbers_found J D pool (a + 1) n k (omega arith) in
-    (suc t.0, (let s = t.1 in omega arith), λ d. t.2 d ∙ omega arith)
+all_then P xs x h p = All-push P xs x h p
 
 module _ {J D : Type 0} where
   -- queues of one pool have as many workers
@@ -135,7 +103,7 @@ module _ {J D : Type 0} where
   first_done p ps h = h 0 p (omega arith)
 
   rest_done : (p : WorkerPort J D) (ps : List (WorkerPort J D)) → AreDone (p ∷ ps) → AreDone ps
-  rest_done p ps h = all_rest (λ (q : WorkerPort J D). IsDone (worker_port q)) p ps h
+  rest_done p ps h k d lt = h (suc k) d (omega arith)
 
   -- each worker took one end mark, and put one
   one_taken : (p : WorkerPort J D) → IsDone (worker_port p) → count_ends (taken_of p) ≡ 1
@@ -231,6 +199,11 @@ module _ {J D : Type 0} where
       ∙ (all_dones workers v items of_got of_put last whole weight
       ∙ (ap (λ l. sum_by weight (items_of (marks_in l))) put_is ∙ ap (sum_by weight) (items_put ps)))
 
+  -- there are as many ports as workers
+  pub ports_count : {pool : PoolName} {count : ℕ} (ports : List (WorkerPort J D))
+      → AreWorkersOf pool count (map (λ (p : WorkerPort J D). worker_port p) ports) → length ports ≡ count
+  ports_count ports h = sym (length_of_map (λ (p : WorkerPort J D). worker_port p) ports) ∙ h.as_many
+
   -- other ports of the same workers
   pub same_ports : (pool : PoolName) (count : ℕ) (old new : List (WorkerPort J D))
       → map (λ (p : WorkerPort J D). (worker_port p).pool) new ≡ map (λ (p : WorkerPort J D). (worker_port p).pool) old
@@ -245,50 +218,52 @@ module _ {J D : Type 0} where
       let long : length new ≡ length old =
       sym (length_of_map (λ (p : WorkerPort J D). (worker_port p).index) new)
       ∙ (ap length indexes ∙ length_of_map (λ (p : WorkerPort J D). (worker_port p).index) old) in
-      let all_pools : map of_pool (map side new) ≡ map of_pool (map side old) = map_twice side of_pool new
-      ∙ (pools ∙ sym (map_twice side of_pool old)) in
-      let all_indexes : map of_index (map side new) ≡ map of_index (map side old) = map_twice side of_index new
-      ∙ (indexes ∙ sym (map_twice side of_index old)) in
+      let all_pools : map of_pool (map side new) ≡ map of_pool (map side old) = map-map of_pool side new
+      ∙ (pools ∙ sym (map-map of_pool side old)) in
+      let all_indexes : map of_index (map side new) ≡ map of_index (map side old) = map-map of_index side new
+      ∙ (indexes ∙ sym (map-map of_index side old)) in
       let as_long : length (map side new) ≡ length (map side old) = length_of_map side new
       ∙ (long ∙ sym (length_of_map side old)) in
       record {
-        same_pool = λ k d lt.
-            sym (index_of_map of_pool (map side new) k d)
-            ∙ (ap (λ l. slice_index_or l k (of_pool d)) all_pools
-            ∙ (index_of_map of_pool (map side old) k d ∙ h.same_pool k d (subst (λ n. k < n) as_long lt)));
+        same_pool = all_of_map (λ n. n ≡ pool) of_pool (map side new)
+            (subst (All (λ n. n ≡ pool)) (sym all_pools)
+            (map_of_all (λ n. n ≡ pool) of_pool (map side old) h.same_pool));
         as_many = as_long ∙ h.as_many;
         each = λ n lt. subst (λ l. Contains l n) (sym all_indexes) (h.each n lt);
       }
 
   -- the ports that a pool gives are those of its workers
-  all_new : (pool : PoolState) (a n : ℕ) → All (λ (w : WorkerSide J D). (w.pool ≡ pool.name) × (w.closed ≡ false))
-      (map (new_worker {J = J} {D = D} pool) (range_with_len a n))
-  all_new pool a zero k d lt = absurd (omega arith)
-  all_new pool a (suc n) zero d lt = (refl, refl)
-  all_new pool a (suc n) (suc k) d lt = all_new pool (a + 1) n k d (omega arith)
-
   pub are_workers : (pool : PoolState) (sides : List (WorkerSide J D)) → sides ≡ map (new_worker pool)
       (range_with_len 0 pool.workers)
       → AreWorkersOf pool.name pool.workers sides
   are_workers pool sides e =
-      let new : List (WorkerSide J D) = map (new_worker pool) (range_with_len 0 pool.workers) in
+      let range : List ℕ = range_with_len 0 pool.workers in
+      let new : List (WorkerSide J D) = map (new_worker pool) range in
+      let numbers : map (λ (w : WorkerSide J D). w.index) new ≡ map (λ (n : ℕ). n) range =
+      map-map (λ (w : WorkerSide J D). w.index) (new_worker pool) range in
+      let long = length-map-range_with_len (λ (n : ℕ). n) 0 pool.workers in
       let of_new : AreWorkersOf pool.name pool.workers new = record {
-        same_pool = λ k d lt. (all_new pool 0 pool.workers k d lt).0;
-        as_many = length_of_map (new_worker {J = J} {D = D} pool) (range_with_len 0 pool.workers)
-            ∙ length_range 0 pool.workers;
-        each = λ n lt.
-            let t = numbers_found J D pool 0 pool.workers n lt in
-            (t.0, t.1, t.2 n ∙ omega arith);
+        same_pool = map_of_all (λ (w : WorkerSide J D). w.pool ≡ pool.name) (new_worker pool) range (λ k d lt. refl);
+        as_many = length-map-range_with_len (new_worker {J = J} {D = D} pool) 0 pool.workers;
+        each = λ n lt. subst (λ l. Contains l n) (sym numbers)
+            (n, omega arith, get_or-map-range_with_len (λ (k : ℕ). k) 0 pool.workers n n n lt (omega arith));
       } in subst (AreWorkersOf pool.name pool.workers) (sym e) of_new
+
+  -- what each worker's port has at first, each port of a new pool's workers has
+  pub as_new : (P : WorkerSide J D → Type 0) (pool : PoolState) → ((n : ℕ) → P (new_worker pool n))
+      → (ports : List (WorkerPort J D))
+      → map (λ (p : WorkerPort J D). worker_port p) ports ≡ map (new_worker pool) (range_with_len 0 pool.workers)
+      → All (λ (p : WorkerPort J D). P (worker_port p)) ports
+  as_new P pool each ports e =
+      all_of_map P (λ (p : WorkerPort J D). worker_port p) ports
+      (subst (All P) (sym e) (map_of_all P (new_worker pool) (range_with_len 0 pool.workers)
+      (λ k d lt. each (slice_index_or (range_with_len 0 pool.workers) k d))))
 
   -- none of a new pool's workers' ports is closed
   pub none_closed : (pool : PoolState) (ports : List (WorkerPort J D))
       → map (λ (p : WorkerPort J D). worker_port p) ports ≡ map (new_worker pool) (range_with_len 0 pool.workers)
       → All (λ (p : WorkerPort J D). (worker_port p).closed ≡ false) ports
-  none_closed pool ports e =
-      all_of_map (λ (w : WorkerSide J D). w.closed ≡ false) (λ (p : WorkerPort J D). worker_port p) ports
-      (subst (All (λ (w : WorkerSide J D). w.closed ≡ false)) (sym e)
-      (λ k d lt. (all_new pool 0 pool.workers k d lt).1))
+  none_closed pool ports e = as_new (λ w. w.closed ≡ false) pool (λ n. refl) ports e
 
   -- the workers' ports of a new pool are those of its cutter's pool, each of them once
   pub fresh_workers : (pool : PoolState) (cutter : CutterSide J) (sides : List (WorkerSide J D))

@@ -1,6 +1,6 @@
 -- Each move on a queue of the pool keeps its rule, whichever of its parts the queue is.
 use Rattle.dump_lanes.proofs.Prelude.{◌≡◌, ◌≢◌, ◌<◌, ℕ, true, false, true≢false, List, [], ◌∷◌, ◌++◌, length, set, sum_by, sym, refl, ap, ◌∙◌, subst, ⊎_elim, arith, length-append, filter-append, sum_by-append, sum_by-cons, sum_by_push, PARTS, Step, View, Thread, thread_of, event_of, Part, all_put, is_thread, steps_of, Crew, leading, following, after_put, after_take, after_fork, after_join, May, IsQueueOf}
-use Rattle.std.proofs.lemmas.List.{append-nil}
+use Rattle.std.proofs.lemmas.List.{append-nil, length-set}
 use mathlib.Core.Option.{some}
 use mathlib.Core.Logic.{dite}
 use native.Mathlib.Decide.{ℕ_discrete}
@@ -9,8 +9,8 @@ use Rattle.crossbeam_queue.specs.Fifo.{Pushes, Pops, Forks, Merges, Learns}
 use Rattle.atomic_table.proofs.Lists.{set_else}
 use Rattle.dump_lanes.specs.PartSteps.{IsStep, all_taken}
 use Rattle.dump_lanes.specs.steps.QueueRule.{spent, Fits, KnowsSteps}
-use Rattle.dump_lanes.proofs.PartMoves.{step_other, put_alone, taken_alone, put_weight, taken_weight, all_put-append, all_taken-append, forked, forked_stays, forked_to, forked_had, forked_kept, joined as joined_owner, joined_is, joined_kept, joined_had, joined_left, joined_stays, joined_comes, one_or_other, knows_step, knows_else, knows_fork_left, knows_fork_else, knows_fork_new, knows_join_both, knows_join_else, knows_join_spent}
-use Rattle.dump_lanes.proofs.Views.{AllViews, AllViews-set, AllViews-one, AllViews-more, within, set_long, at_some, sum_by-set, sum_by-least, sum_by-alone}
+use Rattle.dump_lanes.proofs.PartMoves.{step_other, put_alone, taken_alone, put_weight, taken_weight, all_put-append, all_taken-append, forked, forked_stays, forked_to, forked_had, forked_kept, joined as joined_owner, joined_is, joined_kept, joined_had, joined_left, joined_stays, joined_comes, same_or_other, knows_step, knows_else, knows_fork_left, knows_fork_else, knows_fork_new, knows_join_both, knows_join_else, knows_join_spent}
+use Rattle.dump_lanes.proofs.Views.{AllViews, AllViews-set, AllViews-one, AllViews-more, within, at_some, sum_by-set, sum_by-least, sum_by-alone}
 
 -- the threads of a crew are all different
 pub record AreApart (crew : Crew) : Type 0 where
@@ -94,10 +94,8 @@ module _ {E : Type 0} (part : Part E) (crew : Crew) (apart : AreApart crew) wher
         parts = let a = sum_by-set parts_of views pass v after at in let p = h.parts in omega arith;
         made = λ weight.
             let a = sum_by-set (made_weight weight) views pass v after at in
-            let k = h.made weight in
-            let b = sum_by-cons weight s v.steps in
-            let c = sum_by-cons weight s h.happened in omega arith;
-        owned = λ t. let l = set_long views pass after in let o = h.owned t in omega arith;
+            let k = h.made weight in omega (arith, sum_by-cons {X = Step E});
+        owned = λ t. let l = length-set views pass after in let o = h.owned t in omega arith;
         fits = AllViews-set (Fits part crew h.owner happened) views pass after one others;
       } in subst (λ x. IsQueueOf part crew new (set views pass x)) (sym is) now
 
@@ -137,7 +135,7 @@ module _ {E : Type 0} (part : Part E) (crew : Crew) (apart : AreApart crew) wher
       let right : View E = following v.made in
       let cut : List (View E) = set views pass left in
       let mine = h.fits pass v at in
-      let long = set_long views pass left in
+      let long = length-set views pass left in
       let here = within views pass v at in
       let new : ℕ = length cut in
       let next : Thread = crew.other v.made in
@@ -191,10 +189,8 @@ module _ {E : Type 0} (part : Part E) (crew : Crew) (apart : AreApart crew) wher
         owned = λ t.
             let o = h.owned t in
             let a = length-append cut (right ∷ []) in
-            ⊎_elim (λ (y : (t ≡ next) × (is_thread next t ≡ true)).
-            let g = forked_to h.owner next new t y.0 in omega arith)
-            (λ (y : (t ≢ next) × (is_thread next t ≡ false)).
-            let k = forked_stays h.owner next new t y.0 in omega arith) (one_or_other next t);
+            same_or_other next t (λ s. let g = forked_to h.owner next new t s in omega arith)
+            (λ apart. let k = forked_stays h.owner next new t apart in omega arith);
         fits = AllViews-more (Fits part crew owner h.happened) cut right
             (AllViews-set (Fits part crew owner h.happened) views pass left one others) last;
       }
@@ -261,8 +257,8 @@ module _ {E : Type 0} (part : Part E) (crew : Crew) (apart : AreApart crew) wher
             let a = sum_by-append weight u.steps v.steps in omega arith;
         owned = λ t.
             let o = h.owned t in
-            let a = set_long views pass both in
-            let b = set_long joined other spent in
+            let a = length-set views pass both in
+            let b = length-set joined other spent in
             let p = within views pass v at in
             dite (ℕ_discrete (h.owner t) other) (λ k. let e = joined_comes h.owner pass other two t k in omega arith)
             (λ ne. let e = joined_stays h.owner pass other two t ne in omega arith);

@@ -2,6 +2,7 @@
 use Rattle.dump_lanes.proofs.Prelude.{◌≡◌, ◌⊎◌, inl, inr, ◌<◌, ◌==◌, ℕ, zero, suc, Bool, true, false, List, [], ◌∷◌, ◌++◌, length, map, drop, replicate, cond, flat_map, sum_by, sym, refl, ap, ◌∙◌, subst, ⊎_elim, append_assoc, arith, map-append, filter-append, sum_by-cons, Note, Mark, Item, End, Move, Step, dones_part, sequencer_crew, jobs_part, cutter_crew, AreItemsThen, event_of, all_put, is_thread, steps_of, View, Thread, thread_of, count_ends, marks_in, EndsLast}
 use Rattle.std.proofs.Common.{eq-eqb}
 use Rattle.std.proofs.lemmas.List.{append-nil}
+use Rattle.std.proofs.lemmas.List.Concat.{flat_map-append}
 use Rattle.dump_lanes.specs.declared.steps.Move.TheVariants as move
 use Rattle.dump_lanes.specs.DoneRule as done_rule
 use Rattle.dump_lanes.specs.steps.LaneMarks.{items_of}
@@ -16,20 +17,17 @@ use Rattle.dump_lanes.proofs.PoolMarks.{count_ends-append, count_ends-replicate,
 module _ {X Y : Type 0} where
   -- one more in a list whose parts are put together
   pub flat_map-then : (f : X → List Y) (xs : List X) (x : X) → flat_map f (xs ++ x ∷ []) ≡ flat_map f xs ++ f x
-  flat_map-then f [] x = append-nil (f x)
-  flat_map-then f (y ∷ xs) x = ap (λ l. f y ++ l) (flat_map-then f xs x)
-      ∙ sym (append_assoc (f y) (flat_map f xs) (f x))
+  flat_map-then f xs x = flat_map-append f xs (x ∷ []) ∙ ap (λ l. flat_map f xs ++ l) (append-nil (f x))
 
   -- a list with one more, mapped, is the mapped list with that one mapped behind it
   pub map-then : (f : X → Y) (xs : List X) (x : X) → map f (xs ++ x ∷ []) ≡ map f xs ++ f x ∷ []
   map-then f xs x = map-append f xs (x ∷ [])
 
+  -- a sum over a mapped list is the sum over the list of what each element is mapped to
   pub sum_by-map : (f : X → Y) (weight : Y → ℕ) (xs : List X) → sum_by weight (map f xs) ≡ sum_by (λ x. weight (f x)) xs
   sum_by-map f weight [] = refl
   sum_by-map f weight (x ∷ xs) =
-      let a = sum_by-cons weight (f x) (map f xs) in
-      let b = sum_by-cons (λ x. weight (f x)) x xs in
-      let t = sum_by-map f weight xs in omega arith
+      let t = sum_by-map f weight xs in omega (arith, sum_by-cons {X = X}, sum_by-cons {X = Y})
 
 module _ {T : Type 0} where
   abbrev end_weight : Mark T → ℕ
@@ -49,11 +47,8 @@ module _ {T : Type 0} where
       (items_of marks)
   weigh_items weight [] = refl
   weigh_items weight (Item x ∷ marks) =
-      let a = sum_by-cons (item_weight weight) (Item x) marks in
-      let b = sum_by-cons weight x (items_of marks) in
-      let t = weigh_items weight marks in omega arith
-  weigh_items weight (End ∷ marks) = let a = sum_by-cons
-      (item_weight weight) End marks in let t = weigh_items weight marks in omega arith
+      let t = weigh_items weight marks in omega (arith, sum_by-cons {X = T}, sum_by-cons {X = Mark T})
+  weigh_items weight (End ∷ marks) = let t = weigh_items weight marks in omega (arith, sum_by-cons {X = Mark T})
 
   ends_of_items : (xs : List T) → count_ends (map {B = Mark T} Item xs) ≡ 0
   ends_of_items [] = refl
@@ -143,7 +138,7 @@ module _ {T : Type 0} where
 
   put_last : (all : List (Note T)) (n : Note T) (same : Bool) → cond same (n ∷ []) [] ++ [] ≡ n ∷ [] → n.mark ≡ End
       → NoneOrEnd (marks_in (all ++ cond same (n ∷ []) []))
-  put_last all n true one is = inr (marks_in all, marks_in-then all n ∙ ap (λ m. marks_in all ++ m ∷ []) is)
+  put_last all n true one is = inr (marks_in all, marks_in-then all n End is)
   put_last all n false one is = no_entry n one
 
   last_note : (m : Move) (n : Note T) (before : List (Step (Note T)))
@@ -158,13 +153,7 @@ module _ {T : Type 0} where
       (subst (λ b. EndsLast (cond b (s ∷ mine) mine)) (eq-eqb k k refl) (ends k))
   last_note move.Arrive n before one ends rest = subst (λ l. NoneOrEnd (marks_in l))
       (sym (append-nil (all_put dones_part before))) (rest ends)
-  last_note move.Cut n before one ends rest = no_entry n one
-  last_note move.CutMark n before one ends rest = no_entry n one
-  last_note (move.Take k) n before one ends rest = no_entry n one
-  last_note move.Draw n before one ends rest = no_entry n one
-  last_note move.Give n before one ends rest = no_entry n one
-  last_note move.Release n before one ends rest = no_entry n one
-  last_note move.Write n before one ends rest = no_entry n one
+  last_note m n before one ends rest = no_entry n one
 
   -- where the last step of each worker put an end mark, the last note that was put is one
   last_put : (happened : List (Step (Note T))) (items : List (Note T)) → AreSteps dones_part happened items

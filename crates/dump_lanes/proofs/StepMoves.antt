@@ -20,10 +20,7 @@ module _ {E : Type 0} where
   one_each part [] items h = refl
   one_each part (s ∷ before) items h =
       let t = one_each part before h.0 h.2 in
-      let o = ap length h.1.one_entry in
-      let a = length-append (part.puts s) (part.takes s) in
-      let b = length-append (all_put part before) (part.puts s) in
-      let c = length-append (all_taken part before) (part.takes s) in omega arith
+      let o = ap length h.1.one_entry in omega (arith, length-append {A = E})
 
   none : {A : Type 0} (x : E) → [] ≡ x ∷ [] → A
   none x e = absurd (let l = ap length e in omega arith)
@@ -37,13 +34,7 @@ module _ {E : Type 0} where
       ⊎ ((thread_of (event_of m) ≡ Thread.Writer) × Leaves old x new)
   piece move.Release x old new one turn = inl (refl, sym turn)
   piece move.Write x old new one turn = inr (refl, left_is old x new turn)
-  piece move.Cut x old new one turn = none x one
-  piece move.CutMark x old new one turn = none x one
-  piece (move.Take k) x old new one turn = none x one
-  piece (move.Put k) x old new one turn = none x one
-  piece move.Arrive x old new one turn = none x one
-  piece move.Draw x old new one turn = none x one
-  piece move.Give x old new one turn = none x one
+  piece m x old new one turn = none x one
 
   -- in each step on the lane the sequencer puts one piece, or the writer takes one
   pub pieces : PiecesMoveOne E
@@ -56,16 +47,9 @@ module _ {T : Type 0} where
       → ((thread_of (event_of m) ≡ Thread.Cutter) × Joins old x new)
       ⊎ ((worker : ℕ) × (thread_of (event_of m) ≡ Thread.Worker worker) × Leaves old x new)
   job move.Cut (Item x) old new one turn = inl (refl, sym turn)
-  job move.Cut End old new one turn = none End one
-  job move.CutMark (Item x) old new one turn = none (Item x) one
   job move.CutMark End old new one turn = inl (refl, sym turn)
   job (move.Take k) x old new one turn = inr (k, refl, left_is old x new turn)
-  job (move.Put k) x old new one turn = none x one
-  job move.Arrive x old new one turn = none x one
-  job move.Draw x old new one turn = none x one
-  job move.Give x old new one turn = none x one
-  job move.Release x old new one turn = none x one
-  job move.Write x old new one turn = none x one
+  job m x old new one turn = none x one
 
   -- in each step on the jobs the cutter puts one mark, or a worker takes one
   pub jobs_move : JobsMoveOne T
@@ -85,13 +69,7 @@ module _ {T : Type 0} where
   done (move.Put k) n old new one turn = let z = put_note k n old new (n.from == k) refl one turn in inl
       (ap Thread.Worker (sym z.0), z.1)
   done move.Arrive n old new one turn = inr (refl, left_is old n new turn)
-  done move.Cut n old new one turn = none n one
-  done move.CutMark n old new one turn = none n one
-  done (move.Take k) n old new one turn = none n one
-  done move.Draw n old new one turn = none n one
-  done move.Give n old new one turn = none n one
-  done move.Release n old new one turn = none n one
-  done move.Write n old new one turn = none n one
+  done m n old new one turn = none n one
 
   -- in each step on the dones a worker puts one note of its own, or the sequencer takes one
   pub dones_move : DonesMoveOne T
@@ -103,13 +81,7 @@ credit : (m : Move) (old new : ℕ) → credits.put_by (event_of m) + credits.ta
     ⊎ ((thread_of (event_of m) ≡ Thread.Writer) × (new ≡ old + 1))
 credit move.Draw old new one turn = inl (refl, omega arith)
 credit move.Give old new one turn = inr (refl, omega arith)
-credit move.Cut old new one turn = absurd (omega arith)
-credit move.CutMark old new one turn = absurd (omega arith)
-credit (move.Take k) old new one turn = absurd (omega arith)
-credit (move.Put k) old new one turn = absurd (omega arith)
-credit move.Arrive old new one turn = absurd (omega arith)
-credit move.Release old new one turn = absurd (omega arith)
-credit move.Write old new one turn = absurd (omega arith)
+credit m old new one turn = absurd (omega arith)
 
 -- in each step on the credits the cutter draws one, or the writer gives one back
 pub credits_move : CreditsMoveOne

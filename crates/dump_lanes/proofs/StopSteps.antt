@@ -1,5 +1,5 @@
 -- Each step on the stop word keeps its rule.
-use Rattle.dump_lanes.proofs.Prelude.{◌≡◌, ◌==◌, ◌/◌, ◌%◌, ◌*◌, ◌<◌, ◌≤◌, ◌||◌, ℕ, Bool, true, false, true≢false, List, [], ◌∷◌, length, set, sum_by, sym, refl, ap, ◌∙◌, subst, slice_index, arith, or_left, or_right, sum_by_push, sum_by-cons, sum_by-append, WordStep, Marks, Event, stop_share, is_event, after_raise, after_look, left_half, right_half, joined_marks, word_of, SomeRaised, IsStop, SeesOwn, HasLooked, HasChecked}
+use Rattle.dump_lanes.proofs.Prelude.{◌≡◌, ◌==◌, ◌/◌, ◌%◌, ◌*◌, ◌<◌, ◌≤◌, ℕ, Bool, true, false, true≢false, List, [], ◌∷◌, length, set, sum_by, sym, refl, ap, ◌∙◌, subst, slice_index, arith, or_left, or_right, sum_by_push, sum_by-cons, sum_by-append, WordStep, Marks, Event, stop_share, is_event, after_raise, after_look, left_half, right_half, joined_marks, word_of, SomeRaised, IsStop, SeesOwn, HasLooked, HasChecked, ⊎_elim, or_cases}
 use Rattle.std.proofs.Common.{IsTrue}
 use mathlib.Core.Option.{some, some-injective}
 use lib.ListN.{get_elem?}
@@ -25,36 +25,12 @@ made_by weight v = sum_by weight v.steps
 raise_share : (was : Bool) (event : Event) → IsTrue (is_event kind.Raise event) → true ≡ stop_share was event
 raise_share was Event.SequencerRaises e = refl
 raise_share was Event.WriterRaises e = refl
-raise_share was Event.Draw e = absurd (true≢false (sym e))
-raise_share was (Event.Cut last) e = absurd (true≢false (sym e))
-raise_share was Event.CutMark e = absurd (true≢false (sym e))
-raise_share was (Event.Take k) e = absurd (true≢false (sym e))
-raise_share was (Event.Put k) e = absurd (true≢false (sym e))
-raise_share was Event.Arrive e = absurd (true≢false (sym e))
-raise_share was Event.SequencerNotes e = absurd (true≢false (sym e))
-raise_share was Event.WriterNotes e = absurd (true≢false (sym e))
-raise_share was Event.Release e = absurd (true≢false (sym e))
-raise_share was Event.Write e = absurd (true≢false (sym e))
-raise_share was Event.Give e = absurd (true≢false (sym e))
-raise_share was Event.Look e = absurd (true≢false (sym e))
-raise_share was Event.Shut e = absurd (true≢false (sym e))
+raise_share was event e = absurd (true≢false (sym e))
 
 look_share : (up : Bool) (event : Event) → IsTrue (is_event (kind.Look up) event) → up ≡ stop_share up event
-look_share up Event.Look e = refl
 look_share up Event.SequencerRaises e = absurd (true≢false (sym e))
 look_share up Event.WriterRaises e = absurd (true≢false (sym e))
-look_share up Event.Draw e = refl
-look_share up (Event.Cut last) e = refl
-look_share up Event.CutMark e = refl
-look_share up (Event.Take k) e = refl
-look_share up (Event.Put k) e = refl
-look_share up Event.Arrive e = refl
-look_share up Event.SequencerNotes e = refl
-look_share up Event.WriterNotes e = refl
-look_share up Event.Release e = refl
-look_share up Event.Write e = refl
-look_share up Event.Give e = refl
-look_share up Event.Shut e = refl
+look_share up event e = refl
 
 -- a raise puts the stop word up, whatever it was
 pub raise_is_step : (was : Bool) → IsStep was kind.Raise true
@@ -73,38 +49,36 @@ found_is : (up : Bool) (n : ℕ) → n ≡ word_of up → (n == 1) ≡ up
 found_is true n e = ap (λ (k : ℕ). k == 1) e
 found_is false n e = ap (λ (k : ℕ). k == 1) e
 
-none_raised : (raised : Bool) → raised ≡ false → word_of raised ≡ 0
-none_raised true e = absurd (true≢false e)
-none_raised false e = refl
-
 -- the word's number says whether it is up
 seen_up : (up : Bool) (n : ℕ) → n ≡ word_of up → IsTrue (n == 1) → IsTrue up
-seen_up true n e t = refl
-seen_up false n e t = absurd (true≢false (sym t ∙ ap (λ (k : ℕ). k == 1) e))
+seen_up up n e t = sym (found_is up n e) ∙ t
 
 up_is : (up : Bool) → 1 ≤ word_of up → IsTrue up
 up_is true e = refl
 up_is false e = absurd (omega arith)
 
 one_is : (up : Bool) → IsTrue up → word_of up ≡ 1
-one_is true e = refl
-one_is false e = absurd (true≢false (sym e))
+one_is up e = ap word_of e
+
+-- where one seat changes, some seat raised the stop, if one does where the changed one had
+move_some : (views : List Marks) (id : ℕ) (v w : Marks) → get_elem? views id ≡ some v
+    → (IsTrue v.raised → SomeRaised (set views id w)) → SomeRaised views → SomeRaised (set views id w)
+move_some views id v w at here one = dite (ℕ_discrete one.seat id)
+    (λ same.
+    let e : get_elem? views id ≡ some one.view = subst (λ (k : ℕ). get_elem? views k ≡ some one.view) same one.stands in
+    here (ap (λ (m : Marks). m.raised) (some-injective v one.view (sym at ∙ e)) ∙ one.raised))
+    (λ apart. record {
+      seat = one.seat;
+      view = one.view;
+      stands = set_else views id one.seat w apart ∙ one.stands;
+      raised = one.raised;
+    })
 
 -- a seat that raised the stop stays where one seat changes and keeps its mark
 keep_some : (views : List Marks) (id : ℕ) (v w : Marks) → get_elem? views id ≡ some v
     → (IsTrue v.raised → IsTrue w.raised) → SomeRaised views → SomeRaised (set views id w)
-keep_some views id v w at keep one = dite (ℕ_discrete one.seat id)
-    (λ same.
-    let e : get_elem? views id ≡ some one.view = subst (λ (k : ℕ). get_elem? views k ≡ some one.view) same one.stands in
-    let r : IsTrue v.raised = ap (λ (m : Marks). m.raised) (some-injective v one.view (sym at ∙ e)) ∙ one.raised in
-    record { seat = id; view = w; stands = set_here views id w (within views id v at); raised = keep r })
-    (λ apart. record {
-      seat = one.seat;
-      view = one.view;
-      stands = set_else views id one.seat w apart
-          ∙ one.stands;
-      raised = one.raised;
-    })
+keep_some views id v w at keep = move_some views id v w at
+    (λ r. record { seat = id; view = w; stands = set_here views id w (within views id v at); raised = keep r })
 
 -- a seat with the whole share is the only one that can have raised the stop
 own : (views : List Marks) (id : ℕ) (v : Marks) (up : Bool) → get_elem? views id ≡ some v
@@ -112,10 +86,14 @@ own : (views : List Marks) (id : ℕ) (v : Marks) (up : Bool) → get_elem? view
     → AllViews (Fits up) views → SomeRaised views → IsTrue v.raised
 own views id v up at all fits one =
     let e = sum_by-alone share_of raised_by views id v
-    (λ j u d none. none_raised u.raised ((fits j u d).spends none).0) at all in
+    (λ j u d none. ap word_of ((fits j u d).spends none).0) at all in
     let least = sum_by-least raised_by views one.seat one.view one.stands in
     let r = one_is one.view.raised one.raised in
     up_is v.raised (omega arith)
+
+-- the word is written, and a seat's view is another
+abbrev written : State (Unit {0}) Marks → ℕ → ℕ → Marks → State (Unit {0}) Marks
+written s word id w = record { words = set s.words 0 word; homes = s.homes; views = set s.views id w }
 
 -- a new word
 pub begins : IsStop (opening {S = Unit {0}} {V = Marks} (0 ∷ []) [] (marks 4 false false []))
@@ -130,8 +108,7 @@ begins = record {
   fits = AllViews-one (Fits false) (marks 4 false false []) record {
     raises = λ r. r;
     sees = λ r. r;
-    spends = λ none.
-        (refl, refl);
+    spends = λ none. (refl, refl);
   };
 }
 
@@ -152,29 +129,21 @@ looks slots id me shared s h long at small =
       before = λ r. e ∙ one_is h.up (mine.sees r);
       whole = whole;
     } in
-    let after : IsStop record {
-      words = set s.words 0
-          (slice_index s.words 0);
-      homes = s.homes;
-      views = set s.views id w;
-    } = record {
+    let after : IsStop (written s (slice_index s.words 0) id w) = record {
       up = h.up;
       word = ap (λ l. set l 0 (slice_index l 0)) h.word;
       happened = step ∷ h.happened;
       steps = (h.up, look_is_step h.up (n == 1) (found_is h.up n e), h.steps);
       made = λ weight.
           let k = sum_by-set (made_by weight) s.views id me.0 w at in
-          let all = h.made weight in
-          let a = sum_by-cons weight step me.0.steps in
-          let b = sum_by-cons weight step h.happened in omega arith;
+          let all = h.made weight in omega (arith, sum_by-cons {X = WordStep});
       someone = λ up. keep_some s.views id me.0 w at (λ r. r) (h.someone up);
       shares = let k = sum_by-set share_of s.views id me.0 w at in let all = h.shares in omega arith;
       fits = AllViews-set
           (Fits h.up) s.views id w record {
             raises = mine.raises;
             sees = seen_up h.up n e;
-            spends = λ none. absurd
-                (omega arith);
+            spends = λ none. absurd (omega arith);
           } (λ j u other d. h.fits j u d);
     } in (w, keeps, tt, after, told)
 
@@ -199,12 +168,7 @@ checks slots id me s h long at small =
     let whole : SeesOwn me.0 = λ share seen. own s.views id me.0 h.up at (h.shares ∙ sym share) h.fits
     (h.someone (mine.sees seen)) in
     let told : HasChecked me (me.0, me.1) = record { view = refl; whole = whole; knows = knows s h id me.0 at } in
-    let after : IsStop record {
-      words = set s.words 0
-          (slice_index s.words 0);
-      homes = s.homes;
-      views = set s.views id w;
-    } = record {
+    let after : IsStop (written s (slice_index s.words 0) id w) = record {
       up = h.up;
       word = ap (λ l. set l 0 (slice_index l 0)) h.word;
       happened = h.happened;
@@ -221,27 +185,20 @@ pub raises : (slots id : ℕ) (me : Me (Unit {0}) Marks) → 0 < me.0.share
     → Allows IsStop slots id me 0 (λ n. 1) (λ n new. new ≡ (after_raise me.0, me.1))
 raises slots id me shared s h long at small =
     let w : Marks = after_raise me.0 in
-    let mine : Fits true id w = record {
-      raises = λ r. refl;
-      sees = λ r. refl;
-      spends = λ none. absurd
-          (omega arith);
-    } in
-    let after : IsStop record { words = set s.words 0 1; homes = s.homes; views = set s.views id w } = record {
+    let mine : Fits true id w =
+    record { raises = λ r. refl; sees = λ r. refl; spends = λ none. absurd (omega arith) } in
+    let after : IsStop (written s 1 id w) = record {
       up = true;
       word = ap (λ l. set l 0 1) h.word;
       happened = kind.Raise ∷ h.happened;
       steps = (h.up, raise_is_step h.up, h.steps);
       made = λ weight.
           let k = sum_by-set (made_by weight) s.views id me.0 w at in
-          let all = h.made weight in
-          let a = sum_by-cons weight kind.Raise me.0.steps in
-          let b = sum_by-cons weight kind.Raise h.happened in omega arith;
+          let all = h.made weight in omega (arith, sum_by-cons {X = WordStep});
       someone = λ up. record {
         seat = id;
         view = w;
-        stands = set_here s.views id w
-            (within s.views id me.0 at);
+        stands = set_here s.views id w (within s.views id me.0 at);
         raised = refl;
       };
       shares = let k = sum_by-set share_of s.views id me.0 w at in let all = h.shares in omega arith;
@@ -267,12 +224,8 @@ splits id v even shared s h at =
     let m = h.fits id v at in
     let cut : List Marks = set s.views id w in
     let mine : Fits h.up id w = record { raises = m.raises; sees = m.sees; spends = λ none. absurd (omega arith) } in
-    let theirs : Fits h.up (length cut) r = record {
-      raises = m.raises;
-      sees = m.sees;
-      spends = λ none. absurd
-          (omega arith);
-    } in
+    let theirs : Fits h.up (length cut) r =
+    record { raises = m.raises; sees = m.sees; spends = λ none. absurd (omega arith) } in
     let old : AllViews (Fits h.up) cut = AllViews-set (Fits h.up) s.views id w mine (λ j u other d. h.fits j u d) in
     record {
       up = h.up;
@@ -288,17 +241,12 @@ splits id v even shared s h at =
           record {
             seat = x.seat;
             view = x.view;
-            stands = at_longer cut
-                (r ∷ []) x.seat x.view x.stands;
+            stands = at_longer cut (r ∷ []) x.seat x.view x.stands;
             raised = x.raised;
           };
       shares = let k = sum_by-set share_of s.views id v w at in let l = sum_by_push share_of cut r in let all = h.shares in omega arith;
       fits = AllViews-more (Fits h.up) cut r old theirs;
     }
-
-or_gives : (a b up : Bool) → (IsTrue a → IsTrue up) → (IsTrue b → IsTrue up) → IsTrue (a || b) → IsTrue up
-or_gives true b up f g e = f refl
-or_gives false b up f g e = g e
 
 -- a seat takes in another
 pub joins : (id : ℕ) (v : Marks) (other : ℕ) (u : Marks) → 0 < v.share
@@ -310,35 +258,23 @@ joins id v other u shared s h at two at' =
     let m = h.fits id v at in
     let k = h.fits other u was in
     let mine : Fits h.up id both = record {
-      raises = or_gives v.raised u.raised h.up m.raises k.raises;
-      sees = or_gives v.seen u.seen h.up m.sees k.sees;
+      raises = λ r. ⊎_elim m.raises k.raises (or_cases v.raised u.raised r);
+      sees = λ s. ⊎_elim m.sees k.sees (or_cases v.seen u.seen s);
       spends = λ none. absurd (omega arith);
     } in
     let now : AllViews (Fits h.up) taken = AllViews-set (Fits h.up) s.views id both mine
     (λ j y other d. h.fits j y d) in
     let here : get_elem? taken id ≡ some both = set_here s.views id both (within s.views id v at) in
-    let stays : SomeRaised taken → SomeRaised (set taken other spent) = λ x. dite (ℕ_discrete x.seat other)
-    (λ same.
-    let e : get_elem? taken other ≡ some x.view = subst (λ (q : ℕ). get_elem? taken q ≡ some x.view) same x.stands in
-    let r : IsTrue u.raised = ap (λ (y : Marks). y.raised) (some-injective u x.view (sym at' ∙ e)) ∙ x.raised in
-    record {
+    let stays : SomeRaised taken → SomeRaised (set taken other spent) = move_some taken other u spent at'
+    (λ r. record {
       seat = id;
       view = both;
-      stands = set_else taken other id spent (λ b. two (sym b))
-          ∙ here;
+      stands = set_else taken other id spent (λ b. two (sym b)) ∙ here;
       raised = or_right v.raised u.raised r;
-    })
-    (λ apart. record {
-      seat = x.seat;
-      view = x.view;
-      stands = set_else taken other x.seat spent apart
-          ∙ x.stands;
-      raised = x.raised;
     }) in
     let none : Fits h.up other spent = record {
       raises = λ r. absurd (true≢false (sym r));
-      sees = λ r. absurd
-          (true≢false (sym r));
+      sees = λ r. absurd (true≢false (sym r));
       spends = λ e. (refl, refl);
     } in
     record {

@@ -43,12 +43,6 @@ module _ {V : Type 0} where
   within (x ∷ xs) zero v e = omega arith
   within (x ∷ xs) (suc pass) v e = let t = within xs pass v e in omega arith
 
-  -- a change of one view leaves as many views
-  pub set_long : (views : List V) (pass : ℕ) (w : V) → length (set views pass w) ≡ length views
-  set_long [] pass w = refl
-  set_long (x ∷ xs) zero w = refl
-  set_long (x ∷ xs) (suc pass) w = ap suc (set_long xs pass w)
-
   -- each pass that is less than the number of views has a view
   pub at_some : (views : List V) (pass : ℕ) → pass < length views → (v : V) × (get_elem? views pass ≡ some v)
   at_some [] pass lt = absurd (omega arith)
@@ -60,22 +54,18 @@ module _ {V : Type 0} where
       → sum_by f (set views pass w) + f v ≡ sum_by f views + f w
   sum_by-set f [] pass v w e = absurd (some-ne-none v (sym e))
   sum_by-set f (x ∷ xs) zero v w e =
-      let s : f x ≡ f v = ap f (some-injective x v e) in
-      let a = sum_by-cons f x xs in
-      let b = sum_by-cons f w xs in omega arith
+      let s : f x ≡ f v = ap f (some-injective x v e) in omega (arith, sum_by-cons {X = V})
   sum_by-set f (x ∷ xs) (suc pass) v w e =
-      let t = sum_by-set f xs pass v w e in
-      let a = sum_by-cons f x xs in
-      let b = sum_by-cons f x (set xs pass w) in omega arith
+      let t = sum_by-set f xs pass v w e in omega (arith, sum_by-cons {X = V})
 
   -- a sum over all views is at least each one's
   pub sum_by-least : (f : V → ℕ) (views : List V) (pass : ℕ) (v : V) → get_elem? views pass ≡ some v
       → f v ≤ sum_by f views
   sum_by-least f [] pass v e = absurd (some-ne-none v (sym e))
-  sum_by-least f (x ∷ xs) zero v e = let s : f x ≡ f v = ap f
-      (some-injective x v e) in let a = sum_by-cons f x xs in omega arith
-  sum_by-least f (x ∷ xs)
-      (suc pass) v e = let t = sum_by-least f xs pass v e in let a = sum_by-cons f x xs in omega arith
+  sum_by-least f (x ∷ xs) zero v e =
+      let s : f x ≡ f v = ap f (some-injective x v e) in omega (arith, sum_by-cons {X = V})
+  sum_by-least f (x ∷ xs) (suc pass) v e =
+      let t = sum_by-least f xs pass v e in omega (arith, sum_by-cons {X = V})
 
   -- where a sum over all views is nothing, another is that is nothing for each view without a share in the first
   pub sum_by-idle : (share f : V → ℕ) (views : List V)
@@ -83,9 +73,8 @@ module _ {V : Type 0} where
   sum_by-idle share f [] idle none = refl
   sum_by-idle share f (x ∷ xs) idle none =
       let a = sum_by-cons share x xs in
-      let b = sum_by-cons f x xs in
       let c : f x ≡ 0 = idle 0 x refl (omega arith) in
-      let d = sum_by-idle share f xs (λ pass. idle (suc pass)) (omega arith) in omega arith
+      let d = sum_by-idle share f xs (λ pass. idle (suc pass)) (omega arith) in omega (arith, sum_by-cons {X = V})
 
   -- where one view has the whole share, a sum over all views is its own
   pub sum_by-alone : (share f : V → ℕ) (views : List V) (pass : ℕ) (v : V)
@@ -97,11 +86,10 @@ module _ {V : Type 0} where
       let a : share x ≡ share v = ap share is in
       let b : f x ≡ f v = ap f is in
       let c = sum_by-cons share x xs in
-      let d = sum_by-cons f x xs in
-      let e = sum_by-idle share f xs (λ pass. idle (suc pass)) (omega arith) in omega arith
+      let e = sum_by-idle share f xs (λ pass. idle (suc pass)) (omega arith) in omega (arith, sum_by-cons {X = V})
   sum_by-alone share f (x ∷ xs) (suc pass) v idle at all =
       let most = sum_by-least share xs pass v at in
       let c = sum_by-cons share x xs in
-      let d = sum_by-cons f x xs in
       let none : f x ≡ 0 = idle 0 x refl (omega arith) in
-      let rest = sum_by-alone share f xs pass v (λ p. idle (suc p)) at (omega arith) in omega arith
+      let rest = sum_by-alone share f xs pass v (λ p. idle (suc p)) at (omega arith) in
+      omega (arith, sum_by-cons {X = V})

@@ -2,6 +2,7 @@
 pub mod Credits
 pub mod Endings
 pub mod Ends
+pub mod FirstEntry
 pub mod Marks
 pub mod Order
 pub mod Places

@@ -12,16 +12,12 @@ same_ending a b = hlevel props
 -- a list of records that is merely known to end so ends so
 pub ends_once : (dump : List ℕ) (count : ℕ) (ending : Ending) → ∥ EndsAfter dump count ending ∥₁
     → EndsAfter dump count ending
-ends_once dump count ending t = by (each_dump_has_one_list dump)
-  where
-    by : ((all : List DumpRecord) × (end : Ending) × HasRecords dump all end
-        × ((others : List DumpRecord) (e : Ending) → HasRecords dump others e → (others ≡ all) × (e ≡ end)))
-        → EndsAfter dump count ending
-    by (all, end, has, once) =
-        let is : end ≡ ending = ∥∥₁_elim t (same_ending end ending) (λ c. sym (once c.0 ending c.1).1) in
-        let long : length all ≡ count = ∥∥₁_elim t (same_count (length all) count)
-        (λ c. ap (λ (l : List DumpRecord). length l) (sym (once c.0 ending c.1).0) ∙ c.2) in
-        (all, subst (HasRecords dump all) is has, long)
+ends_once dump count ending t =
+    let (all, end, has, once) = each_dump_has_one_list dump in
+    let is : end ≡ ending = ∥∥₁_elim t (same_ending end ending) (λ c. sym (once c.0 ending c.1).1) in
+    let long : length all ≡ count = ∥∥₁_elim t (same_count (length all) count)
+    (λ c. ap (λ (l : List DumpRecord). length l) (sym (once c.0 ending c.1).0) ∙ c.2) in
+    (all, subst (HasRecords dump all) is has, long)
 
 from_err : {T E : Type 0} → E → Result T E → E
 from_err d (Ok x) = d
@@ -35,27 +31,14 @@ for_err {T} {E} P e p x is = subst P (ap (from_err {T = T} e) is) p
 -- which record has a number needs no witness
 pub record_once : (dump : List ℕ) (number : ℕ) (r : DumpRecord) → ∥ IsRecordOf dump number r ∥₁
     → IsRecordOf dump number r
-record_once dump number r t = by (each_dump_has_one_list dump)
-  where
-    by : ((all : List DumpRecord) × (end : Ending) × HasRecords dump all end
-        × ((others : List DumpRecord) (e : Ending) → HasRecords dump others e → (others ≡ all) × (e ≡ end)))
-        → IsRecordOf dump number r
-    by (all, end, has, once) = (
-      front,
-      one_more dump front r begins
-          (subst (λ (n : ℕ). ∥ IsRecordOf dump n r ∥₁) (sym long) t),
-      long,
-    )
-      where
-        front : List DumpRecord
-        front = take number all
-
-        begins : BeginsWithRecords dump front
-        begins = whole_front dump all end has number
-
-        long : length front ≡ number
-        long = ∥∥₁_elim t (same_count (length front) number) (λ (c : IsRecordOf dump number r).
-            let most = within dump all end has (c.0 ++ r ∷ []) c.1 in
-            let size = length-append c.0 (r ∷ []) in
-            let count = c.2 in
-            length-take-le number all (omega arith))
+record_once dump number r t =
+    let (all, end, has, once) = each_dump_has_one_list dump in
+    let front : List DumpRecord = take number all in
+    let begins : BeginsWithRecords dump front = whole_front dump all end has number in
+    let long : length front ≡ number =
+    ∥∥₁_elim t (same_count (length front) number) (λ (c : IsRecordOf dump number r).
+    let most = within dump all end has (c.0 ++ r ∷ []) c.1 in
+    let size = length-append c.0 (r ∷ []) in
+    let count = c.2 in
+    length-take-le number all (omega arith)) in
+    (front, one_more dump front r begins (subst (λ (n : ℕ). ∥ IsRecordOf dump n r ∥₁) (sym long) t), long)

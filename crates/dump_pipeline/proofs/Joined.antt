@@ -1,23 +1,17 @@
 -- What the threads brought back, put together.
-use Rattle.dump_pipeline.proofs.Prelude.{◌≡◌, ◌≢◌, ◌⊎◌, inl, inr, ◌∙◌, ℕ, suc, ◌+◌, ◌≤◌, Bool, true, false, ◌||◌, List, [], ◌∷◌, ◌++◌, length, Option, Some, None, refl, sym, ap, subst, arith, map, sum_by, All, MatchBool, false≢true, or_left, or_cases, map-append, sum_by-cons, Appends-nil, first_numbers, Clash, IsWaiting, WeighsSame, CutterSide, WorkerSide, all_taken, all_given, Seat, joined_seat, SeesOnlyRaised, no_clash, none_waits, within, Settings, IsPrefixOf, first_state, Answer, Failure, Ghosts, Job, Checked, NumberedPiece, End, job_number, job_numbers, checked_number, checked_numbers, text_of, end_answer, HasCut, HasWorked, HasEndedWith, HasSequenced, HasReceived, IsEndOf, IsFilterPrefix, RunLeaves, ThreadsFailFirst}
+use Rattle.dump_pipeline.proofs.Prelude.{◌≡◌, ◌≢◌, ◌⊎◌, inl, inr, ◌∙◌, ℕ, suc, ◌+◌, ◌≤◌, Bool, true, false, ◌||◌, List, [], ◌∷◌, ◌++◌, length, Option, Some, None, refl, sym, ap, subst, arith, map, sum_by, All, MatchBool, false≢true, or_left, or_cases, map-append, Appends-nil, first_numbers, Clash, IsWaiting, WeighsSame, CutterSide, WorkerSide, all_taken, all_given, Seat, joined_seat, SeesOnlyRaised, no_clash, none_waits, within, Settings, IsPrefixOf, first_state, Answer, Failure, Ghosts, Job, Checked, NumberedPiece, End, job_number, job_numbers, checked_number, checked_numbers, text_of, end_answer, HasCut, HasWorked, HasEndedWith, HasSequenced, HasReceived, IsEndOf, IsFilterPrefix, RunLeaves, ThreadsFailFirst, ⊎_elim, cases_Bool}
 use Rattle.dump_pipeline.specs.declared.answer.Answer.TheVariants as answers
 use Rattle.dump_pipeline.specs.declared.answer.Failure.TheVariants as failures
 use Rattle.dump_pipeline.specs.declared.stage.End.TheVariants as ends
+use Rattle.dump_lanes.proofs.Settling.{sum_by-map}
 use Rattle.dump_pipeline.proofs.Released.{begins, memory}
 use Rattle.dump_pipeline.proofs.RunLemmas.{prefix_trans}
 
 module _ {X : Type 0} where
-  sum_by-map : (f : ℕ → ℕ) (number : X → ℕ) (xs : List X) → sum_by f (map number xs) ≡ sum_by
-      (λ (x : X). f (number x)) xs
-  sum_by-map f number [] = refl
-  sum_by-map f number (x ∷ xs) =
-      let more = sum_by-map f number xs in
-      omega (arith, sum_by-cons f (number x) (map number xs), sum_by-cons (λ (y : X). f (number y)) x xs)
-
   -- as many of each number
   weighs_numbers : (number : X → ℕ) (xs ys : List X) → WeighsSame xs ys → WeighsSame (map number xs) (map number ys)
-  weighs_numbers number xs ys h f = sum_by-map f number xs
-      ∙ (h (λ (x : X). f (number x)) ∙ sym (sum_by-map f number ys))
+  weighs_numbers number xs ys h f = sum_by-map number f xs
+      ∙ (h (λ (x : X). f (number x)) ∙ sym (sum_by-map number f ys))
 
 module _ {D : Type 0} {run : Ghosts D} where
   -- the workers gave one checked item for each job that they took, with its number
@@ -31,79 +25,56 @@ module _ {D : Type 0} {run : Ghosts D} where
       ∙ (ap (λ (l : List ℕ). job_numbers w.taken ++ l) (worked_numbers ws (λ k d lt. h (suc k) d (omega arith)))
       ∙ sym (map-append job_number w.taken (all_taken ws))))
 
-  -- what arrived are the first so many items, each once
-  pub each_arrived : (cutter : CutterSide (Job D run)) (ws : List (WorkerSide (Job D run) (Checked D run)))
-      (taken : List (Checked D run)) (count : ℕ)
-      → job_numbers cutter.put ≡ first_numbers count
-      → All (λ (w : WorkerSide (Job D run) (Checked D run)). HasWorked w) ws
-      → WeighsSame (all_taken ws) cutter.put → WeighsSame taken (all_given ws) → WeighsSame (checked_numbers taken)
-      (first_numbers count)
-  each_arrived cutter ws taken count put worked jobs dones f =
-      weighs_numbers checked_number taken (all_given ws) dones f
-      ∙ (ap (sum_by f) (worked_numbers ws worked)
-      ∙ (weighs_numbers job_number (all_taken ws) cutter.put jobs f ∙ ap (sum_by f) put))
+  -- what the threads of a run brought back, put together
+  pub record AreJoined (settings : Settings) (dump : List ℕ) (cutter : CutterSide (Job D run))
+      (ws : List (WorkerSide (Job D run) (Checked D run))) (window : ℕ) (taken : List (Checked D run))
+      (put : List NumberedPiece) (end : Option End) (stray seen : Bool) : Type 0 where
+    pub cut : HasCut dump cutter seen
+    pub worked : All (λ (w : WorkerSide (Job D run) (Checked D run)). HasWorked w) ws
+    pub jobs : WeighsSame (all_taken ws) cutter.put
+    pub dones : WeighsSame taken (all_given ws)
+    pub few : cutter.drawn ≤ window + length put
+    pub sequenced : HasSequenced settings dump window taken put end stray
 
-  -- no item was astray
-  no_stray : (settings : Settings) (dump : List ℕ) (cutter : CutterSide (Job D run))
-      (ws : List (WorkerSide (Job D run) (Checked D run))) (window back : ℕ)
-      (taken : List (Checked D run)) (put : List NumberedPiece) (end : Option End) (stray seen : Bool)
-      → HasCut dump cutter seen
-      → All (λ (w : WorkerSide (Job D run) (Checked D run)). HasWorked w) ws
-      → WeighsSame (all_taken ws) cutter.put → WeighsSame taken (all_given ws) → cutter.drawn ≤ window + back
-      → back ≡ length put
-      → HasSequenced settings dump window taken put end stray → stray ≡ true → ⊥
-  no_stray settings dump cutter ws window back taken put end stray seen cut worked jobs dones few is h astray =
-      no_clash window (length put) cut.count (checked_numbers taken)
-      (each_arrived cutter ws taken cut.count cut.numbers worked jobs dones)
-      (let c = cut.credits in omega arith)
-      (subst (λ (b : Bool). MatchBool b (Clash window (length put) (checked_numbers taken))
-      (IsWaiting (length put) (checked_numbers taken))) astray h.order)
+  module _ {settings : Settings} {dump : List ℕ} {cutter : CutterSide (Job D run)}
+      {ws : List (WorkerSide (Job D run) (Checked D run))} {window : ℕ} {taken : List (Checked D run)}
+      {put : List NumberedPiece} {end : Option End} {stray seen : Bool}
+      (h : AreJoined settings dump cutter ws window taken put end stray seen) where
+    -- what arrived are the first so many items, each once
+    arrived : WeighsSame (checked_numbers taken) (first_numbers h.cut.count)
+    arrived f =
+        weighs_numbers checked_number taken (all_given ws) h.dones f
+        ∙ (ap (sum_by f) (worked_numbers ws h.worked)
+        ∙ (weighs_numbers job_number (all_taken ws) cutter.put h.jobs f ∙ ap (sum_by f) h.cut.numbers))
 
-  -- so the sequencer met none
-  pub none_astray : (settings : Settings) (dump : List ℕ) (cutter : CutterSide (Job D run))
-      (ws : List (WorkerSide (Job D run) (Checked D run))) (window back : ℕ)
-      (taken : List (Checked D run)) (put : List NumberedPiece) (end : Option End) (stray seen : Bool)
-      → HasCut dump cutter seen
-      → All (λ (w : WorkerSide (Job D run) (Checked D run)). HasWorked w) ws
-      → WeighsSame (all_taken ws) cutter.put → WeighsSame taken (all_given ws) → cutter.drawn ≤ window + back
-      → back ≡ length put
-      → HasSequenced settings dump window taken put end stray → stray ≡ false
-  none_astray settings dump cutter ws window back taken put end true seen cut worked jobs dones few is h =
-      absurd (no_stray settings dump cutter ws window back taken put end true seen cut worked jobs dones few is h refl)
-  none_astray settings dump cutter ws window back taken put end false seen cut worked jobs dones few is h = refl
+    order : (b : Bool) → stray ≡ b
+        → MatchBool b (Clash window (length put) (checked_numbers taken))
+        (IsWaiting (length put) (checked_numbers taken))
+    order b e = subst (λ (b : Bool). MatchBool b (Clash window (length put) (checked_numbers taken))
+        (IsWaiting (length put) (checked_numbers taken))) e h.sequenced.order
 
-  -- where none was astray all that were cut were released
-  all_released : (settings : Settings) (dump : List ℕ) (cutter : CutterSide (Job D run))
-      (ws : List (WorkerSide (Job D run) (Checked D run))) (window : ℕ)
-      (taken : List (Checked D run)) (put : List NumberedPiece) (end : Option End) (stray seen : Bool)
-      (cut : HasCut dump cutter seen)
-      → All (λ (w : WorkerSide (Job D run) (Checked D run)). HasWorked w) ws
-      → WeighsSame (all_taken ws) cutter.put → WeighsSame taken (all_given ws)
-      → HasSequenced settings dump window taken put end stray → stray ≡ false → length put ≡ cut.count
-  all_released settings dump cutter ws window taken put end stray seen cut worked jobs dones h fine =
-      none_waits (length put) cut.count (checked_numbers taken)
-      (each_arrived cutter ws taken cut.count cut.numbers worked jobs dones)
-      (subst (λ (b : Bool). MatchBool b (Clash window (length put) (checked_numbers taken))
-      (IsWaiting (length put) (checked_numbers taken))) fine h.order)
+    -- the sequencer met no item that was astray
+    pub none_astray : stray ≡ false
+    none_astray =
+        ⊎_elim (λ (astray : stray ≡ true).
+        absurd (no_clash window (length put) h.cut.count (checked_numbers taken) arrived
+        (let c = h.cut.credits in let f = h.few in omega arith) (order true astray)))
+        (λ (fine : stray ≡ false). fine) (cases_Bool stray)
 
-  -- where the cutter saw no stop, the last item was released
-  pub nothing_missing : (settings : Settings) (dump : List ℕ) (cutter : CutterSide (Job D run))
-      (ws : List (WorkerSide (Job D run) (Checked D run))) (window back : ℕ)
-      (taken : List (Checked D run)) (put : List NumberedPiece) (end : Option End) (stray seen : Bool)
-      → HasCut dump cutter seen
-      → All (λ (w : WorkerSide (Job D run) (Checked D run)). HasWorked w) ws
-      → WeighsSame (all_taken ws) cutter.put → WeighsSame taken (all_given ws) → cutter.drawn ≤ window + back
-      → back ≡ length put
-      → HasSequenced settings dump window taken put end stray → end ≡ None → seen ≡ false → ⊥
-  nothing_missing settings dump cutter ws window back taken put end stray seen cut worked jobs dones few is h going unseen =
-      let fine = none_astray settings dump cutter ws window back taken put end stray seen cut worked jobs dones few is h in
-      let all = all_released settings dump cutter ws window taken put end stray seen cut worked jobs dones h fine in
-      let (total, ending, (records, has, many), count) = cut.whole unseen in
-      let text : HasEndedWith settings dump None (length put) (text_of put) = subst
-      (λ (e : Option End). HasEndedWith settings dump e (length put) (text_of put)) going h.text in
-      let p = text.1 in
-      let most = within dump records ending has p.before p.begins in
-      let released = p.count in absurd (omega arith)
+    -- so all that were cut were released
+    all_released : length put ≡ h.cut.count
+    all_released = none_waits (length put) h.cut.count (checked_numbers taken) arrived (order false none_astray)
+
+    -- where the cutter saw no stop, the last item was released
+    pub nothing_missing : end ≡ None → seen ≡ false → ⊥
+    nothing_missing going unseen =
+        let all = all_released in
+        let (total, ending, (records, has, many), count) = h.cut.whole unseen in
+        let text : HasEndedWith settings dump None (length put) (text_of put) = subst
+        (λ (e : Option End). HasEndedWith settings dump e (length put) (text_of put)) going h.sequenced.text in
+        let p = text.1 in
+        let most = within dump records ending has p.before p.begins in
+        let released = p.count in absurd (omega arith)
 
 -- a stop that the cutter saw was raised by the sequencer or by the writer
 pub stop_was_raised : (cuts sequences writes all : Seat) → all ≡ joined_seat (joined_seat cuts sequences) writes
@@ -162,15 +133,13 @@ begins_text settings dump (Some (ends.Fault which number place)) released text r
 begins_text settings dump (Some ends.Memory) released text received (whole, answer, is, more) front =
     (whole, answer, is, prefix_trans received text whole front more)
 
-module _ {D : Type 0} {run : Ghosts D} where
+module _ {D : Type 0} {run : Ghosts D} {settings : Settings} {dump : List ℕ} {window : ℕ} {taken : List (Checked D run)}
+    {put got : List NumberedPiece} {end : Option End} {stray failed : Bool} {first now : Option (List ℕ)} {count : ℕ}
+    (h : HasSequenced settings dump window taken put end stray) (same : got ≡ put)
+    (r : HasReceived failed (text_of got) first now count) where
   -- after a failure of the sink
-  pub sink_failed : (settings : Settings) (dump : List ℕ) (window : ℕ) (taken : List (Checked D run))
-      (put got : List NumberedPiece) (end : Option End) (stray failed : Bool)
-      (first now : Option (List ℕ)) (count : ℕ) → HasSequenced settings dump window taken put end stray → got ≡ put
-      → failed ≡ true
-      → HasReceived failed (text_of got) first now count → RunLeaves settings dump first now
-      (answers.Failed failures.Sink count)
-  sink_failed settings dump window taken put got end stray failed first now count h same is r = record {
+  pub sink_failed : failed ≡ true → RunLeaves settings dump first now (answers.Failed failures.Sink count)
+  sink_failed is = record {
     received = r.received;
     appended = r.appended;
     answered = (
@@ -183,37 +152,25 @@ module _ {D : Type 0} {run : Ghosts D} where
   }
 
   -- where the sink took all
-  all_received : (settings : Settings) (dump : List ℕ) (window : ℕ) (taken : List (Checked D run))
-      (put got : List NumberedPiece) (end : Option End) (last : End) (stray failed : Bool)
-      (first now : Option (List ℕ)) (count : ℕ) → HasSequenced settings dump window taken put end stray
-      → end ≡ Some last → got ≡ put → failed ≡ false
-      → (r : HasReceived failed (text_of got) first now count) → IsEndOf settings dump last r.received
-  all_received settings dump window taken put got end last stray failed first now count h at same is r =
+  all_received : (last : End) → end ≡ Some last → failed ≡ false → IsEndOf settings dump last r.received
+  all_received last at is =
       subst (IsEndOf settings dump last)
       (sym (subst (λ (b : Bool). MatchBool b (IsPrefixOf r.received (text_of got)) (r.received ≡ text_of got)) is r.part
       ∙ ap (λ (l : List NumberedPiece). text_of l) same))
       (subst (λ (e : Option End). HasEndedWith settings dump e (length put) (text_of put)) at h.text)
 
   -- where the writer took all that was put and the sink didn't fail, the run leaves what its end says
-  pub ended_so : (settings : Settings) (dump : List ℕ) (window : ℕ) (taken : List (Checked D run))
-      (put got : List NumberedPiece) (end : Option End) (last : End) (stray failed : Bool)
-      (first now : Option (List ℕ)) (count : ℕ) → HasSequenced settings dump window taken put end stray
-      → end ≡ Some last → got ≡ put → failed ≡ false
-      → HasReceived failed (text_of got) first now count → RunLeaves settings dump first now (end_answer last count)
-  ended_so settings dump window taken put got end (ends.Clean report) stray failed first now count h at same is r =
-      record { received = r.received; appended = r.appended; answered = all_received settings dump window taken put got end (ends.Clean report) stray failed first now count h at same is r }
-  ended_so settings dump window taken put got end
-      (ends.Fault which number place) stray failed first now count h at same is r =
-      record { received = r.received; appended = r.appended; answered = all_received settings dump window taken put got end (ends.Fault which number place) stray failed first now count h at same is r }
-  ended_so settings dump window taken put got end ends.Memory stray failed first now count h at same is r =
-      record {
-        received = r.received;
-        appended = r.appended;
-        answered = (
-          all_received settings dump window taken put got end ends.Memory stray failed first now count h at same is r,
-          r.sized,
-        );
-      }
+  pub ended_so : (last : End) → end ≡ Some last → failed ≡ false
+      → RunLeaves settings dump first now (end_answer last count)
+  ended_so (ends.Clean report) at is =
+      record { received = r.received; appended = r.appended; answered = all_received (ends.Clean report) at is }
+  ended_so (ends.Fault which number place) at is = record {
+    received = r.received;
+    appended = r.appended;
+    answered = all_received (ends.Fault which number place) at is;
+  }
+  ended_so ends.Memory at is =
+      record { received = r.received; appended = r.appended; answered = (all_received ends.Memory at is, r.sized) }
 
 -- nothing was written
 pub nothing_written : (settings : Settings) (dump : List ℕ) (old : Option (List ℕ)) (failure : Failure)

@@ -1,9 +1,9 @@
 -- The words of std, of the definitions and of the lemmas below, for the proofs of this crate.
-pub use Rattle.std.proofs.Common.{All, Bool, Err, IsNone, List, MatchBool, None, Ok, Option, Result, Some, [], ap, append_assoc, arith, codes, drop, false, inl, inr, length, lit<, lit≤, map, refl, replicate, rules, subst, suc, sum_by, sym, take, true, vec_capacity, vec_len, ℕ, ◌++◌, ◌+◌, ◌-◌, ◌<◌, ◌^◌, ◌||◌, ◌∙◌, ◌∷◌, ◌≡◌, ◌≢◌, ◌≤◌, ◌⊎◌}
+pub use Rattle.std.proofs.Common.{All, Bool, Err, IsNone, List, MatchBool, None, Ok, Option, Result, Some, [], ap, append_assoc, arith, codes, drop, false, inl, inr, length, lit<, lit≤, map, refl, replicate, rules, subst, suc, sum_by, sym, take, true, vec_capacity, vec_len, ℕ, ◌++◌, ◌+◌, ◌-◌, ◌<◌, ◌^◌, ◌||◌, ◌∙◌, ◌∷◌, ◌≡◌, ◌≢◌, ◌≤◌, ◌⊎◌, ⊎_elim}
 pub use Rattle.std.proofs.KnownBytes.{Appends-nil, Appends-trans}
 pub use Rattle.std.proofs.Math.Logic.{∥∥₁_elim}
 pub use Rattle.std.proofs.Props.{props}
-pub use Rattle.std.proofs.lemmas.Bool.{false≢true, or_cases, or_left}
+pub use Rattle.std.proofs.lemmas.Bool.{cases_Bool, false≢true, or_cases, or_left}
 pub use Rattle.std.proofs.lemmas.Grind.{flat_map-append}
 pub use Rattle.std.proofs.lemmas.Iterator.Adapters.{YieldsList-from_vec}
 pub use Rattle.std.proofs.lemmas.Iterator.Consumers.{YieldsList-end}

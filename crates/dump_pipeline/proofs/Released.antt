@@ -19,8 +19,7 @@ pub steps : (settings : Settings) (dump : List ℕ) (filter : FilterState) (next
     → IsRecordOf dump next (record_item r)
     → Accepts filter (record_item r) piece
     → HasFiltered settings dump (record filter {
-      last = Some
-          (record { dump = record_dump r; number = record_number r });
+      last = Some (record { dump = record_dump r; number = record_number r });
     }) (next + 1) (text ++ piece)
 steps settings dump filter next text piece r h of number is accepts =
     stepped settings dump (at dump next) filter (Some []) (Some text) (capped (length text)) h r

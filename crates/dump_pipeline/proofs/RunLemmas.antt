@@ -78,8 +78,7 @@ goes_on settings dump before text begins free written = by_law (each_dump_has_on
               (
                 before ++ rest,
                 record {
-                  whole = subst
-                      (λ (l : List DumpRecord). HasRecords dump l Ending.Whole) split h;
+                  whole = subst (λ (l : List DumpRecord). HasRecords dump l Ending.Whole) split h;
                   fault_free = free';
                   written = whole;
                 },
@@ -311,8 +310,7 @@ module _ (settings : Settings) (dump : List ℕ) (cutter : CutterState) (filter 
         active = p.active;
         accepted = (
           subst (λ (d : List ℕ). BeginsWithRecords d (p.before ++ item ∷ [])) (sym (of ∙ p.cut)) begins,
-          size
-              ∙ ap (λ n. n + 1) (sym number),
+          size ∙ ap (λ n. n + 1) (sym number),
         );
         same_dump = of ∙ p.cut;
         next = ap (λ n. n + 1) number;

@@ -1,7 +1,7 @@
 -- In each state before the end the next move may be made; and the next moves in turn lead to the end.
-use Rattle.dump_lanes.proofs.Prelude.{◌≡◌, ◌⊎◌, inl, inr, ℕ, zero, suc, ◌+◌, ◌-◌, ◌<◌, ◌≤◌, Bool, true, false, cond, List, [], ◌∷◌, ◌++◌, map, find, length, get_or, Option, Some, sym, refl, ap, ◌∙◌, subst, arith, unwrap_or, range_with_len, and_parts, not-true, cases_Bool, length-range_with_len, get_or-range_with_len, PoolSize, Entry, World, Event, is_enabled, after_event, arrived, written_next, IsRun, is_move, all_moves, next_move, who_moves, IsAllDone, IsReached, CanMove, StandsStill, NoDeadEnd, OnlyDoneStandsStill, ClosedKeepsNobody, progress, count_move, most_moves, AreNextMoves, EveryRunCanEnd}
+use Rattle.dump_lanes.proofs.Prelude.{◌≡◌, ◌⊎◌, inl, inr, ℕ, zero, suc, ◌+◌, ◌-◌, ◌<◌, ◌≤◌, Bool, true, false, cond, List, [], ◌∷◌, ◌++◌, map, find, length, get_or, Option, Some, sym, refl, ap, ◌∙◌, subst, arith, unwrap_or, range_with_len, and_parts, not-true, cases_Bool, length-range_with_len, get_or-range_with_len, PoolSize, World, Event, is_enabled, after_event, IsRun, is_move, all_moves, next_move, IsAllDone, IsReached, StandsStill, NoDeadEnd, OnlyDoneStandsStill, ClosedKeepsNobody, progress, count_move, most_moves, AreNextMoves, EveryRunCanEnd, ⊎_elim}
 use Rattle.std.proofs.Common.{IsTrue}
-use Rattle.dump_lanes.specs.PoolEvents.{taken_by}
+use Rattle.dump_lanes.proofs.core.FirstEntry.{by_job, by_done, by_piece}
 use Rattle.dump_lanes.proofs.core.Credits.{held}
 use Rattle.dump_lanes.proofs.core.Progress.{reached_holds, step_counts, progress_within}
 use Rattle.dump_lanes.proofs.core.Still.{IsStuck, done_where_stuck, still_where_done, may_take_once_closed}
@@ -13,21 +13,8 @@ is_next (Event.Cut last) = last
 is_next event = is_move event
 
 next_moves : (event : Event) → is_next event ≡ true → is_move event ≡ true
-next_moves Event.Draw e = refl
 next_moves (Event.Cut last) e = refl
-next_moves Event.CutMark e = refl
-next_moves (Event.Take k) e = refl
-next_moves (Event.Put k) e = refl
-next_moves Event.Arrive e = refl
-next_moves Event.SequencerNotes e = e
-next_moves Event.WriterNotes e = e
-next_moves Event.Release e = refl
-next_moves Event.Write e = refl
-next_moves Event.Give e = refl
-next_moves Event.SequencerRaises e = e
-next_moves Event.WriterRaises e = e
-next_moves Event.Look e = e
-next_moves Event.Shut e = e
+next_moves event e = e
 
 -- each event may come next, and none passes a test
 abbrev AreNext : List Event → Type 0
@@ -42,13 +29,9 @@ next-append : (xs ys : List Event) → AreNext xs → AreNext ys → AreNext (xs
 next-append [] ys a b = b
 next-append (x ∷ xs) ys a b = (a.0, next-append xs ys a.1 b)
 
-puts_next : (ks : List ℕ) → AreNext (map Event.Put ks)
-puts_next [] = tt
-puts_next (k ∷ ks) = (refl, puts_next ks)
-
-takes_next : (ks : List ℕ) → AreNext (map Event.Take ks)
-takes_next [] = tt
-takes_next (k ∷ ks) = (refl, takes_next ks)
+moves_next : (move : ℕ → Event) → ((k : ℕ) → is_next (move k) ≡ true) → (ks : List ℕ) → AreNext (map move ks)
+moves_next move each [] = tt
+moves_next move each (k ∷ ks) = (each k, moves_next move each ks)
 
 none-append : (test : Event → Bool) (xs ys : List Event) → NonePass test (xs ++ ys)
     → NonePass test xs × NonePass test ys
@@ -117,9 +100,11 @@ module _ (size : PoolSize) (w : World) where
   all_next : AreNext (all_moves size)
   all_next =
       let first : AreNext (front_moves ++ puts) =
-      next-append front_moves puts (refl, (refl, (refl, (refl, tt)))) (puts_next (range_with_len 0 size.workers)) in
+      next-append front_moves puts (refl, (refl, (refl, (refl, tt))))
+      (moves_next Event.Put (λ k. refl) (range_with_len 0 size.workers)) in
       let second : AreNext (front_moves ++ puts ++ takes) =
-      next-append (front_moves ++ puts) takes first (takes_next (range_with_len 0 size.workers)) in
+      next-append (front_moves ++ puts) takes first
+      (moves_next Event.Take (λ k. refl) (range_with_len 0 size.workers)) in
       next-append (front_moves ++ puts ++ takes) last_moves second (refl, (refl, (refl, tt)))
 
   may_move : FindsOne (is_enabled size w) (all_moves size) → MayMove size w
@@ -145,19 +130,11 @@ module _ (size : PoolSize) (w : World) where
         no_draw = a.1.1.1.0;
       }
 
-  done_or_not : Holds size w
-      → FindsOne (is_enabled size w) (all_moves size) ⊎ NonePass (is_enabled size w) (all_moves size)
-      → IsAllDone size w ⊎ MayMove size w
-  done_or_not h (inl f) = inr (may_move f)
-  done_or_not h (inr none) = inl (done_where_stuck size w h (stuck none))
-
   done_or_moves : Holds size w → IsAllDone size w ⊎ MayMove size w
-  done_or_moves h = done_or_not h (find_first (is_enabled size w) (all_moves size) all_next)
-
-  as_move : IsAllDone size w ⊎ MayMove size w
-      → IsAllDone size w ⊎ (IsTrue (is_move (next_move size w)) × IsTrue (is_enabled size w (next_move size w)))
-  as_move (inl d) = inl d
-  as_move (inr m) = inr (next_moves (next_move size w) m.next, m.enabled)
+  done_or_moves h =
+      ⊎_elim (λ (f : FindsOne (is_enabled size w) (all_moves size)). inr (may_move f))
+      (λ (none : NonePass (is_enabled size w) (all_moves size)). inl (done_where_stuck size w h (stuck none)))
+      (find_first (is_enabled size w) (all_moves size) all_next)
 
   still_stuck : StandsStill size w → IsStuck size w
   still_stuck s = record {
@@ -174,17 +151,20 @@ module _ (size : PoolSize) (w : World) where
 
 next_or_done : (size : PoolSize) (w : World) → IsReached size w
     → IsAllDone size w ⊎ (IsTrue (is_move (next_move size w)) × IsTrue (is_enabled size w (next_move size w)))
-next_or_done size w r = as_move size w (done_or_moves size w (reached_holds size w r))
-
-by_thread : (size : PoolSize) (w : World)
-    → IsAllDone size w ⊎ (IsTrue (is_move (next_move size w)) × IsTrue (is_enabled size w (next_move size w)))
-    → IsAllDone size w ⊎ CanMove size w (who_moves size w)
-by_thread size w (inl d) = inl d
-by_thread size w (inr m) = inr (next_move size w, m.0, m.1, refl)
+next_or_done size w r =
+    ⊎_elim (λ (d : IsAllDone size w). inl d)
+    (λ (m : MayMove size w). inr (next_moves (next_move size w) m.next, m.enabled))
+    (done_or_moves size w (reached_holds size w r))
 
 -- in each state that a run reaches all is done, or the thread that the state names can make the next move
 pub no_dead_end : NoDeadEnd
-no_dead_end = record { who = λ size w r. by_thread size w (next_or_done size w r); next = next_or_done }
+no_dead_end = record {
+  who = λ size w r.
+      ⊎_elim (λ (d : IsAllDone size w). inl d)
+      (λ (m : IsTrue (is_move (next_move size w)) × IsTrue (is_enabled size w (next_move size w))).
+      inr (next_move size w, m.0, m.1, refl)) (next_or_done size w r);
+  next = next_or_done;
+}
 
 -- a pool stands still where all is done, and nowhere else
 pub only_done_stands_still : OnlyDoneStandsStill
@@ -204,20 +184,6 @@ uncut ended = cond ended 0 1
 abbrev limit : World → ℕ
 limit w = w.cut + uncut w.cutter_ended
 
-take_limit : (w : World) (k : ℕ) (jobs : List Entry) → limit (taken_by w k jobs) ≡ limit w
-take_limit w k [] = refl
-take_limit w k (Entry.Item n ∷ rest) = refl
-take_limit w k (Entry.Mark ∷ rest) = refl
-
-arrive_limit : (size : PoolSize) (w : World) (dones : List Entry) → limit (arrived size w dones) ≡ limit w
-arrive_limit size w [] = refl
-arrive_limit size w (Entry.Item n ∷ rest) = refl
-arrive_limit size w (Entry.Mark ∷ rest) = refl
-
-write_limit : (w : World) (lane : List ℕ) → limit (written_next w lane) ≡ limit w
-write_limit w [] = refl
-write_limit w (n ∷ rest) = refl
-
 last_cut : (w : World) (last : Bool) → last ≡ true → w.cutter_ended ≡ false → w.cut + 1 + uncut last ≡ limit w
 last_cut w last a b =
     let none : uncut last ≡ 0 = ap uncut a in
@@ -226,21 +192,13 @@ last_cut w last a b =
 
 limit_kept : (size : PoolSize) (w : World) (event : Event) → is_next event ≡ true → IsTrue (is_enabled size w event)
     → limit (after_event size w event) ≡ limit w
-limit_kept size w Event.Draw m e = refl
 limit_kept size w (Event.Cut last) m e = last_cut w last m (not-true w.cutter_ended (and_parts w.holds_credit _ e).1)
-limit_kept size w Event.CutMark m e = refl
-limit_kept size w (Event.Take k) m e = take_limit w k w.jobs
-limit_kept size w (Event.Put k) m e = refl
-limit_kept size w Event.Arrive m e = arrive_limit size w w.dones
-limit_kept size w Event.SequencerNotes m e = cc
-limit_kept size w Event.WriterNotes m e = cc
-limit_kept size w Event.Release m e = refl
-limit_kept size w Event.Write m e = write_limit w w.lane
-limit_kept size w Event.Give m e = refl
-limit_kept size w Event.SequencerRaises m e = cc
-limit_kept size w Event.WriterRaises m e = cc
-limit_kept size w Event.Look m e = cc
-limit_kept size w Event.Shut m e = cc
+limit_kept size w (Event.Take k) m e =
+    by_job (λ v. limit v ≡ limit w) size w k w.jobs refl (λ n rest. refl) (λ rest. refl)
+limit_kept size w Event.Arrive m e =
+    by_done (λ v. limit v ≡ limit w) size w w.dones refl (λ n rest. refl) (λ rest. refl)
+limit_kept size w Event.Write m e = by_piece (λ v. limit v ≡ limit w) size w w.lane refl (λ n rest. refl)
+limit_kept size w event m e = cc
 
 -- the next moves up to the end, where at most so many are left
 record EndsWithin (size : PoolSize) (w : World) (left : ℕ) : Type 0 where

@@ -26,6 +26,11 @@ AreMarkedAfter [] = Unit {0}
 AreMarkedAfter (Entry.Item n ∷ es) = (0 < marks es) × AreMarkedAfter es
 AreMarkedAfter (Entry.Mark ∷ es) = AreMarkedAfter es
 
+-- a worker that took its end mark has no item in hand
+abbrev pub OwnLast : List Bool → List (Option Entry) → Type 0
+OwnLast taken hands =
+    (k : ℕ) → get_or taken k false ≡ true → items_of (option_to_list (get_or hands k None)) ≡ []
+
 -- entries joined to others have the end marks of both
 pub marks-append : (es fs : List Entry) → marks (es ++ fs) ≡ marks es + marks fs
 marks-append [] fs = omega arith
@@ -86,9 +91,7 @@ not_all (false ∷ taken) (suc k) lt e = let more = not_all taken k (omega arith
 
 -- where all took theirs and none has an item beside it, no hand has an item
 pub no_item_in_hands : (hands : List (Option Entry)) (taken : List Bool) → length hands ≡ length taken
-    → count_taken taken ≡ length taken
-    → ((k : ℕ) → get_or taken k false ≡ true → items_of (option_to_list (get_or hands k None)) ≡ [])
-    → items_in_hands hands ≡ []
+    → count_taken taken ≡ length taken → OwnLast taken hands → items_in_hands hands ≡ []
 no_item_in_hands [] taken l all own = refl
 no_item_in_hands (h ∷ hands) [] l all own = absurd (omega arith)
 no_item_in_hands (h ∷ hands) (true ∷ taken) l all own =
@@ -107,8 +110,8 @@ pub none_taken : (n : ℕ) → count_taken (replicate n false) ≡ 0
 none_taken zero = refl
 none_taken (suc n) = let more = none_taken n in omega arith
 
--- where no worker took its end mark, this one didn't
-pub none_taken_at : (n k : ℕ) → get_or (replicate n false) k false ≡ false
-none_taken_at zero k = refl
-none_taken_at (suc n) zero = refl
-none_taken_at (suc n) (suc k) = none_taken_at n k
+-- a place of a list of the same entries has that entry, as has a place behind it
+pub get_or_replicate : {A : Type 0} (n k : ℕ) (x : A) → get_or (replicate n x) k x ≡ x
+get_or_replicate zero k x = refl
+get_or_replicate (suc n) zero x = refl
+get_or_replicate (suc n) (suc k) x = get_or_replicate n k x

@@ -1,13 +1,13 @@
 -- Each move counts, and nothing else does: the moves of a run are those that lie behind its state.
-use Rattle.dump_lanes.proofs.Prelude.{◌≡◌, ℕ, ◌+◌, ◌-◌, ◌*◌, ◌<◌, ◌≤◌, ◌%◌, Bool, true, false, ◌&&◌, nat_lt, List, [], ◌∷◌, ◌++◌, length, count_by, Option, Some, None, is_some, option_to_list, sym, refl, ap, ◌∙◌, arith, concat, and_parts, not-true, ltb-true, length_push, sum_by-cons, PoolSize, Entry, World, opening, hand_of, slot_of, items_in_hands, Event, is_enabled, after_event, arrived, written_next, IsRun, is_move, IsReached, marks_in_hands, progress, count_move, most_moves, moves_left, HasRoom, FindsPlace, NeverFull, EveryMoveCounts, NoEndlessWay}
-use Rattle.std.proofs.Common.{not, IsTrue, mod-lt}
+use Rattle.dump_lanes.proofs.Prelude.{◌≡◌, ℕ, ◌+◌, ◌-◌, ◌*◌, ◌<◌, ◌≤◌, Bool, true, false, nat_lt, List, [], ◌∷◌, length, count_by, Option, Some, None, is_some, option_to_list, sym, refl, ap, ◌∙◌, arith, concat, and_parts, ltb-true, length_push, sum_by-cons, PoolSize, Entry, World, opening, hand_of, items_in_hands, Event, is_enabled, after_event, arrived, written_next, IsRun, is_move, IsReached, marks_in_hands, progress, count_move, most_moves, moves_left, HasRoom, FindsPlace, NeverFull, EveryMoveCounts, NoEndlessWay}
+use Rattle.std.proofs.Common.{IsTrue}
 use Rattle.dump_lanes.specs.PoolWorld.{items_of}
 use Rattle.dump_lanes.specs.PoolEvents.{taken_by}
 use Rattle.dump_lanes.specs.PoolProgress.{marks}
-use Rattle.dump_lanes.proofs.core.Weights.{weigh, each, without, weigh-append, weigh_entries, weigh_hand, hands_set, no_hands, slots_set, no_slots, without_one, length_is}
+use Rattle.dump_lanes.proofs.core.Weights.{weigh, each, weigh-append, weigh_entries, weigh_hand, hands_set, no_hands, no_slots, length_is}
 use Rattle.dump_lanes.proofs.core.Marks.{marks-append, hand_set, no_marks_in_hands}
-use Rattle.dump_lanes.proofs.core.Places.{IsSized, may_take, hand_within, is_none_from, IsNext, is_next}
-use Rattle.dump_lanes.proofs.core.Credits.{held}
+use Rattle.dump_lanes.proofs.core.Places.{IsSized, may_take, hand_within, is_none_from, is_next, arrival_weight, release_weight}
+use Rattle.dump_lanes.proofs.core.Credits.{held, one_longer, may_draw, may_cut}
 use Rattle.dump_lanes.proofs.core.Runs.{Holds, run_holds, step_holds, first_holds, range_each}
 
 -- the moves behind a state, as its items weigh
@@ -19,17 +19,7 @@ weighed w =
     + (marks w.jobs + 2 * marks_in_hands w.hands + 3 * marks w.dones + 4 * w.marks_arrived) + held w.holds_credit
 
 pub progress_is : (w : World) → progress w ≡ weighed w
-progress_is w =
-    omega (
-      arith,
-      length_is (items_of w.jobs),
-      length_is (items_in_hands w.hands),
-      length_is (items_of w.dones),
-      length_is (concat w.slots),
-      length_is w.lane,
-      length_is (option_to_list w.writing),
-      length_is w.finished,
-    )
+progress_is w = omega (arith, length_is)
 
 -- an option with something in it weighs one
 one_in : (o : Option ℕ) → is_some o ≡ true → weigh each (option_to_list o) ≡ 1
@@ -41,116 +31,51 @@ one_in_hand None e = cc
 one_in_hand (Some (Entry.Item n)) e = omega arith
 one_in_hand (Some Entry.Mark) e = omega arith
 
-draw_counts : (size : PoolSize) (w : World) → IsTrue (is_enabled size w Event.Draw)
-    → weighed (after_event size w Event.Draw) ≡ weighed w + 1
-draw_counts size w e =
-    let tests = and_parts (not w.cutter_ended && not w.holds_credit) _ e in
-    let none : held w.holds_credit ≡ 0 =
-    ap held (not-true w.holds_credit (and_parts (not w.cutter_ended) _ tests.0).1) in
-    omega arith
-
-cut_counts : (size : PoolSize) (w : World) (last : Bool) → IsTrue (is_enabled size w (Event.Cut last))
-    → weighed (after_event size w (Event.Cut last)) ≡ weighed w + 1
-cut_counts size w last e =
-    let one : held w.holds_credit ≡ 1 = ap held (and_parts w.holds_credit _ e).0 in
-    omega (arith, weigh_entries each w.jobs (Entry.Item w.cut ∷ []), marks-append w.jobs (Entry.Item w.cut ∷ []))
-
-take_counts : (w : World) (k : ℕ) (jobs : List Entry) → w.jobs ≡ jobs → 0 < length jobs → k < length w.hands
-    → hand_of w k ≡ None
-    → weighed (taken_by w k jobs) ≡ weighed w + 1
-take_counts w k [] e some lt free = absurd (omega (arith, some))
-take_counts w k (Entry.Item n ∷ rest) e some lt free =
-    let items : weigh each (items_of w.jobs) ≡ 1 + weigh each (items_of rest) =
-    ap (λ (js : List Entry). weigh each (items_of js)) e in
-    let same : marks w.jobs ≡ marks rest = ap marks e in
-    let empty : weigh_hand each (hand_of w k) ≡ 0 = ap (weigh_hand each) free in
+take_counts : (w : World) (k : ℕ) (jobs : List Entry) → 0 < length jobs → k < length w.hands → hand_of w k ≡ None
+    → weighed (taken_by (record w { jobs = jobs }) k jobs) ≡ weighed (record w { jobs = jobs }) + 1
+take_counts w k [] some lt free = absurd (omega (arith, some))
+take_counts w k (Entry.Item n ∷ rest) some lt free =
     let bare : marks (option_to_list (hand_of w k)) ≡ 0 = ap (λ (o : Option Entry). marks (option_to_list o)) free in
-    omega (arith, hands_set each w.hands k (Some (Entry.Item n)) lt, hand_set w.hands k (Some (Entry.Item n)) lt)
-take_counts w k (Entry.Mark ∷ rest) e some lt free =
-    let items : weigh each (items_of w.jobs) ≡ weigh each (items_of rest) =
-    ap (λ (js : List Entry). weigh each (items_of js)) e in
-    let same : marks w.jobs ≡ 1 + marks rest = ap marks e in
-    let empty : weigh_hand each (hand_of w k) ≡ 0 = ap (weigh_hand each) free in
+    omega (arith, ap (weigh_hand each) free, hands_set, hand_set)
+take_counts w k (Entry.Mark ∷ rest) some lt free =
     let bare : marks (option_to_list (hand_of w k)) ≡ 0 = ap (λ (o : Option Entry). marks (option_to_list o)) free in
-    omega (arith, hands_set each w.hands k (Some Entry.Mark) lt, hand_set w.hands k (Some Entry.Mark) lt)
+    omega (arith, ap (weigh_hand each) free, hands_set, hand_set)
 
-put_counts : (size : PoolSize) (w : World) (k : ℕ) → IsTrue (is_enabled size w (Event.Put k))
-    → weighed (after_event size w (Event.Put k)) ≡ weighed w + 1
-put_counts size w k e =
-    let lt : k < length w.hands = hand_within w.hands k e in
-    let one : weigh_hand each (hand_of w k) + marks (option_to_list (hand_of w k)) ≡ 1 = one_in_hand (hand_of w k) e in
-    omega (
-      arith,
-      weigh_entries each w.dones (option_to_list (hand_of w k)),
-      marks-append w.dones (option_to_list (hand_of w k)),
-      hands_set each w.hands k None lt,
-      hand_set w.hands k None lt,
-    )
+arrive_counts : (size : PoolSize) (w : World) (dones : List Entry) → 0 < length dones → IsSized size w
+    → weighed (arrived size (record w { dones = dones }) dones) ≡ weighed (record w { dones = dones }) + 1
+arrive_counts size w [] some s = absurd (omega (arith, some))
+arrive_counts size w (Entry.Item n ∷ rest) some s = omega (arith, arrival_weight each size w n s)
+arrive_counts size w (Entry.Mark ∷ rest) some s = omega arith
 
-arrive_counts : (size : PoolSize) (w : World) (dones : List Entry) → w.dones ≡ dones → 0 < length dones → IsSized size w
-    → weighed (arrived size w dones) ≡ weighed w + 1
-arrive_counts size w [] e some s = absurd (omega (arith, some))
-arrive_counts size w (Entry.Item n ∷ rest) e some s =
-    let items : weigh each (items_of w.dones) ≡ 1 + weigh each (items_of rest) =
-    ap (λ (ds : List Entry). weigh each (items_of ds)) e in
-    let same : marks w.dones ≡ marks rest = ap marks e in
-    let within : n % size.window < length w.slots = omega (arith, s.each_slot, mod-lt n s.some_slot) in
-    omega (
-      arith,
-      slots_set each w.slots (n % size.window) (slot_of size w n ++ n ∷ []) within,
-      weigh-append each (slot_of size w n) (n ∷ []),
-    )
-arrive_counts size w (Entry.Mark ∷ rest) e some s =
-    let items : weigh each (items_of w.dones) ≡ weigh each (items_of rest) =
-    ap (λ (ds : List Entry). weigh each (items_of ds)) e in
-    let same : marks w.dones ≡ 1 + marks rest = ap marks e in
-    omega arith
-
-release_counts : (size : PoolSize) (w : World) → IsNext size w → IsSized size w
-    → weighed (after_event size w Event.Release) ≡ weighed w + 1
-release_counts size w next s =
-    let within : w.released % size.window < length w.slots =
-    omega (arith, s.each_slot, mod-lt w.released s.some_slot) in
-    omega (
-      arith,
-      slots_set each w.slots (w.released % size.window) (without w.released (slot_of size w w.released)) within,
-      without_one each w.released (slot_of size w w.released) next.single,
-      weigh-append each w.lane (w.released ∷ []),
-    )
-
-write_counts : (w : World) (lane : List ℕ) → w.lane ≡ lane → 0 < length lane → w.writing ≡ None
-    → weighed (written_next w lane) ≡ weighed w + 1
-write_counts w [] e some free = absurd (omega (arith, some))
-write_counts w (n ∷ rest) e some free =
-    let before : weigh each w.lane ≡ 1 + weigh each rest = ap (weigh each) e in
-    let empty : weigh each (option_to_list w.writing) ≡ 0 = ap (λ (o : Option ℕ). weigh each (option_to_list o)) free in
-    omega arith
+write_counts : (w : World) (lane : List ℕ) → 0 < length lane → w.writing ≡ None
+    → weighed (written_next (record w { lane = lane }) lane) ≡ weighed (record w { lane = lane }) + 1
+write_counts w [] some free = absurd (omega (arith, some))
+write_counts w (n ∷ rest) some free = omega (arith, ap (λ (o : Option ℕ). weigh each (option_to_list o)) free)
 
 -- each event
 step_weighs : (size : PoolSize) (w : World) (event : Event) → IsTrue (is_enabled size w event) → Holds size w
     → weighed (after_event size w event) ≡ weighed w + count_move event
-step_weighs size w Event.Draw e h = draw_counts size w e
-step_weighs size w (Event.Cut last) e h = cut_counts size w last e
-step_weighs size w Event.CutMark e h =
-    omega (arith, weigh_entries each w.jobs (Entry.Mark ∷ []), marks-append w.jobs (Entry.Mark ∷ []))
+step_weighs size w Event.Draw e h = let may = may_draw size w e in omega arith
+step_weighs size w (Event.Cut last) e h =
+    let one = may_cut size w last e in
+    omega (arith, weigh_entries, marks-append)
+step_weighs size w Event.CutMark e h = omega (arith, weigh_entries, marks-append)
 step_weighs size w (Event.Take k) e h =
     let may = may_take size w k e in
-    take_counts w k w.jobs refl (ltb-true 0 (length w.jobs) (and_parts _ (nat_lt 0 (length w.jobs)) e).1)
+    take_counts w k w.jobs (ltb-true 0 (length w.jobs) (and_parts _ (nat_lt 0 (length w.jobs)) e).1)
     (omega (arith, may.within, h.sized.each_hand)) may.empty
-step_weighs size w (Event.Put k) e h = put_counts size w k e
-step_weighs size w Event.Arrive e h = arrive_counts size w w.dones refl (ltb-true 0 (length w.dones) e) h.sized
-step_weighs size w Event.SequencerNotes e h = omega arith
-step_weighs size w Event.WriterNotes e h = omega arith
-step_weighs size w Event.Release e h = release_counts size w (is_next size w h.once e) h.sized
+step_weighs size w (Event.Put k) e h =
+    let lt : k < length w.hands = hand_within w.hands k e in
+    let one : weigh_hand each (hand_of w k) + marks (option_to_list (hand_of w k)) ≡ 1 = one_in_hand (hand_of w k) e in
+    omega (arith, weigh_entries, marks-append, hands_set, hand_set)
+step_weighs size w Event.Arrive e h = arrive_counts size w w.dones (ltb-true 0 (length w.dones) e) h.sized
+step_weighs size w Event.Release e h =
+    omega (arith, release_weight each size w (is_next size w h.once e) h.sized, weigh-append)
 step_weighs size w Event.Write e h =
     let tests = and_parts (nat_lt 0 (length w.lane)) _ e in
-    write_counts w w.lane refl (ltb-true 0 (length w.lane) tests.0) (is_none_from w.writing tests.1)
-step_weighs size w Event.Give e h =
-    omega (arith, weigh-append each w.finished (option_to_list w.writing), one_in w.writing e)
-step_weighs size w Event.SequencerRaises e h = omega arith
-step_weighs size w Event.WriterRaises e h = omega arith
-step_weighs size w Event.Look e h = omega arith
-step_weighs size w Event.Shut e h = omega arith
+    write_counts w w.lane (ltb-true 0 (length w.lane) tests.0) (is_none_from w.writing tests.1)
+step_weighs size w Event.Give e h = omega (arith, weigh-append, one_in w.writing e)
+step_weighs size w event e h = omega arith
 
 -- a move adds one to the moves behind a state, and another event none
 pub step_counts : (size : PoolSize) (w : World) (event : Event) → IsTrue (is_enabled size w event) → Holds size w
@@ -188,22 +113,15 @@ reached_holds size w r = run_holds size r.events (opening size) w r.run (first_h
 
 none_behind : (size : PoolSize) → progress (opening size) ≡ 0
 none_behind size =
-    progress_is (opening size)
-    ∙ omega (
-      arith,
-      ap (weigh each) (no_hands size.workers),
-      ap (weigh each) (no_slots size.window),
-      no_marks_in_hands size.workers,
-    )
+    let hands = ap (weigh each) (no_hands size.workers) in
+    let slots = ap (weigh each) (no_slots size.window) in
+    omega (arith, progress_is (opening size), no_marks_in_hands size.workers)
 
 counts_all : (size : PoolSize) (events : List Event) (w : World) → 0 < size.workers → 0 < size.window
     → IsRun size events (opening size) w → count_by is_move events ≡ progress w
 counts_all size events w some_worker some_slot run =
-    omega (
-      arith,
-      none_behind size,
-      run_counts size events (opening size) w run (first_holds size some_worker some_slot),
-    )
+    let h = first_holds size some_worker some_slot in
+    omega (arith, none_behind size, run_counts size events (opening size) w run h)
 
 -- the moves of a run are counted by the state that it leads to
 pub every_move_counts : EveryMoveCounts
@@ -249,28 +167,15 @@ has_room size w h =
       credits = omega (arith, t.items, t.flight);
     }
 
-one_longer : (xs : List Entry) (o : Option Entry) → is_some o ≡ true → length (xs ++ option_to_list o) ≡ length xs + 1
-one_longer xs None e = cc
-one_longer xs (Some x) e = length_push xs x
-
 -- the state after a put has room for what was put
 has_place : (size : PoolSize) (w : World) (event : Event) → IsTrue (is_enabled size w event)
     → HasRoom size (after_event size w event) → FindsPlace size w event
-has_place size w Event.Draw e r = tt
 has_place size w (Event.Cut last) e r = omega (arith, r.jobs, length_push w.jobs (Entry.Item w.cut))
 has_place size w Event.CutMark e r = omega (arith, r.jobs, length_push w.jobs Entry.Mark)
-has_place size w (Event.Take k) e r = tt
 has_place size w (Event.Put k) e r = omega (arith, r.dones, one_longer w.dones (hand_of w k) e)
-has_place size w Event.Arrive e r = tt
-has_place size w Event.SequencerNotes e r = tt
-has_place size w Event.WriterNotes e r = tt
 has_place size w Event.Release e r = omega (arith, r.lane, length_push w.lane w.released)
-has_place size w Event.Write e r = tt
 has_place size w Event.Give e r = omega (arith, r.credits)
-has_place size w Event.SequencerRaises e r = tt
-has_place size w Event.WriterRaises e r = tt
-has_place size w Event.Look e r = tt
-has_place size w Event.Shut e r = tt
+has_place size w event e r = tt
 
 -- in each state that a run reaches no queue holds more than there is room for
 pub never_full : NeverFull

@@ -1,10 +1,10 @@
 -- Every run of the pool leads to a sound state.
-use Rattle.dump_lanes.proofs.Prelude.{◌≡◌, ◌⊎◌, inl, inr, ℕ, ◌+◌, ◌<◌, ◌≤◌, All, List, [], ◌∷◌, ◌++◌, length, get_or, option_to_list, sym, ap, ◌∙◌, subst, arith, concat, range_with_len, cases_lt, get_or_default, length-replicate, length-range_with_len, PoolSize, Entry, World, opening, items_in_hands, items_on_the_way, items_released, all_items, Event, is_enabled, after_event, arrived, written_next, IsRun, times, count_in_flight, IsSound, EveryRunIsSound}
+use Rattle.dump_lanes.proofs.Prelude.{◌≡◌, ℕ, ◌+◌, ◌<◌, ◌≤◌, All, List, [], ◌∷◌, ◌++◌, length, get_or, option_to_list, sym, ap, ◌∙◌, subst, arith, concat, range_with_len, get_or_default, length-replicate, length-range_with_len, PoolSize, Entry, World, opening, items_in_hands, items_on_the_way, items_released, all_items, Event, is_enabled, after_event, IsRun, times, count_in_flight, IsSound, EveryRunIsSound, Bool, Option}
 use Rattle.std.proofs.Common.{IsTrue, length-set}
 use Rattle.dump_lanes.specs.PoolWorld.{items_of}
-use Rattle.dump_lanes.specs.PoolEvents.{taken_by}
+use Rattle.dump_lanes.proofs.core.FirstEntry.{by_job, by_done, by_piece}
 use Rattle.dump_lanes.proofs.core.Weights.{weigh, only, each, weigh-append, times_is, length_is, slot_le, within_range, above_range}
-use Rattle.dump_lanes.proofs.core.Places.{IsSized, IsEachOnce, weight, once_kept, once_first}
+use Rattle.dump_lanes.proofs.core.Places.{AreSized, IsSized, IsEachOnce, weight, once_kept, once_first}
 use Rattle.dump_lanes.proofs.core.Credits.{IsBounded, held, bounded_kept, bounded_first}
 use Rattle.dump_lanes.proofs.core.Order.{IsInOrder, order_kept, order_first}
 use Rattle.dump_lanes.proofs.core.Slots.{IsPlaced, placed_kept, placed_first, near, is_short}
@@ -12,72 +12,24 @@ use Rattle.dump_lanes.proofs.core.Ends.{IsEnding, ending_kept, ending_first, all
 use Rattle.dump_lanes.proofs.core.Stop.{HasStopCause, stop_kept, stop_first}
 
 -- rows keep their lengths
-take_sized : (size : PoolSize) (w : World) (k : ℕ) (jobs : List Entry) → IsSized size w
-    → IsSized size (taken_by w k jobs)
-take_sized size w k [] s = s
-take_sized size w k (Entry.Item n ∷ rest) s =
-    record {
-      each_hand = length-set w.hands k _
-          ∙ s.each_hand;
-      each_mark = s.each_mark;
-      each_slot = s.each_slot;
-      some_slot = s.some_slot;
-    }
-take_sized size w k (Entry.Mark ∷ rest) s =
-    record {
-      each_hand = length-set w.hands k _ ∙ s.each_hand;
-      each_mark = length-set w.marks_taken k _
-          ∙ s.each_mark;
-      each_slot = s.each_slot;
-      some_slot = s.some_slot;
-    }
-
-arrive_sized : (size : PoolSize) (w : World) (dones : List Entry) → IsSized size w → IsSized size (arrived size w dones)
-arrive_sized size w [] s = s
-arrive_sized size w (Entry.Item n ∷ rest) s =
-    record {
-      each_hand = s.each_hand;
-      each_mark = s.each_mark;
-      each_slot = length-set w.slots _ _
-          ∙ s.each_slot;
-      some_slot = s.some_slot;
-    }
-arrive_sized size w (Entry.Mark ∷ rest) s = s
-
-write_sized : (size : PoolSize) (w : World) (lane : List ℕ) → IsSized size w → IsSized size (written_next w lane)
-write_sized size w [] s = s
-write_sized size w (n ∷ rest) s = s
+as_sized : {size : PoolSize} {hands : List (Option Entry)} {marks : List Bool} {slots : List (List ℕ)}
+    → length hands ≡ size.workers → length marks ≡ size.workers → length slots ≡ size.window → 0 < size.window
+    → AreSized size hands marks slots
+as_sized hands marks slots some = record { each_hand = hands; each_mark = marks; each_slot = slots; some_slot = some }
 
 sized_kept : (size : PoolSize) (w : World) (event : Event) → IsSized size w → IsSized size (after_event size w event)
-sized_kept size w Event.Draw s = s
-sized_kept size w (Event.Cut last) s = s
-sized_kept size w Event.CutMark s = s
-sized_kept size w (Event.Take k) s = take_sized size w k w.jobs s
-sized_kept size w (Event.Put k) s =
-    record {
-      each_hand = length-set w.hands k _
-          ∙ s.each_hand;
-      each_mark = s.each_mark;
-      each_slot = s.each_slot;
-      some_slot = s.some_slot;
-    }
-sized_kept size w Event.Arrive s = arrive_sized size w w.dones s
-sized_kept size w Event.SequencerNotes s = s
-sized_kept size w Event.WriterNotes s = s
-sized_kept size w Event.Release s =
-    record {
-      each_hand = s.each_hand;
-      each_mark = s.each_mark;
-      each_slot = length-set w.slots _ _
-          ∙ s.each_slot;
-      some_slot = s.some_slot;
-    }
-sized_kept size w Event.Write s = write_sized size w w.lane s
-sized_kept size w Event.Give s = s
-sized_kept size w Event.SequencerRaises s = s
-sized_kept size w Event.WriterRaises s = s
-sized_kept size w Event.Look s = s
-sized_kept size w Event.Shut s = s
+sized_kept size w (Event.Take k) s =
+    by_job (IsSized size) size w k w.jobs s
+    (λ n rest. as_sized (length-set w.hands k _ ∙ s.each_hand) s.each_mark s.each_slot s.some_slot)
+    (λ rest. as_sized (length-set w.hands k _ ∙ s.each_hand) (length-set w.marks_taken k _ ∙ s.each_mark) s.each_slot
+    s.some_slot)
+sized_kept size w (Event.Put k) s = as_sized (length-set w.hands k _ ∙ s.each_hand) s.each_mark s.each_slot s.some_slot
+sized_kept size w Event.Arrive s =
+    by_done (IsSized size) size w w.dones s
+    (λ n rest. as_sized s.each_hand s.each_mark (length-set w.slots _ _ ∙ s.each_slot) s.some_slot) (λ rest. s)
+sized_kept size w Event.Release s = as_sized s.each_hand s.each_mark (length-set w.slots _ _ ∙ s.each_slot) s.some_slot
+sized_kept size w Event.Write s = by_piece (IsSized size) size w w.lane s (λ n rest. s)
+sized_kept size w event s = s
 
 -- what each event keeps, and so each run
 pub record Holds (size : PoolSize) (w : World) : Type 0 where
@@ -115,7 +67,8 @@ run_holds size (event ∷ events) u w run h = run_holds size events (after_event
 pub first_holds : (size : PoolSize) → 0 < size.workers → 0 < size.window → Holds size (opening size)
 first_holds size some_worker some_slot = record {
   some_worker = some_worker;
-  sized = record { each_hand = length-replicate size.workers _; each_mark = length-replicate size.workers _; each_slot = length-replicate size.window _; some_slot = some_slot };
+  sized = as_sized (length-replicate size.workers _) (length-replicate size.workers _) (length-replicate size.window _)
+      some_slot;
   once = once_first size;
   bounded = bounded_first size;
   in_order = order_first size;
@@ -127,49 +80,20 @@ first_holds size some_worker some_slot = record {
 -- what the lists of the facts weigh
 way_weight : (f : ℕ → ℕ) (w : World) → weigh f (items_on_the_way w) ≡ weigh f (items_of w.jobs) + weigh f
     (items_in_hands w.hands) + weigh f (items_of w.dones)
-way_weight f w =
-    omega (
-      arith,
-      weigh-append f (items_of w.jobs ++ items_in_hands w.hands) (items_of w.dones),
-      weigh-append f
-          (items_of w.jobs) (items_in_hands w.hands),
-    )
+way_weight f w = omega (arith, weigh-append)
 
 -- the released items weigh what the finished ones, the one being written and those in the lane weigh
 pub released_weight : (f : ℕ → ℕ) (w : World) → weigh f (items_released w) ≡ weigh f w.finished + weigh f
     (option_to_list w.writing) + weigh f w.lane
-released_weight f w =
-    omega (
-      arith,
-      weigh-append f (w.finished ++ option_to_list w.writing) w.lane,
-      weigh-append f w.finished
-          (option_to_list w.writing),
-    )
+released_weight f w = omega (arith, weigh-append)
 
 all_weight : (f : ℕ → ℕ) (w : World) → weigh f (all_items w) ≡ weight f w
-all_weight f w =
-    omega (
-      arith,
-      way_weight f w,
-      released_weight f w,
-      weigh-append f (items_on_the_way w ++ concat w.slots)
-          (items_released w),
-      weigh-append f (items_on_the_way w) (concat w.slots),
-    )
+all_weight f w = omega (arith, weigh-append)
 
 flight_weight : (f : ℕ → ℕ) (w : World)
     → weigh f
     (items_on_the_way w ++ concat w.slots ++ w.lane ++ option_to_list w.writing) + weigh f w.finished ≡ weight f w
-flight_weight f w =
-    omega (
-      arith,
-      way_weight f w,
-      weigh-append f (items_on_the_way w ++ concat w.slots ++ w.lane)
-          (option_to_list w.writing),
-      weigh-append f (items_on_the_way w ++ concat w.slots) w.lane,
-      weigh-append f
-          (items_on_the_way w) (concat w.slots),
-    )
+flight_weight f w = omega (arith, weigh-append)
 
 -- the numbers below n weigh n, where each weighs one
 pub range_each : (n : ℕ) → weigh each (range_with_len 0 n) ≡ n
@@ -188,42 +112,29 @@ module _ (size : PoolSize) (w : World) (h : Holds size w) where
   released_cut = omega (arith, released_each, h.once each, range_each w.cut)
 
   credits : w.credits + held w.holds_credit + count_in_flight w ≡ size.window
-  credits =
-      omega (
-        arith,
-        h.bounded,
-        h.once each,
-        range_each w.cut,
-        flight_weight each w,
-        length_is w.finished,
-        length_is
-            (items_on_the_way w ++ concat w.slots ++ w.lane ++ option_to_list w.writing),
-      )
+  credits = omega (arith, h.bounded, h.once each, range_each w.cut, flight_weight each w, length_is)
 
   -- what is in a slot is cut, is alone, and was not released
-  below_cut_at : (k m : ℕ) → (m < w.cut) ⊎ (w.cut ≤ m) → 0 < weigh (only m) (get_or w.slots k []) → m < w.cut
-  below_cut_at k m (inl lt) here = lt
-  below_cut_at k m (inr le) here =
-      absurd (omega (arith, h.once (only m), above_range m w.cut le, slot_le (only m) w.slots k))
-
   below_cut : (k m : ℕ) → 0 < weigh (only m) (get_or w.slots k []) → m < w.cut
-  below_cut k m here = below_cut_at k m (cases_lt m w.cut) here
+  below_cut k m here =
+      grind (arith, h.once (only m), above_range m w.cut, slot_le (only m) w.slots k)
 
-  once_at : (k m : ℕ) → (m < w.cut) ⊎ (w.cut ≤ m) → weigh (only m) (get_or w.slots k []) ≤ 1
-  once_at k m (inl lt) = omega (arith, h.once (only m), within_range m w.cut lt, slot_le (only m) w.slots k)
-  once_at k m (inr le) = omega (arith, h.once (only m), above_range m w.cut le, slot_le (only m) w.slots k)
-
-  unreleased_at : (k m : ℕ) → (m < w.released) ⊎ (w.released ≤ m) → 0 < weigh (only m) (get_or w.slots k [])
-      → w.released ≤ m
-  unreleased_at k m (inl lt) here =
-      let cut : weigh (only m) (range_with_len 0 w.cut) ≡ 1 = within_range m w.cut (below_cut k m here) in
-      let released : weigh (only m) (items_released w) ≡ 1 = ap (weigh (only m)) h.in_order
-      ∙ within_range m w.released lt in
-      absurd (omega (arith, h.once (only m), released_weight (only m) w, slot_le (only m) w.slots k))
-  unreleased_at k m (inr le) here = le
+  once_at : (k m : ℕ) → weigh (only m) (get_or w.slots k []) ≤ 1
+  once_at k m =
+      grind (arith, h.once (only m), within_range m w.cut, above_range m w.cut, slot_le (only m) w.slots k)
 
   unreleased : (k m : ℕ) → 0 < weigh (only m) (get_or w.slots k []) → w.released ≤ m
-  unreleased k m here = unreleased_at k m (cases_lt m w.released) here
+  unreleased k m here =
+      let cut : weigh (only m) (range_with_len 0 w.cut) ≡ 1 = within_range m w.cut (below_cut k m here) in
+      let released : weigh (only m) (items_released w) ≡ weigh (only m) (range_with_len 0 w.released) =
+      ap (weigh (only m)) h.in_order in
+      grind (
+        arith,
+        within_range m w.released,
+        h.once (only m),
+        released_weight (only m) w,
+        slot_le (only m) w.slots k,
+      )
 
   within_window : w.cut ≤ w.released + size.window
   within_window = omega (arith, h.bounded, released_each, length_is w.finished)
@@ -235,8 +146,7 @@ module _ (size : PoolSize) (w : World) (h : Holds size w) where
 
   unshared : All (λ slot. length slot ≤ 1) w.slots
   unshared k d lt =
-      let short : length (get_or w.slots k []) ≤ 1 = is_short (get_or w.slots k []) (one_item k)
-      (λ m. once_at k m (cases_lt m w.cut)) in
+      let short : length (get_or w.slots k []) ≤ 1 = is_short (get_or w.slots k []) (one_item k) (once_at k) in
       omega (arith, ap length (get_or_default w.slots k d [] lt))
 
   sound : IsSound size w

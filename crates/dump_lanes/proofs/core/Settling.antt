@@ -1,34 +1,30 @@
 -- Once the stop is up at most one item is cut, and none once the cutter has ended; and what settles stays.
-use Rattle.dump_lanes.proofs.Prelude.{◌≡◌, ◌⊎◌, inl, inr, ℕ, ◌+◌, ◌<◌, ◌≤◌, Bool, true, false, ◌&&◌, ◌||◌, cond, List, [], ◌∷◌, ◌++◌, Option, Some, None, option_to_list, sym, refl, ap, ◌∙◌, subst, arith, true≢false, and_parts, not-true, not_from_true, or_right, PoolSize, Entry, World, opening, Event, is_enabled, after_event, arrived, written_next, IsRun, looks_before_draws, AfterAStop, EndedCutsNothing, is_signal, IdleEventsSettle}
+use Rattle.dump_lanes.proofs.Prelude.{◌≡◌, ◌⊎◌, inl, inr, ℕ, ◌+◌, ◌<◌, ◌≤◌, Bool, true, false, ◌&&◌, ◌||◌, cond, List, [], ◌∷◌, ◌++◌, Option, Some, None, option_to_list, sym, refl, ap, ◌∙◌, subst, arith, true≢false, and_parts, not-true, not_from_true, or_right, PoolSize, World, opening, Event, is_enabled, after_event, IsRun, looks_before_draws, AfterAStop, EndedCutsNothing, is_signal, IdleEventsSettle}
 use Rattle.std.proofs.Common.{not, IsTrue}
-use Rattle.dump_lanes.specs.PoolEvents.{taken_by}
+use Rattle.dump_lanes.proofs.core.FirstEntry.{by_job, by_done, by_piece}
 use Rattle.dump_lanes.proofs.core.Progress.{totals}
 use Rattle.dump_lanes.proofs.core.Weights.{weigh, each}
 use Rattle.dump_lanes.proofs.core.Runs.{Holds, run_holds, first_holds}
 
--- what was noted, raised or ended stays so
-record Stays (old new : World) : Type 0 where
-  sequencer : IsTrue old.sequencer_failed → IsTrue new.sequencer_failed
-  writer : IsTrue old.writer_failed → IsTrue new.writer_failed
-  up : IsTrue old.stop_up → IsTrue new.stop_up
-  ended : IsTrue old.cutter_ended → IsTrue new.cutter_ended
+-- what was noted, raised or ended
+abbrev Flags : Type 0
+Flags = Bool × Bool × Bool × Bool
+
+abbrev flags : World → Flags
+flags w = (w.sequencer_failed, w.writer_failed, w.stop_up, w.cutter_ended)
+
+-- and stays so
+record AreKept (old new : Flags) : Type 0 where
+  sequencer : IsTrue old.0 → IsTrue new.0
+  writer : IsTrue old.1 → IsTrue new.1
+  up : IsTrue old.2 → IsTrue new.2
+  ended : IsTrue old.3 → IsTrue new.3
+
+abbrev Stays : World → World → Type 0
+Stays old new = AreKept (flags old) (flags new)
 
 same_stays : (w : World) → Stays w w
 same_stays w = record { sequencer = λ x. x; writer = λ x. x; up = λ x. x; ended = λ x. x }
-
-take_stays : (w : World) (k : ℕ) (jobs : List Entry) → Stays w (taken_by w k jobs)
-take_stays w k [] = same_stays w
-take_stays w k (Entry.Item n ∷ rest) = record { sequencer = λ x. x; writer = λ x. x; up = λ x. x; ended = λ x. x }
-take_stays w k (Entry.Mark ∷ rest) = record { sequencer = λ x. x; writer = λ x. x; up = λ x. x; ended = λ x. x }
-
-arrive_stays : (size : PoolSize) (w : World) (dones : List Entry) → Stays w (arrived size w dones)
-arrive_stays size w [] = same_stays w
-arrive_stays size w (Entry.Item n ∷ rest) = record { sequencer = λ x. x; writer = λ x. x; up = λ x. x; ended = λ x. x }
-arrive_stays size w (Entry.Mark ∷ rest) = record { sequencer = λ x. x; writer = λ x. x; up = λ x. x; ended = λ x. x }
-
-write_stays : (w : World) (lane : List ℕ) → Stays w (written_next w lane)
-write_stays w [] = same_stays w
-write_stays w (n ∷ rest) = record { sequencer = λ x. x; writer = λ x. x; up = λ x. x; ended = λ x. x }
 
 -- a cutter that may cut, look or be shut hasn't ended
 going : (w : World) → not w.cutter_ended ≡ true → w.cutter_ended ≡ true → ⊥
@@ -36,7 +32,6 @@ going w e x = true≢false (sym x ∙ not-true w.cutter_ended e)
 
 step_stays : (size : PoolSize) (w : World) (event : Event) → IsTrue (is_enabled size w event)
     → Stays w (after_event size w event)
-step_stays size w Event.Draw e = record { sequencer = λ x. x; writer = λ x. x; up = λ x. x; ended = λ x. x }
 step_stays size w (Event.Cut last) e =
     record {
       sequencer = λ x. x;
@@ -44,22 +39,21 @@ step_stays size w (Event.Cut last) e =
       up = λ x. x;
       ended = λ x. absurd (going w (and_parts w.holds_credit _ e).1 x);
     }
-step_stays size w Event.CutMark e = record { sequencer = λ x. x; writer = λ x. x; up = λ x. x; ended = λ x. x }
-step_stays size w (Event.Take k) e = take_stays w k w.jobs
-step_stays size w (Event.Put k) e = record { sequencer = λ x. x; writer = λ x. x; up = λ x. x; ended = λ x. x }
-step_stays size w Event.Arrive e = arrive_stays size w w.dones
+step_stays size w (Event.Take k) e =
+    by_job (Stays w) size w k w.jobs (same_stays w) (λ n rest. same_stays w) (λ rest. same_stays w)
+step_stays size w Event.Arrive e =
+    by_done (Stays w) size w w.dones (same_stays w) (λ n rest. same_stays w) (λ rest. same_stays w)
 step_stays size w Event.SequencerNotes e =
     record { sequencer = λ x. refl; writer = λ x. x; up = λ x. x; ended = λ x. x }
 step_stays size w Event.WriterNotes e = record { sequencer = λ x. x; writer = λ x. refl; up = λ x. x; ended = λ x. x }
-step_stays size w Event.Release e = record { sequencer = λ x. x; writer = λ x. x; up = λ x. x; ended = λ x. x }
-step_stays size w Event.Write e = write_stays w w.lane
-step_stays size w Event.Give e = record { sequencer = λ x. x; writer = λ x. x; up = λ x. x; ended = λ x. x }
+step_stays size w Event.Write e = by_piece (Stays w) size w w.lane (same_stays w) (λ n rest. same_stays w)
 step_stays size w Event.SequencerRaises e =
     record { sequencer = λ x. x; writer = λ x. x; up = λ x. refl; ended = λ x. x }
 step_stays size w Event.WriterRaises e = record { sequencer = λ x. x; writer = λ x. x; up = λ x. refl; ended = λ x. x }
 step_stays size w Event.Look e =
     record { sequencer = λ x. x; writer = λ x. x; up = λ x. x; ended = λ x. absurd (going w e x) }
 step_stays size w Event.Shut e = record { sequencer = λ x. x; writer = λ x. x; up = λ x. x; ended = λ x. refl }
+step_stays size w event e = same_stays w
 
 run_stays : (size : PoolSize) (events : List Event) (u w : World) → IsRun size events u w → Stays u w
 run_stays size [] u w run = subst (λ (v : World). Stays u v) (sym run) (same_stays u)
@@ -81,17 +75,7 @@ again size w new Event.SequencerNotes m s =
 again size w new Event.WriterNotes m s = ap (λ (b : Bool). record new { writer_failed = b }) (sym (s.writer refl))
 again size w new Event.SequencerRaises m s = ap (λ (b : Bool). record new { stop_up = b }) (sym (s.up refl))
 again size w new Event.WriterRaises m s = ap (λ (b : Bool). record new { stop_up = b }) (sym (s.up refl))
-again size w new Event.Draw m s = absurd (true≢false (sym m))
-again size w new (Event.Cut last) m s = absurd (true≢false (sym m))
-again size w new Event.CutMark m s = absurd (true≢false (sym m))
-again size w new (Event.Take k) m s = absurd (true≢false (sym m))
-again size w new (Event.Put k) m s = absurd (true≢false (sym m))
-again size w new Event.Arrive m s = absurd (true≢false (sym m))
-again size w new Event.Release m s = absurd (true≢false (sym m))
-again size w new Event.Write m s = absurd (true≢false (sym m))
-again size w new Event.Give m s = absurd (true≢false (sym m))
-again size w new Event.Look m s = absurd (true≢false (sym m))
-again size w new Event.Shut m s = absurd (true≢false (sym m))
+again size w new event m s = absurd (true≢false (sym m))
 
 seen_none : (seen up : Bool) → up ≡ false → (seen || up) ≡ seen
 seen_none true up e = refl
@@ -135,20 +119,7 @@ then_looked looked event = looked
 looks_on : (looked : Bool) (event : Event) (events : List Event) → IsTrue (looks_before_draws looked (event ∷ events))
     → IsTrue (looks_before_draws (then_looked looked event) events)
 looks_on looked Event.Draw events l = (and_parts looked _ l).1
-looks_on looked (Event.Cut last) events l = l
-looks_on looked Event.CutMark events l = l
-looks_on looked (Event.Take k) events l = l
-looks_on looked (Event.Put k) events l = l
-looks_on looked Event.Arrive events l = l
-looks_on looked Event.SequencerNotes events l = l
-looks_on looked Event.WriterNotes events l = l
-looks_on looked Event.Release events l = l
-looks_on looked Event.Write events l = l
-looks_on looked Event.Give events l = l
-looks_on looked Event.SequencerRaises events l = l
-looks_on looked Event.WriterRaises events l = l
-looks_on looked Event.Look events l = l
-looks_on looked Event.Shut events l = l
+looks_on looked event events l = l
 
 looks_after : (looked : Bool) (before after : List Event) → IsTrue (looks_before_draws looked (before ++ after))
     → (then' : Bool) × IsTrue (looks_before_draws then' after)
@@ -159,22 +130,6 @@ looks_after looked (event ∷ before) after l =
 -- the items cut after a state, and those that may still be cut there
 abbrev cut_most : Bool → World → ℕ
 cut_most looked w = w.cut + may_cut w.cutter_ended looked w.holds_credit
-
-take_cuts : (looked : Bool) (w : World) (k : ℕ) (jobs : List Entry)
-    → cut_most looked (taken_by w k jobs) ≤ cut_most looked w
-take_cuts looked w k [] = omega arith
-take_cuts looked w k (Entry.Item n ∷ rest) = omega arith
-take_cuts looked w k (Entry.Mark ∷ rest) = omega arith
-
-arrive_cuts : (looked : Bool) (size : PoolSize) (w : World) (dones : List Entry)
-    → cut_most looked (arrived size w dones) ≤ cut_most looked w
-arrive_cuts looked size w [] = omega arith
-arrive_cuts looked size w (Entry.Item n ∷ rest) = omega arith
-arrive_cuts looked size w (Entry.Mark ∷ rest) = omega arith
-
-write_cuts : (looked : Bool) (w : World) (lane : List ℕ) → cut_most looked (written_next w lane) ≤ cut_most looked w
-write_cuts looked w [] = omega arith
-write_cuts looked w (n ∷ rest) = omega arith
 
 may_one : (ended looked holds : Bool) → ended ≡ false → (looked ≡ true) ⊎ (holds ≡ true)
     → may_cut ended looked holds ≡ 1
@@ -213,19 +168,17 @@ step_cuts : (size : PoolSize) (looked : Bool) (w : World) (event : Event) (event
     → cut_most (then_looked looked event) (after_event size w event) ≤ cut_most looked w
 step_cuts size looked w Event.Draw events up e l = draw_cuts size looked w e (and_parts looked _ l).0
 step_cuts size looked w (Event.Cut last) events up e l = cut_cuts size looked last w e
-step_cuts size looked w Event.CutMark events up e l = omega arith
-step_cuts size looked w (Event.Take k) events up e l = take_cuts looked w k w.jobs
-step_cuts size looked w (Event.Put k) events up e l = omega arith
-step_cuts size looked w Event.Arrive events up e l = arrive_cuts looked size w w.dones
-step_cuts size looked w Event.SequencerNotes events up e l = omega arith
-step_cuts size looked w Event.WriterNotes events up e l = omega arith
-step_cuts size looked w Event.Release events up e l = omega arith
-step_cuts size looked w Event.Write events up e l = write_cuts looked w w.lane
-step_cuts size looked w Event.Give events up e l = omega arith
-step_cuts size looked w Event.SequencerRaises events up e l = omega arith
-step_cuts size looked w Event.WriterRaises events up e l = omega arith
+step_cuts size looked w (Event.Take k) events up e l =
+    let same : cut_most looked w ≤ cut_most looked w = omega arith in
+    by_job (λ v. cut_most looked v ≤ cut_most looked w) size w k w.jobs same (λ n rest. same) (λ rest. same)
+step_cuts size looked w Event.Arrive events up e l =
+    let same : cut_most looked w ≤ cut_most looked w = omega arith in
+    by_done (λ v. cut_most looked v ≤ cut_most looked w) size w w.dones same (λ n rest. same) (λ rest. same)
+step_cuts size looked w Event.Write events up e l =
+    let same : cut_most looked w ≤ cut_most looked w = omega arith in
+    by_piece (λ v. cut_most looked v ≤ cut_most looked w) size w w.lane same (λ n rest. same)
 step_cuts size looked w Event.Look events up e l = omega (arith, may_none w.stop_up true w.holds_credit up)
-step_cuts size looked w Event.Shut events up e l = omega arith
+step_cuts size looked w event events up e l = omega arith
 
 run_cuts : (size : PoolSize) (looked : Bool) (events : List Event) (w new : World) → IsTrue w.stop_up
     → IsRun size events w new
@@ -246,38 +199,15 @@ after_a_stop size before after w new run up more l =
     let rest = looks_after false before after l in
     omega (arith, run_cuts size rest.0 after w new up more rest.1, may_cut_one w.cutter_ended rest.0 w.holds_credit)
 
-take_cut : (w : World) (k : ℕ) (jobs : List Entry) → (taken_by w k jobs).cut ≡ w.cut
-take_cut w k [] = refl
-take_cut w k (Entry.Item n ∷ rest) = refl
-take_cut w k (Entry.Mark ∷ rest) = refl
-
-arrive_cut : (size : PoolSize) (w : World) (dones : List Entry) → (arrived size w dones).cut ≡ w.cut
-arrive_cut size w [] = refl
-arrive_cut size w (Entry.Item n ∷ rest) = refl
-arrive_cut size w (Entry.Mark ∷ rest) = refl
-
-write_cut : (w : World) (lane : List ℕ) → (written_next w lane).cut ≡ w.cut
-write_cut w [] = refl
-write_cut w (n ∷ rest) = refl
-
 -- once the cutter has ended nothing is cut
 step_ended : (size : PoolSize) (w : World) (event : Event) → IsTrue w.cutter_ended → IsTrue (is_enabled size w event)
     → (after_event size w event).cut ≡ w.cut
-step_ended size w Event.Draw x e = refl
 step_ended size w (Event.Cut last) x e = absurd (going w (and_parts w.holds_credit _ e).1 x)
-step_ended size w Event.CutMark x e = refl
-step_ended size w (Event.Take k) x e = take_cut w k w.jobs
-step_ended size w (Event.Put k) x e = refl
-step_ended size w Event.Arrive x e = arrive_cut size w w.dones
-step_ended size w Event.SequencerNotes x e = refl
-step_ended size w Event.WriterNotes x e = refl
-step_ended size w Event.Release x e = refl
-step_ended size w Event.Write x e = write_cut w w.lane
-step_ended size w Event.Give x e = refl
-step_ended size w Event.SequencerRaises x e = refl
-step_ended size w Event.WriterRaises x e = refl
-step_ended size w Event.Look x e = refl
-step_ended size w Event.Shut x e = refl
+step_ended size w (Event.Take k) x e =
+    by_job (λ v. v.cut ≡ w.cut) size w k w.jobs refl (λ n rest. refl) (λ rest. refl)
+step_ended size w Event.Arrive x e = by_done (λ v. v.cut ≡ w.cut) size w w.dones refl (λ n rest. refl) (λ rest. refl)
+step_ended size w Event.Write x e = by_piece (λ v. v.cut ≡ w.cut) size w w.lane refl (λ n rest. refl)
+step_ended size w event x e = refl
 
 run_ended : (size : PoolSize) (events : List Event) (old new : World) → IsTrue old.cutter_ended
     → IsRun size events old new → new.cut ≡ old.cut

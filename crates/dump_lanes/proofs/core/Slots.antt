@@ -1,10 +1,11 @@
 -- Each item in a slot has the slot's number as its remainder, after each event; so no two share one.
-use Rattle.dump_lanes.proofs.Prelude.{◌≡◌, ◌⊎◌, inl, inr, ℕ, zero, suc, ◌+◌, ◌<◌, ◌≤◌, ◌%◌, ◌==◌, Bool, true, false, cond, List, [], ◌∷◌, ◌++◌, length, get_or, set, replicate, sym, refl, ap, ◌∙◌, arith, cases_eq, cases_lt, PoolSize, Entry, World, opening, slot_of, Event, is_enabled, after_event, arrived, written_next}
-use Rattle.std.proofs.Common.{IsTrue, mod-lt, get_or-set_same, get_or-set_other, eqb-true}
+use Rattle.dump_lanes.proofs.Prelude.{◌≡◌, ◌⊎◌, inl, inr, ℕ, ◌+◌, ◌<◌, ◌≤◌, ◌%◌, ◌==◌, Bool, true, false, cond, List, [], ◌∷◌, ◌++◌, length, get_or, set, replicate, sym, ap, ◌∙◌, arith, cases_eq, cases_lt, PoolSize, World, opening, slot_of, Event, is_enabled, after_event, ⊎_elim, refl}
+use Rattle.std.proofs.Common.{IsTrue, get_or-set_same, get_or-set_other, eqb-true}
 use Rattle.atomic_table.proofs.Lists.{one_turn}
-use Rattle.dump_lanes.specs.PoolEvents.{taken_by}
+use Rattle.dump_lanes.proofs.core.FirstEntry.{by_job, by_done, by_piece}
+use Rattle.dump_lanes.proofs.core.Marks.{get_or_replicate}
 use Rattle.dump_lanes.proofs.core.Weights.{weigh, only, without, weigh-append, only_itself, without_le}
-use Rattle.dump_lanes.proofs.core.Places.{IsSized}
+use Rattle.dump_lanes.proofs.core.Places.{IsSized, slot_within}
 
 -- what stands in a slot has that slot
 abbrev pub ArePlaced : ℕ → List (List ℕ) → Type 0
@@ -45,76 +46,37 @@ joins_at window slot n m old (inr none) here =
     (only m) slot (n ∷ []) in
     ap (λ (k : ℕ). k % window) (sym (weighs_only n m (n == m) refl (omega arith)))
 
-take_placed : (size : PoolSize) (w : World) (k : ℕ) (jobs : List Entry) → IsPlaced size w
-    → IsPlaced size (taken_by w k jobs)
-take_placed size w k [] h = h
-take_placed size w k (Entry.Item n ∷ rest) h = h
-take_placed size w k (Entry.Mark ∷ rest) h = h
-
-arrive_placed : (size : PoolSize) (w : World) (dones : List Entry) → IsSized size w → IsPlaced size w
-    → IsPlaced size (arrived size w dones)
-arrive_placed size w [] s h = h
-arrive_placed size w (Entry.Item n ∷ rest) s h =
-    set_placed size.window w.slots (n % size.window) (slot_of size w n ++ n ∷ [])
-    (omega (arith, s.each_slot, mod-lt n s.some_slot)) h
-    (λ m here. joins_at size.window (slot_of size w n) n m (h (n % size.window) m)
-    (cases_lt 0 (weigh (only m) (slot_of size w n))) here)
-arrive_placed size w (Entry.Mark ∷ rest) s h = h
-
-write_placed : (size : PoolSize) (w : World) (lane : List ℕ) → IsPlaced size w → IsPlaced size (written_next w lane)
-write_placed size w [] h = h
-write_placed size w (n ∷ rest) h = h
-
-release_placed : (size : PoolSize) (w : World) → IsSized size w → IsPlaced size w
-    → IsPlaced size (after_event size w Event.Release)
-release_placed size w s h =
-    set_placed size.window w.slots (w.released % size.window) (without w.released (slot_of size w w.released))
-    (omega (arith, s.each_slot, mod-lt w.released s.some_slot)) h
-    (λ m here. h (w.released % size.window) m (omega
-    (arith, without_le (only m) w.released (slot_of size w w.released))))
-
 -- after an event that may happen each item in a slot has that slot
 pub placed_kept : (size : PoolSize) (w : World) (event : Event) → IsTrue (is_enabled size w event) → IsSized size w
     → IsPlaced size w → IsPlaced size (after_event size w event)
-placed_kept size w Event.Draw e s h = h
-placed_kept size w (Event.Cut last) e s h = h
-placed_kept size w Event.CutMark e s h = h
-placed_kept size w (Event.Take k) e s h = take_placed size w k w.jobs h
-placed_kept size w (Event.Put k) e s h = h
-placed_kept size w Event.Arrive e s h = arrive_placed size w w.dones s h
-placed_kept size w Event.SequencerNotes e s h = h
-placed_kept size w Event.WriterNotes e s h = h
-placed_kept size w Event.Release e s h = release_placed size w s h
-placed_kept size w Event.Write e s h = write_placed size w w.lane h
-placed_kept size w Event.Give e s h = h
-placed_kept size w Event.SequencerRaises e s h = h
-placed_kept size w Event.WriterRaises e s h = h
-placed_kept size w Event.Look e s h = h
-placed_kept size w Event.Shut e s h = h
-
-first_empty : (n i : ℕ) → get_or {A = List ℕ} (replicate n []) i [] ≡ []
-first_empty zero i = refl
-first_empty (suc n) zero = refl
-first_empty (suc n) (suc i) = first_empty n i
+placed_kept size w (Event.Take k) e s h = by_job (IsPlaced size) size w k w.jobs h (λ n rest. h) (λ rest. h)
+placed_kept size w Event.Arrive e s h =
+    by_done (IsPlaced size) size w w.dones h
+    (λ n rest. set_placed size.window w.slots (n % size.window) (slot_of size w n ++ n ∷ [])
+    (slot_within size w n s) h
+    (λ m here. joins_at size.window (slot_of size w n) n m (h (n % size.window) m)
+    (cases_lt 0 (weigh (only m) (slot_of size w n))) here)) (λ rest. h)
+placed_kept size w Event.Release e s h =
+    set_placed size.window w.slots (w.released % size.window) (without w.released (slot_of size w w.released))
+    (slot_within size w w.released s) h
+    (λ m here. h (w.released % size.window) m (omega
+    (arith, without_le (only m) w.released (slot_of size w w.released))))
+placed_kept size w Event.Write e s h = by_piece (IsPlaced size) size w w.lane h (λ n rest. h)
+placed_kept size w event e s h = h
 
 -- at first there is no item in a slot that hasn't that slot
 pub placed_first : (size : PoolSize) → IsPlaced size (opening size)
 placed_first size i m here =
     let none : weigh (only m) (get_or (replicate size.window []) i []) ≡ 0 = ap (weigh (only m))
-    (first_empty size.window i) in
+    (get_or_replicate size.window i []) in
     absurd (omega arith)
-
--- numbers less than a window apart that have one slot are one number
-near_at : (window low high m n : ℕ) → low ≤ m → low ≤ n → m < high → n < high → high ≤ low + window
-    → m % window ≡ n % window
-    → (m < n) ⊎ (n ≤ m) → m ≡ n
-near_at window low high m n a b c d e f (inl lt) = one_turn m n window (omega arith) (omega arith) f
-near_at window low high m n a b c d e f (inr le) = sym (one_turn n m window le (omega arith) (sym f))
 
 -- two numbers of one window that have one slot are one number
 pub near : (window low high m n : ℕ) → low ≤ m → low ≤ n → m < high → n < high → high ≤ low + window
     → m % window ≡ n % window → m ≡ n
-near window low high m n a b c d e f = near_at window low high m n a b c d e f (cases_lt m n)
+near window low high m n a b c d e f =
+    ⊎_elim (λ (lt : m < n). one_turn m n window (omega arith) (omega arith) f)
+    (λ (le : n ≤ m). sym (one_turn n m window le (omega arith) (sym f))) (cases_lt m n)
 
 -- a list with one number alone, once, is no longer than one
 pub is_short : (xs : List ℕ) → ((m n : ℕ) → 0 < weigh (only m) xs → 0 < weigh (only n) xs → m ≡ n)

@@ -1,8 +1,8 @@
 -- Every run of the pool makes steps that the rules of its queues and of its stop word allow.
-use Rattle.dump_lanes.proofs.Prelude.{◌≡◌, ℕ, Bool, false, true≢false, nat_lt, List, [], ◌∷◌, ◌++◌, length, drop, map, Option, Some, None, is_some, option_to_list, sym, refl, ap, ◌∙◌, subst, arith, map-append, Note, Mark, Item, End, Step, Event, is_enabled, after_event, IsRun, credits_share, credits_allow, jobs_share, jobs_allow, dones_share, lane_share, lane_allow, stop_share, cutter_puts, worker_puts, sequencer_puts, PoolSize, Entry, World, opening, hand_of, draw_step, back_step, dones_part, give_step, arrive_step, jobs_part, last_first, on_dones, events_on, events_of, CreditsAt, JobsAt, DonesAt, LaneAt, WordAt, MakesSteps, EveryRunMakesSteps}
+use Rattle.dump_lanes.proofs.Prelude.{◌≡◌, ℕ, Bool, true≢false, nat_lt, List, [], ◌∷◌, ◌++◌, length, drop, map, Option, Some, None, is_some, option_to_list, sym, refl, ap, ◌∙◌, subst, arith, map-append, Note, Mark, Item, End, Step, Event, is_enabled, after_event, IsRun, credits_share, credits_allow, jobs_share, jobs_allow, dones_share, lane_share, lane_allow, stop_share, cutter_puts, worker_puts, sequencer_puts, PoolSize, Entry, World, opening, hand_of, draw_step, back_step, dones_part, give_step, arrive_step, jobs_part, last_first, on_dones, events_on, events_of, CreditsAt, JobsAt, DonesAt, LaneAt, WordAt, MakesSteps, EveryRunMakesSteps, Part, event_of}
 use Rattle.std.proofs.Common.{IsTrue}
 use Rattle.dump_lanes.specs.declared.stop.protocol.WordStep.TheVariants as kind
-use Rattle.dump_lanes.specs.PartSteps.{AreSteps}
+use Rattle.dump_lanes.specs.PartSteps.{AreSteps, IsStep}
 use Rattle.dump_lanes.specs.steps.JobQueue.{put_step, take_step}
 use Rattle.dump_lanes.specs.RunSteps.{mark_of}
 use Rattle.dump_lanes.proofs.DoneSteps.{give_is_step, arrive_is_step}
@@ -19,69 +19,37 @@ credits_step size free Event.Draw before may h = (
   (free, record { one_credit = refl; allowed = may; share = refl }, h.1),
   ap (λ l. Event.Draw ∷ l) h.2,
 )
-credits_step size free (Event.Cut last) before may h = h
-credits_step size free Event.CutMark before may h = h
-credits_step size free (Event.Take k) before may h = h
-credits_step size free (Event.Put k) before may h = h
-credits_step size free Event.Arrive before may h = h
-credits_step size free Event.SequencerNotes before may h = h
-credits_step size free Event.WriterNotes before may h = h
-credits_step size free Event.Release before may h = h
-credits_step size free Event.Write before may h = h
 credits_step size free Event.Give before may h = (
   back_step ∷ h.0,
   (free, record { one_credit = refl; allowed = refl; share = refl }, h.1),
   ap (λ l. Event.Give ∷ l) h.2,
 )
-credits_step size free Event.SequencerRaises before may h = h
-credits_step size free Event.WriterRaises before may h = h
-credits_step size free Event.Look before may h = h
-credits_step size free Event.Shut before may h = h
+credits_step size free event before may h = h
 
-cut_jobs : (jobs : List Entry) (x : Entry) (happened : List (Step (Mark ℕ))) → AreSteps jobs_part happened
-    (map mark_of jobs)
-    → AreSteps jobs_part (put_step (mark_of x) ∷ happened) (map mark_of (jobs ++ x ∷ []))
-cut_jobs jobs x happened h =
-    subst (λ l. AreSteps jobs_part (put_step (mark_of x) ∷ happened) l) (sym (map-append mark_of jobs (x ∷ [])))
-    (map mark_of jobs, cut_is_step (mark_of x) (map mark_of jobs), h)
+-- one more step of a queue, behind those that led to what it held
+one_more : {E : Type 0} {part : Part E} {old new : List E} {events : List Event} (s : Step E) → IsStep part old s new
+    → ((happened : List (Step E)) × AreSteps part happened old × (events_of happened ≡ events))
+    → (happened : List (Step E)) × AreSteps part happened new × (events_of happened ≡ event_of s.event ∷ events)
+one_more {old = old} s is h = (s ∷ h.0, (old, is, h.1), ap (λ l. event_of s.event ∷ l) h.2)
+
+put_is_step : (jobs : List Entry) (x : Entry)
+    → IsStep jobs_part (map mark_of jobs) (put_step (mark_of x)) (map mark_of (jobs ++ x ∷ []))
+put_is_step jobs x =
+    subst (IsStep jobs_part (map mark_of jobs) (put_step (mark_of x))) (sym (map-append mark_of jobs (x ∷ [])))
+    (cut_is_step (mark_of x) (map mark_of jobs))
 
 take_jobs : (k : ℕ) (jobs : List Entry) (before : List Event) → IsTrue (nat_lt 0 (length jobs)) → JobsAt before jobs
     → JobsAt (Event.Take k ∷ before) (drop 1 jobs)
 take_jobs k [] before may h = absurd (true≢false (sym may))
-take_jobs k (x ∷ rest) before may h = (
-  take_step k (mark_of x) ∷ h.0,
-  (map mark_of (x ∷ rest), take_is_step k (mark_of x) (map mark_of rest), h.1),
-  ap
-      (λ l. Event.Take k ∷ l) h.2,
-)
+take_jobs k (x ∷ rest) before may h =
+    one_more (take_step k (mark_of x)) (take_is_step k (mark_of x) (map mark_of rest)) h
 
 jobs_step : (w : World) (event : Event) (before : List Event) → IsTrue (jobs_allow w.jobs event) → JobsAt before w.jobs
     → JobsAt (event ∷ before) (jobs_share w.jobs (cutter_puts w event) event)
-jobs_step w Event.Draw before may h = h
-jobs_step w (Event.Cut last) before may h = (
-  put_step (Item w.cut) ∷ h.0,
-  cut_jobs w.jobs (Entry.Item w.cut) h.0 h.1,
-  ap
-      (λ l. Event.Cut false ∷ l) h.2,
-)
-jobs_step w Event.CutMark before may h = (
-  put_step End ∷ h.0,
-  cut_jobs w.jobs Entry.Mark h.0 h.1,
-  ap
-      (λ l. Event.CutMark ∷ l) h.2,
-)
+jobs_step w (Event.Cut last) before may h = one_more (put_step (Item w.cut)) (put_is_step w.jobs (Entry.Item w.cut)) h
+jobs_step w Event.CutMark before may h = one_more (put_step End) (put_is_step w.jobs Entry.Mark) h
 jobs_step w (Event.Take k) before may h = take_jobs k w.jobs before may h
-jobs_step w (Event.Put k) before may h = h
-jobs_step w Event.Arrive before may h = h
-jobs_step w Event.SequencerNotes before may h = h
-jobs_step w Event.WriterNotes before may h = h
-jobs_step w Event.Release before may h = h
-jobs_step w Event.Write before may h = h
-jobs_step w Event.Give before may h = h
-jobs_step w Event.SequencerRaises before may h = h
-jobs_step w Event.WriterRaises before may h = h
-jobs_step w Event.Look before may h = h
-jobs_step w Event.Shut before may h = h
+jobs_step w event before may h = h
 
 put_done : (k : ℕ) (hand : Option Entry) (dones : List Entry) (before : List Event) → IsTrue (is_some hand)
     → DonesAt before dones
@@ -104,8 +72,7 @@ first_note (n ∷ notes) happened x rest before e h t = (
   ap (λ l. drop 1 l) e,
   arrive_step n ∷ happened,
   (n ∷ notes, arrive_is_step n notes, h),
-  ap
-      (λ l. Event.Arrive ∷ l) t,
+  ap (λ l. Event.Arrive ∷ l) t,
 )
 
 arrive_done : (dones : List Entry) (before : List Event) → IsTrue (nat_lt 0 (length dones)) → DonesAt before dones
@@ -116,72 +83,27 @@ arrive_done (x ∷ rest) before may h = first_note h.0 h.2 x rest before h.1 h.3
 dones_step : (size : PoolSize) (w : World) (event : Event) (before : List Event) → IsTrue (is_enabled size w event)
     → DonesAt before w.dones
     → DonesAt (event ∷ before) (dones_share w.dones (worker_puts w event) event)
-dones_step size w Event.Draw before may h = h
-dones_step size w (Event.Cut last) before may h = h
-dones_step size w Event.CutMark before may h = h
-dones_step size w (Event.Take k) before may h = h
 dones_step size w (Event.Put k) before may h = put_done k (hand_of w k) w.dones before may h
 dones_step size w Event.Arrive before may h = arrive_done w.dones before may h
-dones_step size w Event.SequencerNotes before may h = h
-dones_step size w Event.WriterNotes before may h = h
-dones_step size w Event.Release before may h = h
-dones_step size w Event.Write before may h = h
-dones_step size w Event.Give before may h = h
-dones_step size w Event.SequencerRaises before may h = h
-dones_step size w Event.WriterRaises before may h = h
-dones_step size w Event.Look before may h = h
-dones_step size w Event.Shut before may h = h
+dones_step size w event before may h = h
 
 write_lane : (lane : List ℕ) (before : List Event) → IsTrue (nat_lt 0 (length lane)) → LaneAt before lane
     → LaneAt (Event.Write ∷ before) (drop 1 lane)
 write_lane [] before may h = absurd (true≢false (sym may))
-write_lane (x ∷ rest) before may h = (
-  write x ∷ h.0,
-  (x ∷ rest, write_is_step x rest, h.1),
-  ap
-      (λ l. Event.Write ∷ l) h.2,
-)
+write_lane (x ∷ rest) before may h = one_more (write x) (write_is_step x rest) h
 
 lane_step : (w : World) (event : Event) (before : List Event) → IsTrue (lane_allow w.lane event) → LaneAt before w.lane
     → LaneAt (event ∷ before) (lane_share w.lane (sequencer_puts w event) event)
-lane_step w Event.Draw before may h = h
-lane_step w (Event.Cut last) before may h = h
-lane_step w Event.CutMark before may h = h
-lane_step w (Event.Take k) before may h = h
-lane_step w (Event.Put k) before may h = h
-lane_step w Event.Arrive before may h = h
-lane_step w Event.SequencerNotes before may h = h
-lane_step w Event.WriterNotes before may h = h
-lane_step w Event.Release before may h = (
-  release w.released ∷ h.0,
-  (w.lane, release_is_step w.released w.lane, h.1),
-  ap
-      (λ l. Event.Release ∷ l) h.2,
-)
+lane_step w Event.Release before may h = one_more (release w.released) (release_is_step w.released w.lane) h
 lane_step w Event.Write before may h = write_lane w.lane before may h
-lane_step w Event.Give before may h = h
-lane_step w Event.SequencerRaises before may h = h
-lane_step w Event.WriterRaises before may h = h
-lane_step w Event.Look before may h = h
-lane_step w Event.Shut before may h = h
+lane_step w event before may h = h
 
 word_step : (up : Bool) (event : Event) (before : List Event) → WordAt before up
     → WordAt (event ∷ before) (stop_share up event)
-word_step up Event.Draw before h = h
-word_step up (Event.Cut last) before h = h
-word_step up Event.CutMark before h = h
-word_step up (Event.Take k) before h = h
-word_step up (Event.Put k) before h = h
-word_step up Event.Arrive before h = h
-word_step up Event.SequencerNotes before h = h
-word_step up Event.WriterNotes before h = h
-word_step up Event.Release before h = h
-word_step up Event.Write before h = h
-word_step up Event.Give before h = h
 word_step up Event.SequencerRaises before h = (kind.Raise ∷ h.0, (up, raise_is_step up, h.1), (refl, h.2))
 word_step up Event.WriterRaises before h = (kind.Raise ∷ h.0, (up, raise_is_step up, h.1), (refl, h.2))
 word_step up Event.Look before h = (kind.Look up ∷ h.0, (up, look_is_step up up refl, h.1), (refl, h.2))
-word_step up Event.Shut before h = h
+word_step up event before h = h
 
 step_makes : (size : PoolSize) (w : World) (event : Event) (before : List Event) → IsTrue (is_enabled size w event)
     → MakesSteps size before w → MakesSteps size (event ∷ before) (after_event size w event)

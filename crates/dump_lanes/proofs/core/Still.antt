@@ -1,10 +1,10 @@
 -- A pool stands still where all is done, and nowhere else.
-use Rattle.dump_lanes.proofs.Prelude.{◌≡◌, ◌⊎◌, inl, inr, ℕ, zero, suc, ◌+◌, ◌<◌, ◌≤◌, ◌%◌, ◌==◌, Bool, true, false, ◌&&◌, cond, nat_lt, List, [], ◌∷◌, ◌++◌, length, get_or, Option, Some, None, is_some, option_to_list, sym, refl, ap, ◌∙◌, arith, true≢false, concat, list_any, range_with_len, and_from, and_cases, and_left, and_right, or_left, or_right, not-false, not_from_true, not_from_false, lt-ltb, le-ltb, ltb-false, cases_Bool, cases_lt, false_from_ne_true, PoolSize, Entry, World, hand_of, slot_of, items_in_hands, items_released, Event, is_enabled, has_next, IsAllDone, StandsStill, marks_in_hands}
+use Rattle.dump_lanes.proofs.Prelude.{◌≡◌, ℕ, zero, suc, ◌+◌, ◌<◌, ◌≤◌, ◌%◌, ◌==◌, Bool, true, false, ◌&&◌, cond, nat_lt, List, [], ◌∷◌, ◌++◌, length, get_or, Option, Some, None, is_some, option_to_list, sym, refl, ap, ◌∙◌, arith, true≢false, concat, list_any, range_with_len, and_from, and_cases, and_left, and_right, or_left, or_right, not-false, not_from_true, not_from_false, lt-ltb, le-ltb, ltb-false, cases_Bool, cases_lt, false_from_ne_true, PoolSize, Entry, World, hand_of, slot_of, items_in_hands, items_released, Event, is_enabled, has_next, IsAllDone, StandsStill, marks_in_hands, ⊎_elim, replicate}
 use Rattle.std.proofs.Common.{not, IsTrue, is_none, slice_index_or, append-nil}
 use Rattle.dump_lanes.specs.PoolWorld.{items_of}
 use Rattle.dump_lanes.specs.PoolProgress.{marks}
-use Rattle.dump_lanes.proofs.core.Weights.{weigh, only, each, weigh-append, weighs, slot_le, length_is, within_range, above_range}
-use Rattle.dump_lanes.proofs.core.Marks.{count_taken, not_all}
+use Rattle.dump_lanes.proofs.core.Weights.{weigh, only, each, weigh-append, weighs, slot_le, length_is, no_hands, within_range, above_range}
+use Rattle.dump_lanes.proofs.core.Marks.{count_taken, no_marks_in_hands, not_all}
 use Rattle.dump_lanes.proofs.core.Credits.{held}
 use Rattle.dump_lanes.proofs.core.Progress.{Totals, totals, entries_are}
 use Rattle.dump_lanes.proofs.core.Runs.{Holds, released_weight, range_each, released_cut}
@@ -30,17 +30,11 @@ none_from None e = refl
 none_from (Some x) e = absurd (true≢false e)
 
 -- hands that hold nothing
-no_items_held : (hands : List (Option Entry)) → ((k : ℕ) → k < length hands → is_some (get_or hands k None) ≡ false)
-    → items_in_hands hands ≡ []
-no_items_held [] bare = refl
-no_items_held (None ∷ hands) bare = no_items_held hands (λ k lt. bare (suc k) (omega arith))
-no_items_held (Some h ∷ hands) bare = absurd (true≢false (bare zero (omega arith)))
-
-no_marks_held : (hands : List (Option Entry)) → ((k : ℕ) → k < length hands → is_some (get_or hands k None) ≡ false)
-    → marks_in_hands hands ≡ 0
-no_marks_held [] bare = refl
-no_marks_held (None ∷ hands) bare = let more = no_marks_held hands (λ k lt. bare (suc k) (omega arith)) in omega arith
-no_marks_held (Some h ∷ hands) bare = absurd (true≢false (bare zero (omega arith)))
+bare_hands : (hands : List (Option Entry)) → ((k : ℕ) → k < length hands → is_some (get_or hands k None) ≡ false)
+    → hands ≡ replicate (length hands) None
+bare_hands [] bare = refl
+bare_hands (None ∷ hands) bare = ap (λ l. None ∷ l) (bare_hands hands (λ k lt. bare (suc k) (omega arith)))
+bare_hands (Some h ∷ hands) bare = absurd (true≢false (bare zero (omega arith)))
 
 all_taken : (taken : List Bool) → ((k : ℕ) → k < length taken → get_or taken k false ≡ true)
     → count_taken taken ≡ length taken
@@ -58,29 +52,25 @@ none_taken_of (false ∷ taken) (suc k) le = none_taken_of taken k (omega (arith
 abbrev StandsIn : ℕ → List (List ℕ) → Type 0
 StandsIn n slots = (i : ℕ) × (0 < weigh (only n) (get_or slots i []))
 
-some_slot_at : (n : ℕ) (s : List ℕ) (slots : List (List ℕ)) → (0 < weigh (only n) s) ⊎ (weigh (only n) s ≤ 0)
-    → 0 < weigh (only n) (concat (s ∷ slots)) → (0 < weigh (only n) (concat slots) → StandsIn n slots) → StandsIn n
-    (s ∷ slots)
-some_slot_at n s slots (inl here) all rest = (zero, here)
-some_slot_at n s slots (inr none) all rest =
-    let later : StandsIn n slots = rest (omega (arith, all, none, weigh-append (only n) s (concat slots))) in
-    (suc later.0, later.1)
-
 some_slot : (n : ℕ) (slots : List (List ℕ)) → 0 < weigh (only n) (concat slots) → StandsIn n slots
 some_slot n [] here = absurd (omega (arith, here))
-some_slot n (s ∷ slots) here = some_slot_at n s slots (cases_lt 0 (weigh (only n) s)) here (some_slot n slots)
+some_slot n (s ∷ slots) here =
+    ⊎_elim (λ (first : 0 < weigh (only n) s). (zero, first))
+    (λ (none : weigh (only n) s ≤ 0).
+    let more : 0 < weigh (only n) (concat slots) = omega (arith, here, weigh-append (only n) s (concat slots)) in
+    let later : StandsIn n slots = some_slot n slots more in
+    (suc later.0, later.1))
+    (cases_lt 0 (weigh (only n) s))
 
 -- and is found in its list
-found_at : (n x : ℕ) (xs : List ℕ) → ((x == n) ≡ true) ⊎ ((x == n) ≡ false) → 0 < weigh (only n) (x ∷ xs)
-    → (0 < weigh (only n) xs → list_any (λ m. m == n) xs ≡ true) → list_any (λ m. m == n) (x ∷ xs) ≡ true
-found_at n x xs (inl e) here rest = or_left (x == n) (list_any (λ m. m == n) xs) e
-found_at n x xs (inr e) here rest =
-    let none : only n x ≡ 0 = ap (λ (b : Bool). cond b 1 0) e in
-    or_right (x == n) (list_any (λ m. m == n) xs) (rest (omega (arith, here)))
-
 found : (n : ℕ) (xs : List ℕ) → 0 < weigh (only n) xs → list_any (λ m. m == n) xs ≡ true
 found n [] here = absurd (omega (arith, here))
-found n (x ∷ xs) here = found_at n x xs (cases_Bool (x == n)) here (found n xs)
+found n (x ∷ xs) here =
+    ⊎_elim (λ (e : (x == n) ≡ true). or_left (x == n) (list_any (λ m. m == n) xs) e)
+    (λ (e : (x == n) ≡ false).
+    let none : only n x ≡ 0 = ap (λ (b : Bool). cond b 1 0) e in
+    or_right (x == n) (list_any (λ m. m == n) xs) (found n xs (omega (arith, here))))
+    (cases_Bool (x == n))
 
 -- a worker that hasn't its mark and has nothing in hand may take what is there
 may_take_from : (size : PoolSize) (w : World) (k : ℕ) → k < size.workers → hand_of w k ≡ None
@@ -130,12 +120,10 @@ module _ (size : PoolSize) (w : World) (h : Holds size w) where
       ap (λ (i : ℕ). weigh (only w.released) (get_or w.slots i [])) place in
       found w.released (slot_of size w w.released) (omega (arith, same, there.1))
 
-  all_released_at : IsQuiet size w → (w.released < w.cut) ⊎ (w.cut ≤ w.released) → w.cut ≡ w.released
-  all_released_at q (inl lt) = absurd (true≢false (sym (next_waits q lt) ∙ q.next))
-  all_released_at q (inr le) = omega (arith, le, released_cut size w h)
-
   all_released : IsQuiet size w → w.cut ≡ w.released
-  all_released q = all_released_at q (cases_lt w.released w.cut)
+  all_released q =
+      ⊎_elim (λ (lt : w.released < w.cut). absurd (true≢false (sym (next_waits q lt) ∙ q.next)))
+      (λ (le : w.cut ≤ w.released). omega (arith, le, released_cut size w h)) (cases_lt w.released w.cut)
 
   all_finished : IsQuiet size w → w.finished ≡ range_with_len 0 w.cut
   all_finished q = all_written q ∙ ap (λ (n : ℕ). range_with_len 0 n) (sym (all_released q))
@@ -145,12 +133,11 @@ module _ (size : PoolSize) (w : World) (h : Holds size w) where
     free : w.writing ≡ None
     free = none_from w.writing s.no_give
 
-    lane_at : (nat_lt 0 (length w.lane) ≡ false) ⊎ (is_none w.writing ≡ false) → w.lane ≡ []
-    lane_at (inl e) = empty_from w.lane (ltb-false 0 (length w.lane) e)
-    lane_at (inr e) = let none : is_none w.writing ≡ true = ap is_none free in absurd (true≢false (sym none ∙ e))
-
     lane : w.lane ≡ []
-    lane = lane_at (and_cases (nat_lt 0 (length w.lane)) (is_none w.writing) s.no_write)
+    lane =
+        ⊎_elim (λ (e : nat_lt 0 (length w.lane) ≡ false). empty_from w.lane (ltb-false 0 (length w.lane) e))
+        (λ (e : is_none w.writing ≡ false). absurd (true≢false (sym (ap is_none free) ∙ e)))
+        (and_cases (nat_lt 0 (length w.lane)) (is_none w.writing) s.no_write)
 
     dones : w.dones ≡ []
     dones = empty_from w.dones (ltb-false 0 (length w.dones) s.no_arrive)
@@ -159,10 +146,10 @@ module _ (size : PoolSize) (w : World) (h : Holds size w) where
     each_hand k lt = s.no_put k (omega (arith, lt, h.sized.each_hand))
 
     hands : items_in_hands w.hands ≡ []
-    hands = no_items_held w.hands each_hand
+    hands = ap items_in_hands (bare_hands w.hands each_hand) ∙ no_hands (length w.hands)
 
     hand_marks : marks_in_hands w.hands ≡ 0
-    hand_marks = no_marks_held w.hands each_hand
+    hand_marks = ap marks_in_hands (bare_hands w.hands each_hand) ∙ no_marks_in_hands (length w.hands)
 
     quiet : items_of w.jobs ≡ [] → IsQuiet size w
     quiet none = record {
@@ -175,42 +162,31 @@ module _ (size : PoolSize) (w : World) (h : Holds size w) where
     }
 
     -- a worker that could take a job has its mark
-    took_at : (k : ℕ) → k < size.workers → 0 < length w.jobs
-        → (slice_index_or w.marks_taken k false ≡ true) ⊎ (slice_index_or w.marks_taken k false ≡ false)
-        → slice_index_or w.marks_taken k false ≡ true
-    took_at k lt some (inl e) = e
-    took_at k lt some (inr e) =
+    took : (k : ℕ) → k < size.workers → 0 < length w.jobs → slice_index_or w.marks_taken k false ≡ true
+    took k lt some =
+        ⊎_elim (λ (e : slice_index_or w.marks_taken k false ≡ true). e)
+        (λ (e : slice_index_or w.marks_taken k false ≡ false).
         let may : IsTrue (is_enabled size w (Event.Take k)) =
         may_take_from size w k lt (none_from (hand_of w k) (s.no_put k lt)) e some in
-        absurd (true≢false (sym may ∙ s.no_take k lt))
-
-    took : (k : ℕ) → k < size.workers → 0 < length w.jobs → slice_index_or w.marks_taken k false ≡ true
-    took k lt some = took_at k lt some (cases_Bool (slice_index_or w.marks_taken k false))
+        absurd (true≢false (sym may ∙ s.no_take k lt)))
+        (cases_Bool (slice_index_or w.marks_taken k false))
 
     all_took : 0 < length w.jobs → count_taken w.marks_taken ≡ size.workers
     all_took some =
         all_taken w.marks_taken (λ k lt. took k (omega (arith, lt, h.sized.each_mark)) some) ∙ h.sized.each_mark
 
     -- the cutter has ended
-    all_put_at : w.cutter_ended ≡ true → (w.cutter_ended ≡ false) ⊎ (nat_lt w.marks_put size.workers ≡ false)
-        → size.workers ≤ w.marks_put
-    all_put_at e (inl f) = absurd (true≢false (sym e ∙ f))
-    all_put_at e (inr f) = ltb-false w.marks_put size.workers f
-
     all_put : w.cutter_ended ≡ true → w.marks_put ≡ size.workers
     all_put e =
-        omega (
-          arith,
-          h.ending.0.enough,
-          all_put_at e (and_cases w.cutter_ended (nat_lt w.marks_put size.workers) s.no_mark),
-        )
-
-    no_job_marks_at : w.cutter_ended ≡ true → (0 < length w.jobs) ⊎ (length w.jobs ≤ 0) → marks w.jobs ≡ 0
-    no_job_marks_at e (inl some) = omega (arith, h.ending.0.in_queue, all_put e, all_took some)
-    no_job_marks_at e (inr le) = omega (arith, entries_are w.jobs, le)
+        let most : size.workers ≤ w.marks_put =
+        ⊎_elim (λ (f : w.cutter_ended ≡ false). absurd (true≢false (sym e ∙ f)))
+        (λ (f : nat_lt w.marks_put size.workers ≡ false). ltb-false w.marks_put size.workers f)
+        (and_cases w.cutter_ended (nat_lt w.marks_put size.workers) s.no_mark) in
+        omega (arith, h.ending.0.enough)
 
     no_job_marks : w.cutter_ended ≡ true → marks w.jobs ≡ 0
-    no_job_marks e = no_job_marks_at e (cases_lt 0 (length w.jobs))
+    no_job_marks e =
+        grind (arith, h.ending.0.in_queue, all_put e, all_took, entries_are w.jobs)
 
     no_jobs : w.cutter_ended ≡ true → items_of w.jobs ≡ []
     no_jobs e = h.ending.0.no_item (omega (arith, no_job_marks e, all_put e, h.some_worker))
@@ -227,34 +203,27 @@ module _ (size : PoolSize) (w : World) (h : Holds size w) where
     }
 
     -- the cutter hasn't ended: it would hold a credit, or could draw one
-    not_held_at : w.cutter_ended ≡ false → (w.holds_credit ≡ false) ⊎ (not w.cutter_ended ≡ false)
-        → w.holds_credit ≡ false
-    not_held_at e (inl f) = f
-    not_held_at e (inr f) = absurd (true≢false (sym (not-false w.cutter_ended f) ∙ e))
-
     not_held : w.cutter_ended ≡ false → w.holds_credit ≡ false
-    not_held e = not_held_at e (and_cases w.holds_credit (not w.cutter_ended) s.no_cut)
+    not_held e =
+        ⊎_elim (λ (f : w.holds_credit ≡ false). f)
+        (λ (f : not w.cutter_ended ≡ false). absurd (true≢false (sym (not-false w.cutter_ended f) ∙ e)))
+        (and_cases w.holds_credit (not w.cutter_ended) s.no_cut)
 
-    no_credit_at : w.cutter_ended ≡ false
-        → ((not w.cutter_ended && not w.holds_credit) ≡ false) ⊎ (nat_lt 0 w.credits ≡ false) → w.credits ≤ 0
-    no_credit_at e (inl f) =
+    no_credit : w.cutter_ended ≡ false → w.credits ≤ 0
+    no_credit e =
         let both : (not w.cutter_ended && not w.holds_credit) ≡ true =
         and_from (not w.cutter_ended) (not w.holds_credit) (not_from_false w.cutter_ended e)
         (not_from_false w.holds_credit (not_held e)) in
-        absurd (true≢false (sym both ∙ f))
-    no_credit_at e (inr f) = ltb-false 0 w.credits f
-
-    no_credit : w.cutter_ended ≡ false → w.credits ≤ 0
-    no_credit e = no_credit_at e (and_cases (not w.cutter_ended && not w.holds_credit) (nat_lt 0 w.credits) s.no_draw)
-
-    jobs_at : w.cutter_ended ≡ false → (0 < length w.jobs) ⊎ (length w.jobs ≤ 0) → w.jobs ≡ []
-    jobs_at e (inl some) =
-        let none : count_taken w.marks_taken ≤ 0 = omega (arith, h.ending.0.in_queue, h.ending.0.after_end e) in
-        absurd (true≢false (sym (took 0 h.some_worker some) ∙ none_taken_of w.marks_taken 0 none))
-    jobs_at e (inr le) = empty_from w.jobs le
+        ⊎_elim (λ (f : (not w.cutter_ended && not w.holds_credit) ≡ false). absurd (true≢false (sym both ∙ f)))
+        (λ (f : nat_lt 0 w.credits ≡ false). ltb-false 0 w.credits f)
+        (and_cases (not w.cutter_ended && not w.holds_credit) (nat_lt 0 w.credits) s.no_draw)
 
     jobs : w.cutter_ended ≡ false → w.jobs ≡ []
-    jobs e = jobs_at e (cases_lt 0 (length w.jobs))
+    jobs e =
+        ⊎_elim (λ (some : 0 < length w.jobs).
+        let none : count_taken w.marks_taken ≤ 0 = omega (arith, h.ending.0.in_queue, h.ending.0.after_end e) in
+        absurd (true≢false (sym (took 0 h.some_worker some) ∙ none_taken_of w.marks_taken 0 none)))
+        (λ (le : length w.jobs ≤ 0). empty_from w.jobs le) (cases_lt 0 (length w.jobs))
 
     not_ended : w.cutter_ended ≡ false → ⊥
     not_ended e =
@@ -265,13 +234,11 @@ module _ (size : PoolSize) (w : World) (h : Holds size w) where
         (totals size w h).flight in
         omega (arith, total, none, all, no_credit e, h.sized.some_slot)
 
-    done_at : (w.cutter_ended ≡ true) ⊎ (w.cutter_ended ≡ false) → IsAllDone size w
-    done_at (inl e) = done_ended e
-    done_at (inr e) = absurd (not_ended e)
-
     -- where no move may be made all is done
     pub done_where_stuck : IsAllDone size w
-    done_where_stuck = done_at (cases_Bool w.cutter_ended)
+    done_where_stuck =
+        ⊎_elim (λ (e : w.cutter_ended ≡ true). done_ended e) (λ (e : w.cutter_ended ≡ false). absurd (not_ended e))
+        (cases_Bool w.cutter_ended)
 
 -- hands without items and marks are empty
 hand_empty : (hands : List (Option Entry)) (k : ℕ) → weigh each (items_in_hands hands) + marks_in_hands hands ≤ 0
@@ -314,12 +281,8 @@ module _ (size : PoolSize) (w : World) (h : Holds size w) (d : IsAllDone size w)
 
   no_next : has_next size w ≡ true → ⊥
   no_next e =
-      omega (
-        arith,
-        weighs w.released (slot_of size w w.released) e,
-        slot_le (only w.released) w.slots (w.released % size.window),
-        weighs_none (only w.released),
-      )
+      let here = weighs w.released (slot_of size w w.released) e in
+      omega (arith, slot_le, weighs_none (only w.released))
 
   -- where all is done no move may be made
   pub still_where_done : StandsStill size w
@@ -334,15 +297,10 @@ module _ (size : PoolSize) (w : World) (h : Holds size w) (d : IsAllDone size w)
       (le-ltb 0 (length w.jobs) no_jobs_left)
   still_where_done (Event.Put k) m = hand_empty w.hands k (omega (arith, weighs_none each, no_marks_left))
   still_where_done Event.Arrive m = le-ltb 0 (length w.dones) no_dones_left
-  still_where_done Event.SequencerNotes m = absurd (true≢false (sym m))
-  still_where_done Event.WriterNotes m = absurd (true≢false (sym m))
   still_where_done Event.Release m = false_from_ne_true (has_next size w) no_next
   still_where_done Event.Write m = and_left (nat_lt 0 (length w.lane)) _ (le-ltb 0 (length w.lane) no_lane_left)
   still_where_done Event.Give m = nothing_in w.writing (omega (arith, weighs_none each))
-  still_where_done Event.SequencerRaises m = absurd (true≢false (sym m))
-  still_where_done Event.WriterRaises m = absurd (true≢false (sym m))
-  still_where_done Event.Look m = absurd (true≢false (sym m))
-  still_where_done Event.Shut m = absurd (true≢false (sym m))
+  still_where_done event m = absurd (true≢false (sym m))
 
 -- once all end marks are put, each worker that hasn't its own finds an entry
 pub may_take_once_closed : (size : PoolSize) (w : World) (k : ℕ) → Holds size w → w.marks_put ≡ size.workers

@@ -1,8 +1,9 @@
 -- What the items in a list weigh, where each number has a weight.
-use Rattle.dump_lanes.proofs.Prelude.{◌≡◌, ℕ, zero, suc, ◌+◌, ◌<◌, ◌≤◌, ◌==◌, Bool, true, false, cond, List, [], ◌∷◌, ◌++◌, length, get_or, set, replicate, filter, count_by, sum_by, Option, None, option_to_list, sym, refl, ap, ◌∙◌, arith, map-id, add-one, ◌||◌, ◌⊎◌, inl, inr, concat, list_any, range_with_len, cases_eq, map-range_with_len_more, sum_by-cons, Entry, items_in_hands}
+use Rattle.dump_lanes.proofs.Prelude.{◌≡◌, ℕ, zero, suc, ◌+◌, ◌<◌, ◌≤◌, ◌==◌, Bool, true, false, cond, List, [], ◌∷◌, ◌++◌, length, get_or, set, replicate, filter, count_by, sum_by, Option, None, option_to_list, sym, refl, ap, ◌∙◌, arith, map-id, add-one, concat, list_any, range_with_len, cases_eq, map-range_with_len_more, sum_by-cons, Entry, items_in_hands, ⊎_elim, or_cases, cases_Bool}
 use Rattle.std.proofs.Common.{not}
 use Rattle.std.proofs.lemmas.Bool.{eqb-true, eq-eqb, ne_eqb}
-use Rattle.dump_lanes.specs.PoolWorld.{items_of}
+use Rattle.std.proofs.lemmas.List.Concat.{flat_map-append}
+use Rattle.dump_lanes.specs.PoolWorld.{item_of, items_of}
 
 -- what the numbers in a list weigh together
 abbrev pub weigh : (ℕ → ℕ) → List ℕ → ℕ
@@ -22,7 +23,8 @@ pub weigh-append : (f : ℕ → ℕ) (xs ys : List ℕ) → weigh f (xs ++ ys) �
 weigh-append f [] ys = omega arith
 weigh-append f (x ∷ xs) ys = let more = weigh-append f xs ys in omega arith
 
-weigh_is_sum : (f : ℕ → ℕ) (xs : List ℕ) → weigh f xs ≡ sum_by f xs
+-- what a list weighs is a sum
+pub weigh_is_sum : (f : ℕ → ℕ) (xs : List ℕ) → weigh f xs ≡ sum_by f xs
 weigh_is_sum f [] = refl
 weigh_is_sum f (x ∷ xs) = let more = weigh_is_sum f xs in omega (arith, sum_by-cons f x xs)
 
@@ -45,9 +47,7 @@ only_other n m h = ap (λ b. cond b 1 0) (ne_eqb m n h)
 
 -- entries
 pub items_of-append : (es fs : List Entry) → items_of (es ++ fs) ≡ items_of es ++ items_of fs
-items_of-append [] fs = refl
-items_of-append (Entry.Item n ∷ es) fs = ap (λ l. n ∷ l) (items_of-append es fs)
-items_of-append (Entry.Mark ∷ es) fs = items_of-append es fs
+items_of-append es fs = flat_map-append item_of es fs
 
 -- the items of entries joined to others weigh what the items of both weigh
 pub weigh_entries : (f : ℕ → ℕ) (es fs : List Entry) → weigh f (items_of (es ++ fs)) ≡ weigh f (items_of es) + weigh f
@@ -63,21 +63,9 @@ pub hands_set : (f : ℕ → ℕ) (hands : List (Option Entry)) (k : ℕ) (hand 
     → weigh f (items_in_hands (set hands k hand)) + weigh_hand f (get_or hands k None) ≡ weigh f
     (items_in_hands hands) + weigh_hand f hand
 hands_set f [] k hand lt = absurd (omega arith)
-hands_set f (h ∷ hands) zero hand lt =
-    omega (
-      arith,
-      weigh-append f (items_of (option_to_list hand)) (items_in_hands hands),
-      weigh-append f
-          (items_of (option_to_list h)) (items_in_hands hands),
-    )
+hands_set f (h ∷ hands) zero hand lt = omega (arith, weigh-append)
 hands_set f (h ∷ hands) (suc k) hand lt =
-    let more = hands_set f hands k hand (omega arith) in
-    omega (
-      arith,
-      weigh-append f (items_of (option_to_list h)) (items_in_hands hands),
-      weigh-append f
-          (items_of (option_to_list h)) (items_in_hands (set hands k hand)),
-    )
+    let more = hands_set f hands k hand (omega arith) in omega (arith, weigh-append)
 
 -- there are no items in empty hands
 pub no_hands : (n : ℕ) → items_in_hands (replicate n None) ≡ []
@@ -88,11 +76,9 @@ no_hands (suc n) = no_hands n
 pub slots_set : (f : ℕ → ℕ) (slots : List (List ℕ)) (k : ℕ) (slot : List ℕ) → k < length slots
     → weigh f (concat (set slots k slot)) + weigh f (get_or slots k []) ≡ weigh f (concat slots) + weigh f slot
 slots_set f [] k slot lt = absurd (omega arith)
-slots_set f (s ∷ slots) zero slot lt =
-    omega (arith, weigh-append f slot (concat slots), weigh-append f s (concat slots))
+slots_set f (s ∷ slots) zero slot lt = omega (arith, weigh-append)
 slots_set f (s ∷ slots) (suc k) slot lt =
-    let more = slots_set f slots k slot (omega arith) in
-    omega (arith, weigh-append f s (concat slots), weigh-append f s (concat (set slots k slot)))
+    let more = slots_set f slots k slot (omega arith) in omega (arith, weigh-append)
 
 -- no slot weighs more than all slots together
 pub slot_le : (f : ℕ → ℕ) (slots : List (List ℕ)) (k : ℕ) → weigh f (get_or slots k []) ≤ weigh f (concat slots)
@@ -105,79 +91,54 @@ pub no_slots : (n : ℕ) → concat (replicate n []) ≡ []
 no_slots zero = refl
 no_slots (suc n) = no_slots n
 
--- a number that stands in a list weighs something there
-weighs_at : (n x : ℕ) (xs : List ℕ) (b : Bool) → (x == n) ≡ b → list_any (λ m. m == n) (x ∷ xs) ≡ true
-    → (list_any (λ m. m == n) xs ≡ true → 0 < weigh (only n) xs) → 0 < weigh (only n) (x ∷ xs)
-weighs_at n x xs true h e rest = let here : only n x ≡ 1 = ap (λ (b : Bool). cond b 1 0) h in omega arith
-weighs_at n x xs false h e rest =
-    let later : list_any (λ m. m == n) xs ≡ true = sym (ap (λ (b : Bool). b || list_any (λ m. m == n) xs) h) ∙ e in
-    let more : 0 < weigh (only n) xs = rest later in
-    omega arith
-
 -- a list that a number stands in weighs something, where that number alone does
 pub weighs : (n : ℕ) (xs : List ℕ) → list_any (λ m. m == n) xs ≡ true → 0 < weigh (only n) xs
 weighs n [] e = cc
-weighs n (x ∷ xs) e = weighs_at n x xs (x == n) refl e (weighs n xs)
+weighs n (x ∷ xs) e =
+    ⊎_elim (λ (h : (x == n) ≡ true). let here : only n x ≡ 1 = ap (λ (b : Bool). cond b 1 0) h in omega arith)
+    (λ (h : list_any (λ m. m == n) xs ≡ true). let more = weighs n xs h in omega arith)
+    (or_cases (x == n) (list_any (λ m. m == n) xs) e)
 
 -- a list without its numbers n
 abbrev pub without : ℕ → List ℕ → List ℕ
 without n xs = filter (λ m. not (m == n)) xs
 
-without_none_at : (f : ℕ → ℕ) (n x : ℕ) (xs : List ℕ) (b : Bool) → (x == n) ≡ b → weigh (only n) (x ∷ xs) ≡ 0
-    → (weigh (only n) xs ≡ 0 → weigh f (without n xs) ≡ weigh f xs) → weigh f (without n (x ∷ xs)) ≡ weigh f (x ∷ xs)
-without_none_at f n x xs true h e rest =
-    let here : only n x ≡ 1 = ap (λ (b : Bool). cond b 1 0) h in absurd (omega arith)
-without_none_at f n x xs false h e rest =
-    let kept : without n (x ∷ xs) ≡ x ∷ without n xs = ap
-    (λ (b : Bool). cond (not b) (x ∷ without n xs) (without n xs)) h in
-    let more : weigh f (without n xs) ≡ weigh f xs = rest (omega arith) in
-    ap (weigh f) kept ∙ ap (λ (m : ℕ). f x + m) more
+-- a number that is n is left out, and another is kept
+without_itself : (f : ℕ → ℕ) (n x : ℕ) (xs : List ℕ) → (x == n) ≡ true
+    → weigh f (without n (x ∷ xs)) ≡ weigh f (without n xs)
+without_itself f n x xs h = ap (λ (b : Bool). weigh f (cond (not b) (x ∷ without n xs) (without n xs))) h
+
+without_other : (f : ℕ → ℕ) (n x : ℕ) (xs : List ℕ) → (x == n) ≡ false
+    → weigh f (without n (x ∷ xs)) ≡ f x + weigh f (without n xs)
+without_other f n x xs h = ap (λ (b : Bool). weigh f (cond (not b) (x ∷ without n xs) (without n xs))) h
 
 without_none : (f : ℕ → ℕ) (n : ℕ) (xs : List ℕ) → weigh (only n) xs ≡ 0 → weigh f (without n xs) ≡ weigh f xs
 without_none f n [] e = refl
-without_none f n (x ∷ xs) e = without_none_at f n x xs (x == n) refl e (without_none f n xs)
-
-without_one_at : (f : ℕ → ℕ) (n x : ℕ) (xs : List ℕ) (b : Bool) → (x == n) ≡ b → weigh (only n) (x ∷ xs) ≡ 1
-    → (weigh (only n) xs ≡ 1 → weigh f (without n xs) + f n ≡ weigh f xs) → weigh f (without n (x ∷ xs)) + f n ≡ weigh f
-    (x ∷ xs)
-without_one_at f n x xs true h e rest =
-    let here : only n x ≡ 1 = ap (λ (b : Bool). cond b 1 0) h in
-    let left : without n (x ∷ xs) ≡ without n xs = ap
-    (λ (b : Bool). cond (not b) (x ∷ without n xs) (without n xs)) h in
-    let same : f x ≡ f n = ap f (eqb-true x n h) in
-    let more : weigh f (without n xs) ≡ weigh f xs = without_none f n xs (omega arith) in
-    omega (arith, ap (weigh f) left)
-without_one_at f n x xs false h e rest =
-    let here : only n x ≡ 0 = ap (λ (b : Bool). cond b 1 0) h in
-    let kept : without n (x ∷ xs) ≡ x ∷ without n xs = ap
-    (λ (b : Bool). cond (not b) (x ∷ without n xs) (without n xs)) h in
-    let more : weigh f (without n xs) + f n ≡ weigh f xs = rest (omega arith) in
-    omega (arith, ap (weigh f) kept)
+without_none f n (x ∷ xs) e =
+    ⊎_elim (λ (h : (x == n) ≡ true).
+    let here : only n x ≡ 1 = ap (λ (b : Bool). cond b 1 0) h in absurd (omega arith))
+    (λ (h : (x == n) ≡ false).
+    let more = without_none f n xs (omega arith) in omega (arith, without_other f n x xs h)) (cases_Bool (x == n))
 
 -- where it stands there once, its own weight is lost
 pub without_one : (f : ℕ → ℕ) (n : ℕ) (xs : List ℕ) → weigh (only n) xs ≡ 1 → weigh f (without n xs) + f n ≡ weigh f xs
 without_one f n [] e = absurd (omega arith)
-without_one f n (x ∷ xs) e = without_one_at f n x xs (x == n) refl e (without_one f n xs)
-
--- a list weighs no less than without some numbers
-without_le_at : (f : ℕ → ℕ) (n x : ℕ) (xs : List ℕ) (b : Bool) → (x == n) ≡ b
-    → weigh f (without n xs) ≤ weigh f xs → weigh f (without n (x ∷ xs)) ≤ weigh f (x ∷ xs)
-without_le_at f n x xs true h rest =
-    let left : without n (x ∷ xs) ≡ without n xs = ap
-    (λ (b : Bool). cond (not b) (x ∷ without n xs) (without n xs)) h in
-    omega (arith, ap (weigh f) left)
-without_le_at f n x xs false h rest =
-    let kept : without n (x ∷ xs) ≡ x ∷ without n xs = ap
-    (λ (b : Bool). cond (not b) (x ∷ without n xs) (without n xs)) h in
-    omega (arith, ap (weigh f) kept)
+without_one f n (x ∷ xs) e =
+    ⊎_elim (λ (h : (x == n) ≡ true).
+    let here : only n x ≡ 1 = ap (λ (b : Bool). cond b 1 0) h in
+    let same : f x ≡ f n = ap f (eqb-true x n h) in
+    let more = without_none f n xs (omega arith) in omega (arith, without_itself f n x xs h))
+    (λ (h : (x == n) ≡ false).
+    let here : only n x ≡ 0 = ap (λ (b : Bool). cond b 1 0) h in
+    let more = without_one f n xs (omega arith) in omega (arith, without_other f n x xs h)) (cases_Bool (x == n))
 
 -- a list without its numbers n weighs no more than with them
 pub without_le : (f : ℕ → ℕ) (n : ℕ) (xs : List ℕ) → weigh f (without n xs) ≤ weigh f xs
 without_le f n [] = omega arith
-without_le f n (x ∷ xs) = without_le_at f n x xs (x == n) refl (without_le f n xs)
-
-below_other : (n c : ℕ) → n < suc c → (c ≡ n → ⊥) → n < c
-below_other n c lt h = omega arith
+without_le f n (x ∷ xs) =
+    let more = without_le f n xs in
+    ⊎_elim (λ (h : (x == n) ≡ true). omega (arith, without_itself f n x xs h))
+    (λ (h : (x == n) ≡ false). omega (arith, without_other f n x xs h)) (cases_Bool (x == n))
 
 -- the numbers below n
 pub range_next : (n : ℕ) → range_with_len 0 (n + 1) ≡ range_with_len 0 n ++ n ∷ []
@@ -202,21 +163,14 @@ above_range n (suc c) le =
     (range_with_len 0 c) + only n c = weigh_range_at (only n) c in
     omega arith
 
-within_at : (n c : ℕ) → n < suc c → (n < c → weigh (only n) (range_with_len 0 c) ≡ 1) → (c ≡ n) ⊎ (c ≡ n → ⊥)
-    → weigh (only n) (range_with_len 0 c) + only n c ≡ 1
-within_at n c lt rest (inl e) =
-    let before : weigh (only n) (range_with_len 0 c) ≡ 0 = above_range n c (omega arith) in
-    let last : only n c ≡ 1 = ap (only n) e ∙ only_itself n in
-    omega arith
-within_at n c lt rest (inr h) =
-    let before : weigh (only n) (range_with_len 0 c) ≡ 1 = rest (below_other n c lt h) in
-    let last : only n c ≡ 0 = only_other n c h in
-    omega arith
-
 -- a number stands once among the numbers below a greater one
 pub within_range : (n c : ℕ) → n < c → weigh (only n) (range_with_len 0 c) ≡ 1
 within_range n zero lt = absurd (omega arith)
 within_range n (suc c) lt =
-    let more : weigh (only n) (range_with_len 0 (suc c)) ≡ weigh (only n)
-    (range_with_len 0 c) + only n c = weigh_range_at (only n) c in
-    more ∙ within_at n c lt (within_range n c) (cases_eq c n)
+    let more : weigh (only n) (range_with_len 0 (suc c)) ≡ weigh (only n) (range_with_len 0 c) + only n c =
+    weigh_range_at (only n) c in
+    ⊎_elim (λ (e : c ≡ n).
+    let last : only n c ≡ 1 = ap (only n) e ∙ only_itself n in omega (arith, above_range n c))
+    (λ (ne : c ≡ n → ⊥).
+    let before = within_range n c (omega arith) in
+    let last = only_other n c ne in omega arith) (cases_eq c n)

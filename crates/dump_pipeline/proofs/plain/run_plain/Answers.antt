@@ -66,8 +66,7 @@ loop-record-preserved g c =
           step (subst (λ (r : Record). Accepts c.loop-record.filter
           (record_item r) c.in-Ok.piece) c.of.ensures.item c.in-Ok.ensures.piece)
           (subst (λ (r : Record). c.step.new.self ≡ record c.loop-record.filter {
-            last = Some
-                (record { dump = record_dump r; number = record_number r });
+            last = Some (record { dump = record_dump r; number = record_number r });
           }) c.of.ensures.item c.in-Ok.ensures.accepted)
           c.in-Ok-send.ensures.sent;
       failures = c.in-Ok-send.ensures.no_failure ∙ c.loop-record.invariant.failures;

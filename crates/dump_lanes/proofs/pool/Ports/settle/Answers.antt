@@ -5,7 +5,7 @@ use Rattle.dump_lanes.proofs.CreditSteps as credits
 use Rattle.dump_lanes.proofs.DoneSteps.{sequencer_apart, knows_taken}
 use Rattle.dump_lanes.proofs.JobSteps.{cutter_apart, knows_put}
 use Rattle.dump_lanes.proofs.QueueSteps.{learns}
-use Rattle.dump_lanes.proofs.PortsTogether.{all_of_map, length_of_map, same_workers, same_put, same_taken, settles_jobs, settles_dones}
+use Rattle.dump_lanes.proofs.PortsTogether.{all_of_map, ports_count, same_workers, same_put, same_taken, settles_jobs, settles_dones}
 use Rattle.dump_lanes.proofs.pool.Ports.settle.Goals as goal
 
 pub gather-requires-clause-workers : goal.gather-requires-clause-workers
@@ -24,9 +24,7 @@ learn_as-requires-clause-rule g c =
     let v = c.gather.ensures.jobs in
     let parts = v.parts in
     let all = c.args.self.cutter.cuts.parts in
-    let long = sym
-    (length_of_map (λ (p : WorkerPort g.row.J.Denot g.row.D.Denot). worker_port p) c.args.self.workers.items)
-    ∙ c.requires.workers.as_many in
+    let long = ports_count c.args.self.workers.items c.requires.workers in
     learns jobs_part cutter_crew cutter_apart _ _ (omega arith)
 
 pub learn_as-requires-2-clause-rule : goal.learn_as-requires-2-clause-rule
@@ -36,9 +34,7 @@ learn_as-requires-2-clause-rule g c =
     let same = same_workers (arc_value c.args.self.sequencer.queues)
     (arc_value c.args.self.cutter.queues) c.requires.sequencer in
     let all = c.args.self.sequencer.sequences.parts in
-    let long = sym
-    (length_of_map (λ (p : WorkerPort g.row.J.Denot g.row.D.Denot). worker_port p) c.args.self.workers.items)
-    ∙ c.requires.workers.as_many in
+    let long = ports_count c.args.self.workers.items c.requires.workers in
     learns dones_part sequencer_crew sequencer_apart _ _ (omega arith)
 
 pub learn_as-requires-3-clause-rule : goal.learn_as-requires-3-clause-rule
@@ -50,9 +46,7 @@ returns-clause-jobs g c =
     let cutter = c.args.self.cutter in
     let done = all_of_map (λ (w : WorkerSide g.row.J.Denot g.row.D.Denot). IsDone w)
     (λ (p : WorkerPort g.row.J.Denot g.row.D.Denot). worker_port p) c.args.self.workers.items c.requires.done in
-    let long = sym
-    (length_of_map (λ (p : WorkerPort g.row.J.Denot g.row.D.Denot). worker_port p) c.args.self.workers.items)
-    ∙ c.requires.workers.as_many in
+    let long = ports_count c.args.self.workers.items c.requires.workers in
     settles_jobs (arc_value cutter.queues).workers (view cutter.jobs)
     (view c.gather.new.jobs) c.args.self.workers.items c.learn_as.ensures.rule.0
     (arc_value cutter.queues).some_workers cutter.cuts c.requires.closed long done c.gather.ensures.jobs c.learn_as.ensures.rule.1
@@ -64,9 +58,7 @@ returns-clause-dones g c =
     let done = all_of_map (λ (w : WorkerSide g.row.J.Denot g.row.D.Denot). IsDone w)
     (λ (p : WorkerPort g.row.J.Denot g.row.D.Denot). worker_port p) c.args.self.workers.items c.requires.done in
     let sequences = subst (λ n. IsSequencing n sequencer.left (view sequencer.dones)) same sequencer.sequences in
-    let long = sym
-    (length_of_map (λ (p : WorkerPort g.row.J.Denot g.row.D.Denot). worker_port p) c.args.self.workers.items)
-    ∙ c.requires.workers.as_many in
+    let long = ports_count c.args.self.workers.items c.requires.workers in
     settles_dones _ sequencer.left (view sequencer.dones)
     (view c.gather.new.dones) c.args.self.workers.items c.learn_as-2.ensures.rule.0 sequences c.requires.ended long done c.gather.ensures.dones c.learn_as-2.ensures.rule.1
 

@@ -24,8 +24,7 @@ loop-left-preserved g c =
       (
         c.pop-mark.ensures.queue.0 ∙ inv.0.0,
         c.pop-mark.ensures.queue.1 ∙ inv.0.1,
-        c.pop-mark.ensures.queue.2
-            ∙ inv.0.2,
+        c.pop-mark.ensures.queue.2 ∙ inv.0.2,
       ),
       read_end _ (view c.loop-left.pass) _ _ c.in-End.is inv.1 c.pop-mark.ensures.rule,
       (let e = inv.2 in omega arith),
