@@ -1,5 +1,6 @@
 -- What a parse of a command without subcommands gives of a number that has a default.
 use Rattle.dump_cli.proofs.Prelude.{◌≡◌, ◌∙◌, ◌⊎◌, ◌||◌, ◌<◌, ◌≤◌, ℕ, Bool, true, false, not, zero, suc, refl, sym, ap, subst, List, [], ◌∷◌, length, map, Option, Some, None, is_some, codes, cond, inl, inr, arith, lit≤, ⊤, find, slice_get, Bor, All, list_any, slice_index_or, option_and_then, option_map, unwrap_or, bytes_eq, cases_lt, eqb-true, length-map, nil_from_length, bytes_eq-Decides, IsNumber}
+use Rattle.std.proofs.lemmas.Bool.{cases_Bool, or_cases}
 use Rattle.clap.specs.Built.{IsAuto, IsParsedFrom, SameRules}
 use Rattle.clap.specs.Facts.{Entry, EntryPasses, HasId, PassesArg, WantsDefault, args_of, groups_of, least_values, parser_of_value, unwrap_or_range}
 use Rattle.clap.specs.Matches.{found_of, matched_of, one_text}
@@ -34,17 +35,10 @@ each_arg P (x ∷ xs) each (suc k) d lt = each_arg P xs each.1 k d (omega arith)
 place : (id : Text) (xs : List Arg) → list_any (λ r. bytes_eq r.id id) (map rule_of xs) ≡ true
     → (k : ℕ) × (d : Arg) × (k < length xs) × (bytes_eq (slice_index_or xs k d).id.now id ≡ true)
 place id [] there = cc
-place id (x ∷ xs) there = go (bytes_eq x.id.now id) refl there (place id xs)
-  where
-    go : (b : Bool) → bytes_eq x.id.now id ≡ b → (b || list_any (λ r. bytes_eq r.id id) (map rule_of xs)) ≡ true
-        → (list_any (λ r. bytes_eq r.id id) (map rule_of xs) ≡ true
-        → (k : ℕ) × (d : Arg) × (k < length xs) × (bytes_eq (slice_index_or xs k d).id.now id ≡ true))
-        → (k : ℕ) × (d : Arg) × (k < length (x ∷ xs))
-        × (bytes_eq (slice_index_or (x ∷ xs) k d).id.now id ≡ true)
-    go true is any more = (0, x, omega arith, is)
-    go false is any more =
-        let rest = more any in
-        (suc rest.0, rest.1, omega arith, rest.3)
+place id (x ∷ xs) there = elim (or_cases (bytes_eq x.id.now id) _ there) [
+  | inl is ↦ (0, x, omega arith, is)
+  | inr any ↦ let rest = place id xs any in (suc rest.0, rest.1, omega arith, rest.3)
+]
 
 -- a number from 1 up, which is set once and has a default
 pub record IsNumbered (most : ℕ) (a : Rule) : Type 0 where
@@ -100,13 +94,10 @@ entry_found : (id : Text) (xs : List Entry) (i : ℕ) → i < length xs
     → is_some (option_map (λ e. e.1) (find (λ e. bytes_eq e.0.now id) xs)) ≡ true
 entry_found id [] i lt has = absurd (omega arith)
 entry_found id (x ∷ xs) zero lt has = rw (has x) refl
-entry_found id (x ∷ xs) (suc i) lt has = go (bytes_eq x.0.now id) (entry_found id xs i (omega arith) has)
-  where
-    go : (b : Bool) → is_some (option_map (λ e. e.1) (find (λ e. bytes_eq e.0.now id) xs)) ≡ true
-        → is_some (option_map (λ (e : Entry). e.1)
-        (cond b (Some x) (find (λ e. bytes_eq e.0.now id) xs))) ≡ true
-    go true e = refl
-    go false e = e
+entry_found id (x ∷ xs) (suc i) lt has = elim (cases_Bool (bytes_eq x.0.now id)) [
+  | inl is ↦ rw is refl
+  | inr other ↦ rw other (entry_found id xs i (omega arith) has)
+]
 
 first_of : (vs : List (Bor Text)) → 0 < length vs → (v : Bor Text) × (rest : List (Bor Text)) × (vs ≡ v ∷ rest)
 first_of [] lt = absurd (omega arith)

@@ -1,5 +1,6 @@
 -- What is read of the rows of a line, and what a line means that clap takes or refuses.
 use Rattle.dump_cli.proofs.Prelude.{◌≡◌, ◌∙◌, ◌⊎◌, ◌&&◌, ◌≤◌, ℕ, Bool, true, false, refl, sym, ap, subst, List, [], ◌∷◌, Option, Some, None, Result, Ok, Err, codes, inl, inr, arith, option_map_or, unwrap_or, bytes_eq, ParsesBool, ParsesUnsigned, digits_value, without_leading_plus, ne_eqb, bytes_eq-Decides, Empty, Side, program, AnswersTo, empty_in, is_set, meaning_of_line, meaning_with, flag_number, order_by, order_of, side_name, side_of, Order, Usage, Words, Memory, IsNumber}
+use Rattle.std.proofs.lemmas.Bool.{false_from_ne_true}
 use Rattle.clap.specs.Kinds.{HasKind, Kinds}
 use Rattle.clap.specs.Walk.{is_empty}
 use Rattle.clap.specs.Words.{ReadsOne, Row, Text, fault_of, kind_of, matches_of, one_text, rows_of}
@@ -10,11 +11,7 @@ use Rattle.clap.proofs.WalkLemmas.{one_text-rows}
 
 -- a text that isn't this one differs from it
 differs : (text other : Text) → (text ≡ other → ⊥) → bytes_eq text other ≡ false
-differs text other not_same = go (bytes_eq text other) refl
-  where
-    go : (b : Bool) → bytes_eq text other ≡ b → bytes_eq text other ≡ false
-    go true e = absurd (not_same ((bytes_eq-Decides text other).0 e))
-    go false e = e
+differs text other not_same = false_from_ne_true _ (λ e. not_same ((bytes_eq-Decides text other).0 e))
 
 -- what is read of a flag, or false where nothing is, says whether it is set
 pub flag_is : (E : Type 0) (m : Found) (name : Text) (o : Option Bool) → (one_text m name ≡ None → o ≡ None)
