@@ -1,5 +1,5 @@
 -- What a lawful line of the program gives.
-use Rattle.dump_cli.proofs.Prelude.{◌≡◌, ◌&&◌, Bool, true, false, not, refl, sym, ap, subst, [], length, map, is_some, codes, inl, inr, lit<, eqb-true, nil_from_length, list_any, bytes_eq, first_true, not_true, program, AreFilled}
+use Rattle.dump_cli.proofs.Prelude.{◌≡◌, true, false, not, refl, sym, ap, subst, [], length, map, codes, inl, inr, lit<, eqb-true, nil_from_length, list_any, bytes_eq, first_true, not_true, program, AreFilled}
 use Rattle.std.proofs.Common.{ℕ, List, ◌∷◌, filter}
 use Rattle.std.proofs.lemmas.Bool.{and_parts, both_ways, cases_Bool}
 use Rattle.clap.specs.Built.{IsParsedFrom}

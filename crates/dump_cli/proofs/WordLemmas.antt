@@ -1,5 +1,5 @@
 -- What is read of the rows of a line, and what a line means that clap takes or refuses.
-use Rattle.dump_cli.proofs.Prelude.{◌≡◌, ◌∙◌, ◌⊎◌, ◌&&◌, ◌≤◌, ℕ, Bool, true, false, refl, sym, ap, subst, List, [], ◌∷◌, Option, Some, None, Result, Ok, Err, codes, inl, inr, arith, option_map_or, unwrap_or, bytes_eq, ParsesBool, ParsesUnsigned, digits_value, without_leading_plus, ne_eqb, bytes_eq-Decides, Empty, Side, program, AnswersTo, empty_in, is_set, meaning_of_line, meaning_with, flag_number, order_by, order_of, side_name, side_of, Order, Usage, Words, Memory, IsNumber}
+use Rattle.dump_cli.proofs.Prelude.{◌≡◌, ◌∙◌, ◌⊎◌, ◌≤◌, ℕ, Bool, true, false, refl, sym, ap, subst, List, [], ◌∷◌, Option, Some, None, Result, Ok, Err, codes, inl, inr, arith, option_map_or, unwrap_or, bytes_eq, ParsesBool, ParsesUnsigned, digits_value, without_leading_plus, ne_eqb, bytes_eq-Decides, Empty, Side, program, AnswersTo, empty_in, is_set, meaning_of_line, meaning_with, flag_number, order_by, order_of, side_name, side_of, Order, Usage, Words, Memory, IsNumber}
 use Rattle.std.proofs.lemmas.Bool.{false_from_ne_true}
 use Rattle.clap.specs.Kinds.{HasKind, Kinds}
 use Rattle.clap.specs.Walk.{is_empty}
