@@ -1,5 +1,5 @@
 -- The words of std, of the definitions and of the lemmas below, for the proofs of this crate.
-pub use Rattle.std.proofs.Common.{Bool, Bor, Contains, Err, IfSome, IsFalse, IsNone, IsSome, IsTrue, List, MatchOption, None, Ok, OnOk, Option, Result, Some, [], ap, arith, bytes_eq, codes, false, if◌then◌else◌, inl, inr, is_some, length, lit<, not, refl, subst, suc, sym, true, unwrap_or, zero, ℕ, ◌&&◌, ◌<◌, ◌^◌, ◌||◌, ◌↔◌, ◌∙◌, ◌∷◌, ◌≡◌, ◌≢◌, ◌⊎◌}
+pub use Rattle.std.proofs.Common.{Bool, Bor, Contains, Err, IfSome, IsFalse, IsNone, IsSome, IsTrue, List, MatchOption, None, Ok, OnOk, Option, Result, Some, [], ap, arith, bytes_eq, codes, false, if◌then◌else◌, inl, inr, is_some, length, lit<, not, refl, subst, suc, sym, true, unwrap_or, zero, ℕ, ◌&&◌, ◌++◌, ◌<◌, ◌^◌, ◌||◌, ◌↔◌, ◌∙◌, ◌∷◌, ◌≡◌, ◌≢◌, ◌⊎◌}
 pub use Rattle.std.proofs.Math.Bool.{Bool-set, or-false, or-true, or_assoc}
 pub use Rattle.std.proofs.Math.Facts.{Fits-lt-pow}
 pub use Rattle.std.proofs.Math.Logic.{∥∥₁_elim}
@@ -35,7 +35,7 @@ pub use Rattle.dump_text.proofs.ValueLemmas.{some_copied}
 pub use Rattle.dump_text.proofs.Values.{no_changes}
 pub use Rattle.dump_text.specs.HeaderLine.{Header, has_header, header_value}
 pub use Rattle.dump_text.specs.Names.{copy_path_name, md5_name, path_name, revision_name, sha1_name}
-pub use Rattle.dump_text.specs.PropertyList.{IsPropertyBlock, Property, has_deletes}
+pub use Rattle.dump_text.specs.PropertyList.{IsEntry, IsPropertyBlock, Property, has_deletes}
 pub use Rattle.dump_text.specs.steps.PropertyViews.{HasEntriesLeft, IsReadingOf, entry_property, props_bytes}
 pub use Rattle.dump_digest.specs.declared.content.Content.{Content}
 pub use Rattle.dump_digest.specs.declared.node_mergeinfo.Mergeinfo.{Mergeinfo}

@@ -18,11 +18,11 @@ pub use Rattle.dump_records.specs.RecordText.{BeginsWithRecord, DumpRecord, HasB
 pub use Rattle.dump_records.specs.steps.CutRecords.{EndsAfter, IsRecordOf}
 pub use Rattle.dump_records.specs.steps.CutterState.{CutterState, IsCutUpTo, last_version}
 pub use Rattle.dump_records.specs.steps.HeaderReading.{IsHeaderOf, dump_of, lines_of}
-pub use Rattle.dump_records.specs.steps.KindReading.{IsKindOf, path_in, version_in}
+pub use Rattle.dump_records.specs.steps.KindReading.{IsKindOf, is_copy, is_revision, is_uuid, is_version, path_in, revision_in, version_in}
 pub use Rattle.dump_records.specs.steps.Lawful.{IsUnlawful, LengthsOf, header_fault}
 pub use Rattle.dump_records.specs.steps.RecordKinds.{kind_of}
 pub use Rattle.dump_records.specs.steps.RecordPlaces.{place_after, record_between}
-pub use Rattle.dump_records.specs.steps.RecordViews.{IsInBlock, record_dump, record_item}
+pub use Rattle.dump_records.specs.steps.RecordViews.{IsInBlock, part_of_node, record_dump, record_item}
 pub use Rattle.dump_records.specs.steps.Standing.{FollowsRecords, IsGap, StandsAt}
 pub use Rattle.dump_text.proofs.BlockLemmas.{block_size, has_value, no_block-lines}
 pub use Rattle.dump_text.proofs.BoolLemmas.{absurd_bool, false_true, first_false, first_true, neither_below, not_so, second_false, second_true}
@@ -41,7 +41,6 @@ pub use Rattle.dump_text.specs.steps.ReadHeaders.{IsBlockBetween, IsPartBetween,
 pub use Rattle.dump_text.specs.steps.Scanning.{HasLines, IsCutAtColon, IsFirstLine, IsNoHeader}
 pub use Rattle.dump_text.specs.steps.ValuePlaces.{is_there, value_at}
 pub use Rattle.dump_text.specs.steps.Views.{block_after, block_dump, block_headers, block_place}
-pub use Rattle.dump_records.specs.declared.kind.CopySource.{CopySource}
 pub use Rattle.dump_records.specs.declared.kind.KindParts.{KindParts}
 pub use Rattle.dump_records.specs.declared.kind.KindParts.TheVariants.{Copy, Node, Revision, Uuid, Version}
 pub use Rattle.dump_records.specs.declared.readings.Lengths.{Lengths}

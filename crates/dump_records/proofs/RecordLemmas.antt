@@ -1,5 +1,6 @@
 -- What a record lends of its block.
-use Rattle.dump_records.proofs.Prelude.{◌≡◌, ℕ, ◌-◌, Bool, true, false, if◌then◌else◌, List, Option, Some, None, Bor, drop, sym, ◌∙◌, subst, arith, option_copied, IfSome, length-take, length-drop, header_value, IsPartBetween, block_size, value_lent, if_copied, Record, place_after, record_item, IsInBlock}
+use Rattle.dump_records.proofs.Prelude.{◌≡◌, ℕ, ◌-◌, Bool, true, false, if◌then◌else◌, List, Option, Some, None, Bor, drop, refl, sym, ◌∙◌, subst, arith, option_copied, IfSome, length-take, length-drop, path_name, copy_path_name, Header, has_header, header_value, is_copy, part_of_node, IsPartBetween, block_size, value_lent, if_copied, Record, place_after, record_item, IsInBlock}
+use Rattle.dump_records.proofs.HeaderLemmas.{no_value}
 
 -- a header's value stands in the block
 pub value_in_block : (r : Record) (name : List ℕ) (value : List ℕ)
@@ -15,11 +16,29 @@ pub copy_in_block : (r : Record) (name : List ℕ) (found : Option (Bor (List �
     → IfSome found (λ value. IsInBlock r value.now)
 copy_in_block r name found is = if_copied found (IsInBlock r) (λ value at. value_in_block r name value (sym at ∙ is))
 
--- a part that is there is the whole that it is a part of
-pub part_there : {A : Type 0} (b : Bool) (x : A) (whole : Option A) → Some x ≡ (if b then whole else None)
-    → Some x ≡ whole
-part_there true x whole is = is
-part_there false x whole is = cc
+-- a header that only copies have is one of a node
+pub copy_has : (r : Record) (name : List ℕ)
+    → (has_header path_name (record_item r).headers ≡ true → has_header copy_path_name (record_item r).headers ≡ false
+    → has_header name (record_item r).headers ≡ false)
+    → (if is_copy r.header.parts then header_value name (record_item r).headers else None)
+    ≡ part_of_node (record_item r) (header_value name (record_item r).headers)
+copy_has r name other = cases (has_header path_name headers) (has_header copy_path_name headers) refl refl
+  where
+    headers : List Header
+    headers = (record_item r).headers
+
+    cases : (node copied : Bool) → has_header path_name headers ≡ node → has_header copy_path_name headers ≡ copied
+        → (if is_copy r.header.parts then header_value name headers else None)
+        ≡ part_of_node (record_item r) (header_value name headers)
+    cases true true node copied =
+        let copy : is_copy r.header.parts ≡ true = r.says.kind.copied ∙ rw (node, copied) refl in
+        rw (node, copy) refl
+    cases true false node copied =
+        let copy : is_copy r.header.parts ≡ false = r.says.kind.copied ∙ rw (node, copied) refl in
+        rw (node, copy) (no_value name headers (other node copied))
+    cases false copied node other_is =
+        let copy : is_copy r.header.parts ≡ false = r.says.kind.copied ∙ rw node refl in
+        rw (node, copy) refl
 
 -- what stands behind a record begins at its end
 pub end_of_record : (r : Record) → place_after (record_item r) ≡ r.after

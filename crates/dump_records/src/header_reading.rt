@@ -9,7 +9,7 @@ ghost use Rattle.dump_records.specs.steps.KindReading.{IsKindOf, version_in};
 ghost use Rattle.dump_records.specs.steps.HeaderReading.{dump_of, lines_of, AreNumbers, is_spelled, are_written, IsHeaderOf};
 ghost use Rattle.dump_records.specs.steps.Lawful.{LengthsOf, IsUnlawful};
 
-use crate::kind::{CopySource, KindParts};
+use crate::kind::KindParts;
 use crate::readings::{Lengths, NumberRead, Numbers, RecordHeader};
 use dump_text::{FaultKind, HeaderName, Headers, is_shortest, number};
 
@@ -145,20 +145,6 @@ fn has_bad_lengths(headers: &Headers<'_>, numbers: &Numbers) -> bool
     headers.has(HeaderName::RevisionNumber) && has_text
 }
 
-/// What a node is copied from, where its copy revision is this one.
-fn copy_source(headers: &Headers<'_>, revision: Option<u64>) -> Option<CopySource>
-    requires { is_some revision ≡ has_header copy_path_name (lines_of headers.now) }
-    ensures path { option_and_then (λ c. value_at (dump_of headers.now) c.path) result
-        ≡ header_value copy_path_name (lines_of headers.now) }
-    ensures revision { option_map (λ c. c.revision) result ≡ revision }
-{
-    let path = headers.place_of(HeaderName::NodeCopyfromPath);
-    match revision {
-        Some(revision) => Some(CopySource { path, revision }),
-        None => None,
-    }
-}
-
 /// What the record is, with the parts that its kind has.
 fn parts_of(headers: &Headers<'_>, numbers: &Numbers) -> KindParts
     requires numbers { AreNumbers (lines_of headers.now) numbers.now }
@@ -170,9 +156,10 @@ fn parts_of(headers: &Headers<'_>, numbers: &Numbers) -> KindParts
 {
     let path = headers.place_of(HeaderName::NodePath);
     if path.is_there() {
-        return match copy_source(headers, numbers.copy_revision) {
-            Some(source) => KindParts::Copy { path, source },
-            None => KindParts::Node { path },
+        return if headers.has(HeaderName::NodeCopyfromPath) {
+            KindParts::Copy { path }
+        } else {
+            KindParts::Node { path }
         };
     }
     if let Some(number) = numbers.revision {

@@ -16,20 +16,13 @@ pub enum RecordKind {
 /// What a record is, with what only a record of its kind has.
 #[derive(Clone, Copy)]
 pub(crate) enum KindParts {
-    Version {
-        number: u8,
-    },
+    Version { number: u8 },
     Uuid,
-    Revision {
-        number: u64,
-    },
-    Node {
-        path: ValuePlace,
-    },
-    Copy {
-        path: ValuePlace,
-        source: CopySource,
-    },
+    Revision { number: u64 },
+    Node { path: ValuePlace },
+    /// What it is copied from is read of its lines when it is asked for: copies are few, and a record is sent between
+    /// threads.
+    Copy { path: ValuePlace },
 }
 
 impl KindParts {
@@ -42,11 +35,4 @@ impl KindParts {
             _ => before,
         }
     }
-}
-
-/// What a node is copied from.
-#[derive(Clone, Copy)]
-pub(crate) struct CopySource {
-    pub(crate) path: ValuePlace,
-    pub(crate) revision: u64,
 }

@@ -7,9 +7,9 @@ ghost use Rattle.dump_records.specs.steps.CutRecords.{IsRecordOf};
 ghost use Rattle.dump_records.specs.steps.Standing.{AreInside};
 ghost use Rattle.dump_records.specs.steps.HeaderReading.{are_written, IsHeaderOf};
 
-use crate::kind::{CopySource, KindParts, RecordKind};
+use crate::kind::{KindParts, RecordKind};
 use crate::readings::RecordHeader;
-use dump_text::Block;
+use dump_text::{Block, HeaderName, number};
 
 /// A part of a record, behind which the others stand in this order.
 #[derive(Clone, Copy)]
@@ -42,14 +42,15 @@ pub struct Record<'a> {
 }
 
 impl<'a> Record<'a> {
-    ghost use Rattle.std.specs.Prelude.{◌≡◌, ◌==◌, ◌&&◌, ◌||◌, ◌++◌, List, [], IfSome, is_some, option_copied, slice_range, bytes_eq, unwrap_or, codes, drop};
+    ghost use Rattle.std.specs.Prelude.{◌≡◌, ◌==◌, ◌&&◌, ◌||◌, ◌++◌, List, [], None, if◌then◌else◌, IfSome, is_some, option_copied, slice_range, bytes_eq, unwrap_or, codes, drop};
     ghost use Rattle.std.specs.List.{starts_with};
     ghost use Rattle.dump_text.specs.Names.{path_name, revision_name, copy_path_name, copy_revision_name, property_length_name, text_length_name, content_length_name, node_kind_name, md5_name, sha1_name, text_delta_name, prop_delta_name};
     ghost use Rattle.dump_text.specs.HeaderLine.{has_header, header_value};
+    ghost use Rattle.dump_text.specs.steps.KnownValues.{name_text};
     ghost use Rattle.dump_records.specs.HeaderRules.{header_number, says_true};
+    ghost use Rattle.dump_records.specs.steps.KindReading.{is_copy};
     ghost use Rattle.dump_records.specs.steps.RecordKinds.{kind_of};
     ghost use Rattle.dump_records.specs.RecordText.{has_text_delta, has_prop_delta};
-    ghost use Rattle.dump_records.specs.steps.KindReading.{copy_in};
     ghost use Rattle.dump_records.specs.steps.RecordPlaces.{props_place, text_place, place_after};
     ghost use Rattle.dump_records.specs.steps.RecordRest.{bytes_from};
     ghost use Rattle.dump_records.specs.steps.RecordViews.{record_dump, record_number, record_item, part_with, part_of_node, IsInBlock};
@@ -120,17 +121,19 @@ impl<'a> Record<'a> {
         ensures lent { IfSome result (λ path. IsInBlock self.now path.now) }
     {
         match self.header.parts {
-            KindParts::Node { path } | KindParts::Copy { path, .. } => self.block.value_at(path),
+            KindParts::Node { path } | KindParts::Copy { path } => self.block.value_at(path),
             _ => None,
         }
     }
 
-    /// What a node is copied from.
-    fn copy_source(&self) -> Option<CopySource>
-        ensures { result ≡ copy_in self.now.header.parts }
+    /// The value of the header of this name, of a node that is copied.
+    fn of_copy(&self, name: HeaderName) -> Option<&'a [u8]>
+        ensures value { option_copied result ≡ (if is_copy self.now.header.parts
+            then header_value (name_text name) (record_item self.now).headers else None) }
+        ensures lent { IfSome result (λ value. IsInBlock self.now value.now) }
     {
         match self.header.parts {
-            KindParts::Copy { source, .. } => Some(source),
+            KindParts::Copy { .. } => self.block.get(name.bytes()),
             _ => None,
         }
     }
@@ -141,10 +144,7 @@ impl<'a> Record<'a> {
             option_copied result ≡ part_of_node r (header_value copy_path_name r.headers) }
         ensures lent { IfSome result (λ path. IsInBlock self.now path.now) }
     {
-        let Some(source) = self.copy_source() else {
-            return None;
-        };
-        self.block.value_at(source.path)
+        self.of_copy(HeaderName::NodeCopyfromPath)
     }
 
     /// The revision that a node is copied from.
@@ -152,10 +152,10 @@ impl<'a> Record<'a> {
         ensures { let r = record_item self.now in
             result ≡ part_of_node r (header_number copy_revision_name r.headers) }
     {
-        let Some(source) = self.copy_source() else {
-            return None;
-        };
-        Some(source.revision)
+        match self.of_copy(HeaderName::NodeCopyfromRev) {
+            Some(digits) => number(digits),
+            None => None,
+        }
     }
 
     /// The number of a revision.

@@ -1,62 +1,47 @@
-use Rattle.dump_records.proofs.Prelude.{◌≡◌, true, false, ap, sym, ◌∙◌, refl, is_some, option_and_then, option_map, version_name, revision_name, path_name, has_header, value_at, CopySource, dump_of, lines_of}
-use Rattle.dump_records.proofs.HeaderLemmas.{deciding, copy_both, copy_there, revision_there, no_number, no_value, place_there}
+use Rattle.dump_records.proofs.Prelude.{◌≡◌, ℕ, List, None, true, false, ap, sym, ◌∙◌, refl, is_some, version_name, revision_name, path_name, copy_path_name, Header, has_header, header_value, has_bad_kind, KindParts, IsKindOf, is_version, is_uuid, is_revision, is_copy, version_in, revision_in, path_in, dump_of, lines_of}
+use Rattle.dump_records.proofs.HeaderLemmas.{deciding, revision_there, no_number, no_value, place_there}
 use Rattle.dump_records.proofs.header_reading.parts_of.Goals as goal
 
-pub copy_source-requires : goal.copy_source-requires
-copy_source-requires c =
+-- lines with a path are those of a node, which is copied or not
+node_says : (dump : List ℕ) (headers : List Header) (parts : KindParts)
+    → has_bad_kind headers ≡ false → has_header path_name headers ≡ true
+    → is_version parts ≡ false → is_uuid parts ≡ false → is_revision parts ≡ false
+    → version_in parts ≡ None → revision_in parts ≡ None → path_in dump parts ≡ header_value path_name headers
+    → is_copy parts ≡ has_header copy_path_name headers → IsKindOf dump headers parts
+node_says dump headers parts kind node version uuid revision no_version no_revision path copied =
+    let others = (deciding headers kind).node node in
+    record {
+      version = version ∙ sym others.0;
+      uuid = uuid ∙ sym others.1;
+      revision = revision ∙ sym others.2;
+      version_number = no_version ∙ no_number version_name headers others.0;
+      number = no_revision ∙ no_number revision_name headers others.2;
+      path = path;
+      copied = copied ∙ sym (rw node refl);
+    }
+
+pub returns-then-has : goal.returns-then-has
+returns-then-has c =
     let lines = lines_of c.args.headers.now in
     let node : has_header path_name lines ≡ true =
     place_there path_name (dump_of c.args.headers.now) lines _ c.place_of-path.ensures
     ∙ sym c.is_there.ensures ∙ c.if-is_there.true in
-    ap is_some c.requires.numbers.copy_revision ∙ sym (copy_there lines c.requires.number)
-    ∙ copy_both lines c.requires.kind node
+    node_says _ lines _ c.requires.kind node refl refl refl refl refl c.place_of-path.ensures
+    (sym c.if-has.true ∙ c.has.ensures)
+
+pub returns-else-has : goal.returns-else-has
+returns-else-has c =
+    let lines = lines_of c.args.headers.now in
+    let node : has_header path_name lines ≡ true =
+    place_there path_name (dump_of c.args.headers.now) lines _ c.place_of-path.ensures
+    ∙ sym c.is_there.ensures ∙ c.if-is_there.true in
+    node_says _ lines _ c.requires.kind node refl refl refl refl refl c.place_of-path.ensures
+    (sym c.if-has.false ∙ c.has.ensures)
 
 pub returns-in-Some : goal.returns-in-Some
 returns-in-Some c =
-    let dump = dump_of c.args.headers.now in
     let lines = lines_of c.args.headers.now in
-    let node : has_header path_name lines ≡ true =
-    place_there path_name dump lines _ c.place_of-path.ensures ∙ sym c.is_there.ensures ∙ c.if-is_there.true in
-    let others = (deciding lines c.requires.kind).node node in
-    let copied = c.copy_source.ensures in
-    record {
-      version = sym others.0;
-      uuid = sym others.1;
-      revision = sym others.2;
-      version_number = no_number version_name lines others.0;
-      number = no_number revision_name lines others.2;
-      path = c.place_of-path.ensures;
-      copy_path = ap (option_and_then (λ (s : CopySource). value_at dump s.path)) (sym c.in-Some.is) ∙ copied.path
-          ∙ sym (rw node refl);
-      copy_revision = ap (option_map (λ (s : CopySource). s.revision)) (sym c.in-Some.is) ∙ copied.revision
-          ∙ c.requires.numbers.copy_revision ∙ sym (rw node refl);
-    }
-
-pub returns-in-None : goal.returns-in-None
-returns-in-None c =
-    let dump = dump_of c.args.headers.now in
-    let lines = lines_of c.args.headers.now in
-    let node : has_header path_name lines ≡ true =
-    place_there path_name dump lines _ c.place_of-path.ensures ∙ sym c.is_there.ensures ∙ c.if-is_there.true in
-    let others = (deciding lines c.requires.kind).node node in
-    let copied = c.copy_source.ensures in
-    record {
-      version = sym others.0;
-      uuid = sym others.1;
-      revision = sym others.2;
-      version_number = no_number version_name lines others.0;
-      number = no_number revision_name lines others.2;
-      path = c.place_of-path.ensures;
-      copy_path = ap (option_and_then (λ (s : CopySource). value_at dump s.path)) (sym c.in-None.is) ∙ copied.path
-          ∙ sym (rw node refl);
-      copy_revision = ap (option_map (λ (s : CopySource). s.revision)) (sym c.in-None.is) ∙ copied.revision
-          ∙ c.requires.numbers.copy_revision ∙ sym (rw node refl);
-    }
-
-pub returns-in-Some-revision : goal.returns-in-Some-revision
-returns-in-Some-revision c =
-    let lines = lines_of c.args.headers.now in
-    let is = sym c.requires.numbers.revision ∙ c.in-Some-revision.is in
+    let is = sym c.requires.numbers.revision ∙ c.in-Some.is in
     let there : has_header revision_name lines ≡ true = revision_there lines c.requires.number ∙ ap is_some is in
     let others = (deciding lines c.requires.kind).revision there in
     record {
@@ -66,8 +51,7 @@ returns-in-Some-revision c =
       version_number = no_number version_name lines others.0;
       number = sym is;
       path = no_value path_name lines others.2;
-      copy_path = sym (let none = others.2 in rw none refl);
-      copy_revision = sym (let none = others.2 in rw none refl);
+      copied = sym (let none = others.2 in rw none refl);
     }
 
 pub returns-in-Some-version : goal.returns-in-Some-version
@@ -83,8 +67,7 @@ returns-in-Some-version c =
       version_number = sym is;
       number = no_number revision_name lines others.1;
       path = no_value path_name lines others.2;
-      copy_path = sym (let none = others.2 in rw none refl);
-      copy_revision = sym (let none = others.2 in rw none refl);
+      copied = sym (let none = others.2 in rw none refl);
     }
 
 pub returns : goal.returns
@@ -104,6 +87,5 @@ returns c =
       version_number = no_number version_name lines no_version;
       number = sym is;
       path = no_value path_name lines no_node;
-      copy_path = sym (rw no_node refl);
-      copy_revision = sym (rw no_node refl);
+      copied = sym (rw no_node refl);
     }
