@@ -18,7 +18,7 @@ pub use Rattle.dump_records.specs.RecordText.{BeginsWithRecord, DumpRecord, HasB
 pub use Rattle.dump_records.specs.steps.CutRecords.{EndsAfter, IsRecordOf}
 pub use Rattle.dump_records.specs.steps.CutterState.{CutterState, IsCutUpTo, last_version}
 pub use Rattle.dump_records.specs.steps.HeaderReading.{IsHeaderOf, dump_of, lines_of}
-pub use Rattle.dump_records.specs.steps.KindReading.{IsKindOf, is_copy, is_revision, is_uuid, is_version, path_in, revision_in, version_in}
+pub use Rattle.dump_records.specs.steps.KindReading.{IsKindOf, is_copied_node, is_revision, is_uuid, is_version, path_in, revision_in, version_in}
 pub use Rattle.dump_records.specs.steps.Lawful.{IsUnlawful, LengthsOf, header_fault}
 pub use Rattle.dump_records.specs.steps.RecordKinds.{kind_of}
 pub use Rattle.dump_records.specs.steps.RecordPlaces.{place_after, record_between}

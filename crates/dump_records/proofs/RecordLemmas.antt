@@ -1,5 +1,5 @@
 -- What a record lends of its block.
-use Rattle.dump_records.proofs.Prelude.{◌≡◌, ℕ, ◌-◌, Bool, true, false, if◌then◌else◌, List, Option, Some, None, Bor, drop, refl, sym, ◌∙◌, subst, arith, option_copied, IfSome, length-take, length-drop, path_name, copy_path_name, Header, has_header, header_value, is_copy, part_of_node, IsPartBetween, block_size, value_lent, if_copied, Record, place_after, record_item, IsInBlock}
+use Rattle.dump_records.proofs.Prelude.{◌≡◌, ℕ, ◌-◌, Bool, true, false, if◌then◌else◌, List, Option, Some, None, Bor, drop, refl, sym, ◌∙◌, subst, arith, option_copied, IfSome, length-take, length-drop, path_name, copy_path_name, Header, has_header, header_value, is_copied_node, part_of_node, IsPartBetween, block_size, value_lent, if_copied, Record, place_after, record_item, IsInBlock}
 use Rattle.dump_records.proofs.HeaderLemmas.{no_value}
 
 -- a header's value stands in the block
@@ -20,7 +20,7 @@ copy_in_block r name found is = if_copied found (IsInBlock r) (λ value at. valu
 pub copy_has : (r : Record) (name : List ℕ)
     → (has_header path_name (record_item r).headers ≡ true → has_header copy_path_name (record_item r).headers ≡ false
     → has_header name (record_item r).headers ≡ false)
-    → (if is_copy r.header.parts then header_value name (record_item r).headers else None)
+    → (if is_copied_node r.header.parts then header_value name (record_item r).headers else None)
     ≡ part_of_node (record_item r) (header_value name (record_item r).headers)
 copy_has r name other = cases (has_header path_name headers) (has_header copy_path_name headers) refl refl
   where
@@ -28,16 +28,16 @@ copy_has r name other = cases (has_header path_name headers) (has_header copy_pa
     headers = (record_item r).headers
 
     cases : (node copied : Bool) → has_header path_name headers ≡ node → has_header copy_path_name headers ≡ copied
-        → (if is_copy r.header.parts then header_value name headers else None)
+        → (if is_copied_node r.header.parts then header_value name headers else None)
         ≡ part_of_node (record_item r) (header_value name headers)
     cases true true node copied =
-        let copy : is_copy r.header.parts ≡ true = r.says.kind.copied ∙ rw (node, copied) refl in
+        let copy : is_copied_node r.header.parts ≡ true = r.says.kind.copied ∙ rw (node, copied) refl in
         rw (node, copy) refl
     cases true false node copied =
-        let copy : is_copy r.header.parts ≡ false = r.says.kind.copied ∙ rw (node, copied) refl in
+        let copy : is_copied_node r.header.parts ≡ false = r.says.kind.copied ∙ rw (node, copied) refl in
         rw (node, copy) (no_value name headers (other node copied))
     cases false copied node other_is =
-        let copy : is_copy r.header.parts ≡ false = r.says.kind.copied ∙ rw node refl in
+        let copy : is_copied_node r.header.parts ≡ false = r.says.kind.copied ∙ rw node refl in
         rw (node, copy) refl
 
 -- what stands behind a record begins at its end

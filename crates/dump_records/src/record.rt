@@ -48,7 +48,7 @@ impl<'a> Record<'a> {
     ghost use Rattle.dump_text.specs.HeaderLine.{has_header, header_value};
     ghost use Rattle.dump_text.specs.steps.KnownValues.{name_text};
     ghost use Rattle.dump_records.specs.HeaderRules.{header_number, says_true};
-    ghost use Rattle.dump_records.specs.steps.KindReading.{is_copy};
+    ghost use Rattle.dump_records.specs.steps.KindReading.{is_copied_node};
     ghost use Rattle.dump_records.specs.steps.RecordKinds.{kind_of};
     ghost use Rattle.dump_records.specs.RecordText.{has_text_delta, has_prop_delta};
     ghost use Rattle.dump_records.specs.steps.RecordPlaces.{props_place, text_place, place_after};
@@ -128,7 +128,7 @@ impl<'a> Record<'a> {
 
     /// The value of the header of this name, of a node that is copied.
     fn of_copy(&self, name: HeaderName) -> Option<&'a [u8]>
-        ensures value { option_copied result ≡ (if is_copy self.now.header.parts
+        ensures value { option_copied result ≡ (if is_copied_node self.now.header.parts
             then header_value (name_text name) (record_item self.now).headers else None) }
         ensures lent { IfSome result (λ value. IsInBlock self.now value.now) }
     {

@@ -311,7 +311,7 @@ fn has_only_properties(revision: &Record<'_>) -> bool {
         && revision.text_bytes().is_empty()
 }
 
-fn is_copied(node: &Record<'_>) -> bool {
+fn is_copied_node(node: &Record<'_>) -> bool {
     node.path() == Some(b"trunk/f".as_slice())
         && node.copy_path() == Some(b"other/f".as_slice())
         && node.copy_revision() == Some(3)
@@ -355,7 +355,7 @@ fn records_are_read(rt: HostRuntime) -> Result<(), Fail> {
     assert!(rt; revision.revision() == Some(4) && has_no_copy(&revision));
     assert!(rt; has_only_properties(&revision));
     assert!(rt; is_placed(&node, RecordKind::Node, (3, 176, 322)) && has_block(&node));
-    assert!(rt; is_copied(&node) && has_only_text(&node));
+    assert!(rt; is_copied_node(&node) && has_only_text(&node));
     Ok(())
 }
 

@@ -32,12 +32,12 @@ path_in dump (Node path) = value_at dump path
 path_in dump (Copy path) = value_at dump path
 
 -- whether a node is copied
-abbrev pub is_copy : KindParts → Bool
-is_copy (Version number) = false
-is_copy Uuid = false
-is_copy (Revision number) = false
-is_copy (Node path) = false
-is_copy (Copy path) = true
+abbrev pub is_copied_node : KindParts → Bool
+is_copied_node (Version number) = false
+is_copied_node Uuid = false
+is_copied_node (Revision number) = false
+is_copied_node (Node path) = false
+is_copied_node (Copy path) = true
 
 -- whether a record is a version record, a UUID record, or a revision
 abbrev pub is_version : KindParts → Bool
@@ -69,4 +69,4 @@ pub record IsKindOf (dump : List ℕ) (headers : List Header) (parts : KindParts
   pub version_number : version_in parts ≡ header_number version_name headers
   pub number : revision_in parts ≡ header_number revision_name headers
   pub path : path_in dump parts ≡ header_value path_name headers
-  pub copied : is_copy parts ≡ (has_header path_name headers && has_header copy_path_name headers)
+  pub copied : is_copied_node parts ≡ (has_header path_name headers && has_header copy_path_name headers)

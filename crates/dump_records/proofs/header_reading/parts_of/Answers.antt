@@ -1,4 +1,4 @@
-use Rattle.dump_records.proofs.Prelude.{◌≡◌, ℕ, List, None, true, false, ap, sym, ◌∙◌, refl, is_some, version_name, revision_name, path_name, copy_path_name, Header, has_header, header_value, has_bad_kind, KindParts, IsKindOf, is_version, is_uuid, is_revision, is_copy, version_in, revision_in, path_in, dump_of, lines_of}
+use Rattle.dump_records.proofs.Prelude.{◌≡◌, ℕ, List, None, true, false, ap, sym, ◌∙◌, refl, is_some, version_name, revision_name, path_name, copy_path_name, Header, has_header, header_value, has_bad_kind, KindParts, IsKindOf, is_version, is_uuid, is_revision, is_copied_node, version_in, revision_in, path_in, dump_of, lines_of}
 use Rattle.dump_records.proofs.HeaderLemmas.{deciding, revision_there, no_number, no_value, place_there}
 use Rattle.dump_records.proofs.header_reading.parts_of.Goals as goal
 
@@ -7,7 +7,7 @@ node_says : (dump : List ℕ) (headers : List Header) (parts : KindParts)
     → has_bad_kind headers ≡ false → has_header path_name headers ≡ true
     → is_version parts ≡ false → is_uuid parts ≡ false → is_revision parts ≡ false
     → version_in parts ≡ None → revision_in parts ≡ None → path_in dump parts ≡ header_value path_name headers
-    → is_copy parts ≡ has_header copy_path_name headers → IsKindOf dump headers parts
+    → is_copied_node parts ≡ has_header copy_path_name headers → IsKindOf dump headers parts
 node_says dump headers parts kind node version uuid revision no_version no_revision path copied =
     let others = (deciding headers kind).node node in
     record {
