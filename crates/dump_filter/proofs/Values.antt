@@ -82,53 +82,32 @@ four_groups = refl
 number_of_five : revision_number (revision (codes "005")) ≡ 5
 number_of_five = refl
 
-has_one : has_kept_node padding kept_group ≡ true
-has_one = refl
+with_a_kept_node : map (has_kept_node padding) (kept_group ∷ emptied_group ∷ []) ≡ true ∷ false ∷ []
+with_a_kept_node = refl
 
-has_none : has_kept_node padding emptied_group ≡ false
-has_none = refl
-
-without_nodes : is_bare bare_group ≡ true
+without_nodes : map is_bare (bare_group ∷ emptied_group ∷ []) ≡ true ∷ false ∷ []
 without_nodes = refl
 
-with_nodes : is_bare emptied_group ≡ false
-with_nodes = refl
-
-emptied : is_emptied padding emptied_group ≡ true
+emptied : map (is_emptied padding) (emptied_group ∷ bare_group ∷ []) ≡ true ∷ false ∷ []
 emptied = refl
 
-bare_is_not_emptied : is_emptied padding bare_group ≡ false
-bare_is_not_emptied = refl
-
-bare_stays : keeps_empty DropEmptied true ≡ true
+bare_stays : map (keeps_empty DropEmptied) (true ∷ false ∷ []) ≡ true ∷ false ∷ []
 bare_stays = refl
-
-emptied_goes : keeps_empty DropEmptied false ≡ false
-emptied_goes = refl
 
 bare_goes : keeps_empty DropAll true ≡ false
 bare_goes = refl
 
-emptied_stays : keeps_group padding emptied_group ≡ true
+emptied_stays : map (λ s. keeps_group s emptied_group) (padding ∷ dropping ∷ []) ≡ true ∷ false ∷ []
 emptied_stays = refl
-
-emptied_is_dropped : keeps_group dropping emptied_group ≡ false
-emptied_is_dropped = refl
 
 zero_stays : keeps_group (including DropAll false) (group_of (revision (codes "0")) []) ≡ true
 zero_stays = refl
 
-pads : is_pad Pad ≡ true
+pads : map is_pad (Pad ∷ DropAll ∷ []) ≡ true ∷ false ∷ []
 pads = refl
 
-drops : is_pad DropAll ≡ false
-drops = refl
-
-emptied_is_padded : is_padded padding emptied_group ≡ true
+emptied_is_padded : map (is_padded padding) (emptied_group ∷ bare_group ∷ []) ≡ true ∷ false ∷ []
 emptied_is_padded = refl
-
-bare_is_not_padded : is_padded padding bare_group ≡ false
-bare_is_not_padded = refl
 
 preserved_is_not_padded : is_padded (record padding { preserve = true }) emptied_group ≡ false
 preserved_is_not_padded = refl
@@ -142,11 +121,8 @@ first_of_four = refl
 first_of_none : first_number [] ≡ 0
 first_of_none = refl
 
-present : present_revision four ≡ Some 9
+present : map present_revision (four ∷ (version ∷ []) ∷ []) ≡ Some 9 ∷ None ∷ []
 present = refl
-
-no_present : present_revision (version ∷ []) ≡ None
-no_present = refl
 
 kept_of_four : kept_revisions dropping four ≡ record { first = 5; numbers = 5 ∷ 7 ∷ 9 ∷ [] }
 kept_of_four = refl
@@ -198,39 +174,24 @@ lost_file = file_copy (codes "other/f") (text_length (codes "3") ∷ [])
 abbrev kept_file : DumpRecord
 kept_file = file_copy (codes "trunk/e") []
 
-whole : is_whole_file lost_file ≡ true
+whole : map is_whole_file (lost_file ∷ kept_file ∷ []) ≡ true ∷ false ∷ []
 whole = refl
 
 -- deltas can't stand without their copy source, and under version 2 there are none
 abbrev delta : List ℕ → ℕ → List ℕ → DumpRecord
 delta name version value = record lost_file { version = version; headers = header name value ∷ lost_file.headers }
 
-text_delta : is_whole_file (delta (codes "Text-delta") 3 (codes "true")) ≡ false
-text_delta = refl
+with_deltas : map is_whole_file (
+    delta (codes "Text-delta") 3 (codes "true") ∷ delta (codes "Prop-delta") 3 (codes "true")
+    ∷ delta (codes "Text-delta") 3 (codes "false") ∷ delta (codes "Text-delta") 2 (codes "true") ∷ []
+    ) ≡ false ∷ false ∷ true ∷ true ∷ []
+with_deltas = refl
 
-prop_delta : is_whole_file (delta (codes "Prop-delta") 3 (codes "true")) ≡ false
-prop_delta = refl
-
-no_delta : is_whole_file (delta (codes "Text-delta") 3 (codes "false")) ≡ true
-no_delta = refl
-
-no_delta_in_2 : is_whole_file (delta (codes "Text-delta") 2 (codes "true")) ≡ true
-no_delta_in_2 = refl
-
-without_a_text : is_whole_file kept_file ≡ false
-without_a_text = refl
-
-plain : becomes_plain padding lost_file ≡ true
+plain : map (becomes_plain padding) (lost_file ∷ kept_file ∷ []) ≡ true ∷ false ∷ []
 plain = refl
 
-not_plain : becomes_plain padding kept_file ≡ false
-not_plain = refl
-
-stays : stays_copy padding kept_file ≡ true
+stays : map (stays_copy padding) (kept_file ∷ lost_file ∷ []) ≡ true ∷ false ∷ []
 stays = refl
-
-stays_no_copy : stays_copy padding lost_file ≡ false
-stays_no_copy = refl
 
 plain_lines : without_copy_headers lost_file.headers
     ≡ header (codes "Node-path") (codes "trunk/f") ∷ header (codes "Node-kind") (codes "file")
@@ -259,14 +220,8 @@ no_copy = refl
 
 -- RecordFaults
 
-behind_a_node : ends_in_group (Some trunk) ≡ true
-behind_a_node = refl
-
-behind_a_uuid : ends_in_group (Some uuid) ≡ false
-behind_a_uuid = refl
-
-at_the_front : ends_in_group None ≡ false
-at_the_front = refl
+in_a_group : map ends_in_group (Some trunk ∷ Some uuid ∷ None ∷ []) ≡ true ∷ false ∷ false ∷ []
+in_a_group = refl
 
 node_behind_a_version : IsOutOfOrder (version ∷ []) trunk
 node_behind_a_version = inl refl
@@ -281,11 +236,8 @@ version_anywhere : ¬ IsOutOfOrder (revision (codes "5") ∷ []) version
 version_anywhere (inl e) = no e
 version_anywhere (inr (e, _, _, _)) = no e
 
-ninth : present_number four ≡ 9
-ninth = refl
-
-none_yet : present_number [] ≡ 0
-none_yet = refl
+present_numbers : map present_number (four ∷ [] ∷ []) ≡ 9 ∷ 0 ∷ []
+present_numbers = refl
 
 -- the image of a copy's revision 8 is there, but 8 is above 5
 later_source : HasBadCopyRevision dropping (revision (codes "5") ∷ []) kept_file
@@ -349,11 +301,8 @@ date = property (codes "svn:date") (codes "2024")
 abbrev author : Property
 author = property (codes "svn:author") (codes "me")
 
-a_date : is_date date ≡ true
-a_date = refl
-
-no_date : is_date author ≡ false
-no_date = refl
+dates : map is_date (date ∷ author ∷ []) ≡ true ∷ false ∷ []
+dates = refl
 
 padded_with_a_date : padding_properties (author ∷ date ∷ []) ≡ date ∷ padding_log ∷ []
 padded_with_a_date = refl
@@ -446,11 +395,8 @@ block_of_a_file = ([], [], (inl (refl, refl), no_deletes), tt, refl)
 
 -- Written
 
-goes_on : is_open (trunk ∷ other ∷ []) ≡ true
+goes_on : map is_open ((trunk ∷ other ∷ []) ∷ (trunk ∷ uuid ∷ []) ∷ []) ≡ true ∷ false ∷ []
 goes_on = refl
-
-has_ended : is_open (trunk ∷ uuid ∷ []) ≡ false
-has_ended = refl
 
 waits : is_written padding false (revision (codes "6")) (other ∷ []) ≡ false
 waits = refl

@@ -27,16 +27,6 @@ struct Asked<'a> {
     preserve: bool,
 }
 
-/// A dump that the filter brings to its end, what is written of it, and its counts: kept and dropped revisions, kept
-/// and dropped nodes.
-#[derive(Clone, Copy)]
-struct Worked<'a> {
-    asked: Asked<'a>,
-    dump: &'a [&'a [u8]],
-    written: &'a [&'a [u8]],
-    counts: (u64, u64, u64, u64),
-}
-
 /// A dump of which the filter refuses a record, for this fault, and what is written before: how long it is behind each
 /// record, and all of it.
 #[derive(Clone, Copy)]
@@ -161,6 +151,7 @@ fn options(alloc: Global, asked: &Asked<'_>) -> Result<Options, Memory> {
     )
 }
 
+/// The counts of kept and dropped revisions, and of kept and dropped nodes.
 fn report(counts: (u64, u64, u64, u64)) -> Report {
     Report {
         revisions_kept: counts.0,

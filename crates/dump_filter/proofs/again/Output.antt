@@ -1,5 +1,5 @@
 -- What is written of a record is read again as a record, of which the same is written.
-use Rattle.dump_filter.proofs.Prelude.{◌≡◌, ℕ, ◌+◌, ◌<◌, ◌≤◌, ◌^◌, Bool, true, false, ◌&&◌, ◌||◌, List, [], ◌∷◌, ◌++◌, length, refl, sym, ap, ◌∙◌, subst, arith, inl, codes, bytes_eq, Option, Some, None, is_some, is_none, option_and_then, All, Contains, MatchBool, take_while, unwrap_or, if◌then◌else◌, nil_from_length, take_while-cons, All-nil, All-cons, All-contains, number_of, spelled_number, revision_name, copy_revision_name, copy_path_name, property_length_name, md5_name, sha1_name, text_delta_name, Header, has_header, header_value, with_header_value, is_block, block_text, Property, has_deletes, has_value, number_of-spelled, header_number, property_length, text_length, has_bad_kind, has_bad_lengths, DumpRecord, BeginsWithRecord, Keeps, keeps, Settings, HasMergeLines, KeptRevisions, image, RiseFrom, IsNewMergeinfo, image_fits, number_small, is_revision_record, is_node, is_kept_node, is_mergeinfo, mergeinfo_name, value_of, has_whole_text, has_lost_source, HasPropertyList, is_copy, HasBadMd5, HasBadSha1, HasBadMergeinfo, DiffersFromDigest, property_list_once, keep_all, group_of, is_padded, revision_number, IsNewProperty, AreNewProperties, is_date, padding_properties, revision_properties, new_block, written_number, is_whole_file, becomes_plain, without_copy_headers, IsWrittenCopyNumber, IsNewCopy, is_copy_line, whole_text, revision_text, IsRevisionOutput, IsNodeOutput, IsWrittenBlock, first_true, second_true, first_false, second_false, not_so, absurd_bool, false_true, no_number}
+use Rattle.dump_filter.proofs.Prelude.{◌≡◌, ℕ, ◌+◌, ◌<◌, ◌≤◌, ◌^◌, Bool, true, false, ◌&&◌, ◌||◌, List, [], ◌∷◌, ◌++◌, length, refl, sym, ap, ◌∙◌, subst, arith, inl, codes, bytes_eq, Option, Some, None, is_some, is_none, option_and_then, All, Contains, MatchBool, take_while, unwrap_or, if◌then◌else◌, append_assoc, nil_from_length, take_while-cons, All-nil, All-cons, All-contains, number_of, spelled_number, version_name, revision_name, copy_revision_name, copy_path_name, property_length_name, md5_name, sha1_name, text_delta_name, Header, has_header, header_value, with_header_value, is_block, block_text, line_feeds, Property, has_deletes, has_value, number_of-spelled, header_number, property_length, text_length, has_bad_kind, has_bad_lengths, DumpRecord, record_text, is_lawful, BeginsWithRecord, Keeps, keeps, Settings, HasMergeLines, KeptRevisions, image, RiseFrom, IsNewMergeinfo, image_fits, number_small, is_revision_record, is_node, is_kept_node, is_mergeinfo, mergeinfo_name, value_of, has_whole_text, has_lost_source, HasPropertyList, is_copy, HasBadMd5, HasBadSha1, HasBadMergeinfo, DiffersFromDigest, property_list_once, keep_all, group_of, is_padded, revision_number, IsNewProperty, AreNewProperties, is_date, padding_properties, revision_properties, new_block, written_number, is_whole_file, becomes_plain, without_copy_headers, IsWrittenCopyNumber, IsNewCopy, is_copy_line, whole_text, revision_text, IsRevisionOutput, IsNodeOutput, IsWrittenBlock, first_true, second_true, first_false, second_false, not_so, absurd_bool, false_true, no_number}
 use Rattle.std.proofs.Common.{append-nil}
 use Rattle.dump_filter.proofs.written.CopyLemmas.{AreCopyLines}
 use Rattle.dump_filter.proofs.written.HeaderLemmas.{no_length}
@@ -7,7 +7,7 @@ use Rattle.dump_filter.proofs.written.PropertyOutput.{IsNewValue}
 use Rattle.dump_filter.proofs.again.LineChanges.{same_has, no_change, put_has, go_change, gone, IsTold, told_later, told_put, told_reads, told_put_again}
 use Rattle.dump_filter.proofs.again.Headers.{is_length_name, known_once, StaysLawful}
 use Rattle.dump_filter.proofs.again.Record.{any_number, no_content, stays_same, stays_plain, AreNewLines, numbered_lines, IsRewritten, again, others, lengths_fit, new_stays, new_is_block, new_lawful, new_version_line, reads_list, same_text}
-use Rattle.dump_filter.proofs.again.ReadAgain.{StandsAgain}
+use Rattle.dump_filter.proofs.again.ReadAgain.{BeginsAgain, StandsAgain}
 
 -- where everything is kept
 
@@ -52,6 +52,22 @@ same_there : (name : List ℕ) (old new : List Header) → header_value name new
     → has_header name new ≡ has_header name old
 same_there name old new same = sym (has_value name new) ∙ ap is_some same ∙ has_value name old
 
+-- the text of a record whose lines break no rule and tell its lengths, with LFs behind it, begins with that record
+begins_again : (r s : DumpRecord) (feeds : ℕ) {front : List ℕ} → front ≡ record_text s ++ line_feeds feeds
+    → is_block s.headers ≡ true
+    → ((number : ℕ) → (number ≡ 0 → has_header version_name r.headers ≡ true) → is_lawful number s.headers ≡ true)
+    → (length s.props ≡ property_length s.headers) × (length s.text ≡ text_length s.headers) → BeginsAgain r front s
+begins_again r s feeds spelled block lawful (props_fit, text_fits) = (
+  feeds,
+  λ number text behind is first. record {
+    block = block;
+    lawful = lawful number first;
+    props_fit = props_fit;
+    text_fits = text_fits;
+    spelled = is ∙ ap (λ t. t ++ behind) spelled ∙ append_assoc (record_text s) (line_feeds feeds) behind;
+  },
+)
+
 -- a version or UUID record
 pub other_again : (settings : Settings) (kept : KeptRevisions) {number : ℕ} {text behind : List ℕ} {r : DumpRecord}
     (after : List DumpRecord) (front : List ℕ) → BeginsWithRecord number text r behind
@@ -61,20 +77,17 @@ other_again settings kept {number} {text} {behind} {r} after front b no_revision
   record { place = place; version = r.version; headers = r.headers; props = []; text = [] },
   refl,
   record {
-    feeds = 0;
-    spelled = is ∙ sym (append-nil ((block_text r.headers ++ []) ++ []) ∙ append-nil (block_text r.headers ++ [])
-        ∙ append-nil (block_text r.headers));
-    block = b.block;
-    lawful = λ m first. any_number number m r.headers b.lawful first;
-    props_fit = sym empty.0;
-    text_fits = sym empty.1;
+    begins = begins_again r _ 0
+        (is ∙ sym (append-nil ((block_text r.headers ++ []) ++ []) ∙ append-nil (block_text r.headers ++ [])
+        ∙ append-nil (block_text r.headers)))
+        b.block (λ m first. any_number number m r.headers b.lawful first) (sym empty.0, sym empty.1);
+    revision = refl;
+    number = λ rev. absurd (absurd_bool (is_revision_record r) rev no_revision);
+    revision_again = λ rev. absurd (absurd_bool (is_revision_record r) rev no_revision);
+    node = refl;
+    node_again = λ node. absurd (absurd_bool (is_node r) node no_node);
     version = refl;
     version_line = λ before. refl;
-    revision = refl;
-    node = refl;
-    number = λ rev. absurd (absurd_bool (is_revision_record r) rev no_revision);
-    node_again = λ node. absurd (absurd_bool (is_node r) node no_node);
-    revision_again = λ rev. absurd (absurd_bool (is_revision_record r) rev no_revision);
     clean = record {
       props = λ bad. absurd (absurd_bool (is_revision_record r || is_kept_node keep_all r) bad.0
           (rw (no_revision, no_node) refl));
@@ -144,19 +157,14 @@ revision_again settings kept {number} {text} {behind} {r} after front b rev no_n
       it,
       refl,
       record {
-        feeds = 1;
-        spelled = is;
-        block = new_is_block w;
-        lawful = new_lawful w;
-        props_fit = (lengths_fit w).0;
-        text_fits = (lengths_fit w).1;
+        begins = begins_again r it 1 is (new_is_block w) (new_lawful w) (lengths_fit w);
+        revision = (new_stays w).revision;
+        number = λ rev. number_is;
+        revision_again = λ rev. (ps, is_ps, here);
+        node = (new_stays w).node;
+        node_again = λ node. absurd (absurd_bool (is_node r) node no_node);
         version = refl;
         version_line = new_version_line w;
-        revision = (new_stays w).revision;
-        node = (new_stays w).node;
-        number = λ rev. number_is;
-        node_again = λ node. absurd (absurd_bool (is_node r) node no_node);
-        revision_again = λ rev. (ps, is_ps, here);
         clean = record {
           props = λ bad. bad.1 (new, here);
           md5 = λ bad. no_kept bad.0;
@@ -179,12 +187,8 @@ revision_again settings kept {number} {text} {behind} {r} after front b rev no_n
     mid : List Header
     mid = with_header_value revision_name (spelled_number n) r.headers
 
-    w : IsRewritten r mid padded new
+    w : IsRewritten b mid padded new
     w = record {
-      number = number;
-      block = b.block;
-      lawful = b.lawful;
-      text_fits = b.text_fits;
       either = rw rev refl;
       mid_lines = numbered_lines revision_name r.headers n n_small rev (stays_same number r.headers b.lawful);
       small = fit (new_block padded r new) (ps, new, is_ps, rw (rev, no_node) refl, rw rev refl);
@@ -437,18 +441,11 @@ node_again settings kept {number} {text} {behind} {r} after front b no_revision 
       it,
       refl,
       record {
-        feeds = 2;
-        spelled = is;
-        block = new_is_block w;
-        lawful = new_lawful w;
-        props_fit = (lengths_fit w).0;
-        text_fits = (lengths_fit w).1;
-        version = refl;
-        version_line = new_version_line w;
+        begins = begins_again r it 2 is (new_is_block w) (new_lawful w) (lengths_fit w);
         revision = (new_stays w).revision;
-        node = (new_stays w).node;
         number = λ rev. absurd (absurd_bool (is_revision_record r) rev no_revision);
         revision_again = λ rev. absurd (absurd_bool (is_revision_record r) rev no_revision);
+        node = (new_stays w).node;
         node_again = λ node. record {
           mid = mid;
           old = old;
@@ -463,6 +460,8 @@ node_again settings kept {number} {text} {behind} {r} after front b no_revision 
           small = w.small;
           number_fits = number_fits settings kept r rise;
         };
+        version = refl;
+        version_line = new_version_line w;
         clean = record {
           props = λ bad. bad.1 (new, here);
           md5 = λ bad. no_md5 (is_kept, sym same_whole ∙ bad.1, same_differs md5_name r it _ _ same_md5 bad.2);
@@ -483,12 +482,8 @@ node_again settings kept {number} {text} {behind} {r} after front b no_revision 
     l : IsNodeLines r.headers mid
     l = node_lines settings kept r mid rise (stays_same number r.headers b.lawful) copy
 
-    w : IsRewritten r mid false new
+    w : IsRewritten b mid false new
     w = record {
-      number = number;
-      block = b.block;
-      lawful = b.lawful;
-      text_fits = b.text_fits;
       either = rw (no_revision, node) refl;
       mid_lines = l.lines;
       small = fit (new_block false r new) (old, new, is_old, rw node all, rw no_revision refl);

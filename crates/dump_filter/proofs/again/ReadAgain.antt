@@ -1,5 +1,5 @@
 -- What is written of a record, as the record that it is when it is read again.
-use Rattle.dump_filter.proofs.Prelude.{◌≡◌, ℕ, ◌+◌, ◌<◌, ◌^◌, Bool, true, false, List, [], ◌∷◌, ◌++◌, length, Some, MatchBool, version_name, copy_revision_name, Header, has_header, is_block, Property, line_feeds, header_number, version_from, property_length, text_length, DumpRecord, record_text, is_lawful, Settings, KeptRevisions, is_revision_record, is_node, has_lost_source, HasPropertyList, HasBadProperties, HasBadMd5, HasBadSha1, HasBadMergeinfo, keep_all, group_of, is_padded, revision_number, with_lengths, written_number, is_whole_file, IsWrittenCopyNumber, IsNewCopy, revision_properties, AreNewProperties, new_block, IsOutput, is_written}
+use Rattle.dump_filter.proofs.Prelude.{◌≡◌, ℕ, ◌+◌, ◌<◌, ◌^◌, Bool, true, false, List, [], ◌∷◌, ◌++◌, length, Some, MatchBool, version_name, copy_revision_name, Header, has_header, Property, line_feeds, header_number, version_from, DumpRecord, Settings, KeptRevisions, is_revision_record, is_node, has_lost_source, HasPropertyList, HasBadProperties, HasBadMd5, HasBadSha1, HasBadMergeinfo, keep_all, group_of, is_padded, revision_number, with_lengths, written_number, is_whole_file, IsWrittenCopyNumber, IsNewCopy, revision_properties, AreNewProperties, new_block, IsOutput, is_written, BeginsWithRecord}
 
 -- a record's content has no fault where everything is kept
 pub record IsClean (r : DumpRecord) : Type 0 where
@@ -25,26 +25,26 @@ pub record IsNodeAgain (settings : Settings) (kept : KeptRevisions) (r s : DumpR
   pub number_fits : (number n : ℕ) → header_number copy_revision_name r.headers ≡ Some number
       → IsWrittenCopyNumber settings kept number n → n < 10 ^ 18
 
--- what is written of a record r, which these records follow, is this record s, and some LFs; where everything is kept
--- it stays as it stands. As the first record of a dump it is lawful where r is a version record. The version in force
--- for it is that for r
+-- a text that goes on behind the front begins with this record s, and some LFs; as the first of a dump s is lawful where
+-- r is a version record
+abbrev pub BeginsAgain : DumpRecord → List ℕ → DumpRecord → Type 0
+BeginsAgain r front s = (feeds : ℕ) × ((number : ℕ) (text behind : List ℕ) → text ≡ front ++ behind
+    → (number ≡ 0 → has_header version_name r.headers ≡ true)
+    → BeginsWithRecord number text s (line_feeds feeds ++ behind))
+
+-- what is written of a record r, which these records follow, is this record s; where everything is kept it stays as it
+-- stands. The version in force for it is that for r
 pub record IsReadAgain (settings : Settings) (kept : KeptRevisions) (r : DumpRecord) (after : List DumpRecord)
     (front : List ℕ) (s : DumpRecord) : Type 0 where
-  pub feeds : ℕ
-  pub spelled : front ≡ record_text s ++ line_feeds feeds
-  pub block : is_block s.headers ≡ true
-  pub lawful : (number : ℕ) → (number ≡ 0 → has_header version_name r.headers ≡ true)
-      → is_lawful number s.headers ≡ true
-  pub props_fit : length s.props ≡ property_length s.headers
-  pub text_fits : length s.text ≡ text_length s.headers
-  pub version : s.version ≡ r.version
-  pub version_line : (before : ℕ) → version_from before s.headers ≡ version_from before r.headers
+  pub begins : BeginsAgain r front s
   pub revision : is_revision_record s ≡ is_revision_record r
-  pub node : is_node s ≡ is_node r
   pub number : is_revision_record r ≡ true → revision_number s ≡ written_number settings kept (revision_number r)
   pub revision_again : is_revision_record r ≡ true → (ps : List Property) × HasPropertyList r ps
       × HasPropertyList s (revision_properties (is_padded settings (group_of r after)) ps)
+  pub node : is_node s ≡ is_node r
   pub node_again : is_node r ≡ true → IsNodeAgain settings kept r s
+  pub version : s.version ≡ r.version
+  pub version_line : (before : ℕ) → version_from before s.headers ≡ version_from before r.headers
   pub clean : IsClean s
   pub output : (again : KeptRevisions) (after : List DumpRecord) → IsOutput keep_all again s after front
 

@@ -1,5 +1,5 @@
 -- What is written of a record is a record again.
-use Rattle.dump_filter.proofs.Prelude.{◌≡◌, ℕ, ◌+◌, ◌<◌, ◌^◌, ◌==◌, Bool, true, false, not, ◌&&◌, ◌||◌, List, [], ◌++◌, length, refl, sym, ap, ◌∙◌, subst, arith, inl, Some, is_none, bytes_eq, length-append, flat_map, MatchBool, if◌then◌else◌, and-false, eqb-true, bytes_eq-Decides, spelled_number, version_name, uuid_name, revision_name, path_name, copy_revision_name, copy_path_name, property_length_name, text_length_name, content_length_name, Header, has_header, header_value, with_header_value, is_block, block_text, Property, IsPropertyBlock, has_deletes, block_end, entry_text, property_block_text, short_block, header_number, version_from, property_length, text_length, has_bad_kind, has_bad_version, has_bad_number, has_bad_lengths, DumpRecord, is_lawful, deciding, Keeps, keeps, takes_deletes, HasPropertyList, new_block, with_lengths, without_copy_headers, is_copy_line, whole_text, first_false, second_false, not_so, absurd_bool}
+use Rattle.dump_filter.proofs.Prelude.{◌≡◌, ℕ, ◌+◌, ◌<◌, ◌^◌, ◌==◌, Bool, true, false, not, ◌&&◌, ◌||◌, List, [], ◌++◌, length, refl, sym, ap, ◌∙◌, subst, arith, inl, Some, is_none, bytes_eq, length-append, flat_map, MatchBool, if◌then◌else◌, and-false, eqb-true, bytes_eq-Decides, spelled_number, version_name, uuid_name, revision_name, path_name, copy_revision_name, copy_path_name, property_length_name, text_length_name, content_length_name, Header, has_header, header_value, with_header_value, is_block, block_text, Property, IsPropertyBlock, has_deletes, block_end, entry_text, property_block_text, short_block, header_number, version_from, property_length, text_length, has_bad_kind, has_bad_version, has_bad_number, has_bad_lengths, DumpRecord, is_lawful, BeginsWithRecord, deciding, Keeps, keeps, takes_deletes, HasPropertyList, new_block, with_lengths, without_copy_headers, is_copy_line, whole_text, first_false, second_false, not_so, absurd_bool}
 use Rattle.dump_filter.proofs.written.HeaderLemmas.{no_length}
 use Rattle.dump_filter.proofs.again.LineChanges.{IsChange, spelled_line, same_has, block_stays, both_changes, put_has, put_change, go_change, gone, IsTold, told_put, told_reads}
 use Rattle.dump_filter.proofs.again.Headers.{is_length_name, AreTold, lengths_change, text_stays, props_stay, lengths_told, told_lengths, lengths_again, no_others, StaysLawful, lawful_again}
@@ -155,19 +155,16 @@ numbered_lines name old n small has stays = record {
 }
 
 -- a revision or node r under these lines and with these properties, as it is written
-pub record IsRewritten (r : DumpRecord) (mid : List Header) (padded : Bool) (new : List Property) : Type 0 where
-  pub number : ℕ
-  pub block : is_block r.headers ≡ true
-  pub lawful : is_lawful number r.headers ≡ true
-  pub text_fits : length r.text ≡ text_length r.headers
+pub record IsRewritten {number : ℕ} {text behind : List ℕ} {r : DumpRecord} (b : BeginsWithRecord number text r behind)
+    (mid : List Header) (padded : Bool) (new : List Property) : Type 0 where
   pub either : (has_header revision_name r.headers || has_header path_name r.headers) ≡ true
   pub mid_lines : AreNewLines r.headers mid
   pub small : length (new_block padded r new) + length r.text < 10 ^ 18
   pub none : (padded || has_header property_length_name r.headers) ≡ false → new ≡ []
 
 -- the record that is written: under the new lines, with the lengths of its new properties
-module _ {r : DumpRecord} {mid : List Header} {padded : Bool} {new : List Property}
-    (w : IsRewritten r mid padded new) where
+module _ {number : ℕ} {text behind : List ℕ} {r : DumpRecord} {b : BeginsWithRecord number text r behind}
+    {mid : List Header} {padded : Bool} {new : List Property} (w : IsRewritten b mid padded new) where
   abbrev props : List ℕ
   props = new_block padded r new
 
@@ -183,7 +180,7 @@ module _ {r : DumpRecord} {mid : List Header} {padded : Bool} {new : List Proper
   others = lengths_change props r.text mid w.small
 
   no_text : has_header text_length_name mid ≡ false → length r.text ≡ 0
-  no_text missing = w.text_fits ∙ no_length text_length_name r.headers (sym w.mid_lines.stays.text ∙ missing)
+  no_text missing = b.text_fits ∙ no_length text_length_name r.headers (sym w.mid_lines.stays.text ∙ missing)
 
   told : AreTold props r.text lines
   told = lengths_told props r.text mid w.small no_text
@@ -204,7 +201,7 @@ module _ {r : DumpRecord} {mid : List Header} {padded : Bool} {new : List Proper
       stay name has =
           block_stays (λ other. w.mid_lines.touches other || is_length_name other) r.headers lines
           (both_changes w.mid_lines.touches r.headers mid lines is_length_name w.mid_lines.change others)
-          name has w.block
+          name has b.block
 
       by_revision : (b : Bool) → has_header revision_name r.headers ≡ b → is_block lines ≡ true
       by_revision true is = stay revision_name (new_stays.revision ∙ is)
@@ -213,12 +210,12 @@ module _ {r : DumpRecord} {mid : List Header} {padded : Bool} {new : List Proper
 
   -- the new lines break no rule in any place of a dump, but that a version record stands first
   pub new_lawful : (m : ℕ) → (m ≡ 0 → has_header version_name r.headers ≡ true) → is_lawful m lines ≡ true
-  new_lawful = lawful_again w.number r.headers lines w.lawful w.either new_stays props r.text w.small told
+  new_lawful = lawful_again number r.headers lines b.lawful w.either new_stays props r.text w.small told
 
   -- there is no version line, neither before nor now
   pub new_version_line : (before : ℕ) → version_from before lines ≡ version_from before r.headers
   new_version_line before =
-      let good = not_so (has_bad_kind r.headers) (keeps w.number r.headers w.lawful).kind in
+      let good = not_so (has_bad_kind r.headers) (keeps number r.headers b.lawful).kind in
       rw (new_stays.version, (no_others r.headers good w.either).0) refl
 
   -- the block of the new properties is one that is read again, and it stays as it stands

@@ -1,5 +1,5 @@
 -- What is written of a list of records, read again.
-use Rattle.dump_filter.proofs.Prelude.{◌≡◌, ℕ, ◌+◌, ◌<◌, ◌==◌, Bool, true, false, ◌||◌, MatchBool, List, [], ◌∷◌, ◌++◌, length, refl, sym, ap, ◌∙◌, subst, arith, append_assoc, or_right, version_name, has_header, line_feeds, IsCutInto, HaveVersions, DumpRecord, record_text, is_lawful, BeginsWithRecord, version_from, kind_of, RecordKind, keeps, Settings, keeps_path, KeptRevisions, is_revision_record, is_node, keep_all, Group, group_of, group_number, has_kept_node, keeps_group, IsOutput, is_written, AreOutputs, absurd_bool, both_true, not_so}
+use Rattle.dump_filter.proofs.Prelude.{◌≡◌, ℕ, ◌+◌, ◌<◌, ◌==◌, Bool, true, false, ◌||◌, MatchBool, List, [], ◌∷◌, ◌++◌, length, refl, sym, ap, ◌∙◌, subst, arith, append_assoc, or_right, version_name, has_header, line_feeds, IsCutInto, HaveVersions, DumpRecord, record_text, is_lawful, version_from, kind_of, RecordKind, keeps, Settings, keeps_path, KeptRevisions, is_revision_record, is_node, keep_all, Group, group_of, group_number, has_kept_node, keeps_group, IsOutput, is_written, AreOutputs, absurd_bool, both_true, not_so}
 use Rattle.dump_records.specs.declared.kind.RecordKind.TheVariants as kinds
 use Rattle.dump_filter.proofs.groups.KindLemmas.{IsOfKind, of_kind}
 use Rattle.dump_filter.proofs.knowing.Answered.{AllLawful}
@@ -121,17 +121,11 @@ module _ (settings : Settings) (kept : KeptRevisions) where
           → AreLater (old + 1) rest behind → IsAgain number place pending (r ∷ rest) text
       cases true written output later =
           let (s, place_is, read) = each.0 front written output (place + pending) in
-          let next = later (number + 1) (s.place + length (record_text s)) read.feeds (λ none. absurd (omega arith)) in
-          let stands : BeginsWithRecord number text s (line_feeds read.feeds ++ behind) = record {
-            block = read.block;
-            lawful = read.lawful number (λ none. version_first r (lawful_first none));
-            props_fit = read.props_fit;
-            text_fits = read.text_fits;
-            spelled = is ∙ ap (λ t. t ++ behind) read.spelled
-                ∙ append_assoc (record_text s) (line_feeds read.feeds) behind;
-          } in (
+          let (feeds, begins) = read.begins in
+          let next = later (number + 1) (s.place + length (record_text s)) feeds (λ none. absurd (omega arith)) in
+          let stands = begins number text behind is (λ none. version_first r (lawful_first none)) in (
             s ∷ next.0,
-            (pending, text, line_feeds read.feeds ++ behind, refl, place_is, stands, next.1),
+            (pending, text, line_feeds feeds ++ behind, refl, place_is, stands, next.1),
             (front, behind, is, rw written (s, next.0, refl, read, next.2)),
           )
       cases false dropped none later =

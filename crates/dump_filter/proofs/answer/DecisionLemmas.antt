@@ -323,17 +323,17 @@ same_merge_fault settings first present options from at ok ps e f g =
     ∙ ap (λ n. merge_fault options from n ok ps) g
 
 -- the fate of a kept node, by what its copy source becomes and by the fault that was found of its mergeinfo
-pub node_fate_is : (settings options : Settings) (s : State) (r : DumpRecord) (ok : Bool) (ps : List Property)
-    (first present : ℕ)
-    (copy : CopyChange) (found : Option FaultKind)
-    → settings ≡ options → first ≡ s.revisions.kept.first → present ≡ node_revision s.revisions
+pub node_fate_is : {settings options : Settings} (s : State) (r : DumpRecord) (ok : Bool) (ps : List Property)
+    {first present : ℕ} {copy : CopyChange} {found : Option FaultKind}
+    → settings ≡ options → is_kept_node options r ≡ true
+    → first ≡ s.revisions.kept.first → present ≡ node_revision s.revisions
     → copy_change options (front_kept s.revisions.kept s.group) (node_revision s.revisions) r ≡ Ok copy
-    → found ≡ merge_fault settings first present ok ps
+    → (is_kept_node settings r ≡ true → found ≡ merge_fault settings first present ok ps)
     → kept_unless found copy ≡ node_fate options s r ok ps
-node_fate_is settings options s r ok ps first present copy found e f g copied is =
+node_fate_is {settings} {options} s r ok ps {first} {present} {copy} {found} e keep f g copied is =
     ap (λ (fault : Option FaultKind). kept_unless fault copy)
-    (is ∙ same_merge_fault settings first present options s.revisions.kept.first
-    (node_revision s.revisions) ok ps e f g)
+    (is (subst (λ (s : Settings). is_kept_node s r ≡ true) (sym e) keep)
+    ∙ same_merge_fault settings first present options s.revisions.kept.first (node_revision s.revisions) ok ps e f g)
     ∙ sym (ap (λ (c : Result CopyChange FaultKind). with_fault c
     (merge_fault options s.revisions.kept.first (node_revision s.revisions) ok ps))
     copied)

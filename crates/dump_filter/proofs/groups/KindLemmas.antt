@@ -1,5 +1,5 @@
 -- What a record is, by its deciding names, of which exactly one stands there.
-use Rattle.dump_filter.proofs.Prelude.{◌≡◌, ℕ, Bool, true, false, refl, sym, ◌∙◌, subst, IsTrue, version_name, uuid_name, revision_name, path_name, has_header, has_bad_kind, kind_of, RecordKind, DumpRecord, is_lawful, OneKind, deciding, keeps, is_revision_record, is_node, not_so, false_true, absurd_bool}
+use Rattle.dump_filter.proofs.Prelude.{◌≡◌, ℕ, Bool, true, false, refl, sym, ◌∙◌, subst, IsTrue, version_name, uuid_name, revision_name, path_name, has_header, has_bad_kind, kind_of, RecordKind, DumpRecord, Record, record_item, record_number, is_lawful, OneKind, deciding, keeps, is_revision_record, is_node, not_so, false_true, absurd_bool}
 use Rattle.dump_records.specs.declared.kind.RecordKind.TheVariants as kinds
 
 -- a record is of this kind, and of no other
@@ -35,6 +35,13 @@ of_kind number r lawful =
         node : (b : Bool) → is_node r ≡ b → b ≡ true
         node true is = refl
         node false is = absurd (absurd_bool (has_header uuid_name r.headers) (one.left is-v is-s is) is-u)
+
+-- a record whose lines give this kind is of this kind
+pub found_kind : {item same : Record} {which : RecordKind} → item ≡ same → kind_of (record_item item).headers ≡ which
+    → IsOfKind (record_item same) which
+found_kind {item} {same} {which} e is =
+    subst (λ (x : Record). IsOfKind (record_item x) which) e
+    (subst (IsOfKind (record_item item)) is (of_kind (record_number item) (record_item item) item.stands.lawful))
 
 -- a node is no revision
 pub alone : (number : ℕ) (r : DumpRecord) → IsTrue (is_lawful number r.headers) → is_node r ≡ true

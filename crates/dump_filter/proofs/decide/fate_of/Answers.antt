@@ -1,6 +1,5 @@
-use Rattle.dump_filter.proofs.Prelude.{◌≡◌, true, false, sym, ◌∙◌, subst, Settings, record_item, record_number, Record, is_kept_node, done_record, done_verdict, view_state}
-use Rattle.dump_records.specs.declared.kind.RecordKind.TheVariants as kinds
-use Rattle.dump_filter.proofs.groups.KindLemmas.{IsOfKind, of_kind}
+use Rattle.dump_filter.proofs.Prelude.{◌≡◌, true, false, sym, ◌∙◌, subst, Settings, record_item, is_kept_node, done_record, done_verdict, view_state}
+use Rattle.dump_filter.proofs.groups.KindLemmas.{found_kind}
 use Rattle.dump_filter.proofs.answer.DecisionLemmas.{fate_of_dropped, fate_of_node, fate_of_revision}
 use Rattle.dump_filter.proofs.decide.fate_of.Goals as goal
 
@@ -22,10 +21,7 @@ returns-then-is_kept c ps list =
 pub returns-in-Revision : goal.returns-in-Revision
 returns-in-Revision c ps list =
     let d = c.args.done.now in
-    let item = c.item.result in
-    let kind = subst (λ (x : Record). IsOfKind (record_item x) kinds.Revision) c.item.ensures
-    (subst (IsOfKind (record_item item)) (sym c.kind.ensures ∙ c.in-Revision.is)
-    (of_kind (record_number item) (record_item item) item.stands.lawful)) in
+    let kind = found_kind c.item.ensures (sym c.kind.ensures ∙ c.in-Revision.is) in
     fate_of_revision c.args.options.now (view_state c.args.state.now) (record_item (done_record d))
     (done_verdict d).merge_ok ps
     kind.0 kind.1
@@ -33,10 +29,7 @@ returns-in-Revision c ps list =
 pub returns-else-is_kept : goal.returns-else-is_kept
 returns-else-is_kept c ps list =
     let d = c.args.done.now in
-    let item = c.item.result in
-    let kind = subst (λ (x : Record). IsOfKind (record_item x) kinds.Node) c.item.ensures
-    (subst (IsOfKind (record_item item)) (sym c.kind.ensures ∙ c.in-Node.is)
-    (of_kind (record_number item) (record_item item) item.stands.lawful)) in
+    let kind = found_kind c.item.ensures (sym c.kind.ensures ∙ c.in-Node.is) in
     let left = subst (λ (s : Settings). is_kept_node s (record_item (done_record d)) ≡ false) c.requires.options
     (sym c.is_kept.ensures ∙ c.if-is_kept.false) in
     fate_of_dropped c.args.options.now (view_state c.args.state.now) (record_item (done_record d))
