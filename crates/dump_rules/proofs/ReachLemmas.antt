@@ -1,6 +1,8 @@
 -- Kept revisions that rise: how many stand up to a number, their new numbers and their images.
-use Rattle.dump_rules.proofs.Prelude.{◌≡◌, ◌⊎◌, ℕ, zero, suc, ◌+◌, ◌<◌, ◌≤◌, Bool, true, false, cond, List, [], ◌∷◌, ◌++◌, length, get_or, nat_lt, nat_le, refl, sym, ap, ◌∙◌, inl, inr, arith, Some, None, Option, option_map, count_by, filter, append-nil, lt-ltb, last_or, IsNonDecreasing, IsPartitionedBy, IsPartitionPoint, leb_tells, nat_tests, All-head, All-tail, filter-append, IsPartitionedBy-leb, IsPartitionedBy-ltb, sum_by-cons, sum_by_push, KeptRevisions, new_number, last_kept, image, RiseFrom}
+use Rattle.dump_rules.proofs.Prelude.{◌≡◌, ◌⊎◌, ℕ, zero, suc, ◌+◌, ◌<◌, ◌≤◌, Bool, true, false, cond, List, [], ◌∷◌, ◌++◌, length, get_or, nat_lt, nat_le, refl, sym, ap, ◌∙◌, inl, inr, arith, Some, None, Option, option_map, count_by, filter, append-nil, lt-ltb, last_or, IsNonDecreasing, IsPartitionedBy, IsPartitionPoint, leb_tells, nat_tests, All-head, All-tail, filter-append, IsPartitionedBy-leb, IsPartitionedBy-ltb, IsPartitionPoint-from_clause, Bor, sum_by-cons, sum_by_push, KeptRevisions, new_number, last_kept, image, RiseFrom}
 use Rattle.std.proofs.Common.{All}
+use Rattle.std.specs.Fn.{Called, ComputesKey}
+use denote.Param.Members.{Mut}
 
 -- counts of numbers
 
@@ -271,3 +273,15 @@ count_at_point p (suc i) (k ∷ numbers) within point =
     let counted : count_by p (k ∷ numbers) ≡ 1 + count_by p numbers = sum_by-cons (λ j. cond (p j) 1 0) k numbers
     ∙ rw passes refl in
     omega arith
+
+-- what a search among the kept numbers finds counts those that pass
+pub count_kept : (p : ℕ → Bool) {F : Type 0} {g : Mut F (Bor ℕ × Unit {0}) Bool} {f : F} (inside kept : KeptRevisions)
+    (numbers : List ℕ) (i : ℕ) → i ≤ length numbers
+    → ((q : ℕ → Bool) → ComputesKey g q f → IsPartitionedBy q numbers
+    → IsPartitionPoint (λ k. q k ≡ true) (λ k. q k ≡ false) numbers i)
+    → numbers ≡ inside.numbers → inside ≡ kept → IsPartitionedBy p inside.numbers
+    → ((a : Bor ℕ × Unit {0}) (r : Bool) (next : F) → Called g f a r next → (r ≡ p a.0.now) × (next ≡ f))
+    → i ≡ count_by p kept.numbers
+count_kept p inside kept numbers i bound found is viewed parted calls =
+    count_at_point p i numbers bound (IsPartitionPoint-from_clause p numbers i found (rw is parted) calls)
+    ∙ ap (count_by p) (is ∙ ap (λ (k : KeptRevisions). k.numbers) viewed)

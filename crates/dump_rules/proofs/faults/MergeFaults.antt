@@ -1,42 +1,34 @@
 -- What the two tests of a value tell, where the value is mergeinfo.
-use Rattle.dump_rules.proofs.Prelude.{◌≡◌, ◌↔◌, ◌||◌, ◌<◌, ◌^◌, sym, ap, ◌∙◌, ℕ, ◌≤◌, Bool, true, List, inl, inr, Merged, is_outside, nothing_merged, Contains, leb_tells, Settings, KeptRevisions, HasNumber, MergeLine, IsMergeinfo, HasMergeLines, staying_lines, HasMissingSource, HasForeignNumber, value_misses, value_foreign}
+use Rattle.dump_rules.proofs.Prelude.{◌≡◌, ◌↔◌, ◌||◌, ◌<◌, ◌^◌, sym, ap, ◌∙◌, both_ways, ℕ, ◌≤◌, Bool, true, false, List, inl, inr, Merged, is_outside, nothing_merged, Contains, leb_tells, Settings, KeptRevisions, HasNumber, MergeLine, IsMergeinfo, HasMergeLines, staying_lines, HasMissingSource, HasForeignNumber, value_misses, value_foreign}
 use Rattle.dump_rules.proofs.faults.FaultLemmas.{missing_there, missing_back, foreign_there, foreign_back, has_lines}
 use Rattle.dump_rules.proofs.faults.MergedMeaning.{none_outside}
 
--- the test for missing sources passes of mergeinfo just where one is missing
-pub misses_means : (settings : Settings) (value : List ℕ) → ¬ ¬ HasMergeLines value
-    → (value_misses settings value ≡ true) ↔ HasMissingSource settings value
-misses_means settings value some =
-    (missing_there settings value (has_lines value some), missing_back settings value)
-
--- the test for foreign numbers passes of mergeinfo just where it has one
-pub foreign_means : (settings : Settings) (kept : KeptRevisions) (now : ℕ) (value : List ℕ) → ¬ ¬ HasMergeLines value
-    → (value_foreign settings kept.first now value ≡ true) ↔ HasForeignNumber settings kept now value
-foreign_means settings kept now value some =
-    (foreign_there settings kept now value (has_lines value some), foreign_back settings kept now value)
-
 -- what is told of the sources of the first value says whether one is missing
-pub first_misses : (s : Settings) (said last : Merged) (value : List ℕ) (told : Bool) → said ≡ nothing_merged
-    → last.misses ≡ (said.misses || value_misses s value) → told ≡ last.misses → ¬ ¬ HasMergeLines value
+pub first_misses : (s : Settings) (said : Merged) (last : Bool) (value : List ℕ) (told : Bool) → said ≡ nothing_merged
+    → last ≡ (said.misses || value_misses s value) → told ≡ last → ¬ ¬ HasMergeLines value
     → (told ≡ true) ↔ HasMissingSource s value
 first_misses s said last value told none is tells some =
     let same = tells ∙ is ∙ ap (λ (m : Merged). m.misses || value_misses s value) none in
-    let means = misses_means s value some in
-    (λ e. means.0 (sym same ∙ e), λ h. same ∙ means.1 h)
+    (λ e. missing_there s value (has_lines value some) (sym same ∙ e), λ h. same ∙ missing_back s value h)
 
--- what is told of its numbers says whether one is foreign
+-- where no missing source is told of the first value, what is told of its numbers says whether one is foreign
 pub first_foreign : (s : Settings) (kept : KeptRevisions) (first now : ℕ) (said last : Merged) (value : List ℕ)
-    (told : Bool) → kept.first < 2 ^ 64 → first ≡ kept.first → said ≡ nothing_merged
-    → is_outside s kept.first now last.numbers
-    ≡ (is_outside s kept.first now said.numbers || value_foreign s kept.first now value)
-    → told ≡ is_outside s first now last.numbers → ¬ ¬ HasMergeLines value
-    → (told ≡ true) ↔ HasForeignNumber s kept now value
-first_foreign s kept first now said last value told fits first_is none is tells some =
-    let same = tells ∙ ap (λ n. is_outside s n now last.numbers) first_is ∙ is
-    ∙ ap (λ (m : Merged). is_outside s kept.first now m.numbers || value_foreign s kept.first now value) none
-    ∙ ap (λ b. b || value_foreign s kept.first now value) (none_outside s kept.first now fits) in
-    let means = foreign_means s kept now value some in
-    (λ e. means.0 (sym same ∙ e), λ h. same ∙ means.1 h)
+    (misses told : Bool) → first < 2 ^ 64 → first ≡ kept.first → said ≡ nothing_merged
+    → last.misses ≡ (said.misses || value_misses s value)
+    → ((first now : ℕ) → is_outside s first now last.numbers
+    ≡ (is_outside s first now said.numbers || value_foreign s first now value))
+    → misses ≡ last.misses → misses ≡ false → told ≡ is_outside s first now last.numbers → ¬ ¬ HasMergeLines value
+    → ¬ HasMissingSource s value × (told ≡ true → HasForeignNumber s kept now value)
+    × (told ≡ false → ¬ HasForeignNumber s kept now value)
+first_foreign s kept first now said last value misses told fits first_is none sources numbers says missed tells some =
+    let same = tells ∙ numbers first now
+    ∙ ap (λ (m : Merged). is_outside s first now m.numbers || value_foreign s first now value) none
+    ∙ ap (λ b. b || value_foreign s first now value) (none_outside s first now fits)
+    ∙ ap (λ n. value_foreign s n now value) first_is in (
+      λ h. both_ways misses missed ((first_misses s said last.misses value misses none sources says some).1 h),
+      λ e. foreign_there s kept now value (has_lines value some) (sym same ∙ e),
+      λ e h. both_ways told e (same ∙ foreign_back s kept now value h),
+    )
 
 -- where no number is refused, the lines that stay have none above the present revision
 pub foreign_below : (settings : Settings) (kept : KeptRevisions) (now : ℕ) (value : List ℕ)

@@ -1,7 +1,7 @@
 -- What becomes of a value: its new lines.
-use Rattle.dump_rules.proofs.Prelude.{◌≡◌, ◌⊎◌, ℕ, ◌+◌, ◌-◌, Bool, true, false, ◌==◌, List, [], ◌∷◌, ◌++◌, length, length-append, take, drop, map, nat_lt, refl, sym, ap, ◌∙◌, arith, codes, append_assoc, append-nil, inl, inr, cases_Bool, if◌then◌else◌, slice_split, join_with_byte, AllZip, nat_tests, take_at, drop_at, Settings, keeps_path, KeptRevisions, RiseFrom, Range, runs_text, MergeLine, IsMergeLine, IsMergeinfo, merge_line_text, colon_end, without_lf, IsNewLine, IsNewMergeinfo, staying_lines, nonempty_lines, runs_of, list_ranges, new_ranges, list_new, line_path, line_list, text_lines, with_break, with_runs, with_new_line, with_new_lines}
-use Rattle.dump_rules.proofs.reading.RangeListLemmas.{HasFirst, split_joined, joined_some, list_lacks}
-use Rattle.dump_rules.proofs.reading.MergeinfoLemmas.{colon_end_is, bare, all_read}
+use Rattle.dump_rules.proofs.Prelude.{◌≡◌, ◌⊎◌, ℕ, ◌-◌, Bool, true, false, ◌==◌, List, [], ◌∷◌, ◌++◌, length, take, map, nat_lt, refl, sym, ap, ◌∙◌, arith, codes, append_assoc, append-nil, inl, inr, cases_Bool, if◌then◌else◌, slice_split, join_with_byte, AllZip, nat_tests, take_at, Settings, keeps_path, KeptRevisions, RiseFrom, Range, runs_text, MergeLine, IsMergeLine, IsMergeinfo, merge_line_text, colon_end, without_lf, IsNewLine, IsNewMergeinfo, staying_lines, nonempty_lines, runs_of, list_ranges, new_ranges, list_new, line_path, line_list, text_lines, with_break, with_runs, with_new_line, with_new_lines}
+use Rattle.dump_rules.proofs.reading.RangeListLemmas.{HasFirst, split_joined, joined_some}
+use Rattle.dump_rules.proofs.reading.MergeinfoLemmas.{line_cut, bare, all_read}
 use Rattle.dump_rules.proofs.new_values.JoinLemmas.{runs_are}
 use Rattle.dump_rules.proofs.new_values.RunsLaw.{have_numbers, list_is}
 use Rattle.dump_rules.proofs.new_values.NewRangeLemmas.{renumbered, unchanged, list_new_is}
@@ -16,19 +16,13 @@ pub record LineParts (text : List ℕ) (line : MergeLine) : Type 0 where
 -- a line of mergeinfo is read as its path and its ranges
 pub line_parts : (text : List ℕ) (line : MergeLine) → IsMergeLine text line → LineParts text line
 line_parts text line is =
-    let list = is.spelled.0 in
-    let ranges = is.spelled.1 in
-    let whole : text ≡ (line.path ++ 58 ∷ []) ++ list = is.spelled.2 in
-    let place : colon_end text ≡ length line.path + 1 =
-    ap colon_end whole ∙ colon_end_is line.path list (list_lacks 58 list line.ranges refl refl refl ranges) in
-    let front = length-append line.path (58 ∷ []) in
-    let before : colon_end text - 1 ≡ length line.path = omega arith in
+    let cut = line_cut text line is in
+    let before : colon_end text - 1 ≡ length line.path = omega (arith, cut.0) in
     record {
-      path = ap (λ n. take n text) before ∙ ap (take (length line.path)) (whole ∙ append_assoc line.path (58 ∷ []) list)
-          ∙ take_at line.path (58 ∷ list) (length line.path) refl;
-      ranges = ap list_ranges (ap (λ n. drop n text) place ∙ ap (drop (length line.path + 1)) whole
-          ∙ drop_at (line.path ++ 58 ∷ []) list (length line.path + 1) front)
-          ∙ sym (list_is list line.ranges ranges);
+      path = ap (λ n. take n text) before
+          ∙ ap (take (length line.path)) (is.spelled.2 ∙ append_assoc line.path (58 ∷ []) is.spelled.0)
+          ∙ take_at line.path (58 ∷ is.spelled.0) (length line.path) refl;
+      ranges = ap list_ranges cut.1 ∙ sym (list_is is.spelled.0 line.ranges is.spelled.1);
     }
 
 abbrev pub new_line : Settings → KeptRevisions → MergeLine → MergeLine

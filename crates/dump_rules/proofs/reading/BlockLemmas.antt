@@ -179,19 +179,7 @@ either_max from a b = grind (arith, nat_tests)
 
 regroup : (f h t m g : Bool) → (g ≡ true → f ≡ true) → ((f && (h || t)) || (m || ((h || t) && g))) ≡
     (((f && t) || m) || (h && (f || g)))
-regroup true true true m g up = refl
-regroup true true false true g up = refl
-regroup true true false false g up = refl
-regroup true false true m g up = refl
-regroup true false false true g up = refl
-regroup true false false false g up = refl
-regroup false h t m true up = let bad : false ≡ true = up refl in cc
-regroup false true t true false up = refl
-regroup false true t false false up = refl
-regroup false false true true false up = refl
-regroup false false true false false up = refl
-regroup false false false true false up = refl
-regroup false false false false false up = refl
+regroup f h t m g up = grind arith
 
 same_meets : (from to highest : ℕ) (block : List Ends) → IsNonDecreasingBy (λ (e : Ends). e.from) block
     → list_any (meets from to) (raised_ends highest block)

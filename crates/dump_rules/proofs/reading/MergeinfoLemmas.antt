@@ -6,7 +6,7 @@ use Rattle.dump_rules.proofs.reading.RangeListLemmas.{AllLack, split_joined, par
 -- colons
 
 -- the last colon of a line is the one behind its path, where the list behind it has none
-pub colon_end_is : (path list : List ℕ) → has_byte 58 list ≡ false
+colon_end_is : (path list : List ℕ) → has_byte 58 list ≡ false
     → colon_end ((path ++ 58 ∷ []) ++ list) ≡ length path + 1
 colon_end_is path list none =
     let front = length-append path (58 ∷ []) in
@@ -63,26 +63,29 @@ record ReadLine (text : List ℕ) : Type 0 where
   one_line : has_byte 10 text ≡ false
   some : 0 < length text
 
+-- a line of mergeinfo is cut at the colon behind its path
+pub line_cut : (text : List ℕ) (line : MergeLine) (is : IsMergeLine text line)
+    → (colon_end text ≡ length line.path + 1) × (drop (colon_end text) text ≡ is.spelled.0)
+line_cut text line is =
+    let whole : text ≡ (line.path ++ 58 ∷ []) ++ is.spelled.0 = is.spelled.2 in
+    let place : colon_end text ≡ length line.path + 1 = ap colon_end whole
+    ∙ colon_end_is line.path is.spelled.0 (list_lacks 58 is.spelled.0 line.ranges refl refl refl is.spelled.1) in (
+      place,
+      ap (λ n. drop n text) place ∙ ap (drop (length line.path + 1)) whole
+          ∙ drop_at (line.path ++ 58 ∷ []) is.spelled.0 (length line.path + 1) (length-append line.path (58 ∷ [])),
+    )
+
 line_is_read : (text : List ℕ) (line : MergeLine) → IsMergeLine text line → ReadLine text
 line_is_read text line is =
     let list = is.spelled.0 in
-    let ranges = is.spelled.1 in
-    let whole : text ≡ (line.path ++ 58 ∷ []) ++ list = is.spelled.2 in
-    let place : colon_end text ≡ length line.path + 1 =
-    ap colon_end whole ∙ colon_end_is line.path list (list_lacks 58 list line.ranges refl refl refl ranges) in
-    let front = length-append line.path (58 ∷ []) in
-    let behind : drop (colon_end text) text ≡ list =
-    ap (λ n. drop n text) place ∙ ap (drop (length line.path + 1)) whole ∙ drop_at (line.path ++ 58 ∷ []) list
-    (length line.path + 1) front in
-    let path = is.path in
-    let far : nat_lt 1 (colon_end text) ≡ true = grind (arith, nat_tests) in
-    let size = ap length whole ∙ length-append (line.path ++ 58 ∷ []) list in
+    let cut = line_cut text line is in
+    let far : nat_lt 1 (colon_end text) ≡ true = grind (arith, nat_tests, cut.0, is.path) in
     record {
-      reads = rw (far, behind) (list_is_read list line.ranges ranges is.consistent);
-      one_line = ap (has_byte 10) whole
+      reads = rw (far, cut.1) (list_is_read list line.ranges is.spelled.1 is.consistent);
+      one_line = ap (has_byte 10) is.spelled.2
           ∙ has_byte-append 10 (line.path ++ 58 ∷ []) list (has_byte-append 10 line.path (58 ∷ []) is.one_line refl)
-          (list_lacks 10 list line.ranges refl refl refl ranges);
-      some = omega arith;
+          (list_lacks 10 list line.ranges refl refl refl is.spelled.1);
+      some = omega (arith, is.path, simp length-append at (ap length is.spelled.2));
     }
 
 read_is_line : (text : List ℕ) → line_reads text ≡ true → has_byte 10 text ≡ false → (line : MergeLine)

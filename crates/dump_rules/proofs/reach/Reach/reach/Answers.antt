@@ -1,19 +1,14 @@
-use Rattle.dump_rules.proofs.Prelude.{◌≡◌, ℕ, ◌+◌, Some, subst, rules, arith, ap, sym, ◌∙◌, nat_le, count_by, IsPartitionPoint-from_clause, KeptRevisions, RiseFrom}
-use Rattle.dump_rules.proofs.ReachLemmas.{parted_from_rise, count_at_point, image_of_none, image_of_some}
+use Rattle.dump_rules.proofs.Prelude.{◌≡◌, ℕ, ◌+◌, Some, subst, rules, arith, ap, sym, ◌∙◌, nat_le, count_by, KeptRevisions, RiseFrom}
+use Rattle.dump_rules.proofs.ReachLemmas.{parted_from_rise, count_kept, image_of_none, image_of_some}
 use Rattle.dump_rules.proofs.reach.Reach.reach.Goals as goal
 use Rattle.dump_rules.proofs.reach.Reach.reach.Goals.{After-partition_point-up_to}
 
 found : (c : After-partition_point-up_to) → c.partition_point-up_to.result ≡ count_by
     (λ k. nat_le k c.args.revision) c.args.self.now.numbers
 found c =
-    let is = c.deref.ensures.value in
-    let p = λ (k : ℕ). nat_le k c.args.revision in
-    let search_of = c.partition_point-up_to in
-    let parted = parted_from_rise c.self.inside.first c.args.revision c.self.inside.numbers.items c.self.invariant in
-    let point = IsPartitionPoint-from_clause p c.deref.result.now _ search_of.ensures.partitioned (rw is parted)
-    (λ a r q k. search rules) in
-    count_at_point p search_of.result c.deref.result.now search_of.ensures.bound point
-    ∙ ap (count_by p) (is ∙ ap (λ (kept : KeptRevisions). kept.numbers) c.self.view_is)
+    let at_point = c.partition_point-up_to.ensures in
+    count_kept (λ k. nat_le k c.args.revision) _ _ _ _ at_point.bound at_point.partitioned c.deref.ensures.value
+    c.self.view_is (parted_from_rise _ _ _ c.self.invariant) (λ a r q k. search rules)
 
 risen : (c : After-partition_point-up_to) → RiseFrom c.args.self.now.first c.args.self.now.numbers
 risen c = subst (λ (kept : KeptRevisions). RiseFrom kept.first kept.numbers) c.self.view_is c.self.invariant
