@@ -1,6 +1,6 @@
 -- Lemmas on bytes that are taken in turn, and on their count.
-use Rattle.std.proofs.Common.{◌≡◌, ℕ, ◌+◌, ◌-◌, ◌^◌, ◌≤◌, ◌++◌, min, List, Option, length, take, drop, arith, length-append, sym, ap, ◌∙◌, subst}
-use Rattle.std.proofs.lemmas.List.{take-append-drop, take-take, drop-take, length-take}
+use Rattle.std.proofs.Common.{◌≡◌, ℕ, ◌+◌, ◌-◌, ◌^◌, ◌≤◌, ◌++◌, min, List, Option, length, take, drop, arith, length-append, length-drop, sym, ap, ◌∙◌, subst}
+use Rattle.std.proofs.lemmas.List.{take-append-drop, take-take, drop-take, length-take, take_rest}
 use Rattle.std.specs.Io.KnownBytes.{Appends, GrowsBy}
 use Rattle.std.proofs.KnownBytes.{Appends-trans}
 
@@ -12,10 +12,14 @@ take-add n m xs =
     ∙ ap (λ t. take n xs ++ t) (drop-take n m xs)
 
 -- the first bytes were taken, and then some of the others
-pub Appends-take_add : (a b c : Option (List ℕ)) (n m : ℕ) (xs : List ℕ) → Appends a b (take n xs)
-    → Appends b c (take m (drop n xs)) → Appends a c (take (n + m) xs)
-Appends-take_add a b c n m xs first second = subst (Appends a c) (sym (take-add n m xs))
-    (Appends-trans a b c _ _ first second)
+pub Appends-take_add : (a b c : Option (List ℕ)) (n m : ℕ) (xs : List ℕ) → n ≤ length xs
+    → m ≤ length (take (length xs - n) (drop n xs)) → Appends a b (take n xs)
+    → Appends b c (take m (take (length xs - n) (drop n xs)))
+    → (n + m ≤ length xs) × Appends a c (take (n + m) xs)
+Appends-take_add a b c n m xs inside most first second = (
+  omega (arith, length-drop n xs, rw take_rest at most),
+  subst (Appends a c) (sym (take-add n m xs)) (Appends-trans a b c _ _ first (rw take_rest at second)),
+)
 
 -- a count of bytes grows by those that were taken, and stops at the greatest number
 pub GrowsBy-more : (a b c : Option (List ℕ)) (n m k : ℕ) (xs : List ℕ) → m ≤ length xs → k ≡ min (n + m) (2 ^ 64 - 1)

@@ -66,10 +66,9 @@ impl Sink for WornOut {
     fn accept(&mut self, bytes: &[u8]) -> Result<usize, SinkDown> {
         self.calls = self.calls.saturating_add(1);
         if bytes.is_empty() {
-            Ok(0)
-        } else {
-            Err(SinkDown)
+            return Ok(0);
         }
+        Err(SinkDown)
     }
 
     fn failures(&self) -> u64 {
