@@ -51,7 +51,6 @@ pub use Rattle.dump_filter.specs.steps.State.PresentGroup.{NoGroup, Pending, Wri
 pub use Rattle.dump_records.proofs.CutLemmas.{strip}
 pub use Rattle.dump_records.proofs.HeaderLemmas.{OneKind, copy_both, copy_there, deciding, no_number}
 pub use Rattle.dump_records.proofs.Prefixes.{begins_once, one_more}
-pub use Rattle.dump_records.proofs.RecordLemmas.{part_there}
 pub use Rattle.dump_records.proofs.Unique.{Keeps, code_once, keeps, least_once}
 pub use Rattle.dump_records.specs.DumpText.{BeginsWithRecords, Ending, HasRecords, HaveVersions, IsCutInto, line_feeds}
 pub use Rattle.dump_records.specs.HeaderRules.{has_bad_kind, has_bad_lengths, has_bad_number, has_bad_version, header_length, header_number, is_one_alone, property_length, text_length, version_from}

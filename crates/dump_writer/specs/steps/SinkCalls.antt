@@ -1,5 +1,5 @@
 -- What a call on a sink does to its count of failures and to the bytes that it took.
-use Rattle.std.specs.Prelude.{◌≡◌, ℕ, ◌+◌, ◌-◌, ◌<◌, List, length, take, Option}
+use Rattle.std.specs.Prelude.{◌≡◌, ℕ, ◌+◌, ◌<◌, List, length, take, Option}
 use base.Fml.{GName}
 use Rattle.std.specs.Io.KnownBytes.{Appends}
 use Rattle.dump_writer.specs.SinkWords.{capped}
