@@ -1,4 +1,4 @@
-use Rattle.dump_pipeline.proofs.Prelude.{◌∙◌, ℕ, sym, ap, map, range_with_len, PoolState, new_worker, Job, Checked}
+use Rattle.dump_pipeline.proofs.Prelude.{◌∙◌, sym, ap, map, range_with_len, PoolState, new_worker, Job, Checked}
 use Rattle.dump_pipeline.proofs.make.make_queues.Goals as goal
 
 pub returns-clause-working : goal.returns-clause-working
