@@ -67,19 +67,6 @@ fn run<'a, R: Threads + Wait + Sync, W: Write>(
     (status, errors)
 }
 
-/// Whether a run has this status and tells these lines.
-fn is_run<'a, R: Threads + Wait + Sync, W: Write>(
-    rt: &R,
-    alloc: Global,
-    words: &'a [&'a str],
-    dump: &[u8],
-    output: &mut W,
-    wanted: (u8, &[u8]),
-) -> bool {
-    let (status, errors) = run(rt, alloc, words, dump, output);
-    status == wanted.0 && errors.as_slice() == wanted.1
-}
-
 /// Whether the dump is filtered under these words, and this line is told.
 fn is_filtered<'a, R: Threads + Wait + Sync>(
     rt: &R,
@@ -89,8 +76,8 @@ fn is_filtered<'a, R: Threads + Wait + Sync>(
 ) -> Result<bool, Fail> {
     let dump = dump(alloc)?;
     let mut output = Vec::new(alloc);
-    let ran = is_run(rt, alloc, words, &dump, &mut output, (0, line));
-    Ok(ran && output.as_slice() == KEPT)
+    let (status, errors) = run(rt, alloc, words, &dump, &mut output);
+    Ok(status == 0 && errors.as_slice() == line && output.as_slice() == KEPT)
 }
 
 #[test]
@@ -119,8 +106,8 @@ fn is_full<R: Threads + Wait + Sync>(
     count: usize,
 ) -> Result<bool, Fail> {
     let line = sink_line(alloc, count)?;
-    let ran = is_run(rt, alloc, &ORDER, dump, &mut disk, (1, &line));
-    Ok(ran && Some(disk.held.as_slice()) == KEPT.get(..count))
+    let (status, errors) = run(rt, alloc, &ORDER, dump, &mut disk);
+    Ok(status == 1 && errors == line && Some(disk.held.as_slice()) == KEPT.get(..count))
 }
 
 #[test]
@@ -187,7 +174,8 @@ fn is_given_up<R: Threads + Wait + Sync>(rt: &R, alloc: Global, dump: &[u8]) -> 
         failed: false,
     };
     let line = b"svndumpfilter: failure 20 Sink after 0 bytes\n".as_slice();
-    is_run(rt, alloc, &ORDER, dump, &mut output, (1, line)) && output.held.is_empty()
+    let (status, errors) = run(rt, alloc, &ORDER, dump, &mut output);
+    status == 1 && errors.as_slice() == line && output.held.is_empty()
 }
 
 #[test]

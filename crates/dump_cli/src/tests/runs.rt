@@ -1,5 +1,5 @@
-//! What no clause says: threads and gates, sinks that fail at each byte, and memory that is refused. Worked dumps are cases of
-//! the whole program.
+//! What no clause says: threads and gates, sinks that fail at each byte, and memory that is refused. Worked dumps are
+//! cases of the whole program.
 
 mod copies;
 mod gates;
@@ -18,56 +18,14 @@ use std::process::Abort;
 use std::test::Fail;
 
 /// Revision 1 adds `trunk`, `trunk/a` and `trunk2`, in this order.
-const DUMP: &[u8] = b"SVN-fs-dump-format-version: 2\n\
-\n\
+const DUMP: &[u8] = b"SVN-fs-dump-format-version: 2\n\n\
 Revision-number: 0\n\
-Prop-content-length: 56\n\
-Content-length: 56\n\
-\n\
-K 8\n\
-svn:date\n\
-V 27\n\
-2024-01-02T03:04:05.000000Z\n\
-PROPS-END\n\
-\n\
+Prop-content-length: 56\nContent-length: 56\n\nK 8\nsvn:date\nV 27\n2024-01-02T03:04:05.000000Z\nPROPS-END\n\n\
 Revision-number: 1\n\
-Prop-content-length: 56\n\
-Content-length: 56\n\
-\n\
-K 8\n\
-svn:date\n\
-V 27\n\
-2024-01-02T03:04:05.000000Z\n\
-PROPS-END\n\
-\n\
-Node-path: trunk\n\
-Node-kind: dir\n\
-Node-action: add\n\
-Prop-content-length: 10\n\
-Content-length: 10\n\
-\n\
-PROPS-END\n\
-\n\
-\n\
-Node-path: trunk/a\n\
-Node-kind: dir\n\
-Node-action: add\n\
-Prop-content-length: 10\n\
-Content-length: 10\n\
-\n\
-PROPS-END\n\
-\n\
-\n\
-Node-path: trunk2\n\
-Node-kind: dir\n\
-Node-action: add\n\
-Prop-content-length: 10\n\
-Content-length: 10\n\
-\n\
-PROPS-END\n\
-\n\
-\n\
-";
+Prop-content-length: 56\nContent-length: 56\n\nK 8\nsvn:date\nV 27\n2024-01-02T03:04:05.000000Z\nPROPS-END\n\n\
+Node-path: trunk\nNode-kind: dir\nNode-action: add\nProp-content-length: 10\nContent-length: 10\n\nPROPS-END\n\n\n\
+Node-path: trunk/a\nNode-kind: dir\nNode-action: add\nProp-content-length: 10\nContent-length: 10\n\nPROPS-END\n\n\n\
+Node-path: trunk2\nNode-kind: dir\nNode-action: add\nProp-content-length: 10\nContent-length: 10\n\nPROPS-END\n\n\n";
 
 /// Where the node of `trunk2` begins.
 const TRUNK2: usize = 483;
