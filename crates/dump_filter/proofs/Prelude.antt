@@ -43,7 +43,7 @@ pub use Rattle.dump_filter.specs.steps.FilterState.{Accepts, AreAccepted, Filter
 pub use Rattle.dump_filter.specs.steps.Knowledge.{AreKept, AreRising, AreUpTo, GoesOn, HasCounts, KnowsAccepted, MayBecome, Shape, Stands, dropped_groups, in_group, is_plain, kept_numbers, open_from}
 pub use Rattle.dump_filter.specs.steps.Knowledge.Shape.{Fresh, Idle, Passed, Waits}
 pub use Rattle.dump_filter.specs.steps.MadeBytes.{made_or}
-pub use Rattle.dump_filter.specs.steps.NewLines.{AreLengths, StaysCopied, added, copy_number, is_copy_line, is_dropped, lines_that_stay, new_headers, new_record, numbered, put_all, renewed, renewed_lines, with_number}
+pub use Rattle.dump_filter.specs.steps.NewLines.{AreLengths, StaysCopied, added, copy_number, is_copy_line, lines_that_stay, new_headers, new_record, numbered, put_all, renewed, renewed_lines, with_number}
 pub use Rattle.dump_filter.specs.steps.NewProperties.{IsReadNode, dated_padding, property_of}
 pub use Rattle.dump_filter.specs.steps.OwnText.{copied_headers, node_own, revision_own}
 pub use Rattle.dump_filter.specs.steps.State.{CanCountMore, PendingRevision, PresentGroup, State, new_state, no_revisions, node_revision, pending_count, revision_count, view_group, view_pending, view_state}

@@ -1,5 +1,5 @@
 -- The words of std, of the definitions and of the lemmas below, for the proofs of this crate.
-pub use Rattle.std.proofs.Common.{Bool, Bor, Err, List, None, Ok, Option, Result, Some, [], ap, append_assoc, ap₂, arith, codes, count_by, drop, false, get_or, if◌then◌else◌, inl, inr, is_none, is_some, length, length-append, lit<, nat_lt, not, option_and_then, option_map, refl, slice_range, subst, suc, sym, take, true, unwrap_or, zero, ℕ, ◌&&◌, ◌++◌, ◌+◌, ◌-◌, ◌<◌, ◌==◌, ◌^◌, ◌||◌, ◌∙◌, ◌∷◌, ◌≡◌, ◌≢◌, ◌≤◌, ◌⊎◌}
+pub use Rattle.std.proofs.Common.{Bool, Bor, Err, List, None, Ok, Option, Result, Some, [], ap, append_assoc, ap₂, arith, codes, count_by, drop, false, get_or, if◌then◌else◌, inl, inr, is_none, is_some, length, length-append, lit<, nat_lt, not, option_and_then, refl, slice_range, subst, suc, sym, take, true, unwrap_or, zero, ℕ, ◌&&◌, ◌++◌, ◌+◌, ◌-◌, ◌<◌, ◌==◌, ◌^◌, ◌||◌, ◌∙◌, ◌∷◌, ◌≡◌, ◌≢◌, ◌≤◌, ◌⊎◌}
 pub use Rattle.std.proofs.Math.Logic.{∥∥₁_elim, ∥∥₁_map}
 pub use Rattle.std.proofs.Math.Bool.{and-false}
 pub use Rattle.std.proofs.lemmas.Bool.{and_parts, eqb-false, eqb-true, ne_eqb, true_from_ne_false}
@@ -25,7 +25,7 @@ pub use Rattle.dump_records.specs.steps.RecordPlaces.{place_after, record_betwee
 pub use Rattle.dump_records.specs.steps.RecordViews.{IsInBlock, part_of_node, record_dump, record_item}
 pub use Rattle.dump_records.specs.steps.Standing.{FollowsRecords, IsGap, StandsAt}
 pub use Rattle.dump_text.proofs.BlockLemmas.{block_size, has_value, no_block-lines}
-pub use Rattle.dump_text.proofs.BoolLemmas.{absurd_bool, false_true, first_false, first_true, neither_below, not_so, second_false, second_true}
+pub use Rattle.dump_text.proofs.BoolLemmas.{absurd_bool, false_true, first_false, neither_below, not_so, second_false}
 pub use Rattle.dump_text.proofs.PropertyChoice.{first_of}
 pub use Rattle.dump_text.proofs.ScanLemmas.{clash, header_text-is, is_line, lines_behind, no_line_here}
 pub use Rattle.dump_text.proofs.Splits.{Split, split}
@@ -34,7 +34,7 @@ pub use Rattle.dump_text.proofs.Unique.{blank_once, block_front, block_once, blo
 pub use Rattle.dump_text.proofs.ValueLemmas.{if_copied, place_has, value_lent}
 pub use Rattle.dump_text.specs.FaultTable.{IsLeastFault, fault_code}
 pub use Rattle.dump_text.specs.HeaderBlock.{BeginsWithBlock, HasBlock, block_fault, block_text, has_empty_line, is_block, lines_bytes, starts_with_lf}
-pub use Rattle.dump_text.specs.HeaderLine.{Header, count_named, has_byte, has_header, header_text, header_value, is_header}
+pub use Rattle.dump_text.specs.HeaderLine.{Header, has_byte, has_header, header_text, header_value, is_header}
 pub use Rattle.dump_text.specs.Names.{content_length_name, copy_path_name, copy_revision_name, deciding_names, length_names, md5_name, path_name, revision_name, sha1_name, uuid_name, version_name}
 pub use Rattle.dump_text.specs.Number.{number_of}
 pub use Rattle.dump_text.specs.steps.ReadHeaders.{IsBlockBetween, IsPartBetween, headers_between}
@@ -42,7 +42,7 @@ pub use Rattle.dump_text.specs.steps.Scanning.{HasLines, IsCutAtColon, IsFirstLi
 pub use Rattle.dump_text.specs.steps.ValuePlaces.{is_there, value_at}
 pub use Rattle.dump_text.specs.steps.Views.{block_after, block_dump, block_headers, block_place}
 pub use Rattle.dump_records.specs.declared.kind.KindParts.{KindParts}
-pub use Rattle.dump_records.specs.declared.kind.KindParts.TheVariants.{Copy, Node, Revision, Uuid, Version}
+pub use Rattle.dump_records.specs.declared.kind.KindParts.TheVariants.{Copy, Node, Version}
 pub use Rattle.dump_records.specs.declared.readings.Lengths.{Lengths}
 pub use Rattle.dump_records.specs.declared.readings.RecordHeader.{RecordHeader}
 pub use Rattle.dump_records.specs.declared.record.Record.{Record}

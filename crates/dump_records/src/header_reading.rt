@@ -1,9 +1,8 @@
 //! What the header lines of a block say of their record, and the rules that they may break.
-ghost use Rattle.std.specs.Prelude.{◌≡◌, ◌<◌, ◌+◌, ◌^◌, ◌==◌, ◌&&◌, not, IfSome, IsFalse, MatchResult, is_none, is_some, option_and_then, option_map, bytes_eq, unwrap_or, codes, []};
-ghost use Rattle.dump_text.specs.Names.{version_name, node_kind_name, copy_path_name, content_length_name};
+ghost use Rattle.std.specs.Prelude.{◌≡◌, ◌<◌, ◌+◌, ◌^◌, ◌==◌, ◌&&◌, not, IfSome, IsFalse, MatchResult, is_none, is_some, bytes_eq, unwrap_or, codes, []};
+ghost use Rattle.dump_text.specs.Names.{version_name, node_kind_name, content_length_name};
 ghost use Rattle.dump_text.specs.steps.KnownValues.{name_text};
 ghost use Rattle.dump_text.specs.HeaderLine.{has_header, header_value};
-ghost use Rattle.dump_text.specs.steps.ValuePlaces.{value_at};
 ghost use Rattle.dump_records.specs.HeaderRules.{header_number, header_length, property_length, text_length, says_true, has_bad_kind, has_bad_version, has_bad_number, has_bad_lengths};
 ghost use Rattle.dump_records.specs.steps.KindReading.{IsKindOf, version_in};
 ghost use Rattle.dump_records.specs.steps.HeaderReading.{dump_of, lines_of, AreNumbers, is_spelled, are_written, IsHeaderOf};

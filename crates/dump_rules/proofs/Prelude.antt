@@ -10,20 +10,18 @@ pub use Rattle.std.proofs.lemmas.List.{drop_at, drop_more, get_or-append-add, ge
 pub use Rattle.std.proofs.lemmas.List.Elements.{All-cons, All-contains, All-contains_itself, All-filter, All-head, All-tail, Contains-append_cases, Contains-append_left, Contains-get_or, filter-append, filter_passes}
 pub use Rattle.std.proofs.lemmas.List.Folds.{Any-from_list_any, list_any-from_Any, list_any_at, list_any_none}
 pub use Rattle.std.proofs.lemmas.List.Sorted.{All-permutation, Contains-permutation, IsNonDecreasingBy-from_sort_by_key, IsPartitionPoint-from_clause, IsPartitionedBy-leb, IsPartitionedBy-ltb, IsPermutation-map, IsPermutation-sym, list_any-IsPermutation}
-pub use Rattle.std.proofs.lemmas.List.Splits.{join_with_byte-slice_split, slice_split_at, slice_split_first, slice_split_none}
-pub use Rattle.std.proofs.lemmas.List.Sums.{fails_before_first, passes_at_first, prefix_len_stops, suffix_len-le-length, suffix_len_is, sum_by-append, sum_by-cons, sum_by_push}
+pub use Rattle.std.proofs.lemmas.List.Splits.{join_with_byte-slice_split, slice_split_at, slice_split_none}
+pub use Rattle.std.proofs.lemmas.List.Sums.{prefix_len_stops, suffix_len-le-length, suffix_len_is, sum_by-append, sum_by-cons, sum_by_push}
 pub use Rattle.std.proofs.lemmas.Map.Text.{is_eq-slice_cmp}
 pub use Rattle.std.proofs.lemmas.Option.{cond_some, option_and_then_some}
 pub use Rattle.std.proofs.lemmas.Result.{IfOk-weaker, on_ok_weaker}
 pub use Rattle.std.proofs.lemmas.Slice.Eq.{bytes_eq-Decides}
 pub use Rattle.std.proofs.lemmas.Str.Parse.{IsNumeralModel, digits_value_short, numerals_by_value}
-pub use Rattle.std.specs.BTreeMap.{is_at}
-pub use Rattle.std.specs.BTreeSet.{insert_key}
 pub use Rattle.std.specs.Char.{is_ascii_digit}
 pub use Rattle.std.specs.Cmp.Lexicographic.{slice_cmp}
-pub use Rattle.std.specs.List.{AllZip, join_with_byte, last_or, list_all, list_any, onto_first, position_or_len, slice_split, starts_with, suffix_len}
+pub use Rattle.std.specs.List.{AllZip, join_with_byte, last_or, list_all, list_any, onto_first, slice_split, starts_with, suffix_len}
 pub use Rattle.std.specs.List.Sorted.{IsNonDecreasing, IsNonDecreasingBy, IsPartitionPoint, IsPartitionedBy, IsPermutation}
-pub use Rattle.std.specs.Ordering.{is_eq, match_ordering, nat_cmp}
+pub use Rattle.std.specs.Ordering.{is_eq, nat_cmp}
 pub use Rattle.std.specs.Result.{IsErrAnd}
 pub use Rattle.std.specs.Str.Parse.{digits_value}
 pub use Rattle.std.specs.declared.cmp.Ordering.{Ordering}
