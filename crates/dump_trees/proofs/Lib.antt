@@ -3,4 +3,6 @@ pub mod paths
 pub mod changes
 pub mod histories
 pub mod quiet
+pub mod expansions
+pub mod cuts
 pub mod values

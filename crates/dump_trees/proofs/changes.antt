@@ -7,3 +7,4 @@ pub mod StepLemmas
 pub mod FilteredChange
 pub mod FolderLemmas
 pub mod RevisionLemmas
+pub mod CutLemmas

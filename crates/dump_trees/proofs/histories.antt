@@ -5,3 +5,4 @@ pub mod FrontLemmas
 pub mod MovedLemmas
 pub mod AlikeLemmas
 pub mod NamingLemmas
+pub mod StandingNames

@@ -3,3 +3,8 @@ pub mod PathNames
 pub mod KeptPaths
 pub mod PrefixRests
 pub mod GivenFolders
+pub mod PrefixPaths
+pub mod SiblingLemmas
+pub mod NamedLines
+pub mod CanonicalLemmas
+pub mod CutLineLemmas

@@ -6,7 +6,7 @@ use Rattle.dump_trees.proofs.changes.TreeLemmas.{below_rest, below_found}
 -- paths
 
 -- the names of a path but the last
-abbrev front : List ℕ → NodePath → NodePath
+abbrev pub front : List ℕ → NodePath → NodePath
 front name [] = []
 front name (other ∷ path) = name ∷ front other path
 
@@ -14,7 +14,7 @@ parent_is_front : (name : List ℕ) (path : NodePath) → parent_of (name ∷ pa
 parent_is_front name [] = refl
 parent_is_front name (other ∷ path) = ap (λ o. option_map (λ p. name ∷ p) o) (parent_is_front other path)
 
-parent_behind : (top : NodePath) (name : List ℕ) (path : NodePath)
+pub parent_behind : (top : NodePath) (name : List ℕ) (path : NodePath)
     → parent_of (top ++ name ∷ path) ≡ Some (top ++ front name path)
 parent_behind [] name path = parent_is_front name path
 parent_behind (first ∷ []) name path = ap (λ o. option_map (λ p. first ∷ p) o) (parent_is_front name path)

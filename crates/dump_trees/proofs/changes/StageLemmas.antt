@@ -20,7 +20,8 @@ module _ (settings : Settings) (IsNew : NewProperty) where
   follows_then f g (Some old) None first then = absurd first
   follows_then f g (Some old) (Some new) first then = then old new first
 
-  follows_if : (b c : Bool) (old new : Tree) → (b ≡ true → c ≡ true) → IsRestricted settings IsNew old new
+  -- so where it goes on under a condition
+  pub follows_if : (b c : Bool) (old new : Tree) → (b ≡ true → c ≡ true) → IsRestricted settings IsNew old new
       → Follows (cond b (Some old) None) (cond c (Some new) None)
   follows_if false c old new same r = tt
   follows_if true true old new same r = r

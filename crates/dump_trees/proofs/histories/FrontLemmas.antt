@@ -98,7 +98,7 @@ each_quiet_front settings make entries = quiet_front settings (IsMade make) entr
 -- trees of more revisions
 
 -- the trees of a repository stay where more revisions are loaded
-loaded_behind : (trees : List Tree) (youngest : Tree) (revisions : List (List Change)) (all : List Tree)
+pub loaded_behind : (trees : List Tree) (youngest : Tree) (revisions : List (List Change)) (all : List Tree)
     → loaded trees youngest revisions ≡ Some all → (more : List Tree) × (all ≡ trees ++ more)
 loaded_behind trees youngest [] all is =
     ([], sym (let both : Some trees ≡ Some all = is in let same : trees ≡ all = cc in same) ∙ sym (append-nil trees))

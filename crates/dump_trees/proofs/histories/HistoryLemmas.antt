@@ -9,7 +9,7 @@ use Rattle.dump_trees.proofs.histories.KeptNumbers.{length_push, get_last, get_b
 
 -- the start
 
-root_folders : HasFolders root_alone
+pub root_folders : HasFolders root_alone
 root_folders [] name rest node at = absurd (let bad : None ≡ Some node = at in cc)
 root_folders (first ∷ path) name rest node at = absurd (let bad : None ≡ Some node = at in cc)
 
@@ -29,7 +29,7 @@ module _ (settings : Settings) (IsNew : NewProperty) (entries : KeepsEntries IsN
     (kept : KeptRevisions)
     (zero_first : kept.first ≡ 0) (begun : List ℕ) (others_behind : List (List Change)) where
   -- so far each number is its own image
-  record IsEven (number : ℕ) (trees others : List Tree) : Type 0 where
+  pub record IsEven (number : ℕ) (trees others : List Tree) : Type 0 where
     size : length others ≡ suc number
     own : (n : ℕ) (tree : Tree) → slice_get trees n ≡ Some tree → image kept n ≡ Some n
 
@@ -43,29 +43,29 @@ module _ (settings : Settings) (IsNew : NewProperty) (entries : KeepsEntries IsN
 
   -- how the kept copies of these revisions find their sources: revisions are renumbered, or the numbers are even, or
   -- there are no such copies
-  abbrev FindsCopies : ℕ → List Tree → List Tree → List (List Change) → Type 0
+  abbrev pub FindsCopies : ℕ → List Tree → List Tree → List (List Change) → Type 0
   FindsCopies number trees others revisions = (settings.renumber ≡ true)
       ⊎ ((IsEven number trees others × (copies_none_behind revisions ≡ true)) ⊎ (copies_none revisions ≡ true))
 
   -- what holds between the two loads after the revision of this number, while these revisions are left, and behind them
   -- those that aren't loaded; the kept numbers of the loaded ones, once all are, are those that begun lists
-  record Ongoing (number : ℕ) (trees others : List Tree) (youngest restricted : Tree) (revisions : List (List Change))
+  pub record Ongoing (number : ℕ) (trees others : List Tree) (youngest restricted : Tree) (revisions : List (List Change))
       : Type 0 where
-    folders : AllHaveFolders (slice_get trees)
-    has : HasFolders youngest
-    restricts : IsRestricted settings IsNew youngest restricted
-    size : length trees ≡ suc number
-    last : slice_get trees number ≡ Some youngest
-    earlier : List ℕ
-    numbers : kept.numbers ≡ earlier ++ kept_from settings rule (suc number) (revisions ++ others_behind)
-    begins : begun ≡ earlier ++ kept_from settings rule (suc number) revisions
-    low : AreBelow (suc number) earlier
-    count : length others ≡ length earlier
-    images : ImagesRestrict settings IsNew (image kept) trees others
-    found : FindsCopies number trees others revisions
+    pub folders : AllHaveFolders (slice_get trees)
+    pub has : HasFolders youngest
+    pub restricts : IsRestricted settings IsNew youngest restricted
+    pub size : length trees ≡ suc number
+    pub last : slice_get trees number ≡ Some youngest
+    pub earlier : List ℕ
+    pub numbers : kept.numbers ≡ earlier ++ kept_from settings rule (suc number) (revisions ++ others_behind)
+    pub begins : begun ≡ earlier ++ kept_from settings rule (suc number) revisions
+    pub low : AreBelow (suc number) earlier
+    pub count : length others ≡ length earlier
+    pub images : ImagesRestrict settings IsNew (image kept) trees others
+    pub found : FindsCopies number trees others revisions
 
   -- with renumbering the trees that copies name are at the images
-  renumbered_restrict : settings.renumber ≡ true → (trees others : List Tree)
+  pub renumbered_restrict : settings.renumber ≡ true → (trees others : List Tree)
       → ImagesRestrict settings IsNew (image kept) trees others
       → AreRestricted settings IsNew (IsWrittenNumber settings kept) (slice_get trees) (slice_get others)
   renumbered_restrict renumber trees others images n written tree numbered at =
@@ -98,7 +98,7 @@ module _ (settings : Settings) (IsNew : NewProperty) (entries : KeepsEntries IsN
   last_tree number trees tree size = ap (slice_get (trees ++ tree ∷ [])) (sym size) ∙ get_last trees tree
 
   -- a kept revision
-  next_kept : (number : ℕ) (trees others : List Tree) (youngest restricted : Tree) (changes : List Change)
+  pub next_kept : (number : ℕ) (trees others : List Tree) (youngest restricted : Tree) (changes : List Change)
       (revisions : List (List Change)) → Ongoing number trees others youngest restricted (changes ∷ revisions)
       → keeps_revision settings rule changes ≡ true → (tree other : Tree) → HasFolders tree
       → IsRestricted settings IsNew tree other
@@ -178,7 +178,7 @@ module _ (settings : Settings) (IsNew : NewProperty) (entries : KeepsEntries IsN
           ]
 
   -- a dropped revision
-  next_dropped : (number : ℕ) (trees others : List Tree) (youngest restricted : Tree) (changes : List Change)
+  pub next_dropped : (number : ℕ) (trees others : List Tree) (youngest restricted : Tree) (changes : List Change)
       (revisions : List (List Change)) → Ongoing number trees others youngest restricted (changes ∷ revisions)
       → keeps_revision settings rule changes ≡ false → (tree : Tree) → HasFolders tree
       → ((other : Tree) → IsRestricted settings IsNew youngest other → IsRestricted settings IsNew tree other)
@@ -235,11 +235,11 @@ module _ (settings : Settings) (IsNew : NewProperty) (entries : KeepsEntries IsN
           ]
 
   -- the end of both loads
-  Ends : List Tree → Option (List Tree) → Type 0
+  unfoldable pub Ends : List Tree → Option (List Tree) → Type 0
   Ends trees o = (others : List Tree) × (o ≡ Some others) × (length others ≡ length begun)
       × ImagesRestrict settings IsNew (image kept) trees others
 
-  ended : (number : ℕ) (trees others : List Tree) (youngest restricted : Tree)
+  pub ended : (number : ℕ) (trees others : List Tree) (youngest restricted : Tree)
       → Ongoing number trees others youngest restricted [] → (final : List Tree) → Some trees ≡ Some final
       → Ends final (Some others)
   unfolding Ends

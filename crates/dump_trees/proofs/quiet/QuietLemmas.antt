@@ -126,7 +126,7 @@ included_below settings include path rest kept =
     ∙ matched_below settings.prefixes path rest
     (ap (λ side. side_keeps side (matched settings.prefixes path)) (sym include) ∙ kept)
 
-alike : (settings : Settings) (side : Side) → settings.side ≡ side → (path other rest : NodePath)
+pub alike : (settings : Settings) (side : Side) → settings.side ≡ side → (path other rest : NodePath)
     → IsTrue (keeps settings path) → IsTrue (keeps settings other)
     → cuts_alike side settings path other ≡ true → cuts_alike side settings other path ≡ true
     → keeps settings (path ++ rest) ≡ keeps settings (other ++ rest)

@@ -1,0 +1,27 @@
+-- Changes that are written out as several changes, each of which the cut separates.
+pub mod LeadLemmas
+pub mod BranchLemmas
+pub mod WritingLemmas
+pub mod QuietParts
+pub mod ExpandLemmas
+pub mod DeletionLemmas
+pub mod CaseLemmas
+pub mod TopLemmas
+pub mod StandingLemmas
+pub mod LookLemmas
+pub mod NameLemmas
+pub mod BackLemmas
+pub mod FiniteLemmas
+pub mod FiniteSteps
+pub mod EveryLemmas
+pub mod FilterLemmas
+pub mod ComingLemmas
+pub mod WrittenLemmas
+pub mod SetLemmas
+pub mod FoundSiblings
+pub mod BackFound
+pub mod StayingLemmas
+pub mod TrimLemmas
+pub mod TrimmedHistories
+pub mod TrimmedForms
+pub mod TrimmedNumbers

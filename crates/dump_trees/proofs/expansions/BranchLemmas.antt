@@ -1,0 +1,178 @@
+-- What stands at a path of a tree in which a branch was put, and changes that write a branch out.
+use Rattle.dump_trees.proofs.Prelude.{◌≡◌, cond, bytes_eq, ◌||◌, refl, ap, ◌∙◌, subst, append-nil, option_map, both_ways, bytes_eq-Decides, Property, NodePath, below, parent_of, Node, Tree, HasFolders, is_folder, at_or_below, grafted, at_top, put, is_folder_at, has_folder}
+use Rattle.std.proofs.Common.{ℕ, Bool, true, false, List, [], ◌∷◌, ◌++◌, Option, Some, None, option_and_then}
+use Rattle.dump_trees.specs.Branches.{Branch, Branches, tree_of, found, has_name}
+use Rattle.dump_trees.proofs.changes.TreeLemmas.{below_rest, below_found, below_top, parent_rest}
+
+-- paths
+
+-- the rest of a path behind two tops
+pub below_joined : (top more path : NodePath)
+    → below (top ++ more) path ≡ option_and_then (λ rest. below more rest) (below top path)
+below_joined [] more path = refl
+below_joined (name ∷ top) more [] = refl
+below_joined (name ∷ top) more (other ∷ path) = cases (below_joined top more path) (bytes_eq name other)
+  where
+    cases : below (top ++ more) path ≡ option_and_then (λ rest. below more rest) (below top path) → (b : Bool)
+        → cond b (below (top ++ more) path) None
+        ≡ option_and_then (λ rest. below more rest) (cond b (below top path) None)
+    cases further true = further
+    cases further false = refl
+
+-- a path in a folder has the folder for its parent
+pub parent_child : (path : NodePath) (name : List ℕ) → parent_of (path ++ name ∷ []) ≡ Some path
+parent_child [] name = refl
+parent_child (first ∷ []) name = refl
+parent_child (first ∷ second ∷ path) name =
+    ap (λ o. option_map (λ p. first ∷ p) o) (parent_child (second ∷ path) name)
+
+-- the parent of a path isn't at or below it
+pub parent_apart : (path parent : NodePath) → parent_of path ≡ Some parent → below path parent ≡ None
+parent_apart path parent is =
+    let rest = parent_rest path parent is in
+    ap (λ p. below p parent) rest.1
+    ∙ (below_joined parent (rest.0 ∷ []) parent
+    ∙ ap (option_and_then (λ more. below (rest.0 ∷ []) more)) (below_top parent))
+
+-- a folder isn't at or below what stands in it
+pub child_apart : (path : NodePath) (name : List ℕ) → below (path ++ name ∷ []) path ≡ None
+child_apart path name = parent_apart (path ++ name ∷ []) path (parent_child path name)
+
+-- trees
+
+-- all is as it was outside of the path
+abbrev pub IsSameOutside : NodePath → Tree → Tree → Type 0
+IsSameOutside top before after = (path : NodePath) → below top path ≡ None → after path ≡ before path
+
+pub graft_outside : (top : NodePath) (new old : Tree) → IsSameOutside top old (grafted top new old)
+graft_outside top new old path apart = ap (λ o. at_or_below o new (old path)) apart
+
+pub graft_at : (top : NodePath) (new old : Tree) (rest : NodePath) → grafted top new old (top ++ rest) ≡ new rest
+graft_at top new old rest = ap (λ o. at_or_below o new (old (top ++ rest))) (below_found top rest)
+
+pub put_at : (top : NodePath) (node : Node) (tree : Tree) → put top node tree top ≡ Some node
+put_at top node tree = ap (λ o. at_top o node (tree top)) (below_top top)
+
+at_twice : (o : Option NodePath) (n m : Node) (old : Option Node) → at_top o n (at_top o m old) ≡ at_top o n old
+at_twice None n m old = refl
+at_twice (Some []) n m old = refl
+at_twice (Some (name ∷ rest)) n m old = refl
+
+-- of two nodes put at a path the later one stands there
+pub put_twice : (top : NodePath) (n m : Node) (tree : Tree) → put top n (put top m tree) ≡ put top n tree
+put_twice top n m tree = λ i. λ path. at_twice (below top path) n m (tree path) i
+
+-- outside of the path its folder is what it was
+pub same_folder : (top : NodePath) (before after : Tree) → IsSameOutside top before after
+    → has_folder after top ≡ has_folder before top
+same_folder top before after same = cases (parent_of top) refl
+  where
+    cases : (o : Option NodePath) → parent_of top ≡ o → is_folder_at after o ≡ is_folder_at before o
+    cases None at = refl
+    cases (Some parent) at = ap is_folder (same parent (parent_apart top parent at))
+
+-- what stands in a folder stands in one
+pub child_folder : (tree : Tree) (path : NodePath) (name : List ℕ) → is_folder (tree path) ≡ true
+    → has_folder tree (path ++ name ∷ []) ≡ true
+child_folder tree path name is = ap (λ o. is_folder_at tree o) (parent_child path name) ∙ is
+
+-- nothing stands at the path or below it
+abbrev pub IsClear : Tree → NodePath → Type 0
+IsClear tree path = (rest : NodePath) → tree (path ++ rest) ≡ None
+
+-- where nothing stands at a path, nothing does below it
+pub clear_below : (tree : Tree) → HasFolders tree → (path : NodePath) → tree path ≡ None → IsClear tree path
+clear_below tree folders path none [] = ap tree (append-nil path) ∙ none
+clear_below tree folders path none (name ∷ rest) = cases (tree (path ++ name ∷ rest)) refl
+  where
+    cases : (o : Option Node) → tree (path ++ name ∷ rest) ≡ o → o ≡ None
+    cases None at = refl
+    cases (Some node) at =
+        absurd (both_ways (is_folder (tree path)) (ap is_folder none) (folders path name rest node at))
+
+-- the root of a branch stands
+pub root_stands : (branch : Branch) → (node : Node) × (tree_of branch [] ≡ Some node)
+root_stands (Branch.Folder props inside) = (Node.Folder props, refl)
+root_stands (Branch.File props text) = (Node.File props text, refl)
+
+-- the tree in which the branches stand in a folder
+
+abbrev pub laid_at : Option NodePath → Branches → Option Node → Option Node
+laid_at None branches old = old
+laid_at (Some []) branches old = old
+laid_at (Some (name ∷ rest)) branches old = found branches name rest old
+
+-- the tree with these branches in a folder
+abbrev pub laid : NodePath → Branches → Tree → Tree
+laid path branches tree = λ p. laid_at (below path p) branches (tree p)
+
+-- a name that no branch has
+pub not_found : (branches : Branches) (name : List ℕ) (rest : NodePath) (other : Option Node)
+    → has_name name branches ≡ false → found branches name rest other ≡ other
+not_found Branches.NoMore name rest other none = refl
+not_found (Branches.Named first branch others) name rest other none =
+    cases (not_found others name rest other) (bytes_eq first name) none
+  where
+    cases : (has_name name others ≡ false → found others name rest other ≡ other) → (b : Bool)
+        → (b || has_name name others) ≡ false
+        → cond b (tree_of branch rest) (found others name rest other) ≡ other
+    cases further true none = absurd (let bad : true ≡ false = none in cc)
+    cases further false none = further none
+
+-- no branches
+pub laid_none : (path : NodePath) (tree : Tree) → laid path Branches.NoMore tree ≡ tree
+laid_none path tree = λ i. λ p. cases (below path p) (tree p) i
+  where
+    cases : (o : Option NodePath) (old : Option Node) → laid_at o Branches.NoMore old ≡ old
+    cases None old = refl
+    cases (Some []) old = refl
+    cases (Some (name ∷ rest)) old = refl
+
+-- one branch, and the others behind it
+pub laid_first : (path : NodePath) (name : List ℕ) (branch : Branch) (others : Branches) (tree : Tree)
+    → has_name name others ≡ false
+    → laid path others (grafted (path ++ name ∷ []) (tree_of branch) tree)
+    ≡ laid path (Branches.Named name branch others) tree
+laid_first path name branch others tree none = λ i. λ p.
+    (ap (λ o. laid_at (below path p) others (at_or_below o (tree_of branch) (tree p)))
+    (below_joined path (name ∷ []) p)
+    ∙ cases (below path p) (tree p)) i
+  where
+    cases : (o : Option NodePath) (old : Option Node)
+        → laid_at o others (at_or_below (option_and_then (λ rest. below (name ∷ []) rest) o) (tree_of branch) old)
+        ≡ laid_at o (Branches.Named name branch others) old
+    cases None old = refl
+    cases (Some []) old = refl
+    cases (Some (other ∷ rest)) old = sides (bytes_eq name other) refl
+      where
+        sides : (b : Bool) → bytes_eq name other ≡ b
+            → found others other rest (at_or_below (cond b (Some rest) None) (tree_of branch) old)
+            ≡ cond b (tree_of branch rest) (found others other rest old)
+        sides true same =
+            not_found others other rest (tree_of branch rest)
+            (subst (λ n. has_name n others ≡ false) ((bytes_eq-Decides name other).0 same) none)
+        sides false apart = refl
+
+-- a folder with its branches, where nothing stood
+pub laid_folder : (path : NodePath) (props : List Property) (inside : Branches) (tree : Tree) → IsClear tree path
+    → laid path inside (put path (Node.Folder props) tree) ≡ grafted path (tree_of (Branch.Folder props inside)) tree
+laid_folder path props inside tree clear = λ i. λ p. cases p (below path p) refl i
+  where
+    cases : (p : NodePath) (o : Option NodePath) → below path p ≡ o
+        → laid_at o inside (at_top o (Node.Folder props) (tree p))
+        ≡ at_or_below o (tree_of (Branch.Folder props inside)) (tree p)
+    cases p None at = refl
+    cases p (Some []) at = refl
+    cases p (Some (name ∷ rest)) at =
+        ap (λ other. found inside name rest other)
+        (ap tree (below_rest path p (name ∷ rest) at) ∙ clear (name ∷ rest))
+
+pub file_grafted : (path : NodePath) (props : List Property) (text : List ℕ) (tree : Tree) → IsClear tree path
+    → put path (Node.File props text) tree ≡ grafted path (tree_of (Branch.File props text)) tree
+file_grafted path props text tree clear = λ i. λ p. cases p (below path p) refl i
+  where
+    cases : (p : NodePath) (o : Option NodePath) → below path p ≡ o
+        → at_top o (Node.File props text) (tree p) ≡ at_or_below o (tree_of (Branch.File props text)) (tree p)
+    cases p None at = refl
+    cases p (Some []) at = refl
+    cases p (Some (name ∷ rest)) at = ap tree (below_rest path p (name ∷ rest) at) ∙ clear (name ∷ rest)

@@ -1,0 +1,517 @@
+-- Each name in a folder is among those that can stand there; so a branch that is found stands.
+use Rattle.dump_trees.proofs.Prelude.{◌≡◌, zero, suc, ◌≤◌, ◌||◌, cond, nat_le, bytes_eq, refl, sym, ap, ◌∙◌, subst, inl, inr, ◌⊎◌, arith, append-nil, append_assoc, slice_get, IfSome, list_any, both_ways, or_left, or_right, or_cases, bytes_eq-Decides, Property, NodePath, below, Node, Tree, HasFolders, is_folder, root_alone, put, Made, PropertyChange, TextChange, Change, History, is_copied, deleted, made_in, node_put, has_folder, props_set, text_set, step}
+use Rattle.std.proofs.Common.{ℕ, Bool, true, false, ◌&&◌, List, [], ◌∷◌, ◌++◌, Option, Some, None, option_and_then, length, is_some, is_none}
+use Rattle.dump_trees.specs.Branches.{Branch, Branches, tree_of, found, has_name, HasBranch}
+use Rattle.dump_trees.specs.Looking.{Placed, placed_from, end_of, touches_rest, touches_path, holds_there, latest, left_by, origin_of, node_with_props, node_with_text, set_by, look}
+use Rattle.dump_trees.specs.Listing.{name_made, name_below, names_made, names_from, names_left, names_there, names_behind, names_within, names_look, IsLooked, AreLooked, NamesAreLooked, LookedBranchStands, LookedBranchStandsThen}
+use Rattle.dump_trees.proofs.changes.TreeLemmas.{below_rest, below_found}
+use Rattle.dump_trees.proofs.changes.FolderLemmas.{step_keeps}
+use Rattle.dump_trees.proofs.histories.HistoryLemmas.{root_folders}
+use Rattle.dump_trees.proofs.expansions.BranchLemmas.{clear_below, not_found}
+use Rattle.dump_trees.proofs.expansions.StandingLemmas.{origin_in, step_has, step_untouched, copy_has_tree}
+use Rattle.dump_trees.proofs.expansions.LookLemmas.{StepsAt, Runs, look_runs, runs_before, loaded_begun, count_whole}
+
+-- lists of names
+
+-- whether a name is among these
+abbrev pub Has : List ℕ → List (List ℕ) → Type 0
+Has name names = list_any (λ other. bytes_eq other name) names ≡ true
+
+has_left : (name : List ℕ) (names others : List (List ℕ)) → Has name names → Has name (names ++ others)
+has_left name [] others is = absurd (let bad : false ≡ true = is in cc)
+has_left name (first ∷ names) others is =
+    elim (or_cases (bytes_eq first name) (list_any (λ other. bytes_eq other name) names) is) [
+      | inl here ↦ or_left (bytes_eq first name) (list_any (λ other. bytes_eq other name) (names ++ others)) here
+      | inr there ↦ or_right (bytes_eq first name) (list_any (λ other. bytes_eq other name) (names ++ others))
+          (has_left name names others there)
+    ]
+
+has_right : (name : List ℕ) (names others : List (List ℕ)) → Has name others → Has name (names ++ others)
+has_right name [] others is = is
+has_right name (first ∷ names) others is =
+    or_right (bytes_eq first name) (list_any (λ other. bytes_eq other name) (names ++ others))
+    (has_right name names others is)
+
+-- names that more changes add don't take others away
+has_more : (name : List ℕ) (new names others : List (List ℕ)) → Has name (names ++ others)
+    → Has name ((new ++ names) ++ others)
+has_more name new names others is =
+    subst (λ ns. Has name ns) (sym (append_assoc new names others)) (has_right name new (names ++ others) is)
+
+-- paths
+
+-- one more name at the end of the rest
+below_more : (top path rest more : NodePath) → below top path ≡ Some rest → below top (path ++ more) ≡ Some (rest ++ more)
+below_more top path rest more at =
+    ap (λ p. below top (p ++ more)) (below_rest top path rest at)
+    ∙ (ap (λ p. below top p) (append_assoc top rest more) ∙ below_found top (rest ++ more))
+
+-- what lies at or below a path in a folder, and isn't that path, has the folder at or below it
+below_less : (top path : NodePath) (name first : List ℕ) (rest : NodePath)
+    → below top (path ++ name ∷ []) ≡ Some (first ∷ rest) → (more : NodePath) × (below top path ≡ Some more)
+below_less [] path name first rest at = (path, refl)
+below_less (one ∷ []) [] name first rest at = cases (bytes_eq one name) at
+  where
+    cases : (b : Bool) → cond b (Some []) None ≡ Some (first ∷ rest)
+        → (more : NodePath) × (below (one ∷ []) [] ≡ Some more)
+    cases true is = absurd (let bad : Some [] ≡ Some (first ∷ rest) = is in cc)
+    cases false is = absurd (let bad : None ≡ Some (first ∷ rest) = is in cc)
+below_less (one ∷ two ∷ top) [] name first rest at = cases (bytes_eq one name) at
+  where
+    cases : (b : Bool) → cond b None None ≡ Some (first ∷ rest)
+        → (more : NodePath) × (below (one ∷ two ∷ top) [] ≡ Some more)
+    cases true is = absurd (let bad : None ≡ Some (first ∷ rest) = is in cc)
+    cases false is = absurd (let bad : None ≡ Some (first ∷ rest) = is in cc)
+below_less (one ∷ top) (other ∷ path) name first rest at =
+    cases (below_less top path name first rest) (bytes_eq one other) at
+  where
+    cases : (below top (path ++ name ∷ []) ≡ Some (first ∷ rest) → (more : NodePath) × (below top path ≡ Some more))
+        → (b : Bool) → cond b (below top (path ++ name ∷ [])) None ≡ Some (first ∷ rest)
+        → (more : NodePath) × (cond b (below top path) None ≡ Some more)
+    cases further true is = further is
+    cases further false is = absurd (let bad : None ≡ Some (first ∷ rest) = is in cc)
+
+-- single changes
+
+-- nothing has no properties and no text
+set_nothing : (c : Change) (rest : NodePath) → set_by c rest None ≡ None
+set_nothing c [] = both c.props c.text
+  where
+    props_none : (props : Option PropertyChange) → node_with_props props None ≡ None
+    props_none None = refl
+    props_none (Some change) = refl
+
+    text_none : (text : Option TextChange) → node_with_text text None ≡ None
+    text_none None = refl
+    text_none (Some change) = refl
+
+    both : (props : Option PropertyChange) (text : Option TextChange)
+        → node_with_text text (node_with_props props None) ≡ None
+    both props text = ap (node_with_text text) (props_none props) ∙ text_none text
+set_nothing c (name ∷ rest) = refl
+
+-- what stands after a change, and wasn't deleted, stood before
+stood_before : (history : History) (c : Change) (rest : NodePath) (old : Option Node)
+    → is_some (set_by c rest (origin_in history old (left_by c.deletes))) ≡ true
+    → (c.deletes ≡ false) × (is_some old ≡ true)
+stood_before history c rest old is = cases c.deletes refl is
+  where
+    by_old : (o : Option Node) → is_some (set_by c rest o) ≡ true → is_some o ≡ true
+    by_old None some =
+        absurd (let bad : false ≡ true = sym (ap is_some (set_nothing c rest)) ∙ some in cc)
+    by_old (Some node) some = refl
+
+    cases : (d : Bool) → c.deletes ≡ d → is_some (set_by c rest (origin_in history old (left_by d))) ≡ true
+        → (c.deletes ≡ false) × (is_some old ≡ true)
+    cases true deletes some =
+        absurd (let bad : false ≡ true = sym (ap is_some (set_nothing c rest)) ∙ some in cc)
+    cases false stays some = (stays, by_old old some)
+
+-- a new node that takes the place of nothing is made where nothing stands
+new_needs_none : (history : History) (before after : Tree) (c : Change) → c.deletes ≡ false
+    → (c.made ≡ Some Made.NewFolder) ⊎ (c.made ≡ Some Made.NewFile) → step history before c ≡ Some after
+    → before c.path ≡ None
+new_needs_none history before after c stays (inl made) at =
+    cases (before c.path) refl
+    (sym (λ i. option_and_then (λ t. text_set c.text c.path t)
+    (option_and_then (λ t. props_set c.props c.path t)
+    (option_and_then (λ t. made_in history (made i) c.path t) (deleted (stays i) c.path before)))) ∙ at)
+  where
+    cases : (o : Option Node) → before c.path ≡ o
+        → option_and_then (λ t. text_set c.text c.path t)
+        (option_and_then (λ t. props_set c.props c.path t) (node_put (Node.Folder []) c.path before)) ≡ Some after
+        → o ≡ None
+    cases None stands done = refl
+    cases (Some node) stands done =
+        absurd (let bad : None ≡ Some after
+        = sym (ap (λ o. option_and_then (λ t. text_set c.text c.path t)
+        (option_and_then (λ t. props_set c.props c.path t)
+        (cond (is_none o && has_folder before c.path) (Some (put c.path (Node.Folder []) before)) None))) stands) ∙ done
+        in cc)
+new_needs_none history before after c stays (inr made) at =
+    cases (before c.path) refl
+    (sym (λ i. option_and_then (λ t. text_set c.text c.path t)
+    (option_and_then (λ t. props_set c.props c.path t)
+    (option_and_then (λ t. made_in history (made i) c.path t) (deleted (stays i) c.path before)))) ∙ at)
+  where
+    cases : (o : Option Node) → before c.path ≡ o
+        → option_and_then (λ t. text_set c.text c.path t)
+        (option_and_then (λ t. props_set c.props c.path t) (node_put (Node.File [] []) c.path before)) ≡ Some after
+        → o ≡ None
+    cases None stands done = refl
+    cases (Some node) stands done =
+        absurd (let bad : None ≡ Some after
+        = sym (ap (λ o. option_and_then (λ t. text_set c.text c.path t)
+        (option_and_then (λ t. props_set c.props c.path t)
+        (cond (is_none o && has_folder before c.path) (Some (put c.path (Node.File [] []) before)) None))) stands) ∙ done
+        in cc)
+
+module _ (placed : List Placed) (bound : ℕ) (trees : List Tree) (runs : Runs root_alone placed bound trees) where
+  -- the trees between changes have folders
+  folders_at : (more count : ℕ) → count ≤ more → (tree : Tree) → slice_get trees count ≡ Some tree → HasFolders tree
+  folders_at more zero low tree at =
+      let same : root_alone ≡ tree = (let both : Some root_alone ≡ Some tree = sym runs.start ∙ at in cc) in
+      subst (λ t. HasFolders t) same root_folders
+  folders_at zero (suc count) low tree at = absurd (omega arith)
+  folders_at (suc more) (suc count) low tree at =
+      let s = runs.each count tree at in
+      subst (λ o. IfSome o HasFolders) s.leads
+      (step_keeps s.history
+      (λ number old is. let early = s.earlier number old is in
+      folders_at more (end_of placed number) (omega arith) old (s.found number old is))
+      s.before s.at.change (folders_at more count (omega arith) s.before s.was))
+
+  -- each name that stands is among these, if no more than this many changes are followed
+  abbrev Lists : ℕ → Type 0
+  Lists more = (count : ℕ) → count ≤ more → (tree : Tree) → slice_get trees count ≡ Some tree → (path : NodePath)
+      (name : List ℕ) → is_some (tree (path ++ name ∷ [])) ≡ true → Has name (names_within more placed count path)
+
+  module _ (more : ℕ) (lists : Lists more) (path : NodePath) (name : List ℕ) where
+    -- what a change that touches the path leaves below it
+    module _ (place : ℕ) (low : place ≤ more) (after : Tree) (s : StepsAt placed bound trees place after)
+        (stands : is_some (after (path ++ name ∷ [])) ≡ true) where
+      child_stands : (rest : NodePath) → below s.at.change.path path ≡ Some rest
+          → is_some (set_by s.at.change (rest ++ name ∷ [])
+          (origin_in s.history (s.before (path ++ name ∷ []))
+          (origin_of s.at.change.deletes s.at.change.made (rest ++ name ∷ [])))) ≡ true
+      child_stands rest at =
+          ap is_some (step_has s.history s.before after s.at.change (path ++ name ∷ []) (rest ++ name ∷ [])
+          (below_more s.at.change.path path rest (name ∷ []) at) s.leads)
+          ∙ stands
+
+      -- what stood there before
+      from_before : is_some (s.before (path ++ name ∷ [])) ≡ true → Has name (names_within more placed place path)
+      from_before some = lists place low s.before s.was path name some
+
+      below_set : (rest : NodePath) (old : Option Node) → is_some (set_by s.at.change (rest ++ name ∷ []) old) ≡ true
+          → is_some old ≡ true
+      below_set [] old is = is
+      below_set (first ∷ rest) old is = is
+
+      made_below : (made : Option Made) → s.at.change.made ≡ made → (rest : NodePath)
+          → below s.at.change.path path ≡ Some rest → touches_rest (Some rest) s.at.change ≡ true
+          → is_some (origin_in s.history (s.before (path ++ name ∷ []))
+          (origin_of s.at.change.deletes made (rest ++ name ∷ []))) ≡ true
+          → Has name (names_from (names_within more placed) placed place path
+          (origin_of s.at.change.deletes made rest))
+      made_below None is rest at touched some = sides s.at.change.deletes some
+        where
+          sides : (d : Bool) → is_some (origin_in s.history (s.before (path ++ name ∷ [])) (left_by d)) ≡ true
+              → Has name (names_from (names_within more placed) placed place path (left_by d))
+          sides true some = absurd (let bad : false ≡ true = some in cc)
+          sides false some = from_before some
+      made_below (Some Made.NewFolder) is [] at touched some = sides s.at.change.deletes refl some
+        where
+          sides : (d : Bool) → s.at.change.deletes ≡ d
+              → is_some (origin_in s.history (s.before (path ++ name ∷ [])) (left_by d)) ≡ true → Has name []
+          sides true deletes some = absurd (let bad : false ≡ true = some in cc)
+          sides false stays some =
+              absurd (both_ways (is_some (s.before (path ++ name ∷ [])))
+              (ap is_some
+              (clear_below s.before (folders_at more place low s.before s.was) path
+              (ap s.before (below_rest s.at.change.path path [] at ∙ append-nil s.at.change.path)
+              ∙ new_needs_none s.history s.before after s.at.change stays (inl is) s.leads) (name ∷ []))) some)
+      made_below (Some Made.NewFolder) is (first ∷ rest) at touched some =
+          absurd (gone (s.at.change.deletes)
+          (elim (or_cases s.at.change.deletes (is_copied s.at.change.made) touched) [
+            | inl deletes ↦ deletes
+            | inr copies ↦ absurd (let bad : false ≡ true = sym (ap is_copied is) ∙ copies in cc)
+          ]) some)
+        where
+          gone : (d : Bool) → d ≡ true
+              → is_some (origin_in s.history (s.before (path ++ name ∷ [])) (left_by d)) ≡ true → ⊥
+          gone true deletes some = let bad : false ≡ true = some in cc
+          gone false deletes some = let bad : false ≡ true = deletes in cc
+      made_below (Some Made.NewFile) is [] at touched some = sides s.at.change.deletes refl some
+        where
+          sides : (d : Bool) → s.at.change.deletes ≡ d
+              → is_some (origin_in s.history (s.before (path ++ name ∷ [])) (left_by d)) ≡ true → Has name []
+          sides true deletes some = absurd (let bad : false ≡ true = some in cc)
+          sides false stays some =
+              absurd (both_ways (is_some (s.before (path ++ name ∷ [])))
+              (ap is_some
+              (clear_below s.before (folders_at more place low s.before s.was) path
+              (ap s.before (below_rest s.at.change.path path [] at ∙ append-nil s.at.change.path)
+              ∙ new_needs_none s.history s.before after s.at.change stays (inr is) s.leads) (name ∷ []))) some)
+      made_below (Some Made.NewFile) is (first ∷ rest) at touched some =
+          absurd (gone (s.at.change.deletes)
+          (elim (or_cases s.at.change.deletes (is_copied s.at.change.made) touched) [
+            | inl deletes ↦ deletes
+            | inr copies ↦ absurd (let bad : false ≡ true = sym (ap is_copied is) ∙ copies in cc)
+          ]) some)
+        where
+          gone : (d : Bool) → d ≡ true
+              → is_some (origin_in s.history (s.before (path ++ name ∷ [])) (left_by d)) ≡ true → ⊥
+          gone true deletes some = let bad : false ≡ true = some in cc
+          gone false deletes some = let bad : false ≡ true = deletes in cc
+      made_below (Some (Made.Copied number source)) is rest at touched some =
+          let old = copy_has_tree s.history s.before after s.at.change number source is s.leads in
+          let early = s.earlier number old.0 old.1 in
+          lists (end_of placed number) (omega arith) old.0 (s.found number old.0 old.1) (source ++ rest) name
+          (ap (λ p. is_some (old.0 p)) (append_assoc source rest (name ∷ []))
+          ∙ (ap (λ o. is_some (option_and_then (λ (t : Tree). t (source ++ (rest ++ name ∷ []))) o)) (sym old.1)
+          ∙ some))
+
+      touched_lists : (o : Option NodePath) → below s.at.change.path path ≡ o
+          → touches_rest o s.at.change ≡ true
+          → Has name (names_left (names_within more placed) placed place path s.at.change o)
+      touched_lists None at touched = absurd (let bad : false ≡ true = touched in cc)
+      touched_lists (Some rest) at touched =
+          made_below s.at.change.made refl rest at touched
+          (below_set rest (origin_in s.history (s.before (path ++ name ∷ []))
+          (origin_of s.at.change.deletes s.at.change.made (rest ++ name ∷ []))) (child_stands rest at))
+
+      -- where the path isn't touched, the name is a new one, or it stood before
+      new_or_before : touches_path path s.at.change ≡ false
+          → Has name (name_made (below path s.at.change.path) s.at.change.made)
+          ⊎ (is_some (s.before (path ++ name ∷ [])) ≡ true)
+      new_or_before apart = sides (touches_path (path ++ name ∷ []) s.at.change) refl
+        where
+          same_path : below s.at.change.path (path ++ name ∷ []) ≡ Some [] → s.at.change.path ≡ path ++ name ∷ []
+          same_path at = sym (below_rest s.at.change.path (path ++ name ∷ []) [] at ∙ append-nil s.at.change.path)
+
+          new : (made : Option Made) → s.at.change.made ≡ made
+              → below s.at.change.path (path ++ name ∷ []) ≡ Some []
+              → Has name (name_made (below path s.at.change.path) made)
+              ⊎ (is_some (s.before (path ++ name ∷ [])) ≡ true)
+          new (Some m) made at =
+              inl (subst (λ o. Has name (name_made o (Some m)))
+              (sym (ap (λ p. below path p) (same_path at) ∙ below_found path (name ∷ [])))
+              (or_left (bytes_eq name name) false ((bytes_eq-Decides name name).1 refl)))
+          new None made at =
+              inr (stood_before s.history s.at.change [] (s.before (path ++ name ∷ []))
+              (ap (λ m. is_some (set_by s.at.change [] (origin_in s.history (s.before (path ++ name ∷ []))
+              (origin_of s.at.change.deletes m [])))) (sym made)
+              ∙ (ap is_some (step_has s.history s.before after s.at.change (path ++ name ∷ []) [] at s.leads)
+              ∙ stands))).1
+
+          -- a change that touches it, and isn't its own, touches the path
+          above : (first : List ℕ) (rest : NodePath)
+              → below s.at.change.path (path ++ name ∷ []) ≡ Some (first ∷ rest)
+              → (s.at.change.deletes || is_copied s.at.change.made) ≡ true
+              → Has name (name_made (below path s.at.change.path) s.at.change.made)
+              ⊎ (is_some (s.before (path ++ name ∷ [])) ≡ true)
+          above first rest at is =
+              let less = below_less s.at.change.path path name first rest at in
+              absurd (both_ways (touches_path path s.at.change) apart
+              (ap (λ o. touches_rest o s.at.change) less.1 ∙ touching less.0))
+            where
+              copies_make : (made : Option Made) → is_copied made ≡ true → is_some made ≡ true
+              copies_make None copies = copies
+              copies_make (Some made) copies = refl
+
+              touching : (rest : NodePath) → touches_rest (Some rest) s.at.change ≡ true
+              touching [] =
+                  or_left (s.at.change.deletes || is_some s.at.change.made || is_some s.at.change.props)
+                  (is_some s.at.change.text)
+                  (or_left (s.at.change.deletes || is_some s.at.change.made) (is_some s.at.change.props)
+                  (elim (or_cases s.at.change.deletes (is_copied s.at.change.made) is) [
+                    | inl deletes ↦ or_left s.at.change.deletes (is_some s.at.change.made) deletes
+                    | inr copies ↦ or_right s.at.change.deletes (is_some s.at.change.made)
+                        (copies_make s.at.change.made copies)
+                  ]))
+              touching (first ∷ rest) = is
+
+          by_rest : (o : Option NodePath) → below s.at.change.path (path ++ name ∷ []) ≡ o
+              → touches_rest o s.at.change ≡ true
+              → Has name (name_made (below path s.at.change.path) s.at.change.made)
+              ⊎ (is_some (s.before (path ++ name ∷ [])) ≡ true)
+          by_rest None at is = absurd (let bad : false ≡ true = is in cc)
+          by_rest (Some []) at is = new s.at.change.made refl at
+          by_rest (Some (first ∷ rest)) at is = above first rest at is
+
+          sides : (b : Bool) → touches_path (path ++ name ∷ []) s.at.change ≡ b
+              → Has name (name_made (below path s.at.change.path) s.at.change.made)
+              ⊎ (is_some (s.before (path ++ name ∷ [])) ≡ true)
+          sides false far =
+              inr (sym (ap is_some (step_untouched s.history s.before after s.at.change (path ++ name ∷ []) far s.leads))
+              ∙ stands)
+          sides true near = by_rest (below s.at.change.path (path ++ name ∷ [])) refl near
+
+    -- the names behind so many changes
+    abbrev names_at : ℕ → List (List ℕ)
+    names_at count = names_made placed count path
+        ++ names_behind (names_within more placed) placed path (latest (touches_path path) placed count)
+
+    behind_lists : (count : ℕ) → count ≤ suc more → (tree : Tree) → slice_get trees count ≡ Some tree
+        → is_some (tree (path ++ name ∷ [])) ≡ true → Has name (names_at count)
+    behind_lists zero low tree at some =
+        let same : root_alone ≡ tree = (let both : Some root_alone ≡ Some tree = sym runs.start ∙ at in cc) in
+        absurd (both_ways (is_some (root_alone (path ++ name ∷ []))) (alone path)
+        (ap (λ (t : Tree). is_some (t (path ++ name ∷ []))) same ∙ some))
+      where
+        alone : (p : NodePath) → is_some (root_alone (p ++ name ∷ [])) ≡ false
+        alone [] = refl
+        alone (first ∷ p) = refl
+    behind_lists (suc count) low tree at some =
+        cases (runs.each count tree at) (λ t was there. behind_lists count (omega arith) t was there)
+      where
+        sides : (s : StepsAt placed bound trees count tree)
+            → ((t : Tree) → slice_get trees count ≡ Some t → is_some (t (path ++ name ∷ [])) ≡ true
+            → Has name (names_at count))
+            → (b : Bool) → touches_path path s.at.change ≡ b
+            → Has name ((name_made (below path s.at.change.path) s.at.change.made ++ names_made placed count path)
+            ++ names_behind (names_within more placed) placed path
+            (cond b (Some count) (latest (touches_path path) placed count)))
+        sides s further true touched =
+            has_right name (name_made (below path s.at.change.path) s.at.change.made ++ names_made placed count path)
+            (names_there (names_within more placed) placed count path (slice_get placed count))
+            (subst (λ o. Has name (names_there (names_within more placed) placed count path o)) (sym s.there)
+            (touched_lists count (omega arith) tree s some (below s.at.change.path path) refl touched))
+        sides s further false apart =
+            elim (new_or_before count (omega arith) tree s some apart) [
+              | inl new ↦
+                  has_left name
+                  (name_made (below path s.at.change.path) s.at.change.made ++ names_made placed count path)
+                  (names_behind (names_within more placed) placed path (latest (touches_path path) placed count))
+                  (has_left name (name_made (below path s.at.change.path) s.at.change.made)
+                  (names_made placed count path) new)
+              | inr before ↦
+                  has_more name (name_made (below path s.at.change.path) s.at.change.made)
+                  (names_made placed count path)
+                  (names_behind (names_within more placed) placed path (latest (touches_path path) placed count))
+                  (further s.before s.was before)
+            ]
+
+        cases : (s : StepsAt placed bound trees count tree)
+            → ((t : Tree) → slice_get trees count ≡ Some t → is_some (t (path ++ name ∷ [])) ≡ true
+            → Has name (names_at count))
+            → Has name ((name_below path (slice_get placed count) ++ names_made placed count path)
+            ++ names_behind (names_within more placed) placed path
+            (cond (holds_there (touches_path path) (slice_get placed count)) (Some count)
+            (latest (touches_path path) placed count)))
+        cases s further =
+            subst (λ o. Has name ((name_below path o ++ names_made placed count path)
+            ++ names_behind (names_within more placed) placed path
+            (cond (holds_there (touches_path path) o) (Some count) (latest (touches_path path) placed count))))
+            (sym s.there)
+            (sides s further (touches_path path s.at.change) refl)
+
+  -- each name that stands
+  pub names_run : (more : ℕ) → Lists more
+  names_run zero zero low tree at path name some =
+      let same : root_alone ≡ tree = (let both : Some root_alone ≡ Some tree = sym runs.start ∙ at in cc) in
+      absurd (both_ways (is_some (root_alone (path ++ name ∷ []))) (alone path)
+      (ap (λ (t : Tree). is_some (t (path ++ name ∷ []))) same ∙ some))
+    where
+      alone : (p : NodePath) → is_some (root_alone (p ++ name ∷ [])) ≡ false
+      alone [] = refl
+      alone (first ∷ p) = refl
+  names_run zero (suc count) low tree at path name some = absurd (omega arith)
+  names_run (suc more) count low tree at path name some =
+      behind_lists more (names_run more) path name count low tree at some
+
+  -- a branch that is found
+  module _ (count : ℕ) (tree : Tree) (at : slice_get trees count ≡ Some tree) where
+    tree_folders : HasFolders tree
+    tree_folders = folders_at count count (omega arith) tree at
+
+    looked_node : (path : NodePath) → look root_alone placed count path ≡ tree path
+    looked_node path = look_runs root_alone placed bound trees runs count count (omega arith) tree at path
+
+    -- a node below a name stands in one of the name
+    child_there : (path : NodePath) (name : List ℕ) (rest : NodePath) (node : Node)
+        → tree (path ++ name ∷ rest) ≡ Some node → is_some (tree (path ++ name ∷ [])) ≡ true
+    child_there path name [] node stands = ap is_some stands
+    child_there path name (next ∷ rest) node stands =
+        folder_there (tree (path ++ name ∷ []))
+        (tree_folders (path ++ name ∷ []) next rest node
+        (ap tree (append_assoc path (name ∷ []) (next ∷ rest)) ∙ stands))
+      where
+        folder_there : (o : Option Node) → is_folder o ≡ true → is_some o ≡ true
+        folder_there None is = is
+        folder_there (Some n) is = refl
+
+    -- below a name that isn't among the branches nothing stands
+    unnamed : (path : NodePath) (inside : Branches)
+        → ((name : List ℕ) → Has name (names_look placed count path)
+        → is_some (look root_alone placed count (path ++ name ∷ [])) ≡ true → has_name name inside ≡ true)
+        → (name : List ℕ) (rest : NodePath) → has_name name inside ≡ false → tree (path ++ name ∷ rest) ≡ None
+    unnamed path inside all name rest none = cases (tree (path ++ name ∷ rest)) refl
+      where
+        cases : (o : Option Node) → tree (path ++ name ∷ rest) ≡ o → o ≡ None
+        cases None stands = refl
+        cases (Some node) stands =
+            let some = child_there path name rest node stands in
+            absurd (both_ways (has_name name inside) none
+            (all name (names_run count count (omega arith) tree at path name some)
+            (ap is_some (looked_node (path ++ name ∷ [])) ∙ some)))
+
+    -- below each other name one of the branches does
+    either_found : (path : NodePath) (first : List ℕ) (branch : Branch) (others : Branches) (name : List ℕ)
+        (rest : NodePath) → HasBranch tree (path ++ first ∷ []) branch
+        → (has_name name others ≡ true → tree (path ++ name ∷ rest) ≡ found others name rest None)
+        → (b : Bool) → bytes_eq first name ≡ b → (b || has_name name others) ≡ true
+        → tree (path ++ name ∷ rest) ≡ cond b (tree_of branch rest) (found others name rest None)
+    either_found path first branch others name rest here there true same some =
+        ap (λ n. tree (path ++ n ∷ rest)) (sym ((bytes_eq-Decides first name).0 same))
+        ∙ (ap tree (sym (append_assoc path (first ∷ []) rest)) ∙ here rest)
+    either_found path first branch others name rest here there false apart some = there some
+
+    -- nothing stands below a file
+    below_file : (path : NodePath) (props : List Property) (text : List ℕ)
+        → look root_alone placed count path ≡ Some (Node.File props text) → (name : List ℕ) (rest : NodePath)
+        → tree (path ++ name ∷ rest) ≡ None
+    below_file path props text looked name rest = cases (tree (path ++ name ∷ rest)) refl
+      where
+        cases : (o : Option Node) → tree (path ++ name ∷ rest) ≡ o → o ≡ None
+        cases None stands = refl
+        cases (Some node) stands =
+            absurd (both_ways (is_folder (tree path)) (ap is_folder (sym (looked_node path) ∙ looked))
+            (tree_folders path name rest node stands))
+
+    by_name : (path : NodePath) (inside : Branches) (name : List ℕ) (rest : NodePath)
+        → ((other : List ℕ) → Has other (names_look placed count path)
+        → is_some (look root_alone placed count (path ++ other ∷ [])) ≡ true → has_name other inside ≡ true)
+        → (has_name name inside ≡ true → tree (path ++ name ∷ rest) ≡ found inside name rest None)
+        → (b : Bool) → has_name name inside ≡ b → tree (path ++ name ∷ rest) ≡ found inside name rest None
+    by_name path inside name rest all further true some = further some
+    by_name path inside name rest all further false none =
+        unnamed path inside all name rest none ∙ sym (not_found inside name rest None none)
+
+    mutual
+      looked_branch : (branch : Branch) (path : NodePath) → IsLooked placed count path branch
+          → HasBranch tree path branch
+      looked_branch (Branch.Folder props inside) path looked [] =
+          ap tree (append-nil path) ∙ (sym (looked_node path) ∙ looked.0)
+      looked_branch (Branch.Folder props inside) path looked (name ∷ rest) =
+          by_name path inside name rest looked.2
+          (λ some. looked_inside inside path looked.1 name rest some) (has_name name inside) refl
+      looked_branch (Branch.File props text) path looked [] =
+          ap tree (append-nil path) ∙ (sym (looked_node path) ∙ looked)
+      looked_branch (Branch.File props text) path looked (name ∷ rest) =
+          below_file path props text looked name rest
+
+      looked_inside : (branches : Branches) (path : NodePath) → AreLooked placed count path branches → (name : List ℕ)
+          (rest : NodePath) → has_name name branches ≡ true
+          → tree (path ++ name ∷ rest) ≡ found branches name rest None
+      looked_inside Branches.NoMore path looked name rest some = absurd (let bad : false ≡ true = some in cc)
+      looked_inside (Branches.Named first branch others) path looked name rest some =
+          either_found path first branch others name rest
+          (looked_branch branch (path ++ first ∷ []) looked.0)
+          (λ there. looked_inside others path looked.1 name rest there) (bytes_eq first name) refl some
+
+-- the laws, as the contract states them
+
+pub names_are_looked : NamesAreLooked
+names_are_looked revisions trees number tree path name at there some =
+    let all = loaded_begun root_alone revisions trees at in
+    names_run (placed_from 1 revisions) (length revisions) all.1 all.2.runs
+    (end_of (placed_from 1 revisions) number) (end_of (placed_from 1 revisions) number) (omega arith) tree
+    (all.2.ends number tree there) path name some
+
+pub looked_branch_stands : LookedBranchStands
+looked_branch_stands revisions trees number tree path branch at there looked =
+    let all = loaded_begun root_alone revisions trees at in
+    looked_branch (placed_from 1 revisions) (length revisions) all.1 all.2.runs
+    (end_of (placed_from 1 revisions) number) tree (all.2.ends number tree there) branch path looked
+
+pub looked_branch_then : LookedBranchStandsThen
+looked_branch_then front behind trees tree path branch at there late looked =
+    let all = loaded_begun root_alone front trees at in
+    looked_branch (placed_from 1 front ++ behind) (length front) all.1
+    (runs_before root_alone (placed_from 1 front) behind (length front) all.1 all.2.runs late)
+    (length (placed_from 1 front)) tree
+    (ap (slice_get all.1)
+    (sym (count_whole (λ (p : Placed). nat_le p.revision (length front)) (placed_from 1 front) all.2.low))
+    ∙ all.2.ends (length front) tree there) branch path looked

@@ -1,0 +1,576 @@
+-- Copies that are trimmed behind them.
+use Rattle.dump_trees.proofs.Prelude.{◌≡◌, zero, suc, ◌<◌, ◌||◌, ◌⊎◌, arith, cond, option_map, refl, sym, ap, ◌∙◌, subst, append-nil, append_assoc, list_all, list_any, both_ways, and_parts, and_from, or_parts, or_left, or_right, inl, inr, not-true, not_from_false, Exclude, Settings, NodePath, keeps, below, Node, Tree, at_or_below, grafted, at_top, put, empty_tree, Made, PropertyChange, TextChange, Change, History, has_folder, copied, deleted, made_in, with_props, with_text, props_put, props_set, text_set, step, steps, NewProperty, NewNumber, KeepsEntries, IsNewNode, AreNewProps, IsNewMade, IsRestricted, sets_whole, IsMade, IsRenumbered}
+use Rattle.std.proofs.Common.{ℕ, Bool, true, false, not, ◌&&◌, List, [], ◌∷◌, ◌++◌, Option, Some, None, option_and_then, is_some, is_none, length, Contains}
+use Rattle.dump_trees.specs.ExpansionCases.{deletions, none_is_below}
+use Rattle.dump_trees.specs.Branches.{tree_of}
+use Rattle.dump_trees.specs.ComingBack.{coming_back}
+use Rattle.dump_trees.specs.Trimming.{CoverTaken, topmost_from, TakenTopsCover, TrimmedCopyRestricts, EachTrimmedCopyRestricts}
+use Rattle.dump_trees.proofs.paths.KeptPaths.{gives_nothing, keeps_nothing}
+use Rattle.dump_trees.proofs.changes.TreeLemmas.{below_rest, below_found, below_top, same_presence, RestrictedAt, nothing_restricted, graft_restricts, folder_restricted}
+use Rattle.dump_trees.proofs.changes.StageLemmas.{Follows, follows_then, follows_if, deleted_follows, props_follow, text_follows}
+use Rattle.dump_trees.proofs.changes.StepLemmas.{followed}
+use Rattle.dump_trees.proofs.expansions.BranchLemmas.{below_joined, graft_outside}
+use Rattle.dump_trees.proofs.expansions.DeletionLemmas.{parent_below, deletion_step, still_stand, without, without_none, without_found}
+use Rattle.dump_trees.proofs.expansions.StandingLemmas.{step_has}
+use Rattle.dump_trees.proofs.expansions.BackFound.{IsBack, branch_back, branch_found}
+use Rattle.dump_trees.proofs.expansions.EveryLemmas.{copies_something}
+
+-- whether a path, given from the top on, lies below it
+abbrev is_deeper : NodePath → Bool
+is_deeper [] = false
+is_deeper (name ∷ rest) = true
+
+abbrev are_deeper : List NodePath → Bool
+are_deeper rests = list_all is_deeper rests
+
+-- what is deleted below the top
+
+module _ (top : NodePath) where
+  -- a node that is put at the top doesn't see it
+  graft_put : (name : List ℕ) (rest : NodePath) (node : Node) (tree : Tree)
+      → grafted (top ++ name ∷ rest) empty_tree (put top node tree)
+      ≡ put top node (grafted (top ++ name ∷ rest) empty_tree tree)
+  graft_put name rest node tree = λ i. λ path.
+      (ap (λ o. at_or_below o empty_tree (at_top (below top path) node (tree path))) (below_joined top (name ∷ rest) path)
+      ∙ (cases (below top path) (tree path)
+      ∙ ap (λ o. at_top (below top path) node (at_or_below o empty_tree (tree path)))
+      (sym (below_joined top (name ∷ rest) path)))) i
+    where
+      cases : (o : Option NodePath) (old : Option Node)
+          → at_or_below (option_and_then (λ more. below (name ∷ rest) more) o) empty_tree (at_top o node old)
+          ≡ at_top o node (at_or_below (option_and_then (λ more. below (name ∷ rest) more) o) empty_tree old)
+      cases None old = refl
+      cases (Some []) old = refl
+      cases (Some (other ∷ more)) old = refl
+
+  without_put : (rests : List NodePath) (node : Node) (tree : Tree) → are_deeper rests ≡ true
+      → without top rests (put top node tree) ≡ put top node (without top rests tree)
+  without_put [] node tree deeper = refl
+  without_put ([] ∷ rests) node tree deeper = absurd (let bad : false ≡ true = deeper in cc)
+  without_put ((name ∷ rest) ∷ rests) node tree deeper =
+      ap (without top rests) (graft_put name rest node tree)
+      ∙ without_put rests node (grafted (top ++ name ∷ rest) empty_tree tree) deeper
+
+  -- and what stands at the top stays
+  without_here : (rests : List NodePath) (tree : Tree) → are_deeper rests ≡ true → without top rests tree top ≡ tree top
+  without_here [] tree deeper = refl
+  without_here ([] ∷ rests) tree deeper = absurd (let bad : false ≡ true = deeper in cc)
+  without_here ((name ∷ rest) ∷ rests) tree deeper =
+      without_here rests (grafted (top ++ name ∷ rest) empty_tree tree) deeper
+      ∙ graft_outside (top ++ name ∷ rest) empty_tree tree top
+      (below_joined top (name ∷ rest) top ∙ ap (option_and_then (λ more. below (name ∷ rest) more)) (below_top top))
+
+  -- it is deleted of what is grafted at the top
+  without_graft : (rests : List NodePath) (new tree : Tree)
+      → without top rests (grafted top new tree) ≡ grafted top (without [] rests new) tree
+  without_graft [] new tree = refl
+  without_graft (rest ∷ rests) new tree =
+      ap (without top rests) (λ i. λ path. (ap (λ o. at_or_below o empty_tree (at_or_below (below top path) new (tree path)))
+      (below_joined top rest path) ∙ cases (below top path) (tree path)) i)
+      ∙ without_graft rests (grafted rest empty_tree new) tree
+    where
+      cases : (o : Option NodePath) (old : Option Node)
+          → at_or_below (option_and_then (λ more. below rest more) o) empty_tree (at_or_below o new old)
+          ≡ at_or_below o (grafted rest empty_tree new) old
+      cases None old = refl
+      cases (Some more) old = refl
+
+  -- so properties and a text can be set at the top before or behind
+
+  puts_before : (rests : List NodePath) (change : PropertyChange) (tree : Tree) → are_deeper rests ≡ true
+      → props_put change top (without top rests tree) ≡ option_map (without top rests) (props_put change top tree)
+  puts_before rests change tree deeper =
+      ap (option_map (λ node. put top (with_props change node) (without top rests tree))) (without_here rests tree deeper)
+      ∙ cases (tree top)
+    where
+      cases : (o : Option Node)
+          → option_map (λ node. put top (with_props change node) (without top rests tree)) o
+          ≡ option_map (without top rests) (option_map (λ node. put top (with_props change node) tree) o)
+      cases None = refl
+      cases (Some node) = ap Some (sym (without_put rests (with_props change node) tree deeper))
+
+  props_before : (rests : List NodePath) (props : Option PropertyChange) (tree : Tree) → are_deeper rests ≡ true
+      → props_set props top (without top rests tree) ≡ option_map (without top rests) (props_set props top tree)
+  props_before rests None tree deeper = refl
+  props_before rests (Some (PropertyChange.Replaced entries)) tree deeper =
+      puts_before rests (PropertyChange.Replaced entries) tree deeper
+  props_before rests (Some (PropertyChange.Edited [])) tree deeper = refl
+  props_before rests (Some (PropertyChange.Edited (entry ∷ entries))) tree deeper =
+      puts_before rests (PropertyChange.Edited (entry ∷ entries)) tree deeper
+
+  text_before : (rests : List NodePath) (text : Option TextChange) (tree : Tree) → are_deeper rests ≡ true
+      → text_set text top (without top rests tree) ≡ option_map (without top rests) (text_set text top tree)
+  text_before rests None tree deeper = refl
+  text_before rests (Some change) tree deeper =
+      ap (λ o. option_map (λ node. put top node (without top rests tree)) (option_and_then (λ node. with_text change node) o))
+      (without_here rests tree deeper)
+      ∙ cases (option_and_then (λ node. with_text change node) (tree top))
+    where
+      cases : (o : Option Node) → option_map (λ node. put top node (without top rests tree)) o
+          ≡ option_map (without top rests) (option_map (λ node. put top node tree) o)
+      cases None = refl
+      cases (Some node) = ap Some (sym (without_put rests node tree deeper))
+
+  -- where something stands at each path, they are deleted one after the other
+  deleting : (history : History) (rests : List NodePath) (tree : Tree) → are_deeper rests ≡ true
+      → list_all (λ rest. is_some (tree (top ++ rest))) rests ≡ true → none_is_below rests ≡ true
+      → steps history tree (deletions top rests) ≡ Some (without top rests tree)
+  deleting history [] tree deeper stand apart = refl
+  deleting history ([] ∷ rests) tree deeper stand apart = absurd (let bad : false ≡ true = deeper in cc)
+  deleting history ((name ∷ rest) ∷ rests) tree deeper stand apart =
+      let two =
+      and_parts (is_some (tree (top ++ name ∷ rest))) (list_all (λ r. is_some (tree (top ++ r))) rests) stand in
+      let three =
+      and_parts (list_all (λ other. is_none (below (name ∷ rest) other)) rests) (none_is_below rests) apart in
+      ap (option_and_then (λ t. steps history t (deletions top rests)))
+      (deletion_step history (top ++ name ∷ rest) tree (parent_below top name rest) two.0)
+      ∙ deleting history rests (grafted (top ++ name ∷ rest) empty_tree tree) deeper
+      (still_stand top (name ∷ rest) tree rests three.0 two.1) three.1
+
+-- a path at and above which nothing is deleted stays
+without_apart : (rests : List NodePath) (tree : Tree) (path : NodePath)
+    → list_all (λ other. is_none (below other path)) rests ≡ true → without [] rests tree path ≡ tree path
+without_apart [] tree path apart = refl
+without_apart (rest ∷ rests) tree path apart =
+    let parts = and_parts (is_none (below rest path)) (list_all (λ other. is_none (below other path)) rests) apart in
+    without_apart rests (grafted rest empty_tree tree) path parts.1 ∙ cases (below rest path) parts.0
+  where
+    cases : (o : Option NodePath) → is_none o ≡ true → at_or_below o empty_tree (tree path) ≡ tree path
+    cases None is = refl
+    cases (Some more) is = absurd (let bad : false ≡ true = is in cc)
+
+map_then : (f : Tree → Option Tree) (w : Tree → Tree) (o : Option Tree)
+    → option_map w (option_and_then f o) ≡ option_and_then (λ t. option_map w (f t)) o
+map_then f w None = refl
+map_then f w (Some t) = refl
+
+then_map : (f : Tree → Option Tree) (w : Tree → Tree) → ((t : Tree) → f (w t) ≡ option_map w (f t)) → (o : Option Tree)
+    → option_and_then f (option_map w o) ≡ option_map w (option_and_then f o)
+then_map f w same None = refl
+then_map f w same (Some t) = same t
+
+-- a copy and the deletions behind it
+
+module _ (settings : Settings) (IsNew : NewProperty) (exclude : settings.side ≡ Exclude) (top source : NodePath)
+    (kept : keeps settings top ≡ true) (kept_source : keeps settings source ≡ true) (rests : List NodePath)
+    (old other_old : Tree) (r : IsRestricted settings IsNew old other_old)
+    (none_back : (rest : NodePath) (node : Node) → old (source ++ rest) ≡ Some node
+    → keeps settings (top ++ rest) ≡ true → keeps settings (source ++ rest) ≡ true)
+    (cover : CoverTaken settings old top source rests) where
+  -- the paths lie below the top, which is kept
+  deeper : (paths : List NodePath) → list_all (λ rest. not (keeps settings (top ++ rest))) paths ≡ true
+      → are_deeper paths ≡ true
+  deeper [] left = refl
+  deeper ([] ∷ paths) left =
+      absurd (both_ways (keeps settings top)
+      (ap (keeps settings) (sym (append-nil top)) ∙ not-true (keeps settings (top ++ []))
+      (and_parts (not (keeps settings (top ++ []))) (list_all (λ rest. not (keeps settings (top ++ rest))) paths) left).0)
+      kept)
+  deeper ((name ∷ rest) ∷ paths) left =
+      deeper paths (and_parts (not (keeps settings (top ++ name ∷ rest)))
+      (list_all (λ more. not (keeps settings (top ++ more))) paths) left).1
+
+  -- what is kept isn't at or below one of them
+  apart_from : (paths : List NodePath) → list_all (λ rest. not (keeps settings (top ++ rest))) paths ≡ true
+      → (rest : NodePath) → keeps settings (top ++ rest) ≡ true
+      → list_all (λ other. is_none (below other rest)) paths ≡ true
+  apart_from [] left rest keep = refl
+  apart_from (path ∷ paths) left rest keep =
+      let parts = and_parts (not (keeps settings (top ++ path))) (list_all (λ more. not (keeps settings (top ++ more))) paths)
+      left in
+      and_from (is_none (below path rest)) (list_all (λ other. is_none (below other rest)) paths)
+      (cases (below path rest) refl (not-true (keeps settings (top ++ path)) parts.0))
+      (apart_from paths parts.1 rest keep)
+    where
+      cases : (o : Option NodePath) → below path rest ≡ o → keeps settings (top ++ path) ≡ false → is_none o ≡ true
+      cases None at gone = refl
+      cases (Some more) at gone =
+          absurd (both_ways (keeps settings (top ++ rest))
+          (ap (λ p. keeps settings (top ++ p)) (below_rest path rest more at)
+          ∙ (ap (keeps settings) (sym (append_assoc top path more))
+          ∙ keeps_nothing settings (top ++ path) more exclude gone)) keep)
+
+  -- what is copied, without these paths
+  abbrev taken : Tree
+  taken = without [] rests (λ rest. other_old (source ++ rest))
+
+  -- it is what stands at the source, restricted to where it comes
+  taken_restricted : (rest : NodePath) → RestrictedAt settings IsNew (top ++ rest) (old (source ++ rest)) (taken rest)
+  taken_restricted rest = (
+    λ keep. subst (λ o. IsNewNode IsNew (old (source ++ rest)) o)
+        (sym (without_apart rests (λ more. other_old (source ++ more)) rest (apart_from rests cover.left rest keep)))
+        (kept_node keep (old (source ++ rest)) refl),
+    λ left. none_left left (other_old (source ++ rest)) refl ∙ sym (gives_nothing settings top rest kept left),
+  )
+    where
+      kept_node : keeps settings (top ++ rest) ≡ true → (o : Option Node) → old (source ++ rest) ≡ o
+          → IsNewNode IsNew (old (source ++ rest)) (other_old (source ++ rest))
+      kept_node keep None at =
+          subst (λ o. IsNewNode IsNew o (other_old (source ++ rest))) (sym at)
+          (subst (λ o. IsNewNode IsNew None o)
+          (sym (nothing_restricted settings IsNew old other_old r source rest kept_source at)) tt)
+      kept_node keep (Some node) at = r.kept (source ++ rest) (none_back rest node at keep)
+
+      by_source : keeps settings (top ++ rest) ≡ false → (node : Node) → other_old (source ++ rest) ≡ Some node
+          → (b : Bool) → keeps settings (source ++ rest) ≡ b → taken rest ≡ None
+      by_source left node at false is =
+          absurd (let bad : None ≡ Some node
+          = sym (r.left (source ++ rest) is ∙ gives_nothing settings source rest kept_source is) ∙ at in cc)
+      by_source left node at true is =
+          without_found [] rests (λ more. other_old (source ++ more)) rest
+          (cover.all rest (same_presence IsNew (old (source ++ rest)) (other_old (source ++ rest))
+          (r.kept (source ++ rest) is) ∙ ap is_some at) is left)
+
+      none_left : keeps settings (top ++ rest) ≡ false → (o : Option Node) → other_old (source ++ rest) ≡ o
+          → taken rest ≡ None
+      none_left left None at = without_none [] rests (λ more. other_old (source ++ more)) rest at
+      none_left left (Some node) at = by_source left node at (keeps settings (source ++ rest)) refl
+
+  -- the copy, with the deletions, follows the copy
+  copy_follows : (u v : Tree) → IsRestricted settings IsNew u v
+      → Follows settings IsNew (copied source top u old) (option_map (without top rests) (copied source top v other_old))
+  copy_follows u v s =
+      subst (λ o. Follows settings IsNew (copied source top u old) o)
+      (sym (cond_map (is_some (other_old source) && has_folder v top)
+      ∙ ap (λ t. cond (is_some (other_old source) && has_folder v top) (Some t) None)
+      (without_graft top rests (λ rest. other_old (source ++ rest)) v)))
+      (follows_if settings IsNew (is_some (old source) && has_folder u top)
+      (is_some (other_old source) && has_folder v top)
+      (grafted top (λ rest. old (source ++ rest)) u) (grafted top taken v)
+      (λ both. let parts = and_parts (is_some (old source)) (has_folder u top) both in
+      and_from (is_some (other_old source)) (has_folder v top)
+      (sym (same_presence IsNew (old source) (other_old source) (r.kept source kept_source)) ∙ parts.0)
+      (folder_restricted settings IsNew u v s top kept parts.1))
+      (graft_restricts settings IsNew top (λ rest. old (source ++ rest)) taken u v s taken_restricted))
+    where
+      cond_map : (b : Bool)
+          → option_map (without top rests) (cond b (Some (grafted top (λ rest. other_old (source ++ rest)) v)) None)
+          ≡ cond b (Some (without top rests (grafted top (λ rest. other_old (source ++ rest)) v))) None
+      cond_map true = refl
+      cond_map false = refl
+
+  -- what is taken stands in the restricted tree too
+  taken_stand : (paths : List NodePath) → list_all (λ rest. keeps settings (source ++ rest)) paths ≡ true
+      → list_all (λ rest. is_some (old (source ++ rest))) paths ≡ true
+      → list_all (λ rest. is_some (other_old (source ++ rest))) paths ≡ true
+  taken_stand [] keep stand = refl
+  taken_stand (path ∷ paths) keep stand =
+      let one = and_parts (keeps settings (source ++ path)) (list_all (λ rest. keeps settings (source ++ rest)) paths) keep in
+      let two = and_parts (is_some (old (source ++ path))) (list_all (λ rest. is_some (old (source ++ rest))) paths) stand in
+      and_from (is_some (other_old (source ++ path))) (list_all (λ rest. is_some (other_old (source ++ rest))) paths)
+      (sym (same_presence IsNew (old (source ++ path)) (other_old (source ++ path)) (r.kept (source ++ path) one.0))
+      ∙ two.0)
+      (taken_stand paths one.1 two.1)
+
+  module _ (history others : History) (number written : ℕ) (there : history number ≡ Some old)
+      (other_there : others written ≡ Some other_old) (deletes : Bool) (props others_props : Option PropertyChange)
+      (entries : KeepsEntries IsNew) (both : AreNewProps IsNew props others_props)
+      (text : Option TextChange) (before restricted : Tree) (s : IsRestricted settings IsNew before restricted) where
+    -- what is written of the copy
+    abbrev new : Change
+    new = record {
+      path = top;
+      deletes = deletes;
+      made = Some (Made.Copied written source);
+      props = others_props;
+      text = text;
+    }
+
+    made_follows : (u v : Tree) → IsRestricted settings IsNew u v
+        → Follows settings IsNew (made_in history (Some (Made.Copied number source)) top u)
+        (option_map (without top rests) (made_in others (Some (Made.Copied written source)) top v))
+    made_follows u v restricts =
+        subst (λ o. Follows settings IsNew (option_and_then (λ tree. copied source top u tree) o)
+        (option_map (without top rests) (option_and_then (λ tree. copied source top v tree) (others written)))) (sym there)
+        (subst (λ o. Follows settings IsNew (copied source top u old)
+        (option_map (without top rests) (option_and_then (λ tree. copied source top v tree) o))) (sym other_there)
+        (copy_follows u v restricts))
+
+    -- all stages, and the deletions behind them
+    trimmed_follows : Follows settings IsNew
+        (step history before
+        (record { path = top; deletes = deletes; made = Some (Made.Copied number source); props = props; text = text }))
+        (option_map (without top rests) (step others restricted new))
+    trimmed_follows =
+        subst (λ o. Follows settings IsNew (option_and_then (λ t. text_set text top t) first) o)
+        (then_map (λ t. text_set text top t) (without top rests)
+        (λ t. text_before top rests text t (deeper rests cover.left)) later)
+        (follows_then settings IsNew (λ t. text_set text top t) (λ t. text_set text top t) first
+        (option_map (without top rests) later)
+        (subst (λ o. Follows settings IsNew first o)
+        (then_map (λ t. props_set others_props top t) (without top rests)
+        (λ t. props_before top rests others_props t (deeper rests cover.left)) making)
+        (follows_then settings IsNew (λ t. props_set props top t) (λ t. props_set others_props top t)
+        (option_and_then (λ t. made_in history (Some (Made.Copied number source)) top t) (deleted deletes top before))
+        (option_map (without top rests) making)
+        (subst (λ o. Follows settings IsNew
+        (option_and_then (λ t. made_in history (Some (Made.Copied number source)) top t) (deleted deletes top before)) o)
+        (sym (map_then (λ t. made_in others (Some (Made.Copied written source)) top t) (without top rests)
+        (deleted deletes top restricted)))
+        (follows_then settings IsNew (λ t. made_in history (Some (Made.Copied number source)) top t)
+        (λ t. option_map (without top rests) (made_in others (Some (Made.Copied written source)) top t))
+        (deleted deletes top before) (deleted deletes top restricted)
+        (deleted_follows settings IsNew deletes top before restricted kept s) made_follows))
+        (λ t u f. props_follow settings IsNew entries props others_props top t u kept both f)))
+        (λ t u f. text_follows settings IsNew text top t u kept f))
+      where
+        making : Option Tree
+        making = option_and_then (λ t. made_in others (Some (Made.Copied written source)) top t)
+            (deleted deletes top restricted)
+
+        later : Option Tree
+        later = option_and_then (λ t. props_set others_props top t)
+            (option_and_then (λ t. made_in others (Some (Made.Copied written source)) top t)
+            (deleted deletes top restricted))
+
+        first : Option Tree
+        first = option_and_then (λ t. props_set props top t)
+            (option_and_then (λ t. made_in history (Some (Made.Copied number source)) top t) (deleted deletes top before))
+
+    -- what is deleted stands behind the copy
+    stand_there : (mid : Tree) → step others restricted new ≡ Some mid → (paths : List NodePath)
+        → are_deeper paths ≡ true → list_all (λ rest. is_some (other_old (source ++ rest))) paths ≡ true
+        → list_all (λ rest. is_some (mid (top ++ rest))) paths ≡ true
+    stand_there mid at [] deep stand = refl
+    stand_there mid at ([] ∷ paths) deep stand = absurd (let bad : false ≡ true = deep in cc)
+    stand_there mid at ((name ∷ rest) ∷ paths) deep stand =
+        let parts = and_parts (is_some (other_old (source ++ name ∷ rest)))
+        (list_all (λ more. is_some (other_old (source ++ more))) paths) stand in
+        and_from (is_some (mid (top ++ name ∷ rest))) (list_all (λ more. is_some (mid (top ++ more))) paths)
+        (ap is_some (sym (step_has others restricted mid new (top ++ name ∷ rest) (name ∷ rest)
+        (below_found top (name ∷ rest)) at)
+        ∙ ap (option_and_then (λ tree. tree (source ++ name ∷ rest))) other_there) ∙ parts.0)
+        (stand_there mid at paths deep parts.1)
+
+    -- so the deletions can be made, and lead to the restricted tree
+    pub trimmed_leads : (after : Tree)
+        → step history before
+        (record { path = top; deletes = deletes; made = Some (Made.Copied number source); props = props; text = text })
+        ≡ Some after
+        → (other : Tree) × (steps others restricted (new ∷ deletions top rests) ≡ Some other)
+        × IsRestricted settings IsNew after other
+    trimmed_leads after at =
+        let done = followed settings IsNew
+        (step history before
+        (record { path = top; deletes = deletes; made = Some (Made.Copied number source); props = props; text = text }))
+        (option_map (without top rests) (step others restricted new)) trimmed_follows after at in
+        cases done.0 done.2 (step others restricted new) refl done.1
+      where
+        cases : (other : Tree) → IsRestricted settings IsNew after other → (o : Option Tree)
+            → step others restricted new ≡ o → option_map (without top rests) o ≡ Some other
+            → (other : Tree) × (steps others restricted (new ∷ deletions top rests) ≡ Some other)
+            × IsRestricted settings IsNew after other
+        cases other restricts None stepped is = absurd (let bad : None ≡ Some other = is in cc)
+        cases other restricts (Some mid) stepped is = (
+          without top rests mid,
+          ap (option_and_then (λ t. steps others t (deletions top rests))) stepped
+              ∙ deleting top others rests mid (deeper rests cover.left)
+              (stand_there mid stepped rests (deeper rests cover.left) (taken_stand rests cover.kept cover.stand))
+              cover.apart,
+          (let same : other ≡ without top rests mid
+              = (let both : Some (without top rests mid) ≡ Some other = is in cc) in
+              subst (λ t. IsRestricted settings IsNew after t) same restricts),
+        )
+
+-- the law
+
+-- a copy of a kept path stays one
+stays_copy : (settings : Settings) (IsNumber : NewNumber) (whole : Bool) (number : ℕ) (source : NodePath)
+    (made : Option Made) → keeps settings source ≡ true
+    → IsNewMade settings IsNumber whole (Some (Made.Copied number source)) made
+    → (written : ℕ) × IsNumber number written × (made ≡ Some (Made.Copied written source))
+stays_copy settings IsNumber whole number source None kept is = absurd is
+stays_copy settings IsNumber whole number source (Some Made.NewFolder) kept is = absurd is
+stays_copy settings IsNumber whole number source (Some Made.NewFile) kept is =
+    absurd (both_ways (keeps settings source) is.0 kept)
+stays_copy settings IsNumber whole number source (Some (Made.Copied written same)) kept is =
+    (written, is.1, ap (λ p. Some (Made.Copied written p)) is.2)
+
+pub trimmed_copy : (settings : Settings) (IsNew : NewProperty) (IsNumber : NewNumber) → KeepsEntries IsNew
+    → TrimmedCopyRestricts settings IsNew IsNumber
+trimmed_copy settings IsNew IsNumber entries history others before after restricted old c new number source rests exclude
+    same r at kept is there none cover is_new =
+    let (written, numbered, made) = stays_copy settings IsNumber (sets_whole c) number source new.made kept_source
+    (subst (λ m. IsNewMade settings IsNumber (sets_whole c) m new.made) is is_new.made) in
+    let (other_old, other_there, restricts) = same number written old numbered there in
+    let (other, leads, done) = trimmed_leads settings IsNew exclude c.path source kept kept_source rests old other_old
+    restricts none_back cover history others number written there other_there c.deletes c.props new.props entries
+    is_new.props c.text before restricted r after
+    (sym (ap (λ m. step history before
+    (record { path = c.path; deletes = c.deletes; made = m; props = c.props; text = c.text })) is) ∙ at) in
+    (other, ap (option_and_then (λ t. steps others t (deletions c.path rests))) (moved written made) ∙ leads, done)
+  where
+    -- at each rest of the source something comes back, or it is kept
+    back_or_kept : (rest : NodePath) → is_some (old (source ++ rest)) ≡ true → keeps settings (c.path ++ rest) ≡ true
+        → (b : Bool) → keeps settings (source ++ rest) ≡ b → b ≡ true
+    back_or_kept rest stands keep true here = refl
+    back_or_kept rest stands keep false here =
+        absurd (none record {
+          number = number;
+          source = source;
+          old = old;
+          rest = rest;
+          copies = is;
+          there = there;
+          stands = stands;
+          kept = keep;
+          left = here;
+        })
+
+    none_back : (rest : NodePath) (node : Node) → old (source ++ rest) ≡ Some node
+        → keeps settings (c.path ++ rest) ≡ true → keeps settings (source ++ rest) ≡ true
+    none_back rest node here keep =
+        back_or_kept rest (ap is_some here) keep (keeps settings (source ++ rest)) refl
+
+    kept_source : keeps settings source ≡ true
+    kept_source =
+        let (node, here) = copies_something history before after old c number source is there at in
+        sym (ap (keeps settings) (append-nil source))
+        ∙ none_back [] node (ap old (append-nil source) ∙ here) (ap (keeps settings) (append-nil c.path) ∙ kept)
+
+    moved : (written : ℕ) → new.made ≡ Some (Made.Copied written source)
+        → step others restricted new ≡ step others restricted
+        (record {
+          path = c.path;
+          deletes = c.deletes;
+          made = Some (Made.Copied written source);
+          props = new.props;
+          text = c.text;
+        })
+    moved written made = λ i. step others restricted
+        (record { path = is_new.path i; deletes = is_new.deletes i; made = made i; props = new.props; text = is_new.text i })
+
+pub each_trimmed_copy : EachTrimmedCopyRestricts
+each_trimmed_copy settings make renumber entries = trimmed_copy settings (IsMade make) (IsRenumbered renumber) entries
+
+-- what is taken
+
+-- whether one of the seen paths is at or above the path
+abbrev is_seen : List NodePath → NodePath → Bool
+is_seen seen path = list_any (λ other. is_some (below other path)) seen
+
+-- what holds of each path holds of those that are chosen
+topmost_all : (test : NodePath → Bool) (seen paths : List NodePath) → list_all test paths ≡ true
+    → list_all test (topmost_from seen paths) ≡ true
+topmost_all test seen [] all = refl
+topmost_all test seen (path ∷ paths) all =
+    cases (topmost_all test seen paths parts.1) (topmost_all test (path ∷ seen) paths parts.1) (is_seen seen path)
+  where
+    parts : (test path ≡ true) × (list_all test paths ≡ true)
+    parts = and_parts (test path) (list_all test paths) all
+
+    cases : list_all test (topmost_from seen paths) ≡ true → list_all test (topmost_from (path ∷ seen) paths) ≡ true
+        → (b : Bool)
+        → list_all test (cond b (topmost_from seen paths) (path ∷ topmost_from (path ∷ seen) paths)) ≡ true
+    cases left right true = left
+    cases left right false = and_from (test path) (list_all test (topmost_from (path ∷ seen) paths)) parts.0 right
+
+-- none that is chosen is at or below a seen one
+topmost_unseen : (other : NodePath) (seen paths : List NodePath)
+    → ((path : NodePath) → is_seen seen path ≡ false → is_none (below other path) ≡ true)
+    → list_all (λ path. is_none (below other path)) (topmost_from seen paths) ≡ true
+topmost_unseen other seen [] far = refl
+topmost_unseen other seen (path ∷ paths) far =
+    cases (topmost_unseen other seen paths far) (topmost_unseen other (path ∷ seen) paths further) (is_seen seen path) refl
+  where
+    further : (next : NodePath) → is_seen (path ∷ seen) next ≡ false → is_none (below other next) ≡ true
+    further next none = far next (or_parts (is_some (below path next)) (is_seen seen next) none).1
+
+    cases : list_all (λ next. is_none (below other next)) (topmost_from seen paths) ≡ true
+        → list_all (λ next. is_none (below other next)) (topmost_from (path ∷ seen) paths) ≡ true
+        → (b : Bool) → is_seen seen path ≡ b
+        → list_all (λ next. is_none (below other next))
+        (cond b (topmost_from seen paths) (path ∷ topmost_from (path ∷ seen) paths)) ≡ true
+    cases left right true is = left
+    cases left right false none =
+        and_from (is_none (below other path))
+        (list_all (λ next. is_none (below other next)) (topmost_from (path ∷ seen) paths))
+        (far path none) right
+
+-- so none is at or below one before it
+topmost_apart : (seen paths : List NodePath) → none_is_below (topmost_from seen paths) ≡ true
+topmost_apart seen [] = refl
+topmost_apart seen (path ∷ paths) =
+    cases (topmost_apart seen paths) (topmost_apart (path ∷ seen) paths) (is_seen seen path)
+  where
+    none_of : (o : Option NodePath) → is_some o ≡ false → is_none o ≡ true
+    none_of None is = refl
+    none_of (Some more) is = absurd (let bad : true ≡ false = is in cc)
+
+    cases : none_is_below (topmost_from seen paths) ≡ true → none_is_below (topmost_from (path ∷ seen) paths) ≡ true
+        → (b : Bool) → none_is_below (cond b (topmost_from seen paths) (path ∷ topmost_from (path ∷ seen) paths)) ≡ true
+    cases left right true = left
+    cases left right false =
+        and_from (list_all (λ other. is_none (below path other)) (topmost_from (path ∷ seen) paths))
+        (none_is_below (topmost_from (path ∷ seen) paths))
+        (topmost_unseen path (path ∷ seen) paths
+        (λ next none. none_of (below path next) (or_parts (is_some (below path next)) (is_seen seen next) none).0))
+        right
+
+-- and each path is at or below one that is seen or chosen
+topmost_cover : (seen paths : List NodePath) (path : NodePath) → Contains paths path
+    → (is_seen seen path || is_seen (topmost_from seen paths) path) ≡ true
+topmost_cover seen [] path (k, low, is) = absurd (omega (arith, low))
+topmost_cover seen (first ∷ paths) path among =
+    cases (topmost_cover seen paths path) (topmost_cover (first ∷ seen) paths path) (is_seen seen first) refl
+    (place among)
+  where
+    place : Contains (first ∷ paths) path → (first ≡ path) ⊎ Contains paths path
+    place (zero, low, is) = inl is
+    place (suc k, low, is) = inr (k, (let less : k < length paths = omega (arith, low) in less), is)
+
+    cases : (Contains paths path → (is_seen seen path || is_seen (topmost_from seen paths) path) ≡ true)
+        → (Contains paths path
+        → ((is_some (below first path) || is_seen seen path) || is_seen (topmost_from (first ∷ seen) paths) path)
+        ≡ true)
+        → (b : Bool) → is_seen seen first ≡ b → (first ≡ path) ⊎ Contains paths path
+        → (is_seen seen path
+        || is_seen (cond b (topmost_from seen paths) (first ∷ topmost_from (first ∷ seen) paths)) path) ≡ true
+    cases left right true is (inl same) =
+        or_left (is_seen seen path) (is_seen (topmost_from seen paths) path)
+        (subst (λ p. is_seen seen p ≡ true) same is)
+    cases left right true is (inr later) = left later
+    cases left right false none (inl same) =
+        or_right (is_seen seen path) (is_seen (first ∷ topmost_from (first ∷ seen) paths) path)
+        (or_left (is_some (below first path)) (is_seen (topmost_from (first ∷ seen) paths) path)
+        (subst (λ p. is_some (below first p) ≡ true) same (ap is_some (below_top first))))
+    cases left right false none (inr later) =
+        between (is_some (below first path)) (is_seen seen path) (is_seen (topmost_from (first ∷ seen) paths) path)
+        (right later)
+      where
+        between : (a b c : Bool) → ((a || b) || c) ≡ true → (b || (a || c)) ≡ true
+        between true true c is = refl
+        between true false c is = refl
+        between false true c is = refl
+        between false false c is = is
+
+pub taken_tops_cover : TakenTopsCover
+taken_tops_cover settings old path source branch has apart = record {
+  kept = topmost_all (λ rest. keeps settings (source ++ rest)) [] all (each (λ rest. keeps settings (source ++ rest))
+      (λ rest back. back.kept) all (λ rest there. there));
+  left = topmost_all (λ rest. not (keeps settings (path ++ rest))) [] all
+      (each (λ rest. not (keeps settings (path ++ rest)))
+      (λ rest back. not_from_false (keeps settings (path ++ rest)) back.left) all (λ rest there. there));
+  stand = topmost_all (λ rest. is_some (old (source ++ rest))) [] all
+      (each (λ rest. is_some (old (source ++ rest))) (λ rest back. ap is_some (has rest) ∙ back.stands) all
+      (λ rest there. there));
+  apart = topmost_apart [] all;
+  all = λ rest stands kept left. topmost_cover [] all rest
+      (branch_found settings branch source path rest
+      record { stands = ap is_some (sym (has rest)) ∙ stands; kept = kept; left = left });
+}
+  where
+    all : List NodePath
+    all = coming_back settings source path branch
+
+    each : (test : NodePath → Bool)
+        → ((rest : NodePath) → IsBack settings source path (tree_of branch) rest → test rest ≡ true)
+        → (paths : List NodePath) → ((rest : NodePath) → Contains paths rest → Contains all rest)
+        → list_all test paths ≡ true
+    each test holds [] within = refl
+    each test holds (first ∷ paths) within =
+        and_from (test first) (list_all test paths)
+        (holds first (branch_back settings branch source path apart first (within first (0, omega arith, refl))))
+        (each test holds paths
+        (λ rest (k, low, is).
+        within rest (suc k, (let less : suc k < length (first ∷ paths) = omega (arith, low) in less), is)))

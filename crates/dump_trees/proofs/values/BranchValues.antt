@@ -1,0 +1,181 @@
+-- Worked values of branches and of the changes that write one out.
+use Rattle.dump_trees.proofs.Prelude.{◌≡◌, codes, refl, inr, both_ways, Property, Settings, path_of, Node, root_alone, Change, History, steps}
+use Rattle.std.proofs.Common.{ℕ, true, false, List, [], ◌∷◌, Option, Some, None, option_and_then, is_none}
+use Rattle.dump_trees.specs.Branches.{Branch, Branches, tree_of, is_distinct}
+use Rattle.dump_trees.specs.WritingOut.{folder_of, file_of, IsCutAlike, IsLeftOut, WritesOut}
+use Rattle.dump_trees.specs.ExpansionCases.{branch_made, cleared, deletions, none_is_below}
+use Rattle.dump_trees.proofs.values.ValueParts.{including, excluding, copy, deletion, setting, editing, writing, property, removal}
+
+abbrev one : Property
+one = property (codes "p") (codes "1")
+
+-- branches
+
+-- a folder with a file, and a folder in it with another one
+abbrev worked : Branch
+worked = Branch.Folder (one ∷ [])
+    (Branches.Named (codes "f") (Branch.File [] (codes "1"))
+    (Branches.Named (codes "g")
+    (Branch.Folder [] (Branches.Named (codes "h") (Branch.File (one ∷ []) (codes "2")) Branches.NoMore))
+    Branches.NoMore))
+
+its_root : tree_of worked [] ≡ Some (Node.Folder (one ∷ []))
+its_root = refl
+
+its_file : tree_of worked (path_of (codes "f")) ≡ Some (Node.File [] (codes "1"))
+its_file = refl
+
+deeper : tree_of worked (path_of (codes "g/h")) ≡ Some (Node.File (one ∷ []) (codes "2"))
+deeper = refl
+
+not_beside : tree_of worked (path_of (codes "h")) ≡ None
+not_beside = refl
+
+not_below_a_file : tree_of worked (path_of (codes "f/h")) ≡ None
+not_below_a_file = refl
+
+names_differ : is_distinct worked ≡ true
+names_differ = refl
+
+-- two files of one name in one folder
+abbrev doubled : Branch
+doubled = Branch.Folder []
+    (Branches.Named (codes "f") (Branch.File [] (codes "1"))
+    (Branches.Named (codes "f") (Branch.File [] (codes "2")) Branches.NoMore))
+
+not_distinct : is_distinct doubled ≡ false
+not_distinct = refl
+
+-- one name in two folders is none twice
+again_deeper : is_distinct
+    (Branch.Folder []
+    (Branches.Named (codes "f") (Branch.Folder [] (Branches.Named (codes "f") (Branch.File [] []) Branches.NoMore))
+    Branches.NoMore)) ≡ true
+again_deeper = refl
+
+doubled_deeper : is_distinct (Branch.Folder [] (Branches.Named (codes "d") doubled Branches.NoMore)) ≡ false
+doubled_deeper = refl
+
+-- changes that write a branch out
+
+abbrev nowhere : History
+nowhere number = None
+
+-- each part is made by itself
+abbrev made_alone : List Change
+made_alone = folder_of (path_of (codes "a")) (one ∷ [])
+    ∷ file_of (path_of (codes "a/f")) [] (codes "1")
+    ∷ folder_of (path_of (codes "a/g")) []
+    ∷ file_of (path_of (codes "a/g/h")) (one ∷ []) (codes "2") ∷ []
+
+all_alone : (settings : Settings) → WritesOut settings nowhere (path_of (codes "a")) worked made_alone
+all_alone settings =
+    inr (
+      one ∷ [],
+      file_of (path_of (codes "a/f")) [] (codes "1")
+          ∷ folder_of (path_of (codes "a/g")) []
+          ∷ file_of (path_of (codes "a/g/h")) (one ∷ []) (codes "2") ∷ [],
+      refl,
+      refl,
+      (
+        file_of (path_of (codes "a/f")) [] (codes "1") ∷ [],
+        folder_of (path_of (codes "a/g")) []
+            ∷ file_of (path_of (codes "a/g/h")) (one ∷ []) (codes "2") ∷ [],
+        refl,
+        inr ([], refl, refl),
+        (
+          folder_of (path_of (codes "a/g")) []
+              ∷ file_of (path_of (codes "a/g/h")) (one ∷ []) (codes "2") ∷ [],
+          [],
+          refl,
+          inr (
+            [],
+            file_of (path_of (codes "a/g/h")) (one ∷ []) (codes "2") ∷ [],
+            refl,
+            refl,
+            (
+              file_of (path_of (codes "a/g/h")) (one ∷ []) (codes "2") ∷ [],
+              [],
+              refl,
+              inr (one ∷ [], refl, refl),
+              refl,
+            ),
+          ),
+          refl,
+        ),
+      ),
+    )
+
+-- what stands at a path once these changes are made over a new repository
+abbrev made_there : List Change → List ℕ → Option Node
+made_there changes path = option_and_then (λ tree. tree (path_of path)) (steps nowhere root_alone changes)
+
+made_deeper : made_there made_alone (codes "a/g/h") ≡ Some (Node.File (one ∷ []) (codes "2"))
+made_deeper = refl
+
+made_root : made_there made_alone (codes "a") ≡ Some (Node.Folder (one ∷ []))
+made_root = refl
+
+-- a branch with two files of one name isn't made: the second is refused
+refused_twice : is_none (steps nowhere root_alone
+    (folder_of (path_of (codes "a")) [] ∷ file_of (path_of (codes "a/f")) [] (codes "1")
+    ∷ file_of (path_of (codes "a/f")) [] (codes "2") ∷ [])) ≡ true
+refused_twice = refl
+
+-- over something a branch isn't made either
+refused_over : is_none (steps nowhere root_alone (folder_of (path_of (codes "a")) [] ∷ made_alone)) ≡ true
+refused_over = refl
+
+-- copies of branches
+
+-- a kept file in a branch, where it isn't kept
+not_left_out : IsLeftOut (including (codes "a/f")) (path_of (codes "a")) worked → ⊥
+not_left_out left = both_ways true (left (path_of (codes "f")) (Node.File [] (codes "1")) refl) refl
+
+-- a file that is left out at the source alone
+cut_otherwise : IsCutAlike (excluding (codes "c/f")) (path_of (codes "a")) (path_of (codes "c")) worked → ⊥
+cut_otherwise (kept, source, alike) =
+    absurd (let bad : true ≡ false = alike (path_of (codes "f")) (Node.File [] (codes "1")) refl in cc)
+
+-- what a change makes of its branch
+
+sets_root : branch_made (setting [] (copy 1 (codes "c") (codes "a"))) (Branch.Folder (one ∷ []) Branches.NoMore)
+    ≡ Some (Branch.Folder [] Branches.NoMore)
+sets_root = refl
+
+edits_root : branch_made (editing (removal (codes "p") ∷ []) (copy 1 (codes "c") (codes "a")))
+    (Branch.File (one ∷ []) (codes "1"))
+    ≡ Some (Branch.File [] (codes "1"))
+edits_root = refl
+
+writes_root : branch_made (writing (codes "2") (copy 1 (codes "c") (codes "a"))) (Branch.File (one ∷ []) (codes "1"))
+    ≡ Some (Branch.File (one ∷ []) (codes "2"))
+writes_root = refl
+
+no_text_of_a_folder : branch_made (writing (codes "2") (copy 1 (codes "c") (codes "a")))
+    (Branch.Folder [] Branches.NoMore) ≡ None
+no_text_of_a_folder = refl
+
+-- deletions
+
+clears_nothing : cleared root_alone (path_of (codes "a")) ≡ []
+clears_nothing = refl
+
+clears_root : cleared (tree_of worked) (path_of (codes "g")) ≡ deletion (codes "g") ∷ []
+clears_root = refl
+
+deleted_below : deletions (path_of (codes "a")) (path_of (codes "f") ∷ path_of (codes "g/h") ∷ [])
+    ≡ deletion (codes "a/f") ∷ deletion (codes "a/g/h") ∷ []
+deleted_below = refl
+
+beside : none_is_below (path_of (codes "f") ∷ path_of (codes "g/h") ∷ []) ≡ true
+beside = refl
+
+below_first : none_is_below (path_of (codes "g") ∷ path_of (codes "g/h") ∷ []) ≡ false
+below_first = refl
+
+from_below : none_is_below (path_of (codes "g/h") ∷ path_of (codes "g") ∷ []) ≡ true
+from_below = refl
+
+twice : none_is_below (path_of (codes "g") ∷ path_of (codes "g") ∷ []) ≡ false
+twice = refl

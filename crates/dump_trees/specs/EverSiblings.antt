@@ -1,0 +1,70 @@
+-- Siblings of every tree, of those within revisions too: how they are found without building trees, and that then each
+-- node that is kept has a path in the cut.
+use Rattle.std.specs.Prelude.{◌≡◌, ℕ, ◌≤◌, Bool, ◌||◌, List, [], ◌∷◌, ◌++◌, length, Some, is_some, bytes_eq, Contains, IsTrue}
+use Rattle.std.specs.List.{list_all, list_any}
+use Rattle.dump_rules.specs.Settings.{Settings}
+use Rattle.dump_trees.specs.Paths.{NodePath, keeps}
+use Rattle.dump_trees.specs.Trees.{Tree, root_alone}
+use Rattle.dump_trees.specs.Changes.{Made, Change}
+use Rattle.dump_trees.specs.Revisions.{loaded_over}
+use Rattle.dump_trees.specs.Looking.{placed_from, look}
+use Rattle.dump_trees.specs.Listing.{names_look}
+use Rattle.dump_trees.specs.LoadCheck.{sets_props}
+use Rattle.dump_trees.specs.Siblings.{is_above_included, is_in_cut, is_sibling, have_node_names, AreSiblings, ExcludesPaths}
+use Rattle.dump_trees.specs.Following.{ExistsOnce}
+use Rattle.dump_trees.specs.FollowedParents.{AreEverSiblings}
+
+-- finding them
+
+-- something exists right below the path after so many of the changes: the name is one that can stand there then, and
+-- looking back finds something
+abbrev pub ExistsBelow : List (List Change) → ℕ → NodePath → List ℕ → Type 0
+ExistsBelow revisions count path name =
+    IsTrue (list_any (λ other. bytes_eq other name) (names_look (placed_from 1 revisions) count path))
+    × IsTrue (is_some (look root_alone (placed_from 1 revisions) count (path ++ name ∷ [])))
+
+-- siblings among which is each one that exists in its directory after some of the changes suffice
+abbrev pub EverSiblingsAreFound : Type 0
+EverSiblingsAreFound = (included siblings : List NodePath) (revisions : List (List Change)) →
+    IsTrue (list_all (is_sibling included) siblings)
+    → ((count : ℕ) (path : NodePath) (name : List ℕ) → count ≤ length (placed_from 1 revisions)
+    → IsTrue (is_above_included included path) → ExistsBelow revisions count path name
+    → IsTrue (is_sibling included (path ++ name ∷ [])) → Contains siblings (path ++ name ∷ []))
+    → AreEverSiblings included revisions siblings
+
+-- they are the siblings of the trees of revisions as well
+abbrev pub EverSiblingsAreSiblings : Type 0
+EverSiblingsAreSiblings = (included siblings : List NodePath) (revisions : List (List Change)) (trees : List Tree) →
+    loaded_over root_alone revisions ≡ Some trees → IsTrue (list_all (is_sibling included) siblings)
+    → AreEverSiblings included revisions siblings → AreSiblings included trees siblings
+
+-- what is kept
+
+-- whether a change does something. One that doesn't is loaded where nothing exists too
+abbrev pub does_something : Change → Bool
+does_something c = c.deletes || is_some c.made || sets_props c.props || is_some c.text
+
+-- something exists once at the path of each change that does something, before it or behind it
+abbrev pub ChangedPathsExist : Type 0
+ChangedPathsExist = (revisions : List (List Change)) (trees : List Tree) (changes : List Change) (c : Change) →
+    loaded_over root_alone revisions ≡ Some trees → Contains revisions changes → Contains changes c
+    → IsTrue (does_something c) → ExistsOnce revisions c.path
+
+-- so it does at the source of each copy
+abbrev pub CopiedPathsExist : Type 0
+CopiedPathsExist = (revisions : List (List Change)) (trees : List Tree) (changes : List Change) (c : Change)
+    (number : ℕ) (source : NodePath) →
+    loaded_over root_alone revisions ≡ Some trees → Contains revisions changes → Contains changes c
+    → c.made ≡ Some (Made.Copied number source) → ExistsOnce revisions source
+
+-- where the siblings of every tree are excluded, a node that does something is kept exactly where its path is in the cut,
+-- and a copy's source is kept exactly where it is in the cut
+abbrev pub KeptNodesLieInCut : Type 0
+KeptNodesLieInCut = (settings : Settings) (included siblings : List NodePath) (revisions : List (List Change))
+    (trees : List Tree) (changes : List Change) (c : Change) →
+    loaded_over root_alone revisions ≡ Some trees → IsTrue (have_node_names revisions)
+    → ExcludesPaths settings siblings → AreEverSiblings included revisions siblings
+    → Contains revisions changes → Contains changes c
+    → (IsTrue (does_something c) → keeps settings c.path ≡ is_in_cut included c.path)
+    × ((number : ℕ) (source : NodePath) → c.made ≡ Some (Made.Copied number source)
+    → keeps settings source ≡ is_in_cut included source)

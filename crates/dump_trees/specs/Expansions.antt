@@ -1,0 +1,73 @@
+-- Changes that are replaced by several others with the same effect, each of which the filter's cut separates.
+use Rattle.std.specs.Prelude.{◌≡◌, List, [], ◌∷◌, ◌++◌, length, Some, slice_get, IsTrue}
+use Rattle.dump_text.specs.PropertyList.{Property}
+use Rattle.dump_rules.specs.Settings.{Settings}
+use Rattle.dump_rules.specs.Renumbering.{image}
+use Rattle.dump_trees.specs.Trees.{Tree, root_alone}
+use Rattle.dump_trees.specs.Changes.{Change, History, step, steps}
+use Rattle.dump_trees.specs.Restriction.{given, NewProperty, KeepsEntries}
+use Rattle.dump_trees.specs.StepLaws.{IsMade}
+use Rattle.dump_trees.specs.Revisions.{loaded, loaded_over, EmptyRule, stays_numbered, kept_of, AreFiltered, AllRevisionsSeparate}
+use Rattle.dump_trees.specs.HistoryLaws.{ImagesRestrict}
+use Rattle.dump_trees.specs.Leading.{Leads}
+
+-- the changes are an expansion of the change: wherever it leads from this tree to another, they do too, and each of
+-- them is separated
+abbrev pub Expands : Settings → History → Tree → Change → List Change → Type 0
+Expands settings history before c changes =
+    (after : Tree) → step history before c ≡ Some after → Leads settings history before changes after
+
+-- the changes of a revision, each replaced by an expansion of it at its place
+abbrev pub AllExpand : Settings → History → Tree → List Change → List Change → Type 0
+AllExpand settings history before [] expanded = expanded ≡ []
+AllExpand settings history before (c ∷ changes) expanded =
+    (first : List Change) × (rest : List Change) × (expanded ≡ first ++ rest) × Expands settings history before c first
+    × ((after : Tree) → step history before c ≡ Some after → AllExpand settings history after changes rest)
+
+-- so for the changes of each revision
+abbrev pub AllRevisionsExpand : Settings → List Tree → Tree → List (List Change) → List (List Change) → Type 0
+AllRevisionsExpand settings trees youngest [] expanded = expanded ≡ []
+AllRevisionsExpand settings trees youngest (changes ∷ revisions) expanded =
+    (first : List Change) × (rest : List (List Change)) × (expanded ≡ first ∷ rest)
+    × AllExpand settings (slice_get trees) youngest changes first
+    × ((tree : Tree) → steps (slice_get trees) youngest changes ≡ Some tree
+    → AllRevisionsExpand settings (trees ++ tree ∷ []) tree revisions rest)
+
+-- revisions whose changes are each separated are expanded by themselves: so nothing of them needs to be replaced, nor of
+-- an expanded form once more
+abbrev pub SeparatedRevisionsExpand : Type 0
+SeparatedRevisionsExpand = (settings : Settings) (trees : List Tree) (youngest : Tree)
+    (revisions : List (List Change)) →
+    AllRevisionsSeparate settings trees youngest revisions
+    → AllRevisionsExpand settings trees youngest revisions revisions
+
+-- the expanded changes of a revision lead where its changes lead
+abbrev pub ExpandedLead : Type 0
+ExpandedLead = (settings : Settings) (history : History) (before after : Tree) (changes expanded : List Change) →
+    steps history before changes ≡ Some after → AllExpand settings history before changes expanded
+    → Leads settings history before expanded after
+
+-- the expanded revisions load to the same trees, one after the other, and each of their changes is separated
+abbrev pub ExpandedLoad : Type 0
+ExpandedLoad = (settings : Settings) (older : List Tree) (youngest : Tree) (revisions expanded : List (List Change))
+    (trees : List Tree) →
+    loaded older youngest revisions ≡ Some trees → AllRevisionsExpand settings older youngest revisions expanded
+    → (loaded older youngest expanded ≡ Some trees) × AllRevisionsSeparate settings older youngest expanded
+
+-- what the filter writes of the expanded revisions of a dump, loaded over the given folders, has the restricted trees
+-- of the dump; no change of the dump itself need be separated
+abbrev pub ExpandedHistoryRestricts : Settings → NewProperty → Type 0
+ExpandedHistoryRestricts settings IsNew = (rule : EmptyRule) (revisions expanded written : List (List Change))
+    (trees : List Tree) →
+    IsTrue (stays_numbered settings rule expanded)
+    → loaded_over root_alone revisions ≡ Some trees
+    → AllRevisionsExpand settings (root_alone ∷ []) root_alone revisions expanded
+    → AreFiltered settings IsNew rule expanded written
+    → (others : List Tree) × (loaded_over (given settings) written ≡ Some others)
+    × (length others ≡ length (kept_of settings rule expanded).numbers)
+    × ImagesRestrict settings IsNew (image (kept_of settings rule expanded)) trees others
+
+-- so for each way to make new properties that keeps entries
+abbrev pub EachExpandedHistoryRestricts : Type 0
+EachExpandedHistoryRestricts = (settings : Settings) (make : Property → Property) →
+    KeepsEntries (IsMade make) → ExpandedHistoryRestricts settings (IsMade make)

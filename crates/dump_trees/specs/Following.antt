@@ -1,0 +1,254 @@
+-- Following copies: the least set of paths that has the given ones, what is below them, and what copies bring of it
+-- elsewhere; or, of what is included, the sources.
+use Rattle.std.specs.Prelude.{◌≡◌, ℕ, ◌+◌, ◌≤◌, Bool, not, ◌&&◌, ◌||◌, List, [], ◌∷◌, ◌++◌, length, filter, Some, is_some, slice_get, count_by, Contains, IsTrue, IsFalse}
+use Rattle.std.specs.List.{list_all}
+use Rattle.dump_rules.specs.Settings.{Settings}
+use Rattle.dump_trees.specs.Paths.{NodePath}
+use Rattle.dump_trees.specs.Trees.{Tree, root_alone}
+use Rattle.dump_trees.specs.Changes.{Made, Change}
+use Rattle.dump_trees.specs.Revisions.{loaded_over}
+use Rattle.dump_trees.specs.Looking.{Placed, placed_from, end_of}
+use Rattle.dump_trees.specs.LoadCheck.{ToldKinds, TellsKinds}
+use Rattle.dump_trees.specs.Siblings.{is_within, has_node_names, have_node_names, ExcludesPaths}
+use Rattle.dump_trees.specs.ComingBack.{NothingComesBack}
+use Rattle.dump_trees.specs.Returns.{is_covered, lie_apart, rests_covered, IsCopyOver}
+
+-- copies
+
+-- one of the changes of these revisions copies the source, as it is in this tree, to the path
+pub record Copies (trees : List Tree) (revisions : List (List Change)) (path source : NodePath) (old : Tree)
+    : Type 0 where
+  pub changes : List Change
+  pub change : Change
+  pub number : ℕ
+  pub among : Contains revisions changes
+  pub there : Contains changes change
+  pub at : change.path ≡ path
+  pub copies : change.made ≡ Some (Made.Copied number source)
+  pub tree : slice_get trees number ≡ Some old
+
+-- which way copies are followed: what is excluded to where it is copied, and what is included to where it is copied from
+pub data Way : Type 0 where
+  ToCopies : Way
+  ToSources : Way
+
+-- where a copy to this path, of this source, is followed from
+abbrev pub from_of : Way → NodePath → NodePath → NodePath
+from_of Way.ToCopies path source = source
+from_of Way.ToSources path source = path
+
+-- and where to
+abbrev pub to_of : Way → NodePath → NodePath → NodePath
+to_of Way.ToCopies path source = path
+to_of Way.ToSources path source = source
+
+-- closed sets
+
+-- a set of paths is closed: it has what is below its members, and what a copy is followed to from them, where that exists
+-- at the source
+pub record IsClosed (way : Way) (trees : List Tree) (revisions : List (List Change)) (Has : NodePath → Type 0)
+    : Type 0 where
+  pub below : (path rest : NodePath) → Has path → Has (path ++ rest)
+  pub copied : (path source rest : NodePath) (old : Tree) → Copies trees revisions path source old
+      → IsTrue (is_some (old (source ++ rest))) → Has (from_of way path source ++ rest)
+      → Has (to_of way path source ++ rest)
+
+-- what these paths cover
+abbrev pub Covers : List NodePath → NodePath → Type 0
+Covers tops path = IsTrue (is_covered tops path)
+
+-- the least closed set that has these paths: what is one of them, or below what is reached, or where a copy is followed to
+-- from what is reached
+pub data IsInClosure (way : Way) (trees : List Tree) (revisions : List (List Change)) (tops : List NodePath)
+    : NodePath → Type 0 where
+  Given : (top : NodePath) → Contains tops top → IsInClosure way trees revisions tops top
+  Inside : (path rest : NodePath) → IsInClosure way trees revisions tops path
+      → IsInClosure way trees revisions tops (path ++ rest)
+  Followed : (path source rest : NodePath) (old : Tree) → Copies trees revisions path source old
+      → IsTrue (is_some (old (source ++ rest))) → IsInClosure way trees revisions tops (from_of way path source ++ rest)
+      → IsInClosure way trees revisions tops (to_of way path source ++ rest)
+
+-- additions
+
+-- the rests from which on a copy is followed, where these paths are what there is so far. To copies they are the returns
+abbrev pub followed : Way → List NodePath → Tree → NodePath → NodePath → List NodePath
+followed way tops old path source =
+    filter (λ rest. is_some (old (source ++ rest)) && not (is_covered tops (to_of way path source ++ rest)))
+    (rests_covered (from_of way path source) tops)
+
+-- a path is one that a copy is followed to: something exists there at the source, it is covered where the copy is followed
+-- from, and this path isn't covered yet
+pub record IsFollowed (way : Way) (trees : List Tree) (revisions : List (List Change)) (tops : List NodePath)
+    (added : NodePath) : Type 0 where
+  pub path : NodePath
+  pub source : NodePath
+  pub rest : NodePath
+  pub old : Tree
+  pub copy : Copies trees revisions path source old
+  pub at : added ≡ to_of way path source ++ rest
+  pub exists : IsTrue (is_some (old (source ++ rest)))
+  pub from : Covers tops (from_of way path source ++ rest)
+  pub new : IsFalse (is_covered tops added)
+
+-- the paths with one more, at any place, and without those at or below it
+pub record IsGrown (tops : List NodePath) (added : NodePath) (more : List NodePath) : Type 0 where
+  pub front : List NodePath
+  pub behind : List NodePath
+  pub others : front ++ behind ≡ filter (λ top. not (is_within added top)) tops
+  pub joined : more ≡ front ++ added ∷ behind
+
+-- the last paths come of the given ones by these additions, one after the other
+abbrev pub AreFollowed : Way → List Tree → List (List Change) → List NodePath → List NodePath → List NodePath → Type 0
+AreFollowed way trees revisions tops [] last = last ≡ tops
+AreFollowed way trees revisions tops (added ∷ additions) last =
+    IsFollowed way trees revisions tops added
+    × (more : List NodePath) × IsGrown tops added more × AreFollowed way trees revisions more additions last
+
+-- a pass over all copies adds nothing
+abbrev pub AddsNothing : Way → List Tree → List (List Change) → List NodePath → Type 0
+AddsNothing way trees revisions tops = (path source : NodePath) (old : Tree) → Copies trees revisions path source old
+    → followed way tops old path source ≡ []
+
+-- laws
+
+-- each rest that is listed is an addition, also where the paths have grown since, and don't cover it yet
+abbrev pub ListedAreFollowed : Type 0
+ListedAreFollowed = (way : Way) (trees : List Tree) (revisions : List (List Change)) (tops more : List NodePath)
+    (path source rest : NodePath) (old : Tree) → Copies trees revisions path source old
+    → Contains (followed way tops old path source) rest
+    → ((other : NodePath) → Covers tops other → Covers more other)
+    → IsFalse (is_covered more (to_of way path source ++ rest))
+    → IsFollowed way trees revisions more (to_of way path source ++ rest)
+
+-- the grown paths cover what they covered, and what is at or below the addition, and nothing else; none of them is at or
+-- below another one, and they have names, where it was so
+abbrev pub GrownPathsCover : Type 0
+GrownPathsCover = (tops more : List NodePath) (added : NodePath) → IsGrown tops added more
+    → ((path : NodePath) → is_covered more path ≡ (is_covered tops path || is_within added path))
+    × (IsFalse (is_covered tops added) → IsTrue (lie_apart tops) → IsTrue (lie_apart more))
+    × (IsTrue (list_all has_node_names tops) → IsTrue (has_node_names added) → IsTrue (list_all has_node_names more))
+
+-- what is reached is closed, and in each closed set that has the given paths
+abbrev pub ReachedIsLeast : Type 0
+ReachedIsLeast = (way : Way) (trees : List Tree) (revisions : List (List Change)) (tops : List NodePath) →
+    IsClosed way trees revisions (IsInClosure way trees revisions tops)
+    × ((has : NodePath → Bool) → IsClosed way trees revisions (λ path. IsTrue (has path))
+    → IsTrue (list_all has tops)
+    → (path : NodePath) → IsInClosure way trees revisions tops path → IsTrue (has path))
+
+-- all additions are reached, and so is what is covered by the last paths; and what was covered stays so
+abbrev pub AdditionsAreReached : Type 0
+AdditionsAreReached = (way : Way) (trees : List Tree) (revisions : List (List Change))
+    (tops additions last : List NodePath) → AreFollowed way trees revisions tops additions last
+    → ((path : NodePath) → Covers tops path → Covers last path)
+    × ((added : NodePath) → Contains additions added → IsInClosure way trees revisions tops added)
+    × ((path : NodePath) → Covers last path → IsInClosure way trees revisions tops path)
+
+-- something exists at the path after some of the changes of these revisions: those of the first ones, the last of which
+-- may be cut short
+pub record ExistsOnce (revisions : List (List Change)) (path : NodePath) : Type 0 where
+  pub front : List (List Change)
+  pub changes : List Change
+  pub more : List Change
+  pub rest : List (List Change)
+  pub trees : List Tree
+  pub tree : Tree
+  pub parted : revisions ≡ front ++ (changes ++ more) ∷ rest
+  pub loads : loaded_over root_alone (front ++ changes ∷ []) ≡ Some trees
+  pub last : slice_get trees (length (front ++ changes ∷ [])) ≡ Some tree
+  pub exists : IsTrue (is_some (tree path))
+
+-- something exists once at each addition, and its path has names, where those of the changes have
+abbrev pub AdditionsExist : Type 0
+AdditionsExist = (way : Way) (trees : List Tree) (revisions : List (List Change)) (tops : List NodePath)
+    (added : NodePath) →
+    loaded_over root_alone revisions ≡ Some trees → IsFollowed way trees revisions tops added
+    → ExistsOnce revisions added × (IsTrue (have_node_names revisions) → IsTrue (has_node_names added))
+
+-- how many of these paths aren't covered
+abbrev pub left_uncovered : List NodePath → List NodePath → ℕ
+left_uncovered ever tops = count_by (λ path. not (is_covered tops path)) ever
+
+-- with each addition one path less is left, of those at which something ever exists. So there are no more additions than
+-- such paths
+abbrev pub FollowingEnds : Type 0
+FollowingEnds = (way : Way) (trees : List Tree) (revisions : List (List Change)) (ever tops additions last : List NodePath) →
+    loaded_over root_alone revisions ≡ Some trees
+    → ((path : NodePath) → ExistsOnce revisions path → Contains ever path)
+    → AreFollowed way trees revisions tops additions last
+    → length additions + left_uncovered ever last ≤ left_uncovered ever tops
+
+-- once a pass adds nothing, what the last paths cover is closed, and is just what is reached from the given ones
+abbrev pub FollowingIsLeast : Type 0
+FollowingIsLeast = (way : Way) (trees : List Tree) (revisions : List (List Change)) (tops additions last : List NodePath) →
+    loaded_over root_alone revisions ≡ Some trees
+    → AreFollowed way trees revisions tops additions last → AddsNothing way trees revisions last
+    → IsClosed way trees revisions (Covers last)
+    × ((path : NodePath) → Covers last path → IsInClosure way trees revisions tops path)
+    × ((path : NodePath) → IsInClosure way trees revisions tops path → Covers last path)
+
+-- and a pass adds nothing once it is closed
+abbrev pub ClosedAddsNothing : Type 0
+ClosedAddsNothing = (way : Way) (trees : List Tree) (revisions : List (List Change)) (tops : List NodePath) →
+    IsClosed way trees revisions (Covers tops) → AddsNothing way trees revisions tops
+
+-- where what is excluded is followed to its copies, nothing comes back
+abbrev pub FollowedBringNothingBack : Type 0
+FollowedBringNothingBack = (settings : Settings) (trees : List Tree) (revisions : List (List Change))
+    (excluded : List NodePath) →
+    loaded_over root_alone revisions ≡ Some trees → IsTrue (have_node_names revisions)
+    → ExcludesPaths settings excluded → IsTrue (list_all has_node_names excluded)
+    → (AddsNothing Way.ToCopies trees revisions excluded → NothingComesBack settings trees revisions)
+    × (NothingComesBack settings trees revisions → AddsNothing Way.ToCopies trees revisions excluded)
+
+-- what a program asks
+
+-- the change at this place copies the source, as it is in this tree, to the path
+pub record PlacedCopy (trees : List Tree) (placed : List Placed) (place : ℕ) (path source : NodePath) (old : Tree)
+    : Type 0 where
+  pub at : Placed
+  pub number : ℕ
+  pub there : slice_get placed place ≡ Some at
+  pub to : at.change.path ≡ path
+  pub copies : at.change.made ≡ Some (Made.Copied number source)
+  pub tree : slice_get trees number ≡ Some old
+
+-- the copies are those at the places of all changes
+abbrev pub CopiesArePlaced : Type 0
+CopiesArePlaced = (trees : List Tree) (revisions : List (List Change)) (path source : NodePath) (old : Tree) →
+    (Copies trees revisions path source old
+    → (place : ℕ) × PlacedCopy trees (placed_from 1 revisions) place path source old)
+    × ((place : ℕ) → PlacedCopy trees (placed_from 1 revisions) place path source old
+    → Copies trees revisions path source old)
+
+-- the rests from which on a copy is followed, where what exists at the source is told, at the end of the revision that the
+-- copy names
+abbrev pub followed_told : Way → List NodePath → ToldKinds → List Placed → ℕ → NodePath → NodePath → List NodePath
+followed_told way tops told placed number path source =
+    filter (λ rest. is_some (told (end_of placed number) (source ++ rest))
+    && not (is_covered tops (to_of way path source ++ rest))) (rests_covered (from_of way path source) tops)
+
+-- they are the same
+abbrev pub FollowedIsTold : Type 0
+FollowedIsTold = (way : Way) (tops : List NodePath) (told : ToldKinds) (revisions : List (List Change))
+    (trees : List Tree) (number : ℕ) (old : Tree) (path source : NodePath) →
+    TellsKinds told root_alone (placed_from 1 revisions)
+    → loaded_over root_alone revisions ≡ Some trees → slice_get trees number ≡ Some old
+    → followed_told way tops told (placed_from 1 revisions) number path source ≡ followed way tops old path source
+
+-- each history that loads has a bound: there are no more additions, whatever is given
+abbrev pub FollowingIsBounded : Type 0
+FollowingIsBounded = (revisions : List (List Change)) (trees : List Tree) →
+    loaded_over root_alone revisions ≡ Some trees
+    → (ever : List NodePath) × ((path : NodePath) → ExistsOnce revisions path → Contains ever path)
+    × ((way : Way) (tops additions last : List NodePath) → AreFollowed way trees revisions tops additions last
+    → length additions ≤ length ever)
+
+-- each copy of a history that loads is one of which the returns are found
+abbrev pub EachCopyIsOver : Type 0
+EachCopyIsOver = (settings : Settings) (excluded : List NodePath) (trees : List Tree) (revisions : List (List Change))
+    (path source : NodePath) (old : Tree) →
+    loaded_over root_alone revisions ≡ Some trees → IsTrue (have_node_names revisions)
+    → ExcludesPaths settings excluded → IsTrue (list_all has_node_names excluded)
+    → (copy : Copies trees revisions path source old)
+    → IsCopyOver settings excluded (slice_get trees) old copy.change source

@@ -1,0 +1,109 @@
+-- Which names can stand in a folder after the first changes of a dump, and which branch stands at a path, found without
+-- building trees.
+use Rattle.std.specs.Prelude.{◌≡◌, ℕ, zero, suc, List, [], ◌∷◌, ◌++◌, length, Option, Some, None, is_some, slice_get, nat_le, bytes_eq, IsTrue, ⊤}
+use Rattle.std.specs.List.{list_all, list_any}
+use Rattle.dump_trees.specs.Paths.{NodePath, below}
+use Rattle.dump_trees.specs.Trees.{Node, Tree, root_alone}
+use Rattle.dump_trees.specs.Changes.{Made, Change}
+use Rattle.dump_trees.specs.Revisions.{loaded_over}
+use Rattle.dump_trees.specs.Branches.{Branch, Branches, has_name, HasBranch}
+use Rattle.dump_trees.specs.Looking.{Placed, placed_from, end_of, touches_path, latest, Origin, origin_of, look}
+
+-- the name, where the rest of a path is one alone, and something is made there
+abbrev pub name_made : Option NodePath → Option Made → List (List ℕ)
+name_made None made = []
+name_made (Some []) made = []
+name_made (Some (name ∷ [])) None = []
+name_made (Some (name ∷ [])) (Some made) = name ∷ []
+name_made (Some (name ∷ next ∷ rest)) made = []
+
+-- the name of what a change makes right below the path
+abbrev pub name_below : NodePath → Option Placed → List (List ℕ)
+name_below path None = []
+name_below path (Some p) = name_made (below path p.change.path) p.change.made
+
+-- the names of what the first changes, so many, make right below the path
+abbrev pub names_made : List Placed → ℕ → NodePath → List (List ℕ)
+names_made placed zero path = []
+names_made placed (suc count) path = name_below path (slice_get placed count) ++ names_made placed count path
+
+-- the names where what a change leaves comes from, behind the change at this place
+abbrev pub names_from : (ℕ → NodePath → List (List ℕ)) → List Placed → ℕ → NodePath → Origin → List (List ℕ)
+names_from earlier placed place path Origin.Nowhere = []
+names_from earlier placed place path (Origin.New node) = []
+names_from earlier placed place path Origin.Before = earlier place path
+names_from earlier placed place path (Origin.From number source) = earlier (end_of placed number) source
+
+-- the names that the change at this place leaves below the path whose rest this is
+abbrev pub names_left : (ℕ → NodePath → List (List ℕ)) → List Placed → ℕ → NodePath → Change → Option NodePath
+    → List (List ℕ)
+names_left earlier placed place path c None = []
+names_left earlier placed place path c (Some rest) =
+    names_from earlier placed place path (origin_of c.deletes c.made rest)
+
+-- the names that the change at this place leaves
+abbrev pub names_there : (ℕ → NodePath → List (List ℕ)) → List Placed → ℕ → NodePath → Option Placed → List (List ℕ)
+names_there earlier placed place path None = []
+names_there earlier placed place path (Some p) =
+    names_left earlier placed place path p.change (below p.change.path path)
+
+-- the names that the latest change leaves that touches the path
+abbrev pub names_behind : (ℕ → NodePath → List (List ℕ)) → List Placed → NodePath → Option ℕ → List (List ℕ)
+names_behind earlier placed path None = []
+names_behind earlier placed path (Some place) = names_there earlier placed place path (slice_get placed place)
+
+-- names that can stand right below the path after so many of the changes, if no more than this many are followed
+abbrev pub names_within : ℕ → List Placed → ℕ → NodePath → List (List ℕ)
+names_within zero placed count path = []
+names_within (suc more) placed count path =
+    names_made placed count path
+    ++ names_behind (names_within more placed) placed path (latest (touches_path path) placed count)
+
+-- names that can stand right below the path after so many of the changes of a new repository: those of what is made
+-- there, and those at the source of a copy
+abbrev pub names_look : List Placed → ℕ → NodePath → List (List ℕ)
+names_look placed count path = names_within count placed count path
+
+abbrev mutual
+  -- a branch whose nodes are found after so many of the changes, and which leaves out no name that can stand there
+  pub IsLooked : List Placed → ℕ → NodePath → Branch → Type 0
+  IsLooked placed count path (Branch.Folder props inside) =
+      (look root_alone placed count path ≡ Some (Node.Folder props))
+      × AreLooked placed count path inside
+      × ((name : List ℕ) → IsTrue (list_any (λ other. bytes_eq other name) (names_look placed count path))
+      → IsTrue (is_some (look root_alone placed count (path ++ name ∷ []))) → IsTrue (has_name name inside))
+  IsLooked placed count path (Branch.File props text) =
+      look root_alone placed count path ≡ Some (Node.File props text)
+
+  -- branches each of which is found in the folder at the path
+  pub AreLooked : List Placed → ℕ → NodePath → Branches → Type 0
+  AreLooked placed count path Branches.NoMore = ⊤
+  AreLooked placed count path (Branches.Named name branch others) =
+      IsLooked placed count (path ++ name ∷ []) branch × AreLooked placed count path others
+
+-- in the tree of each revision each name in a folder is among those that can stand there
+abbrev pub NamesAreLooked : Type 0
+NamesAreLooked = (revisions : List (List Change)) (trees : List Tree) (number : ℕ) (tree : Tree) (path : NodePath)
+    (name : List ℕ) →
+    loaded_over root_alone revisions ≡ Some trees → slice_get trees number ≡ Some tree
+    → IsTrue (is_some (tree (path ++ name ∷ [])))
+    → IsTrue (list_any (λ other. bytes_eq other name)
+    (names_look (placed_from 1 revisions) (end_of (placed_from 1 revisions) number) path))
+
+-- a branch that is found at the end of a revision stands in its tree
+abbrev pub LookedBranchStands : Type 0
+LookedBranchStands = (revisions : List (List Change)) (trees : List Tree) (number : ℕ) (tree : Tree) (path : NodePath)
+    (branch : Branch) →
+    loaded_over root_alone revisions ≡ Some trees → slice_get trees number ≡ Some tree
+    → IsLooked (placed_from 1 revisions) (end_of (placed_from 1 revisions) number) path branch
+    → HasBranch tree path branch
+
+-- so does one that is found in the midst of a revision: behind the changes of the first revisions, the last of which
+-- may be cut short, whatever changes stand behind
+abbrev pub LookedBranchStandsThen : Type 0
+LookedBranchStandsThen = (front : List (List Change)) (behind : List Placed) (trees : List Tree) (tree : Tree)
+    (path : NodePath) (branch : Branch) →
+    loaded_over root_alone front ≡ Some trees → slice_get trees (length front) ≡ Some tree
+    → IsTrue (list_all (λ (p : Placed). nat_le (length front) p.revision) behind)
+    → IsLooked (placed_from 1 front ++ behind) (length (placed_from 1 front)) path branch
+    → HasBranch tree path branch

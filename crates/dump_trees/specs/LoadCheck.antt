@@ -1,0 +1,286 @@
+-- Whether a load takes a change, told by what exists at single paths: at its own, at its parent and at its copy's source.
+-- So it is told without trees whether a dump loads, and where it is refused first.
+use Rattle.std.specs.Prelude.{◌≡◌, ℕ, zero, suc, Bool, true, false, not, ◌&&◌, ◌||◌, List, [], ◌∷◌, ◌++◌, length, Option, Some, None, option_map, option_and_then, is_some, is_none, slice_get, nat_lt, nat_le, if◌then◌else◌, IsTrue, IsFalse}
+use Rattle.std.specs.List.{AllZip, list_all}
+use Rattle.dump_text.specs.PropertyList.{Property}
+use Rattle.dump_trees.specs.Paths.{NodePath, parent_of}
+use Rattle.dump_trees.specs.Trees.{Node, Tree}
+use Rattle.dump_trees.specs.Changes.{Made, PropertyChange, TextChange, Change, History, step}
+use Rattle.dump_trees.specs.Restriction.{is_root}
+use Rattle.dump_trees.specs.Revisions.{loaded_over}
+use Rattle.dump_trees.specs.Looking.{Placed, placed_from, end_of, Origin, origin_of, looked_up, look}
+
+-- kinds
+
+-- what a node is
+pub data Kind : Type 0 where
+  Directory : Kind
+  File : Kind
+
+-- which of them the node is
+abbrev pub kind_of_node : Node → Kind
+kind_of_node (Node.Folder props) = Kind.Directory
+kind_of_node (Node.File props text) = Kind.File
+
+-- what exists at the path
+abbrev pub kind_at : Tree → NodePath → Option Kind
+kind_at tree path = option_map kind_of_node (tree path)
+
+-- whether a directory exists there
+abbrev pub is_directory : Option Kind → Bool
+is_directory None = false
+is_directory (Some Kind.Directory) = true
+is_directory (Some Kind.File) = false
+
+-- whether a file does
+abbrev pub is_file : Option Kind → Bool
+is_file None = false
+is_file (Some Kind.Directory) = false
+is_file (Some Kind.File) = true
+
+-- what exists where a change asks for it: at its path, at the parent, and at the source, if it copies. Nothing is above the
+-- root
+pub record Kinds : Type 0 where
+  pub here : Option Kind
+  pub parent : Option Kind
+  pub source : Option Kind
+
+-- one change
+
+-- what is deleted exists, and isn't the root
+abbrev pub deletion_allowed : Bool → NodePath → Option Kind → Bool
+deletion_allowed false path here = true
+deletion_allowed true path here = not (is_root path) && is_some here
+
+-- what exists at the path once it is deleted
+abbrev pub kind_left : Bool → Option Kind → Option Kind
+kind_left false here = here
+kind_left true here = None
+
+-- what is new is made over nothing, and in a directory; what is copied exists, and is copied into a directory, also over
+-- something
+abbrev pub making_allowed : Option Made → Option Kind → Kinds → Bool
+making_allowed None left kinds = true
+making_allowed (Some Made.NewFolder) left kinds = is_none left && is_directory kinds.parent
+making_allowed (Some Made.NewFile) left kinds = is_none left && is_directory kinds.parent
+making_allowed (Some (Made.Copied number source)) left kinds = is_some kinds.source && is_directory kinds.parent
+
+-- what exists at the path once it is made
+abbrev pub kind_made : Option Made → Option Kind → Option Kind → Option Kind
+kind_made None left source = left
+kind_made (Some Made.NewFolder) left source = Some Kind.Directory
+kind_made (Some Made.NewFile) left source = Some Kind.File
+kind_made (Some (Made.Copied number from)) left source = source
+
+-- whether properties are set; an edit without entries sets none, and a load takes it where nothing exists
+abbrev pub sets_props : Option PropertyChange → Bool
+sets_props None = false
+sets_props (Some (PropertyChange.Replaced entries)) = true
+sets_props (Some (PropertyChange.Edited [])) = false
+sets_props (Some (PropertyChange.Edited (entry ∷ entries))) = true
+
+-- whether a load takes the change where these kinds exist: properties are set on something, and a text is a file's. A
+-- change that does none of all this is taken anywhere. Whether a text delta fits the old text is no matter of kinds
+abbrev pub kinds_allow : Change → Kinds → Bool
+kinds_allow c kinds =
+    deletion_allowed c.deletes c.path kinds.here
+    && making_allowed c.made (kind_left c.deletes kinds.here) kinds
+    && (not (sets_props c.props) || is_some (kind_made c.made (kind_left c.deletes kinds.here) kinds.source))
+    && (not (is_some c.text) || is_file (kind_made c.made (kind_left c.deletes kinds.here) kinds.source))
+
+-- what exists at the source, if something is copied
+abbrev pub source_kind : History → Option Made → Option Kind
+source_kind history None = None
+source_kind history (Some Made.NewFolder) = None
+source_kind history (Some Made.NewFile) = None
+source_kind history (Some (Made.Copied number source)) =
+    option_and_then (λ old. kind_at old source) (history number)
+
+-- the kinds that exist in the tree before the change, and in the source's tree
+abbrev pub kinds_before : History → Tree → Change → Kinds
+kinds_before history tree c = record {
+  here = kind_at tree c.path;
+  parent = option_and_then (λ parent. kind_at tree parent) (parent_of c.path);
+  source = source_kind history c.made;
+}
+
+-- what stands where it comes from, in trees
+abbrev pub node_from : History → Option Node → Origin → Option Node
+node_from history old Origin.Nowhere = None
+node_from history old (Origin.New node) = Some node
+node_from history old Origin.Before = old
+node_from history old (Origin.From number source) = option_and_then (λ tree. tree source) (history number)
+
+-- the node that a change sets properties and a text of
+abbrev pub node_set : History → Tree → Change → Option Node
+node_set history tree c = node_from history (tree c.path) (origin_of c.deletes c.made [])
+
+-- whether the load takes the delta, if a text comes as one, over the text of this node
+abbrev pub delta_applies : Option TextChange → Option Node → Bool
+delta_applies None old = true
+delta_applies (Some (TextChange.Replaced text)) old = true
+delta_applies (Some (TextChange.Patched patch)) None = true
+delta_applies (Some (TextChange.Patched patch)) (Some (Node.Folder props)) = true
+delta_applies (Some (TextChange.Patched patch)) (Some (Node.File props text)) = is_some (patch text)
+
+-- a load takes a change exactly where the kinds allow it, and its delta applies
+abbrev pub StepIsAllowed : Type 0
+StepIsAllowed = (history : History) (tree : Tree) (c : Change) →
+    is_some (step history tree c)
+    ≡ (kinds_allow c (kinds_before history tree c) && delta_applies c.text (node_set history tree c))
+
+-- so a test that asks each edit of properties for something to edit, also one without entries, allows no more
+abbrev pub StricterPropsAllow : Type 0
+StricterPropsAllow = (c : Change) (entries : List Property) (kinds : Kinds) →
+    IsTrue (kinds_allow (record c { props = Some (PropertyChange.Replaced entries) }) kinds)
+    → IsTrue (kinds_allow c kinds)
+
+-- a whole dump
+
+-- a way to tell what exists at a path after so many of the changes
+abbrev pub ToldKinds : Type 0
+ToldKinds = ℕ → NodePath → Option Kind
+
+-- it tells what exists, where the first revisions load, the last of which may be cut short: behind their changes it tells
+-- what is in their last tree
+abbrev pub TellsKinds : ToldKinds → Tree → List Placed → Type 0
+TellsKinds told first placed = (front : List (List Change)) (behind : List Placed) (trees : List Tree) (tree : Tree)
+    (path : NodePath) →
+    placed ≡ placed_from 1 front ++ behind
+    → IsTrue (list_all (λ (p : Placed). nat_le (length front) p.revision) behind)
+    → loaded_over first front ≡ Some trees → slice_get trees (length front) ≡ Some tree
+    → told (length (placed_from 1 front)) path ≡ kind_at tree path
+
+-- what is told of the source, if something is copied: it exists in a revision before this one
+abbrev pub source_told : ToldKinds → List Placed → ℕ → Option Made → Option Kind
+source_told told placed revision None = None
+source_told told placed revision (Some Made.NewFolder) = None
+source_told told placed revision (Some Made.NewFile) = None
+source_told told placed revision (Some (Made.Copied number source)) =
+    if nat_lt number revision then told (end_of placed number) source else None
+
+-- the kinds that are told for the change at this place
+abbrev pub kinds_told : ToldKinds → List Placed → ℕ → Placed → Kinds
+kinds_told told placed place p = record {
+  here = told place p.change.path;
+  parent = option_and_then (λ parent. told place parent) (parent_of p.change.path);
+  source = source_told told placed p.revision p.change.made;
+}
+
+-- whether they allow it
+abbrev pub allowed_there : ToldKinds → List Placed → ℕ → Option Placed → Bool
+allowed_there told placed place None = false
+allowed_there told placed place (Some p) = kinds_allow p.change (kinds_told told placed place p)
+
+-- whether each of the first changes, so many, is allowed
+abbrev pub all_allowed : ToldKinds → List Placed → ℕ → Bool
+all_allowed told placed zero = true
+all_allowed told placed (suc count) =
+    all_allowed told placed count && allowed_there told placed count (slice_get placed count)
+
+-- whether the delta of the change at this place applies to the text that is found there
+abbrev pub applies_there : Tree → List Placed → ℕ → Option Placed → Bool
+applies_there first placed place None = false
+applies_there first placed place (Some p) =
+    delta_applies p.change.text
+    (looked_up (look first placed) placed place p.change.path (origin_of p.change.deletes p.change.made []))
+
+-- whether each delta of the first changes, so many, applies
+abbrev pub all_apply : Tree → List Placed → ℕ → Bool
+all_apply first placed zero = true
+all_apply first placed (suc count) =
+    all_apply first placed count && applies_there first placed count (slice_get placed count)
+
+-- the first revisions of a dump, the last of which may be cut short, load exactly where each of their changes is allowed,
+-- and each delta applies, whatever changes stand behind
+abbrev pub LoadIsAllowed : Type 0
+LoadIsAllowed = (told : ToldKinds) (first : Tree) (front : List (List Change)) (behind : List Placed) →
+    TellsKinds told first (placed_from 1 front ++ behind)
+    → IsTrue (list_all (λ (p : Placed). nat_le (length front) p.revision) behind)
+    → is_some (loaded_over first front)
+    ≡ (all_allowed told (placed_from 1 front ++ behind) (length (placed_from 1 front))
+    && all_apply first (placed_from 1 front ++ behind) (length (placed_from 1 front)))
+
+-- so does the whole dump
+abbrev pub DumpIsAllowed : Type 0
+DumpIsAllowed = (told : ToldKinds) (first : Tree) (revisions : List (List Change)) →
+    TellsKinds told first (placed_from 1 revisions)
+    → is_some (loaded_over first revisions)
+    ≡ (all_allowed told (placed_from 1 revisions) (length (placed_from 1 revisions))
+    && all_apply first (placed_from 1 revisions) (length (placed_from 1 revisions)))
+
+-- what is found by looking back tells what exists
+abbrev pub LooksTellKinds : Type 0
+LooksTellKinds = (first : Tree) (placed : List Placed) →
+    TellsKinds (λ count path. option_map kind_of_node (look first placed count path)) first placed
+
+-- whether a text comes as a delta
+abbrev pub patches_text : Option TextChange → Bool
+patches_text None = false
+patches_text (Some (TextChange.Replaced text)) = false
+patches_text (Some (TextChange.Patched patch)) = true
+
+-- at the end of each revision it tells what is in its tree, as sources are asked for
+abbrev pub TellsEachTree : Type 0
+TellsEachTree = (told : ToldKinds) (first : Tree) (revisions : List (List Change)) (trees : List Tree) (number : ℕ)
+    (tree : Tree) (path : NodePath) →
+    TellsKinds told first (placed_from 1 revisions)
+    → loaded_over first revisions ≡ Some trees → slice_get trees number ≡ Some tree
+    → told (end_of (placed_from 1 revisions) number) path ≡ kind_at tree path
+
+-- a change that has the same effect on what exists: it sets other properties and another text, which comes whole
+pub record HasSameKinds (p plain : Placed) : Type 0 where
+  pub revision : plain.revision ≡ p.revision
+  pub path : plain.change.path ≡ p.change.path
+  pub deletes : plain.change.deletes ≡ p.change.deletes
+  pub made : plain.change.made ≡ p.change.made
+  pub props : is_some plain.change.props ≡ is_some p.change.props
+  pub text : is_some plain.change.text ≡ is_some p.change.text
+  pub whole : IsTrue (not (patches_text plain.change.text))
+
+-- so what is found by looking back over such changes tells what exists too: properties and texts needn't be known
+abbrev pub PlainLooksTellKinds : Type 0
+PlainLooksTellKinds = (first : Tree) (placed plain : List Placed) →
+    AllZip HasSameKinds placed plain
+    → TellsKinds (λ count path. option_map kind_of_node (look first plain count path)) first placed
+
+-- without deltas each applies
+abbrev pub WholeTextsApply : Type 0
+WholeTextsApply = (first : Tree) (placed : List Placed) (count : ℕ) →
+    IsTrue (nat_le count (length placed))
+    → IsTrue (list_all (λ (p : Placed). not (patches_text p.change.text)) placed)
+    → IsTrue (all_apply first placed count)
+
+-- the first change that isn't allowed, where the deltas before it apply: the changes before it load, and with it they
+-- don't
+abbrev pub FirstRefusalIsFound : Type 0
+FirstRefusalIsFound = (told : ToldKinds) (first : Tree) (front : List (List Change)) (changes : List Change) (c : Change)
+    (more : List Change) (rest : List (List Change)) (placed : List Placed) (place : ℕ) →
+    placed ≡ placed_from 1 (front ++ (changes ++ c ∷ more) ∷ rest)
+    → place ≡ length (placed_from 1 (front ++ changes ∷ []))
+    → TellsKinds told first placed
+    → IsTrue (all_allowed told placed place) → IsTrue (all_apply first placed place)
+    → IsFalse (allowed_there told placed place (slice_get placed place))
+    → IsTrue (is_some (loaded_over first (front ++ changes ∷ [])))
+    × (loaded_over first (front ++ (changes ++ c ∷ []) ∷ []) ≡ None)
+
+-- so it is of a place: some of the changes of its revision stand before it, and some behind; the dump isn't loaded
+pub record IsRefusedAt (first : Tree) (revisions : List (List Change)) (place : ℕ) (c : Change) : Type 0 where
+  pub front : List (List Change)
+  pub changes : List Change
+  pub more : List Change
+  pub rest : List (List Change)
+  pub parted : revisions ≡ front ++ (changes ++ c ∷ more) ∷ rest
+  pub at : place ≡ length (placed_from 1 (front ++ changes ∷ []))
+  pub loads : IsTrue (is_some (loaded_over first (front ++ changes ∷ [])))
+  pub refused : loaded_over first (front ++ (changes ++ c ∷ []) ∷ []) ≡ None
+  pub none : loaded_over first revisions ≡ None
+
+abbrev pub FirstRefusalIsThere : Type 0
+FirstRefusalIsThere = (told : ToldKinds) (first : Tree) (revisions : List (List Change)) (placed : List Placed)
+    (place : ℕ) (p : Placed) →
+    placed ≡ placed_from 1 revisions → slice_get placed place ≡ Some p
+    → TellsKinds told first placed
+    → IsTrue (all_allowed told placed place) → IsTrue (all_apply first placed place)
+    → IsFalse (allowed_there told placed place (Some p))
+    → IsRefusedAt first revisions place p.change

@@ -1,0 +1,99 @@
+-- Returns: the topmost rests of a copy's path at which something comes back. They are told by the excluded paths, and by
+-- what exists at the source.
+use Rattle.std.specs.Prelude.{◌≡◌, ℕ, Bool, true, not, ◌&&◌, List, [], ◌∷◌, ◌++◌, filter, Option, Some, None, is_some, Contains, if◌then◌else◌, IsTrue, IsFalse}
+use Rattle.std.specs.List.{list_all, list_any}
+use Rattle.dump_rules.specs.Settings.{Settings}
+use Rattle.dump_trees.specs.Paths.{NodePath, keeps, below}
+use Rattle.dump_trees.specs.Trees.{Tree, HasFolders}
+use Rattle.dump_trees.specs.Changes.{Made, Change, History}
+use Rattle.dump_trees.specs.Siblings.{is_within, has_node_names, HasNames, ExcludesPaths}
+use Rattle.dump_trees.specs.ComingBack.{ComesBack, alone_if}
+
+-- paths that cover others
+
+-- whether one of these paths is at or above the path
+abbrev pub is_covered : List NodePath → NodePath → Bool
+is_covered tops path = list_any (λ top. is_within top path) tops
+
+-- whether none of these paths is at or below another one
+abbrev pub lie_apart : List NodePath → Bool
+lie_apart [] = true
+lie_apart (path ∷ paths) =
+    list_all (λ other. not (is_within path other) && not (is_within other path)) paths && lie_apart paths
+
+-- where these paths are excluded, a path is kept exactly where they don't cover it
+abbrev pub KeptIsUncovered : Type 0
+KeptIsUncovered = (settings : Settings) (excluded : List NodePath) (path : NodePath) →
+    ExcludesPaths settings excluded → IsTrue (list_all has_node_names excluded) → IsTrue (has_node_names path)
+    → keeps settings path ≡ not (is_covered excluded path)
+
+-- the rest, if it has a name
+abbrev pub named_rest : Option NodePath → List NodePath
+named_rest None = []
+named_rest (Some []) = []
+named_rest (Some (name ∷ rest)) = (name ∷ rest) ∷ []
+
+-- the rests of those of these paths that are strictly below the top
+abbrev pub rests_below : NodePath → List NodePath → List NodePath
+rests_below top [] = []
+rests_below top (path ∷ paths) = named_rest (below top path) ++ rests_below top paths
+
+-- the rests from which on these paths cover what is below the top: all of it, where they cover the top
+abbrev pub rests_covered : NodePath → List NodePath → List NodePath
+rests_covered top paths = if is_covered paths top then [] ∷ [] else rests_below top paths
+
+-- returns
+
+-- the rests from which on a copy of the source to the path returns what is excluded: something exists there at the source,
+-- in its tree, and at the path it isn't excluded
+abbrev pub returns : List NodePath → Tree → NodePath → NodePath → List NodePath
+returns excluded old path source =
+    filter (λ rest. is_some (old (source ++ rest)) && not (is_covered excluded (path ++ rest)))
+    (rests_covered source excluded)
+
+-- so there are none at a path that is excluded; the whole returns where the source is excluded alone; and else it is each
+-- excluded path strictly below the source
+abbrev pub ReturnsByCases : Type 0
+ReturnsByCases = (excluded : List NodePath) (old : Tree) (path source : NodePath) →
+    (IsTrue (is_covered excluded path) → returns excluded old path source ≡ [])
+    × (IsFalse (is_covered excluded path) → IsTrue (is_covered excluded source)
+    → returns excluded old path source ≡ alone_if (is_some (old source)))
+    × (IsFalse (is_covered excluded source) → returns excluded old path source
+    ≡ filter (λ rest. is_some (old (source ++ rest)) && not (is_covered excluded (path ++ rest)))
+    (rests_below source excluded))
+
+-- something comes back at this rest, and at none above it
+pub record IsReturn (settings : Settings) (history : History) (c : Change) (rest : NodePath) : Type 0 where
+  pub back : ComesBack settings history c
+  pub at : back.rest ≡ rest
+  pub topmost : (other : ComesBack settings history c) → IsTrue (is_within other.rest rest) → other.rest ≡ rest
+
+-- a copy of what these paths exclude: its source stands in this tree, as trees of a repository are
+pub record IsCopyOver (settings : Settings) (excluded : List NodePath) (history : History) (old : Tree) (c : Change)
+    (source : NodePath) : Type 0 where
+  pub number : ℕ
+  pub excludes : ExcludesPaths settings excluded
+  pub names : IsTrue (list_all has_node_names excluded)
+  pub copies : c.made ≡ Some (Made.Copied number source)
+  pub there : history number ≡ Some old
+  pub folders : HasFolders old
+  pub named : HasNames old
+  pub path : IsTrue (has_node_names c.path)
+
+-- where no excluded path is at or below another one, the returns are just these rests
+abbrev pub ReturnsAreFound : Type 0
+ReturnsAreFound = (settings : Settings) (excluded : List NodePath) (history : History) (old : Tree) (c : Change)
+    (source : NodePath) → IsCopyOver settings excluded history old c source → IsTrue (lie_apart excluded)
+    → ((rest : NodePath) → Contains (returns excluded old c.path source) rest → IsReturn settings history c rest)
+    × ((rest : NodePath) → IsReturn settings history c rest → Contains (returns excluded old c.path source) rest)
+
+-- what comes back is at a return or below one; so nothing does exactly where there is none
+abbrev pub ReturnsTellAll : Type 0
+ReturnsTellAll = (settings : Settings) (excluded : List NodePath) (history : History) (old : Tree) (c : Change)
+    (source : NodePath) → IsCopyOver settings excluded history old c source
+    → ((back : ComesBack settings history c) → (rest : NodePath)
+    × Contains (returns excluded old c.path source) rest × IsTrue (is_within rest back.rest))
+    × ((rest : NodePath) → Contains (returns excluded old c.path source) rest
+    → (back : ComesBack settings history c) × (back.rest ≡ rest))
+    × (returns excluded old c.path source ≡ [] → ¬ ComesBack settings history c)
+    × (¬ ComesBack settings history c → returns excluded old c.path source ≡ [])

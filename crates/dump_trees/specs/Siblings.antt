@@ -1,0 +1,151 @@
+-- Siblings: what is excluded so that the included paths are left, and the directories above them. They stand in those
+-- directories, beside what leads to an included path.
+use Rattle.std.specs.Prelude.{◌≡◌, ℕ, Bool, true, false, not, ◌&&◌, ◌||◌, List, [], ◌∷◌, map, filter, Option, Some, None, is_some, slice_get, bytes_eq, Contains, IsTrue, IsFalse}
+use Rattle.std.specs.List.{All, list_all, list_any}
+use Rattle.dump_rules.specs.declared.options.Side.TheVariants.{Include, Exclude}
+use Rattle.dump_rules.specs.Prefix.{bare_prefix}
+use Rattle.dump_rules.specs.Settings.{Settings, keeps_path}
+use Rattle.dump_rules.specs.Mergeinfo.{MergeLine}
+use Rattle.dump_rules.specs.Rewriting.{staying_lines}
+use Rattle.dump_trees.specs.Paths.{NodePath, path_text, path_of, is_name, is_short, keeps, below, parent_of}
+use Rattle.dump_trees.specs.Trees.{Tree, HasFolders, root_alone}
+use Rattle.dump_trees.specs.Changes.{Change}
+use Rattle.dump_trees.specs.Restriction.{is_root}
+use Rattle.dump_trees.specs.Revisions.{loaded_over}
+
+-- the cut
+
+-- whether the path is the top or lies below it
+abbrev pub is_within : NodePath → NodePath → Bool
+is_within top path = is_some (below top path)
+
+-- whether there is a rest of a path, and it has a name
+abbrev pub has_name_behind : Option NodePath → Bool
+has_name_behind None = false
+has_name_behind (Some []) = false
+has_name_behind (Some (name ∷ rest)) = true
+
+-- whether an included path lies below this one and isn't this one, or this is the root
+abbrev pub is_above_included : List NodePath → NodePath → Bool
+is_above_included included path =
+    is_root path || list_any (λ top. has_name_behind (below path top)) included
+
+-- whether the path is in the cut: at or below an included path, or above one. The root always is
+abbrev pub is_in_cut : List NodePath → NodePath → Bool
+is_in_cut included path = list_any (λ top. is_within top path) included || is_above_included included path
+
+-- whether the directory that a path stands in lies above an included path
+abbrev pub is_parent_above : List NodePath → Option NodePath → Bool
+is_parent_above included None = false
+is_parent_above included (Some parent) = is_above_included included parent
+
+-- names
+
+-- whether the text can be the name of a node: it isn't empty, has no slash, and isn't a dot
+abbrev pub is_node_name : List ℕ → Bool
+is_node_name name = is_name name && not (bytes_eq name (46 ∷ []))
+
+-- whether each name of the path can be one
+abbrev pub has_node_names : NodePath → Bool
+has_node_names path = list_all is_node_name path
+
+-- each path at which something stands has such names alone
+abbrev pub HasNames : Tree → Type 0
+HasNames tree = (path : NodePath) → IsTrue (is_some (tree path)) → IsTrue (has_node_names path)
+
+-- whether the path of each of these changes has
+abbrev pub have_node_names : List (List Change) → Bool
+have_node_names revisions = list_all (λ changes. list_all (λ (c : Change). has_node_names c.path) changes) revisions
+
+-- siblings
+
+-- whether the path is a sibling: it stands in a directory above an included path, and isn't in the cut
+abbrev pub is_sibling : List NodePath → NodePath → Bool
+is_sibling included path =
+    has_node_names path && is_parent_above included (parent_of path) && not (is_in_cut included path)
+
+-- these are siblings, and each sibling at which something stands in one of the trees is one of them. More of them do no
+-- harm
+pub record AreSiblings (included : List NodePath) (trees : List Tree) (siblings : List NodePath) : Type 0 where
+  pub each : IsTrue (list_all (is_sibling included) siblings)
+  pub all : (number : ℕ) (tree : Tree) (path : NodePath) → slice_get trees number ≡ Some tree
+      → IsTrue (is_some (tree path)) → IsTrue (is_sibling included path) → Contains siblings path
+
+-- the settings exclude these paths, each by its text
+pub record ExcludesPaths (settings : Settings) (paths : List NodePath) : Type 0 where
+  pub side : settings.side ≡ Exclude
+  pub prefixes : settings.prefixes ≡ map path_text paths
+
+-- where the siblings are excluded, what stands in one of the trees is kept exactly where it is in the cut
+abbrev pub SiblingsLeaveCut : Type 0
+SiblingsLeaveCut = (settings : Settings) (included siblings : List NodePath) (trees : List Tree) (number : ℕ)
+    (tree : Tree) (path : NodePath) →
+    ExcludesPaths settings siblings → AreSiblings included trees siblings
+    → slice_get trees number ≡ Some tree → HasFolders tree → HasNames tree → IsTrue (is_some (tree path))
+    → keeps settings path ≡ is_in_cut included path
+
+-- named paths
+
+-- these are siblings, and each of the named paths that isn't in the cut is one of them or lies below one. A dump names
+-- paths at which nothing ever stands too, as merge sources do that are gone
+pub record CoverNamed (included named siblings : List NodePath) : Type 0 where
+  pub each : IsTrue (list_all (is_sibling included) siblings)
+  pub all : (path : NodePath) → Contains named path → IsTrue (has_node_names path)
+      → IsFalse (is_in_cut included path) → IsTrue (list_any (λ top. is_within top path) siblings)
+
+-- where the siblings are excluded, a named path is kept exactly where it is in the cut, whether something stands there
+-- or not
+abbrev pub NamedPathsLeaveCut : Type 0
+NamedPathsLeaveCut = (settings : Settings) (included named siblings : List NodePath) (path : NodePath) →
+    ExcludesPaths settings siblings → CoverNamed included named siblings
+    → Contains named path → IsTrue (has_node_names path)
+    → keeps settings path ≡ is_in_cut included path
+
+-- so is a text in short form that names such a path, as a merge source does
+abbrev pub NamedTextsLeaveCut : Type 0
+NamedTextsLeaveCut = (settings : Settings) (included named siblings : List NodePath) (text : List ℕ) →
+    ExcludesPaths settings siblings → CoverNamed included named siblings
+    → Contains named (path_of text) → IsTrue (is_short text)
+    → keeps_path settings text ≡ is_in_cut included (path_of text)
+
+-- and of the lines of mergeinfo whose sources are named, those in the cut stay, and no others
+abbrev pub NamedLinesLeaveCut : Type 0
+NamedLinesLeaveCut = (settings : Settings) (included named siblings : List NodePath) (lines : List MergeLine) →
+    ExcludesPaths settings siblings → CoverNamed included named siblings
+    → All (λ (line : MergeLine). IsTrue (is_short line.path) × Contains named (path_of line.path)) lines
+    → staying_lines settings lines ≡ filter (λ (line : MergeLine). is_in_cut included (path_of line.path)) lines
+
+-- the trees of a repository
+
+-- each node but the root stands in folders alone, in each tree that is loaded
+abbrev pub LoadedTreesHaveFolders : Type 0
+LoadedTreesHaveFolders = (revisions : List (List Change)) (trees : List Tree) (number : ℕ) (tree : Tree) →
+    loaded_over root_alone revisions ≡ Some trees → slice_get trees number ≡ Some tree → HasFolders tree
+
+-- each path at which something stands has names of nodes, where the paths of the changes have
+abbrev pub LoadedTreesHaveNames : Type 0
+LoadedTreesHaveNames = (revisions : List (List Change)) (trees : List Tree) (number : ℕ) (tree : Tree) →
+    loaded_over root_alone revisions ≡ Some trees → IsTrue (have_node_names revisions)
+    → slice_get trees number ≡ Some tree → HasNames tree
+
+-- a path in short form has names of nodes
+abbrev pub ShortPathsHaveNames : Type 0
+ShortPathsHaveNames = (text : List ℕ) → IsTrue (is_short text) → IsTrue (has_node_names (path_of text))
+
+-- prefixes
+
+-- the paths that prefixes name: those of the prefixes in short form, where slashes at both ends don't count
+abbrev pub named_paths : List (List ℕ) → List NodePath
+named_paths prefixes = map path_of (filter is_short (map bare_prefix prefixes))
+
+-- where prefixes are included, a path with names of nodes is kept exactly where it is one that a prefix names, or lies
+-- below one. So a prefix that isn't in short form keeps nothing
+abbrev pub PrefixesNamePaths : Type 0
+PrefixesNamePaths = (settings : Settings) (path : NodePath) →
+    settings.side ≡ Include → IsTrue (has_node_names path)
+    → keeps settings path ≡ list_any (λ top. is_within top path) (named_paths settings.prefixes)
+
+-- the text of a path with names of nodes names just this path
+abbrev pub TextsNamePaths : Type 0
+TextsNamePaths = (paths : List NodePath) → IsTrue (list_all has_node_names paths)
+    → named_paths (map path_text paths) ≡ paths

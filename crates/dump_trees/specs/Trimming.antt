@@ -1,0 +1,180 @@
+-- Copies that are trimmed: where a copy would take to excluded paths what is kept at its source, it stays as it is, and
+-- what it takes there is deleted behind it. So nothing has to be written anew.
+use Rattle.std.specs.Prelude.{◌≡◌, ◌⊎◌, ℕ, not, List, [], ◌∷◌, ◌++◌, length, Some, is_some, slice_get, if◌then◌else◌, MatchBool, IsTrue, IsFalse}
+use Rattle.std.specs.List.{AllZip, list_all, list_any}
+use Rattle.dump_text.specs.PropertyList.{Property}
+use Rattle.dump_rules.specs.declared.options.Side.TheVariants.{Exclude}
+use Rattle.dump_rules.specs.Settings.{Settings}
+use Rattle.dump_trees.specs.Paths.{NodePath, keeps, below}
+use Rattle.dump_trees.specs.Trees.{Tree, HasFolders, root_alone}
+use Rattle.dump_trees.specs.Changes.{Made, Change, History, step, steps}
+use Rattle.dump_trees.specs.Restriction.{KeepsEntries, NewProperty, NewNumber, IsRestricted, IsNewChange}
+use Rattle.dump_trees.specs.Separation.{Separates}
+use Rattle.dump_rules.specs.Renumbering.{image}
+use Rattle.dump_trees.specs.Revisions.{loaded_over, EmptyRule, keeps_revision, kept_of, IsWrittenNumber}
+use Rattle.dump_trees.specs.HistoryLaws.{ImagesRestrict}
+use Rattle.dump_trees.specs.StepLaws.{AllHaveFolders, AreRestricted, IsMade, IsRenumbered}
+use Rattle.dump_trees.specs.ExpansionCases.{deletions, none_is_below}
+use Rattle.dump_trees.specs.Branches.{Branch, is_distinct, HasBranch}
+use Rattle.dump_trees.specs.ComingBack.{ComesBack, NothingComesBack, coming_back}
+
+-- these are the topmost paths, given from the source on, that a copy of the source takes from kept paths to ones that
+-- aren't kept: at each something stands, none of them is one before it or lies below one, and each path that the copy
+-- takes so is one of them or lies below one
+pub record CoverTaken (settings : Settings) (old : Tree) (path source : NodePath) (rests : List NodePath)
+    : Type 0 where
+  pub kept : IsTrue (list_all (λ rest. keeps settings (source ++ rest)) rests)
+  pub left : IsTrue (list_all (λ rest. not (keeps settings (path ++ rest))) rests)
+  pub stand : IsTrue (list_all (λ rest. is_some (old (source ++ rest))) rests)
+  pub apart : IsTrue (none_is_below rests)
+  pub all : (rest : NodePath) → IsTrue (is_some (old (source ++ rest))) → IsTrue (keeps settings (source ++ rest))
+      → IsFalse (keeps settings (path ++ rest)) → IsTrue (list_any (λ other. is_some (below other rest)) rests)
+
+-- of these paths those that aren't at or below one of the seen ones, or one before them
+abbrev pub topmost_from : List NodePath → List NodePath → List NodePath
+topmost_from seen [] = []
+topmost_from seen (path ∷ paths) =
+    if list_any (λ other. is_some (below other path)) seen then topmost_from seen paths
+    else path ∷ topmost_from (path ∷ seen) paths
+
+-- the topmost paths that a copy of this branch takes so: those of what would come back by a copy the other way
+abbrev pub taken_tops : Settings → NodePath → NodePath → Branch → List NodePath
+taken_tops settings path source branch = topmost_from [] (coming_back settings source path branch)
+
+-- they cover what it takes
+abbrev pub TakenTopsCover : Type 0
+TakenTopsCover = (settings : Settings) (old : Tree) (path source : NodePath) (branch : Branch) →
+    HasBranch old source branch → IsTrue (is_distinct branch)
+    → CoverTaken settings old path source (taken_tops settings path source branch)
+
+-- where prefixes are excluded, and by a kept copy nothing comes back: what the filter writes of it, and then the
+-- deletions of what it takes to paths that aren't kept, lead from the restricted tree to the restricted one
+abbrev pub TrimmedCopyRestricts : Settings → NewProperty → NewNumber → Type 0
+TrimmedCopyRestricts settings IsNew IsNumber =
+    (history others : History) (before after restricted old : Tree) (c new : Change) (number : ℕ) (source : NodePath)
+    (rests : List NodePath) →
+    settings.side ≡ Exclude
+    → AreRestricted settings IsNew IsNumber history others → IsRestricted settings IsNew before restricted
+    → step history before c ≡ Some after
+    → IsTrue (keeps settings c.path) → c.made ≡ Some (Made.Copied number source) → history number ≡ Some old
+    → ¬ ComesBack settings history c → CoverTaken settings old c.path source rests
+    → IsNewChange settings IsNew IsNumber c new
+    → (other : Tree) × (steps others restricted (new ∷ deletions c.path rests) ≡ Some other)
+    × IsRestricted settings IsNew after other
+
+-- so for each way to make new properties that keeps entries, and each way to number
+abbrev pub EachTrimmedCopyRestricts : Type 0
+EachTrimmedCopyRestricts = (settings : Settings) (make : Property → Property) (renumber : ℕ → ℕ) →
+    KeepsEntries (IsMade make) → TrimmedCopyRestricts settings (IsMade make) (IsRenumbered renumber)
+
+-- revisions
+
+-- how a change is written, where these paths, given from its own on, are deleted behind it: none, where it is separated;
+-- or what it takes to paths that aren't kept, where it is a copy by which nothing comes back
+abbrev pub IsTrimmed : Settings → History → Tree → Change → List NodePath → Type 0
+IsTrimmed settings history before c rests =
+    ((rests ≡ []) × ((after : Tree) → step history before c ≡ Some after → Separates settings history before c after))
+    ⊎ ((number : ℕ) × (source : NodePath) × (old : Tree) × (c.made ≡ Some (Made.Copied number source))
+    × (history number ≡ Some old) × (¬ ComesBack settings history c) × CoverTaken settings old c.path source rests)
+
+-- what is written of the changes of a revision: of each kept one its new form, and the deletions behind it; of the
+-- others nothing
+abbrev pub AreTrimmedChanges : Settings → NewProperty → NewNumber → History → Tree → List Change → List Change → Type 0
+AreTrimmedChanges settings IsNew IsNumber history before [] written = written ≡ []
+AreTrimmedChanges settings IsNew IsNumber history before (c ∷ changes) written =
+    MatchBool (keeps settings c.path)
+    ((new : Change) × (rests : List NodePath) × (rest : List Change)
+    × (written ≡ new ∷ (deletions c.path rests ++ rest)) × IsNewChange settings IsNew IsNumber c new
+    × IsTrimmed settings history before c rests
+    × ((after : Tree) → step history before c ≡ Some after
+    → AreTrimmedChanges settings IsNew IsNumber history after changes rest))
+    ((after : Tree) → step history before c ≡ Some after
+    → AreTrimmedChanges settings IsNew IsNumber history after changes written)
+
+-- where prefixes are excluded, this leads from the restricted tree to the restricted one
+abbrev pub TrimmedRevisionRestricts : Settings → NewProperty → NewNumber → Type 0
+TrimmedRevisionRestricts settings IsNew IsNumber = (history others : History) (before after restricted : Tree)
+    (changes written : List Change) →
+    settings.side ≡ Exclude
+    → AllHaveFolders history → AreRestricted settings IsNew IsNumber history others
+    → HasFolders before → IsRestricted settings IsNew before restricted
+    → steps history before changes ≡ Some after
+    → AreTrimmedChanges settings IsNew IsNumber history before changes written
+    → (other : Tree) × (steps others restricted written ≡ Some other) × IsRestricted settings IsNew after other
+
+-- so for each way to make new properties that keeps entries, and each way to number
+abbrev pub EachTrimmedRevisionRestricts : Type 0
+EachTrimmedRevisionRestricts = (settings : Settings) (make : Property → Property) (renumber : ℕ → ℕ) →
+    KeepsEntries (IsMade make) → TrimmedRevisionRestricts settings (IsMade make) (IsRenumbered renumber)
+
+-- histories whose revisions all stay, each under its own number
+
+-- a copy names its own revision again
+abbrev pub IsSameNumber : NewNumber
+IsSameNumber old new = new ≡ old
+
+-- so much is written of each revision
+abbrev pub AreTrimmedRevisions : Settings → NewProperty → List Tree → Tree → List (List Change) → List (List Change)
+    → Type 0
+AreTrimmedRevisions settings IsNew trees youngest [] written = written ≡ []
+AreTrimmedRevisions settings IsNew trees youngest (changes ∷ revisions) written =
+    (new : List Change) × (rest : List (List Change)) × (written ≡ new ∷ rest)
+    × AreTrimmedChanges settings IsNew IsSameNumber (slice_get trees) youngest changes new
+    × ((tree : Tree) → steps (slice_get trees) youngest changes ≡ Some tree
+    → AreTrimmedRevisions settings IsNew (trees ++ tree ∷ []) tree revisions rest)
+
+-- then what is written loads into a new repository, and its trees are the restricted ones
+abbrev pub TrimmedHistoryRestricts : Settings → NewProperty → Type 0
+TrimmedHistoryRestricts settings IsNew = (revisions written : List (List Change)) (trees : List Tree) →
+    settings.side ≡ Exclude
+    → loaded_over root_alone revisions ≡ Some trees
+    → AreTrimmedRevisions settings IsNew (root_alone ∷ []) root_alone revisions written
+    → (others : List Tree) × (loaded_over root_alone written ≡ Some others)
+    × AllZip (IsRestricted settings IsNew) trees others
+
+-- so for each way to make new properties that keeps entries
+abbrev pub EachTrimmedHistoryRestricts : Type 0
+EachTrimmedHistoryRestricts = (settings : Settings) (make : Property → Property) →
+    KeepsEntries (IsMade make) → TrimmedHistoryRestricts settings (IsMade make)
+
+-- each history that loads, and in which nothing comes back, can be written so: nothing of it has to be written anew
+abbrev pub EachHistoryTrims : Type 0
+EachHistoryTrims = (settings : Settings) (make : Property → Property) (revisions : List (List Change))
+    (trees : List Tree) →
+    settings.side ≡ Exclude
+    → loaded_over root_alone revisions ≡ Some trees → NothingComesBack settings trees revisions
+    → (written : List (List Change))
+    × AreTrimmedRevisions settings (IsMade make) (root_alone ∷ []) root_alone revisions written
+
+-- histories that are renumbered
+
+-- what is written of the revisions, where a rule tells which of those without a kept change stay: of each one that stays
+-- its changes, trimmed
+abbrev pub AreTrimmedFiltered : Settings → NewProperty → NewNumber → EmptyRule → List Tree → Tree → List (List Change)
+    → List (List Change) → Type 0
+AreTrimmedFiltered settings IsNew IsNumber rule trees youngest [] written = written ≡ []
+AreTrimmedFiltered settings IsNew IsNumber rule trees youngest (changes ∷ revisions) written =
+    MatchBool (keeps_revision settings rule changes)
+    ((new : List Change) × (rest : List (List Change)) × (written ≡ new ∷ rest)
+    × AreTrimmedChanges settings IsNew IsNumber (slice_get trees) youngest changes new
+    × ((tree : Tree) → steps (slice_get trees) youngest changes ≡ Some tree
+    → AreTrimmedFiltered settings IsNew IsNumber rule (trees ++ tree ∷ []) tree revisions rest))
+    ((tree : Tree) → steps (slice_get trees) youngest changes ≡ Some tree
+    → AreTrimmedFiltered settings IsNew IsNumber rule (trees ++ tree ∷ []) tree revisions written)
+
+-- then what is written loads into a new repository, and has the restricted trees at the images of the numbers
+abbrev pub TrimmedFilteredRestricts : Settings → NewProperty → Type 0
+TrimmedFilteredRestricts settings IsNew = (rule : EmptyRule) (revisions written : List (List Change))
+    (trees : List Tree) →
+    settings.side ≡ Exclude → IsTrue settings.renumber
+    → loaded_over root_alone revisions ≡ Some trees
+    → AreTrimmedFiltered settings IsNew (IsWrittenNumber settings (kept_of settings rule revisions)) rule
+    (root_alone ∷ []) root_alone revisions written
+    → (others : List Tree) × (loaded_over root_alone written ≡ Some others)
+    × (length others ≡ length (kept_of settings rule revisions).numbers)
+    × ImagesRestrict settings IsNew (image (kept_of settings rule revisions)) trees others
+
+-- so for each way to make new properties that keeps entries
+abbrev pub EachTrimmedFilteredRestricts : Type 0
+EachTrimmedFilteredRestricts = (settings : Settings) (make : Property → Property) →
+    KeepsEntries (IsMade make) → TrimmedFilteredRestricts settings (IsMade make)
