@@ -182,7 +182,17 @@ LoadsBehindFolders patched settings records trees text =
     × AllZip (KeepsProperties settings) (drop 1 (filter (keeps_group settings) (groups records)))
     (drop 1 (groups again))
 
--- so does a dump of which no change gives an alarm, and no copy that loses its source is made over something
+-- so does what the filter writes of a dump that loads, and whose changes the filter's cut separates
+abbrev pub FilteredDumpRestrictsBehindFolders : Type 0
+FilteredDumpRestrictsBehindFolders = (patched : Patching) (settings : Settings) (dump text : List ℕ)
+    (records : List DumpRecord) (revisions : List (List Change)) (trees : List Tree) →
+    IsCleanText settings dump records text → LengthsFit settings records
+    → KeepsNamedNumbers settings records
+    → LoadsAs patched root_alone records revisions trees
+    → AllRevisionsSeparate settings (root_alone ∷ []) root_alone revisions
+    → LoadsBehindFolders patched settings records trees text
+
+-- and of a dump of which no change gives an alarm, and no copy that loses its source is made over something
 abbrev pub QuietDumpRestrictsBehindFolders : Type 0
 QuietDumpRestrictsBehindFolders = (patched : Patching) (settings : Settings) (dump text : List ℕ)
     (records : List DumpRecord) (revisions : List (List Change)) (trees : List Tree) →

@@ -1,7 +1,7 @@
 -- The law of filtered dumps that are loaded behind the given folders.
-use Rattle.dump_history.proofs.Prelude.{◌∙◌, drop, AllZip, kept_revisions, IsNewProperty, root_alone, given, given_folders, loads_alike, given_alike, both_restrict, IsRaised, QuietDumpRestrictsBehindFolders}
+use Rattle.dump_history.proofs.Prelude.{◌∙◌, drop, AllZip, kept_revisions, IsNewProperty, root_alone, given, given_folders, loads_alike, given_alike, both_restrict, IsRaised, all_quiet, FilteredDumpRestrictsBehindFolders, QuietDumpRestrictsBehindFolders}
 use Rattle.std.proofs.Common.{List, [], ◌∷◌}
-use Rattle.dump_history.proofs.restricted.FilteredLaw.{quiet_dump_restricts}
+use Rattle.dump_history.proofs.restricted.FilteredLaw.{filtered_dump_restricts}
 use Rattle.dump_history.proofs.restricted.RaisedLemmas.{raised_entries}
 
 -- what holds of two lists entry by entry holds behind their first entries
@@ -12,11 +12,11 @@ drop_first R [] (y ∷ ys) all = absurd all
 drop_first R (x ∷ xs) [] all = absurd all
 drop_first R (x ∷ xs) (y ∷ ys) (first, all) = all
 
--- a dump of quiet changes, loaded behind the given folders, has the restricted trees, with raised mergeinfo
-pub quiet_dump_restricts_behind : QuietDumpRestrictsBehindFolders
-quiet_dump_restricts_behind patched settings dump text records revisions trees clean fit keeps loads quiet over =
+-- a dump of separated changes, loaded behind the given folders, has the restricted trees, with raised mergeinfo
+pub filtered_dump_restricts_behind : FilteredDumpRestrictsBehindFolders
+filtered_dump_restricts_behind patched settings dump text records revisions trees clean fit keeps loads apart =
     let (again, written, others, has, loads_again, no_gap, size, images, properties) =
-    quiet_dump_restricts patched settings dump text records revisions trees clean fit keeps loads quiet over in (
+    filtered_dump_restricts patched settings dump text records revisions trees clean fit keeps loads apart in (
       again,
       written,
       has,
@@ -42,3 +42,9 @@ quiet_dump_restricts_behind patched settings dump text records revisions trees c
           ),
       drop_first _ _ _ properties,
     )
+
+-- and so has one of quiet changes
+pub quiet_dump_restricts_behind : QuietDumpRestrictsBehindFolders
+quiet_dump_restricts_behind patched settings dump text records revisions trees clean fit keeps loads quiet over =
+    filtered_dump_restricts_behind patched settings dump text records revisions trees clean fit keeps loads
+    (all_quiet settings (root_alone ∷ []) root_alone revisions quiet over)

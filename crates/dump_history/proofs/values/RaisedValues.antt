@@ -23,7 +23,7 @@ taken_stays : IsRaised 1 taken taken
 taken_stays = record { name = refl; value = refl }
 
 -- mergeinfo of this value
-abbrev merge : List ℕ → Property
+abbrev pub merge : List ℕ → Property
 merge value = record { name = codes "svn:mergeinfo"; value = Some value }
 
 other_name : ¬ IsRaised 1 (merge (codes "t:1")) (record { name = codes "mergeinfo"; value = Some (codes "/t:2") })
@@ -32,11 +32,11 @@ other_name r = let bad : true ≡ false = ap (bytes_eq (codes "mergeinfo")) r.na
 -- values of one line with one number
 
 -- the line
-abbrev line : List ℕ → ℕ → Bool → MergeLine
+abbrev pub line : List ℕ → ℕ → Bool → MergeLine
 line path number kind =
     record { path = path; ranges = record { from = number; to = number; inheritable = kind } ∷ [] }
 
-reads : (path digits : List ℕ) (number : ℕ) (kind : Bool) → 0 < length path → has_byte 10 path ≡ false → 1 ≤ number
+pub reads : (path digits : List ℕ) (number : ℕ) (kind : Bool) → 0 < length path → has_byte 10 path ≡ false → 1 ≤ number
     → number_of digits ≡ Some number
     → IsMergeinfo (path ++ codes ":" ++ (digits ++ star kind)) (line path number kind ∷ [])
 reads path digits number kind some one_line low is = (

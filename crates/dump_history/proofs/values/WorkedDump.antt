@@ -139,7 +139,7 @@ loads patched = record { makes = makes patched; loads = refl }
 
 -- the dump is these records to its end
 
-stands_here : (number : ℕ) (r : DumpRecord) (rest : List DumpRecord) → is_block r.headers ≡ true
+pub stands_here : (number : ℕ) (r : DumpRecord) (rest : List DumpRecord) → is_block r.headers ≡ true
     → is_lawful number r.headers ≡ true → r.props ≡ [] → r.text ≡ [] → property_length r.headers ≡ 0
     → text_length r.headers ≡ 0 → BeginsWithRecord number (joined (r ∷ rest)) r (joined rest)
 stands_here number r rest block lawful props text no_props no_text = record {

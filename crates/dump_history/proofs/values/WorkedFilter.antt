@@ -1,5 +1,5 @@
 -- The worked dump has no fault, and what the filter writes of it.
-use Rattle.dump_history.proofs.Prelude.{◌≡◌, ◌+◌, ◌<◌, ◌^◌, true, ◌&&◌, ◌||◌, if◌then◌else◌, not, ◌++◌, length, None, refl, sym, ap, ◌∙◌, subst, inl, inr, arith, lit<, append-nil, append_assoc, Contains, last_or, NoFault, copy_revision_name, property_length_name, md5_name, sha1_name, has_header, with_header_value, Property, property_block_text, DumpRecord, image, is_revision_record, is_node, is_kept_node, has_lost_source, HasPropertyList, LengthsFit, group_of, is_padded, revision_number, present_revision, kept_revisions, is_whole_file, stays_copy, ends_in_group, IsOutOfOrder, HasBadCopyRevision, HoldsOfRecord, AreFaultFree, IsWrittenBlock, IsWrittenText, IsCleanText, property_list_once, AtEach, first_true, absurd_bool}
+use Rattle.dump_history.proofs.Prelude.{◌≡◌, ◌+◌, ◌<◌, ◌^◌, true, ◌&&◌, ◌||◌, if◌then◌else◌, not, ◌++◌, length, None, refl, sym, ap, ◌∙◌, subst, inl, inr, arith, lit<, append-nil, append_assoc, Contains, last_or, NoFault, copy_revision_name, property_length_name, md5_name, sha1_name, has_header, with_header_value, Property, property_block_text, DumpRecord, image, is_revision_record, is_node, is_kept_node, has_lost_source, Settings, HasPropertyList, LengthsFit, group_of, is_padded, revision_number, present_revision, kept_revisions, is_whole_file, stays_copy, ends_in_group, IsOutOfOrder, HasBadCopyRevision, HoldsOfRecord, AreFaultFree, IsWrittenBlock, IsWrittenText, IsCleanText, property_list_once, AtEach, first_true, absurd_bool}
 use Rattle.std.proofs.Common.{ℕ, false, List, [], ◌∷◌, Some, codes}
 use Rattle.std.specs.Fmt.{digits}
 use Rattle.dump_text.specs.declared.fault.FaultKind.TheVariants as faults
@@ -8,7 +8,7 @@ use Rattle.dump_history.proofs.values.WorkedDump.{version, zero, one, trunk, two
 -- none of the records has a fault
 
 -- what is so of each record where it stands is so of the one at each place
-at_place : (P : List DumpRecord → DumpRecord → List DumpRecord → Type 0) (done rest before after : List DumpRecord)
+pub at_place : (P : List DumpRecord → DumpRecord → List DumpRecord → Type 0) (done rest before after : List DumpRecord)
     (r : DumpRecord) → rest ≡ before ++ r ∷ after → AtEach P done rest → P (done ++ before) r after
 at_place P done [] [] after r at each = absurd (let bad : [] ≡ r ∷ after = at in cc)
 at_place P done [] (y ∷ before) after r at each = absurd (let bad : [] ≡ y ∷ (before ++ r ∷ after) = at in cc)
@@ -24,22 +24,23 @@ at_place P done (x ∷ rest) (y ∷ before) after r at each =
     (append_assoc done (x ∷ []) before ∙ ap (λ z. done ++ z ∷ before) same)
     (at_place P (done ++ x ∷ []) rest before after r later each.1)
 
-module _ (before : List DumpRecord) (r : DumpRecord) (ordered : ¬ IsOutOfOrder before r) (list : HasPropertyList r [])
+module _ (options : Settings) (before : List DumpRecord) (r : DumpRecord) (ordered : ¬ IsOutOfOrder before r)
+    (list : HasPropertyList r [])
     (no_md5 : has_header md5_name r.headers ≡ false) (no_sha1 : has_header sha1_name r.headers ≡ false)
-    (no_lost : (is_kept_node settings r && has_lost_source settings r && not (is_whole_file r)) ≡ false)
-    (number : ¬ HasBadCopyRevision settings before r) where
+    (no_lost : (is_kept_node options r && has_lost_source options r && not (is_whole_file r)) ≡ false)
+    (number : ¬ HasBadCopyRevision options before r) where
   no_property : (ps : List Property) → HasPropertyList r ps → (p : Property) → Contains ps p → ⊥
   no_property ps found p within =
       let (place, low, same) = subst (λ (l : List Property). Contains l p) (property_list_once r ps [] found list)
       within in absurd (omega (arith, low))
 
-  free_of : NoFault (HoldsOfRecord settings before r)
+  pub free_of : NoFault (HoldsOfRecord options before r)
   free_of faults.Order holds = ordered holds
   free_of faults.Props (e, none) = none ([], list)
   free_of faults.Md5 (e, w, (has, differs)) = absurd_bool (has_header md5_name r.headers) has no_md5
   free_of faults.Sha1 (e, w, (has, differs)) = absurd_bool (has_header sha1_name r.headers) has no_sha1
   free_of faults.CopySource e =
-      absurd_bool (is_kept_node settings r && has_lost_source settings r && not (is_whole_file r)) e no_lost
+      absurd_bool (is_kept_node options r && has_lost_source options r && not (is_whole_file r)) e no_lost
   free_of faults.CopyRevision holds = number holds
   free_of faults.MergeInfo (value, (e, ps, found, p, within, merge, same), bad) = no_property ps found p within
   free_of faults.MergeSource (value, (e, ps, found, p, within, merge, same), bad) = no_property ps found p within
@@ -47,7 +48,7 @@ module _ (before : List DumpRecord) (r : DumpRecord) (ordered : ¬ IsOutOfOrder 
   free_of _ holds = holds
 
 -- a node that directly follows a revision is in order
-follows : (before : List DumpRecord) (r : DumpRecord)
+pub follows : (before : List DumpRecord) (r : DumpRecord)
     → (is_node r && not (ends_in_group (last_or None before))) ≡ false → is_revision_record r ≡ false
     → ¬ IsOutOfOrder before r
 follows before r fine no_rev (inl e) =
@@ -55,7 +56,7 @@ follows before r fine no_rev (inl e) =
 follows before r fine no_rev (inr (rev, number, also, le)) = absurd_bool (is_revision_record r) rev no_rev
 
 -- a revision whose number is above the present one is in order
-rises : (before : List DumpRecord) (r : DumpRecord) (present : ℕ) → is_node r ≡ false
+pub rises : (before : List DumpRecord) (r : DumpRecord) (present : ℕ) → is_node r ≡ false
     → present_revision before ≡ Some present → present < revision_number r → ¬ IsOutOfOrder before r
 rises before r present no_node is above (inl e) =
     absurd_bool (is_node r) (first_true (is_node r) (not (ends_in_group (last_or None before))) e) no_node
@@ -64,18 +65,18 @@ rises before r present no_node is above (inr (rev, number, also, le)) =
     omega (arith, above, le, same)
 
 -- the first revision is in order
-begins : (before : List DumpRecord) (r : DumpRecord) → is_node r ≡ false → present_revision before ≡ None
+pub begins : (before : List DumpRecord) (r : DumpRecord) → is_node r ≡ false → present_revision before ≡ None
     → ¬ IsOutOfOrder before r
 begins before r no_node none (inl e) =
     absurd_bool (is_node r) (first_true (is_node r) (not (ends_in_group (last_or None before))) e) no_node
 begins before r no_node none (inr (rev, number, also, le)) = let bad : None ≡ Some number = sym none ∙ also in cc
 
 -- a record that is no copy names no copy revision
-no_copy : (before : List DumpRecord) (r : DumpRecord)
-    → (settings.renumber && is_kept_node settings r && stays_copy settings r) ≡ false
-    → ¬ HasBadCopyRevision settings before r
-no_copy before r none (e, number, is, why) =
-    absurd_bool (settings.renumber && is_kept_node settings r && stays_copy settings r) e none
+pub no_copy : (options : Settings) (before : List DumpRecord) (r : DumpRecord)
+    → (options.renumber && is_kept_node options r && stays_copy options r) ≡ false
+    → ¬ HasBadCopyRevision options before r
+no_copy options before r none (e, number, is, why) =
+    absurd_bool (options.renumber && is_kept_node options r && stays_copy options r) e none
 
 copy_fine : ¬ HasBadCopyRevision settings (version ∷ zero ∷ one ∷ trunk ∷ two ∷ other ∷ three ∷ []) copy
 copy_fine (e, number, is, inl none) =
@@ -90,31 +91,32 @@ copy_fine (e, number, is, inr above) =
 
 free : AreFaultFree settings records
 free before after r at = at_place (λ b x a. NoFault (HoldsOfRecord settings b x)) [] records before after r at (
-  free_of [] version (follows [] version refl refl) (none_of version refl) refl refl refl (no_copy [] version refl),
+  free_of settings [] version (follows [] version refl refl) (none_of version refl) refl refl refl
+      (no_copy settings [] version refl),
   (
-    free_of (version ∷ []) zero (begins (version ∷ []) zero refl refl) (none_of zero refl) refl refl refl
-        (no_copy (version ∷ []) zero refl),
+    free_of settings (version ∷ []) zero (begins (version ∷ []) zero refl refl) (none_of zero refl) refl refl refl
+        (no_copy settings (version ∷ []) zero refl),
     (
-      free_of (version ∷ zero ∷ []) one (rises (version ∷ zero ∷ []) one 0 refl refl (lit< tt)) (none_of one refl)
-          refl refl refl (no_copy (version ∷ zero ∷ []) one refl),
+      free_of settings (version ∷ zero ∷ []) one (rises (version ∷ zero ∷ []) one 0 refl refl (lit< tt))
+          (none_of one refl) refl refl refl (no_copy settings (version ∷ zero ∷ []) one refl),
       (
-        free_of (version ∷ zero ∷ one ∷ []) trunk (follows (version ∷ zero ∷ one ∷ []) trunk refl refl)
-            (none_of trunk refl) refl refl refl (no_copy (version ∷ zero ∷ one ∷ []) trunk refl),
+        free_of settings (version ∷ zero ∷ one ∷ []) trunk (follows (version ∷ zero ∷ one ∷ []) trunk refl refl)
+            (none_of trunk refl) refl refl refl (no_copy settings (version ∷ zero ∷ one ∷ []) trunk refl),
         (
-          free_of (version ∷ zero ∷ one ∷ trunk ∷ []) two
+          free_of settings (version ∷ zero ∷ one ∷ trunk ∷ []) two
               (rises (version ∷ zero ∷ one ∷ trunk ∷ []) two 1 refl refl (lit< tt)) (none_of two refl)
-              refl refl refl (no_copy (version ∷ zero ∷ one ∷ trunk ∷ []) two refl),
+              refl refl refl (no_copy settings (version ∷ zero ∷ one ∷ trunk ∷ []) two refl),
           (
-            free_of (version ∷ zero ∷ one ∷ trunk ∷ two ∷ []) other
+            free_of settings (version ∷ zero ∷ one ∷ trunk ∷ two ∷ []) other
                 (follows (version ∷ zero ∷ one ∷ trunk ∷ two ∷ []) other refl refl) (none_of other refl)
-                refl refl refl (no_copy (version ∷ zero ∷ one ∷ trunk ∷ two ∷ []) other refl),
+                refl refl refl (no_copy settings (version ∷ zero ∷ one ∷ trunk ∷ two ∷ []) other refl),
             (
-              free_of (version ∷ zero ∷ one ∷ trunk ∷ two ∷ other ∷ []) three
+              free_of settings (version ∷ zero ∷ one ∷ trunk ∷ two ∷ other ∷ []) three
                   (rises (version ∷ zero ∷ one ∷ trunk ∷ two ∷ other ∷ []) three 2 refl refl (lit< tt))
                   (none_of three refl)
-                  refl refl refl (no_copy (version ∷ zero ∷ one ∷ trunk ∷ two ∷ other ∷ []) three refl),
+                  refl refl refl (no_copy settings (version ∷ zero ∷ one ∷ trunk ∷ two ∷ other ∷ []) three refl),
               (
-                free_of (version ∷ zero ∷ one ∷ trunk ∷ two ∷ other ∷ three ∷ []) copy
+                free_of settings (version ∷ zero ∷ one ∷ trunk ∷ two ∷ other ∷ three ∷ []) copy
                     (follows (version ∷ zero ∷ one ∷ trunk ∷ two ∷ other ∷ three ∷ []) copy refl refl)
                     (none_of copy refl)
                     refl refl refl copy_fine,
@@ -138,7 +140,7 @@ text = codes "SVN-fs-dump-format-version: 2\n\nRevision-number: 0\n\n\n"
 
 -- the part that is written of each record, and those behind it
 
-abbrev revision_part : List ℕ → List ℕ
+abbrev pub revision_part : List ℕ → List ℕ
 revision_part number = codes "Revision-number: " ++ number ++ codes "\n\n\n"
 
 abbrev trunk_part : List ℕ
@@ -219,38 +221,47 @@ written = (
 pub clean : IsCleanText settings dump records text
 clean = record { whole = whole; fault_free = free; written = written }
 
--- a record without properties and text, which isn't padded, gets neither
-no_block : (r : DumpRecord) (after : List DumpRecord) → has_header property_length_name r.headers ≡ false
-    → (is_revision_record r && is_padded settings (group_of r after)) ≡ false → r.text ≡ [] → (part : List ℕ)
-    → IsWrittenBlock settings (kept_revisions settings records) r after part → length part + length r.text < 10 ^ 18
-no_block r after no_props not_padded empty part (old, new, list, how, is) =
+-- a record without properties, which isn't padded, gets none; so its text alone counts
+pub text_alone : (options : Settings) (all : List DumpRecord) (r : DumpRecord) (after : List DumpRecord)
+    → has_header property_length_name r.headers ≡ false
+    → (is_revision_record r && is_padded options (group_of r after)) ≡ false → length r.text < 10 ^ 18 → (part : List ℕ)
+    → IsWrittenBlock options (kept_revisions options all) r after part → length part + length r.text < 10 ^ 18
+text_alone options all r after no_props not_padded small part (old, new, list, how, is) =
     let none : length part ≡ 0 = ap length is
     ∙ ap (λ b. length (if b || has_header property_length_name r.headers then property_block_text new else []))
     not_padded
     ∙ ap (λ b. length (if false || b then property_block_text new else [])) no_props in
+    omega (arith, none, small)
+
+-- a record without a text too has nothing that counts
+pub no_block : (options : Settings) (all : List DumpRecord) (r : DumpRecord) (after : List DumpRecord)
+    → has_header property_length_name r.headers ≡ false
+    → (is_revision_record r && is_padded options (group_of r after)) ≡ false → r.text ≡ [] → (part : List ℕ)
+    → IsWrittenBlock options (kept_revisions options all) r after part → length part + length r.text < 10 ^ 18
+no_block options all r after no_props not_padded empty =
     let no_text : length r.text ≡ 0 = ap length empty in
-    omega (arith, none, no_text)
+    text_alone options all r after no_props not_padded (omega (arith, no_text))
 
 -- the lengths of what is written can be read again
 pub lengths : LengthsFit settings records
 lengths before after r block at is_written = at_place
     (λ b x a. (part : List ℕ) → IsWrittenBlock settings (kept_revisions settings records) x a part
     → length part + length x.text < 10 ^ 18) [] records before after r at (
-      no_block version (zero ∷ one ∷ trunk ∷ two ∷ other ∷ three ∷ copy ∷ []) refl refl refl,
+      no_block settings records version (zero ∷ one ∷ trunk ∷ two ∷ other ∷ three ∷ copy ∷ []) refl refl refl,
       (
-        no_block zero (one ∷ trunk ∷ two ∷ other ∷ three ∷ copy ∷ []) refl refl refl,
+        no_block settings records zero (one ∷ trunk ∷ two ∷ other ∷ three ∷ copy ∷ []) refl refl refl,
         (
-          no_block one (trunk ∷ two ∷ other ∷ three ∷ copy ∷ []) refl refl refl,
+          no_block settings records one (trunk ∷ two ∷ other ∷ three ∷ copy ∷ []) refl refl refl,
           (
-            no_block trunk (two ∷ other ∷ three ∷ copy ∷ []) refl refl refl,
+            no_block settings records trunk (two ∷ other ∷ three ∷ copy ∷ []) refl refl refl,
             (
-              no_block two (other ∷ three ∷ copy ∷ []) refl refl refl,
+              no_block settings records two (other ∷ three ∷ copy ∷ []) refl refl refl,
               (
-                no_block other (three ∷ copy ∷ []) refl refl refl,
+                no_block settings records other (three ∷ copy ∷ []) refl refl refl,
                 (
-                  no_block three (copy ∷ []) refl refl refl,
+                  no_block settings records three (copy ∷ []) refl refl refl,
                   (
-                    no_block copy [] refl refl refl,
+                    no_block settings records copy [] refl refl refl,
                     tt,
                   ),
                 ),

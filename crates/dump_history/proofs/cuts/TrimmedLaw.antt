@@ -1,0 +1,267 @@
+-- The law of dumps whose copies are trimmed.
+use Rattle.dump_history.proofs.Prelude.{◌≡◌, ◌==◌, Bool, true, ◌++◌, drop, refl, sym, ap, ◌∙◌, subst, or_right, MatchBool, MatchBool-at_false, slice_get, list_any, AllZip, Property, DumpRecord, Settings, KeptRevisions, kept_revisions, groups, keeps, keeps_revision, Tree, root_alone, Change, Made, NewProperty, IsNewMade, IsNewChange, IsWrittenNumber, EmptyRule, AreNewChanges, AreNewRevisions, kept_of, IsNewProperty, Patching, LoadsAs, KeepsProperties, HaveRevisionProperties}
+use Rattle.std.proofs.Common.{ℕ, zero, suc, false, List, [], ◌∷◌, Option, Some, None, length, is_some, not, ◌&&◌}
+use Rattle.std.proofs.lemmas.Bool.{MatchBool-at_true}
+use Rattle.dump_filter.specs.Groups.{is_pad, keeps_empty}
+use Rattle.dump_trees.specs.Changes.{History}
+use Rattle.dump_trees.specs.Trimming.{AreTrimmedChanges, IsSameNumber, AreTrimmedRevisions}
+use Rattle.dump_filter.specs.FilterLaws.{keep_all}
+use Rattle.dump_trees.specs.Quiet.{is_quiet_kept}
+use Rattle.dump_trees.specs.Restriction.{is_lost}
+use Rattle.dump_trees.proofs.changes.CutLemmas.{restricted_is_cut}
+use Rattle.dump_trees.proofs.quiet.QuietLemmas.{quiet_separates}
+use Rattle.dump_trees.proofs.expansions.CaseLemmas.{separated_expands}
+use Rattle.dump_trees.proofs.histories.StandingNames.{loaded_folders}
+use Rattle.dump_trees.proofs.expansions.TrimmedHistories.{trimmed_history}
+use Rattle.dump_history.specs.WrittenNodes.{WrittenNode}
+use Rattle.dump_history.specs.ExpandedText.{made_in_stead}
+use Rattle.dump_history.specs.CutDumps.{leaves_no_gap, TreeRelation, TreeRestricts, TreeIsCut, LoadsNumbered}
+use Rattle.dump_history.specs.TrimmedDumps.{part_groups, changes_behind, revisions_with, IsTrimmedText, AreTrimming, AreAllTrimming, FiltersTrimmed, TrimmedDumpLoads, TrimmedCutDumpLoads, KeepsEachPath, EachChangeStays, EachBranchIsCutAlike, FiltersTrimmedExpansion, TrimmedExpansionLoads, TrimmedCutExpansionLoads}
+use Rattle.dump_history.proofs.again.GroupChanges.{empty_rule}
+use Rattle.dump_history.proofs.again.NodeChanges.{entries_kept}
+use Rattle.dump_history.proofs.expanded.ExpandedLaw.{expanded_dump_loads}
+use Rattle.dump_history.proofs.expanded.SteadLemmas.{with_records}
+use Rattle.dump_history.proofs.restricted.FilteredLaw.{is_left}
+use Rattle.dump_history.proofs.restricted.LoadsOnce.{whole_records_once}
+use Rattle.dump_history.proofs.cuts.OwnNumbers.{numbers_are_kept, filter_same, zip_from_gets, zip_length, same_properties}
+use Rattle.dump_history.proofs.cuts.NameLemmas.{loaded_dumps_have_names}
+use Rattle.dump_history.proofs.cuts.TrimmedTexts.{trimmed_texts_are_dumps}
+
+at_true : (A B : Type 0) (b : Bool) → b ≡ true → A → MatchBool b A B
+at_true A B b is a = subst (λ c. MatchBool c A B) (sym is) a
+
+at_false : (A B : Type 0) (b : Bool) → b ≡ false → B → MatchBool b A B
+at_false A B b is a = subst (λ c. MatchBool c A B) (sym is) a
+
+-- what is written of changes, where numbers stay
+
+module _ (settings : Settings) (kept : KeptRevisions) (stays : settings.renumber ≡ false) where
+  own_made : (whole : Bool) (old new : Option Made) → IsNewMade settings (IsWrittenNumber settings kept) whole old new
+      → IsNewMade settings IsSameNumber whole old new
+  own_made whole None None is = is
+  own_made whole None (Some made) is = absurd is
+  own_made whole (Some Made.NewFolder) None is = absurd is
+  own_made whole (Some Made.NewFolder) (Some Made.NewFolder) is = is
+  own_made whole (Some Made.NewFolder) (Some Made.NewFile) is = absurd is
+  own_made whole (Some Made.NewFolder) (Some (Made.Copied number source)) is = absurd is
+  own_made whole (Some Made.NewFile) None is = absurd is
+  own_made whole (Some Made.NewFile) (Some Made.NewFolder) is = absurd is
+  own_made whole (Some Made.NewFile) (Some Made.NewFile) is = is
+  own_made whole (Some Made.NewFile) (Some (Made.Copied number source)) is = absurd is
+  own_made whole (Some (Made.Copied number source)) None is = absurd is
+  own_made whole (Some (Made.Copied number source)) (Some Made.NewFolder) is = absurd is
+  own_made whole (Some (Made.Copied number source)) (Some Made.NewFile) is = is
+  own_made whole (Some (Made.Copied number source)) (Some (Made.Copied written same)) is =
+      (is.0, MatchBool-at_false _ _ stays is.1, is.2)
+
+  own_change : (IsNew : NewProperty) (old new : Change)
+      → IsNewChange settings IsNew (IsWrittenNumber settings kept) old new → IsNewChange settings IsNew IsSameNumber old new
+  own_change IsNew old new is = record {
+    path = is.path;
+    deletes = is.deletes;
+    made = own_made _ old.made new.made is.made;
+    props = is.props;
+    text = is.text;
+  }
+
+  module _ (IsNew : NewProperty) where
+    -- of the changes of a revision
+    changes_trimmed : (history : History) (changes new : List Change) (behind : List (List WrittenNode)) (before : Tree)
+        → AreNewChanges settings IsNew (IsWrittenNumber settings kept) changes new
+        → AreTrimming settings history before changes behind
+        → AreTrimmedChanges settings IsNew IsSameNumber history before changes (changes_behind behind new)
+    changes_trimmed history [] new behind before none nothing = ap (λ b. changes_behind b new) nothing
+    changes_trimmed history (c ∷ changes) new behind before are trims =
+        sides (λ rest more t. changes_trimmed history changes rest more t) (keeps settings c.path) refl
+      where
+        Later : Type 0
+        Later = (rest : List Change) (more : List (List WrittenNode)) (t : Tree)
+            → AreNewChanges settings IsNew (IsWrittenNumber settings kept) changes rest
+            → AreTrimming settings history t changes more
+            → AreTrimmedChanges settings IsNew IsSameNumber history t changes (changes_behind more rest)
+
+        sides : Later → (b : Bool) → keeps settings c.path ≡ b
+            → AreTrimmedChanges settings IsNew IsSameNumber history before (c ∷ changes) (changes_behind behind new)
+        sides later true is =
+            let (one, rest, written, is_new, others) = MatchBool-at_true _ _ is are in
+            let (nodes, more, rests, listed, deleted, trimmed, further) = MatchBool-at_true _ _ is trims in
+            at_true _ _ (keeps settings c.path) is (
+              one,
+              rests,
+              changes_behind more rest,
+              (λ i. changes_behind (listed i) (written i))
+                  ∙ ap (λ ds. one ∷ (ds ++ changes_behind more rest)) deleted,
+              own_change IsNew c one is_new,
+              trimmed,
+              λ after at. later rest more after others (further after at),
+            )
+        sides later false left =
+            at_false _ _ (keeps settings c.path) left (λ after at. later new behind after (MatchBool-at_false _ _ left are)
+            (MatchBool-at_false _ _ left trims after at))
+
+    -- of revisions, each of which stays
+    revisions_trimmed : (rule : EmptyRule) → ((changes : List Change) → rule changes ≡ true)
+        → (revisions written : List (List Change)) (behind : List (List (List WrittenNode))) (trees : List Tree)
+        (youngest : Tree)
+        → AreNewRevisions settings IsNew (IsWrittenNumber settings kept) rule revisions written
+        → AreAllTrimming settings trees youngest revisions behind
+        → AreTrimmedRevisions settings IsNew trees youngest revisions (revisions_with behind written)
+    revisions_trimmed rule all [] written behind trees youngest none nothing = ap (λ b. revisions_with b written) nothing
+    revisions_trimmed rule all (changes ∷ revisions) written behind trees youngest are
+        (first, rest, listed, trims, further) =
+        let (new, others, is, one, more) = MatchBool-at_true _ _ (stays_there changes) are in (
+          changes_behind first new,
+          revisions_with rest others,
+          (λ i. revisions_with (listed i) (is i)),
+          changes_trimmed (slice_get trees) changes new first youngest one trims,
+          λ tree at. revisions_trimmed rule all revisions others rest (trees ++ tree ∷ []) tree more (further tree at),
+        )
+      where
+        stays_there : (cs : List Change) → keeps_revision settings rule cs ≡ true
+        stays_there cs = or_right (list_any (λ (c : Change). keeps settings c.path) cs) (rule cs) (all cs)
+
+-- the law
+pub trimmed_dump_loads : TrimmedDumpLoads
+trimmed_dump_loads patched settings dump records revisions trees text f side pad preserve stays =
+    let (named, numbering) = numbers_are_kept settings records no_gap in
+    let left = is_left patched settings dump f.filtered records revisions f.clean f.fit named f.loads.makes in
+    let same : left.again ≡ f.again = whole_records_once f.filtered left.again f.again left.has f.has_again in
+    let trimmed : IsTrimmedText left.again f.behind text =
+    subst (λ l. IsTrimmedText l f.behind text) (sym same) f.trimmed in
+    let trims : AreAllTrimming settings (root_alone ∷ []) root_alone revisions (drop 1 (part_groups left.again f.behind)) =
+    subst (λ l. AreAllTrimming settings (root_alone ∷ []) root_alone revisions (drop 1 (part_groups l f.behind)))
+    (sym same) f.trims in
+    let (parts, has_parts, makes, properties) =
+    trimmed_texts_are_dumps patched f.filtered text left.again f.behind left.written left.has
+    (record {
+      numbered = left.no_gap_if_kept numbering;
+      ordered = left.makes_again.ordered;
+      changes = left.makes_again.changes;
+    }) trimmed in
+    let (others, loads, restrict) = trimmed_history settings (IsNewProperty settings (kept_revisions settings records))
+    (entries_kept settings (kept_revisions settings records)) revisions
+    (revisions_with (drop 1 (part_groups left.again f.behind)) left.written) trees side f.loads.loads
+    (revisions_trimmed settings (kept_of settings (empty_rule settings) revisions) stays
+    (IsNewProperty settings (kept_revisions settings records)) (empty_rule settings)
+    (λ changes. ap (λ e. keeps_empty e (length changes == 0)) pad) revisions left.written
+    (drop 1 (part_groups left.again f.behind)) (root_alone ∷ []) root_alone left.new trims) in (
+      parts,
+      revisions_with (drop 1 (part_groups left.again f.behind)) left.written,
+      others,
+      has_parts,
+      record { makes = makes; loads = loads },
+      restrict,
+      λ props have. properties props
+          (same_properties settings preserve (groups records) (groups left.again)
+          (subst (λ gs. AllZip (KeepsProperties settings) gs (groups left.again))
+          (filter_same settings pad (groups records)) left.properties) props have),
+    )
+  where
+    no_gap : leaves_no_gap settings ≡ true
+    no_gap = or_right settings.renumber (is_pad settings.empty) (ap is_pad pad)
+
+-- where the siblings are excluded
+
+zip_there : {A B : Type 0} (R : A → B → Type 0) (xs : List A) (ys : List B) → AllZip R xs ys → (number : ℕ) (x : A)
+    → slice_get xs number ≡ Some x → (y : B) × (slice_get ys number ≡ Some y) × R x y
+zip_there R [] ys zip number x at = absurd (let bad : None ≡ Some x = at in cc)
+zip_there R (v ∷ xs) [] zip number x at = absurd zip
+zip_there {B = B} R (v ∷ xs) (w ∷ ys) zip zero x at =
+    let same : v ≡ x = (let both : Some v ≡ Some x = at in cc) in
+    (w, refl, subst (λ u. R u w) same zip.0)
+zip_there R (v ∷ xs) (w ∷ ys) zip (suc number) x at = zip_there R xs ys zip.1 number x at
+
+pub trimmed_cut_dump_loads : TrimmedCutDumpLoads
+trimmed_cut_dump_loads patched settings included siblings dump records revisions trees text f excludes all pad preserve
+    stays =
+    let (parts, changes, others, has, loads, restrict, properties) =
+    trimmed_dump_loads patched settings dump records revisions trees text f excludes.side pad preserve stays in (
+      parts,
+      changes,
+      others,
+      has,
+      loads,
+      zip_from_gets (TreeIsCut settings included records) trees others
+          (zip_length (TreeRestricts settings records) trees others restrict)
+          (λ number tree at.
+          let (other, there, restricted) =
+          zip_there (TreeRestricts settings records) trees others restrict number tree at in (
+            other,
+            there,
+            restricted_is_cut (IsNewProperty settings (kept_revisions settings records)) settings included siblings trees
+                number tree other excludes all at (loaded_folders revisions trees number tree f.loads.loads at)
+                (loaded_dumps_have_names patched records revisions trees number tree f.loads at) restricted,
+          )),
+      properties,
+    )
+
+-- expanded and trimmed
+
+pub keeps_each_path : KeepsEachPath
+keeps_each_path path = refl
+
+pub each_branch_is_cut_alike : EachBranchIsCutAlike
+each_branch_is_cut_alike path source branch = (refl, refl, λ rest node at. refl)
+
+pub each_change_stays : EachChangeStays
+each_change_stays history before c =
+    separated_expands keep_all history before c
+    (λ after at. quiet_separates keep_all history before after c (quiet c.made) (over c.made) at)
+  where
+    quiet : (made : Option Made) → is_quiet_kept keep_all c.path c.props made ≡ true
+    quiet None = refl
+    quiet (Some Made.NewFolder) = refl
+    quiet (Some Made.NewFile) = refl
+    quiet (Some (Made.Copied number source)) = refl
+
+    over : (made : Option Made) → (is_lost keep_all made && not c.deletes && is_some (before c.path)) ≡ false
+    over None = refl
+    over (Some Made.NewFolder) = refl
+    over (Some Made.NewFile) = refl
+    over (Some (Made.Copied number source)) = refl
+
+module _ (patched : Patching) (settings : Settings) (dump : List ℕ) (records : List DumpRecord)
+    (revisions : List (List Change)) (trees : List Tree) (again : List DumpRecord) (text : List ℕ)
+    (f : FiltersTrimmedExpansion patched settings dump records revisions trees again text) where
+  -- the expanded form loads to the same trees, with the same properties
+  same_loads : LoadsAs patched root_alone again (made_in_stead records f.steads revisions) trees
+      × ((props : List (List Property)) → HaveRevisionProperties records props → HaveRevisionProperties again props)
+  same_loads =
+      let (loads, apart, numbers, properties) =
+      expanded_dump_loads patched keep_all dump records f.steads again revisions (made_in_stead records f.steads revisions)
+      trees f.has f.loads
+      (with_records patched keep_all dump f.expansion records again f.steads revisions f.has f.loads.makes f.expanded f.same
+      f.clean.whole) in
+      (loads, properties)
+
+  -- so it is filtered and trimmed as any dump
+  pub its_trimmed : FiltersTrimmed patched settings f.expansion again (made_in_stead records f.steads revisions) trees text
+  its_trimmed = record {
+    loads = same_loads.0;
+    filtered = f.filtered;
+    clean = f.clean;
+    fit = f.fit;
+    again = f.left;
+    has_again = f.has_left;
+    behind = f.behind;
+    trimmed = f.trimmed;
+    trims = f.trims;
+  }
+
+  pub its_properties : (Relates : TreeRelation) → LoadsNumbered patched Relates again trees text
+      → LoadsNumbered patched Relates records trees text
+  its_properties Relates (parts, changes, others, has, loads, zip, properties) =
+      (parts, changes, others, has, loads, zip, λ props have. properties props (same_loads.1 props have))
+
+pub trimmed_expansion_loads : TrimmedExpansionLoads
+trimmed_expansion_loads patched settings dump records again revisions trees text f side pad preserve stays =
+    its_properties patched settings dump records revisions trees again text f (TreeRestricts settings again)
+    (trimmed_dump_loads patched settings f.expansion again (made_in_stead records f.steads revisions) trees text
+    (its_trimmed patched settings dump records revisions trees again text f) side pad preserve stays)
+
+pub trimmed_cut_expansion_loads : TrimmedCutExpansionLoads
+trimmed_cut_expansion_loads patched settings included siblings dump records again revisions trees text f excludes all pad
+    preserve stays =
+    its_properties patched settings dump records revisions trees again text f (TreeIsCut settings included again)
+    (trimmed_cut_dump_loads patched settings included siblings f.expansion again (made_in_stead records f.steads revisions)
+    trees text (its_trimmed patched settings dump records revisions trees again text f) excludes all pad preserve stays)

@@ -1,0 +1,11 @@
+-- Expanded dumps: their nodes, their revisions and what the filter writes of them.
+pub mod NodeLemmas
+pub mod FormLemmas
+pub mod StandLemmas
+pub mod TextLemmas
+pub mod ExpandedLaw
+pub mod SourceLemmas
+pub mod SteadLemmas
+pub mod PartLemmas
+pub mod GrowingLemmas
+pub mod ReplacingLemmas

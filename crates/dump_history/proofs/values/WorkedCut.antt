@@ -1,0 +1,551 @@
+-- A worked dump of which a part is taken. An included file is copied from one that isn't, which stands beside it, and
+-- its directory is copied to a branch, in which the file is included too. In place of the first copy the file is
+-- written; the second one stays, since what stands beside the file is excluded in both directories.
+use Rattle.dump_history.proofs.Prelude.{◌≡◌, true, ◌||◌, not, ◌++◌, length, None, refl, sym, append-nil, ◌∙◌, subst, inl, inr, zero, suc, ◌+◌, ◌<◌, ◌≤◌, arith, lit<, list_all, list_any, bytes_eq, bytes_eq-Decides, and_parts, or_cases, both_ways, not-true, Contains, Pad, Exclude, Settings, Ending, HasRecords, IsCutInto, property_length, text_length, DumpRecord, record_text, is_lawful, BeginsWithRecord, is_block, HoldsOfRecord, path_of, NodePath, Node, Tree, root_alone, put, grafted, Made, TextChange, Change, Patching, MakesChange, MakeRevisions, LoadsAs, slice_get}
+use Rattle.std.proofs.Common.{ℕ, false, Bool, List, [], ◌∷◌, map, Option, Some, codes}
+use Rattle.std.specs.Fmt.{digits}
+use Rattle.dump_records.specs.DumpText.{line_feeds}
+use Rattle.dump_text.specs.declared.fault.FaultKind.TheVariants as faults
+use Rattle.dump_trees.specs.Paths.{path_text, below}
+use Rattle.dump_trees.specs.Changes.{History, step, steps}
+use Rattle.dump_trees.specs.Branches.{Branch, HasBranch}
+use Rattle.dump_trees.specs.WritingOut.{file_of}
+use Rattle.dump_trees.specs.Expansions.{Expands, AllExpand, AllRevisionsExpand}
+use Rattle.dump_trees.specs.Siblings.{is_above_included, is_sibling, AreSiblings, ExcludesPaths}
+use Rattle.dump_trees.specs.Looking.{placed_from, end_of}
+use Rattle.dump_trees.specs.Listing.{names_look}
+use Rattle.dump_trees.specs.FindingSiblings.{all_above, CanStandBelow}
+use Rattle.dump_trees.proofs.changes.TreeLemmas.{below_rest}
+use Rattle.dump_trees.proofs.histories.StandingNames.{loaded_folders}
+use Rattle.dump_trees.proofs.quiet.QuietLemmas.{quiet_separates}
+use Rattle.dump_trees.proofs.expansions.CaseLemmas.{separated_expands, kept_copy}
+use Rattle.dump_trees.proofs.expansions.FoundSiblings.{above_are_listed, siblings_are_found}
+use Rattle.dump_history.specs.WrittenNodes.{WrittenNode, node_bytes, node_record, can_be_written}
+use Rattle.dump_history.specs.ExpandedDumps.{OwnForm, Stead}
+use Rattle.dump_history.specs.ExpandedText.{AreRecordTexts, IsExpandedText, made_in_stead}
+use Rattle.dump_history.proofs.expanded.NodeLemmas.{written_nodes_are_records}
+use Rattle.dump_history.proofs.values.WorkedExpansion.{stays}
+use Rattle.dump_history.proofs.values.WorkedDump.{line, record_at, version, zero as revision_0, one, trunk, joined, folder, none_of, makes_trunk}
+
+-- the dump; its first records are those of the other worked dump: a version, revision 0, and the directory in revision 1
+
+-- a file that isn't included
+abbrev pub old : DumpRecord
+old = record {
+  place = 121;
+  version = 2;
+  headers = line (codes "Node-path") (codes "trunk/old")
+      ∷ line (codes "Node-kind") (codes "file")
+      ∷ line (codes "Node-action") (codes "add")
+      ∷ line (codes "Text-content-length") (codes "4")
+      ∷ line (codes "Content-length") (codes "4") ∷ [];
+  props = [];
+  text = codes "text";
+}
+
+-- revision 2, behind two line feeds
+abbrev pub two : DumpRecord
+two = record_at 223 (line (codes "Revision-number") (codes "2") ∷ [])
+
+-- a copy of it to an included path
+abbrev pub app : DumpRecord
+app = record_at 243 (line (codes "Node-path") (codes "trunk/app")
+    ∷ line (codes "Node-kind") (codes "file")
+    ∷ line (codes "Node-action") (codes "add")
+    ∷ line (codes "Node-copyfrom-rev") (codes "1")
+    ∷ line (codes "Node-copyfrom-path") (codes "trunk/old") ∷ [])
+
+-- revision 3
+abbrev pub three : DumpRecord
+three = record_at 349 (line (codes "Revision-number") (codes "3") ∷ [])
+
+-- a copy of the directory
+abbrev pub branch : DumpRecord
+branch = record_at 369 (line (codes "Node-path") (codes "branch")
+    ∷ line (codes "Node-kind") (codes "dir")
+    ∷ line (codes "Node-action") (codes "add")
+    ∷ line (codes "Node-copyfrom-rev") (codes "2")
+    ∷ line (codes "Node-copyfrom-path") (codes "trunk") ∷ [])
+
+-- its records
+abbrev pub records : List DumpRecord
+records = version ∷ revision_0 ∷ one ∷ trunk ∷ old ∷ two ∷ app ∷ three ∷ branch ∷ []
+
+-- its records up to revision 2, and what stands behind them
+abbrev pub begun : List ℕ → List ℕ
+begun rest = record_text version ++ (record_text revision_0 ++ (record_text one ++ (record_text trunk
+    ++ (record_text old ++ (codes "\n\n" ++ (record_text two ++ rest))))))
+
+abbrev pub dump : List ℕ
+dump = begun (joined (app ∷ three ∷ branch ∷ []))
+
+its_text : dump ≡ codes "SVN-fs-dump-format-version: 2\n\nRevision-number: 0\n\nRevision-number: 1\n\n"
+    ++ codes "Node-path: trunk\nNode-kind: dir\nNode-action: add\n\n"
+    ++ codes "Node-path: trunk/old\nNode-kind: file\nNode-action: add\nText-content-length: 4\nContent-length: 4\n\n"
+    ++ codes "text\n\nRevision-number: 2\n\n"
+    ++ codes "Node-path: trunk/app\nNode-kind: file\nNode-action: add\nNode-copyfrom-rev: 1\n"
+    ++ codes "Node-copyfrom-path: trunk/old\n\nRevision-number: 3\n\n"
+    ++ codes "Node-path: branch\nNode-kind: dir\nNode-action: add\nNode-copyfrom-rev: 2\n"
+    ++ codes "Node-copyfrom-path: trunk\n\n"
+its_text = refl
+
+-- a record stands before a rest
+pub begins_there : (number : ℕ) (r : DumpRecord) (rest : List ℕ) → is_block r.headers ≡ true
+    → is_lawful number r.headers ≡ true → length r.props ≡ property_length r.headers
+    → length r.text ≡ text_length r.headers → BeginsWithRecord number (record_text r ++ rest) r rest
+begins_there number r rest block lawful props text =
+    record { block = block; lawful = lawful; props_fit = props; text_fits = text; spelled = refl }
+
+-- the first records stand before each rest
+begun_cut : (rest : List ℕ) (behind : List DumpRecord) → IsCutInto 6 243 rest behind []
+    → IsCutInto 0 0 (begun rest) (version ∷ revision_0 ∷ one ∷ trunk ∷ old ∷ two ∷ behind) []
+begun_cut rest behind cut = (
+  0,
+  begun rest,
+  behind_version,
+  refl,
+  refl,
+  begins_there 0 version behind_version refl refl refl refl,
+  (
+    0,
+    behind_version,
+    behind_zero,
+    refl,
+    refl,
+    begins_there 1 revision_0 behind_zero refl refl refl refl,
+    (
+      0,
+      behind_zero,
+      behind_one,
+      refl,
+      refl,
+      begins_there 2 one behind_one refl refl refl refl,
+      (
+        0,
+        behind_one,
+        behind_trunk,
+        refl,
+        refl,
+        begins_there 3 trunk behind_trunk refl refl refl refl,
+        (
+          0,
+          behind_trunk,
+          codes "\n\n" ++ (record_text two ++ rest),
+          refl,
+          refl,
+          begins_there 4 old (codes "\n\n" ++ (record_text two ++ rest)) refl refl refl refl,
+          (2, record_text two ++ rest, rest, refl, refl, begins_there 5 two rest refl refl refl refl, cut),
+        ),
+      ),
+    ),
+  ),
+)
+  where
+    behind_trunk : List ℕ
+    behind_trunk = record_text old ++ (codes "\n\n" ++ (record_text two ++ rest))
+
+    behind_one : List ℕ
+    behind_one = record_text trunk ++ behind_trunk
+
+    behind_zero : List ℕ
+    behind_zero = record_text one ++ behind_one
+
+    behind_version : List ℕ
+    behind_version = record_text revision_0 ++ behind_zero
+
+-- the last two records stand behind some line feeds
+ended_cut : (place lfs : ℕ) → IsCutInto 7 place (line_feeds lfs ++ joined (three ∷ branch ∷ []))
+    (record three { place = place + lfs } ∷ record branch { place = place + lfs + 20 } ∷ []) []
+ended_cut place lfs = (
+  lfs,
+  joined (three ∷ branch ∷ []),
+  joined (branch ∷ []),
+  refl,
+  refl,
+  begins_there 7 (record three { place = place + lfs }) (joined (branch ∷ [])) refl refl refl refl,
+  (
+    0,
+    joined (branch ∷ []),
+    [],
+    refl,
+    (let same : place + lfs + 20 ≡ place + lfs + 20 + 0 = omega arith in same),
+    begins_there 8 (record branch { place = place + lfs + 20 }) [] refl refl refl refl,
+    (0, refl, refl),
+  ),
+)
+
+-- the dump is these records to its end
+pub whole : HasRecords dump records Ending.Whole
+whole = (
+  [],
+  begun_cut (joined (app ∷ three ∷ branch ∷ [])) (app ∷ three ∷ branch ∷ []) (
+    0,
+    joined (app ∷ three ∷ branch ∷ []),
+    joined (three ∷ branch ∷ []),
+    refl,
+    refl,
+    begins_there 6 app (joined (three ∷ branch ∷ [])) refl refl refl refl,
+    ended_cut 349 0,
+  ),
+  (refl, (refl, (refl, (refl, (refl, (refl, (refl, (refl, (refl, tt))))))))),
+  (refl, lit< tt),
+)
+
+-- what is included, and its siblings
+
+abbrev pub included : List NodePath
+included = path_of (codes "trunk/app") ∷ path_of (codes "branch/app") ∷ []
+
+abbrev pub siblings : List NodePath
+siblings = path_of (codes "branch/old") ∷ path_of (codes "trunk/old") ∷ []
+
+-- the siblings are excluded; each revision stays, with its number and its properties, and missing merge sources are left
+-- out
+abbrev pub settings : Settings
+settings = record {
+  side = Exclude;
+  prefixes = map path_text siblings;
+  empty = Pad;
+  renumber = false;
+  preserve = true;
+  skip_missing = true;
+}
+
+pub excludes : ExcludesPaths settings siblings
+excludes = record { side = refl; prefixes = refl }
+
+-- the filter refuses the dump itself
+refused : HoldsOfRecord settings (version ∷ revision_0 ∷ one ∷ trunk ∷ old ∷ two ∷ []) app faults.CopySource
+refused = refl
+
+-- its changes and its trees
+
+abbrev pub adds_trunk : Change
+adds_trunk = folder (codes "trunk") (Some Made.NewFolder)
+
+abbrev pub adds_old : Change
+adds_old = record (folder (codes "trunk/old") (Some Made.NewFile)) { text = Some (TextChange.Replaced (codes "text")) }
+
+abbrev pub copies_old : Change
+copies_old = folder (codes "trunk/app") (Some (Made.Copied 1 (path_of (codes "trunk/old"))))
+
+abbrev pub copies_trunk : Change
+copies_trunk = folder (codes "branch") (Some (Made.Copied 2 (path_of (codes "trunk"))))
+
+abbrev pub revisions : List (List Change)
+revisions = (adds_trunk ∷ adds_old ∷ []) ∷ (copies_old ∷ []) ∷ (copies_trunk ∷ []) ∷ []
+
+-- the tree in the midst of revision 1
+abbrev pub begun_tree : Tree
+begun_tree = put (path_of (codes "trunk")) (Node.Folder []) root_alone
+
+abbrev pub first_tree : Tree
+first_tree = put (path_of (codes "trunk/old")) (Node.File [] (codes "text"))
+    (put (path_of (codes "trunk/old")) (Node.File [] []) begun_tree)
+
+abbrev pub second_tree : Tree
+second_tree = grafted (path_of (codes "trunk/app")) (λ rest. first_tree (path_of (codes "trunk/old") ++ rest)) first_tree
+
+abbrev pub third_tree : Tree
+third_tree = grafted (path_of (codes "branch")) (λ rest. second_tree (path_of (codes "trunk") ++ rest)) second_tree
+
+abbrev pub trees : List Tree
+trees = root_alone ∷ first_tree ∷ second_tree ∷ third_tree ∷ []
+
+makes_old : (patched : Patching) → MakesChange patched old adds_old
+makes_old patched = ([], none_of old refl, refl, refl)
+
+makes : (patched : Patching) → MakeRevisions patched records revisions
+makes patched = record {
+  numbered = refl;
+  ordered = refl;
+  changes = (
+    tt,
+    (
+      (makes_trunk patched, (makes_old patched, tt)),
+      ((([], none_of app refl, refl, refl), tt), ((([], none_of branch refl, refl, refl), tt), tt)),
+    ),
+  );
+}
+
+pub loads : (patched : Patching) → LoadsAs patched root_alone records revisions trees
+loads patched = record { makes = makes patched; loads = refl }
+
+-- its expanded form: in place of the copied file one with its text stands
+
+abbrev pub file : WrittenNode
+file = WrittenNode.File false (codes "trunk/app") [] (codes "text") None None
+
+abbrev pub steads : List Stead
+steads = stays ∷ stays ∷ stays ∷ stays ∷ stays ∷ stays
+    ∷ record { nodes = file ∷ []; own = OwnForm.LeftOut } ∷ stays ∷ stays ∷ []
+
+abbrev pub expansion : List ℕ
+expansion = begun (node_bytes file ++ (codes "\n\n" ++ joined (three ∷ branch ∷ [])))
+
+its_expansion : expansion ≡ codes "SVN-fs-dump-format-version: 2\n\nRevision-number: 0\n\nRevision-number: 1\n\n"
+    ++ codes "Node-path: trunk\nNode-kind: dir\nNode-action: add\n\n"
+    ++ codes "Node-path: trunk/old\nNode-kind: file\nNode-action: add\nText-content-length: 4\nContent-length: 4\n\n"
+    ++ codes "text\n\nRevision-number: 2\n\n"
+    ++ codes "Node-path: trunk/app\nNode-kind: file\nNode-action: add\nProp-content-length: 10\n"
+    ++ codes "Text-content-length: 4\nContent-length: 14\n\nPROPS-END\ntext\n\nRevision-number: 3\n\n"
+    ++ codes "Node-path: branch\nNode-kind: dir\nNode-action: add\nNode-copyfrom-rev: 2\n"
+    ++ codes "Node-copyfrom-path: trunk\n\n"
+unfolding digits
+its_expansion = refl
+
+pub can : can_be_written file ≡ true
+unfolding digits
+can = refl
+
+-- the texts of the first records stand before each rest
+pub begun_texts : (rest : List ℕ) (behind : List DumpRecord) → AreRecordTexts behind rest
+    → AreRecordTexts (version ∷ revision_0 ∷ one ∷ trunk ∷ old ∷ two ∷ behind) (begun rest)
+begun_texts rest behind texts = (
+  0,
+  behind_version,
+  refl,
+  (
+    0,
+    behind_zero,
+    refl,
+    (
+      0,
+      behind_one,
+      refl,
+      (0, behind_trunk, refl, (2, record_text two ++ rest, refl, (0, rest, refl, texts))),
+    ),
+  ),
+)
+  where
+    behind_trunk : List ℕ
+    behind_trunk = record_text old ++ (codes "\n\n" ++ (record_text two ++ rest))
+
+    behind_one : List ℕ
+    behind_one = record_text trunk ++ behind_trunk
+
+    behind_zero : List ℕ
+    behind_zero = record_text one ++ behind_one
+
+    behind_version : List ℕ
+    behind_version = record_text revision_0 ++ behind_zero
+
+-- the text has in place of each record what may stand there
+pub is_expanded : IsExpandedText records steads expansion
+unfolding digits
+is_expanded = record {
+  may = (refl, (refl, (refl, (refl, (refl, (refl, (refl, (refl, (refl, tt)))))))));
+  lfs = 0;
+  front = expansion;
+  spelled = refl;
+  texts = begun_texts (node_bytes file ++ (codes "\n\n" ++ joined (three ∷ branch ∷ [])))
+      (node_record 243 2 file ∷ three ∷ branch ∷ [])
+      (2, joined (three ∷ branch ∷ []), refl, (0, joined (branch ∷ []), refl, (0, [], refl, refl)));
+}
+
+-- what it makes
+
+abbrev pub adds_app : Change
+adds_app = file_of (path_of (codes "trunk/app")) [] (codes "text")
+
+abbrev pub expanded : List (List Change)
+expanded = (adds_trunk ∷ adds_old ∷ []) ∷ (adds_app ∷ []) ∷ (copies_trunk ∷ []) ∷ []
+
+makes_these : made_in_stead records steads revisions ≡ expanded
+makes_these = refl
+
+-- the branch at the first copy's source is the file alone
+pub source_branch : HasBranch first_tree (path_of (codes "trunk/old")) (Branch.File [] (codes "text"))
+source_branch [] = refl
+source_branch (name ∷ rest) = refl
+
+-- one change of a revision is expanded, and those behind it
+pub expand_first : (options : Settings) (history : History) (before after : Tree) (c : Change) (changes front rest : List Change)
+    → step history before c ≡ Some after → Expands options history before c front
+    → AllExpand options history after changes rest → AllExpand options history before (c ∷ changes) (front ++ rest)
+expand_first options history before after c changes front rest at expands more = (
+  front,
+  rest,
+  refl,
+  expands,
+  λ tree is.
+      let same : after ≡ tree = (let both : Some after ≡ Some tree = sym at ∙ is in cc) in
+      subst (λ t. AllExpand options history t changes rest) same more,
+)
+
+-- one revision is, and those behind it
+pub expand_revision : (options : Settings) (older : List Tree) (youngest tree : Tree) (changes front : List Change)
+    (more rest : List (List Change)) → steps (slice_get older) youngest changes ≡ Some tree
+    → AllExpand options (slice_get older) youngest changes front
+    → AllRevisionsExpand options (older ++ tree ∷ []) tree more rest
+    → AllRevisionsExpand options older youngest (changes ∷ more) (front ∷ rest)
+expand_revision options older youngest tree changes front more rest at all further = (
+  front,
+  rest,
+  refl,
+  all,
+  λ other is.
+      let same : tree ≡ other = (let both : Some tree ≡ Some other = sym at ∙ is in cc) in
+      subst (λ t. AllRevisionsExpand options (older ++ t ∷ []) t more rest) same further,
+)
+
+-- the expansions of the first revision's changes: both stay
+first_expands : AllExpand settings (slice_get (root_alone ∷ [])) root_alone (adds_trunk ∷ adds_old ∷ [])
+    (adds_trunk ∷ adds_old ∷ [])
+first_expands =
+    expand_first settings history root_alone begun_tree adds_trunk (adds_old ∷ []) (adds_trunk ∷ []) (adds_old ∷ []) refl
+    (separated_expands settings history root_alone adds_trunk
+    (λ after is. quiet_separates settings history root_alone after adds_trunk refl refl is))
+    (expand_first settings history begun_tree first_tree adds_old [] (adds_old ∷ []) [] refl
+    (separated_expands settings history begun_tree adds_old
+    (λ after is. quiet_separates settings history begun_tree after adds_old refl refl is)) refl)
+  where
+    history : History
+    history = slice_get (root_alone ∷ [])
+
+-- that of the copied file: it is written
+second_expands : Expands settings (slice_get (root_alone ∷ first_tree ∷ [])) first_tree copies_old (adds_app ∷ [])
+second_expands = kept_copy settings (slice_get (root_alone ∷ first_tree ∷ [])) first_tree first_tree copies_old 1
+    (path_of (codes "trunk/old")) (Branch.File [] (codes "text")) (Branch.File [] (codes "text")) (adds_app ∷ [])
+    (loaded_folders revisions trees 1 first_tree refl refl) refl refl refl source_branch refl refl
+    (inr ([], refl, refl))
+
+-- that of the copied directory: it stays
+third_expands : Expands settings (slice_get (root_alone ∷ first_tree ∷ second_tree ∷ [])) second_tree copies_trunk
+    (copies_trunk ∷ [])
+third_expands = separated_expands settings (slice_get (root_alone ∷ first_tree ∷ second_tree ∷ [])) second_tree
+    copies_trunk (λ after is. quiet_separates settings (slice_get (root_alone ∷ first_tree ∷ second_tree ∷ []))
+    second_tree after copies_trunk refl refl is)
+
+-- each change is replaced by an expansion of it
+pub expands : AllRevisionsExpand settings (root_alone ∷ []) root_alone revisions expanded
+expands =
+    expand_revision settings (root_alone ∷ []) root_alone first_tree (adds_trunk ∷ adds_old ∷ []) (adds_trunk ∷ adds_old ∷ [])
+    ((copies_old ∷ []) ∷ (copies_trunk ∷ []) ∷ []) ((adds_app ∷ []) ∷ (copies_trunk ∷ []) ∷ []) refl first_expands
+    (expand_revision settings (root_alone ∷ first_tree ∷ []) first_tree second_tree (copies_old ∷ []) (adds_app ∷ [])
+    ((copies_trunk ∷ []) ∷ []) ((copies_trunk ∷ []) ∷ []) refl
+    (expand_first settings (slice_get (root_alone ∷ first_tree ∷ [])) first_tree second_tree copies_old [] (adds_app ∷ []) []
+    refl second_expands refl)
+    (expand_revision settings (root_alone ∷ first_tree ∷ second_tree ∷ []) second_tree third_tree (copies_trunk ∷ [])
+    (copies_trunk ∷ []) [] [] refl
+    (expand_first settings (slice_get (root_alone ∷ first_tree ∷ second_tree ∷ [])) second_tree third_tree copies_trunk []
+    (copies_trunk ∷ []) [] refl third_expands refl)
+    refl))
+
+-- the records of the expanded form
+
+abbrev pub file_there : DumpRecord
+file_there = node_record 243 2 file
+
+abbrev pub three_there : DumpRecord
+three_there = record three { place = 380 }
+
+abbrev pub branch_there : DumpRecord
+branch_there = record branch { place = 400 }
+
+abbrev pub again : List DumpRecord
+again = version ∷ revision_0 ∷ one ∷ trunk ∷ old ∷ two ∷ file_there ∷ three_there ∷ branch_there ∷ []
+
+-- the text is these records to its end
+pub whole_again : HasRecords expansion again Ending.Whole
+unfolding digits
+whole_again = (
+  [],
+  begun_cut (node_bytes file ++ behind_file) (file_there ∷ three_there ∷ branch_there ∷ []) (
+    0,
+    node_bytes file ++ behind_file,
+    behind_file,
+    refl,
+    refl,
+    written_nodes_are_records file 6 243 2 behind_file can (lit< tt),
+    ended_cut 378 2,
+  ),
+  (refl, (refl, (refl, (refl, (refl, (refl, (refl, (refl, (refl, tt))))))))),
+  (refl, lit< tt),
+)
+  where
+    behind_file : List ℕ
+    behind_file = codes "\n\n" ++ joined (three ∷ branch ∷ [])
+
+-- siblings
+
+-- whether there is a rest of a path, and it has no name
+abbrev is_nothing_more : Option NodePath → Bool
+is_nothing_more None = false
+is_nothing_more (Some []) = true
+is_nothing_more (Some (name ∷ rest)) = false
+
+-- whether the path is one of these
+abbrev is_listed : List NodePath → NodePath → Bool
+is_listed paths path = list_any (λ other. is_nothing_more (below other path)) paths
+
+listed : (paths : List NodePath) (path : NodePath) → is_listed paths path ≡ true → Contains paths path
+listed [] path some = absurd (let bad : false ≡ true = some in cc)
+listed (other ∷ paths) path some =
+    elim (or_cases (is_nothing_more (below other path)) (is_listed paths path) some) [
+      | inl here ↦ (0, omega arith, cases (below other path) refl here)
+      | inr there ↦ let (k, low, is) = listed paths path there in (suc k, omega (arith, low), is)
+    ]
+  where
+    cases : (o : Option NodePath) → below other path ≡ o → is_nothing_more o ≡ true → other ≡ path
+    cases None at none = absurd (let bad : false ≡ true = none in cc)
+    cases (Some []) at is = sym (below_rest other path [] at ∙ append-nil other)
+    cases (Some (name ∷ rest)) at more = absurd (let bad : false ≡ true = more in cc)
+
+-- what holds of each name holds of one of them
+of_name : (test : List ℕ → Bool) (names : List (List ℕ)) (name : List ℕ) → list_all test names ≡ true
+    → list_any (λ other. bytes_eq other name) names ≡ true → test name ≡ true
+of_name test [] name all some = absurd (let bad : false ≡ true = some in cc)
+of_name test (first ∷ names) name all some =
+    let parts = and_parts (test first) (list_all test names) all in
+    elim (or_cases (bytes_eq first name) (list_any (λ other. bytes_eq other name) names) some) [
+      | inl here ↦ subst (λ n. test n ≡ true) ((bytes_eq-Decides first name).0 here) parts.0
+      | inr there ↦ of_name test names name parts.1 there
+    ]
+
+-- and what holds of each path of one of them
+of_path : (test : NodePath → Bool) (paths : List NodePath) (path : NodePath) → list_all test paths ≡ true
+    → Contains paths path → test path ≡ true
+of_path test [] path all (k, low, is) = absurd (omega (arith, low))
+of_path test (first ∷ paths) path all (zero, low, is) =
+    subst (λ p. test p ≡ true) is (and_parts (test first) (list_all test paths) all).0
+of_path test (first ∷ paths) path all (suc k, low, is) =
+    of_path test paths path (and_parts (test first) (list_all test paths) all).1
+    (k, (let less : k < length paths = omega (arith, low) in less), is)
+
+-- whether a name below the path is none of a sibling, or one of these siblings
+abbrev is_taken : NodePath → List ℕ → Bool
+is_taken path name = not (is_sibling included (path ++ name ∷ [])) || is_listed siblings (path ++ name ∷ [])
+
+-- whether all names are so that can stand below the path at the end of this revision
+abbrev are_taken : ℕ → NodePath → Bool
+are_taken number path = list_all (is_taken path)
+    (names_look (placed_from 1 revisions) (end_of (placed_from 1 revisions) number) path)
+
+-- they are the siblings in the dump's trees; they are found without its trees
+pub are_siblings : AreSiblings included trees siblings
+are_siblings = siblings_are_found included siblings revisions trees refl refl all
+  where
+    found : (number : ℕ) (path : NodePath) (name : List ℕ)
+        → list_all (are_taken number) ([] ∷ all_above included) ≡ true → is_above_included included path ≡ true
+        → CanStandBelow revisions number path name → is_sibling included (path ++ name ∷ []) ≡ true
+        → Contains siblings (path ++ name ∷ [])
+    found number path name taken above can sibling =
+        let here : are_taken number path ≡ true =
+        of_path (are_taken number) ([] ∷ all_above included) path taken (above_are_listed included path above) in
+        let one : is_taken path name ≡ true =
+        of_name (is_taken path) (names_look (placed_from 1 revisions) (end_of (placed_from 1 revisions) number) path) name
+        here can in
+        elim (or_cases (not (is_sibling included (path ++ name ∷ []))) (is_listed siblings (path ++ name ∷ [])) one) [
+          | inl none ↦ absurd (both_ways (is_sibling included (path ++ name ∷ [])) (not-true _ none) sibling)
+          | inr some ↦ listed siblings (path ++ name ∷ []) some
+        ]
+
+    all : (number : ℕ) (path : NodePath) (name : List ℕ) → number ≤ 3 → is_above_included included path ≡ true
+        → CanStandBelow revisions number path name → is_sibling included (path ++ name ∷ []) ≡ true
+        → Contains siblings (path ++ name ∷ [])
+    all zero path name low = found 0 path name refl
+    all (suc zero) path name low = found 1 path name refl
+    all (suc (suc zero)) path name low = found 2 path name refl
+    all (suc (suc (suc zero))) path name low = found 3 path name refl
+    all (suc (suc (suc (suc n)))) path name low = absurd (omega (arith, low))

@@ -1,0 +1,191 @@
+-- Dumps of which a part is taken: from the bytes of a dump through its expanded form to what is filtered of it, by
+-- excluded prefixes. What is written loads into a new repository, since above kept paths nothing has to be made.
+use Rattle.std.specs.Prelude.{◌≡◌, ℕ, Bool, true, not, ◌&&◌, ◌||◌, List, [], ◌∷◌, length, filter, Option, Some, slice_get, Contains, IsTrue}
+use Rattle.std.specs.List.{All, AllZip, list_all}
+use Rattle.dump_text.specs.PropertyList.{Property}
+use Rattle.dump_records.specs.DumpText.{Ending, HasRecords}
+use Rattle.dump_records.specs.RecordText.{DumpRecord}
+use Rattle.dump_rules.specs.declared.options.Side.TheVariants.{Exclude}
+use Rattle.dump_rules.specs.declared.options.Empty.TheVariants.{Pad}
+use Rattle.dump_rules.specs.Settings.{Settings}
+use Rattle.dump_rules.specs.Renumbering.{KeptRevisions, image}
+use Rattle.dump_rules.specs.Mergeinfo.{MergeLine, IsMergeinfo, mergeinfo_text}
+use Rattle.dump_rules.specs.Rewriting.{IsNewLine, nonempty_lines}
+use Rattle.dump_digest.specs.RecordParts.{is_mergeinfo, value_of}
+use Rattle.dump_filter.specs.FilterLaws.{LengthsFit}
+use Rattle.dump_filter.specs.Groups.{is_pad, kept_revisions}
+use Rattle.dump_filter.specs.NewContent.{IsNewProperty}
+use Rattle.dump_filter.specs.WholeText.{IsCleanText}
+use Rattle.dump_trees.specs.Paths.{NodePath, path_of, is_short, keeps}
+use Rattle.dump_trees.specs.Trees.{Node, Tree, root_alone}
+use Rattle.dump_trees.specs.Changes.{Change}
+use Rattle.dump_trees.specs.Restriction.{is_lost, IsRestricted}
+use Rattle.dump_trees.specs.Siblings.{is_in_cut, AreSiblings, ExcludesPaths, CoverNamed, HasNames}
+use Rattle.dump_trees.specs.Cuts.{IsCut}
+use Rattle.dump_trees.specs.ComingBack.{IsMadeByKept, NothingComesBack}
+use Rattle.dump_trees.specs.Expansions.{AllRevisionsExpand}
+use Rattle.dump_history.specs.RecordChanges.{Patching}
+use Rattle.dump_history.specs.DumpChanges.{MakeRevisions, HaveRevisionProperties, LoadsAs}
+use Rattle.dump_history.specs.NumberGaps.{MakeRevisionsWithGaps, KeepsNamedNumbers}
+use Rattle.dump_history.specs.DumpLaws.{keeps_numbering, RevisionsKeepProperties}
+use Rattle.dump_history.specs.ExpandedDumps.{Stead}
+use Rattle.dump_history.specs.ExpandedText.{IsExpandedText, made_in_stead}
+
+-- options under which what is written has no gap in its numbers: revisions are renumbered, or none is dropped
+abbrev pub leaves_no_gap : Settings → Bool
+leaves_no_gap settings = settings.renumber || is_pad settings.empty
+
+-- under them each revision that is named is found, whatever the dump
+abbrev pub NumbersAreKept : Type 0
+NumbersAreKept = (settings : Settings) (records : List DumpRecord) →
+    IsTrue (leaves_no_gap settings)
+    → KeepsNamedNumbers settings records × IsTrue (keeps_numbering settings records)
+
+-- the dump loads into a new repository, these are the records of its expanded form, and the text is what the filter
+-- writes of that form, where it answers cleanly
+pub record FiltersExpansion (patched : Patching) (settings : Settings) (dump : List ℕ) (records : List DumpRecord)
+    (revisions : List (List Change)) (trees : List Tree) (again : List DumpRecord) (filtered : List ℕ) : Type 0 where
+  pub has : HasRecords dump records Ending.Whole
+  pub loads : LoadsAs patched root_alone records revisions trees
+  pub steads : List Stead
+  pub text : List ℕ
+  pub expanded : IsExpandedText records steads text
+  pub expands : AllRevisionsExpand settings (root_alone ∷ []) root_alone revisions
+      (made_in_stead records steads revisions)
+  pub clean : IsCleanText settings text again filtered
+  pub fit : LengthsFit settings again
+
+-- a relation of the dump's trees to those of what is written
+abbrev pub TreeRelation : Type 1
+TreeRelation = Tree → Tree → Type 0
+
+-- at a kept path stands what stood there, with the properties that the filter writes, and elsewhere only what is given
+abbrev pub TreeRestricts : Settings → List DumpRecord → TreeRelation
+TreeRestricts settings records = IsRestricted settings (IsNewProperty settings (kept_revisions settings records))
+
+-- the same of the included paths, what is below them and the directories above
+abbrev pub TreeIsCut : Settings → List NodePath → List DumpRecord → TreeRelation
+TreeIsCut settings included records = IsCut included (IsNewProperty settings (kept_revisions settings records))
+
+-- the tree at the image of each number has this relation to the tree there
+abbrev pub ImagesRelate : TreeRelation → (ℕ → Option ℕ) → List Tree → List Tree → Type 0
+ImagesRelate Relates image_of trees others = (number : ℕ) (tree : Tree) → slice_get trees number ≡ Some tree →
+    (new : ℕ) × (other : Tree) × (image_of number ≡ Some new) × (slice_get others new ≡ Some other)
+    × Relates tree other
+
+-- the text is a dump that loads into a new repository: it has a revision for each kept one of these records, with its
+-- properties, and the trees at the images of the numbers have this relation to these trees
+abbrev pub LoadsNew : Patching → Settings → TreeRelation → List DumpRecord → List Tree → List ℕ → Type 0
+LoadsNew patched settings Relates records trees text =
+    (again : List DumpRecord) × (written : List (List Change)) × (others : List Tree)
+    × HasRecords text again Ending.Whole
+    × LoadsAs patched root_alone again written others
+    × (length others ≡ length (kept_revisions settings records).numbers)
+    × ImagesRelate Relates (image (kept_revisions settings records)) trees others
+    × RevisionsKeepProperties settings records again
+
+-- the text is a dump that loads into a new repository: it has each revision of these records under its own number, with
+-- its properties, and the trees have this relation to these trees
+abbrev pub LoadsNumbered : Patching → TreeRelation → List DumpRecord → List Tree → List ℕ → Type 0
+LoadsNumbered patched Relates records trees text =
+    (again : List DumpRecord) × (written : List (List Change)) × (others : List Tree)
+    × HasRecords text again Ending.Whole
+    × LoadsAs patched root_alone again written others
+    × AllZip Relates trees others
+    × ((props : List (List Property)) → HaveRevisionProperties records props → HaveRevisionProperties again props)
+
+-- what is filtered of a dump by excluded prefixes loads into a new repository, and has the restricted trees
+abbrev pub ExcludedDumpLoads : Type 0
+ExcludedDumpLoads = (patched : Patching) (settings : Settings) (dump filtered : List ℕ)
+    (records again : List DumpRecord) (revisions : List (List Change)) (trees : List Tree) →
+    FiltersExpansion patched settings dump records revisions trees again filtered
+    → settings.side ≡ Exclude → IsTrue (leaves_no_gap settings)
+    → LoadsNew patched settings (TreeRestricts settings again) again trees filtered
+
+-- where no revision is dropped or emptied, each has its own number and properties
+abbrev pub ExcludedDumpLoadsNumbered : Type 0
+ExcludedDumpLoadsNumbered = (patched : Patching) (settings : Settings) (dump filtered : List ℕ)
+    (records again : List DumpRecord) (revisions : List (List Change)) (trees : List Tree) →
+    FiltersExpansion patched settings dump records revisions trees again filtered
+    → settings.side ≡ Exclude → settings.empty ≡ Pad → settings.preserve ≡ true
+    → LoadsNumbered patched (TreeRestricts settings again) records trees filtered
+
+-- what is filtered by the siblings of included paths in the dump's trees has the cuts of these trees
+abbrev pub CutDumpLoads : Type 0
+CutDumpLoads = (patched : Patching) (settings : Settings) (included siblings : List NodePath) (dump filtered : List ℕ)
+    (records again : List DumpRecord) (revisions : List (List Change)) (trees : List Tree) →
+    FiltersExpansion patched settings dump records revisions trees again filtered
+    → ExcludesPaths settings siblings → AreSiblings included trees siblings → IsTrue (leaves_no_gap settings)
+    → LoadsNew patched settings (TreeIsCut settings included again) again trees filtered
+
+-- and so under its own numbers
+abbrev pub CutDumpLoadsNumbered : Type 0
+CutDumpLoadsNumbered = (patched : Patching) (settings : Settings) (included siblings : List NodePath)
+    (dump filtered : List ℕ) (records again : List DumpRecord) (revisions : List (List Change)) (trees : List Tree) →
+    FiltersExpansion patched settings dump records revisions trees again filtered
+    → ExcludesPaths settings siblings → AreSiblings included trees siblings
+    → settings.empty ≡ Pad → settings.preserve ≡ true
+    → LoadsNumbered patched (TreeIsCut settings included again) records trees filtered
+
+-- the names in the paths of a dump that loads are names of nodes, so they are in its trees
+abbrev pub LoadedDumpsHaveNames : Type 0
+LoadedDumpsHaveNames = (patched : Patching) (records : List DumpRecord) (revisions : List (List Change))
+    (trees : List Tree) (number : ℕ) (tree : Tree) →
+    LoadsAs patched root_alone records revisions trees → slice_get trees number ≡ Some tree → HasNames tree
+
+-- kept changes of the dump by themselves have made the text of each file
+abbrev pub TextsAreKept : Settings → List (List Change) → Tree → Type 0
+TextsAreKept settings revisions tree = (path : NodePath) (props : List Property) (text : List ℕ) →
+    tree path ≡ Some (Node.File props text) → IsMadeByKept settings revisions text
+
+-- so it is in the trees of what is written, where nothing comes back
+abbrev pub WrittenTextsAreKept : Type 0
+WrittenTextsAreKept = (patched : Patching) (settings : Settings) (dump filtered : List ℕ)
+    (records again : List DumpRecord) (revisions : List (List Change)) (trees : List Tree) (number : ℕ)
+    (tree other : Tree) →
+    FiltersExpansion patched settings dump records revisions trees again filtered
+    → settings.side ≡ Exclude → NothingComesBack settings trees revisions
+    → slice_get trees number ≡ Some tree → TreeRestricts settings again tree other
+    → TextsAreKept settings revisions other
+
+-- and so in the cuts
+abbrev pub CutTextsAreKept : Type 0
+CutTextsAreKept = (patched : Patching) (settings : Settings) (included siblings : List NodePath)
+    (dump filtered : List ℕ) (records again : List DumpRecord) (revisions : List (List Change)) (trees : List Tree)
+    (number : ℕ) (tree other : Tree) →
+    FiltersExpansion patched settings dump records revisions trees again filtered
+    → ExcludesPaths settings siblings → AreSiblings included trees siblings
+    → NothingComesBack settings trees revisions
+    → slice_get trees number ≡ Some tree → TreeIsCut settings included again tree other
+    → TextsAreKept settings revisions other
+
+-- whether the change's path is kept, and so is its source, where it makes a copy
+abbrev pub tells_kept_paths : Settings → Change → Bool
+tells_kept_paths settings c = keeps settings c.path && not (is_lost settings c.made)
+
+-- the text is a dump whose changes name kept paths alone, as their own and as sources of copies
+abbrev pub TellsKeptPaths : Patching → Settings → List ℕ → Type 0
+TellsKeptPaths patched settings text = (again : List DumpRecord) × (written : List (List Change))
+    × HasRecords text again Ending.Whole × MakeRevisionsWithGaps patched again written
+    × IsTrue (list_all (λ changes. list_all (tells_kept_paths settings) changes) written)
+
+-- so does what the filter writes of a dump, be it separated or not: no node is left at an excluded path, also where
+-- revisions show none
+abbrev pub FilteredDumpsTellKeptPaths : Type 0
+FilteredDumpsTellKeptPaths = (patched : Patching) (settings : Settings) (dump text : List ℕ)
+    (records : List DumpRecord) (revisions : List (List Change)) →
+    IsCleanText settings dump records text → LengthsFit settings records → KeepsNamedNumbers settings records
+    → MakeRevisions patched records revisions → TellsKeptPaths patched settings text
+
+-- mergeinfo whose sources are named: what the filter writes of it, where the siblings are excluded, has the lines of those
+-- sources that are in the cut, and no others
+abbrev pub CutMergeinfoStays : Type 0
+CutMergeinfoStays = (settings : Settings) (included named siblings : List NodePath) (kept : KeptRevisions)
+    (old new : Property) (lines : List MergeLine) →
+    ExcludesPaths settings siblings → CoverNamed included named siblings
+    → IsNewProperty settings kept old new → IsTrue (is_mergeinfo old) → IsMergeinfo (value_of old) lines
+    → All (λ (line : MergeLine). IsTrue (is_short line.path) × Contains named (path_of line.path)) lines
+    → (new_lines : List MergeLine)
+    × AllZip (IsNewLine settings kept)
+    (filter (λ (line : MergeLine). is_in_cut included (path_of line.path)) lines) new_lines
+    × (new.value ≡ Some (mergeinfo_text (nonempty_lines new_lines)))
