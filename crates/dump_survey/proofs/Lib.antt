@@ -1,5 +1,4 @@
 mod Prelude
-pub mod ActionLemmas
 pub mod CutLemmas
 mod CutValues
 pub mod DigestLemmas
@@ -15,13 +14,10 @@ mod LeftOutValues
 pub mod LineLemmas
 pub mod LossLemmas
 pub mod MergeinfoLemmas
-pub mod NameLemmas
 pub mod NamedLemmas
 pub mod NeedLemmas
-pub mod NodeLemmas
 pub mod NumberLemmas
 pub mod PlaceLemmas
-pub mod PlainLemmas
 pub mod PrefixLemmas
 mod PrefixValues
 pub mod RefusedLemmas

@@ -96,7 +96,6 @@ pub use Rattle.dump_survey.specs.SurveyEnds.{survey_ending}
 pub use Rattle.dump_survey.specs.SurveyText.{BreaksOffSurvey, FindsNothing, IsSurveyText, survey_lines}
 pub use Rattle.dump_survey.specs.SurveyTies.{EachCutNamesPrefix, SilentSurveyRestricts, SilentTextLeavesDigests, SilentTextRestricts, ToldAreFindings, ToldOnce, all_findings, is_digest_fault, none_told, tells_cut}
 pub use Rattle.dump_survey.specs.Told.{AreTold, IsToldOf, IsToldOfNode, NodeTold, present_after, told_in, told_naming, told_view}
-pub use Rattle.dump_survey.specs.steps.Actions.{action_named, is_deleting, is_known_action, is_making}
 pub use Rattle.dump_survey.specs.steps.Counts.{AreWithNode, count_in, no_counts}
 pub use Rattle.dump_survey.specs.steps.Folders.{BeginSame, HaveSame}
 pub use Rattle.dump_survey.specs.steps.Found.{AreFaultsBy, IsFoundIn, has_found, listed, node_faults}
@@ -104,7 +103,6 @@ pub use Rattle.dump_survey.specs.steps.IdlePrefixes.{AreIdle, AreWithout, is_amo
 pub use Rattle.dump_survey.specs.steps.KeptNumbers.{AreKeptIn, ended_numbers, kept_view, numbers_before}
 pub use Rattle.dump_survey.specs.steps.LeftOutCounts.{properties_count, property_count, text_lines_count, value_count}
 pub use Rattle.dump_survey.specs.steps.Losses.{AreLossesOf}
-pub use Rattle.dump_survey.specs.steps.Names.{are_short_from, is_whole, name_with}
 pub use Rattle.dump_survey.specs.steps.Naming.{LeaveNumber, is_behind_dropped, leave_number, leaves_number}
 pub use Rattle.dump_survey.specs.steps.Needs.{AreNeeded, Grown, IsPass, PathNeed, can_not_stand, copy_need, each_matches_itself, grown_prefixes, is_matched, is_unmet, need_of, need_view, needs_of, unmatched}
 pub use Rattle.dump_survey.specs.steps.Places.{AreNextPlaces, first_place, no_places}
@@ -142,16 +140,12 @@ pub use Rattle.dump_survey.specs.declared.finding.Losses.{Losses}
 pub use Rattle.dump_survey.specs.declared.finding.NodeFinding.{NodeFinding}
 pub use Rattle.dump_survey.specs.declared.map.KeptNumbers.{KeptNumbers}
 pub use Rattle.dump_survey.specs.declared.needs.Need.{Need}
-pub use Rattle.dump_survey.specs.declared.node_headers.Action.{Action}
-pub use Rattle.dump_survey.specs.declared.node_headers.Action.TheVariants.{Add, Change, Delete, Replace, Unknown}
 pub use Rattle.dump_survey.specs.declared.places.DumpPlaces.{DumpPlaces}
 pub use Rattle.dump_survey.specs.declared.places.Place.{Place}
 pub use Rattle.dump_survey.specs.declared.prefix_findings.PrefixFinding.{PrefixFinding}
 pub use Rattle.dump_survey.specs.declared.prefix_findings.PrefixFinding.TheVariants.{Idle, NotShort}
 pub use Rattle.dump_survey.specs.declared.prefix_findings.ToldPrefix.{ToldPrefix}
 pub use Rattle.dump_survey.specs.declared.revision_numbers.Numbers.{Numbers}
-pub use Rattle.dump_survey.specs.declared.short_paths.Name.{Name}
-pub use Rattle.dump_survey.specs.declared.short_paths.Name.TheVariants.{Dot}
 pub use Rattle.dump_survey.specs.declared.surveyor.End.{End}
 pub use Rattle.dump_survey.specs.declared.surveyor.Step.{Step}
 pub use Rattle.dump_survey.specs.declared.surveyor.Step.TheVariants.{Finished, Node}

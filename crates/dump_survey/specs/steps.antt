@@ -1,4 +1,3 @@
-pub mod Actions
 pub mod Counts
 pub mod Folders
 pub mod Found
@@ -6,7 +5,6 @@ pub mod IdlePrefixes
 pub mod KeptNumbers
 pub mod LeftOutCounts
 pub mod Losses
-pub mod Names
 pub mod Naming
 pub mod Needs
 pub mod Places

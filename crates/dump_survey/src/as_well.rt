@@ -5,7 +5,7 @@ ghost use Rattle.dump_survey.specs.KeepAsWell.{AreKeptAsWellIn, uncovered};
 use crate::growth::wanted_paths;
 use crate::needs::needs_in;
 use crate::prefix_set::PrefixSet;
-use crate::slashes::bare_prefix;
+use dump_nodes::bare_prefix;
 use dump_rules::{Memory, Options, Side};
 use std::alloc::Global;
 

@@ -10,9 +10,9 @@ ghost use Rattle.dump_history.specs.NumberGaps.{NamesRevision, SetsMergeinfo};
 ghost use Rattle.dump_history.specs.steps.NamingTests.{TellsNaming};
 ghost use Rattle.dump_survey.specs.steps.Naming.{leaves_number};
 
-use crate::node::makes_copy;
 use crate::tally::Tally;
 use dump_digest::{is_mergeinfo, properties_of};
+use dump_nodes::makes_copy;
 use dump_records::Record;
 use dump_rules::Options;
 use dump_text::Props;

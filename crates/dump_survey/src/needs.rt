@@ -6,9 +6,8 @@ ghost use Rattle.dump_records.specs.steps.RecordViews.{record_item};
 ghost use Rattle.dump_survey.specs.KeepAsWell.{matches_itself};
 ghost use Rattle.dump_survey.specs.steps.Needs.{can_not_stand, need_of, need_view, needs_of};
 
-use crate::node::{copy_path_of, is_copy, is_whole_file, path_of};
 use crate::prefixes::begins_path;
-use crate::slashes::{bare_path, bare_prefix};
+use dump_nodes::{bare_path, bare_prefix, copy_path_of, is_copy, is_whole_file, path_of};
 use dump_records::{Cut, Cutter, Record};
 use dump_rules::{Memory, Side};
 use std::alloc::Global;

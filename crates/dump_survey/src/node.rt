@@ -1,88 +1,28 @@
 //! What is found in a node.
-ghost use Rattle.std.specs.Prelude.{◌≡◌, ◌&&◌, List, Option, [], IfOk, IsTrue, IsFalse, map, not, unwrap_or};
-ghost use Rattle.std.specs.List.{list_all};
-ghost use Rattle.dump_text.specs.Names.{copy_revision_name};
-ghost use Rattle.dump_text.specs.HeaderLine.{has_byte};
+ghost use Rattle.std.specs.Prelude.{◌≡◌, List, Option, IfOk, IsTrue, IsFalse, map};
 ghost use Rattle.dump_text.specs.PropertyList.{Property};
-ghost use Rattle.dump_records.specs.HeaderRules.{header_number};
 ghost use Rattle.dump_records.specs.steps.RecordViews.{record_item};
 ghost use Rattle.dump_rules.specs.Prefix.{bare_prefix};
-ghost use Rattle.dump_digest.specs.RecordParts.{is_copy, is_node, node_path};
+ghost use Rattle.dump_digest.specs.RecordParts.{is_copy, is_node};
 ghost use Rattle.dump_digest.specs.steps.ContentViews.{ArePropertiesOf};
-ghost use Rattle.dump_filter.specs.NewHeaders.{is_whole_file};
-ghost use Rattle.dump_history.specs.RecordChanges.{copy_path, has_plain_texts};
-ghost use Rattle.dump_history.specs.Findings.{has_kept_path, has_kept_source, is_exclude, makes_copy, IsReadBlock};
-ghost use Rattle.dump_survey.specs.steps.Actions.{IsActionOf};
+ghost use Rattle.dump_history.specs.Findings.{has_kept_path, has_kept_source, is_exclude, IsReadBlock};
+ghost use Rattle.dump_nodes.specs.steps.Actions.{IsActionOf};
 ghost use Rattle.dump_survey.specs.steps.Found.{IsFoundIn};
 ghost use Rattle.dump_survey.specs.steps.Losses.{AreObstaclesOf, AreLossesOf};
 
 use crate::finding::{Found, Losses, Obstacles};
-use crate::node_headers::{Action, action_of, has_odd_delta};
-use crate::plain::{are_lines_plain, are_names_plain};
 use crate::prefixes::Prefixes;
 use crate::refused::{Refused, refused_of};
 use crate::revision_numbers::Numbers;
-use crate::short_paths::is_short;
 use dump_digest::properties_of;
+use dump_nodes::{
+    Action, action_of, copy_path_of, has_odd_delta, has_plain_texts, is_copy, is_whole_file,
+    path_of,
+};
 use dump_records::Record;
 use dump_rules::{Memory, Options, Side, keeps};
 use dump_text::Props;
 use std::alloc::Global;
-
-/// The path of a node.
-pub(crate) fn path_of<'a>(item: &Record<'a>) -> &'a [u8]
-    ensures { result.now ≡ node_path (record_item item.now) }
-{
-    match item.path() {
-        Some(path) => path,
-        None => &[],
-    }
-}
-
-/// The path that a node is copied from; no bytes where it is no copy.
-pub(crate) fn copy_path_of<'a>(item: &Record<'a>) -> &'a [u8]
-    requires { IsTrue (is_node (record_item item.now)) }
-    ensures { result.now ≡ copy_path (record_item item.now) }
-{
-    match item.copy_path() {
-        Some(path) => path,
-        None => &[],
-    }
-}
-
-/// The number of the revision that a node is copied from; 0 where it is no copy.
-pub(crate) fn copy_revision_of(item: &Record<'_>) -> u64
-    requires { IsTrue (is_node (record_item item.now)) }
-    ensures { result ≡ unwrap_or (header_number copy_revision_name (record_item item.now).headers) 0 }
-{
-    match item.copy_revision() {
-        Some(number) => number,
-        None => 0,
-    }
-}
-
-/// Whether no zero byte stands in the names of the record's properties, which may be no block.
-fn are_properties_plain(item: &Record<'_>, props: &Option<Props<'_>>) -> bool
-    requires { ArePropertiesOf (record_item item.now) props.now }
-    ensures { (ps : Option (List Property)) → IsReadBlock (record_item item.now) ps
-        → result ≡ list_all (λ (p : Property). not (has_byte 0 p.name)) (unwrap_or ps []) }
-{
-    match props {
-        Some(props) => are_names_plain(props),
-        None => true,
-    }
-}
-
-/// Whether the load reads the texts of a node, with these properties, as they stand.
-fn has_plain_texts(item: &Record<'_>, props: &Option<Props<'_>>) -> bool
-    requires node { IsTrue (is_node (record_item item.now)) }
-    requires props { ArePropertiesOf (record_item item.now) props.now }
-    ensures { (ps : Option (List Property)) → IsReadBlock (record_item item.now) ps
-        → result ≡ has_plain_texts (record_item item.now) (unwrap_or ps []) }
-{
-    let are_names = are_properties_plain(item, props);
-    are_lines_plain(item) & are_names & is_short(path_of(item)) & is_short(copy_path_of(item))
-}
 
 /// What keeps a node with this action and these properties from making a change that can be told.
 fn obstacles_of(item: &Record<'_>, action: Action, props: &Option<Props<'_>>) -> Obstacles
@@ -98,29 +38,6 @@ fn obstacles_of(item: &Record<'_>, action: Action, props: &Option<Props<'_>>) ->
         unknown_action: !action.is_known(),
         odd_text: !has_plain_texts(item, props),
     }
-}
-
-/// Whether the node is a file with its text and its properties, neither of them a delta.
-pub(crate) fn is_whole_file(item: &Record<'_>) -> bool
-    ensures { result ≡ is_whole_file (record_item item.now) }
-{
-    item.is_file() && item.has_text() && !item.text_delta() && !item.prop_delta()
-}
-
-/// Whether the node makes a copy.
-pub(crate) fn makes_copy(item: &Record<'_>) -> bool
-    requires { IsTrue (is_node (record_item item.now)) }
-    ensures { result ≡ makes_copy (record_item item.now) }
-{
-    is_copy(item) && action_of(item).makes()
-}
-
-/// Whether the node has a copy source.
-pub(crate) fn is_copy(item: &Record<'_>) -> bool
-    requires { IsTrue (is_node (record_item item.now)) }
-    ensures { result ≡ is_copy (record_item item.now) }
-{
-    item.copy_path().is_some()
 }
 
 /// Whether prefixes are excluded.

@@ -4,10 +4,10 @@ ghost use Rattle.dump_records.specs.steps.RecordViews.{record_item};
 ghost use Rattle.dump_survey.specs.PrefixFindings.{prefix_view};
 ghost use Rattle.dump_survey.specs.steps.IdlePrefixes.{AreWithout, finding_by, is_begun_by, is_below_copy, is_touched_by, prefixes_by};
 
-use crate::node::{copy_path_of, is_copy, makes_copy, path_of};
 use crate::prefix_set::PrefixSet;
-use crate::short_paths::is_short;
-use crate::slashes::{bare_path, bare_prefix};
+use dump_nodes::{
+    bare_path, bare_prefix, copy_path_of, is_canonical, is_copy, makes_copy, path_of,
+};
 use dump_records::Record;
 use dump_rules::Memory;
 use std::alloc::Global;
@@ -70,7 +70,7 @@ fn finding_in(idle: &PrefixSet, prefix: &[u8]) -> Option<PrefixFinding>
     ensures { result ≡ finding_by idle.now prefix.now }
 {
     let bare = bare_prefix(prefix);
-    if !is_short(bare) {
+    if !is_canonical(bare) {
         return Some(PrefixFinding::NotShort);
     }
     if idle.has(bare) {

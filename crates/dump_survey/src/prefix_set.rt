@@ -6,7 +6,7 @@ ghost use Rattle.dump_survey.specs.steps.Folders.{BeginSame, HaveSame};
 ghost use Rattle.dump_survey.specs.steps.IdlePrefixes.{AreWithout, is_among};
 
 use crate::prefixes::begins_path;
-use crate::slashes::bare_prefix;
+use dump_nodes::bare_prefix;
 use dump_rules::Memory;
 use std::alloc::Global;
 use std::collections::BTreeSet;

@@ -11,9 +11,9 @@ ghost use Rattle.dump_history.specs.steps.NodeReading.{copy_faults, faults_read,
 ghost use Rattle.dump_survey.specs.steps.Found.{AreFaultsBy, node_faults};
 ghost use Rattle.dump_survey.specs.steps.RevisionNumbers.{misses_revision};
 
-use crate::node::{copy_path_of, is_copy, is_whole_file};
 use crate::revision_numbers::Numbers;
 use dump_digest::is_mergeinfo;
+use dump_nodes::{copy_path_of, is_copy, is_whole_file};
 use dump_records::Record;
 use dump_rules::{Merged, Options, keeps};
 use dump_text::{Entry, Props};

@@ -8,8 +8,8 @@ ghost use Rattle.dump_survey.specs.steps.Tally.{first_with, is_above_last, least
 ghost use Rattle.dump_survey.specs.steps.Naming.{is_behind_dropped};
 ghost use Rattle.dump_survey.specs.DumpFindings.{has_dump_finding, listed_findings};
 
-use crate::node::{copy_revision_of, makes_copy};
 use crate::revision_numbers::Numbers;
+use dump_nodes::{copy_revision_of, makes_copy};
 use dump_records::Record;
 use dump_rules::{Empty, Options};
 

@@ -7,7 +7,7 @@ ghost use Rattle.dump_survey.specs.Told.{told_view};
 ghost use Rattle.dump_survey.specs.steps.Surveyed.{told_of_finding, told_of_node};
 
 use crate::finding::{EVERY_FINDING, Found, NodeFinding};
-use crate::node::{copy_path_of, copy_revision_of, path_of};
+use dump_nodes::{copy_path_of, copy_revision_of, path_of};
 use dump_records::Record;
 use dump_rules::Memory;
 

@@ -1,0 +1,33 @@
+//! What the record of a node says of its change.
+//!
+//! [`action_of`] reads what the node does at its path, [`path_of`], [`copy_path_of`] and [`copy_revision_of`] where it does
+//! so, and [`kind_of`] and [`is_whole_file`] what it is. [`has_plain_texts`] and [`has_odd_delta`] find the nodes whose
+//! change isn't modelled. [`is_canonical`], [`bare_path`] and [`bare_prefix`] are about paths and prefixes as texts.
+//!
+//! ```
+//! let action = action_of(item);
+//! let path = bare_path(path_of(item));
+//! let source = bare_path(copy_path_of(item));
+//! action.makes() && !action.deletes() && path == B && source == A && copy_revision_of(item) == 1
+//! ```
+//!
+//! `tests::is_copied` runs this on a node that copies `a` of revision 1 to `b`; `A` and `B` are these paths.
+//!
+//! A record is asked for lines by their names; each question takes a search through the lines, but for those that the
+//! cutter kept. Nothing is allocated.
+#![tactic(auto)]
+
+mod action;
+mod canonical_path;
+mod node;
+mod plain_texts;
+mod slashes;
+
+pub use action::{Action, action_of, has_odd_delta, kind_of};
+pub use canonical_path::is_canonical;
+pub use node::{copy_path_of, copy_revision_of, is_copy, is_whole_file, makes_copy, path_of};
+pub use plain_texts::has_plain_texts;
+pub use slashes::{bare_path, bare_prefix};
+
+#[cfg(test)]
+mod tests;

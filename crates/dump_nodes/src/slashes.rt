@@ -1,0 +1,42 @@
+//! The slashes at the ends of paths and prefixes, which don't count.
+ghost use Rattle.std.specs.Prelude.{◌≡◌};
+ghost use Rattle.dump_rules.specs.Prefix.{without_leading_slashes, without_trailing_slashes, bare_prefix, bare_path};
+
+/// The path without one leading slash, if it has one. A dump may spell paths either way.
+pub fn bare_path(path: &[u8]) -> &[u8]
+    ensures { result.now ≡ bare_path path.now }
+{
+    match path {
+        [b'/', rest @ ..] => rest,
+        _ => path,
+    }
+}
+
+/// The text without the slashes at its front.
+fn behind_slashes(text: &[u8]) -> &[u8]
+    ensures { result.now ≡ without_leading_slashes text.now }
+{
+    let mut rest = text;
+    while let [b'/', behind @ ..] = rest {
+        rest = behind;
+    }
+    rest
+}
+
+/// The text without the slashes at its end.
+fn before_slashes(text: &[u8]) -> &[u8]
+    ensures { result.now ≡ without_trailing_slashes text.now }
+{
+    let mut rest = text;
+    while let [before @ .., b'/'] = rest {
+        rest = before;
+    }
+    rest
+}
+
+/// The prefix without the slashes at both its ends: the filter compares prefixes so.
+pub fn bare_prefix(prefix: &[u8]) -> &[u8]
+    ensures { result.now ≡ bare_prefix prefix.now }
+{
+    before_slashes(behind_slashes(prefix))
+}

@@ -1,0 +1,80 @@
+//! Each call once: on a node that copies, on one that replaces a file, and on paths that aren't canonical.
+ghost use Rattle.std.specs.Prelude.{IsTrue};
+ghost use Rattle.dump_records.specs.steps.RecordViews.{record_item};
+ghost use Rattle.dump_digest.specs.RecordParts.{is_node};
+
+use super::*;
+use dump_digest::properties_of;
+use dump_records::{Cut, Cutter, Record, RecordKind};
+use std::test::Fail;
+
+const COPY: &[u8] = b"SVN-fs-dump-format-version: 2\n\n\
+Node-path: b\nNode-kind: dir\nNode-action: add\nNode-copyfrom-rev: 1\nNode-copyfrom-path: a\n\n\n";
+
+const A: &[u8] = b"a";
+
+const B: &[u8] = b"b";
+
+const FILE_KIND: &[u8] = b"file";
+
+const FILE: &[u8] = b"SVN-fs-dump-format-version: 2\n\n\
+Node-path: /a//f\nNode-kind: file\nNode-action: replace\nText-content-length: 1\nContent-length: 1\n\nx\n\n";
+
+/// The second record of a dump.
+fn second(dump: &[u8]) -> Option<Record<'_>> {
+    let mut cutter = Cutter::new(dump);
+    let _ = cutter.next();
+    match cutter.next() {
+        Cut::Item(item) => Some(item),
+        _ => None,
+    }
+}
+
+/// Whether the node copies `a` of revision 1 to `b`.
+fn is_copied(item: &Record<'_>) -> bool
+    requires { IsTrue (is_node (record_item item.now)) }
+{
+    let action = action_of(item);
+    let path = bare_path(path_of(item));
+    let source = bare_path(copy_path_of(item));
+    action.makes() && !action.deletes() && path == B && source == A && copy_revision_of(item) == 1
+}
+
+/// Whether the node replaces a file, with its whole text, at a path that isn't canonical.
+fn is_replaced(item: &Record<'_>) -> bool
+    requires { IsTrue (is_node (record_item item.now)) }
+{
+    let plain = has_plain_texts(item, &properties_of(item));
+    action_of(item) == Action::Replace
+        && kind_of(item) == FILE_KIND
+        && is_whole_file(item)
+        && !plain
+}
+
+#[test]
+fn copies_are_read(rt: HostRuntime) -> Result<(), Fail> {
+    let item = second(COPY).ok_or("no record")?;
+    let read = match item.kind() {
+        RecordKind::Node => is_copied(&item) && makes_copy(&item) && !has_odd_delta(&item),
+        _ => false,
+    };
+    assert!(rt; read);
+    Ok(())
+}
+
+#[test]
+fn files_are_read(rt: HostRuntime) -> Result<(), Fail> {
+    let item = second(FILE).ok_or("no record")?;
+    let read = match item.kind() {
+        RecordKind::Node => is_replaced(&item) && !is_copy(&item),
+        _ => false,
+    };
+    assert!(rt; read);
+    Ok(())
+}
+
+#[test]
+fn slashes_at_the_ends_do_not_count(rt: HostRuntime) {
+    assert!(rt; bare_prefix(b"//a/") == A && bare_path(b"/b") == B);
+    assert!(rt; is_canonical(b"/a/b") && !is_canonical(b"a/./b") && !is_canonical(b"a/"));
+}

@@ -1,7 +1,0 @@
-use Rattle.dump_survey.proofs.Prelude.{◌∙◌, record_item}
-use Rattle.dump_survey.proofs.NodeLemmas.{copy_there}
-use Rattle.dump_survey.proofs.node.is_copy.Goals as goal
-
-pub returns : goal.returns
-returns c = c.is_some.ensures
-    ∙ copy_there (record_item c.args.item.now) c.copy_path.result c.requires c.copy_path.ensures.value

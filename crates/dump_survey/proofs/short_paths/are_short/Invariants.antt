@@ -1,9 +1,0 @@
-use Rattle.dump_survey.proofs.Prelude.{◌≡◌, length, are_short_from}
-use Rattle.dump_survey.specs.declared.short_paths.Name.TheVariants.{Empty}
-use Rattle.dump_survey.proofs.short_paths.are_short.Given as goal
-
-abbrev pub invariant-loop-rest : goal.invariant-loop-rest
-invariant-loop-rest l = are_short_from Empty l.text ≡ are_short_from l.name l.rest
-
-abbrev pub decreases-loop-rest : goal.decreases-loop-rest
-decreases-loop-rest l = length l.rest
