@@ -9,15 +9,15 @@ use Rattle.dump_trees.proofs.expansions.LookLemmas.{count_cons, count_none, orig
 -- the order of changes
 
 -- whether no change of these is of a revision before this one
-abbrev AreFrom : ℕ → List Placed → Type 0
+abbrev pub AreFrom : ℕ → List Placed → Type 0
 AreFrom number placed = list_all (λ (p : Placed). nat_le number p.revision) placed ≡ true
 
 -- the revisions of changes rise
-abbrev Rise : List Placed → Type 0
+abbrev pub Rise : List Placed → Type 0
 Rise [] = Rattle.std.specs.Prelude.⊤
 Rise (p ∷ placed) = AreFrom p.revision placed × Rise placed
 
-from_more : (number other : ℕ) → number ≤ other → (placed : List Placed) → AreFrom other placed → AreFrom number placed
+pub from_more : (number other : ℕ) → number ≤ other → (placed : List Placed) → AreFrom other placed → AreFrom number placed
 from_more number other low [] are = refl
 from_more number other low (p ∷ placed) are =
     let parts = and_parts (nat_le other p.revision) (list_all (λ (q : Placed). nat_le other q.revision) placed) are in
@@ -99,7 +99,7 @@ ends_before (q ∷ placed) rise (suc place) p at number low =
     at_most false = omega arith
 
 -- copies look back
-abbrev LooksBack : List Placed → Type 0
+abbrev pub LooksBack : List Placed → Type 0
 LooksBack placed = (place : ℕ) (p : Placed) → slice_get placed place ≡ Some p → (number : ℕ) (source : NodePath)
     → p.change.made ≡ Some (Made.Copied number source) → end_of placed number ≤ place
 
@@ -113,7 +113,7 @@ back_at (q ∷ placed) back zero p at =
 back_at (q ∷ placed) back (suc place) p at =
     back_at placed (and_parts (is_of_before q.revision q.change.made) (copies_back placed) back).1 place p at
 
-looks_back : (placed : List Placed) → Rise placed → copies_back placed ≡ true → LooksBack placed
+pub looks_back : (placed : List Placed) → Rise placed → copies_back placed ≡ true → LooksBack placed
 looks_back placed rise back place p at number source is =
     ends_before placed rise place p at number
     (ltb-true number p.revision
@@ -185,7 +185,7 @@ module _ (placed : List Placed) (back : LooksBack placed) where
       look_bound first bound more n (omega arith) (omega arith) p
       ∙ sym (look_bound first bound count n (omega arith) (omega arith) p))
 
-  look_back : (first : Tree) (count : ℕ) (path : NodePath)
+  pub look_back : (first : Tree) (count : ℕ) (path : NodePath)
       → look first placed count path
       ≡ look_behind (look first placed) first placed path (latest (touches_path path) placed count)
   look_back first zero path = refl
@@ -246,7 +246,7 @@ module _ (placed : List Placed) (back : LooksBack placed) where
       names_bound bound more n (omega arith) (omega arith) p
       ∙ sym (names_bound bound count n (omega arith) (omega arith) p)))
 
-  names_back : (count : ℕ) (path : NodePath)
+  pub names_back : (count : ℕ) (path : NodePath)
       → names_look placed count path
       ≡ names_made placed count path
       ++ names_behind (names_look placed) placed path (latest (touches_path path) placed count)

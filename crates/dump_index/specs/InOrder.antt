@@ -1,0 +1,27 @@
+-- Changes that can be indexed: in the order of their revisions, each at a path that doesn't end in a slash, and each copy
+-- is of an earlier revision.
+use Rattle.std.specs.Prelude.{ℕ, Bool, true, false, not, ◌&&◌, ◌==◌, List, [], ◌∷◌, Option, Some, None, nat_lt, nat_le}
+use Rattle.dump_index.specs.declared.change.NodeChange.{NodeChange}
+use Rattle.dump_index.specs.declared.change.NodeMade.{NodeMade}
+use Rattle.dump_index.specs.declared.change.NodeMade.TheVariants.{Folder, File, CopyOf}
+
+-- whether the last byte is a slash
+abbrev pub ends_in_slash : List ℕ → Bool
+ends_in_slash [] = false
+ends_in_slash (b ∷ []) = b == 47
+ends_in_slash (b ∷ c ∷ text) = ends_in_slash (c ∷ text)
+
+-- whether a copy is of an earlier revision, and of a path that doesn't end in a slash
+abbrev pub is_from_before : ℕ → Option NodeMade → Bool
+is_from_before revision None = true
+is_from_before revision (Some Folder) = true
+is_from_before revision (Some File) = true
+is_from_before revision (Some (CopyOf source)) = nat_lt source.revision revision && not (ends_in_slash source.path.now)
+
+-- whether the numbers of the revisions don't fall, from this one on, no path ends in a slash, and each copy is of an
+-- earlier revision
+abbrev pub are_in_order : ℕ → List NodeChange → Bool
+are_in_order least [] = true
+are_in_order least (c ∷ changes) =
+    ((nat_le least c.revision && is_from_before c.revision c.made) && not (ends_in_slash c.path.now))
+    && are_in_order c.revision changes

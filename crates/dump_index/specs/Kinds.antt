@@ -1,0 +1,17 @@
+-- What stands at a path after the first changes: a folder, a file or nothing.
+use Rattle.std.specs.Prelude.{ℕ, List, Option, option_map}
+use Rattle.dump_trees.specs.Paths.{NodePath}
+use Rattle.dump_trees.specs.Trees.{Node, root_alone}
+use Rattle.dump_trees.specs.Looking.{look}
+use Rattle.dump_index.specs.Listed.{Listed, all_placed}
+use Rattle.dump_index.specs.declared.change.NodeKind.{NodeKind}
+use Rattle.dump_index.specs.declared.change.NodeKind.TheVariants.{Folder, File}
+
+-- what a node is
+abbrev pub node_kind : Node → NodeKind
+node_kind (Node.Folder props) = Folder
+node_kind (Node.File props text) = File
+
+-- what is found at the path after so many of the changes in a new repository
+abbrev pub kind_look : List Listed → ℕ → NodePath → Option NodeKind
+kind_look listed count path = option_map node_kind (look root_alone (all_placed listed) count path)

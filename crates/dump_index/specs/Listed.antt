@@ -1,0 +1,67 @@
+-- The changes of an index, and the changes of a repository that they stand for.
+use Rattle.std.specs.Prelude.{ℕ, Bool, List, [], map, Option, Some, None, option_map}
+use Rattle.dump_trees.specs.Paths.{names_of}
+use Rattle.dump_trees.specs.Changes.{Made, PropertyChange, TextChange}
+use Rattle.dump_trees.specs.Looking.{Placed}
+use Rattle.dump_index.specs.declared.change.NodeChange.{NodeChange}
+use Rattle.dump_index.specs.declared.change.NodeMade.{NodeMade}
+use Rattle.dump_index.specs.declared.change.NodeMade.TheVariants.{Folder, File, CopyOf}
+use Rattle.dump_index.specs.declared.change.Setting.{Setting}
+use Rattle.dump_index.specs.declared.change.Setting.TheVariants.{Keeps, Replaces, Edits}
+
+-- a change by the text of its path
+pub record Listed : Type 0 where
+  pub path : List ℕ
+  pub deletes : Bool
+  pub made : Option Made
+  pub props : Setting
+  pub text : Setting
+  pub revision : ℕ
+  pub record_number : ℕ
+
+-- what is made
+abbrev pub listed_made : NodeMade → Made
+listed_made Folder = Made.NewFolder
+listed_made File = Made.NewFile
+listed_made (CopyOf source) = Made.Copied source.revision (names_of source.path.now)
+
+-- the change that the code's own value tells
+abbrev pub listed_of : NodeChange → Listed
+listed_of c = record {
+  path = c.path.now;
+  deletes = c.deletes;
+  made = option_map listed_made c.made;
+  props = c.props;
+  text = c.text;
+  revision = c.revision;
+  record_number = c.record_number;
+}
+
+-- that properties are set; which, an index doesn't say, so here none
+abbrev pub plain_props : Setting → Option PropertyChange
+plain_props Keeps = None
+plain_props Replaces = Some (PropertyChange.Replaced [])
+plain_props Edits = Some (PropertyChange.Edited [])
+
+-- that a text is set; which, an index doesn't say, so here the empty one
+abbrev pub plain_text : Setting → Option TextChange
+plain_text Keeps = None
+plain_text Replaces = Some (TextChange.Replaced [])
+plain_text Edits = Some (TextChange.Replaced [])
+
+-- the change of a repository that it stands for
+abbrev pub placed_of : Listed → Placed
+placed_of l = record {
+  revision = l.revision;
+  change = record {
+    path = names_of l.path;
+    deletes = l.deletes;
+    made = l.made;
+    props = plain_props l.props;
+    text = plain_text l.text;
+  };
+}
+
+-- the changes of a repository that these stand for
+abbrev pub all_placed : List Listed → List Placed
+all_placed listed = map placed_of listed

@@ -1,0 +1,25 @@
+-- What an index tells of kinds, as the laws of a load check ask for it.
+use Rattle.std.specs.Prelude.{◌≡◌, ℕ, List, map, Option, option_map}
+use Rattle.dump_trees.specs.Trees.{root_alone}
+use Rattle.dump_trees.specs.Looking.{Placed}
+use Rattle.dump_trees.specs.LoadCheck.{Kind, ToldKinds, TellsKinds}
+use Rattle.dump_index.specs.Listed.{Listed, listed_of}
+use Rattle.dump_index.specs.Kinds.{kind_look}
+use Rattle.dump_index.specs.IndexLaws.{AreListed}
+use Rattle.dump_index.specs.declared.change.NodeChange.{NodeChange}
+use Rattle.dump_index.specs.declared.change.NodeKind.{NodeKind}
+use Rattle.dump_index.specs.declared.change.NodeKind.TheVariants.{Folder, File}
+
+-- the kind that the laws speak of
+abbrev pub kind_meant : NodeKind → Kind
+kind_meant Folder = Kind.Directory
+kind_meant File = Kind.File
+
+-- what an index tells
+abbrev pub kinds_told_by : List Listed → ToldKinds
+kinds_told_by listed count path = option_map kind_meant (kind_look listed count path)
+
+-- it tells what exists
+abbrev pub IndexTellsKinds : Type 0
+IndexTellsKinds = (changes : List NodeChange) (placed : List Placed) → AreListed changes placed
+    → TellsKinds (kinds_told_by (map listed_of changes)) root_alone placed

@@ -1,0 +1,7 @@
+pub mod Keys
+pub mod Touching
+pub mod Below
+pub mod Names
+pub mod Index
+pub mod Looks
+pub mod Trails

@@ -1,0 +1,51 @@
+//! The changes that the nodes of a dump make, as data.
+
+/// What a node is copied from.
+#[derive(Clone, Copy, Debug, PartialEq, Eq)]
+pub struct Source<'a> {
+    pub revision: u64,
+    /// Without a leading slash.
+    pub path: &'a [u8],
+}
+
+/// What a node is.
+#[derive(Clone, Copy, Debug, PartialEq, Eq)]
+pub enum NodeKind {
+    Folder,
+    File,
+}
+
+/// What a change makes at its path.
+#[derive(Clone, Copy, Debug, PartialEq, Eq)]
+pub enum NodeMade<'a> {
+    Folder,
+    File,
+    CopyOf(Source<'a>),
+}
+
+/// What a change does to the properties of a node, or to its text.
+#[derive(Clone, Copy, Debug, PartialEq, Eq)]
+pub enum Setting {
+    /// They stay as they are.
+    Keeps,
+    /// Others take their place.
+    Replaces,
+    /// They are edited, as by a delta.
+    Edits,
+}
+
+/// A change that a node of a dump makes. It deletes what stands at its path, makes something there, and sets properties
+/// and a text, or only some of these, in this order.
+#[derive(Clone, Copy, Debug, PartialEq, Eq)]
+pub struct NodeChange<'a> {
+    /// Without a leading slash.
+    pub path: &'a [u8],
+    pub deletes: bool,
+    pub made: Option<NodeMade<'a>>,
+    pub props: Setting,
+    pub text: Setting,
+    /// The number of the revision that the node stands in.
+    pub revision: u64,
+    /// Which record of the dump the node is.
+    pub record_number: u64,
+}

@@ -1,0 +1,313 @@
+//! The index of the changes of a dump.
+ghost use Rattle.std.specs.Prelude.{◌≡◌, ◌==◌, ◌||◌, false, ℕ, List, IfOk, IsTrue, Some, length, map, option_copied, option_map, reverse, slice_get, true};
+ghost use Rattle.dump_trees.specs.Paths.{names_of};
+ghost use Rattle.dump_trees.specs.Looking.{end_of, latest, touches_path};
+ghost use Rattle.dump_index.specs.InOrder.{are_in_order, ends_in_slash, is_from_before};
+ghost use Rattle.dump_index.specs.Kinds.{kind_look};
+ghost use Rattle.dump_index.specs.steps.Keys.{has_effect_at, latest_place};
+ghost use Rattle.dump_index.specs.Settings.{IsTrail, latest_for, sets_at};
+ghost use Rattle.dump_index.specs.steps.Touching.{shapes};
+ghost use Rattle.dump_index.specs.steps.Trails.{IsTrailStep};
+ghost use Rattle.dump_index.specs.steps.Looks.{GoesBack, came, is_since, origin_kind, origin_names, kind_with_text};
+ghost use Rattle.dump_index.specs.Listed.{all_placed, listed_of};
+ghost use Rattle.dump_index.specs.Children.{is_child_named};
+ghost use Rattle.dump_trees.specs.Listing.{names_behind, names_look, names_made};
+
+mod children;
+
+use crate::change::{NodeChange, NodeKind, NodeMade};
+use crate::order::{Effect, PathOrder, later};
+use crate::origin::{Origin, made_origin, with_text};
+use crate::path_text::{ends_in_slash, joined};
+use crate::trail::{Next, Part, Step, is_place, own_place, push_place, replaces};
+use dump_rules::Memory;
+use std::alloc::Global;
+use std::marker::Model;
+
+/// All changes of a dump, and where those at a path are found.
+///
+/// What an index is asked at a path, it looks up at the path and at the paths above it, each by binary search. It takes
+/// memory for the places of the changes, and time for their sorting, when it is made.
+#[derive(Drop)]
+pub struct ChangeIndex<'a> {
+    changes: Vec<NodeChange<'a>>,
+    shaping: PathOrder<'a>,
+    moving: PathOrder<'a>,
+    props: PathOrder<'a>,
+    texts: PathOrder<'a>,
+}
+
+impl<'a> Model for ChangeIndex<'a> {
+    ghost use Rattle.std.specs.Prelude.{List, map};
+    ghost use Rattle.dump_index.specs.Listed.{Listed, listed_of};
+
+    ghost Value = { List Listed };
+
+    ghost use Rattle.dump_index.specs.steps.Index.{IsChangeIndex};
+
+    ghost view = { λ index. map listed_of index.changes.items };
+
+    ghost invariant = { λ index. IsChangeIndex index.changes.items index.shaping index.moving index.props index.texts };
+}
+
+/// Whether the numbers of the revisions don't fall, no path ends in a slash, and each copy is of an earlier revision, and
+/// of a path that doesn't end in one either.
+pub fn are_in_order(changes: &[NodeChange<'_>]) -> bool
+    ensures { result ≡ are_in_order 0 changes.now }
+{
+    let mut least = 0;
+    let mut left = changes;
+    while let [change, others @ ..] = left {
+        if change.revision < least || !is_from_before(change) || ends_in_slash(change.path) {
+            return false;
+        }
+        least = change.revision;
+        left = others;
+    }
+    true
+}
+
+/// Whether the change is no copy, or one of an earlier revision, and of a path that doesn't end in a slash.
+fn is_from_before(change: &NodeChange<'_>) -> bool
+    ensures { result ≡ is_from_before change.now.revision change.now.made }
+{
+    match change.made {
+        Some(NodeMade::CopyOf(source)) => {
+            source.revision < change.revision && !ends_in_slash(source.path)
+        }
+        _ => true,
+    }
+}
+
+impl<'a> ChangeIndex<'a> {
+    /// An index of these changes, which come in the order of the dump.
+    pub fn new(alloc: Global, changes: Vec<NodeChange<'a>>) -> Result<ChangeIndex<'a>, Memory>
+        requires { IsTrue (are_in_order 0 changes.items) }
+        ensures { IfOk result (λ index. index ≡ map listed_of changes.entry.items) }
+    {
+        let listed = changes.as_slice();
+        let shaping = PathOrder::new(alloc, listed, Effect::Shaping)?;
+        let moving = PathOrder::new(alloc, listed, Effect::Moving)?;
+        let props = PathOrder::new(alloc, listed, Effect::Props)?;
+        let texts = PathOrder::new(alloc, listed, Effect::Texts)?;
+        Ok(ChangeIndex {
+            changes,
+            shaping,
+            moving,
+            props,
+            texts,
+        })
+    }
+
+    /// The place of the latest of the first changes, so many, that touches the path: it does something there, or deletes
+    /// or copies what stands above.
+    pub fn latest_touching(&self, path: &[u8], count: usize) -> Option<usize>
+        ensures { result ≡ latest (touches_path (names_of path.now)) (all_placed self.now) count }
+    {
+        let shaped = self.shaping.latest_at(path, count);
+        let set = later(
+            self.props.latest_at(path, count),
+            self.texts.latest_at(path, count),
+        );
+        self.moving.latest_above(path, count, later(shaped, set))
+    }
+
+    /// The place of the latest of the first changes, so many, that decides what stands at the path: it deletes or makes
+    /// something there, or deletes or copies what stands above.
+    fn latest_shaping(&self, path: &[u8], count: usize) -> Option<usize>
+        ensures place { result ≡ latest_place (shapes self.now path.now) count }
+        ensures looks { kind_look self.now count (names_of path.now)
+            ≡ kind_with_text (is_since result (latest_place (has_effect_at Effect.Texts self.now path.now) count))
+            (came self.now path.now result) }
+        ensures names { (name : List ℕ) → is_child_named (names_look (all_placed self.now) count (names_of path.now)) name
+            ≡ (is_child_named (names_made (all_placed self.now) count (names_of path.now)) name
+            || is_child_named (names_behind (names_look (all_placed self.now)) (all_placed self.now) (names_of path.now) result) name) }
+    {
+        let here = self.shaping.latest_at(path, count);
+        self.moving.latest_above(path, count, here)
+    }
+
+    /// Whether one of the first changes, so many, sets a text at the path, and doesn't stand before this place.
+    fn sets_text_since(&self, path: &[u8], shaped: Option<usize>, count: usize) -> bool
+        ensures { result
+            ≡ is_since shaped (latest_place (has_effect_at Effect.Texts self.now path.now) count) }
+    {
+        match (shaped, self.texts.latest_at(path, count)) {
+            (_, None) => false,
+            (None, Some(_)) => true,
+            (Some(shaped), Some(place)) => shaped <= place,
+        }
+    }
+
+    /// The change at this place.
+    pub fn get(&self, place: usize) -> Option<&NodeChange<'a>>
+        ensures { option_map listed_of (option_copied result) ≡ slice_get self.now place }
+    {
+        self.changes.get(place)
+    }
+
+    /// How many changes there are.
+    pub fn len(&self) -> usize
+        ensures { result ≡ length self.now }
+    {
+        self.changes.len()
+    }
+
+    /// Whether there is no change.
+    pub fn is_empty(&self) -> bool
+        ensures { result ≡ (length self.now == 0) }
+    {
+        self.changes.is_empty()
+    }
+
+    /// How many of the changes stand in revisions up to this number.
+    pub fn end_of(&self, revision: u64) -> usize
+        ensures { result ≡ end_of (all_placed self.now) revision }
+    {
+        self.changes
+            .partition_point(|change| change.revision <= revision)
+    }
+
+    /// Where what stands at the path comes from, behind the change that decides that.
+    fn origin<'p>(&self, path: &'p [u8], shaped: Option<usize>) -> Origin<'p, 'a>
+        requires bare { ends_in_slash path.now ≡ false }
+        requires shaped { (place : ℕ) → shaped ≡ Some place → shapes self.now path.now place ≡ true }
+        ensures kind { origin_kind self.now result ≡ came self.now path.now shaped }
+        ensures names { origin_names self.now result
+            ≡ names_behind (names_look (all_placed self.now)) (all_placed self.now) (names_of path.now) shaped }
+        ensures back { GoesBack self.now shaped result }
+    {
+        match shaped {
+            Some(place) => made_origin(&self.changes[place], path),
+            None if path.is_empty() => Origin::New(NodeKind::Folder),
+            None => Origin::Nowhere,
+        }
+    }
+
+    /// What stands at the path after the first changes, so many.
+    pub fn kind_at(
+        &self,
+        alloc: Global,
+        path: &[u8],
+        count: usize,
+    ) -> Result<Option<NodeKind>, Memory>
+        requires { ends_in_slash path.now ≡ false }
+        ensures { IfOk result (λ kind. kind ≡ kind_look self.now count (names_of path.now)) }
+    {
+        let mut at = Vec::from_slice(alloc, path)?;
+        let mut before = count;
+        let mut has_text = false;
+        loop {
+            let shaped = self.latest_shaping(&at, before);
+            let since = self.sets_text_since(&at, shaped, before);
+            has_text = has_text | since;
+            match self.origin(&at, shaped) {
+                Origin::Nowhere => return Ok(None),
+                Origin::New(kind) => return Ok(with_text(kind, has_text)),
+                Origin::Copied(source, rest) => {
+                    let next = joined(alloc, source.path, rest)?;
+                    before = self.end_of(source.revision);
+                    at = next;
+                }
+            }
+        }
+    }
+
+    /// The place of the latest of the first changes, so many, that sets the part at the path.
+    fn latest_setting(&self, part: Part, path: &[u8], count: usize) -> Option<usize>
+        ensures { result ≡ latest_place (sets_at part self.now path.now) count }
+    {
+        match part {
+            Part::Props => self.props.latest_at(path, count),
+            Part::Text => self.texts.latest_at(path, count),
+        }
+    }
+
+    /// What is looked up for the part of what the change at this place leaves at the path.
+    fn step_behind<'p>(
+        &self,
+        part: Part,
+        path: &'p [u8],
+        place: usize,
+        shaped: bool,
+        set: bool,
+    ) -> Step<'p, 'a>
+        requires bare { ends_in_slash path.now ≡ false }
+        requires shaped { shaped ≡ shapes self.now path.now place }
+        requires set { set ≡ sets_at part self.now path.now place }
+        requires some { (shaped || set) ≡ true }
+        ensures { (before : ℕ) → latest_for part self.now path.now before ≡ Some place
+            → IsTrailStep part self.now before path.now result }
+    {
+        let change = &self.changes[place];
+        let own = own_place(set, place);
+        if set && replaces(change, part) {
+            return Step::last(own);
+        }
+        if !shaped {
+            return Step {
+                set: own,
+                next: Next::Before(place),
+            };
+        }
+        if let Origin::Copied(source, rest) = made_origin(change, path) {
+            return Step {
+                set: own,
+                next: Next::Copied(source, rest),
+            };
+        }
+        Step::last(own)
+    }
+
+    /// What is looked up for the part of what stands at the path after the first changes, so many.
+    fn step<'p>(&self, part: Part, path: &'p [u8], before: usize) -> Step<'p, 'a>
+        requires { ends_in_slash path.now ≡ false }
+        ensures { IsTrailStep part self.now before path.now result }
+    {
+        let shaped = self.latest_shaping(path, before);
+        let set = self.latest_setting(part, path, before);
+        let Some(place) = later(shaped, set) else {
+            return Step::last(None);
+        };
+        self.step_behind(
+            part,
+            path,
+            place,
+            is_place(shaped, place),
+            is_place(set, place),
+        )
+    }
+
+    /// The places of the changes that set the part of what stands at the path after the first changes, so many, in their
+    /// order: the first sets the whole part, or is of a new node; each other one edits what the one before left.
+    pub fn settings_at(
+        &self,
+        alloc: Global,
+        part: Part,
+        path: &[u8],
+        count: usize,
+    ) -> Result<Vec<usize>, Memory>
+        requires { ends_in_slash path.now ≡ false }
+        ensures { IfOk result (λ places. IsTrail part self.now count path.now (reverse places.items)) }
+    {
+        let mut places = Vec::new(alloc);
+        let mut at = Vec::from_slice(alloc, path)?;
+        let mut before = count;
+        loop {
+            let step = self.step(part, &at, before);
+            push_place(&mut places, step.set)?;
+            match step.next {
+                Next::End => {
+                    places.reverse();
+                    return Ok(places);
+                }
+                Next::Before(place) => before = place,
+                Next::Copied(source, rest) => {
+                    let next = joined(alloc, source.path, rest)?;
+                    before = self.end_of(source.revision);
+                    at = next;
+                }
+            }
+        }
+    }
+}

@@ -1,0 +1,118 @@
+//! Paths as texts, with slashes between their names.
+ghost use Rattle.std.specs.Prelude.{◌≡◌, IfOk};
+ghost use Rattle.dump_index.specs.InOrder.{ends_in_slash};
+ghost use Rattle.dump_index.specs.steps.Touching.{joined_text, rest_text};
+ghost use Rattle.dump_index.specs.steps.Below.{StandsSo, ends_up_to, name_end, top_text};
+
+use dump_rules::Memory;
+use std::alloc::Global;
+
+/// Whether the last byte is a slash.
+pub fn ends_in_slash(text: &[u8]) -> bool
+    ensures { result ≡ ends_in_slash text.now }
+{
+    let mut ends = false;
+    let mut rest = text;
+    while let [byte, behind @ ..] = rest {
+        ends = *byte == b'/';
+        rest = behind;
+    }
+    ends
+}
+
+/// What the path goes on with behind a top and a slash; nothing, where it doesn't.
+pub(crate) fn rest_behind<'p>(top: &[u8], path: &'p [u8]) -> &'p [u8]
+    ensures { result.now ≡ rest_text top.now path.now }
+{
+    if top.is_empty() {
+        path
+    } else if top.len() < path.len() {
+        &path[top.len() + 1..]
+    } else {
+        &[]
+    }
+}
+
+/// A path below another one.
+pub(crate) fn joined(alloc: Global, top: &[u8], rest: &[u8]) -> Result<Vec<u8>, Memory>
+    ensures { IfOk result (λ text. text.items ≡ joined_text top.now rest.now) }
+{
+    let mut text = Vec::from_slice(alloc, top)?;
+    if top.is_empty() || rest.is_empty() {
+        text.extend_from_slice(rest)?;
+    } else {
+        text.push(b'/')?;
+        text.extend_from_slice(rest)?;
+    }
+    Ok(text)
+}
+
+/// What the paths below this one begin with: the path and a slash, but of the root nothing.
+pub(crate) fn top_of(alloc: Global, path: &[u8]) -> Result<Vec<u8>, Memory>
+    ensures { IfOk result (λ text. text.items ≡ top_text path.now) }
+{
+    let mut text = Vec::from_slice(alloc, path)?;
+    if !path.is_empty() {
+        text.push(b'/')?;
+    }
+    Ok(text)
+}
+
+/// How many bytes stand before the first slash.
+fn name_end(text: &[u8]) -> usize
+    ensures { result ≡ name_end text.now }
+{
+    let mut end = 0;
+    let mut rest = text;
+    while let [byte, behind @ ..] = rest {
+        if *byte == b'/' {
+            return end;
+        }
+        end += 1;
+        rest = behind;
+    }
+    end
+}
+
+/// How a path stands to what the paths below a directory begin with.
+#[derive(Clone, Copy)]
+pub(crate) enum Below<'p> {
+    /// It doesn't begin so.
+    Outside,
+    /// It has nothing more.
+    Itself,
+    /// It goes on with this name alone.
+    Child(&'p [u8]),
+    /// It goes on further, as all paths do that begin with this part of it.
+    Further(&'p [u8]),
+}
+
+/// How the path stands to this top.
+pub(crate) fn stand_below<'p>(top: &[u8], path: &'p [u8]) -> Below<'p>
+    ensures { StandsSo top.now path.now result }
+{
+    let Some(rest) = path.strip_prefix(top) else {
+        return Below::Outside;
+    };
+    if rest.is_empty() {
+        return Below::Itself;
+    }
+    let end = name_end(rest);
+    if end < rest.len() {
+        Below::Further(&path[..top.len() + end + 1])
+    } else {
+        Below::Child(rest)
+    }
+}
+
+/// Whether the path comes before those that begin with the front, or is one of them.
+pub(crate) fn ends_up_to(path: &[u8], front: &[u8]) -> bool
+    ensures { result ≡ ends_up_to front.now path.now }
+{
+    let part = if front.len() < path.len() {
+        &path[..front.len()]
+    } else {
+        path
+    };
+    !front.cmp(part).is_lt()
+}

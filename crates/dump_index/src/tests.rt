@@ -1,0 +1,242 @@
+//! What no clause says: a worked history, asked at each path, and memory that is refused.
+use crate::{
+    ChangeIndex, Memory, NodeChange, NodeKind, NodeMade, Part, Setting, Source, are_in_order,
+    ends_in_slash,
+};
+use std::alloc::Global;
+use std::process::Abort;
+use std::test::Fail;
+
+const FOLDER: Option<NodeMade<'static>> = Some(NodeMade::Folder);
+
+const FILE: Option<NodeMade<'static>> = Some(NodeMade::File);
+
+fn change<'a>(revision: u64, path: &'a [u8], made: Option<NodeMade<'a>>) -> NodeChange<'a> {
+    NodeChange {
+        path,
+        deletes: false,
+        made,
+        props: Setting::Keeps,
+        text: Setting::Keeps,
+        revision,
+        record_number: 0,
+    }
+}
+
+fn copy<'a>(revision: u64, path: &'a [u8], source: Source<'a>) -> NodeChange<'a> {
+    change(revision, path, Some(NodeMade::CopyOf(source)))
+}
+
+fn with_text<'a>(change: NodeChange<'a>, text: Setting) -> NodeChange<'a> {
+    NodeChange { text, ..change }
+}
+
+fn deleted<'a>(revision: u64, path: &'a [u8]) -> NodeChange<'a> {
+    let change = change(revision, path, None);
+    NodeChange {
+        deletes: true,
+        ..change
+    }
+}
+
+/// trunk with a file in r1; a branch of it in r2; the file edited in both, and the one in trunk deleted in r5.
+fn history(alloc: Global) -> Result<Vec<NodeChange<'static>>, Memory> {
+    let trunk = Source {
+        revision: 1,
+        path: b"trunk",
+    };
+    let mut changes = Vec::new(alloc);
+    changes.push(change(1, b"trunk", FOLDER))?;
+    changes.push(with_text(change(1, b"trunk/a", FILE), Setting::Replaces))?;
+    changes.push(copy(2, b"b", trunk))?;
+    changes.push(with_text(change(3, b"trunk/a", None), Setting::Edits))?;
+    changes.push(with_text(change(4, b"b/a", None), Setting::Edits))?;
+    changes.push(deleted(5, b"trunk/a"))?;
+    Ok(changes)
+}
+
+fn kind_is(
+    alloc: Global,
+    index: &ChangeIndex<'_>,
+    path: &[u8],
+    count: usize,
+    kind: Option<NodeKind>,
+) -> bool {
+    if ends_in_slash(path) {
+        return false;
+    }
+    match index.kind_at(alloc, path, count) {
+        Ok(found) => found == kind,
+        Err(_) => false,
+    }
+}
+
+fn texts_are(
+    alloc: Global,
+    index: &ChangeIndex<'_>,
+    path: &[u8],
+    count: usize,
+    places: &[usize],
+) -> bool {
+    if ends_in_slash(path) {
+        return false;
+    }
+    match index.settings_at(alloc, Part::Text, path, count) {
+        Ok(found) => found.as_slice() == places,
+        Err(_) => false,
+    }
+}
+
+fn names_are(
+    alloc: Global,
+    index: &ChangeIndex<'_>,
+    path: &[u8],
+    count: usize,
+    names: &[&[u8]],
+) -> bool {
+    if ends_in_slash(path) {
+        return false;
+    }
+    match index.children(alloc, path, count) {
+        Ok(found) => found.as_slice() == names,
+        Err(_) => false,
+    }
+}
+
+fn ever_are(alloc: Global, index: &ChangeIndex<'_>, path: &[u8], names: &[&[u8]]) -> bool {
+    if ends_in_slash(path) {
+        return false;
+    }
+    match index.names_ever(alloc, path) {
+        Ok(found) => found.as_slice() == names,
+        Err(_) => false,
+    }
+}
+
+fn assert_found(rt: &impl Abort, alloc: Global, index: &ChangeIndex<'_>) {
+    assert!(rt; kind_is(alloc, index, b"", 0, Some(NodeKind::Folder)));
+    assert!(rt; kind_is(alloc, index, b"trunk", 0, None));
+    assert!(rt; kind_is(alloc, index, b"trunk/a", 5, Some(NodeKind::File)));
+    assert!(rt; kind_is(alloc, index, b"trunk/a", 6, None));
+    assert!(rt; kind_is(alloc, index, b"b", 6, Some(NodeKind::Folder)));
+    assert!(rt; kind_is(alloc, index, b"b/a", 6, Some(NodeKind::File)));
+    assert!(rt; kind_is(alloc, index, b"b/a/c", 6, None));
+    assert!(rt; texts_are(alloc, index, b"trunk/a", 4, &[1, 3]));
+    assert!(rt; texts_are(alloc, index, b"b/a", 3, &[1]));
+    assert!(rt; texts_are(alloc, index, b"b/a", 6, &[1, 4]));
+    assert!(rt; index.latest_touching(b"b/a", 4) == Some(2));
+    assert!(rt; index.latest_touching(b"b/a", 2) == None);
+    assert!(rt; index.latest_touching(b"trunk/a", 6) == Some(5));
+}
+
+#[test]
+fn history_is_found(rt: HostRuntime) -> Result<(), Fail> {
+    let alloc = rt.alloc();
+    let changes = history(alloc)?;
+    if are_in_order(&changes) {
+        let index = ChangeIndex::new(alloc, changes)?;
+        assert_found(&rt, alloc, &index);
+        return Ok(());
+    }
+    assert!(rt; false, "the changes are in order");
+    Ok(())
+}
+
+/// d with a directory and two files in r1; a copy of it in r2; in r3 the directory of the copy is deleted, and a file
+/// made there.
+fn nested(alloc: Global) -> Result<Vec<NodeChange<'static>>, Memory> {
+    let source = Source {
+        revision: 1,
+        path: b"d",
+    };
+    let mut changes = Vec::new(alloc);
+    changes.push(change(1, b"d", FOLDER))?;
+    changes.push(change(1, b"d/s", FOLDER))?;
+    changes.push(change(1, b"d/s/x", FILE))?;
+    changes.push(change(1, b"d/s/y", FILE))?;
+    changes.push(change(1, b"d/s.txt", FILE))?;
+    changes.push(change(1, b"d/t", FILE))?;
+    changes.push(copy(2, b"e", source))?;
+    changes.push(deleted(3, b"e/s"))?;
+    changes.push(change(3, b"e/u", FILE))?;
+    Ok(changes)
+}
+
+fn assert_listed(rt: &impl Abort, alloc: Global, index: &ChangeIndex<'_>) {
+    assert!(rt; names_are(alloc, index, b"", 9, &[b"d", b"e"]));
+    assert!(rt; names_are(alloc, index, b"", 0, &[]));
+    assert!(rt; names_are(alloc, index, b"d", 9, &[b"s", b"s.txt", b"t"]));
+    assert!(rt; names_are(alloc, index, b"d", 3, &[b"s"]));
+    assert!(rt; names_are(alloc, index, b"d/s", 9, &[b"x", b"y"]));
+    assert!(rt; names_are(alloc, index, b"e", 7, &[b"s", b"s.txt", b"t"]));
+    assert!(rt; names_are(alloc, index, b"e/s", 7, &[b"x", b"y"]));
+    assert!(rt; names_are(alloc, index, b"e", 9, &[b"s.txt", b"t", b"u"]));
+    assert!(rt; names_are(alloc, index, b"e/s", 9, &[]));
+    assert!(rt; names_are(alloc, index, b"d/t", 9, &[]));
+    assert!(rt; ever_are(alloc, index, b"", &[b"d", b"e"]));
+    assert!(rt; ever_are(alloc, index, b"e", &[b"s", b"s.txt", b"t", b"u"]));
+    assert!(rt; ever_are(alloc, index, b"e/s", &[b"x", b"y"]));
+}
+
+#[test]
+fn directories_are_listed(rt: HostRuntime) -> Result<(), Fail> {
+    let alloc = rt.alloc();
+    let changes = nested(alloc)?;
+    if are_in_order(&changes) {
+        let index = ChangeIndex::new(alloc, changes)?;
+        assert_listed(&rt, alloc, &index);
+        return Ok(());
+    }
+    assert!(rt; false, "the changes are in order");
+    Ok(())
+}
+
+fn finds_ever_or_lacks_memory(alloc: Global, index: &ChangeIndex<'_>) -> bool {
+    let names: &[&[u8]] = &[b"s", b"s.txt", b"t", b"u"];
+    match index.names_ever(alloc, b"e") {
+        Ok(found) => found.as_slice() == names,
+        Err(refused) => refused == Memory,
+    }
+}
+
+fn lists_or_lacks_memory(alloc: Global, index: &ChangeIndex<'_>) -> bool {
+    let names: &[&[u8]] = &[b"s.txt", b"t", b"u"];
+    match index.children(alloc, b"e", 9) {
+        Ok(found) => found.as_slice() == names,
+        Err(refused) => refused == Memory,
+    }
+}
+
+/// Run with each allocation refused in turn: the directory is listed, or there is no memory.
+#[test]
+fn a_directory_or_no_memory(rt: HostRuntime) {
+    let alloc = rt.alloc();
+    let Ok(changes) = nested(alloc) else {
+        return;
+    };
+    if !are_in_order(&changes) {
+        return;
+    }
+    let Ok(index) = ChangeIndex::new(alloc, changes) else {
+        return;
+    };
+    assert!(rt; lists_or_lacks_memory(alloc, &index));
+    assert!(rt; finds_ever_or_lacks_memory(alloc, &index));
+}
+
+#[test]
+fn copies_of_later_revisions_are_out_of_order(rt: HostRuntime) {
+    let own = Source {
+        revision: 2,
+        path: b"trunk",
+    };
+    let slash = Source {
+        revision: 1,
+        path: b"trunk/",
+    };
+    assert!(rt; !are_in_order(&[copy(2, b"b", own)]));
+    assert!(rt; !are_in_order(&[copy(2, b"b", slash)]));
+    assert!(rt; !are_in_order(&[deleted(2, b"b"), deleted(1, b"b")]));
+    assert!(rt; !are_in_order(&[change(2, b"b/", FOLDER)]));
+    assert!(rt; are_in_order(&[deleted(2, b"b"), copy(3, b"b", own)]));
+}
