@@ -1,0 +1,4 @@
+pub mod Prelude
+pub mod ChangeLemmas
+pub mod ReadLemmas
+pub mod StepLemmas

@@ -1,0 +1,3 @@
+pub mod DumpReading
+pub mod Nodes
+pub mod Reading

@@ -1,0 +1,20 @@
+-- The change that a node makes, as an index lists it.
+use Rattle.std.specs.Prelude.{ℕ, Bool, not, ◌&&◌, List, [], Option, Some, None, is_some, unwrap_or}
+use Rattle.dump_text.specs.PropertyList.{Property}
+use Rattle.dump_records.specs.RecordText.{DumpRecord}
+use Rattle.dump_trees.specs.Changes.{Change}
+use Rattle.dump_history.specs.RecordChanges.{Patching, MakesChange, has_known_action, has_odd_delta, has_plain_texts}
+use Rattle.dump_index.specs.Listed.{Listed}
+use Rattle.dump_index.specs.IndexLaws.{IsListed}
+
+-- whether the node, whose properties are these, makes a change that is told
+abbrev pub is_told : DumpRecord → Option (List Property) → Bool
+is_told r ps =
+    is_some ps && (not (has_odd_delta r) && (has_known_action r && has_plain_texts r (unwrap_or ps [])))
+
+-- what an index says of a node of a revision: whatever text deltas make, the node makes a change of which this is said;
+-- or it makes none
+abbrev pub IsChangeOf : DumpRecord → ℕ → Option Listed → Type 0
+IsChangeOf r revision None = (patched : Patching) (c : Change) → MakesChange patched r c → ⊥
+IsChangeOf r revision (Some l) = (patched : Patching) → (c : Change) × MakesChange patched r c
+    × IsListed l (record { revision = revision; change = c })
