@@ -3,18 +3,20 @@ ghost use Rattle.std.specs.Prelude.{◌≡◌, List, Option, [], IsTrue, not, op
 ghost use Rattle.std.specs.List.{list_all};
 ghost use Rattle.dump_text.specs.Names.{copy_revision_name, property_length_name};
 ghost use Rattle.dump_text.specs.HeaderLine.{has_byte};
-ghost use Rattle.dump_text.specs.PropertyList.{Property};
+ghost use Rattle.dump_text.specs.PropertyList.{IsPropertyBlock, Property};
+ghost use Rattle.dump_text.specs.steps.PropertyViews.{props_bytes};
 ghost use Rattle.dump_records.specs.HeaderRules.{header_number};
 ghost use Rattle.dump_records.specs.steps.RecordViews.{record_item};
 ghost use Rattle.dump_rules.specs.Prefix.{bare_path};
-ghost use Rattle.dump_digest.specs.RecordParts.{is_copy, is_node, node_path};
+ghost use Rattle.dump_digest.specs.RecordParts.{HasPropertyList, is_copy, is_node, node_path};
 ghost use Rattle.dump_digest.specs.steps.ContentViews.{ArePropertiesOf};
+ghost use Rattle.dump_trees.specs.Changes.{PropertyChange};
 ghost use Rattle.dump_history.specs.RecordChanges.{Patching, copy_path, has_plain_texts, made_by_kind, made_of, property_change_of, text_change_of};
 ghost use Rattle.dump_history.specs.Findings.{IsReadBlock};
 ghost use Rattle.dump_index.specs.Listed.{listed_made, listed_of};
 ghost use Rattle.dump_index.specs.IndexLaws.{HasProps, HasText};
 ghost use Rattle.dump_nodes.specs.steps.Actions.{IsActionOf};
-ghost use Rattle.dump_changes.specs.steps.Nodes.{IsChangeOf, is_told};
+ghost use Rattle.dump_changes.specs.steps.Nodes.{IsChangeOf, has_entry, is_told};
 
 use dump_digest::properties_of;
 use dump_index::{NodeChange, NodeMade, Setting, Source};
@@ -75,14 +77,45 @@ fn made_of<'a>(item: &Record<'a>, action: Action) -> Option<NodeMade<'a>>
     }
 }
 
-/// What a node does to properties.
-fn props_of(item: &Record<'_>) -> Setting
-    ensures { (ps : List Property) → HasProps result (property_change_of (record_item item.now) ps) }
+/// Whether the property block has an entry.
+fn has_entry(props: &Props<'_>) -> bool
+    ensures { (ps : List Property) → IsPropertyBlock (props_bytes props.now) ps → result ≡ has_entry ps }
+{
+    let mut entries = props.entries();
+    match entries.next() {
+        Some(_) => true,
+        None => false,
+    }
+}
+
+/// What a property delta does to the properties.
+fn edit_of(item: &Record<'_>, props: &Option<Props<'_>>) -> Setting
+    requires { ArePropertiesOf (record_item item.now) props.now }
+    ensures { (ps : List Property) → HasPropertyList (record_item item.now) ps
+        → HasProps result (Some (PropertyChange.Edited ps)) }
+{
+    match props {
+        Some(props) => {
+            if has_entry(props) {
+                Setting::Edits
+            } else {
+                Setting::EditsNothing
+            }
+        }
+        None => Setting::EditsNothing,
+    }
+}
+
+/// What a node, whose properties these are, does to properties.
+fn props_of(item: &Record<'_>, props: &Option<Props<'_>>) -> Setting
+    requires { ArePropertiesOf (record_item item.now) props.now }
+    ensures { (ps : List Property) → HasPropertyList (record_item item.now) ps
+        → HasProps result (property_change_of (record_item item.now) ps) }
 {
     if !item.has_props() {
         Setting::Keeps
     } else if item.prop_delta() {
-        Setting::Edits
+        edit_of(item, props)
     } else {
         Setting::Replaces
     }
@@ -115,7 +148,7 @@ pub fn node_change<'a>(item: &Record<'a>, revision: u64) -> Option<NodeChange<'a
         path: bare_path(path_of(item)),
         deletes: action.deletes(),
         made: made_of(item, action),
-        props: props_of(item),
+        props: props_of(item, &props),
         text: text_of(item),
         revision,
         record_number: item.number(),

@@ -12,7 +12,7 @@ use Rattle.dump_index.specs.Kinds.{node_kind, kind_look}
 use Rattle.dump_index.specs.declared.change.NodeKind.{NodeKind}
 use Rattle.dump_index.specs.declared.change.NodeKind.TheVariants.{Folder, File}
 use Rattle.dump_index.specs.declared.change.Setting.{Setting}
-use Rattle.dump_index.specs.declared.change.Setting.TheVariants.{Keeps, Replaces, Edits}
+use Rattle.dump_index.specs.declared.change.Setting.TheVariants.{Keeps, Replaces, Edits, EditsNothing}
 use Rattle.dump_index.specs.declared.order.Effect.TheVariants.{Shaping, Moving, Texts}
 use Rattle.dump_index.specs.steps.Keys.{has_effect, has_effect_there, has_effect_at, latest_place, sets}
 use Rattle.dump_index.specs.steps.Touching.{stands_over, moves_there, shapes, rest_text}
@@ -33,6 +33,9 @@ kind_props Replaces (Some (Node.File props text)) = refl
 kind_props Edits None = refl
 kind_props Edits (Some (Node.Folder props)) = refl
 kind_props Edits (Some (Node.File props text)) = refl
+kind_props EditsNothing None = refl
+kind_props EditsNothing (Some (Node.Folder props)) = refl
+kind_props EditsNothing (Some (Node.File props text)) = refl
 
 kind_text : (s : Setting) (node : Option Node)
     → option_map node_kind (node_with_text (plain_text s) node) ≡ kind_with_text (sets s) (option_map node_kind node)
@@ -43,6 +46,9 @@ kind_text Replaces (Some (Node.File props text)) = refl
 kind_text Edits None = refl
 kind_text Edits (Some (Node.Folder props)) = refl
 kind_text Edits (Some (Node.File props text)) = refl
+kind_text EditsNothing None = refl
+kind_text EditsNothing (Some (Node.Folder props)) = refl
+kind_text EditsNothing (Some (Node.File props text)) = refl
 
 set_kind : (l : Listed) (node : Option Node)
     → option_map node_kind (set_by (placed_of l).change [] node) ≡ kind_with_text (sets l.text) (option_map node_kind node)

@@ -6,7 +6,7 @@ use Rattle.dump_trees.specs.Changes.{Made, Change, is_copied}
 use Rattle.dump_trees.specs.Looking.{Placed, touches_rest, touches_path, holds_there, latest}
 use Rattle.dump_index.specs.Listed.{Listed, placed_of, all_placed, plain_props, plain_text}
 use Rattle.dump_index.specs.declared.change.Setting.{Setting}
-use Rattle.dump_index.specs.declared.change.Setting.TheVariants.{Keeps, Replaces, Edits}
+use Rattle.dump_index.specs.declared.change.Setting.TheVariants.{Keeps, Replaces, Edits, EditsNothing}
 use Rattle.dump_index.specs.declared.order.Effect.TheVariants.{Shaping, Moving, Props, Texts}
 use Rattle.dump_index.specs.steps.Keys.{has_effect, has_effect_there, latest_place, sets}
 use Rattle.dump_index.specs.steps.Touching.{stands_over, moves_there, touches_at, rest_text}
@@ -18,11 +18,13 @@ sets_props : (s : Setting) → is_some (plain_props s) ≡ sets s
 sets_props Keeps = refl
 sets_props Replaces = refl
 sets_props Edits = refl
+sets_props EditsNothing = refl
 
 sets_text : (s : Setting) → is_some (plain_text s) ≡ sets s
 sets_text Keeps = refl
 sets_text Replaces = refl
 sets_text Edits = refl
+sets_text EditsNothing = refl
 
 -- at the change's own path
 own_touch : (deletes : Bool) (made : Option Made) (p t over : Bool)

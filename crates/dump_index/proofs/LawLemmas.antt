@@ -15,7 +15,7 @@ use Rattle.dump_index.specs.Kinds.{node_kind, kind_look}
 use Rattle.dump_index.specs.IndexLaws.{HasProps, HasText, IsListed, KindsAreFound}
 use Rattle.dump_index.specs.declared.change.NodeKind.TheVariants.{Folder as AFolder, File as AFile}
 use Rattle.dump_index.specs.declared.change.Setting.{Setting}
-use Rattle.dump_index.specs.declared.change.Setting.TheVariants.{Keeps, Replaces, Edits}
+use Rattle.dump_index.specs.declared.change.Setting.TheVariants.{Keeps, Replaces, Edits, EditsNothing}
 use Rattle.dump_index.proofs.KeyLemmas.{get-map}
 use Rattle.dump_index.proofs.OrderLemmas.{all_look_back}
 
@@ -87,6 +87,8 @@ some_props Replaces None has = absurd has
 some_props Replaces (Some change) has = refl
 some_props Edits None has = absurd has
 some_props Edits (Some change) has = refl
+some_props EditsNothing None has = absurd has
+some_props EditsNothing (Some change) has = refl
 
 some_text : (s : Setting) (o : Option TextChange) → HasText s o → is_some o ≡ is_some (plain_text s)
 some_text Keeps None has = refl
@@ -95,6 +97,7 @@ some_text Replaces None has = absurd has
 some_text Replaces (Some change) has = refl
 some_text Edits None has = absurd has
 some_text Edits (Some change) has = refl
+some_text EditsNothing o has = absurd has
 
 pub touch_listed : (l : Listed) (p : Placed) → IsListed l p → (path : NodePath)
     → touches_path path p.change ≡ touches_path path (placed_of l).change
@@ -149,6 +152,7 @@ kind_text_kept Replaces None has one two node is same = absurd has
 kind_text_kept Replaces (Some change) has one two node is same = file_stays change one two node is same
 kind_text_kept Edits None has one two node is same = absurd has
 kind_text_kept Edits (Some change) has one two node is same = file_stays change one two node is same
+kind_text_kept EditsNothing o has one two node is same = absurd has
 
 -- nothing is set where nothing stands
 pub none_set : (text : Option TextChange) (props : Option PropertyChange)

@@ -13,7 +13,7 @@ use Rattle.dump_index.specs.Listed.{Listed, listed_of, placed_of, all_placed}
 use Rattle.dump_index.specs.Settings.{is_replacing, setting_of, sets_there, sets_at, latest_for, own_place, IsTrail, Unset, Whole, Edited, NewMade, Copied}
 use Rattle.dump_index.specs.IndexLaws.{HasProps, HasText, IsListed, PropsAreFound, TextsAreFound, listed_props, listed_text, props_by, text_by, props_there, text_there, props_after, text_after}
 use Rattle.dump_index.specs.declared.change.Setting.{Setting}
-use Rattle.dump_index.specs.declared.change.Setting.TheVariants.{Keeps, Replaces, Edits}
+use Rattle.dump_index.specs.declared.change.Setting.TheVariants.{Keeps, Replaces, Edits, EditsNothing}
 use Rattle.dump_index.specs.declared.order.Effect.TheVariants.{Shaping, Moving}
 use Rattle.dump_index.specs.declared.trail.Part.{Part}
 use Rattle.dump_index.specs.declared.trail.Part.TheVariants.{Props, Text}
@@ -459,6 +459,7 @@ keeps_props Keeps None has is v = refl
 keeps_props Keeps (Some change) has is v = absurd has
 keeps_props Replaces o has is v = absurd (let bad : true ≡ false = is in cc)
 keeps_props Edits o has is v = absurd (let bad : true ≡ false = is in cc)
+keeps_props EditsNothing o has is v = absurd (let bad : true ≡ false = is in cc)
 
 whole_props : (s : Setting) (o : Option PropertyChange) → HasProps s o → is_replacing s ≡ true → (v w : List Property)
     → props_by o v ≡ props_by o w
@@ -467,6 +468,7 @@ whole_props Replaces None has is v w = absurd has
 whole_props Replaces (Some (PropertyChange.Replaced entries)) has is v w = refl
 whole_props Replaces (Some (PropertyChange.Edited entries)) has is v w = absurd has
 whole_props Edits o has is v w = absurd (let bad : false ≡ true = is in cc)
+whole_props EditsNothing o has is v w = absurd (let bad : false ≡ true = is in cc)
 
 pub props_found : PropsAreFound
 props_found changes placed count path trail node ordered all is found =
@@ -514,6 +516,7 @@ keeps_text Keeps None has is v = refl
 keeps_text Keeps (Some change) has is v = absurd has
 keeps_text Replaces o has is v = absurd (let bad : true ≡ false = is in cc)
 keeps_text Edits o has is v = absurd (let bad : true ≡ false = is in cc)
+keeps_text EditsNothing o has is v = absurd (let bad : true ≡ false = is in cc)
 
 whole_text : (s : Setting) (o : Option TextChange) → HasText s o → is_replacing s ≡ true → (v w : List ℕ)
     → text_by o v ≡ text_by o w
@@ -522,6 +525,7 @@ whole_text Replaces None has is v w = absurd has
 whole_text Replaces (Some (TextChange.Replaced text)) has is v w = refl
 whole_text Replaces (Some (TextChange.Patched patch)) has is v w = absurd has
 whole_text Edits o has is v w = absurd (let bad : false ≡ true = is in cc)
+whole_text EditsNothing o has is v w = absurd (let bad : false ≡ true = is in cc)
 
 pub texts_found : TextsAreFound
 texts_found changes placed count path trail node ordered all is found =

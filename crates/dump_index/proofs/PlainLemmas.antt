@@ -22,7 +22,7 @@ use Rattle.dump_index.specs.IndexLaws.{HasProps, HasText, IsListed, AreListed, K
 use Rattle.dump_index.specs.declared.change.NodeKind.{NodeKind}
 use Rattle.dump_index.specs.declared.change.NodeKind.TheVariants.{Folder as AFolder, File as AFile}
 use Rattle.dump_index.specs.declared.change.Setting.{Setting}
-use Rattle.dump_index.specs.declared.change.Setting.TheVariants.{Keeps, Replaces, Edits}
+use Rattle.dump_index.specs.declared.change.Setting.TheVariants.{Keeps, Replaces, Edits, EditsNothing}
 use Rattle.dump_index.proofs.LawLemmas.{end_same}
 
 -- ---- changes without what they set
@@ -365,6 +365,9 @@ props_plain Replaces (Some (PropertyChange.Edited entries)) has = absurd has
 props_plain Edits None has = absurd has
 props_plain Edits (Some (PropertyChange.Replaced entries)) has = absurd has
 props_plain Edits (Some (PropertyChange.Edited entries)) has = refl
+props_plain EditsNothing None has = absurd has
+props_plain EditsNothing (Some (PropertyChange.Replaced entries)) has = absurd has
+props_plain EditsNothing (Some (PropertyChange.Edited entries)) has = refl
 
 text_plain : (s : Setting) (o : Option TextChange) → HasText s o → plain_text s ≡ plain_text_of o
 text_plain Keeps None has = refl
@@ -373,6 +376,7 @@ text_plain Replaces None has = absurd has
 text_plain Replaces (Some change) has = refl
 text_plain Edits None has = absurd has
 text_plain Edits (Some change) has = refl
+text_plain EditsNothing o has = absurd has
 
 placed_plain : (l : Listed) (p : Placed) → IsListed l p → placed_of l ≡ plain_placed p
 placed_plain l p is = λ i. record {

@@ -1,17 +1,17 @@
 -- An index tells what exists.
-use Rattle.std.proofs.Common.{◌≡◌, Bool, true, false, not, List, [], ◌∷◌, map, Option, Some, None, is_some, option_map, refl, sym, ap, ◌∙◌}
+use Rattle.std.proofs.Common.{◌≡◌, true, not, List, [], ◌∷◌, map, Option, Some, None, is_some, option_map, refl, sym, ◌∙◌}
 use Rattle.std.specs.List.{AllZip}
 use Rattle.dump_trees.specs.Trees.{Node, root_alone}
 use Rattle.dump_trees.specs.Changes.{PropertyChange, TextChange}
-use Rattle.dump_trees.specs.Looking.{Placed, placed_from, look}
-use Rattle.dump_trees.specs.LoadCheck.{Kind, kind_of_node, patches_text, HasSameKinds}
+use Rattle.dump_trees.specs.Looking.{Placed, look}
+use Rattle.dump_trees.specs.LoadCheck.{kind_of_node, patches_text, HasSameKinds}
 use Rattle.dump_trees.proofs.cuts.PlainLooks.{plain_looks_tell_kinds}
 use Rattle.dump_index.specs.Listed.{Listed, listed_of, placed_of, all_placed, plain_props, plain_text}
-use Rattle.dump_index.specs.Kinds.{node_kind, kind_look}
+use Rattle.dump_index.specs.Kinds.{node_kind}
 use Rattle.dump_index.specs.IndexLaws.{HasProps, HasText, IsListed}
-use Rattle.dump_index.specs.ToldKinds.{kind_meant, kinds_told_by, IndexTellsKinds}
+use Rattle.dump_index.specs.ToldKinds.{kind_meant, IndexTellsKinds}
 use Rattle.dump_index.specs.declared.change.Setting.{Setting}
-use Rattle.dump_index.specs.declared.change.Setting.TheVariants.{Keeps, Replaces, Edits}
+use Rattle.dump_index.specs.declared.change.Setting.TheVariants.{Keeps, Replaces, Edits, EditsNothing}
 
 same_props : (s : Setting) (props : Option PropertyChange) → HasProps s props
     → is_some (plain_props s) ≡ is_some props
@@ -21,6 +21,8 @@ same_props Replaces None has = absurd has
 same_props Replaces (Some change) has = refl
 same_props Edits None has = absurd has
 same_props Edits (Some change) has = refl
+same_props EditsNothing None has = absurd has
+same_props EditsNothing (Some change) has = refl
 
 same_text : (s : Setting) (text : Option TextChange) → HasText s text → is_some (plain_text s) ≡ is_some text
 same_text Keeps None has = refl
@@ -29,11 +31,13 @@ same_text Replaces None has = absurd has
 same_text Replaces (Some change) has = refl
 same_text Edits None has = absurd has
 same_text Edits (Some change) has = refl
+same_text EditsNothing text has = absurd has
 
 no_delta : (s : Setting) → not (patches_text (plain_text s)) ≡ true
 no_delta Keeps = refl
 no_delta Replaces = refl
 no_delta Edits = refl
+no_delta EditsNothing = refl
 
 same_one : (l : Listed) (p : Placed) → IsListed l p → HasSameKinds p (placed_of l)
 same_one l p is = record {

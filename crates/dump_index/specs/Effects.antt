@@ -3,7 +3,7 @@ use Rattle.std.specs.Prelude.{ℕ, zero, suc, Bool, true, false, ◌&&◌, ◌||
 use Rattle.dump_trees.specs.Changes.{is_copied}
 use Rattle.dump_index.specs.Listed.{Listed}
 use Rattle.dump_index.specs.declared.change.Setting.{Setting}
-use Rattle.dump_index.specs.declared.change.Setting.TheVariants.{Keeps, Replaces, Edits}
+use Rattle.dump_index.specs.declared.change.Setting.TheVariants.{Keeps, Replaces, Edits, EditsNothing}
 use Rattle.dump_index.specs.declared.order.Effect.{Effect}
 use Rattle.dump_index.specs.declared.order.Effect.TheVariants.{Shaping, Moving, Props, Texts}
 
@@ -12,6 +12,7 @@ abbrev pub sets : Setting → Bool
 sets Keeps = false
 sets Replaces = true
 sets Edits = true
+sets EditsNothing = true
 
 -- whether a change is of this effect
 abbrev pub has_effect : Effect → Listed → Bool

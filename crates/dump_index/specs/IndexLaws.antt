@@ -17,7 +17,7 @@ use Rattle.dump_index.specs.NamesEver.{AreNamesEver}
 use Rattle.dump_index.specs.Settings.{IsTrail}
 use Rattle.dump_index.specs.declared.change.NodeChange.{NodeChange}
 use Rattle.dump_index.specs.declared.change.Setting.{Setting}
-use Rattle.dump_index.specs.declared.change.Setting.TheVariants.{Keeps, Replaces, Edits}
+use Rattle.dump_index.specs.declared.change.Setting.TheVariants.{Keeps, Replaces, Edits, EditsNothing}
 use Rattle.dump_index.specs.declared.trail.Part.TheVariants.{Props, Text}
 
 -- that properties are set is said of a change that sets some
@@ -29,7 +29,12 @@ HasProps Replaces (Some (PropertyChange.Replaced entries)) = ⊤
 HasProps Replaces (Some (PropertyChange.Edited entries)) = ⊥
 HasProps Edits None = ⊥
 HasProps Edits (Some (PropertyChange.Replaced entries)) = ⊥
-HasProps Edits (Some (PropertyChange.Edited entries)) = ⊤
+HasProps Edits (Some (PropertyChange.Edited [])) = ⊥
+HasProps Edits (Some (PropertyChange.Edited (entry ∷ entries))) = ⊤
+HasProps EditsNothing None = ⊥
+HasProps EditsNothing (Some (PropertyChange.Replaced entries)) = ⊥
+HasProps EditsNothing (Some (PropertyChange.Edited [])) = ⊤
+HasProps EditsNothing (Some (PropertyChange.Edited (entry ∷ entries))) = ⊥
 
 -- that a text is set is said of a change that sets one
 abbrev pub HasText : Setting → Option TextChange → Type 0
@@ -41,6 +46,7 @@ HasText Replaces (Some (TextChange.Patched patch)) = ⊥
 HasText Edits None = ⊥
 HasText Edits (Some (TextChange.Replaced text)) = ⊥
 HasText Edits (Some (TextChange.Patched patch)) = ⊤
+HasText EditsNothing change = ⊥
 
 -- what an index says of a change of a repository
 pub record IsListed (l : Listed) (p : Placed) : Type 0 where

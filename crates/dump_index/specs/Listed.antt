@@ -7,7 +7,7 @@ use Rattle.dump_index.specs.declared.change.NodeChange.{NodeChange}
 use Rattle.dump_index.specs.declared.change.NodeMade.{NodeMade}
 use Rattle.dump_index.specs.declared.change.NodeMade.TheVariants.{Folder, File, CopyOf}
 use Rattle.dump_index.specs.declared.change.Setting.{Setting}
-use Rattle.dump_index.specs.declared.change.Setting.TheVariants.{Keeps, Replaces, Edits}
+use Rattle.dump_index.specs.declared.change.Setting.TheVariants.{Keeps, Replaces, Edits, EditsNothing}
 
 -- a change by the text of its path
 pub record Listed : Type 0 where
@@ -42,12 +42,14 @@ abbrev pub plain_props : Setting → Option PropertyChange
 plain_props Keeps = None
 plain_props Replaces = Some (PropertyChange.Replaced [])
 plain_props Edits = Some (PropertyChange.Edited [])
+plain_props EditsNothing = Some (PropertyChange.Edited [])
 
 -- that a text is set; which, an index doesn't say, so here the empty one
 abbrev pub plain_text : Setting → Option TextChange
 plain_text Keeps = None
 plain_text Replaces = Some (TextChange.Replaced [])
 plain_text Edits = Some (TextChange.Replaced [])
+plain_text EditsNothing = Some (TextChange.Replaced [])
 
 -- the change of a repository that it stands for
 abbrev pub placed_of : Listed → Placed

@@ -5,7 +5,7 @@ use Rattle.dump_trees.specs.Changes.{Made, is_copied}
 use Rattle.dump_trees.specs.Looking.{end_of}
 use Rattle.dump_index.specs.Listed.{Listed, all_placed}
 use Rattle.dump_index.specs.declared.change.Setting.{Setting}
-use Rattle.dump_index.specs.declared.change.Setting.TheVariants.{Keeps, Replaces, Edits}
+use Rattle.dump_index.specs.declared.change.Setting.TheVariants.{Keeps, Replaces, Edits, EditsNothing}
 use Rattle.dump_index.specs.declared.trail.Part.{Part}
 use Rattle.dump_index.specs.declared.trail.Part.TheVariants.{Props, Text}
 use Rattle.dump_index.specs.Effects.{latest_place, sets, shapes}
@@ -20,6 +20,7 @@ abbrev pub is_replacing : Setting → Bool
 is_replacing Keeps = false
 is_replacing Replaces = true
 is_replacing Edits = false
+is_replacing EditsNothing = false
 
 -- whether there is such a change, it sets the part, and is at this path
 abbrev pub sets_there : Part → List ℕ → Option Listed → Bool

@@ -1,5 +1,5 @@
 -- What an index tells of kinds, as the laws of a load check ask for it.
-use Rattle.std.specs.Prelude.{◌≡◌, ℕ, List, map, Option, option_map}
+use Rattle.std.specs.Prelude.{List, map, option_map}
 use Rattle.dump_trees.specs.Trees.{root_alone}
 use Rattle.dump_trees.specs.Looking.{Placed}
 use Rattle.dump_trees.specs.LoadCheck.{Kind, ToldKinds, TellsKinds}

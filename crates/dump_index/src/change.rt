@@ -32,6 +32,8 @@ pub enum Setting {
     Replaces,
     /// They are edited, as by a delta.
     Edits,
+    /// A delta of properties has no entry, so it edits nothing. `svnadmin load` takes it where nothing exists, too.
+    EditsNothing,
 }
 
 /// A change that a node of a dump makes. It deletes what stands at its path, makes something there, and sets properties

@@ -146,6 +146,13 @@ impl<'a> ChangeIndex<'a> {
         self.changes.get(place)
     }
 
+    /// All changes, in the order of the dump.
+    pub fn changes(&self) -> &[NodeChange<'a>]
+        ensures { map listed_of result.now ≡ self.now }
+    {
+        &self.changes
+    }
+
     /// How many changes there are.
     pub fn len(&self) -> usize
         ensures { result ≡ length self.now }

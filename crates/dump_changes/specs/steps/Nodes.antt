@@ -1,11 +1,16 @@
 -- The change that a node makes, as an index lists it.
-use Rattle.std.specs.Prelude.{ℕ, Bool, not, ◌&&◌, List, [], Option, Some, None, is_some, unwrap_or}
+use Rattle.std.specs.Prelude.{ℕ, Bool, true, false, not, ◌&&◌, List, [], ◌∷◌, Option, Some, None, is_some, unwrap_or}
 use Rattle.dump_text.specs.PropertyList.{Property}
 use Rattle.dump_records.specs.RecordText.{DumpRecord}
 use Rattle.dump_trees.specs.Changes.{Change}
 use Rattle.dump_history.specs.RecordChanges.{Patching, MakesChange, has_known_action, has_odd_delta, has_plain_texts}
 use Rattle.dump_index.specs.Listed.{Listed}
 use Rattle.dump_index.specs.IndexLaws.{IsListed}
+
+-- whether there is an entry
+abbrev pub has_entry : List Property → Bool
+has_entry [] = false
+has_entry (p ∷ ps) = true
 
 -- whether the node, whose properties are these, makes a change that is told
 abbrev pub is_told : DumpRecord → Option (List Property) → Bool

@@ -18,7 +18,7 @@ onto_joined : (b : ℕ) (names others : NodePath) (text : List ℕ) → path_tex
 onto_joined b [] others text is = absurd (let bad : [] ≡ 47 ∷ text = is in cc)
 onto_joined b (name ∷ names) others text is = refl
 
-split_joined : (front behind : List ℕ) → split (front ++ 47 ∷ behind) ≡ split front ++ split behind
+pub split_joined : (front behind : List ℕ) → split (front ++ 47 ∷ behind) ≡ split front ++ split behind
 split_joined [] behind = refl
 split_joined (b ∷ front) behind = cases (nat_eq b 47) (split_joined front behind)
   where
@@ -35,7 +35,7 @@ slashes_join_paths front behind =
 -- names
 
 -- a text without a slash is its one name
-split_name : (name : List ℕ) → has_no_slash name ≡ true → split name ≡ name ∷ []
+pub split_name : (name : List ℕ) → has_no_slash name ≡ true → split name ≡ name ∷ []
 split_name [] none = refl
 split_name (b ∷ name) none =
     let parts = and_parts (not (nat_eq b 47)) (has_no_slash name) none in

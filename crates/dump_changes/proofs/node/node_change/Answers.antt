@@ -20,7 +20,7 @@ returns c patched =
         path = sym (ap names_of (c.bare_path.ensures ∙ ap bare_path c.path_of.ensures));
         deletes = sym (c.deletes.ensures ∙ c.action_of-action.ensures.deletes);
         made = sym c.made_of.ensures;
-        props = c.props_of.ensures block.0;
+        props = c.props_of.ensures block.0 block.1;
         text = c.text_of.ensures patched;
       },
     )

@@ -1,0 +1,5 @@
+pub mod CheckLemmas
+pub mod LoadLaws
+pub mod NamedLemmas
+pub mod ParentLemmas
+pub mod RefusalLemmas

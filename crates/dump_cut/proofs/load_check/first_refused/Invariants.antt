@@ -1,0 +1,11 @@
+use Rattle.std.proofs.Common.{List}
+use Rattle.std.specs.List.{AllZip}
+use Rattle.dump_trees.specs.Looking.{Placed}
+use Rattle.dump_index.specs.IndexLaws.{IsListed}
+use Rattle.dump_index.specs.ToldKinds.{kinds_told_by}
+use Rattle.dump_cut.specs.LoadChecks.{NoneRefused}
+use Rattle.dump_cut.proofs.load_check.first_refused.Given as goal
+
+abbrev pub invariant-loop-place : goal.invariant-loop-place
+invariant-loop-place l =
+    (placed : List Placed) → AllZip IsListed l.index placed → NoneRefused (kinds_told_by l.index) placed l.place

@@ -1,0 +1,3 @@
+pub mod KindViews
+pub mod NamedPaths
+pub mod ParentTexts

@@ -1,0 +1,188 @@
+//! Why a load would reject a change.
+ghost use Rattle.std.specs.Prelude.{◌≡◌, Bool, option_map};
+ghost use Rattle.dump_trees.specs.Looking.{Placed};
+ghost use Rattle.dump_trees.specs.LoadCheck.{kind_left, kind_made};
+ghost use Rattle.dump_trees.specs.Paths.{names_of};
+ghost use Rattle.dump_trees.specs.Restriction.{is_root};
+ghost use Rattle.dump_index.specs.IndexLaws.{IsListed};
+ghost use Rattle.dump_index.specs.Listed.{listed_made, listed_of};
+ghost use Rattle.dump_index.specs.ToldKinds.{kind_meant};
+ghost use Rattle.dump_cut.specs.Refusals.{copying_refused, deletion_refused, making_refused, new_refused, parent_refused, props_refused, refused_for, setting_refused, text_refused};
+ghost use Rattle.dump_cut.specs.steps.KindViews.{kinds_meant, sets_some};
+
+use crate::kinds::Kinds;
+use crate::parent_path::is_root;
+use dump_index::{NodeChange, NodeKind, NodeMade, Setting};
+
+/// Why `svnadmin load` would reject a node.
+#[derive(Clone, Copy, Debug, PartialEq, Eq)]
+pub enum Refusal {
+    /// It adds or deletes the root.
+    Root,
+    /// The path does not exist.
+    NoPath,
+    /// The parent of the path is not a directory.
+    NoParent,
+    /// The path already exists.
+    Exists,
+    /// The copy source does not exist.
+    NoSource,
+    /// It sets a text on a directory.
+    TextOnDirectory,
+}
+
+/// Why a load would reject what the change deletes.
+fn deletion_refused(change: &NodeChange<'_>, here: Option<NodeKind>) -> Option<Refusal>
+    ensures { result ≡ deletion_refused change.now.deletes (is_root (names_of change.now.path.now)) (option_map kind_meant here) }
+{
+    if !change.deletes {
+        return None;
+    }
+    if is_root(change.path) {
+        return Some(Refusal::Root);
+    }
+    match here {
+        Some(_) => None,
+        None => Some(Refusal::NoPath),
+    }
+}
+
+/// What exists at the path once the change has deleted.
+fn left_by(change: &NodeChange<'_>, here: Option<NodeKind>) -> Option<NodeKind>
+    ensures { option_map kind_meant result ≡ kind_left change.now.deletes (option_map kind_meant here) }
+{
+    if change.deletes { None } else { here }
+}
+
+/// Why a load would reject a parent that is of this kind.
+fn parent_refused(parent: Option<NodeKind>) -> Option<Refusal>
+    ensures { result ≡ parent_refused (option_map kind_meant parent) }
+{
+    match parent {
+        Some(NodeKind::Folder) => None,
+        _ => Some(Refusal::NoParent),
+    }
+}
+
+/// Why a load would reject something new, where this is left at its path.
+fn new_refused(at_root: bool, left: Option<NodeKind>, parent: Option<NodeKind>) -> Option<Refusal>
+    ensures { result ≡ new_refused at_root (option_map kind_meant left) (option_map kind_meant parent) }
+{
+    if at_root {
+        return Some(Refusal::Root);
+    }
+    match left {
+        Some(_) => Some(Refusal::Exists),
+        None => parent_refused(parent),
+    }
+}
+
+/// Why a load would reject a copy.
+fn copying_refused(
+    at_root: bool,
+    source: Option<NodeKind>,
+    parent: Option<NodeKind>,
+) -> Option<Refusal>
+    ensures { result ≡ copying_refused at_root (option_map kind_meant source) (option_map kind_meant parent) }
+{
+    if at_root {
+        return Some(Refusal::Root);
+    }
+    match source {
+        Some(_) => parent_refused(parent),
+        None => Some(Refusal::NoSource),
+    }
+}
+
+/// Why a load would reject what the change makes, where this is left at its path.
+fn making_refused(change: &NodeChange<'_>, left: Option<NodeKind>, kinds: &Kinds) -> Option<Refusal>
+    ensures { result ≡ making_refused (option_map listed_made change.now.made) (is_root (names_of change.now.path.now))
+        (option_map kind_meant left) (kinds_meant kinds.now) }
+{
+    match change.made {
+        None => None,
+        Some(NodeMade::Folder) => new_refused(is_root(change.path), left, kinds.parent),
+        Some(NodeMade::File) => new_refused(is_root(change.path), left, kinds.parent),
+        Some(NodeMade::CopyOf(_)) => copying_refused(
+            is_root(change.path),
+            kinds.source,
+            kinds.parent,
+        ),
+    }
+}
+
+/// What exists at the path once the change has made something, where this is left there and exists at its copy's source.
+fn made_by(
+    change: &NodeChange<'_>,
+    left: Option<NodeKind>,
+    source: Option<NodeKind>,
+) -> Option<NodeKind>
+    ensures { option_map kind_meant result
+        ≡ kind_made (option_map listed_made change.now.made) (option_map kind_meant left) (option_map kind_meant source) }
+{
+    match change.made {
+        None => left,
+        Some(NodeMade::Folder) => Some(NodeKind::Folder),
+        Some(NodeMade::File) => Some(NodeKind::File),
+        Some(NodeMade::CopyOf(_)) => source,
+    }
+}
+
+/// Whether properties or a text are set, so that a node has to exist.
+fn sets_some(setting: Setting) -> bool
+    ensures { result ≡ sets_some setting }
+{
+    matches!(setting, Setting::Replaces | Setting::Edits)
+}
+
+/// Why a load would reject properties that are set on this.
+fn props_refused(sets: bool, made: Option<NodeKind>) -> Option<Refusal>
+    ensures { result ≡ props_refused sets (option_map kind_meant made) }
+{
+    if !sets {
+        return None;
+    }
+    match made {
+        Some(_) => None,
+        None => Some(Refusal::NoPath),
+    }
+}
+
+/// Why a load would reject a text that is set on this.
+fn text_refused(sets: bool, made: Option<NodeKind>) -> Option<Refusal>
+    ensures { result ≡ text_refused sets (option_map kind_meant made) }
+{
+    if !sets {
+        return None;
+    }
+    match made {
+        None => Some(Refusal::NoPath),
+        Some(NodeKind::Folder) => Some(Refusal::TextOnDirectory),
+        Some(NodeKind::File) => None,
+    }
+}
+
+/// Why a load would reject the properties and the text that the change sets on this.
+fn setting_refused(change: &NodeChange<'_>, made: Option<NodeKind>) -> Option<Refusal>
+    ensures { result ≡ setting_refused (sets_some change.now.props) (sets_some change.now.text) (option_map kind_meant made) }
+{
+    match props_refused(sets_some(change.props), made) {
+        Some(reason) => Some(reason),
+        None => text_refused(sets_some(change.text), made),
+    }
+}
+
+/// Why `svnadmin load` would reject the change, where these kinds of node exist; none where it takes it. Whether a text
+/// delta fits the old text isn't asked.
+pub fn refusal_of(change: &NodeChange<'_>, kinds: &Kinds) -> Option<Refusal>
+    ensures { (p : Placed) → IsListed (listed_of change.now) p → result ≡ refused_for p.change (kinds_meant kinds.now) }
+{
+    if let Some(reason) = deletion_refused(change, kinds.here) {
+        return Some(reason);
+    }
+    let left = left_by(change, kinds.here);
+    if let Some(reason) = making_refused(change, left, kinds) {
+        return Some(reason);
+    }
+    setting_refused(change, made_by(change, left, kinds.source))
+}
