@@ -1,9 +1,10 @@
 # make            proves and builds the program, build/svndumpfilter
 # make survey     proves and builds the second program, build/svndumpsurvey
-# make test       proves what isn't proved yet, runs the tests of every crate, and then tests/ on the program
+# make test       proves what isn't proved yet, runs the tests of every crate, and then tests/ on the program. Behind rt ci,
+#                 which proves every crate from nothing and runs its tests, PROVED=ci make test takes both programs from
+#                 there, runs tests/ on them, and tries the wrong bodies too
 # make suites     runs tests/ on the program alone
-# make gate       what a merge needs beside that: proves every crate and its tests once more from nothing, sees that
-#                 the named wrong bodies are refused, and tries all others in batches
+# make mutants    tries the wrong bodies in batches, and sees that the checks fail where they have to
 # make check      checks the crate that CRATE names, with what was proved of it before
 # make case       runs the case that NAME names
 # make bench      measures both programs on made dumps, beside the filter on one thread, md5sum, sha1sum, cat and, where it
@@ -26,13 +27,22 @@ SURVEY := build/svndumpsurvey
 PLAIN := build/run_plain
 INSTALLED := PREFIX="$(PREFIX)" DESTDIR="$(DESTDIR)" NAME="$(NAME)" FORCE="$(FORCE)" tools/installed
 SOURCES := $(shell tools/sources)
+# each suite works in folders of its own, so they run beside each other; what one says comes together
+BESIDE := $(MAKE) --no-print-directory --jobs=$(shell nproc) --output-sync=target --keep-going
 # a suite that calls make itself takes none of this make's jobs
 ALONE := env -u MAKEFLAGS -u MFLAGS
+# the longest come first
+MUTANTS := $(addprefix suite-,wrong guards)
 SUITES := $(addprefix suite-,refusals meaning hostile cases surveys stock install pages trusted words edits)
+ifeq ($(PROVED),ci)
+BUILD := tools/build --proved
+else
+BUILD := tools/build
+endif
 
 # a target for each suite of tests/
-.PHONY: $(SUITES)
-.PHONY: all survey toolchain test suites gate check case bench soak install uninstall deb clean
+.PHONY: $(SUITES) $(MUTANTS)
+.PHONY: all survey toolchain test suites mutants check case bench soak install uninstall deb clean
 .DELETE_ON_ERROR:
 
 all: $(PROGRAM)
@@ -42,7 +52,7 @@ toolchain:
 
 $(PROGRAM): $(SOURCES) | toolchain
 	@echo "make: proving and building $@; from nothing this takes 36 to 46 minutes of processor time"
-	@tools/build
+	@$(BUILD)
 	@echo "make: $@ is built"
 
 survey: $(SURVEY)
@@ -50,21 +60,29 @@ survey: $(SURVEY)
 # a build waits for another one, and takes what that one proved
 $(SURVEY): $(SOURCES) | toolchain
 	@echo "make: proving and building $@; its own four crates take some 20 minutes of processor time from nothing"
-	@tools/build svndumpsurvey
+	@$(BUILD) svndumpsurvey
 	@echo "make: $@ is built"
 
+ifeq ($(PROVED),ci)
+test: | toolchain
+	@echo "make: taking both programs from rt ci, and running tests/ on them, the wrong bodies too"
+	@$(BUILD) $(notdir $(PROGRAM) $(SURVEY))
+	+@$(BESIDE) $(MUTANTS) $(SUITES)
+else
 # all in one go: what doesn't stand on each other is proved beside each other, each crate once, its tests behind it
 test: | toolchain
 	@echo "make: proving and building what isn't current of both programs, and proving and running the tests of every crate"
-	@tools/build --old --tests $(notdir $(PROGRAM) $(SURVEY))
+	@$(BUILD) --old --tests $(notdir $(PROGRAM) $(SURVEY))
 	@$(MAKE) --no-print-directory suites
+endif
 
-# each suite works in folders of its own, so they run beside each other; what one says comes together
 suites: $(PROGRAM) $(SURVEY)
 	@echo "make: running tests/ on both programs"
-	@$(MAKE) --no-print-directory --jobs=$(shell nproc) --output-sync=target --keep-going $(SUITES)
+	+@$(BESIDE) $(SUITES)
 
-# the longest come first
+mutants: | toolchain
+	+@$(BESIDE) $(MUTANTS)
+
 suite-refusals:
 	@echo "make: refusing each growth of memory and each start of a thread in turn"
 	tests/refusals $(PROGRAM)
@@ -109,11 +127,11 @@ suite-edits:
 	@echo "make: looking whether each wrong body fits the sources as they stand"
 	tests/wrong --fit
 
-gate: | toolchain
-	@echo "make: proving every crate from nothing, with its tests and the named wrong bodies"
-	rt ci
-	@echo "make: trying all other wrong bodies, in rounds"
+suite-wrong:
+	@echo "make: trying the wrong bodies, in rounds"
 	tests/wrong
+
+suite-guards:
 	@echo "make: seeing that tests/wrong, tests/trusted and tests/words fail where they have to"
 	tests/guards
 

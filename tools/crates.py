@@ -1,5 +1,7 @@
 """What the scripts ask of the repository's crates, and copies of them in which the toolchain can work."""
 import contextlib
+import functools
+import importlib.util
 import os
 import re
 import shutil
@@ -61,9 +63,40 @@ def room(crate, known, folder):
     os.mkdir(os.path.join(folder, ".git"))
     for name in known:
         copied(name, folder, PARTS)
-    for name in below(crate, known):
+    libraries_below = below(crate, known)
+    for name in libraries_below:
         copied(name, folder, ["out/rlib"], linked)
+    if libraries_below and all(map(is_left_by_the_gate, libraries_below)):
+        mark(libraries_below, folder)
     return os.path.join(folder, "crates", crate)
+
+
+def is_left_by_the_gate(crate):
+    """Whether rt ci built the library that stands in a crate, from its sources as they are. It leaves no stamp: a library
+    fits only those that it was built over, and in the crates' folders these may be built again, one by one."""
+    built = path("crates", crate, "out", "rlib")
+    if not os.path.isdir(os.path.join(built, crate + ".rlib")) or os.path.exists(os.path.join(built, "stamp")):
+        return False
+    files = (os.path.join(at, name) for part in PARTS for at, _, names in os.walk(path("crates", crate, part)) for name in names)
+    return all(os.path.getmtime(it) <= os.path.getmtime(built) for it in files)
+
+
+@functools.cache
+def toolchain():
+    """What rt itself knows of crates."""
+    file = os.path.join(os.path.dirname(os.path.realpath(shutil.which("rt"))), "rtlib.py")
+    spec = importlib.util.spec_from_file_location("rtlib", file)
+    module = importlib.util.module_from_spec(spec)
+    spec.loader.exec_module(module)
+    return module
+
+
+def mark(crates, folder):
+    """Marks the libraries in a copy as built from the sources there, so that the toolchain proves none of them again."""
+    for it in toolchain().crates_below(os.path.realpath(folder)):
+        if it.name in crates:
+            with open(os.path.join(it.folder, "out", "rlib", "stamp"), "w", encoding="utf-8") as stamp:
+                stamp.write(it.stamp())
 
 
 @contextlib.contextmanager
