@@ -25,8 +25,8 @@ FORCE ?=
 PROGRAM := build/svndumpfilter
 SURVEY := build/svndumpsurvey
 PLAIN := build/run_plain
-INSTALLED := PREFIX="$(PREFIX)" DESTDIR="$(DESTDIR)" NAME="$(NAME)" FORCE="$(FORCE)" tools/installed
-SOURCES := $(shell tools/sources)
+INSTALLED := PREFIX="$(PREFIX)" DESTDIR="$(DESTDIR)" NAME="$(NAME)" FORCE="$(FORCE)" tools/install.sh
+SOURCES := $(shell tools/list_sources.sh)
 # each suite works in folders of its own, so they run beside each other; what one says comes together
 BESIDE := $(MAKE) --no-print-directory --jobs=$(shell nproc) --output-sync=target --keep-going
 # a suite that calls make itself takes none of this make's jobs
@@ -35,9 +35,9 @@ ALONE := env -u MAKEFLAGS -u MFLAGS
 MUTANTS := $(addprefix suite-,wrong guards)
 SUITES := $(addprefix suite-,refusals meaning hostile cases surveys stock install pages trusted words edits)
 ifeq ($(PROVED),ci)
-BUILD := tools/build --proved
+BUILD := tools/build.py --proved
 else
-BUILD := tools/build
+BUILD := tools/build.py
 endif
 
 # a target for each suite of tests/
@@ -85,72 +85,72 @@ mutants: | toolchain
 
 suite-refusals:
 	@echo "make: refusing each growth of memory and each start of a thread in turn"
-	tests/refusals $(PROGRAM)
+	tests/fault_injection.py $(PROGRAM)
 
 suite-meaning:
 	@echo "make: loading what $(PROGRAM) writes, and comparing it with what is meant where $(SURVEY) is silent"
-	tests/meaning $(PROGRAM) $(SURVEY)
+	tests/check_loaded_trees.py $(PROGRAM) $(SURVEY)
 
 suite-cases:
 	@echo "make: running tests/cases on $(PROGRAM)"
-	tests/run $(PROGRAM)
+	tests/run_cases.py $(PROGRAM)
 
 suite-surveys:
 	@echo "make: running tests/survey on $(SURVEY)"
-	tests/run --survey $(SURVEY)
+	tests/run_cases.py --survey $(SURVEY)
 
 suite-hostile:
 	@echo "make: running $(PROGRAM) on hostile input, streams and limits"
-	tests/hostile $(PROGRAM)
+	tests/hostile_input.py $(PROGRAM)
 
 suite-stock:
 	@echo "make: comparing $(PROGRAM) with the stock svndumpfilter"
-	tests/stock $(PROGRAM)
+	tests/compare_with_subversion.py $(PROGRAM)
 
 suite-install:
 	@echo "make: installing both programs into an empty root"
-	$(ALONE) tests/install
+	$(ALONE) tests/check_install.sh
 
 suite-pages:
 	@echo "make: running the examples of the manual pages and of the README"
-	$(ALONE) tests/pages $(PROGRAM)
+	$(ALONE) tests/check_examples.py $(PROGRAM)
 
 suite-trusted:
-	@echo "make: looking whether the README lists the definitions of the statement"
-	tests/trusted
+	@echo "make: looking whether docs/TRUSTED.md lists the definitions of the statement"
+	tests/check_trusted.py
 
 suite-words:
 	@echo "make: looking whether each definition's name stands in one crate"
-	tests/words
+	tests/check_names.py
 
 suite-edits:
 	@echo "make: looking whether each wrong body fits the sources as they stand"
-	tests/wrong --fit
+	tests/mutants.py --fit
 
 suite-wrong:
 	@echo "make: trying the wrong bodies, in rounds"
-	tests/wrong
+	tests/mutants.py
 
 suite-guards:
-	@echo "make: seeing that tests/wrong, tests/trusted and tests/words fail where they have to"
-	tests/guards
+	@echo "make: seeing that tests/mutants.py, tests/check_trusted.py and tests/check_names.py fail where they have to"
+	tests/check_the_checks.py
 
 check: | toolchain
 	cd crates/$(CRATE) && rt check
 
 case: $(PROGRAM)
-	tests/run $(PROGRAM) $(NAME)
+	tests/run_cases.py $(PROGRAM) $(NAME)
 
 # the same filter on one thread, over the same crates
-$(PLAIN): $(PROGRAM) bench/plain bench/run_plain.rt.in
+$(PLAIN): $(PROGRAM) bench/build_plain.sh bench/run_plain.rt.in
 	@echo "make: building $@"
-	@bench/plain
+	@bench/build_plain.sh
 
 bench: $(PROGRAM) $(PLAIN) $(SURVEY)
-	bench/measure $(PROGRAM) $(PLAIN) $(SURVEY)
+	bench/bench.py $(PROGRAM) $(PLAIN) $(SURVEY)
 
 soak: $(PROGRAM) $(PLAIN)
-	bench/soak
+	bench/soak.py
 
 install: $(PROGRAM) $(SURVEY)
 	@$(INSTALLED) put
@@ -159,7 +159,7 @@ uninstall:
 	@$(INSTALLED) take
 
 deb: $(PROGRAM) $(SURVEY)
-	tools/deb
+	tools/make_deb.sh
 
 clean:
 	@echo "make: removing build/"

@@ -1,7 +1,7 @@
 #!/usr/bin/env python3
 """Runs a program on each case of tests/cases, and compares every byte that it writes, and its status.
 
-    tests/run [--survey] [PROGRAM] [NAME..]
+    tests/run_cases.py [--survey] [PROGRAM] [NAME..]
 
 PROGRAM is build/svndumpfilter where none is given, and with NAMEs only those cases are run. With --survey the cases are
 those of tests/survey, and the program is build/svndumpsurvey. A case is a folder tests/cases/NAME with the files args (one word a line), stdin, stdout, stderr and status; a file that isn't there
@@ -98,7 +98,7 @@ def main(words):
         words, name, CASES, PLANS = words[1:], "svndumpsurvey", os.path.join(HERE, "survey"), []
     program = os.path.abspath(words[0] if words else os.path.join(HERE, "..", "build", name))
     if not os.access(program, os.X_OK):
-        print(f"tests/run: there is no program {program}", file=sys.stderr)
+        print(f"tests/run_cases.py: there is no program {program}", file=sys.stderr)
         print("0 passed, 1 failed")
         return 1
     passed = failed = 0

@@ -1,7 +1,7 @@
 #!/usr/bin/env python3
 """Tries the wrong bodies of crates/*/wrong: each has to be refused, by a goal of the function that it changes.
 
-    tests/wrong [--fit] [CRATE..]
+    tests/mutants.py [--fit] [CRATE..]
 
 A wrong body is a file wrong/SENTENCE.edit of a crate. Its lines are 'file: src/FILE', 'function: PATH', where PATH is
 the changed function as the check names it, and pairs 'old: TEXT' and 'new: TEXT': TEXT stands once in the file, and
@@ -30,7 +30,7 @@ from concurrent.futures import ThreadPoolExecutor
 TOP = os.path.join(os.path.dirname(os.path.abspath(__file__)), "..")
 sys.path.insert(0, os.path.join(TOP, "tools"))
 sys.dont_write_bytecode = True
-from crates import PARTS, copied, lanes, libraries, room
+from repository import PARTS, copied, lanes, libraries, room
 
 FUNCTION = re.compile(r"^fn (\S+): (.*)")
 GOAL = re.compile(r"^note: \S+: (.*)")
@@ -214,9 +214,9 @@ class Trial:
     def tell(self):
         """Says how the trial ended."""
         for name, why in self.wrong.items():
-            print(f"tests/wrong: {name}: {why}", flush=True)
+            print(f"tests/mutants.py: {name}: {why}", flush=True)
         bodies = f"{self.size} wrong bodies in {self.count} rounds"
-        print(f"tests/wrong: {self.crate}: {bodies}, {len(self.wrong)} of them not as they must be", flush=True)
+        print(f"tests/mutants.py: {self.crate}: {bodies}, {len(self.wrong)} of them not as they must be", flush=True)
 
 
 class Trials:
@@ -286,7 +286,7 @@ def fit_all(crates):
     results = [misfits(it) for it in crates]
     failed = [why for found, _ in results for why in found]
     for why in failed:
-        print(f"tests/wrong: {why}")
+        print(f"tests/mutants.py: {why}")
     passed = sum(fit for _, fit in results)
     print(f"{passed} passed, {len(failed)} failed")
     return 1 if failed or not passed else 0
@@ -298,7 +298,7 @@ def main(words):
         return fit_all(words[1:] or known)
     able = [it for it in known if os.path.isdir(os.path.join(TOP, "crates", it, "wrong"))]
     if not set(words) <= set(able):
-        print(f"tests/wrong: no wrong bodies: {' '.join(it for it in words if it not in able)}; there are some in {' '.join(able)}")
+        print(f"tests/mutants.py: no wrong bodies: {' '.join(it for it in words if it not in able)}; there are some in {' '.join(able)}")
         return 2
     with tempfile.TemporaryDirectory(prefix="wrong-") as folder:
         trials = Trials(words or able, known, folder)

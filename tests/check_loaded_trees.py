@@ -1,7 +1,7 @@
 #!/usr/bin/env python3
 """Sees that the loaded repository is the one that is meant wherever the survey is silent.
 
-    tests/meaning [PROGRAM [SURVEY [SEED]]]
+    tests/check_loaded_trees.py [PROGRAM [SURVEY [SEED]]]
 
 PROGRAM is build/svndumpfilter, SURVEY build/svndumpsurvey and SEED 1 where none is given. Repositories are made by
 svnmucc and svn: copies, renames of projects and of the folders above them, replaced and deleted folders, properties,
@@ -627,7 +627,7 @@ def main(words):
     seed = int(words[2]) if len(words) > 2 else 1
     why = left_out()
     if why:
-        print(f"tests/meaning: left out, since {why}")
+        print(f"tests/check_loaded_trees.py: left out, since {why}")
         return 0
     verdicts = collections.Counter()
     with tempfile.TemporaryDirectory() as folder, concurrent.futures.ThreadPoolExecutor(os.cpu_count()) as pool:
@@ -638,7 +638,7 @@ def main(words):
             if run.why:
                 print(f"{run.name}, {' '.join(run.own.words)}: {run.why}; kept in {run.keep()}")
     for verdict, count in sorted(verdicts.items()):
-        print(f"tests/meaning: {count} {verdict}")
+        print(f"tests/check_loaded_trees.py: {count} {verdict}")
     failed = verdicts["failed"]
     print(f"{verdicts.total() - failed} passed, {failed} failed")
     return 1 if failed or not runs else 0

@@ -5,7 +5,7 @@
 set -eu
 cd "$(dirname -- "$0")/.."
 package=svndumpfilter-proved
-survey=$(tools/survey_name "$package")
+survey=$(tools/installed_names.sh "$package")
 maintainer='The maintainers of svndumpfilter-proved <maintainers@users.noreply.geimust.example>'
 root=build/deb
 documents=$root/usr/share/doc/$package
@@ -24,7 +24,7 @@ fi
 day=$(commit %cD)
 
 rm -rf "$root" build/${package}_*.deb
-DESTDIR=$root PREFIX=/usr NAME=$package FORCE=1 tools/installed put > /dev/null
+DESTDIR=$root PREFIX=/usr NAME=$package FORCE=1 tools/install.sh put > /dev/null
 rm "$documents/installed"
 strip --strip-all "$root/usr/bin/$package" "$root/usr/bin/$survey"
 gzip -9n "$root/usr/share/man/man1/$package.1" "$root/usr/share/man/man1/$survey.1"
@@ -49,7 +49,7 @@ loads=$(objdump -p "$root/usr/bin/$package" "$root/usr/bin/$survey" | sed -n 's/
 needs=$(objdump -T "$root/usr/bin/$package" "$root/usr/bin/$survey" |
     sed -n 's/.*GLIBC_\([0-9.]*\).*/\1/p' | sort -u -V | tail -n 1)
 if [ "$loads" != libc.so.6 ] || [ -z "$needs" ]; then
-    echo "tools/deb: the programs load more than the C library, and no package is known for that: $loads" >&2
+    echo "tools/make_deb.sh: the programs load more than the C library, and no package is known for that: $loads" >&2
     exit 1
 fi
 

@@ -17,7 +17,7 @@ page=$plain/opt/filter/share/man/man1
 trap 'rm -rf "$root"' EXIT
 
 fail() {
-    echo "tests/install: $1"
+    echo "tests/check_install.sh: $1"
     exit 1
 }
 
@@ -104,7 +104,7 @@ for tool in dpkg-deb objdump strip; do
     command -v $tool > /dev/null || missing="$missing $tool"
 done
 if [ -n "$missing" ]; then
-    echo "tests/install: no package was made, since these aren't there:$missing"
+    echo "tests/check_install.sh: no package was made, since these aren't there:$missing"
 else
     make -s deb > /dev/null
     package=$(ls build/${name}_*.deb)
@@ -123,4 +123,4 @@ else
         lintian --fail-on error "$package" > "$root/said" 2>&1 || fail "lintian: $(cat "$root/said")"
     fi
 fi
-echo "tests/install: all passed"
+echo "tests/check_install.sh: all passed"

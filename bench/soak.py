@@ -1,7 +1,7 @@
 #!/usr/bin/env python3
 """Runs the program on random dumps by random plans, and compares what it writes with the filter on one thread.
 
-    bench/soak [RUNS [SEED]]
+    bench/soak.py [RUNS [SEED]]
 
 Half of the runs are pinned to one core, where taskset is. Some dumps are cut off or have a broken byte, so that runs end
 early. A run that takes longer than a minute counts as one that never ends. The last line is 'N passed, M failed'.
@@ -25,7 +25,7 @@ def made(chance):
     """A dump: whole, cut off, or with a broken byte."""
     words = ["--revisions", chance.randint(1, 80), "--nodes", chance.randint(0, 12), "--text", chance.choice([0, 8, 300, 5000])]
     words += ["--copies", chance.choice([0, 0.2]), "--mergeinfo", chance.choice([0, 0.2]), "--seed", chance.randint(1, 1 << 30)]
-    dump = subprocess.run([os.path.join(HERE, "make_dump"), *map(str, words)], stdout=subprocess.PIPE, check=True).stdout
+    dump = subprocess.run([os.path.join(HERE, "make_dump.py"), *map(str, words)], stdout=subprocess.PIPE, check=True).stdout
     fate, place = chance.random(), chance.randrange(len(dump))
     if fate < 0.2:
         return dump[:place]

@@ -2,7 +2,7 @@
 """Measures the program on made dumps, beside the same filter on one thread, the survey, the stock svndumpfilter, and tools
 that only read the same bytes.
 
-    bench/measure [PROGRAM [PLAIN [SURVEY]]]
+    bench/bench.py [PROGRAM [PLAIN [SURVEY]]]
 
 PROGRAM is build/svndumpfilter, PLAIN build/run_plain and SURVEY build/svndumpsurvey where none is given. All runs are made
 on one machine, the commands of a dump in turn and that five times, with output to /dev/null; of each command the quickest
@@ -109,7 +109,7 @@ def others(program, survey):
 
 def head(title, arguments, path):
     """The lines above the rows of a dump."""
-    print(f"\n{title}: {os.path.getsize(path) / 1e6:.0f} MB (make_dump {' '.join(arguments)})")
+    print(f"\n{title}: {os.path.getsize(path) / 1e6:.0f} MB (make_dump.py {' '.join(arguments)})")
     print(f"{'':36}{'seconds':>9}{'used':>9}{'MB/s':>9}{'memory':>9}{'switches':>10}{'times':>8}")
 
 
@@ -139,7 +139,7 @@ def show(program, plain, survey, path):
 
 def make(arguments, path):
     with open(path, "wb") as dump:
-        subprocess.run([os.path.join(HERE, "make_dump"), *arguments], stdout=dump, check=True)
+        subprocess.run([os.path.join(HERE, "make_dump.py"), *arguments], stdout=dump, check=True)
 
 
 def main(words):

@@ -1,7 +1,7 @@
 #!/usr/bin/env python3
 """Sees that a definition's name stands in one crate, and that files of one name hold one thing.
 
-    tests/words
+    tests/check_names.py
 
 It fails where two crates define a public name in their specs/. It fails too where a crate and one that it stands on have a
 file of sources of the same name with unlike contents; tests, laws and the first file of a crate are not looked at. The last
@@ -83,7 +83,7 @@ def named_alike():
 def main():
     checks = [defined_twice(), named_alike()]
     for sentence in sum(checks, []):
-        print(f"tests/words: {sentence}")
+        print(f"tests/check_names.py: {sentence}")
     failed = sum(bool(it) for it in checks)
     print(f"{len(checks) - failed} passed, {failed} failed")
     return 1 if failed else 0

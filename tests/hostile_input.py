@@ -1,7 +1,7 @@
 #!/usr/bin/env python3
 """Runs a program on what breaks other programs, and looks at its status, its line, and what arrived.
 
-    tests/hostile [PROGRAM] [TEXT]
+    tests/hostile_input.py [PROGRAM] [TEXT]
 
 PROGRAM is build/svndumpfilter where none is given, and with TEXT only the tests whose names have it are run. Each run
 is bounded in time. Whatever happens, the program ends by itself with an answer of its manual page, and what it wrote is

@@ -1,11 +1,11 @@
 #!/usr/bin/env python3
-"""Lists the definitions that the theorem's statement needs, and compares them with the README's list.
+"""Lists the definitions that the theorem's statement needs, and compares them with the list in docs/TRUSTED.md.
 
-    tests/trusted [--print]
+    tests/check_trusted.py [--print]
 
 It begins with the words in the signatures of `run`, `run_plain` and `drive`, and then of the survey's calls and the laws, and
 follows each word to its definition and from there to the words of that one. Each file stands behind those that it needs.
-With --print it writes the README's part. The files that it lists hold these definitions and no others, and stand right in
+With --print it writes that list. The files that it lists hold these definitions and no others, and stand right in
 a crate's specs/; all other definitions stand in specs/steps/. The last line is 'N passed, M failed'.
 """
 import functools
@@ -16,7 +16,7 @@ import sys
 TOP = os.path.join(os.path.dirname(os.path.abspath(__file__)), "..")
 STATEMENTS = [("dump_pipeline", "pipeline", "run"), ("dump_pipeline", "plain", "run_plain"), ("dump_cli", "drive", "drive")]
 SURVEYS = [("dump_survey", "survey", "survey_dump"), ("dump_survey", "survey_text", "write_survey"), ("dump_survey", "left_out_mergeinfo", "left_out_lines"), ("dump_survey", "folders", "folders_to_make"), ("dump_survey", "as_well", "keep_as_well"), ("dump_survey", "survey_text", "write_behind"), ("dump_survey", "map", "write_map"), ("survey_cli", "drive", "drive")]
-BEGIN = "<!-- the definitions of the statement, by tests/trusted --print -->\n"
+BEGIN = "<!-- the definitions of the statement, by tests/check_trusted.py --print -->\n"
 END = "<!-- the end of the definitions -->\n"
 # `use M.{a, b as c}` and `use M as c`, of the modules of this repository
 USE = re.compile(r"^[ ]*(?:ghost |pub )*use Rattle\.(dump_\w+|survey_cli)\.specs\.([\w.-]+?)(?:\.\{([^}]*)\}|[ ]as[ ](\S+?));?$", re.MULTILINE)
@@ -96,7 +96,7 @@ def at(crate, path, name):
     for count in range(len(parts), 0, -1):
         if os.path.isfile(os.path.join(TOP, "crates", crate, "specs", *parts[:count]) + ".antt"):
             return ".".join(parts[:count]), parts[count] if count < len(parts) else None
-    raise SystemExit(f"tests/trusted: there is no module {path} in the definitions of {crate}")
+    raise SystemExit(f"tests/check_trusted.py: there is no module {path} in the definitions of {crate}")
 
 
 class Needed:
@@ -203,12 +203,12 @@ def main(words):
     if words == ["--print"]:
         print(wanted, end="")
         return 0
-    told = read("README.md").partition(BEGIN)[2].partition(END)[0]
+    told = read("docs", "TRUSTED.md").partition(BEGIN)[2].partition(END)[0]
     wrong = misplaced(found)
     for sentence in wrong:
-        print(f"tests/trusted: {sentence}")
+        print(f"tests/check_trusted.py: {sentence}")
     if told != wanted:
-        print("tests/trusted: the README's list of definitions is another than that of tests/trusted --print")
+        print("tests/check_trusted.py: the list in docs/TRUSTED.md is another than that of tests/check_trusted.py --print")
     failed = int(told != wanted) + int(bool(wrong))
     print(f"{2 - failed} passed, {failed} failed")
     return 1 if failed else 0

@@ -1,9 +1,9 @@
 #!/usr/bin/env python3
 """Refuses each growth of memory and each start of a thread, one in each run, in turn.
 
-    tests/refusals [PROGRAM]
+    tests/fault_injection.py [PROGRAM]
 
-PROGRAM is build/svndumpfilter where none is given. tests/refuse.c is loaded into it, which counts what it asks for; a
+PROGRAM is build/svndumpfilter where none is given. tests/fault_injection.c is loaded into it, which counts what it asks for; a
 round ends with the first run that asks less often than the refusal's number. Whatever is refused, the program ends at
 once, with its usual answer or with a failure of memory or threads, and what it wrote is the first part of the text, of the
 length that it tells. The same is done with each test of the crates whose name tells of running out of memory or of a refused
@@ -46,7 +46,7 @@ class Round:
         self.command = command
         self.input = given
         self.report = os.path.join(folder, "report")
-        self.shim = os.path.join(folder, "refuse.so")
+        self.shim = os.path.join(folder, "fault_injection.so")
 
     def run(self, refusal):
         """Runs with one refusal, and returns how often each thing was asked for, and what was wrong."""
@@ -139,10 +139,10 @@ def main(words):
     program = os.path.abspath(words[0] if words else os.path.join(HERE, "..", "build", "svndumpfilter"))
     compiler = shutil.which("cc") or shutil.which("gcc") or shutil.which("clang")
     if compiler is None:
-        print("tests/refusals: there is no C compiler, so nothing was refused")
+        print("tests/fault_injection.py: there is no C compiler, so nothing was refused")
         return 0
     with tempfile.TemporaryDirectory() as folder:
-        source, shim = os.path.join(HERE, "refuse.c"), os.path.join(folder, "refuse.so")
+        source, shim = os.path.join(HERE, "fault_injection.c"), os.path.join(folder, "fault_injection.so")
         subprocess.run([compiler, "-O1", "-shared", "-fPIC", "-o", shim, source, "-ldl"], check=True)
         passed, failed = plans(program, folder)
         for one_round in rounds(program, folder):

@@ -1,8 +1,8 @@
 #!/bin/sh
 # Puts both programs, their manual pages and their documents under $DESTDIR$PREFIX, or takes them away. The filter's
-# name is $NAME, and the survey's is as tools/survey_name says.
+# name is $NAME, and the survey's is as tools/installed_names.sh says.
 #
-#     tools/installed put|take
+#     tools/install.sh put|take
 #
 # What was put is noted, with digests, in share/doc/$NAME/installed. A file that stands at one of the places and isn't as
 # noted there is somebody else's: it is overwritten only where $FORCE is 1, and never taken away.
@@ -11,7 +11,7 @@ cd "$(dirname -- "$0")/.."
 root=$DESTDIR$PREFIX
 documents=share/doc/$NAME
 note=$documents/installed
-survey=$(tools/survey_name "$NAME")
+survey=$(tools/installed_names.sh "$NAME")
 pages=share/man/man1
 files="bin/$NAME bin/$survey $pages/$NAME.1 $pages/$survey.1
     $documents/README.md $documents/DIFFERENCES.md $documents/SURVEY.md"
@@ -30,7 +30,7 @@ refuse_to_overwrite() {
     status=0
     for file in $files; do
         if is_there "$file" && ! is_ours "$file"; then
-            echo "tools/installed: $root/$file is there, and wasn't installed from here; FORCE=1 overwrites it" >&2
+            echo "tools/install.sh: $root/$file is there, and wasn't installed from here; FORCE=1 overwrites it" >&2
             status=1
         fi
     done
@@ -47,8 +47,8 @@ put() {
     staged=$(mktemp -d)
     trap 'rm -rf "$staged"' EXIT
     mkdir -p "$staged/bin" "$staged/$pages" "$staged/$documents"
-    tools/page "$NAME" > "$staged/$pages/$NAME.1"
-    tools/page "$NAME" svndumpsurvey > "$staged/$pages/$survey.1"
+    tools/render_man.sh "$NAME" > "$staged/$pages/$NAME.1"
+    tools/render_man.sh "$NAME" svndumpsurvey > "$staged/$pages/$survey.1"
     cp build/svndumpfilter "$staged/bin/$NAME"
     cp build/svndumpsurvey "$staged/bin/$survey"
     cp README.md docs/DIFFERENCES.md docs/SURVEY.md "$staged/$documents"
@@ -61,19 +61,19 @@ put() {
         *) put_file 644 "$staged" "$file" ;;
         esac
     done
-    echo "tools/installed: $root has bin/$NAME and bin/$survey now, their pages $NAME(1) and $survey(1), and $documents"
+    echo "tools/install.sh: $root has bin/$NAME and bin/$survey now, their pages $NAME(1) and $survey(1), and $documents"
 }
 
 take() {
     if [ ! -f "$root/$note" ]; then
-        echo "tools/installed: nothing is noted in $root/$note, so nothing is taken away" >&2
+        echo "tools/install.sh: nothing is noted in $root/$note, so nothing is taken away" >&2
         return 0
     fi
     for file in $files; do
         if is_ours "$file"; then
             rm -f -- "$root/$file"
         elif is_there "$file"; then
-            echo "tools/installed: $root/$file isn't as it was installed, and stays" >&2
+            echo "tools/install.sh: $root/$file isn't as it was installed, and stays" >&2
         fi
     done
     rm -f -- "$root/$note"
@@ -83,7 +83,7 @@ take() {
 case ${1-} in
 put | take) "$1" ;;
 *)
-    echo "usage: tools/installed put|take" >&2
+    echo "usage: tools/install.sh put|take" >&2
     exit 2
     ;;
 esac

@@ -1,7 +1,7 @@
 #!/usr/bin/env python3
-"""Sees that tests/wrong, tests/trusted and tests/words fail where they have to, and name what is wrong.
+"""Sees that tests/mutants.py, tests/check_trusted.py and tests/check_names.py fail where they have to, and name what is wrong.
 
-    tests/guards
+    tests/check_the_checks.py
 
 Each is run on a copy of what it reads, in which mistakes were planted. The last line is 'N passed, M failed'.
 """
@@ -38,14 +38,14 @@ RANGE = "use Rattle.dump_pipeline.specs.steps.PlanRange.{IsInRange}\n"
 BEHIND = "-- the received bytes are"
 # a script, edits of a file of the statement, and what the script has to say of them
 DEFINITIONS = [
-    ("tests/trusted", [(NOUGHT, NOUGHT.replace("written ≡", "IsInRange 1 1 × written ≡")), ("use Rattle.dump_writer", RANGE + "use Rattle.dump_writer")],
+    ("tests/check_trusted.py", [(NOUGHT, NOUGHT.replace("written ≡", "IsInRange 1 1 × written ≡")), ("use Rattle.dump_writer", RANGE + "use Rattle.dump_writer")],
      "specs/steps/PlanRange.antt: IsInRange: the statement or a law needs it"),
-    ("tests/trusted", [(BEHIND, f"abbrev pub nought : ℕ\nnought = 0\n\n{BEHIND}")],
+    ("tests/check_trusted.py", [(BEHIND, f"abbrev pub nought : ℕ\nnought = 0\n\n{BEHIND}")],
      "specs/RunAnswer.antt: nought: neither the statement nor a law needs it"),
-    ("tests/words", [(BEHIND, f"abbrev pub status_of : ℕ\nstatus_of = 0\n\n{BEHIND}")],
+    ("tests/check_names.py", [(BEHIND, f"abbrev pub status_of : ℕ\nstatus_of = 0\n\n{BEHIND}")],
      f"status_of is defined in two crates: crates/dump_cli/specs/Drive.antt, {ANSWER}"),
 ]
-# a file of sources with the name of another below it, and what tests/words has to say of it
+# a file of sources with the name of another below it, and what tests/check_names.py has to say of it
 LINES = "crates/dump_pipeline/src/lines.rt"
 NAMED_ALIKE = f"{LINES} has the name of crates/dump_text/src/lines.rt, and holds something else"
 
@@ -67,9 +67,9 @@ def said_by(folder, *words):
 
 
 def tried(texts, *words):
-    """What tests/wrong says of these wrong bodies of dump_writer."""
+    """What tests/mutants.py says of these wrong bodies of dump_writer."""
     with tempfile.TemporaryDirectory(prefix="guards-") as folder:
-        copied(folder, "tests/wrong", "tools/crates.py", "crates.txt", "HANDLES")
+        copied(folder, "tests/mutants.py", "tools/repository.py", "crates.txt", "HANDLES")
         crates = os.listdir(os.path.join(TOP, "crates"))
         copied(folder, *(f"crates/{it}" for it in crates if it != "dump_writer"))
         parts = os.listdir(os.path.join(TOP, "crates", "dump_writer"))
@@ -78,13 +78,13 @@ def tried(texts, *words):
         for name, text in texts.items():
             with open(os.path.join(folder, "crates", "dump_writer", "wrong", f"{name}.edit"), "w", encoding="utf-8") as it:
                 it.write(text)
-        return said_by(folder, "tests/wrong", *words, "dump_writer")
+        return said_by(folder, "tests/mutants.py", *words, "dump_writer")
 
 
 def listed(script, pairs, planted=None):
     """What a script says of edited definitions, or of a planted file."""
     with tempfile.TemporaryDirectory(prefix="guards-") as folder:
-        copied(folder, script, "README.md", "crates.txt")
+        copied(folder, script, "docs/TRUSTED.md", "crates.txt")
         shutil.copytree(os.path.join(TOP, "crates"), os.path.join(folder, "crates"), ignore=shutil.ignore_patterns("out", "proofs"))
         if planted:
             with open(os.path.join(folder, planted), "w", encoding="utf-8") as it:
@@ -105,10 +105,10 @@ def main():
     results = [(wanted, said) for _, wanted in BODIES.values()]
     results.append((BODIES["text_is_not_there"][1], tried(texts, "--fit")))
     results += [(wanted, listed(script, pairs)) for script, pairs, wanted in DEFINITIONS]
-    results.append((NAMED_ALIKE, listed("tests/words", [], LINES)))
+    results.append((NAMED_ALIKE, listed("tests/check_names.py", [], LINES)))
     failed = [(wanted, said) for wanted, said in results if wanted not in said]
     for wanted, said in failed:
-        print(f"tests/guards: it should have failed and said '{wanted}', and said:\n{said}")
+        print(f"tests/check_the_checks.py: it should have failed and said '{wanted}', and said:\n{said}")
     print(f"{len(results) - len(failed)} passed, {len(failed)} failed")
     return 1 if failed else 0
 

@@ -1,7 +1,7 @@
 #!/usr/bin/env python3
 """Writes a dump of format version 2 to standard output. The same arguments give the same bytes.
 
-    bench/make_dump [--revisions N] [--nodes N] [--text BYTES] [--copies SHARE] [--mergeinfo SHARE] [--seed N]
+    bench/make_dump.py [--revisions N] [--nodes N] [--text BYTES] [--copies SHARE] [--mergeinfo SHARE] [--seed N]
         [--chain N] [--fan N]
 
 Each revision after revision 0 has --nodes nodes, half of them under trunk and half under other. A node is a file with

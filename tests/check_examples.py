@@ -1,7 +1,7 @@
 #!/usr/bin/env python3
 """Runs each example of the manual pages and of the README as it stands, and compares what it prints with what is said.
 
-    tests/pages [PROGRAM] [TEXT]
+    tests/check_examples.py [PROGRAM] [TEXT]
 
 PROGRAM is build/svndumpfilter where none is given, the survey is the one beside it, and with TEXT only the sections
 that have it are run. An example is a literal block of a manual page as it is installed, or a block of the README that
@@ -83,7 +83,7 @@ class Example:
 
 def manual(page):
     """A manual page under the installed names."""
-    words = [os.path.join(TOP, "tools", "page"), NAME, page]
+    words = [os.path.join(TOP, "tools", "render_man.sh"), NAME, page]
     return subprocess.run(words, capture_output=True, timeout=SECONDS, check=True, encoding="utf-8").stdout
 
 
@@ -241,7 +241,7 @@ def wrong_in_pages(pages, examples):
     for name, page in pages.items():
         lines = shown(page)
         if lines is None:
-            print(f"tests/pages: man can't be found, so nobody looked at what it makes of the examples of {name}")
+            print(f"tests/check_examples.py: man can't be found, so nobody looked at what it makes of the examples of {name}")
         else:
             lost = [line for it in examples if it.page == name for line in it.lines if line.strip() not in lines]
             looks.append(lost and f"man shows these lines of examples of {name} otherwise: {lost}")
@@ -255,7 +255,7 @@ def wrong_in_pages(pages, examples):
         looks.append(unnamed and f"no example of {name} calls {called}")
     differences = wrong_differences()
     if differences is None:
-        print("tests/pages: the svndumpfilter of Subversion 1.14 can't be found, so nobody looked whether DIFFERENCES is true")
+        print("tests/check_examples.py: the svndumpfilter of Subversion 1.14 can't be found, so nobody looked whether DIFFERENCES is true")
     else:
         looks.append(differences and f"DIFFERENCES isn't true: {differences}")
     return looks
@@ -279,7 +279,7 @@ def main(words):
         ran = [it for it in examples if it.section in sections]
         passed, failed, left_out = run_all(ran, program, folder, surroundings)
     if left_out:
-        print(f"tests/pages: {left_out} examples are left out, since Subversion's programs can't be found")
+        print(f"tests/check_examples.py: {left_out} examples are left out, since Subversion's programs can't be found")
     passed, failed = passed + sum(not it for it in looks), failed + sum(bool(it) for it in looks)
     print(f"{passed} passed, {failed} failed")
     return 1 if failed or not passed else 0

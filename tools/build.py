@@ -1,8 +1,8 @@
 #!/usr/bin/env python3
 """Proves the crates, builds programs and runs each once, and says which crate is at work.
 
-    tools/build [--old] [--tests] [PROGRAM..]
-    tools/build --proved [PROGRAM..]
+    tools/build.py [--old] [--tests] [PROGRAM..]
+    tools/build.py --proved [PROGRAM..]
 
 A PROGRAM is svndumpfilter, which is built where none is given, or svndumpsurvey; it is put into build/. With --old only
 those are built that aren't there or are older than a source. With --tests the tests of every crate are proved and run
@@ -24,7 +24,7 @@ import threading
 
 sys.path.insert(0, os.path.dirname(os.path.abspath(__file__)))
 sys.dont_write_bytecode = True
-from crates import below, lanes, lent, libraries, path, room, tested
+from repository import below, lanes, lent, libraries, path, room, tested
 
 # the crate of each program, the words and the input of its first run, and what it has to write
 FIRST = "tests/cases/include_with_preserve_revprops"
@@ -145,7 +145,7 @@ class Build:
 
 def is_current(built):
     """Whether a file is there, and no source is newer."""
-    sources = subprocess.run([path("tools", "sources")], stdout=subprocess.PIPE, text=True, check=True).stdout.splitlines()
+    sources = subprocess.run([path("tools", "list_sources.sh")], stdout=subprocess.PIPE, text=True, check=True).stdout.splitlines()
     return os.path.exists(built) and all(os.path.getmtime(path(it)) <= os.path.getmtime(built) for it in sources)
 
 

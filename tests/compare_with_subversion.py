@@ -1,7 +1,7 @@
 #!/usr/bin/env python3
 """Compares the program with Subversion's own svndumpfilter over a real repository.
 
-    tests/stock [PROGRAM]
+    tests/compare_with_subversion.py [PROGRAM]
 
 PROGRAM is build/svndumpfilter where none is given. A repository is made with svnadmin, svnmucc and svn; its dumps,
 by `svnadmin dump` without deltas and with them and by `svnrdump dump`, are filtered by both programs in each option set
@@ -38,7 +38,7 @@ def call(*words, given=None, cwd=None):
     """Runs a program that has to end well, and returns what it wrote."""
     ran = subprocess.run(words, input=given, capture_output=True, timeout=SECONDS, cwd=cwd)
     if ran.returncode != 0:
-        sys.exit(f"tests/stock: {' '.join(words)}: {ran.stderr.decode('utf-8', 'replace')}")
+        sys.exit(f"tests/compare_with_subversion.py: {' '.join(words)}: {ran.stderr.decode('utf-8', 'replace')}")
     return ran.stdout
 
 
@@ -125,7 +125,7 @@ def main(words):
     program = os.path.abspath(words[0] if words else os.path.join(HERE, "..", "build", "svndumpfilter"))
     why = left_out()
     if why:
-        print(f"tests/stock: left out, since {why}")
+        print(f"tests/compare_with_subversion.py: left out, since {why}")
         return 0
     failed = 0
     with tempfile.TemporaryDirectory() as folder:
@@ -138,7 +138,7 @@ def main(words):
                 at = next((i for i, (a, b) in enumerate(zip(ours, theirs)) if a != b), min(len(ours), len(theirs)))
                 print(f"{kind}, {' '.join(options)}: the repositories differ at byte {at} of their dumps:")
                 print(f"  ours   {ours[max(0, at - 60):at + 60]!r}\n  theirs {theirs[max(0, at - 60):at + 60]!r}")
-    print(f"tests/stock: {len(runs) - failed} passed, {failed} failed")
+    print(f"tests/compare_with_subversion.py: {len(runs) - failed} passed, {failed} failed")
     return 1 if failed else 0
 
 
