@@ -1,15 +1,14 @@
 #!/usr/bin/env python3
-"""Measures the program on made dumps, beside the same filter on one thread, the survey, the stock svndumpfilter, and tools
-that only read the same bytes.
+"""Measures the programs on made dumps, beside the same filter on one thread (build/run_plain), Subversion's own
+svndumpfilter, and tools that only read the same bytes.
 
-    bench/bench.py [PROGRAM [PLAIN [SURVEY]]]
+    bench/bench.py
 
-PROGRAM is build/svndumpfilter, PLAIN build/run_plain and SURVEY build/svndumpsurvey where none is given. All runs are made
-on one machine, the commands of a dump in turn and that five times, with output to /dev/null; of each command the quickest
-run counts. Nothing passes or fails by its time, but the program has to write the same bytes as PLAIN. The columns are the
-time, the processor time, the speed, the peak memory as a multiple of the dump's length, how often it slept, and the time
-as a multiple of the last one above it of the filter on one thread, or of the first where there is none. Where taskset is,
-both are also pinned to one core and to two.
+All runs are made on one machine, the commands of a dump in turn and that five times, with output to /dev/null; of each
+command the quickest run counts. Nothing passes or fails by its time, but the filter has to write the same bytes as
+run_plain. The columns are the time, the processor time, the speed, the peak memory as a multiple of the dump's length, how
+often it slept, and the time as a multiple of the last one above it of the filter on one thread, or of the first where there
+is none. Where taskset is installed, the filter and run_plain are also pinned to one core and to two.
 """
 import hashlib
 import os
@@ -19,7 +18,8 @@ import sys
 import tempfile
 import time
 
-HERE = os.path.dirname(os.path.abspath(__file__))
+from repository import path as path_to, programs
+
 RUNS = 5
 SHAPES = [
     ("texts of about 10 KB", ["--revisions", "2000", "--nodes", "10", "--text", "10000"]),
@@ -30,17 +30,21 @@ SHAPES = [
     ),
 ]
 
-
-# dumps that are surveyed alone, since the filter stops at their first kept copy, and by which words: each copy is wanted
-SURVEYED = [
+# dumps at whose first kept copy the filter stops, and the arguments, under which each copy is wanted
+COPIES = [
     ("a chain of 100,000 copies", ["--revisions", "0", "--chain", "100000"], ["include trunk", "exclude other/link0"]),
     ("a fan of 100,000 copies", ["--revisions", "0", "--fan", "100000"], ["include trunk", "exclude other"]),
 ]
 
 
+def beside():
+    """The programs beside the filter."""
+    return [it for it in programs().values() if it.word != "filter"]
+
+
 def ends_well(command, status):
-    """Whether a command may end with this status: a survey may find something."""
-    return status == 0 or status == 1 and os.path.basename(command[0]) == "svndumpsurvey"
+    """Whether a command may end with this status: the programs beside the filter end with 1 where they find something."""
+    return status == 0 or status == 1 and command[0] in [it.built for it in beside()]
 
 
 def timed(command, path):
@@ -96,11 +100,11 @@ def pinned(program, plain):
     ]
 
 
-def others(program, survey):
+def others(program):
     words = ["--drop-empty-revs", "--renumber-revs", "--skip-missing-merge-sources", "trunk"]
-    rows = [("survey, include trunk", [survey, "include", "trunk"])]
+    rows = [(f"{it.word}, include trunk", [it.built, "include", "trunk"]) for it in beside()]
     rows += [("with 4 workers, renumbering", [program, "include", *words])]
-    rows += [("survey, renumbering", [survey, "include", *words])]
+    rows += [(f"{it.word}, renumbering", [it.built, "include", *words]) for it in beside()]
     stock = shutil.which("svndumpfilter")
     if stock:
         rows.append(("stock svndumpfilter, include trunk", [stock, "include", "trunk"]))
@@ -124,8 +128,8 @@ def show_rows(rows, path):
         print(f"{name:36}{seconds:9.2f}{used:9.2f}{speed:9.0f}{memory:9.3f}{switches:10}{seconds / alone:8.2f}{note}")
 
 
-def show(program, plain, survey, path):
-    """The rows of a dump; whether the program wrote what PLAIN did."""
+def show(program, plain, path):
+    """The rows of a dump; whether the filter wrote what run_plain did."""
     rows, same = [], True
     for prefix, commands in compared(program, plain):
         digests = {written(command, path) for _, command in commands}
@@ -133,32 +137,29 @@ def show(program, plain, survey, path):
             print(f"include {prefix}: the outputs differ")
             same = False
         rows += commands
-    show_rows(rows + others(program, survey) + pinned(program, plain), path)
+    show_rows(rows + others(program) + pinned(program, plain), path)
     return same
 
 
 def make(arguments, path):
     with open(path, "wb") as dump:
-        subprocess.run([os.path.join(HERE, "make_dump.py"), *arguments], stdout=dump, check=True)
+        subprocess.run([path_to("bench", "make_dump.py"), *arguments], stdout=dump, check=True)
 
 
-def main(words):
-    build = os.path.join(HERE, "..", "build")
-    program = os.path.abspath(words[0] if words else os.path.join(build, "svndumpfilter"))
-    plain = os.path.abspath(words[1] if len(words) > 1 else os.path.join(build, "run_plain"))
-    survey = os.path.abspath(words[2] if len(words) > 2 else os.path.join(build, "svndumpsurvey"))
+def main():
+    program, plain = programs()["filter"].built, path_to("build", "run_plain")
     same = True
     with tempfile.TemporaryDirectory() as folder:
         path = os.path.join(folder, "dump")
         for title, arguments in SHAPES:
             make(arguments, path)
             head(title, arguments, path)
-            same = show(program, plain, survey, path) and same
-        for title, arguments, calls in SURVEYED:
+            same = show(program, plain, path) and same
+        for title, arguments, calls in COPIES:
             make(arguments, path)
             head(title, arguments, path)
-            show_rows([(f"survey, {words}", [survey, *words.split()]) for words in calls], path)
+            show_rows([(f"{it.word}, {words}", [it.built, *words.split()]) for words in calls for it in beside()], path)
     return 0 if same else 1
 
 
-sys.exit(main(sys.argv[1:]))
+sys.exit(main())

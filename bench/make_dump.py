@@ -7,8 +7,8 @@
 Each revision after revision 0 has --nodes nodes, half of them under trunk and half under other. A node is a file with
 a text of about --text bytes and its two digests, or, for a share of --copies, a directory that is copied from an
 earlier revision, or, for a share of --mergeinfo, a change of trunk's mergeinfo.
-Behind these stand as many copies as --chain says, one a revision, each of what the one before it made; all but the last
-are under other, and that is trunk/last. And as many as --fan says, each of a folder of its own of other into trunk.
+After these come as many copies as --chain says, one a revision, each of what the one before it made; all but the last
+are under other, and that is trunk/last. And as many as --fan says, each of a directory of its own of other into trunk.
 """
 import argparse
 import hashlib

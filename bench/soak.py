@@ -1,5 +1,5 @@
 #!/usr/bin/env python3
-"""Runs the program on random dumps by random plans, and compares what it writes with the filter on one thread.
+"""Runs the filter on random dumps with random plans of threads, and compares its output with that of the filter on one thread.
 
     bench/soak.py [RUNS [SEED]]
 
@@ -13,9 +13,9 @@ import subprocess
 import sys
 import tempfile
 
-HERE = os.path.dirname(os.path.abspath(__file__))
-PROGRAM = os.path.join(HERE, "..", "build", "svndumpfilter")
-PLAIN = os.path.join(HERE, "..", "build", "run_plain")
+from repository import ended, path as path_to, programs
+
+PROGRAM, PLAIN = programs()["filter"].built, path_to("build", "run_plain")
 DUMPS = 80
 PREFIXES = ["/", "trunk", "other", "nothing"]
 MINUTE = 60
@@ -25,7 +25,7 @@ def made(chance):
     """A dump: whole, cut off, or with a broken byte."""
     words = ["--revisions", chance.randint(1, 80), "--nodes", chance.randint(0, 12), "--text", chance.choice([0, 8, 300, 5000])]
     words += ["--copies", chance.choice([0, 0.2]), "--mergeinfo", chance.choice([0, 0.2]), "--seed", chance.randint(1, 1 << 30)]
-    dump = subprocess.run([os.path.join(HERE, "make_dump.py"), *map(str, words)], stdout=subprocess.PIPE, check=True).stdout
+    dump = subprocess.run([path_to("bench", "make_dump.py"), *map(str, words)], stdout=subprocess.PIPE, check=True).stdout
     fate, place = chance.random(), chance.randrange(len(dump))
     if fate < 0.2:
         return dump[:place]
@@ -72,8 +72,7 @@ def main(words):
             if run(command, path) != known[path, prefix]:
                 failed += 1
                 print(f"run {number}: {' '.join(command[:-1])} on dump {os.path.basename(path)} differs or doesn't end")
-    print(f"{runs - failed} passed, {failed} failed")
-    return 1 if failed else 0
+    return ended(runs - failed, failed)
 
 
 sys.exit(main(sys.argv[1:]))

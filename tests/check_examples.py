@@ -1,19 +1,18 @@
 #!/usr/bin/env python3
-"""Runs each example of the manual pages and of the README as it stands, and compares what it prints with what is said.
+"""Runs each example of the manual pages and of README as it stands, and compares its output with what the page says.
 
-    tests/check_examples.py [PROGRAM] [TEXT]
+    tests/check_examples.py [TEXT]
 
-PROGRAM is build/svndumpfilter where none is given, the survey is the one beside it, and with TEXT only the sections
-that have it are run. An example is a literal block of a manual page as it is installed, or a block of the README that
-is marked as sh. It is run by bash, as who reads the page would paste it, with both programs in PATH by their installed
-names; the examples of one section (or subsection) follow each other in one folder, which is empty at first, and for the
-README a clone of the repository. In an example the lines that begin with '# ' are what the others print; svnmucc's line
-on each commit is left out. An example without such lines has to end well. From the first one that uses Subversion on,
-those of a section are left out where that isn't installed, and so said.
+With TEXT only the sections that have it are run. An example is a literal block of a manual page as it is installed, or a
+block of README that is marked as sh; one that calls make test is not run. bash runs it, as if a reader had pasted it, with
+all programs in PATH by their installed names. The examples of one section (or subsection) follow each other in one
+directory, which is empty at first, and for README a clone of the repository. In an example the lines that begin with '# '
+are what the others print, without svnmucc's line on each commit. An example without such lines has to succeed. Where
+Subversion is not installed, the examples of a section are left out from the first one that uses it, and the script says so.
 
-The pages are looked at too: whether man shows the examples as they are, whether the filter's has each fault of the
-format and the survey's each line of docs/SURVEY.md, and whether the cases that docs/DIFFERENCES.md names show what it
-says of the usual tool. The last line is 'N passed, M failed'.
+It also looks at the pages: whether man shows the examples as they are, whether the filter's page has each fault of the
+format and the survey's each line of docs/SURVEY.md, and whether the cases that docs/DIFFERENCES.md names show what it says
+of Subversion's own tool. The last line is 'N passed, M failed'.
 """
 import os
 import re
@@ -22,22 +21,17 @@ import subprocess
 import sys
 import tempfile
 
-HERE = os.path.dirname(os.path.abspath(__file__))
-TOP = os.path.join(HERE, "..")
-NAME = "svndumpfilter-proved"
-SURVEY = "svndumpsurvey-proved"
+from repository import cases, ended, installed_names, lacking, path as path_to, programs, read
+
+# the names by which the programs are installed, by their own words
+NAMES = installed_names("svndumpfilter-proved")
 TOOLS = ("svn", "svnadmin", "svnlook", "svnmucc", "svnrdump")
 SECONDS = 60
-USUAL = b"svndumpfilter, version 1.14."
+SUBVERSIONS = b"svndumpfilter, version 1.14."
 # what roff writes otherwise than it reads
 MARKS = {r"\e": "\\", r"\(aq": "'", r"\(ha": "^", r"\(ti": "~", r"\&": ""}
 COMMITTED = re.compile(r"^r\d+ committed by .*\n", re.MULTILINE)
 USES_SUBVERSION = re.compile(r"^(%s)\b|[|(] *(%s)\b" % ("|".join(TOOLS), "|".join(TOOLS)), re.MULTILINE)
-
-
-def read(*names):
-    with open(os.path.join(TOP, *names), encoding="utf-8") as it:
-        return it.read()
 
 
 class Example:
@@ -81,9 +75,9 @@ class Example:
         return None
 
 
-def manual(page):
-    """A manual page under the installed names."""
-    words = [os.path.join(TOP, "tools", "render_man.sh"), NAME, page]
+def manual(word):
+    """The manual page of a program under the installed names."""
+    words = [path_to("tools", "render_man.sh"), NAMES["filter"], programs()[word].name]
     return subprocess.run(words, capture_output=True, timeout=SECONDS, check=True, encoding="utf-8").stdout
 
 
@@ -110,7 +104,7 @@ def manual_examples(name, page):
 
 
 def readme_examples(text):
-    """The blocks that are marked as sh, but for those of the tests, which would run this one again."""
+    """The blocks that are marked as sh, but for those that run the tests, and so this one again."""
     found, section, lines = [], "", None
     for line in text.splitlines():
         if lines is None and line.startswith("#"):
@@ -118,7 +112,7 @@ def readme_examples(text):
         elif line == "```sh":
             lines = []
         elif line == "```" and lines is not None:
-            if section != "Test it":
+            if "make test" not in lines:
                 found.append(Example("README", section, lines))
             lines = None
         elif lines is not None:
@@ -126,26 +120,25 @@ def readme_examples(text):
     return found
 
 
-def clone(folder, program):
-    """Makes a folder look like a clone of this repository in which the program is built, and the survey's beside it."""
-    for name in ("crates", "crates.txt", "HANDLES", "examples", "tools"):
-        os.symlink(os.path.join(TOP, name), os.path.join(folder, name))
+def clone(folder):
+    """Makes a directory look like a clone of this repository in which the programs are built."""
+    for name in ("crates", "crates.txt", "programs.txt", "HANDLES", "examples", "tools"):
+        os.symlink(path_to(name), os.path.join(folder, name))
     os.mkdir(os.path.join(folder, "build"))
-    survey = os.path.join(os.path.dirname(program), "svndumpsurvey")
-    for name, built in (("svndumpfilter", program), ("svndumpsurvey", survey)):
-        shutil.copy(os.path.join(TOP, name), folder)
-        shutil.copy(built, os.path.join(folder, "build", name))
+    for it in programs().values():
+        shutil.copy(path_to(it.name), folder, follow_symlinks=False)
+        shutil.copy(it.built, os.path.join(folder, "build"))
 
 
-def run_all(examples, program, folder, surroundings):
-    """Runs the examples of each section in a folder of its own, and returns how many were right, wrong and left out."""
+def run_all(examples, folder, surroundings):
+    """Runs the examples of each section in a directory of its own, and returns how many were right, wrong and left out."""
     passed = failed = left_out = 0
-    there = all(shutil.which(tool) for tool in TOOLS)
+    there = not lacking(*TOOLS)
     for number, section in enumerate(dict.fromkeys((it.page, it.section) for it in examples)):
         own = os.path.join(folder, str(number), "folder")
         os.makedirs(own)
         if section[0] == "README":
-            clone(own, program)
+            clone(own)
         those = [it for it in examples if (it.page, it.section) == section]
         for place, example in enumerate(those):
             if not there and example.uses_subversion():
@@ -160,19 +153,11 @@ def run_all(examples, program, folder, surroundings):
 
 def shown(page):
     """The lines of the page as man shows them, or None where there is no man."""
-    if shutil.which("man") is None:
+    if lacking("man"):
         return None
     more = {**os.environ, "LC_ALL": "C.UTF-8", "MANWIDTH": "200", "MAN_KEEP_FORMATTING": ""}
     ran = subprocess.run(["man", "-l", "-"], input=page, capture_output=True, env=more, timeout=SECONDS, encoding="utf-8")
     return {it.strip() for it in re.sub(".\b", "", ran.stdout).splitlines()}
-
-
-def case(name, part):
-    try:
-        with open(os.path.join(HERE, "cases", name, part), "rb") as it:
-            return it.read()
-    except FileNotFoundError:
-        return b""
 
 
 def records(dump):
@@ -188,23 +173,23 @@ def records(dump):
     return found
 
 
-def usual(name):
-    """What the usual tool makes of a case in the locale C: its status, standard output and standard error."""
-    words = [os.fsdecode(it) for it in case(name, "args").splitlines()]
-    more = {**os.environ, "LC_ALL": "C"}
-    ran = subprocess.run(["svndumpfilter", *words], input=case(name, "stdin"), capture_output=True, env=more, timeout=SECONDS)
+def subversions(case):
+    """What Subversion's own tool makes of a case in the locale C: its status, standard output and standard error."""
+    command, more = ["svndumpfilter", *case.arguments("filter")], {**os.environ, "LC_ALL": "C"}
+    ran = subprocess.run(command, input=case.part("stdin"), capture_output=True, env=more, timeout=SECONDS)
     return ran.returncode, ran.stdout, ran.stderr
 
 
 def untrue(line, is_difference):
-    """The cases in a line of DIFFERENCES that aren't there, or that don't show what the line says."""
+    """The cases in a line of DIFFERENCES that are not there, or that do not show what the line says."""
     wrong = []
     for name in re.findall(r"`([a-z0-9_]{5,})`", line[line.index("(`") :] if "(`" in line else ""):
-        if not os.path.isdir(os.path.join(HERE, "cases", name)):
-            wrong.append(f"there is no case {name}")
+        case = cases().get(name)
+        if not case or "filter" not in case.programs():
+            wrong.append(f"the filter has no case {name}")
             continue
-        status, written, said = usual(name)
-        own = int(case(name, "status").strip() or 0), case(name, "stdout"), case(name, "stderr")
+        status, written, said = subversions(case)
+        own = case.status("filter"), case.of("filter", "stdout"), case.of("filter", "stderr")
         differs = said != own[2] if line.startswith("| what is said") else (status, written) != own[:2]
         same = (status == 0) == (own[0] == 0) and records(written) == records(own[1])
         if not (differs if is_difference else same):
@@ -213,11 +198,11 @@ def untrue(line, is_difference):
 
 
 def wrong_differences():
-    """What isn't true in DIFFERENCES, by the cases that it names, or None where the usual tool isn't there."""
-    if shutil.which("svndumpfilter") is None:
+    """What is not true in DIFFERENCES, by the cases that it names, or None where Subversion's own tool is not installed."""
+    if lacking("svndumpfilter"):
         return None
     version = subprocess.run(["svndumpfilter", "--version"], capture_output=True, timeout=SECONDS).stdout
-    if not version.startswith(USUAL):
+    if not version.startswith(SUBVERSIONS):
         return None
     wrong, section = [], ""
     for line in read("docs", "DIFFERENCES.md").splitlines():
@@ -229,7 +214,7 @@ def wrong_differences():
 
 
 def untold(page):
-    """The lines of the survey, by docs/SURVEY.md, that its page doesn't have."""
+    """The lines of the survey, by docs/SURVEY.md, that its page does not have."""
     lines = re.findall(r"^\| `([^`]*)` \|", read("docs", "SURVEY.md"), re.MULTILINE)
     parts = [part for line in lines for part in line.strip(". ").split("..")]
     return [it.strip() for it in parts if it.strip(" ,") not in page.replace("\\", "")]
@@ -241,29 +226,28 @@ def wrong_in_pages(pages, examples):
     for name, page in pages.items():
         lines = shown(page)
         if lines is None:
-            print(f"tests/check_examples.py: man can't be found, so nobody looked at what it makes of the examples of {name}")
+            print(f"tests/check_examples.py: man is not installed, so what it makes of the examples of {name} is not looked at")
         else:
             lost = [line for it in examples if it.page == name for line in it.lines if line.strip() not in lines]
             looks.append(lost and f"man shows these lines of examples of {name} otherwise: {lost}")
-    looks.append((missing := untold(pages[SURVEY])) and f"the survey's page hasn't these lines: {missing}")
-    page = pages[NAME]
+    looks.append((missing := untold(pages[NAMES["survey"]])) and f"the survey's page lacks these lines: {missing}")
+    page = pages[NAMES["filter"]]
     faults = re.findall(r"^\| (\d+) \| (\w+) \|", read("docs", "FORMAT.md"), re.MULTILINE)
     told = re.findall(r"^\.It (\d+) (\w+)$", page, re.MULTILINE)
     looks.append(told[: len(faults)] != faults and f"the page's faults are {told}, the format's {faults}")
-    for name, called in ((NAME, NAME), (SURVEY, SURVEY), ("README", NAME)):
+    for name, called in [(it, it) for it in pages] + [("README", NAMES["filter"])]:
         unnamed = not any(it.page == name and called in "".join(it.commands) for it in examples)
         looks.append(unnamed and f"no example of {name} calls {called}")
     differences = wrong_differences()
     if differences is None:
-        print("tests/check_examples.py: the svndumpfilter of Subversion 1.14 can't be found, so nobody looked whether DIFFERENCES is true")
+        print("tests/check_examples.py: the svndumpfilter of Subversion 1.14 is not installed, so DIFFERENCES is not compared with it")
     else:
-        looks.append(differences and f"DIFFERENCES isn't true: {differences}")
+        looks.append(differences and f"DIFFERENCES is not true: {differences}")
     return looks
 
 
 def main(words):
-    program = os.path.abspath(words[0] if words else os.path.join(TOP, "build", "svndumpfilter"))
-    pages = {NAME: manual("svndumpfilter"), SURVEY: manual("svndumpsurvey")}
+    pages = {name: manual(word) for word, name in NAMES.items()}
     examples = [it for name, page in pages.items() for it in manual_examples(name, page)] + readme_examples(read("README.md"))
     looks = wrong_in_pages(pages, examples)
     for wrong in filter(None, looks):
@@ -271,18 +255,17 @@ def main(words):
     with tempfile.TemporaryDirectory() as folder:
         tools = os.path.join(folder, "bin")
         os.mkdir(tools)
-        os.symlink(program, os.path.join(tools, NAME))
-        os.symlink(os.path.join(os.path.dirname(program), "svndumpsurvey"), os.path.join(tools, SURVEY))
+        for word, name in NAMES.items():
+            os.symlink(programs()[word].built, os.path.join(tools, name))
         surroundings = {**os.environ, "HOME": folder, "LC_ALL": "C.UTF-8", "PATH": tools + os.pathsep + os.environ["PATH"]}
-        text = words[1] if len(words) > 1 else ""
+        text = words[0] if words else ""
         sections = {it.section for it in examples if text in "\n".join(it.lines)}
         ran = [it for it in examples if it.section in sections]
-        passed, failed, left_out = run_all(ran, program, folder, surroundings)
+        passed, failed, left_out = run_all(ran, folder, surroundings)
     if left_out:
-        print(f"tests/check_examples.py: {left_out} examples are left out, since Subversion's programs can't be found")
+        print(f"tests/check_examples.py: {left_out} examples are left out, since Subversion's programs are not installed")
     passed, failed = passed + sum(not it for it in looks), failed + sum(bool(it) for it in looks)
-    print(f"{passed} passed, {failed} failed")
-    return 1 if failed or not passed else 0
+    return ended(passed, failed)
 
 
 sys.exit(main(sys.argv[1:]))

@@ -1,22 +1,22 @@
 #!/usr/bin/env python3
-"""Sees that the loaded repository is the one that is meant wherever the survey is silent.
+"""Sees that the filtered repository has the right trees wherever the survey reports nothing.
 
-    tests/check_loaded_trees.py [PROGRAM [SURVEY [SEED]]]
+    tests/check_loaded_trees.py [SEED]
 
-PROGRAM is build/svndumpfilter, SURVEY build/svndumpsurvey and SEED 1 where none is given. Repositories are made by
-svnmucc and svn: copies, renames of projects and of the folders above them, replaced and deleted folders, properties,
-branches and merges. Each is dumped, without deltas and with them, and each dump is surveyed and filtered by many sets
-of prefixes and options; what the filter writes is loaded by svnadmin, over the folders that the survey tells, made in
-revision 1 in the order of its lines. Then the tree at each number is compared with the original's, restricted to the
-kept paths as docs/FILTER.md says: kinds, texts, properties, mergeinfo; and so are the properties of each kept revision.
-So are parts of each history, as svnadmin dump -r writes them; the original is what svnadmin loads of such a part, and
-where the load lowers numbers mergeinfo isn't compared.
+SEED is 1 where none is given; another one makes other repositories. Repositories are made by svnmucc and svn: copies,
+renames of projects and of the directories above them, replaced and deleted directories, properties, branches and merges.
+Each is dumped, without deltas and with them, and each dump is surveyed and filtered by many sets of prefixes and options.
+The output is loaded by svnadmin over the directories that the survey lists, made in revision 1 in the order of its lines.
+Then the tree at each number is compared with the original's, restricted to the kept paths as docs/FILTER.md says: kinds,
+texts, properties, mergeinfo; and so are the properties of each kept revision. The same is done with parts of each history,
+as svnadmin dump -r writes them. The original is what svnadmin loads of such a part, and where the load lowers numbers
+mergeinfo is not compared.
 
-A run passes where all is equal, or the survey had a line. Where the filter stops, the survey has to have a line with
-that record and fault, and none with a fault where it doesn't stop. Behind fault 12 the same is run once more, with all
-that the survey told to keep, or to leave out, as well: then no copy may stop the filter. (No path here begins with two
-slashes, which can't be told so.) The files of a run that fails are kept in build/meaning.
-Where Subversion isn't installed the test is left out, and says so. The last line is 'N passed, M failed'.
+A run passes if all is equal, or if the survey has a line. Where the filter stops, the survey must have a line with that
+record and fault, and none with a fault where the filter does not stop. After fault 12 the same is run once more, with all
+the prefixes that the survey suggests: then no copy may stop the filter. (No path here begins with two slashes: no prefix
+names such a path.) The files of a failed run are kept in build/loaded_trees. Where Subversion is not installed, the test is
+left out and says so. The last line is 'N passed, M failed'.
 """
 import collections
 import concurrent.futures
@@ -28,8 +28,8 @@ import subprocess
 import sys
 import tempfile
 
-HERE = os.path.dirname(os.path.abspath(__file__))
-TOP = os.path.join(HERE, "..")
+from repository import ended, lacking, path as path_to, programs
+
 TOOLS = ("svn", "svnadmin", "svnlook", "svnmucc")
 SECONDS = 120
 REPOSITORIES, COMMITS, RUNS = 8, 18, 40
@@ -62,7 +62,7 @@ TOLD_FAULT = re.compile(rb"^record (\d+), .*: fault (\d+)$", re.MULTILINE)
 
 def left_out():
     """Why the test is left out, if it is."""
-    missing = [it for it in TOOLS if shutil.which(it) is None]
+    missing = lacking(*TOOLS)
     return f"{', '.join(missing)} can't be found" if missing else None
 
 
@@ -561,7 +561,7 @@ class Run:
 
     def keep(self):
         """Keeps what a failed run was made of."""
-        folder = os.path.join(TOP, "build", "meaning", self.name)
+        folder = path_to("build", "loaded_trees", self.name)
         os.makedirs(folder, exist_ok=True)
         with open(os.path.join(folder, "dump"), "wb") as it:
             it.write(self.dump)
@@ -621,10 +621,8 @@ def part_runs(name, life, folder, chance):
 
 
 def main(words):
-    build = os.path.join(TOP, "build")
-    program = os.path.abspath(words[0] if words else os.path.join(build, "svndumpfilter"))
-    survey = os.path.abspath(words[1] if len(words) > 1 else os.path.join(build, "svndumpsurvey"))
-    seed = int(words[2]) if len(words) > 2 else 1
+    program, survey = programs()["filter"].built, programs()["survey"].built
+    seed = int(words[0]) if words else 1
     why = left_out()
     if why:
         print(f"tests/check_loaded_trees.py: left out, since {why}")
@@ -639,9 +637,7 @@ def main(words):
                 print(f"{run.name}, {' '.join(run.own.words)}: {run.why}; kept in {run.keep()}")
     for verdict, count in sorted(verdicts.items()):
         print(f"tests/check_loaded_trees.py: {count} {verdict}")
-    failed = verdicts["failed"]
-    print(f"{verdicts.total() - failed} passed, {failed} failed")
-    return 1 if failed or not runs else 0
+    return ended(verdicts.total() - verdicts["failed"], verdicts["failed"])
 
 
 sys.exit(main(sys.argv[1:]))

@@ -1,38 +1,30 @@
 #!/usr/bin/env python3
-"""Lists the definitions that the theorem's statement needs, and compares them with the list in docs/TRUSTED.md.
+"""Lists the definitions that the statement needs, and compares them with the list in docs/TRUSTED.md.
 
     tests/check_trusted.py [--print]
 
-It begins with the words in the signatures of `run`, `run_plain` and `drive`, and then of the survey's calls and the laws, and
-follows each word to its definition and from there to the words of that one. Each file stands behind those that it needs.
-With --print it writes that list. The files that it lists hold these definitions and no others, and stand right in
-a crate's specs/; all other definitions stand in specs/steps/. The last line is 'N passed, M failed'.
+It begins with the names in the signatures of the functions of tests/statements.txt, and follows each name to its definition
+and from there to the names in that one. Each file comes after those that it needs. With --print it writes the list. The files
+of the list have these definitions and no others, and are directly in a crate's specs/; all other definitions are in
+specs/steps/. The last line is 'N passed, M failed'.
 """
 import functools
 import os
 import re
 import sys
 
-TOP = os.path.join(os.path.dirname(os.path.abspath(__file__)), "..")
-STATEMENTS = [("dump_pipeline", "pipeline", "run"), ("dump_pipeline", "plain", "run_plain"), ("dump_cli", "drive", "drive")]
-SURVEYS = [("dump_survey", "survey", "survey_dump"), ("dump_survey", "survey_text", "write_survey"), ("dump_survey", "left_out_mergeinfo", "left_out_lines"), ("dump_survey", "folders", "folders_to_make"), ("dump_survey", "as_well", "keep_as_well"), ("dump_survey", "survey_text", "write_behind"), ("dump_survey", "map", "write_map"), ("survey_cli", "drive", "drive")]
+from repository import ended, libraries, lines_of, path as path_to, programs, read
+
 BEGIN = "<!-- the definitions of the statement, by tests/check_trusted.py --print -->\n"
 END = "<!-- the end of the definitions -->\n"
+CRATES = sorted(libraries())
+OWN = f"Rattle\\.({'|'.join(CRATES)})\\.specs\\."
 # `use M.{a, b as c}` and `use M as c`, of the modules of this repository
-USE = re.compile(r"^[ ]*(?:ghost |pub )*use Rattle\.(dump_\w+|survey_cli)\.specs\.([\w.-]+?)(?:\.\{([^}]*)\}|[ ]as[ ](\S+?));?$", re.MULTILINE)
+USE = re.compile(rf"^[ ]*(?:ghost |pub )*use {OWN}([\w.-]+?)(?:\.\{{([^}}]*)\}}|[ ]as[ ](\S+?));?$", re.MULTILINE)
 FUNCTION = re.compile(r"^pub fn (\w+)(.*?)^\{", re.DOTALL | re.MULTILINE)
 # the line that begins a definition, and a word
 HEAD = re.compile(r"(?:(?:abbrev|pub|unfoldable|opaque|record|data) )+([^\s:({]+)")
 WORD = re.compile(r"[^\s(){};,.]+")
-
-
-def read(*names):
-    with open(os.path.join(TOP, *names), encoding="utf-8") as it:
-        return it.read()
-
-
-def crates():
-    return sorted(os.listdir(os.path.join(TOP, "crates")))
 
 
 def meanings(text):
@@ -94,7 +86,7 @@ def at(crate, path, name):
     """The file and the definition that a path and a name of a module mean: what it names, or what has it as a part."""
     parts = [*path.split("."), *([name] if name else [])]
     for count in range(len(parts), 0, -1):
-        if os.path.isfile(os.path.join(TOP, "crates", crate, "specs", *parts[:count]) + ".antt"):
+        if os.path.isfile(path_to("crates", crate, "specs", *parts[:count]) + ".antt"):
             return ".".join(parts[:count]), parts[count] if count < len(parts) else None
     raise SystemExit(f"tests/check_trusted.py: there is no module {path} in the definitions of {crate}")
 
@@ -136,25 +128,42 @@ class Needed:
 
     def follow_functions(self, text, names=None):
         """Adds what the signatures of these functions of a source, or of all, need."""
-        known = meanings(text)
-        for name, signature in FUNCTION.findall(text):
-            if names is None or name in names:
-                for used in meant(signature, known):
-                    self.follow(*used)
+        known, signatures = meanings(text), dict(FUNCTION.findall(text))
+        for name in signatures if names is None else names:
+            for used in meant(signatures[name], known):
+                self.follow(*used)
+
+
+def statements():
+    """The crate, source and function of each statement, by the program that it is for."""
+    found = {}
+    for program, *statement in map(str.split, lines_of("tests/statements.txt")):
+        found.setdefault(program, []).append(statement)
+    return found
+
+
+class Group:
+    """What the statements for one program need, beside what the groups before it need."""
+
+    def __init__(self, program, functions, found):
+        files, count = found.files(), len(found.names)
+        for crate, source, name in functions:
+            those = [crate] if crate != "*" else [it for it in CRATES if os.path.exists(path_to("crates", it, "src", source + ".rt"))]
+            for it in those:
+                found.follow_functions(read("crates", it, "src", source + ".rt"), None if name == "*" else [name])
+        self.files, self.count = [it for it in found.files() if it not in files], len(found.names) - count
+        # main's part is named drive in each program
+        named = [f"`{it}`" for _, _, it in functions if it != "*"]
+        if program != next(iter(programs())) and named[-1] == "`drive`":
+            named[-1] = f"the {program}'s `drive`"
+        self.names = f"{', '.join(named[:-1])} and {named[-1]}"
+        self.has_laws = any(name == "*" for _, _, name in functions)
 
 
 def needed():
-    """What the statements need, and what they, the survey's and the laws need."""
+    """What the statements for each program need, and all that was found."""
     found = Needed()
-    for crate, source, name in STATEMENTS:
-        found.follow_functions(read("crates", crate, "src", source + ".rt"), {name})
-    statement = found.files(), len(found.names)
-    for crate, source, name in SURVEYS:
-        found.follow_functions(read("crates", crate, "src", source + ".rt"), {name})
-    for crate in crates():
-        if os.path.exists(os.path.join(TOP, "crates", crate, "src", "laws.rt")):
-            found.follow_functions(read("crates", crate, "src", "laws.rt"))
-    return statement, found
+    return [Group(program, functions, found) for program, functions in statements().items()], found
 
 
 def listed(files):
@@ -165,19 +174,19 @@ def listed(files):
     return "".join(f"- `{crate}`: {', '.join(f'`{it}`' for it in paths)}\n" for crate, paths in found.items())
 
 
-def page(statement, found):
-    files, count = statement
-    more = [it for it in found.files() if it not in files]
-    return (
-        f"\nThe statement of `run`, `run_plain` and `drive` needs {count} definitions, all that stand in {len(files)} files:\n\n"
-        f"{listed(files)}\nThat of `survey_dump`, `write_survey`, `left_out_lines`, `folders_to_make`, `keep_as_well`, `write_behind`, `write_map` and the survey's `drive`, and the laws, need {len(found.names) - count} more, in these {len(more)}:\n\n{listed(more)}\n"
-        f"Both speak of these types of the sources:\n\n{listed(sorted(found.types))}\n"
-    )
+def page(groups, found):
+    first, *others = groups
+    text = f"\nThe statement of {first.names} needs {first.count} definitions, all that stand in {len(first.files)} files:\n\n"
+    text += f"{listed(first.files)}\n"
+    for it in others:
+        needs = ", and the laws, need" if it.has_laws else " needs"
+        text += f"That of {it.names}{needs} {it.count} more, in these {len(it.files)}:\n\n{listed(it.files)}\n"
+    return text + f"{'Both' if len(groups) == 2 else 'All'} speak of these types of the sources:\n\n{listed(sorted(found.types))}\n"
 
 
-def modules(crate, *folders):
-    """The files of definitions that stand right in a folder of a crate, but for those that only name other files."""
-    folder = os.path.join(TOP, "crates", crate, "specs", *folders)
+def modules(crate):
+    """The files of definitions directly in a crate's specs/, but for those that only name other files."""
+    folder = path_to("crates", crate, "specs")
     names = os.listdir(folder) if os.path.isdir(folder) else []
     return {name.removesuffix(".antt") for name in names if name.endswith(".antt")} - {"Lib", "steps"}
 
@@ -186,7 +195,7 @@ def misplaced(found):
     """A sentence for each definition that stands in the wrong folder."""
     unneeded, wanted = "neither the statement nor a law needs it", "the statement or a law needs it"
     wrong = []
-    for crate in crates():
+    for crate in CRATES:
         for path in sorted(modules(crate)):
             for name in file(crate, path).texts:
                 if (crate, path, name) not in found.names:
@@ -198,8 +207,8 @@ def misplaced(found):
 
 
 def main(words):
-    statement, found = needed()
-    wanted = page(statement, found)
+    groups, found = needed()
+    wanted = page(groups, found)
     if words == ["--print"]:
         print(wanted, end="")
         return 0
@@ -210,8 +219,7 @@ def main(words):
     if told != wanted:
         print("tests/check_trusted.py: the list in docs/TRUSTED.md is another than that of tests/check_trusted.py --print")
     failed = int(told != wanted) + int(bool(wrong))
-    print(f"{2 - failed} passed, {failed} failed")
-    return 1 if failed else 0
+    return ended(2 - failed, failed)
 
 
 sys.exit(main(sys.argv[1:]))

@@ -1,13 +1,13 @@
 #!/usr/bin/env python3
-"""Compares the program with Subversion's own svndumpfilter over a real repository.
+"""Compares the filter with Subversion's own svndumpfilter on a real repository.
 
-    tests/compare_with_subversion.py [PROGRAM]
+    tests/compare_with_subversion.py
 
-PROGRAM is build/svndumpfilter where none is given. A repository is made with svnadmin, svnmucc and svn; its dumps,
-by `svnadmin dump` without deltas and with them and by `svnrdump dump`, are filtered by both programs in each option set
-of OPTIONS, in which both do the same; both outputs are loaded into new repositories, and the dumps of those are compared
-byte for byte but for their UUID. Where Subversion isn't installed
-the test is left out, and says so. docs/DIFFERENCES.md says where the two differ.
+A repository is made with svnadmin, svnmucc and svn. Its dumps, by `svnadmin dump` without deltas and with them and by
+`svnrdump dump`, are filtered by both programs with each of OPTIONS, for which both do the same. Both outputs are loaded
+into new repositories, and the dumps of those are compared byte for byte but for their UUIDs. Where Subversion is not
+installed, the test is left out and says so. docs/DIFFERENCES.md says where the two differ. The last line is
+'N passed, M failed'.
 """
 import os
 import random
@@ -17,7 +17,8 @@ import subprocess
 import sys
 import tempfile
 
-HERE = os.path.dirname(os.path.abspath(__file__))
+from repository import ended, lacking, programs
+
 TOOLS = ("svnadmin", "svndumpfilter", "svn", "svnmucc", "svnrdump")
 SECONDS = 120
 KEPT = ["include", "trunk", "branches", "tags"]
@@ -44,7 +45,7 @@ def call(*words, given=None, cwd=None):
 
 def left_out():
     """Why the test is left out, if it is."""
-    missing = [it for it in TOOLS if shutil.which(it) is None]
+    missing = lacking(*TOOLS)
     if missing:
         return f"{', '.join(missing)} can't be found"
     version = subprocess.run(["svndumpfilter", "--version"], capture_output=True, timeout=SECONDS).stdout
@@ -121,8 +122,7 @@ def loaded(folder, name, dump):
     return re.sub(rb"^UUID: [0-9a-f-]*$", b"UUID: it", again, count=1, flags=re.MULTILINE)
 
 
-def main(words):
-    program = os.path.abspath(words[0] if words else os.path.join(HERE, "..", "build", "svndumpfilter"))
+def main():
     why = left_out()
     if why:
         print(f"tests/compare_with_subversion.py: left out, since {why}")
@@ -131,15 +131,14 @@ def main(words):
     with tempfile.TemporaryDirectory() as folder:
         runs = [(kind, dump, options) for kind, dump in make(folder).items() for options in OPTIONS]
         for kind, dump, options in runs:
-            ours = loaded(folder, "ours", call(program, *options, given=dump))
+            ours = loaded(folder, "ours", call(programs()["filter"].built, *options, given=dump))
             theirs = loaded(folder, "theirs", call("svndumpfilter", *options, given=dump))
             if ours != theirs:
                 failed += 1
                 at = next((i for i, (a, b) in enumerate(zip(ours, theirs)) if a != b), min(len(ours), len(theirs)))
                 print(f"{kind}, {' '.join(options)}: the repositories differ at byte {at} of their dumps:")
                 print(f"  ours   {ours[max(0, at - 60):at + 60]!r}\n  theirs {theirs[max(0, at - 60):at + 60]!r}")
-    print(f"tests/compare_with_subversion.py: {len(runs) - failed} passed, {failed} failed")
-    return 1 if failed else 0
+    return ended(len(runs) - failed, failed)
 
 
-sys.exit(main(sys.argv[1:]))
+sys.exit(main())

@@ -1,14 +1,14 @@
 #!/usr/bin/env python3
-"""Refuses each growth of memory and each start of a thread, one in each run, in turn.
+"""Refuses each memory allocation and each thread start of the filter, one in each run, in turn.
 
-    tests/fault_injection.py [PROGRAM]
+    tests/fault_injection.py
 
-PROGRAM is build/svndumpfilter where none is given. tests/fault_injection.c is loaded into it, which counts what it asks for; a
-round ends with the first run that asks less often than the refusal's number. Whatever is refused, the program ends at
-once, with its usual answer or with a failure of memory or threads, and what it wrote is the first part of the text, of the
-length that it tells. The same is done with each test of the crates whose name tells of running out of memory or of a refused
-growth, where their programs stand in crates/*/out: such a test passes whatever is refused. Where nothing is refused, the
-program starts the threads that its words ask for. The last line is 'N passed, M failed'.
+The library fault_injection.c is loaded into build/svndumpfilter, and counts the requests. A round ends with the first run
+that has fewer requests than the number that is refused. Whatever is refused, the program ends at once: it succeeds, or it
+reports a failure of memory or threads, and its output is then the first part of the right one, of the length that it
+reports. The unit tests whose names say that memory runs out are run in the same way, where crates/*/out has them built:
+such a test passes whatever is refused. Where nothing is refused, the program starts the threads that its arguments ask
+for. The last line is 'N passed, M failed'.
 """
 import glob
 import os
@@ -18,22 +18,17 @@ import subprocess
 import sys
 import tempfile
 
-HERE = os.path.dirname(os.path.abspath(__file__))
+from repository import cases, ended, path, programs
+
 SECONDS = 60
-# a case, and the words that are added to its own
+# a case, and the arguments that are added to its own
 CASES = [
     ("include_keeps_what_a_prefix_matches", []),
     ("revisions_are_renumbered_with_their_copies", ["--workers", "2", "--window", "4"]),
 ]
-# words, and how many threads are started by them: the workers, the cutter and the sequencer
+# arguments, and how many threads are started by them: the workers, the cutter and the sequencer
 PLANS = [([], 6), (["--workers", "1"], 3), (["--workers=5", "--window=2"], 7), (["--workers", "64"], 66)]
 FAILURE = re.compile(rb"svndumpfilter: failure (21 Memory|22 Threads) after ([0-9]+) bytes\n")
-
-
-def read(*names):
-    with open(os.path.join(HERE, *names), "rb") as it:
-        return it.read()
-
 
 TESTS = re.compile(r"or_no_memory|out_of_memory|a_refused_(allocation|growth)")
 
@@ -84,13 +79,12 @@ class Round:
 
 
 class CaseRound(Round):
-    """The program on one case, with more words."""
+    """The filter on one case, with more arguments."""
 
-    def __init__(self, program, case, more, folder):
-        words = [os.fsdecode(it) for it in read("cases", case, "args").splitlines()]
-        super().__init__(case, [program, words[0], *more, *words[1:]], read("cases", case, "stdin"), folder)
-        self.output = read("cases", case, "stdout")
-        self.errors = read("cases", case, "stderr")
+    def __init__(self, name, more, folder):
+        case, words = cases()[name], cases()[name].arguments("filter")
+        super().__init__(name, [programs()["filter"].built, words[0], *more, *words[1:]], case.part("stdin"), folder)
+        self.output, self.errors = case.of("filter", "stdout"), case.of("filter", "stderr")
 
     def difference(self, ran, is_start):
         if ran.returncode == 0:
@@ -113,44 +107,42 @@ class TestRound(Round):
         return None if ran.returncode == 0 else f"status {ran.returncode}, {ran.stdout[-200:]!r}"
 
 
-def rounds(program, folder):
+def rounds(folder):
     for case, more in CASES:
-        yield CaseRound(program, case, more, folder)
-    for tests in sorted(glob.glob(os.path.join(HERE, "..", "crates", "*", "out", "*_tests"))):
+        yield CaseRound(case, more, folder)
+    for tests in sorted(glob.glob(path("crates", "*", "out", "*_tests"))):
         names = subprocess.run([tests, "--list"], capture_output=True, check=True, text=True).stdout.split()
         for name in filter(TESTS.search, (it.removesuffix(":") for it in names)):
-            yield TestRound(f"{os.path.basename(tests)}, {name}", [os.path.abspath(tests), name], b"", folder)
+            yield TestRound(f"{os.path.basename(tests)}, {name}", [tests, name], b"", folder)
 
 
-def plans(program, folder):
+def plans(folder):
     """How many plans started as many threads as they ask for, and how many didn't."""
     passed = failed = 0
     for words, wanted in PLANS:
-        asked, wrong = CaseRound(program, CASES[0][0], words, folder).run({})
+        asked, wrong = CaseRound(CASES[0][0], words, folder).run({})
         if wrong is None and asked["starts"] == wanted:
             passed += 1
         else:
             failed += 1
-            print(f"with the words {words} it asked for {asked}, and {wanted} starts are wanted; {wrong or 'all else is right'}")
+            print(f"with the arguments {words} it asked for {asked}, and {wanted} starts are wanted; {wrong or 'all else is right'}")
     return passed, failed
 
 
-def main(words):
-    program = os.path.abspath(words[0] if words else os.path.join(HERE, "..", "build", "svndumpfilter"))
+def main():
     compiler = shutil.which("cc") or shutil.which("gcc") or shutil.which("clang")
     if compiler is None:
         print("tests/fault_injection.py: there is no C compiler, so nothing was refused")
         return 0
     with tempfile.TemporaryDirectory() as folder:
-        source, shim = os.path.join(HERE, "fault_injection.c"), os.path.join(folder, "fault_injection.so")
+        source, shim = path("tests", "fault_injection.c"), os.path.join(folder, "fault_injection.so")
         subprocess.run([compiler, "-O1", "-shared", "-fPIC", "-o", shim, source, "-ldl"], check=True)
-        passed, failed = plans(program, folder)
-        for one_round in rounds(program, folder):
+        passed, failed = plans(folder)
+        for one_round in rounds(folder):
             for asked_for, variable in [("growths", "REFUSE_GROWTH"), ("starts", "REFUSE_START")]:
                 right, wrong = one_round.tally(asked_for, variable)
                 passed, failed = passed + right, failed + wrong
-    print(f"{passed} passed, {failed} failed")
-    return 1 if failed or not passed else 0
+    return ended(passed, failed)
 
 
-sys.exit(main(sys.argv[1:]))
+sys.exit(main())

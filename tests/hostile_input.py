@@ -1,11 +1,11 @@
 #!/usr/bin/env python3
-"""Runs a program on what breaks other programs, and looks at its status, its line, and what arrived.
+"""Runs the filter on very long and malformed dumps, on closed, full and slow streams, with little memory and on one core.
 
-    tests/hostile_input.py [PROGRAM] [TEXT]
+    tests/hostile_input.py [TEXT]
 
-PROGRAM is build/svndumpfilter where none is given, and with TEXT only the tests whose names have it are run. Each run
-is bounded in time. Whatever happens, the program ends by itself with an answer of its manual page, and what it wrote is
-the first part of the right text. The last line is 'N passed, M failed'.
+With TEXT only the tests whose names have it are run. Each run is bounded in time. Whatever happens, the program ends by
+itself with an exit status and a message of its manual page, and its output is the first part of the right one. The last
+line is 'N passed, M failed'.
 """
 import os
 import random
@@ -17,8 +17,9 @@ import tempfile
 import threading
 import time
 
-HERE = os.path.dirname(os.path.abspath(__file__))
-PROGRAM = os.path.join(HERE, "..", "build", "svndumpfilter")
+from repository import ended, path, programs
+
+PROGRAM = programs()["filter"].built
 SECONDS = 120
 MEGABYTE = 1_000_000
 VERSION = b"SVN-fs-dump-format-version: 2\n\n"
@@ -189,7 +190,7 @@ SINK = b"svndumpfilter: failure 20 Sink after %d bytes\n"
 
 @test
 def a_folder_as_input():
-    folder = os.open(HERE, os.O_RDONLY)
+    folder = os.open(path("tests"), os.O_RDONLY)
     try:
         gives(folder, 1, b"", UNREAD)
     finally:
@@ -321,12 +322,10 @@ def many_workers_on_one_core():
 
 
 def main(words):
-    global PROGRAM
-    PROGRAM = os.path.abspath(words[0] if words else PROGRAM)
     passed = failed = 0
     for function in TESTS:
         name = function.__name__
-        if len(words) > 1 and words[1] not in name:
+        if words and words[0] not in name:
             continue
         start = time.perf_counter()
         try:
@@ -337,8 +336,7 @@ def main(words):
             failed += 1
             verdict = f"FAILED: {wrong}"
         print(f"{name}: {verdict} ({time.perf_counter() - start:.1f} s)", flush=True)
-    print(f"{passed} passed, {failed} failed")
-    return 1 if failed or not passed else 0
+    return ended(passed, failed)
 
 
 sys.exit(main(sys.argv[1:]))

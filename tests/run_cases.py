@@ -1,32 +1,35 @@
 #!/usr/bin/env python3
-"""Runs a program on each case of tests/cases, and compares every byte that it writes, and its status.
+"""Runs each program on its cases, and compares every byte that it writes, and its status.
 
-    tests/run_cases.py [--survey] [PROGRAM] [NAME..]
+    tests/run_cases.py [NAME|TOPIC..]
 
-PROGRAM is build/svndumpfilter where none is given, and with NAMEs only those cases are run. With --survey the cases are
-those of tests/survey, and the program is build/svndumpsurvey. A case is a folder tests/cases/NAME with the files args (one word a line), stdin, stdout, stderr and status; a file that isn't there
-is empty, and a missing status is 0. With a file cuts, stdin is cut to each of its lengths: a line tells the first and
-the last length of some, how many bytes of stdout are then written, the status, and the line on standard error. A case
-whose words name no plan is run with each plan of PLANS too: the number of workers and the window change nothing. The
-last line is 'N passed, M failed'; the status is 1 where a case failed or none was run.
+With arguments only those cases are run, or those of these topics. A case is a directory tests/cases/TOPIC/NAME; no two
+cases have one name. It has these files, where PROGRAM is what stands behind svndump in the program's name, as filter:
+
+    stdin           the dump
+    args            the arguments, one a line
+    PROGRAM.status  the exit status. A program runs on the cases that have this file for it, and on no others
+    PROGRAM.stdout  what it writes on standard output
+    PROGRAM.stderr  what it writes on standard error
+    PROGRAM.args    its arguments, where they are not those of args
+    PROGRAM.cuts    then stdin is cut to each of its lengths, and there is neither PROGRAM.stderr nor a use of
+                    PROGRAM.status. A line has the first and the last of some lengths, how many bytes of PROGRAM.stdout are
+                    written at these, the status, and the line on standard error
+
+A file that is not there is empty. What a case wants is written by hand, from the rules in docs/, never from what the
+program prints. A case of the filter that gives neither --workers nor --window is run with each of PLANS too, since they
+change nothing. The last line is 'N passed, M failed', of programs on cases; the status is 1 if one failed or none was run.
 """
 import os
 import subprocess
 import sys
 
-HERE = os.path.dirname(os.path.abspath(__file__))
-CASES = os.path.join(HERE, "cases")
+from repository import cases, ended, programs
+
 SECONDS = 120
+OWN = ("status", "stdout", "stderr", "args", "cuts")
 # workers and window
 PLANS = [("1", "1"), ("4", "64"), ("64", "4096")]
-
-
-def part(case, name):
-    try:
-        with open(os.path.join(CASES, case, name), "rb") as it:
-            return it.read()
-    except FileNotFoundError:
-        return b""
 
 
 def difference(what, got, wanted):
@@ -54,12 +57,12 @@ class Wanted:
         return wrong + difference("standard error", ran.stderr, self.stderr)
 
 
-def runs(case):
+def inputs(case, program):
     """The inputs of a case: one, or one for each cut."""
-    stdin, stdout = part(case, "stdin"), part(case, "stdout")
-    cuts = part(case, "cuts").decode().splitlines()
+    stdin, stdout = case.part("stdin"), case.of(program, "stdout")
+    cuts = case.of(program, "cuts").decode().splitlines()
     if not cuts:
-        return [Wanted(stdin, stdout, part(case, "stderr"), int(part(case, "status").strip() or 0))]
+        return [Wanted(stdin, stdout, case.of(program, "stderr"), case.status(program))]
     found = []
     for line in cuts:
         lengths, written, status, error = line.split(" ", 3)
@@ -70,48 +73,52 @@ def runs(case):
     return found
 
 
-def calls(case):
-    """The words of a case, and the same with each plan."""
-    words = [os.fsdecode(it) for it in part(case, "args").splitlines()]
+def calls(case, program):
+    """The arguments of a case, and the same with each plan."""
+    words = case.arguments(program)
     names = [it.split("=")[0] for it in words]
-    if words[:1] not in (["include"], ["exclude"]) or "--workers" in names or "--window" in names:
+    has_plan = "--workers" in names or "--window" in names
+    if program != "filter" or words[:1] not in (["include"], ["exclude"]) or has_plan:
         return [words]
     plans = [["--workers", workers, "--window", window] for workers, window in PLANS]
     return [words] + [[words[0], *plan, *words[1:]] for plan in plans]
 
 
-def run(program, case):
+def run(case, program):
     """What is wrong with the first run of a case that went wrong."""
-    for wanted in runs(case):
-        for words in calls(case):
-            wrong = wanted.wrong([program, *words])
+    built = programs()[program].built
+    if not os.access(built, os.X_OK):
+        return [f"there is no {os.path.relpath(built)}: make {program} builds it"]
+    for wanted in inputs(case, program):
+        for words in calls(case, program):
+            wrong = wanted.wrong([built, *words])
             if wrong:
-                return [f"with the words {words} and {len(wanted.stdin)} bytes"] + wrong
+                return [f"with the arguments {words} and {len(wanted.stdin)} bytes"] + wrong
     return []
 
 
+def misnamed(case):
+    """The files of a case that no program reads: a name is wrong, or the program's status is missing."""
+    read = {"stdin", "args", *(f"{program}.{it}" for program in case.programs() for it in OWN)}
+    return sorted(set(case.files()) - read) or ([] if case.programs() else ["it"])
+
+
 def main(words):
-    global CASES, PLANS
-    name = "svndumpfilter"
-    if words[:1] == ["--survey"]:
-        # a survey has no threads, so no plan
-        words, name, CASES, PLANS = words[1:], "svndumpsurvey", os.path.join(HERE, "survey"), []
-    program = os.path.abspath(words[0] if words else os.path.join(HERE, "..", "build", name))
-    if not os.access(program, os.X_OK):
-        print(f"tests/run_cases.py: there is no program {program}", file=sys.stderr)
-        print("0 passed, 1 failed")
-        return 1
-    passed = failed = 0
-    for case in sorted(words[1:] or os.listdir(CASES)):
-        if not os.path.isdir(os.path.join(CASES, case)):
-            wrong = ["there is no such case"]
-        else:
-            wrong = run(program, case)
+    known = cases()
+    unknown = set(words) - set(known) - {it.topic for it in known.values()}
+    for word in sorted(unknown):
+        print(f"{word}: there is no such case and no such topic")
+    passed, failed = 0, len(unknown)
+    chosen = [it for it in known.values() if not words or {it.name, it.topic} & set(words)]
+    for case in filter(misnamed, chosen):
+        failed += 1
+        print(f"{case.topic}/{case.name}: no program reads {', '.join(misnamed(case))}")
+    for case, program in ((case, program) for case in chosen for program in case.programs()):
+        wrong = run(case, program)
         passed, failed = passed + (not wrong), failed + bool(wrong)
         for line in wrong:
-            print(f"{case}: {line}")
-    print(f"{passed} passed, {failed} failed")
-    return 1 if failed or not passed else 0
+            print(f"{case.topic}/{case.name}, {program}: {line}")
+    return ended(passed, failed)
 
 
 sys.exit(main(sys.argv[1:]))

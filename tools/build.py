@@ -4,14 +4,14 @@
     tools/build.py [--old] [--tests] [PROGRAM..]
     tools/build.py --proved [PROGRAM..]
 
-A PROGRAM is svndumpfilter, which is built where none is given, or svndumpsurvey; it is put into build/. With --old only
-those are built that aren't there or are older than a source. With --tests the tests of every crate are proved and run
-too, each as soon as its crate is proved and a processor is free. The last line is then 'N passed, M failed', of crates.
-With --proved nothing is proved: each program is the one that rt ci built, if no source is newer.
+A PROGRAM is one of programs.txt, the first one where none is given. It is run on its first case, and put into build/. With
+--old only those are built that are not there or are older than a source. With --tests the tests of every crate are proved
+and run too, each as soon as its crate is proved and a processor is free. The last line is then 'N passed, M failed', of
+crates. With --proved nothing is proved: each program is the one that rt ci built, if no source is newer.
 
 Each crate is proved in a copy, to which what was kept of it is moved and back, since the toolchain works in a crate and
-those below it in one run at a time: so crates that don't stand on each other are proved beside each other, as far as
-memory allows. All that the toolchain says goes to build/log.
+those below it in one run at a time. So crates that do not depend on each other are proved in parallel, as far as memory
+allows. All that the toolchain says goes to build/log.
 """
 import fcntl
 import os
@@ -22,24 +22,16 @@ import sys
 import tempfile
 import threading
 
-sys.path.insert(0, os.path.dirname(os.path.abspath(__file__)))
-sys.dont_write_bytecode = True
-from repository import below, lanes, lent, libraries, path, room, tested
+from repository import below, cases, ended, lanes, lent, libraries, path, programs, room, run_once, tested
 
-# the crate of each program, the words and the input of its first run, and what it has to write
-FIRST = "tests/cases/include_with_preserve_revprops"
-PROGRAMS = {
-    "svndumpfilter": ("dump_cli", FIRST + "/args", FIRST + "/stdin", FIRST + "/stdout"),
-    "svndumpsurvey": ("survey_cli", "tests/survey/nothing_is_found/args", FIRST + "/stdin", os.devnull),
-}
 WRONG = re.compile("error|no proof|not proved|FAILED|^rt: ", re.IGNORECASE)
 
 
 class Build:
     """The crates that the programs stand on, which of them are proved, and the tests of which crates are to come."""
 
-    def __init__(self, programs, with_tests):
-        self.programs = {PROGRAMS[it][0]: it for it in programs}
+    def __init__(self, wanted, with_tests):
+        self.programs = {it.crate: it for it in wanted}
         self.known, self.turn = libraries(), threading.Condition()
         chains = [{it} | below(it, self.known) for it in self.programs]
         wanted = set().union(*chains)
@@ -83,14 +75,14 @@ class Build:
         """Proves and tests crates until none is left."""
         while found := self.next():
             do, crate = found
-            ended = False
+            is_well = False
             try:
-                ended = do(crate)
+                is_well = do(crate)
             finally:
                 with self.turn:
                     self.at_work -= 1
                     if do == self.prove:
-                        self.failed = self.failed or not ended
+                        self.failed = self.failed or not is_well
                         self.proved.add(crate)
                     self.turn.notify_all()
 
@@ -111,21 +103,23 @@ class Build:
             with self.turn:
                 home = room(crate, self.known, top)
             with lent(crate, home, all_but="rlib"):
-                ended = self.call(crate, home, ["nice", "-n", "10", "rt", "test", "--jobs", str(self.jobs(1))])
+                is_well = self.call(crate, home, ["nice", "-n", "10", "rt", "test", "--jobs", str(self.jobs(1))])
         with self.turn:
-            self.passed += ended
-            print(f"tests: {crate} {'passed' if ended else 'FAILED; build/log has all that the toolchain said'}", flush=True)
-        return ended
+            self.passed += is_well
+            print(f"tests: {crate} {'passed' if is_well else 'FAILED; build/log has all that the toolchain said'}", flush=True)
+        return is_well
 
     def jobs(self, least):
         """How many jobs a check gets: its share of the processors."""
         with self.turn:
             return max(least, lanes() // max(1, self.at_work))
 
-    def call(self, crate, home, words, **streams):
-        """Calls the toolchain in a copy of a crate, and logs what it says; whether that went well."""
-        streams = {"stdin": subprocess.DEVNULL, "stdout": subprocess.PIPE, "stderr": subprocess.STDOUT, **streams}
-        ran = subprocess.run(words, cwd=home, check=False, **streams)
+    def call(self, crate, home, words, given=None):
+        """Calls the toolchain in a copy of a crate, and logs what it says; whether that went well. Where a program is given an
+        input, the program writes on standard output, and the toolchain on standard error."""
+        out = subprocess.PIPE if given is None else subprocess.DEVNULL
+        err = subprocess.STDOUT if given is None else subprocess.PIPE
+        ran = subprocess.run(words, cwd=home, check=False, input=given or b"", stdout=out, stderr=err)
         said = (ran.stdout or ran.stderr or b"").decode(errors="replace")
         with self.turn:
             self.log.write(f"== {crate}: {' '.join(words)}\n{said}")
@@ -134,13 +128,10 @@ class Build:
 
     def run(self, crate, home, before):
         """Proves, builds and runs a program; whether that went well."""
-        _, arguments, given, _ = PROGRAMS[self.programs[crate]]
-        with open(path(arguments), encoding="utf-8") as it:
-            jobs = self.jobs(2) if before else max(2, lanes())
-            words = [*before, "rt", "run", "--jobs", str(jobs), "--", *it.read().splitlines()]
-        with open(path(given), "rb") as stdin, open(path("build", crate + ".first"), "wb") as stdout:
-            # the program writes on standard output, and rt run says what it does on standard error
-            return self.call(crate, home, words, stdin=stdin, stdout=stdout, stderr=subprocess.PIPE)
+        program = self.programs[crate]
+        case, jobs = cases()[program.first], self.jobs(2) if before else max(2, lanes())
+        words = [*before, "rt", "run", "--jobs", str(jobs), "--", *case.arguments(program.word)]
+        return self.call(crate, home, words, given=case.part("stdin"))
 
 
 def is_current(built):
@@ -150,32 +141,27 @@ def is_current(built):
 
 
 def put(program):
-    """Puts a program into build/, if its first run wrote what it has to; whether it did."""
-    crate, _, _, wanted = PROGRAMS[program]
-    if subprocess.run(["cmp", path("build", crate + ".first"), path(wanted)], check=False).returncode:
+    """Puts a program into build/, if it does what its first case wants; whether it does."""
+    made = path("crates", program.crate, "out", program.crate)
+    if not run_once(program, [made]):
+        print(f"build: {program.name} does not do what its case {program.first} wants")
         return False
-    shutil.copy(path("crates", crate, "out", crate), path("build", program))
+    shutil.copy(made, program.built)
     return True
 
 
 def take(program):
-    """Takes a program that rt ci built, and runs it once; whether it is there and current, and ran well."""
-    crate, arguments, given, _ = PROGRAMS[program]
-    built = path("crates", crate, "out", crate)
-    if not is_current(built):
-        print(f"build: rt ci hasn't built {program} from these sources")
+    """Takes a program that rt ci built; whether it is there and no source is newer, and it does what it has to."""
+    if not is_current(path("crates", program.crate, "out", program.crate)):
+        print(f"build: rt ci has not built {program.name} from these sources")
         return False
-    with open(path(arguments), encoding="utf-8") as it:
-        words = it.read().splitlines()
-    with open(path(given), "rb") as stdin, open(path("build", crate + ".first"), "wb") as stdout:
-        ran = subprocess.run([built, *words], stdin=stdin, stdout=stdout, stderr=subprocess.DEVNULL, check=False)
-    return ran.returncode == 0 and put(program)
+    return put(program)
 
 
-def made(programs, with_tests):
+def made(wanted, with_tests):
     """Proves the crates of some programs, builds and runs these, and tests all crates where that is wanted; whether all
     went well."""
-    build = Build(programs, with_tests)
+    build = Build(wanted, with_tests)
     workers = [threading.Thread(target=build.work) for _ in range(lanes())]
     for it in workers:
         it.start()
@@ -188,31 +174,25 @@ def made(programs, with_tests):
         print("build: it failed; build/log has all that the toolchain said")
     if build.failed:
         return False
-    if not all(map(put, programs)):
-        return False
-    if with_tests:
-        print(f"{build.passed} passed, {build.count - build.passed} failed")
-        return 0 < build.passed == build.count
-    return True
+    return all(map(put, wanted)) and not (with_tests and ended(build.passed, build.count - build.passed))
 
 
 def main(words):
-    programs = [it for it in words if not it.startswith("--")] or ["svndumpfilter"]
-    with_tests = "--tests" in words
-    is_proved = words[:1] == ["--proved"]
-    flags = {"--proved"} if is_proved else {"--old", "--tests"}
-    if not set(programs) <= set(PROGRAMS) or not set(words) <= {*programs, *flags}:
+    known = {it.name: it for it in programs().values()}
+    names, flags = [it for it in words if it in known], {it for it in words if it not in known}
+    if flags != {"--proved"} and not flags <= {"--old", "--tests"}:
         print(__doc__, file=sys.stderr)
         return 2
+    wanted = [known[it] for it in names or [next(iter(known))]]
     os.makedirs(path("build"), exist_ok=True)
     with open(path("build", "lock"), "w", encoding="utf-8") as lock:
         # what is kept of a crate is in one copy at a time
         fcntl.flock(lock, fcntl.LOCK_EX)
-        if is_proved:
-            return 0 if all(map(take, programs)) else 1
-        if "--old" in words:
-            programs = [it for it in programs if not is_current(path("build", it))]
-        return 0 if not programs and not with_tests or made(programs, with_tests) else 1
+        if "--proved" in flags:
+            return 0 if all(map(take, wanted)) else 1
+        if "--old" in flags:
+            wanted = [it for it in wanted if not is_current(it.built)]
+        return 0 if not wanted and "--tests" not in flags or made(wanted, "--tests" in flags) else 1
 
 
 sys.exit(main(sys.argv[1:]))

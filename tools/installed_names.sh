@@ -1,9 +1,17 @@
 #!/bin/sh
-# Prints the name of the survey that is installed beside the filter of a name: svndumpsurvey stands in it for
-# svndumpfilter, and where there is no such word, -survey behind it.
+# Prints a line for each program of programs.txt: its name, and the name by which it is installed, where the first one is given
+# NAME. Another one's name stands in NAME in place of the first one's. Where NAME does not have that, the other's own word, as
+# survey, is appended to it.
 #
 #     tools/installed_names.sh NAME
-case $1 in
-*svndumpfilter*) printf '%s\n' "$1" | sed 's/svndumpfilter/svndumpsurvey/g' ;;
-*) printf '%s\n' "$1-survey" ;;
-esac
+cd "$(dirname -- "$0")/.." || exit 1
+grep -v '^#' programs.txt | {
+    read -r first _
+    echo "$first $1"
+    while read -r program _; do
+        case $1 in
+        *"$first"*) echo "$program $(printf %s "$1" | sed "s/$first/$program/g")" ;;
+        *) echo "$program $1-${program#svndump}" ;;
+        esac
+    done
+}

@@ -1,11 +1,10 @@
 #!/bin/sh
-# Makes a Debian package of both programs, their pages and their documents. It may stand beside Debian's own subversion,
-# since its programs are svndumpfilter-proved and svndumpsurvey-proved. The version is that of CHANGELOG.md; where that
-# has unreleased changes, the time and the name of the last commit stand behind it.
+# Makes a Debian package of all programs, their pages and their documents. It can be installed beside Debian's own subversion,
+# since its programs have other names, as svndumpfilter-proved. The version is that of CHANGELOG.md; if that has unreleased
+# changes, the time and the name of the last commit are appended.
 set -eu
 cd "$(dirname -- "$0")/.."
 package=svndumpfilter-proved
-survey=$(tools/installed_names.sh "$package")
 maintainer='The maintainers of svndumpfilter-proved <maintainers@users.noreply.geimust.example>'
 root=build/deb
 documents=$root/usr/share/doc/$package
@@ -24,29 +23,29 @@ fi
 day=$(commit %cD)
 
 rm -rf "$root" build/${package}_*.deb
-DESTDIR=$root PREFIX=/usr NAME=$package FORCE=1 tools/install.sh put > /dev/null
+DESTDIR=$root PREFIX=/usr NAME=$package FORCE=1 tools/install.sh install > /dev/null
 rm "$documents/installed"
-strip --strip-all "$root/usr/bin/$package" "$root/usr/bin/$survey"
-gzip -9n "$root/usr/share/man/man1/$package.1" "$root/usr/share/man/man1/$survey.1"
+strip --strip-all "$root/usr/bin/"*
+gzip -9n "$root/usr/share/man/man1/"*
 cp CHANGELOG.md "$documents"
 
 gzip -9n > "$documents/changelog.gz" <<END
 $package ($version) unstable; urgency=medium
 
-  * What has changed stands in CHANGELOG.md, beside this file.
+  * CHANGELOG.md, beside this file, says what has changed.
 
  -- $maintainer  ${day:-$(date -R -r CHANGELOG.md)}
 END
 cat > "$documents/copyright" <<END
-svndumpfilter-proved: a filter of Subversion dump files, and a survey of what it loses.
+$package: a filter of Subversion dump files, and a survey of what it loses.
 
-Copyright 2026, the authors of svndumpfilter-proved. No licence has been chosen yet, so none is granted: whoever wants to hand
+Copyright 2026, the authors of $package. No licence has been chosen yet, so none is granted: whoever wants to hand
 this package on has to ask them.
 END
 
 # the C library is all that the programs load; their symbols say which version of it they need
-loads=$(objdump -p "$root/usr/bin/$package" "$root/usr/bin/$survey" | sed -n 's/^ *NEEDED *//p' | sort -u)
-needs=$(objdump -T "$root/usr/bin/$package" "$root/usr/bin/$survey" |
+loads=$(objdump -p "$root/usr/bin/"* | sed -n 's/^ *NEEDED *//p' | sort -u)
+needs=$(objdump -T "$root/usr/bin/"* |
     sed -n 's/.*GLIBC_\([0-9.]*\).*/\1/p' | sort -u -V | tail -n 1)
 if [ "$loads" != libc.so.6 ] || [ -z "$needs" ]; then
     echo "tools/make_deb.sh: the programs load more than the C library, and no package is known for that: $loads" >&2

@@ -5,8 +5,8 @@
 
 It looks twice a second at the processes that PROCESS has started, itself or by others. For each crate the table has the
 processor time, and in brackets the time in which such a check ran, in minutes: of its proof, of its tests (which are
-proved and compiled), of its named wrong bodies and of the others. What ended between two looks isn't seen, so the table
-has some half a second less for each check. It stops at a SIGTERM, or where PROCESS has ended.
+proved and compiled), of its named mutants (those of must-fail) and of the others. What ended between two looks is not seen,
+so the table has some half a second less for each check. It stops at a SIGTERM, or where PROCESS has ended.
 """
 import collections
 import os
@@ -17,7 +17,8 @@ import time
 KINDS = ["proof", "tests", "named", "mutants"]
 PAUSE = 0.5
 TICKS = os.sysconf("SC_CLK_TCK")
-MUTANTS = ("wrong-", "guards-")
+# how the directories begin in which tests/mutants.py checks its copies
+MUTANTS = "mutants-"
 
 Process = collections.namedtuple("Process", "parent start used waited")
 

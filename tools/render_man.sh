@@ -1,21 +1,25 @@
 #!/bin/sh
-# Prints a manual page for the programs as they are installed under a name.
+# Prints the manual page of PROGRAM with the names by which the programs are installed, where the first one is given NAME.
 #
-#     tools/render_man.sh NAME [PAGE]
+#     tools/render_man.sh NAME PROGRAM
 #
-# PAGE is svndumpfilter, where none is given, or svndumpsurvey. In the pages of docs/ the plain names are those of the
-# two programs. Where Subversion's own tool or a line that a program prints is meant, the name has a \& in it, and stays.
+# In the pages of docs/ the plain names are those of the programs. Where Subversion's own tool or a line that a program prints
+# is meant, the name has a \& in it, and stays.
 set -eu
 cd "$(dirname -- "$0")/.."
-name=$1
-case $name in
+case $1 in
 "" | [!A-Za-z0-9]* | *[!A-Za-z0-9._+-]*)
-    echo "tools/render_man.sh: no program can be named '$name'" >&2
+    echo "tools/render_man.sh: no program can be named '$1'" >&2
     exit 1
     ;;
 esac
-survey=$(tools/installed_names.sh "$name")
-title=$(printf %s "$name" | tr '[:lower:]' '[:upper:]')
-survey_title=$(printf %s "$survey" | tr '[:lower:]' '[:upper:]')
-sed -e "s/svndumpsurvey/$survey/g" -e "s/SVNDUMPSURVEY/$survey_title/g" \
-    -e "s/svndumpfilter/$name/g" -e "s/SVNDUMPFILTER/$title/g" "docs/${2-svndumpfilter}.1"
+
+capitals() {
+    printf %s "$1" | tr '[:lower:]' '[:upper:]'
+}
+
+# the first program comes last, since NAME may have another one's name in it
+edits=$(tools/installed_names.sh "$1" | tac | while read -r program installed; do
+    echo "s/$program/$installed/g; s/$(capitals "$program")/$(capitals "$installed")/g"
+done)
+sed -e "$edits" "$(awk -v program="$2" '$1 == program { print $3 }' programs.txt)"

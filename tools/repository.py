@@ -1,12 +1,15 @@
-"""What the scripts ask of the repository's crates, and copies of them in which the toolchain can work."""
+"""What the scripts know of this repository: its programs, its cases and its crates, and copies of crates in which the
+toolchain can work. tests/ and bench/ have links to this file."""
 import contextlib
 import functools
 import importlib.util
 import os
 import re
 import shutil
+import subprocess
+import typing
 
-TOP = os.path.realpath(os.path.join(os.path.dirname(os.path.abspath(__file__)), ".."))
+TOP = os.path.dirname(os.path.dirname(os.path.abspath(__file__)))
 # what a check may take at the most
 BYTES = 4_000_000_000
 PARTS = ("src", "specs", "proofs")
@@ -16,11 +19,116 @@ def path(*names):
     return os.path.join(TOP, *names)
 
 
+def read(*names):
+    with open(path(*names), encoding="utf-8") as it:
+        return it.read()
+
+
+def lines_of(name):
+    """The lines of a file of data, without what stands behind a number sign and without empty ones."""
+    found = (line.partition("#")[0].strip() for line in read(name).splitlines())
+    return [it for it in found if it]
+
+
+class Program(typing.NamedTuple):
+    """A program, as a line of programs.txt has it."""
+
+    name: str
+    crate: str
+    page: str
+    first: str
+
+    @property
+    def word(self):
+        """The program's own part of its name, by which a case calls its files."""
+        return self.name.removeprefix("svndump")
+
+    @property
+    def built(self):
+        return path("build", self.name)
+
+
+@functools.cache
+def programs():
+    """The programs, by their own words."""
+    found = [Program(*it.split()) for it in lines_of("programs.txt")]
+    return {it.word: it for it in found}
+
+
+class Case(typing.NamedTuple):
+    """A case, a directory below tests/cases; tests/run_cases.py says which files it has."""
+
+    topic: str
+    name: str
+
+    def part(self, name):
+        """What is in a file of it; nothing where that is not there."""
+        try:
+            with open(path("tests", "cases", self.topic, self.name, name), "rb") as it:
+                return it.read()
+        except FileNotFoundError:
+            return b""
+
+    def files(self):
+        return os.listdir(path("tests", "cases", self.topic, self.name))
+
+    def programs(self):
+        """The words of the programs that run on it."""
+        return [it for it in programs() if self.part(f"{it}.status")]
+
+    def of(self, program, name):
+        """What is in a program's own file of it."""
+        return self.part(f"{program}.{name}")
+
+    def status(self, program):
+        return int(self.of(program, "status"))
+
+    def arguments(self, program):
+        text = self.of(program, "args") or self.part("args")
+        return [os.fsdecode(it) for it in text.splitlines()]
+
+
+@functools.cache
+def cases():
+    """All cases, by their names."""
+    found = {}
+    for topic in sorted(os.listdir(path("tests", "cases"))):
+        for name in sorted(os.listdir(path("tests", "cases", topic))):
+            if name in found:
+                raise SystemExit(f"two cases are named {name}: one in {topic}, the other in {found[name].topic}")
+            found[name] = Case(topic, name)
+    return found
+
+
+def installed_names(name):
+    """The names by which the programs are installed, by their own words, where the first one is given this name."""
+    said = subprocess.run([path("tools", "installed_names.sh"), name], stdout=subprocess.PIPE, text=True, check=True).stdout
+    return {word: line.split()[1] for word, line in zip(programs(), said.splitlines())}
+
+
+def run_once(program, command):
+    """Runs a program on its first case by this command; whether it ended well and wrote what the case wants."""
+    case = cases()[program.first]
+    ran = subprocess.run([*command, *case.arguments(program.word)], input=case.part("stdin"), capture_output=True, check=False)
+    wrote = ran.stdout, ran.stderr, ran.returncode
+    return wrote == (case.of(program.word, "stdout"), case.of(program.word, "stderr"), case.status(program.word))
+
+
+def lacking(*tools):
+    """Which of some tools are not installed."""
+    return [it for it in tools if shutil.which(it) is None]
+
+
+def ended(passed, failed):
+    """Prints the last line of a suite, and gives its exit status."""
+    print(f"{passed} passed, {failed} failed")
+    return 1 if failed or not passed else 0
+
+
 def libraries():
     """The libraries of each crate, as crates.txt has them."""
-    with open(path("crates.txt"), encoding="utf-8") as it:
-        lines = [line.partition("#")[0].strip() for line in it]
-    return {line.partition(":")[0]: line.partition(":")[2].split() for line in lines if line}
+    lines = lines_of("crates.txt")
+    return {line.partition(":")[0].strip(): line.partition(":")[2].split() for line in lines}
 
 
 def below(crate, known):
