@@ -1,92 +1,110 @@
 #!/usr/bin/env python3
-"""Sees that a definition's name stands in one crate, and that files of one name hold one thing.
+"""Sees that each definition has one name, and each name one definition.
 
     tests/check_names.py
 
-It fails where two crates define a public name in their specs/. It fails too where a crate and one that it stands on have a
-file of sources of the same name with unlike contents; tests, laws and the first file of a crate are not looked at. The last
-line is 'N passed, M failed'.
+It fails if two crates define a public name in their specs/. It fails too if two definitions of specs/, or the bodies of two
+functions of src/, are equal but for their own names. Bodies of one line or of less than 40 characters, and tests, are not compared. Copies
+that are known stand in tests/known_copies.txt. One that is no longer there is an error as well, so that the list only gets
+shorter. The last line is 'N passed, M failed'.
 """
 import glob
 import os
 import re
 import sys
 
-TOP = os.path.join(os.path.dirname(os.path.abspath(__file__)), "..")
-# the line that begins a public definition, right in a file or inside a module or a block of definitions that name each other
-HEAD = re.compile(r"^(?:  )?(?:(?:abbrev|unfoldable|opaque) )*pub (?:(?:record|data) )?(?!mod )([^\s:({]+)")
-UNSEEN = {"lib.rt", "main.rt", "tests.rt", "laws.rt"}
+from repository import ended, lines_of, path, read
+
+# the line that begins a definition, directly in a file or in a module or a block of definitions that name each other
+DEFINITION = re.compile(r"^(?:  )?((?:(?:abbrev|unfoldable|opaque|pub|record|data) )+)(?!mod )([^\s:({]+)")
+FUNCTION = re.compile(r"^( *)(?:pub(?:\([a-z]+\))? |const )*fn (\w+)")
+KNOWN = "tests/known_copies.txt"
+LEAST = 40
 
 
-def read(path):
-    with open(os.path.join(TOP, path), encoding="utf-8") as it:
-        return it.read()
+def files(pattern):
+    """The crate and the text of each file that a pattern names."""
+    for it in sorted(glob.glob(path(pattern), recursive=True)):
+        name = os.path.relpath(it, path())
+        yield name.split(os.sep)[1], name, read(name)
 
 
-def found(pattern):
-    """The files that a pattern names, below the top."""
-    return sorted(os.path.relpath(it, TOP) for it in glob.glob(os.path.join(TOP, pattern), recursive=True))
-
-
-def crate_of(path):
-    return path.split(os.sep)[1]
-
-
-def heads(text):
-    """The public definitions of a file: those that stand right in it, and in a module or a mutual block the ones two columns in."""
-    names, depth = [], 0
+def definitions(text):
+    """The name, the words before it and the text of each definition of a file, without comments."""
+    found, depth = [], 0
     for line in text.splitlines():
-        indent = len(line) - len(line.lstrip())
-        if line.strip() and indent == 0 and not line.startswith("--"):
-            depth = 2 if line.startswith("module ") or line.endswith("mutual") else 0
-        head = HEAD.match(line)
+        line = re.sub(r"(^|\s)-- .*", "", line)
+        indent, words = len(line) - len(line.lstrip()), line.split()
+        if not words or words[0] in ("use", "mod", "module") or words[:2] in (["pub", "use"], ["pub", "mod"]):
+            depth = 2 if words[:1] == ["module"] else depth
+            continue
+        if indent == 0:
+            depth = 2 if words[-1] == "mutual" else 0
+        head = DEFINITION.match(line)
         if head and indent == depth:
-            names.append(head[1])
-    return names
+            found.append((head[2], head[1].split(), []))
+        if found:
+            found[-1][2].append(line)
+    return [(name, words, "\n".join(lines)) for name, words, lines in found]
+
+
+def functions(text):
+    """The name and the body of each function of a file that has a body of several lines."""
+    head, body = None, None
+    for line in text.splitlines():
+        begins = FUNCTION.match(line)
+        if body is not None:
+            if line == head[1] + "}":
+                yield head[2], "\n".join(body)
+                head, body = None, None
+            else:
+                body.append(line)
+        elif begins or head:
+            head = begins or head
+            # the brace stands in the first line, alone behind a contract, or behind the result's type below all parameters
+            if line == head[1] + "{" or line.endswith("{") and (begins or line.startswith(head[1] + ")")):
+                body = []
+
+
+def without_name(name, text):
+    """A text in one line, with a mark in place of a name."""
+    marked = re.sub(rf"(?<![^\s(){{}};,.]){re.escape(name)}(?![^\s(){{}};,.])", "◆", text)
+    return " ".join(marked.split())
 
 
 def defined_twice():
-    """A sentence for each name that two crates define."""
-    files = {}
-    for path in found("crates/*/specs/**/*.antt"):
-        for name in heads(read(path)):
-            files.setdefault(name, {}).setdefault(crate_of(path), path)
-    return [f"{name} is defined in two crates: {', '.join(it.values())}" for name, it in sorted(files.items()) if len(it) > 1]
+    """A sentence for each public name that two crates define."""
+    found = {}
+    for crate, file, text in files("crates/*/specs/**/*.antt"):
+        for name, words, _ in definitions(text):
+            if "pub" in words:
+                found.setdefault(name, {}).setdefault(crate, file)
+    return [f"{name} is defined in two crates: {', '.join(it.values())}" for name, it in sorted(found.items()) if len(it) > 1]
 
 
-def stands_on():
-    """For each crate those that crates.txt says it stands on, with what they stand on."""
-    lines = (it.partition("#")[0].partition(":") for it in read("crates.txt").splitlines())
-    below = {name.split()[0]: set(others.split()) for name, _, others in lines if name.strip()}
-    for _ in below:
-        below = {name: others.union(*(below.get(it, set()) for it in others)) for name, others in below.items()}
-    return below
-
-
-def is_seen(path):
-    folders = path.split(os.sep)
-    return folders[-1] not in UNSEEN and "tests" not in folders
-
-
-def named_alike():
-    """A sentence for each two files of one name where one crate stands on the other."""
-    below, wrong = stands_on(), []
-    files = [it for it in found("crates/*/src/**/*.rt") if is_seen(it)]
-    for upper in files:
-        for lower in files:
-            if os.path.basename(upper) == os.path.basename(lower) and crate_of(lower) in below[crate_of(upper)]:
-                if read(upper) != read(lower):
-                    wrong.append(f"{upper} has the name of {lower}, and holds something else")
-    return wrong
+def copies():
+    """What is equal but for its name, as lines of the list of known copies."""
+    found = {}
+    for crate, _, text in files("crates/*/specs/**/*.antt"):
+        for name, _, body in definitions(text):
+            found.setdefault(("definition", without_name(name, body)), []).append(f"{crate}::{name}")
+    for crate, file, text in files("crates/*/src/**/*.rt"):
+        for name, body in functions(text) if "tests" not in re.split(r"[/.]", file) else []:
+            body = without_name(name, body)
+            if len(body) >= LEAST:
+                found.setdefault(("function", body), []).append(f"{crate}::{name}")
+    return {" ".join([kind, *sorted(names)]) for (kind, _), names in found.items() if len(names) > 1}
 
 
 def main():
-    checks = [defined_twice(), named_alike()]
+    known, there = set(lines_of(KNOWN)), copies()
+    new = [f"these are equal but for their names: {it}" for it in sorted(there - known)]
+    gone = [f"{KNOWN} has copies that are no longer there: {it}" for it in sorted(known - there)]
+    checks = [defined_twice(), new, gone]
     for sentence in sum(checks, []):
         print(f"tests/check_names.py: {sentence}")
     failed = sum(bool(it) for it in checks)
-    print(f"{len(checks) - failed} passed, {failed} failed")
-    return 1 if failed else 0
+    return ended(len(checks) - failed, failed)
 
 
 sys.exit(main())

@@ -39,7 +39,10 @@ ANSWER = "crates/dump_pipeline/specs/RunAnswer.antt"
 NOUGHT = "(Failed failures.Threads written) = written ≡ 0\n"
 RANGE = "use Rattle.dump_pipeline.specs.steps.PlanRange.{IsInRange}\n"
 BEHIND = "-- the received bytes are"
-# a check, a file with edits of it, and what the check has to say
+COUNTED = "crates/dump_writer/src/counted.rt"
+COPY = "fn trimmed(text: &[u8]) -> &[u8] {\n    match text {\n        [b'/', rest @ ..] => rest,\n        _ => text,\n    }\n}\n"
+KNOWN = "tests/known_copies.txt"
+# a check, a file with edits of it, and what the check has to say: an edit of nothing appends to the file
 EDITS = [
     ("tests/check_trusted.py", ANSWER,
      [(NOUGHT, NOUGHT.replace("written ≡", "IsInRange 1 1 × written ≡")), ("use Rattle.dump_writer", RANGE + "use Rattle.dump_writer")],
@@ -48,6 +51,12 @@ EDITS = [
      "specs/RunAnswer.antt: nought: neither the statement nor a law needs it"),
     ("tests/check_names.py", ANSWER, [(BEHIND, f"abbrev pub status_of : ℕ\nstatus_of = 0\n\n{BEHIND}")],
      f"status_of is defined in two crates: crates/dump_cli/specs/Drive.antt, {ANSWER}"),
+    ("tests/check_names.py", ANSWER, [(BEHIND, f"abbrev nought : ℕ\nnought = 0\n\nabbrev none : ℕ\nnone = 0\n\n{BEHIND}")],
+     "these are equal but for their names: definition dump_pipeline::none dump_pipeline::nought"),
+    ("tests/check_names.py", COUNTED, [("", COPY + COPY.replace("trimmed", "cut"))],
+     "these are equal but for their names: function dump_writer::cut dump_writer::trimmed"),
+    ("tests/check_names.py", KNOWN, [("", "function dump_text::no_such_function dump_writer::other\n")],
+     "has copies that are no longer there: function dump_text::no_such_function dump_writer::other"),
 ]
 SMALL = "examples/small.dump"
 NUMBERS = re.compile(r"^((?:Prop-content-length|Text-content-length|Content-length|Text-content-md5|Text-content-sha1):|[KVD]) \w+$", re.MULTILINE)
@@ -87,12 +96,12 @@ def tried(texts, *words):
 def edited(check, file, pairs):
     """What a check says where a file is edited."""
     with tempfile.TemporaryDirectory(prefix="planted-") as folder:
-        copied(folder, check, "tests/repository.py", "tests/statements.txt", "docs/TRUSTED.md", "crates.txt", "programs.txt")
+        copied(folder, check, "tests/repository.py", "tests/statements.txt", KNOWN, "docs/TRUSTED.md", "crates.txt", "programs.txt")
         shutil.copytree(path("crates"), os.path.join(folder, "crates"), ignore=shutil.ignore_patterns("out", "proofs"))
         text = read(file)
         for old, new in pairs:
             assert old in text, f"{old} is not in {file}"
-            text = text.replace(old, new, 1)
+            text = text.replace(old, new, 1) if old else text + new
         with open(os.path.join(folder, file), "w", encoding="utf-8") as it:
             it.write(text)
         return said_by(folder, check)
