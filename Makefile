@@ -1,147 +1,125 @@
-# make            proves and builds the program, build/svndumpfilter
-# make survey     proves and builds the second program, build/svndumpsurvey
-# make test       proves what isn't proved yet, runs the tests of every crate, and then tests/ on the program
-# make suites     runs tests/ on the program alone
-# make gate       what a merge needs beside that: proves every crate and its tests once more from nothing, sees that
-#                 the named wrong bodies are refused, and tries all others in batches
-# make check      checks the crate that CRATE names, with what was proved of it before
-# make case       runs the case that NAME names
-# make bench      measures both programs on made dumps, beside the filter on one thread, md5sum, sha1sum, cat and, where it
-#                 is installed, the stock svndumpfilter
-# make soak       runs the program ten thousand times on random dumps by random plans, beside the filter on one thread
-# make install    puts both programs, their manual pages and documents under $(DESTDIR)$(PREFIX), the filter by the name
-#                 $(NAME) and the survey by that with svndumpsurvey for svndumpfilter; what somebody else put there is
-#                 overwritten with FORCE=1 alone
-# make uninstall  takes away what was so put, and nothing else
+# make            proves and builds the first program of programs.txt, build/svndumpfilter
+# make PROGRAM    the same of any program, by what stands behind svndump in its name, as make survey
+# make test       proves what is not proved yet, builds all programs, runs the tests of every crate, and then the suites of
+#                 tests/. After rt ci, which proves every crate from scratch and runs its tests, PROVED=ci make test takes the
+#                 programs from there, and runs the suites and the mutants
+# make suites     runs the suites on the built programs
+# make mutants    tries the mutants, and plants mistakes for the checks of tests/
+# make check CRATE=NAME
+#                 checks a crate, reusing what was proved before
+# make case CASE=NAME
+#                 runs a case, with each program that it is for
+# make bench      measures the programs on made dumps, beside the filter on one thread, md5sum, sha1sum, cat and, if it is
+#                 installed, Subversion's own svndumpfilter
+# make soak       runs the filter ten thousand times on random dumps with random plans, beside the filter on one thread
+# make install    installs all programs, their manual pages and documents under $(DESTDIR)$(PREFIX), the filter by the name
+#                 $(NAME) and the others by names like it; FORCE=1 overwrites files that were not installed from here
+# make uninstall  removes what was so installed, and nothing else
 # make deb        makes a Debian package of the same, build/svndumpfilter-proved_VERSION_ARCHITECTURE.deb
 # make clean      removes build/; what the checks keep in crates/*/out stays
+# make help       prints this
 
 PREFIX ?= /usr/local
 DESTDIR ?=
 NAME ?= svndumpfilter-proved
 FORCE ?=
+CRATE ?=
+CASE ?=
 
-PROGRAM := build/svndumpfilter
-SURVEY := build/svndumpsurvey
+PROGRAMS := $(shell sed -n 's/^\([a-z][^ ]*\) .*/\1/p' programs.txt)
+WORDS := $(PROGRAMS:svndump%=%)
+BUILT := $(PROGRAMS:%=build/%)
 PLAIN := build/run_plain
-INSTALLED := PREFIX="$(PREFIX)" DESTDIR="$(DESTDIR)" NAME="$(NAME)" FORCE="$(FORCE)" tools/installed
-SOURCES := $(shell tools/sources)
-# a suite that calls make itself takes none of this make's jobs
-ALONE := env -u MAKEFLAGS -u MFLAGS
-SUITES := $(addprefix suite-,refusals meaning hostile cases surveys stock install pages trusted words edits)
+INSTALL := PREFIX="$(PREFIX)" DESTDIR="$(DESTDIR)" NAME="$(NAME)" FORCE="$(FORCE)" tools/install.sh
+SOURCES := $(shell tools/list_sources.sh)
+# the suites that take the longest come first
+SUITES := $(addprefix suite-,fault_injection check_loaded_trees hostile_input run_cases compare_with_subversion \
+	check_install check_examples check_scripts check_trusted check_names fit)
+MUTANTS := $(addprefix suite-,mutants check_the_checks)
+# each suite works in directories of its own, so they run in parallel; the output of one is printed whole
+PARALLEL := $(MAKE) --no-print-directory --jobs=$(shell nproc) --output-sync=target --keep-going
+# the programs that a case is for
+OF_CASE := $(strip $(foreach it,$(if $(CASE),$(WORDS)),$(if $(wildcard tests/cases/*/$(CASE)/$(it).status),build/svndump$(it))))
+ifeq ($(PROVED),ci)
+BUILD := tools/build.py --proved
+else
+BUILD := tools/build.py
+endif
 
-# a target for each suite of tests/
-.PHONY: $(SUITES)
-.PHONY: all survey toolchain test suites gate check case bench soak install uninstall deb clean
+.PHONY: all help toolchain $(WORDS) test suites mutants $(SUITES) $(MUTANTS) check case bench soak install uninstall deb clean
 .DELETE_ON_ERROR:
 
-all: $(PROGRAM)
+all: $(firstword $(BUILT))
+
+help:
+	@sed -n '/^#/!q; s/^# //p' Makefile
 
 toolchain:
-	$(if $(shell command -v rt),@:,$(error the Rattle toolchain (rt) isn't on the PATH))
+	$(if $(shell command -v rt),@:,$(error the Rattle toolchain (rt) is not on the PATH))
 
-$(PROGRAM): $(SOURCES) | toolchain
-	@echo "make: proving and building $@; from nothing this takes 36 to 46 minutes of processor time"
-	@tools/build
-	@echo "make: $@ is built"
-
-survey: $(SURVEY)
+$(WORDS): %: build/svndump%
 
 # a build waits for another one, and takes what that one proved
-$(SURVEY): $(SOURCES) | toolchain
-	@echo "make: proving and building $@; its own four crates take some 20 minutes of processor time from nothing"
-	@tools/build svndumpsurvey
+$(BUILT): build/%: $(SOURCES) | toolchain
+	@echo "make: proving and building $@; from scratch this takes about 20 minutes on four cores"
+	@$(BUILD) $*
 	@echo "make: $@ is built"
 
-# all in one go: what doesn't stand on each other is proved beside each other, each crate once, its tests behind it
+ifeq ($(PROVED),ci)
 test: | toolchain
-	@echo "make: proving and building what isn't current of both programs, and proving and running the tests of every crate"
-	@tools/build --old --tests $(notdir $(PROGRAM) $(SURVEY))
+	@echo "make: taking all programs from rt ci, and running the suites and the mutants"
+	@$(BUILD) $(PROGRAMS)
+	+@$(PARALLEL) $(MUTANTS) $(SUITES)
+else
+# in one go, so that each crate is proved once and its tests after it, and crates that do not depend on each other in parallel
+test: | toolchain
+	@echo "make: proving and building what is not current of all programs, and proving and running the tests of every crate"
+	@$(BUILD) --old --tests $(PROGRAMS)
 	@$(MAKE) --no-print-directory suites
+endif
 
-# each suite works in folders of its own, so they run beside each other; what one says comes together
-suites: $(PROGRAM) $(SURVEY)
-	@echo "make: running tests/ on both programs"
-	@$(MAKE) --no-print-directory --jobs=$(shell nproc) --output-sync=target --keep-going $(SUITES)
+suites: $(BUILT)
+	@echo "make: running the suites of tests/"
+	+@$(PARALLEL) $(SUITES)
 
-# the longest come first
-suite-refusals:
-	@echo "make: refusing each growth of memory and each start of a thread in turn"
-	tests/refusals $(PROGRAM)
+mutants: | toolchain
+	+@$(PARALLEL) $(MUTANTS)
 
-suite-meaning:
-	@echo "make: loading what $(PROGRAM) writes, and comparing it with what is meant where $(SURVEY) is silent"
-	tests/meaning $(PROGRAM) $(SURVEY)
+suite-fit:
+	tests/mutants.py --fit
 
-suite-cases:
-	@echo "make: running tests/cases on $(PROGRAM)"
-	tests/run $(PROGRAM)
-
-suite-surveys:
-	@echo "make: running tests/survey on $(SURVEY)"
-	tests/run --survey $(SURVEY)
-
-suite-hostile:
-	@echo "make: running $(PROGRAM) on hostile input, streams and limits"
-	tests/hostile $(PROGRAM)
-
-suite-stock:
-	@echo "make: comparing $(PROGRAM) with the stock svndumpfilter"
-	tests/stock $(PROGRAM)
-
-suite-install:
-	@echo "make: installing both programs into an empty root"
-	$(ALONE) tests/install
-
-suite-pages:
-	@echo "make: running the examples of the manual pages and of the README"
-	$(ALONE) tests/pages $(PROGRAM)
-
-suite-trusted:
-	@echo "make: looking whether the README lists the definitions of the statement"
-	tests/trusted
-
-suite-words:
-	@echo "make: looking whether each definition's name stands in one crate"
-	tests/words
-
-suite-edits:
-	@echo "make: looking whether each wrong body fits the sources as they stand"
-	tests/wrong --fit
-
-gate: | toolchain
-	@echo "make: proving every crate from nothing, with its tests and the named wrong bodies"
-	rt ci
-	@echo "make: trying all other wrong bodies, in rounds"
-	tests/wrong
-	@echo "make: seeing that tests/wrong, tests/trusted and tests/words fail where they have to"
-	tests/guards
+# a suite that calls make itself takes none of this make's jobs
+$(filter-out suite-fit,$(SUITES)) $(MUTANTS): suite-%:
+	@echo tests/$*.py
+	@env -u MAKEFLAGS -u MFLAGS tests/$*.py
 
 check: | toolchain
+	$(if $(wildcard crates/$(CRATE)/src),,$(error make check wants CRATE=NAME, a directory of crates/))
 	cd crates/$(CRATE) && rt check
 
-case: $(PROGRAM)
-	tests/run $(PROGRAM) $(NAME)
+case: $(OF_CASE)
+	$(if $(OF_CASE),,$(error make case wants CASE=NAME, a directory tests/cases/TOPIC/NAME))
+	tests/run_cases.py $(CASE)
 
 # the same filter on one thread, over the same crates
-$(PLAIN): $(PROGRAM) bench/plain bench/run_plain.rt.in
+$(PLAIN): build/svndumpfilter bench/build_plain.sh bench/run_plain.rt.in
 	@echo "make: building $@"
-	@bench/plain
+	@bench/build_plain.sh
 
-bench: $(PROGRAM) $(PLAIN) $(SURVEY)
-	bench/measure $(PROGRAM) $(PLAIN) $(SURVEY)
+bench: $(BUILT) $(PLAIN)
+	bench/bench.py
 
-soak: $(PROGRAM) $(PLAIN)
-	bench/soak
+soak: build/svndumpfilter $(PLAIN)
+	bench/soak.py
 
-install: $(PROGRAM) $(SURVEY)
-	@$(INSTALLED) put
+install: $(BUILT)
+	@$(INSTALL) install
 
 uninstall:
-	@$(INSTALLED) take
+	@$(INSTALL) uninstall
 
-deb: $(PROGRAM) $(SURVEY)
-	tools/deb
+deb: $(BUILT)
+	tools/make_deb.sh
 
 clean:
 	@echo "make: removing build/"

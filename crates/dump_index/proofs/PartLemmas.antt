@@ -11,7 +11,8 @@ use Rattle.dump_trees.specs.Looking.{Placed, end_of, touches_path, holds_there, 
 use Rattle.dump_trees.proofs.expansions.BackLemmas.{LooksBack}
 use Rattle.dump_index.specs.Listed.{Listed, listed_of, placed_of, all_placed}
 use Rattle.dump_index.specs.Settings.{is_replacing, setting_of, sets_there, sets_at, latest_for, own_place, IsTrail, Unset, Whole, Edited, NewMade, Copied}
-use Rattle.dump_index.specs.IndexLaws.{HasProps, HasText, IsListed, PropsAreFound, TextsAreFound, listed_props, listed_text, props_by, text_by, props_there, text_there, props_after, text_after}
+use Rattle.dump_trees.specs.ComingBack.{properties_of}
+use Rattle.dump_index.specs.IndexLaws.{HasProps, HasText, IsListed, PropsAreFound, TextsAreFound, listed_text, props_by, text_by, props_there, text_there, props_after, text_after}
 use Rattle.dump_index.specs.declared.change.Setting.{Setting}
 use Rattle.dump_index.specs.declared.change.Setting.TheVariants.{Keeps, Replaces, Edits, EditsNothing}
 use Rattle.dump_index.specs.declared.order.Effect.TheVariants.{Shaping, Moving}
@@ -428,25 +429,25 @@ module _ (V : Type 0) (part : Part) (val : Node → V) (none : V) (by : Change �
 -- ---- properties
 
 text_keeps_props : (t : Option TextChange) (one node : Node) → node_with_text t (Some one) ≡ Some node
-    → listed_props one ≡ listed_props node
-text_keeps_props None one node is = let both : Some one ≡ Some node = is in let same : one ≡ node = cc in ap listed_props same
+    → properties_of one ≡ properties_of node
+text_keeps_props None one node is = let both : Some one ≡ Some node = is in let same : one ≡ node = cc in ap properties_of same
 text_keeps_props (Some change) (Node.Folder props) node is = absurd (let bad : None ≡ Some node = is in cc)
 text_keeps_props (Some change) (Node.File props old) node is = cases (new_text change old) is
   where
-    cases : (o : Option (List ℕ)) → option_map (λ new. Node.File props new) o ≡ Some node → props ≡ listed_props node
+    cases : (o : Option (List ℕ)) → option_map (λ new. Node.File props new) o ≡ Some node → props ≡ properties_of node
     cases None is = absurd (let bad : None ≡ Some node = is in cc)
     cases (Some new) is =
         let both : Some (Node.File props new) ≡ Some node = is in
         let same : Node.File props new ≡ node = cc in
-        ap listed_props same
+        ap properties_of same
 
 set_props : (c : Change) (o : Option Node) (node : Node) → set_by c [] o ≡ Some node
-    → (other : Node) × (o ≡ Some other) × (props_by c.props (listed_props other) ≡ Some (listed_props node))
+    → (other : Node) × (o ≡ Some other) × (props_by c.props (properties_of other) ≡ Some (properties_of node))
 set_props c None node is = absurd (let bad : None ≡ Some node = sym (none_set c.text c.props) ∙ is in cc)
 set_props c (Some other) node is = (other, refl, cases c.props other is)
   where
     cases : (o : Option PropertyChange) (other : Node) → node_with_text c.text (node_with_props o (Some other)) ≡ Some node
-        → props_by o (listed_props other) ≡ Some (listed_props node)
+        → props_by o (properties_of other) ≡ Some (properties_of node)
     cases None other is = ap (λ ps. Some ps) (text_keeps_props c.text other node is)
     cases (Some change) (Node.Folder props) is =
         ap (λ ps. Some ps) (text_keeps_props c.text (Node.Folder (new_props change props)) node is)
@@ -472,7 +473,7 @@ whole_props EditsNothing o has is v w = absurd (let bad : false ≡ true = is in
 
 pub props_found : PropsAreFound
 props_found changes placed count path trail node ordered all is found =
-    trail_makes (List Property) Props listed_props [] (λ c v. props_by c.props v) refl refl set_props
+    trail_makes (List Property) Props properties_of [] (λ c v. props_by c.props v) refl refl set_props
     (λ l p its keeps v. keeps_props l.props p.change.props its.props keeps v)
     (λ l p its every v w. whole_props l.props p.change.props its.props every v w)
     (map listed_of changes) placed all

@@ -5,6 +5,7 @@ use Rattle.dump_text.specs.PropertyList.{Property}
 use Rattle.dump_trees.specs.Paths.{NodePath, names_of}
 use Rattle.dump_trees.specs.Trees.{Node, Tree, root_alone}
 use Rattle.dump_trees.specs.Changes.{Change, PropertyChange, TextChange, new_props, new_text}
+use Rattle.dump_trees.specs.ComingBack.{properties_of}
 use Rattle.dump_trees.specs.Revisions.{loaded_over}
 use Rattle.dump_trees.specs.Looking.{Placed, placed_from, end_of, look}
 use Rattle.dump_trees.specs.Siblings.{is_sibling, AreSiblings}
@@ -68,11 +69,7 @@ KindsAreFound = (changes : List NodeChange) (placed : List Placed) (count : ℕ)
     → look root_alone placed count path ≡ Some node
     → kind_look (map listed_of changes) count path ≡ Some (node_kind node)
 
--- the properties and the text of a node; a folder has none
-abbrev pub listed_props : Node → List Property
-listed_props (Node.Folder props) = props
-listed_props (Node.File props text) = props
-
+-- the text of a node; a directory has none
 abbrev pub listed_text : Node → List ℕ
 listed_text (Node.Folder props) = []
 listed_text (Node.File props text) = text
@@ -109,7 +106,7 @@ PropsAreFound = (changes : List NodeChange) (placed : List Placed) (count : ℕ)
     IsTrue (are_in_order 0 changes) → AreListed changes placed
     → IsTrail Props (map listed_of changes) count path trail
     → look root_alone placed count (names_of path) ≡ Some node
-    → props_after placed trail ≡ Some (listed_props node)
+    → props_after placed trail ≡ Some (properties_of node)
 
 -- and so is its text
 abbrev pub TextsAreFound : Type 0

@@ -1,0 +1,111 @@
+#!/usr/bin/env python3
+"""Writes a dump of format version 2 to standard output. The same arguments give the same bytes.
+
+    bench/make_dump.py [--revisions N] [--nodes N] [--text BYTES] [--copies SHARE] [--mergeinfo SHARE] [--seed N]
+        [--chain N] [--fan N]
+
+Each revision after revision 0 has --nodes nodes, half of them under trunk and half under other. A node is a file with
+a text of about --text bytes and its two digests, or, for a share of --copies, a directory that is copied from an
+earlier revision, or, for a share of --mergeinfo, a change of trunk's mergeinfo.
+After these come as many copies as --chain says, one a revision, each of what the one before it made; all but the last
+are under other, and that is trunk/last. And as many as --fan says, each of a directory of its own of other into trunk.
+"""
+import argparse
+import hashlib
+import random
+import sys
+
+
+def entry(name, value):
+    return b"K %d\n%s\nV %d\n%s\n" % (len(name), name, len(value), value)
+
+
+def record(lines, properties=None, text=None, end=b"\n\n"):
+    """A record of these lines, with the lengths of what follows them."""
+    body = b""
+    if properties is not None:
+        body = b"".join(entry(name, value) for name, value in properties) + b"PROPS-END\n"
+        lines = lines + [b"Prop-content-length: %d" % len(body)]
+    if text is not None:
+        lines = lines + [
+            b"Text-content-length: %d" % len(text),
+            b"Text-content-md5: " + hashlib.md5(text).hexdigest().encode(),
+            b"Text-content-sha1: " + hashlib.sha1(text).hexdigest().encode(),
+        ]
+        body += text
+    if body:
+        lines = lines + [b"Content-length: %d" % len(body)]
+    return b"".join(line + b"\n" for line in lines) + b"\n" + body + end
+
+
+def revision(number):
+    date = b"2024-01-02T03:%02d:%02d.000000Z" % (number // 60 % 60, number % 60)
+    return record(
+        [b"Revision-number: %d" % number],
+        [(b"svn:date", date), (b"svn:author", b"someone"), (b"svn:log", b"Revision %d." % number)],
+        end=b"\n",
+    )
+
+
+def copy(path, number, source):
+    return record(
+        [
+            b"Node-path: " + path,
+            b"Node-kind: dir",
+            b"Node-action: add",
+            b"Node-copyfrom-rev: %d" % number,
+            b"Node-copyfrom-path: " + source,
+        ]
+    )
+
+
+def node(chance, number, index, arguments):
+    side = b"trunk" if index % 2 == 0 else b"other"
+    kind = chance.random()
+    if number > 1 and kind < arguments.copies:
+        return copy(b"%s/tag%d-%d" % (side, number, index), chance.randrange(1, number), side)
+    if kind < arguments.copies + arguments.mergeinfo:
+        odd = range(1, number + 1, 2)
+        ranges = sorted(chance.sample(odd, min(len(odd), 8)))
+        value = b"/trunk:" + b",".join(b"%d" % it for it in ranges)
+        lines = [b"Node-path: trunk", b"Node-kind: dir", b"Node-action: change"]
+        return record(lines, [(b"svn:mergeinfo", value)])
+    size = chance.randrange(arguments.text // 2, arguments.text * 3 // 2 + 1)
+    lines = [b"Node-path: %s/file%d-%d" % (side, number, index), b"Node-kind: file", b"Node-action: add"]
+    return record(lines, [], chance.randbytes(size))
+
+
+def copies(first, chain, fan):
+    """A revision for each copy of a chain, and then of a fan."""
+    for index in range(chain):
+        path = b"trunk/last" if index == chain - 1 else b"other/link%d" % (index + 1)
+        yield revision(first + index) + copy(path, first + index - 1, b"other/link%d" % index)
+    first += chain
+    for index in range(fan):
+        yield revision(first + index) + copy(b"trunk/copy%d" % index, first + index - 1, b"other/source%d" % index)
+
+
+def main():
+    parser = argparse.ArgumentParser()
+    parser.add_argument("--revisions", type=int, default=1000)
+    parser.add_argument("--nodes", type=int, default=10)
+    parser.add_argument("--text", type=int, default=10000)
+    parser.add_argument("--copies", type=float, default=0.0)
+    parser.add_argument("--mergeinfo", type=float, default=0.0)
+    parser.add_argument("--seed", type=int, default=1)
+    parser.add_argument("--chain", type=int, default=0)
+    parser.add_argument("--fan", type=int, default=0)
+    arguments = parser.parse_args()
+    chance = random.Random(arguments.seed)
+    out = sys.stdout.buffer
+    out.write(b"SVN-fs-dump-format-version: 2\n\n")
+    out.write(b"UUID: 7bf7a5ef-cabf-0310-b7d4-93df341afa7e\n\n")
+    out.write(revision(0))
+    for number in range(1, arguments.revisions + 1):
+        out.write(revision(number))
+        for index in range(arguments.nodes):
+            out.write(node(chance, number, index, arguments))
+    out.writelines(copies(arguments.revisions + 1, arguments.chain, arguments.fan))
+
+
+main()

@@ -1,0 +1,643 @@
+#!/usr/bin/env python3
+"""Sees that the filtered repository has the right trees wherever the survey reports nothing.
+
+    tests/check_loaded_trees.py [SEED]
+
+SEED is 1 where none is given; another one makes other repositories. Repositories are made by svnmucc and svn: copies,
+renames of projects and of the directories above them, replaced and deleted directories, properties, branches and merges.
+Each is dumped, without deltas and with them, and each dump is surveyed and filtered by many sets of prefixes and options.
+The output is loaded by svnadmin over the directories that the survey lists, made in revision 1 in the order of its lines.
+Then the tree at each number is compared with the original's, restricted to the kept paths as docs/FILTER.md says: kinds,
+texts, properties, mergeinfo; and so are the properties of each kept revision. The same is done with parts of each history,
+as svnadmin dump -r writes them. The original is what svnadmin loads of such a part, and where the load lowers numbers
+mergeinfo is not compared.
+
+A run passes if all is equal, or if the survey has a line. Where the filter stops, the survey must have a line with that
+record and fault, and none with a fault where the filter does not stop. After fault 12 the same is run once more, with all
+the prefixes that the survey suggests: then no copy may stop the filter. (No path here begins with two slashes: no prefix
+names such a path.) The files of a failed run are kept in build/loaded_trees. Where Subversion is not installed, the test is
+left out and says so. The last line is 'N passed, M failed'.
+"""
+import collections
+import concurrent.futures
+import os
+import random
+import re
+import shutil
+import subprocess
+import sys
+import tempfile
+
+from repository import ended, lacking, path as path_to, programs
+
+TOOLS = ("svn", "svnadmin", "svnlook", "svnmucc")
+SECONDS = 120
+REPOSITORIES, COMMITS, RUNS = 8, 18, 40
+# of each repository so many parts, and of each part so many runs
+PARTS, PART_RUNS = 3, 5
+# a repository doesn't grow above so many paths
+PATHS = 80
+OPTIONS = [
+    ["--drop-empty-revs", "--renumber-revs"],
+    ["--drop-empty-revs", "--renumber-revs", "--skip-missing-merge-sources"],
+    ["--drop-all-empty-revs", "--renumber-revs", "--skip-missing-merge-sources"],
+    ["--renumber-revs", "--skip-missing-merge-sources", "--preserve-revprops"],
+    ["--skip-missing-merge-sources"],
+    ["--preserve-revprops", "--skip-missing-merge-sources"],
+    [],
+    ["--drop-empty-revs", "--skip-missing-merge-sources"],
+]
+PADDED_LOG = b"This is an empty revision for padding."
+MERGEINFO = b"svn:mergeinfo"
+# the lines of the survey that tell a folder to make, and by the side what to keep or leave out as well
+FOLDER = re.compile(rb"^make before the load: /(.*)$", re.MULTILINE)
+AS_WELL = {
+    "include": re.compile(r"^keep as well: (/.*)$", re.MULTILINE),
+    "exclude": re.compile(r"^leave out as well: (/.*)$", re.MULTILINE),
+}
+# the fault and the record at which the filter stopped, and those that the survey tells, the other way round
+FAULT = re.compile(rb"svndumpfilter: fault (\d+) \w+ in record (\d+) ")
+TOLD_FAULT = re.compile(rb"^record (\d+), .*: fault (\d+)$", re.MULTILINE)
+
+
+def left_out():
+    """Why the test is left out, if it is."""
+    missing = lacking(*TOOLS)
+    return f"{', '.join(missing)} can't be found" if missing else None
+
+
+def ran(*words, given=b""):
+    return subprocess.run(words, input=given, capture_output=True, timeout=SECONDS)
+
+
+def call(*words, given=b""):
+    """Runs a program that has to end well, and returns what it wrote."""
+    it = ran(*words, given=given)
+    if it.returncode != 0:
+        raise RuntimeError(f"{' '.join(words)}: {it.stderr.decode('utf-8', 'replace')}")
+    return it.stdout
+
+
+class Life:
+    """A repository that grows by commits of all kinds; one that Subversion refuses isn't made."""
+
+    def __init__(self, folder, chance):
+        self.folder, self.chance = folder, chance
+        self.path = os.path.join(folder, "repository")
+        self.url = "file://" + self.path
+        call("svnadmin", "create", self.path)
+        # the paths of each revision, a folder's with a slash at its end
+        self.trees = [[]]
+        self.names = 0
+
+    def name(self):
+        self.names += 1
+        return self.chance.choice("abcdefgh") + str(self.names)
+
+    def text(self):
+        path = os.path.join(self.folder, f"text{self.names}")
+        with open(path, "w", encoding="utf-8") as it:
+            it.write("".join(f"{self.chance.randrange(1000)}\n" for _ in range(self.chance.randrange(4))))
+        return path
+
+    def committed(self):
+        """Notes the tree of the youngest revision, if there is a new one."""
+        if int(call("svnlook", "youngest", self.path)) == len(self.trees):
+            lines = call("svnlook", "tree", "--full-paths", self.path).decode().splitlines()
+            self.trees.append([it for it in lines if it != "/"])
+
+    def commit(self, *actions):
+        ran("svnmucc", "--non-interactive", "-m", f"commit {len(self.trees)}", "-U", self.url, "--", *actions)
+        self.committed()
+
+    def folders(self):
+        return [it.rstrip("/") for it in self.trees[-1] if it.endswith("/")]
+
+    def files(self):
+        return [it for it in self.trees[-1] if not it.endswith("/")]
+
+    def any_folder(self):
+        return self.chance.choice(self.folders())
+
+    def any_file(self):
+        return self.chance.choice(self.files())
+
+    def any_path(self):
+        return self.chance.choice(self.trees[-1]).rstrip("/")
+
+    def new_path(self):
+        return f"{self.any_folder()}/{self.name()}"
+
+    def begin(self):
+        folders = ["work", "work/one", "work/one/trunk", "work/two", "lib", "tags", "tags/old"]
+        self.commit(*[word for path in folders for word in ("mkdir", path)])
+        for folder in ("work/one/trunk", "work/two", "lib"):
+            doc, run = folder + "/doc", folder + "/run"
+            self.commit("mkdir", doc, "put", self.text(), doc + "/page", "put", self.text(), run)
+            self.commit("propset", "svn:executable", "*", run, "propset", "note", self.name(), doc)
+
+    def edit(self):
+        self.commit("put", self.text(), self.any_file())
+
+    def create(self):
+        self.commit("put", self.text(), self.new_path(), "mkdir", self.new_path())
+
+    def set_property(self):
+        path = self.chance.choice([self.any_path(), self.any_folder(), "."])
+        self.commit("propset", self.chance.choice(["note", "svn:ignore", "more"]), self.name(), path)
+
+    def delete_property(self):
+        self.commit("propdel", "note", self.any_path())
+
+    def branch(self):
+        self.commit("cp", "HEAD", self.any_folder(), f"tags/{self.name()}")
+
+    def branch_all(self):
+        if len(self.trees[-1]) < PATHS / 2:
+            self.commit("cp", "HEAD", ".", f"tags/{self.name()}")
+
+    def rename(self):
+        self.commit("mv", self.any_folder(), self.new_path())
+
+    def rename_top(self):
+        self.commit("mv", self.chance.choice(["work", "work/one", "work/two", "lib"]), self.name())
+
+    def rename_back(self):
+        """A folder at the top takes the name of one that was there."""
+        tops = [it for it in self.folders() if "/" not in it]
+        gone = [it for it in ("work", "lib") if it not in tops]
+        if gone:
+            self.commit("mv", self.chance.choice(tops), gone[0])
+
+    def delete(self):
+        self.commit("rm", self.chance.choice([self.any_path(), self.any_file()]))
+
+    def replace_by_new(self):
+        path = self.any_folder()
+        self.commit("rm", path, "mkdir", path)
+
+    def replace_by_copy(self):
+        path, source = self.any_folder(), self.any_folder()
+        self.commit("rm", path, "cp", "HEAD", source, path)
+
+    def replace_by_older(self):
+        path, number = self.any_path(), self.chance.randrange(1, len(self.trees))
+        self.commit("rm", path, "cp", str(number), path, path)
+
+    def copy_older(self):
+        number = self.chance.randrange(1, len(self.trees))
+        source = self.chance.choice(self.trees[number]).rstrip("/")
+        self.commit("cp", str(number), source, self.new_path())
+
+    def bring_back(self):
+        """What was deleted comes back where it stood."""
+        number = self.chance.randrange(1, len(self.trees))
+        gone = [it.rstrip("/") for it in self.trees[number] if it not in self.trees[-1]]
+        if gone:
+            path = self.chance.choice(gone)
+            self.commit("cp", str(number), path, path)
+
+    def changed_copy(self):
+        path = self.new_path()
+        more = self.chance.choice([["propset", "more", self.name(), path], []])
+        self.commit("cp", "HEAD", self.any_file(), path, "put", self.text(), path, *more)
+
+    def changed_branch(self):
+        source = self.any_folder()
+        inside = [it[len(source) + 1 :] for it in self.files() if it.startswith(source + "/")]
+        if inside:
+            target, one = f"tags/{self.name()}", self.chance.choice(inside)
+            change = self.chance.choice([["rm", f"{target}/{one}"], ["put", self.text(), f"{target}/{one}"]])
+            self.commit("cp", "HEAD", source, target, *change)
+
+    def set_mergeinfo(self):
+        lines = {}
+        for _ in range(self.chance.randrange(1, 3)):
+            first = self.chance.randrange(1, len(self.trees))
+            last = self.chance.randrange(first, len(self.trees))
+            lines[self.any_folder()] = f"{first}-{last}" if first < last else str(first) + self.chance.choice(["", "*"])
+        value = "\n".join(f"/{path}:{numbers}" for path, numbers in sorted(lines.items()))
+        self.commit("propset", "svn:mergeinfo", value, self.any_folder())
+
+    def merge(self):
+        """A folder is branched, the branch changed, and merged in a working copy."""
+        source, branch = self.any_folder(), f"tags/{self.name()}"
+        self.commit("cp", "HEAD", source, branch)
+        self.commit("put", self.text(), f"{branch}/{self.name()}")
+        copy = os.path.join(self.folder, "copy")
+        for words in (
+            ["checkout", f"{self.url}/{source}", copy],
+            ["merge", "--accept", "working", f"^/{branch}", copy],
+            ["commit", "-m", f"commit {len(self.trees)}", copy],
+        ):
+            ran("svn", words[0], "-q", "--non-interactive", *words[1:])
+        shutil.rmtree(copy, ignore_errors=True)
+        self.committed()
+
+    def change_revision(self):
+        number = str(len(self.trees) - 1)
+        if self.chance.random() < 0.5:
+            name = self.chance.choice(["svn:log", "svn:date", "svn:author"])
+            call("svnadmin", "delrevprop", self.path, "-r", number, name)
+        else:
+            call("svnadmin", "setrevprop", self.path, "-r", number, "note", self.text())
+
+    def live(self):
+        self.begin()
+        self.merge()
+        kinds = [
+            *[self.edit, self.create, self.set_property, self.branch] * 2,
+            *[self.branch_all, self.rename, self.rename_top, self.rename_back, self.delete, self.delete_property],
+            *[self.replace_by_new, self.replace_by_copy, self.replace_by_older, self.copy_older, self.bring_back],
+            *[self.changed_copy, self.changed_branch, self.set_mergeinfo, self.merge, self.change_revision],
+        ]
+        for _ in range(COMMITS):
+            grows = len(self.trees[-1]) < PATHS
+            self.chance.choice(kinds if grows and self.files() else [self.create, self.set_property, self.delete])()
+
+
+Record = collections.namedtuple("Record", "headers properties text")
+
+
+def property_list(block):
+    """The properties of a block in order; one that is deleted has no value."""
+    found, at = [], 0
+    while block[at : at + 9] != b"PROPS-END":
+        end = block.index(b"\n", at)
+        kind, size = block[at:end].split(b" ")
+        name = block[end + 1 : end + 1 + int(size)]
+        at, value = end + 2 + int(size), None
+        if kind == b"K":
+            end = block.index(b"\n", at)
+            size = int(block[at:end].split(b" ")[1])
+            value = block[end + 1 : end + 1 + size]
+            at = end + 2 + size
+        found.append((name, value))
+    return found
+
+
+def records(dump):
+    """The records of a dump that svnadmin wrote."""
+    at = 0
+    while at < len(dump):
+        if dump[at : at + 1] == b"\n":
+            at += 1
+            continue
+        end = dump.index(b"\n\n", at)
+        headers = dict(line.split(b": ", 1) for line in dump[at:end].split(b"\n"))
+        at = end + 2
+        parts = []
+        for name in (b"Prop-content-length", b"Text-content-length"):
+            size = int(headers.get(name, 0))
+            parts.append(dump[at : at + size] if name in headers else None)
+            at += size
+        yield Record(headers, None if parts[0] is None else property_list(parts[0]), parts[1])
+
+
+# a folder has no text
+Node = collections.namedtuple("Node", "properties text")
+
+
+def step(trees, tree, record):
+    """What a record makes of a tree, as svnadmin load does it with a dump that svnadmin wrote without deltas."""
+    headers = record.headers
+    path, action = headers[b"Node-path"], headers[b"Node-action"]
+    if action in (b"delete", b"replace"):
+        for it in [it for it in tree if it == path or it.startswith(path + b"/")]:
+            del tree[it]
+    if action in (b"add", b"replace"):
+        if b"Node-copyfrom-path" in headers:
+            source = headers[b"Node-copyfrom-path"]
+            below = source + b"/" if source else b""
+            for it, node in trees[int(headers[b"Node-copyfrom-rev"])].items():
+                if it == source or it.startswith(below):
+                    rest = it[len(below) :] if it != source else b""
+                    tree[path + b"/" + rest if rest else path] = node
+        else:
+            tree[path] = Node({}, None if headers[b"Node-kind"] == b"dir" else b"")
+    if record.properties is not None:
+        tree[path] = tree[path]._replace(properties=dict(record.properties))
+    if record.text is not None:
+        tree[path] = tree[path]._replace(text=record.text)
+
+
+class History:
+    """The trees and revision properties of a repository, and the paths of each revision's nodes, from its dump."""
+
+    def __init__(self, repository, first=0):
+        self.path = repository
+        # the number of the first revision that was loaded into it, above 0 where that was a part of a history
+        self.first = first
+        self.trees, self.properties, self.nodes = [], [], []
+        tree = {b"": Node({}, None)}
+        for record in records(call("svnadmin", "dump", "-q", repository)):
+            if b"Revision-number" in record.headers:
+                tree = dict(tree)
+                self.trees.append(tree)
+                self.properties.append(record.properties or [])
+                self.nodes.append([])
+            elif b"Node-path" in record.headers:
+                step(self.trees, tree, record)
+                self.nodes[-1].append(record.headers[b"Node-path"])
+
+    def with_nodes_of(self, part):
+        """With the nodes of the part that was loaded, since a node that changes nothing isn't in a dump of what it made."""
+        self.nodes = [[]]
+        for record in records(part):
+            if b"Revision-number" in record.headers:
+                self.nodes.append([])
+            elif b"Node-path" in record.headers:
+                self.nodes[-1].append(record.headers[b"Node-path"])
+        return self
+
+    def validate(self):
+        """Sees that each tree is the one that svnadmin dumps whole; the root's properties it leaves out there."""
+        for number, tree in enumerate(self.trees):
+            whole = {b"": Node({}, None)}
+            for record in records(call("svnadmin", "dump", "-q", "-r", str(number), self.path)):
+                if b"Node-path" in record.headers:
+                    step([], whole, record)
+            if {**whole, b"": tree[b""]} != tree:
+                raise RuntimeError(f"{self.path}: the tree of revision {number} isn't the one that svnadmin dumps")
+
+
+class Call:
+    """The words of a call, and what they mean by docs/FILTER.md."""
+
+    def __init__(self, side, options, prefixes):
+        self.words = [side, *options, *prefixes]
+        self.include, self.options, self.given = side == "include", options, prefixes
+        self.prefixes = [it.strip("/").encode() for it in prefixes]
+
+    def keeps(self, path):
+        bare = path[1:] if path.startswith(b"/") else path
+        matches = any(it in (b"", bare) or bare.startswith(it + b"/") for it in self.prefixes)
+        return matches == self.include
+
+    def folders(self):
+        """The folders that have to be there before the load, in order."""
+        above = {it.rsplit(b"/", count)[0] for it in self.prefixes for count in range(1, it.count(b"/") + 1)}
+        return sorted(it for it in above if not self.keeps(it)) if self.include else []
+
+    def is_kept(self, number, nodes):
+        if number == 0 or any(map(self.keeps, nodes)):
+            return True
+        if nodes:
+            return not {"--drop-empty-revs", "--drop-all-empty-revs"} & set(self.options)
+        return "--drop-all-empty-revs" not in self.options
+
+    def revision_properties(self, properties, nodes):
+        """Those of a kept revision."""
+        is_padded = nodes and not any(map(self.keeps, nodes)) and "--preserve-revprops" not in self.options
+        if not is_padded:
+            return dict(properties)
+        return {**{name: value for name, value in properties if name == b"svn:date"}, b"svn:log": PADDED_LOG}
+
+
+def mergeinfo(value):
+    """What a value says: of each path its numbers, each with whether it is inherited. One that can't be read stays."""
+    found = {}
+    for line in filter(None, value.split(b"\n")):
+        path, _, numbers = line.rpartition(b":")
+        for part in filter(None, numbers.split(b",")):
+            it = re.fullmatch(rb"(\d+)(?:-(\d+))?(\*?)", part)
+            first, last = (int(it[1]), int(it[2] or it[1])) if it else (1, 0)
+            if first > last:
+                return value
+            found.setdefault(path, set()).update((number, not it[3]) for number in range(first, last + 1))
+    return found
+
+
+class Meant:
+    """The repository that is meant: the original's trees, restricted to the kept paths, by their loaded numbers."""
+
+    def __init__(self, original, own):
+        self.original, self.own = original, own
+        self.folders = own.folders()
+        kept = [number for number, nodes in enumerate(original.nodes) if own.is_kept(number, nodes)]
+        # made folders take a revision of their own
+        self.numbers = {number: place + bool(self.folders) for place, number in enumerate(kept)}
+
+    def image(self, number):
+        return self.numbers[max(it for it in self.numbers if it <= number)]
+
+    def node(self, node):
+        """A kept node as it is meant, with its mergeinfo as it is read."""
+        properties = dict(node.properties)
+        if MERGEINFO in properties:
+            properties[MERGEINFO] = {}
+            for path, numbers in mergeinfo(node.properties[MERGEINFO]).items():
+                left = {(self.numbers[number], inherited) for number, inherited in numbers if number in self.numbers}
+                if left and self.own.keeps(path):
+                    properties[MERGEINFO][path] = left
+        return node._replace(properties=properties)
+
+    def tree(self, number):
+        found = {path: Node({}, None) for path in self.folders}
+        if not self.own.keeps(b""):
+            found[b""] = Node({}, None)
+        whole = self.original.trees[number]
+        found.update((path, self.node(node)) for path, node in whole.items() if self.own.keeps(path))
+        return found
+
+    def wrong(self, loaded):
+        """What a loaded repository has otherwise, if there is anything."""
+        if len(loaded.trees) != len(self.numbers) + bool(self.folders):
+            return f"{len(loaded.trees)} revisions are loaded"
+        for number, (properties, nodes) in enumerate(zip(self.original.properties, self.original.nodes)):
+            got, wanted = loaded.trees[self.image(number)], self.tree(number)
+            if self.original.first > 1:
+                got, wanted = without_mergeinfo(got), without_mergeinfo(wanted)
+            else:
+                got = {path: read_mergeinfo(node) for path, node in got.items()}
+            for path in sorted({*got, *wanted}):
+                if got.get(path) != wanted.get(path):
+                    place = f"revision {number}, '{path.decode()}'"
+                    return f"{place} is {got.get(path)}, and {wanted.get(path)} is meant"
+            # revision 0's are lost where something was in the repository before, and a part of a history has none
+            if number in self.numbers and not (number == 0 and (self.folders or self.original.first)):
+                wanted = self.own.revision_properties(properties, nodes)
+                got = dict(loaded.properties[self.image(number)])
+                if got != wanted:
+                    return f"revision {number} has the properties {got}, and {wanted} are meant"
+        return None
+
+
+def read_mergeinfo(node):
+    if MERGEINFO not in node.properties:
+        return node
+    return node._replace(properties={**node.properties, MERGEINFO: mergeinfo(node.properties[MERGEINFO])})
+
+
+def without_mergeinfo(tree):
+    """The tree, in which mergeinfo has no value that is compared."""
+    return {
+        path: node._replace(properties={name: name == MERGEINFO or value for name, value in node.properties.items()})
+        for path, node in tree.items()
+    }
+
+
+def load(folder, dump, folders, first=0):
+    """Loads a dump into a new repository over these folders, and returns it, or what svnadmin says."""
+    path = os.path.join(folder, f"loaded{first or ''}")
+    call("svnadmin", "create", path)
+    if folders:
+        made = [word for it in folders for word in ("mkdir", it.decode())]
+        call("svnmucc", "--non-interactive", "-m", "Folders for the load.", "-U", "file://" + path, *made)
+    it = ran("svnadmin", "load", "-q", "--no-flush-to-disk", "--bypass-prop-validation", path, given=dump)
+    if it.returncode != 0:
+        return None, it.stderr.decode("utf-8", "replace").strip().splitlines()[-1]
+    return History(path, first), None
+
+
+class Refused:
+    """A part of a history that svnadmin doesn't load."""
+
+    def __init__(self, first, why):
+        self.first, self.why = first, why
+
+
+class Run:
+    """A dump, a call, and what became of it."""
+
+    def __init__(self, name, original, dump, own, is_validated):
+        self.name, self.original, self.dump, self.own, self.is_validated = name, original, dump, own, is_validated
+        self.is_grown, self.verdicts, self.why = False, [], None
+
+    def judge(self, program, survey):
+        """What becomes of it, and where the filter stops for fault 12, of it with what the survey tells to keep as well."""
+        told = ran(survey, *self.own.words, given=self.dump)
+        filtered = ran(program, *self.own.words, given=self.dump)
+        if told.returncode not in (0, 1):
+            return self.fail(f"the survey's status is {told.returncode}: {told.stderr.decode()}")
+        faults = TOLD_FAULT.findall(told.stdout)
+        if self.is_grown and any(number == b"12" for _, number in faults):
+            return self.fail("the survey still tells fault 12, behind all that it told to keep or leave out as well")
+        if filtered.returncode == 0:
+            if faults:
+                return self.fail("the survey tells a fault, and the filter has none")
+            return self.compare(told, filtered.stdout)
+        fault = FAULT.match(filtered.stderr)
+        if not fault or (fault[2], fault[1]) not in faults:
+            return self.fail(f"the survey has no line for it: {filtered.stderr.decode()}")
+        self.verdicts.append(f"stopped by fault {int(fault[1])}")
+        if fault[1] == b"12":
+            self.grow(told.stdout.decode())
+            self.judge(program, survey)
+        return self
+
+    def grow(self, told):
+        """Takes what the survey told to keep, or to leave out, as well."""
+        side = self.own.words[0]
+        self.own = Call(side, self.own.options, [*self.own.given, *AS_WELL[side].findall(told)])
+        self.is_grown = True
+
+    def fail(self, why):
+        self.verdicts.append("failed")
+        self.why = why
+        return self
+
+    def compare(self, told, filtered):
+        """Loads what was filtered, and compares it with what is meant."""
+        if isinstance(self.original, Refused):
+            if told.returncode == 0:
+                return self.fail(f"the survey is silent, and the part isn't loaded: {self.original.why}")
+            self.verdicts.append("told, and the part isn't loaded")
+            return self
+        meant = Meant(self.original, self.own)
+        folders = FOLDER.findall(told.stdout)
+        if sorted(folders) != meant.folders:
+            return self.fail(f"the survey tells the folders {folders}, and {meant.folders} are meant")
+        with tempfile.TemporaryDirectory() as folder:
+            loaded, why = load(folder, filtered, folders)
+            if loaded:
+                if self.is_validated:
+                    loaded.validate()
+                why = meant.wrong(loaded)
+        if why and told.returncode == 0:
+            return self.fail(f"the survey is silent, and {why}")
+        self.verdicts.append(("told" if told.returncode else "silent") + (" and differing" if why else " and equal"))
+        return self
+
+    def keep(self):
+        """Keeps what a failed run was made of."""
+        folder = path_to("build", "loaded_trees", self.name)
+        os.makedirs(folder, exist_ok=True)
+        with open(os.path.join(folder, "dump"), "wb") as it:
+            it.write(self.dump)
+        with open(os.path.join(folder, "args"), "w", encoding="utf-8") as it:
+            it.write("".join(word + "\n" for word in self.own.words))
+        return folder
+
+
+def prefixes(trees, side, chance):
+    """Some paths that were there at some time; under include, often all at the top but one; rarely the root."""
+    if chance.random() < 0.03:
+        return ["/"]
+    ever = sorted({path.rstrip("/") for tree in trees for path in tree})
+    tops = [it for it in ever if "/" not in it]
+    if side == "include" and chance.random() < 0.4:
+        return chance.sample(tops, max(1, len(tops) - chance.randrange(1, 3)))
+    high = [it for it in ever if it.count("/") < 2]
+    some = [chance.choice(chance.choice([tops, high, ever])) for _ in range(chance.choice([1, 1, 2, 3]))]
+    return [chance.choice([it, it, it, f"/{it}/"]) for it in dict.fromkeys(some)]
+
+
+def make_runs(number, seed, folder):
+    """Makes a repository, and the runs over its dumps."""
+    chance = random.Random(f"{seed} {number}")
+    own = os.path.join(folder, str(number))
+    os.mkdir(own)
+    life = Life(own, chance)
+    life.live()
+    original = History(life.path)
+    original.validate()
+    plain = call("svnadmin", "dump", "-q", life.path)
+    deltas = call("svnadmin", "dump", "-q", "--deltas", life.path)
+    runs = []
+    for place in range(RUNS):
+        side = chance.choice(["include", "exclude"])
+        words = Call(side, chance.choice(OPTIONS), prefixes(life.trees, side, chance))
+        dump = chance.choice([plain, plain, deltas])
+        runs.append(Run(f"{seed}-{number}-{place}", original, dump, words, place % 10 == 0))
+    return runs + part_runs(f"{seed}-{number}", life, own, chance)
+
+
+def part_runs(name, life, folder, chance):
+    """The runs over parts of a repository's history, each of which svnadmin loads."""
+    runs = []
+    for first in [1, *chance.sample(range(2, len(life.trees)), PARTS - 1)]:
+        dump = ["svnadmin", "dump", "-q", "-r", f"{first}:HEAD", life.path, *chance.choice([[], [], ["--deltas"]])]
+        if first == 1:
+            dump.append("--incremental")
+        part = call(*dump)
+        original, why = load(folder, part, [], first)
+        original = original.with_nodes_of(part) if original else Refused(first, why)
+        for place in range(PART_RUNS):
+            side = chance.choice(["include", "exclude"])
+            words = Call(side, chance.choice(OPTIONS), prefixes(life.trees, side, chance))
+            runs.append(Run(f"{name}-{first}-{place}", original, part, words, place == 0))
+    return runs
+
+
+def main(words):
+    program, survey = programs()["filter"].built, programs()["survey"].built
+    seed = int(words[0]) if words else 1
+    why = left_out()
+    if why:
+        print(f"tests/check_loaded_trees.py: left out, since {why}")
+        return 0
+    verdicts = collections.Counter()
+    with tempfile.TemporaryDirectory() as folder, concurrent.futures.ThreadPoolExecutor(os.cpu_count()) as pool:
+        made = list(pool.map(lambda number: make_runs(number, seed, folder), range(REPOSITORIES)))
+        runs = [run for some in made for run in some]
+        for run in pool.map(lambda run: run.judge(program, survey), runs):
+            verdicts.update(run.verdicts)
+            if run.why:
+                print(f"{run.name}, {' '.join(run.own.words)}: {run.why}; kept in {run.keep()}")
+    for verdict, count in sorted(verdicts.items()):
+        print(f"tests/check_loaded_trees.py: {count} {verdict}")
+    return ended(verdicts.total() - verdicts["failed"], verdicts["failed"])
+
+
+sys.exit(main(sys.argv[1:]))

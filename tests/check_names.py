@@ -1,0 +1,110 @@
+#!/usr/bin/env python3
+"""Sees that each definition has one name, and each name one definition.
+
+    tests/check_names.py
+
+It fails if two crates define a public name in their specs/. It fails too if two definitions of specs/, or the bodies of two
+functions of src/, are equal but for their own names. Bodies of one line or of less than 40 characters, and tests, are not compared. Copies
+that are known stand in tests/known_copies.txt. One that is no longer there is an error as well, so that the list only gets
+shorter. The last line is 'N passed, M failed'.
+"""
+import glob
+import os
+import re
+import sys
+
+from repository import ended, lines_of, path, read
+
+# the line that begins a definition, directly in a file or in a module or a block of definitions that name each other
+DEFINITION = re.compile(r"^(?:  )?((?:(?:abbrev|unfoldable|opaque|pub|record|data) )+)(?!mod )([^\s:({]+)")
+FUNCTION = re.compile(r"^( *)(?:pub(?:\([a-z]+\))? |const )*fn (\w+)")
+KNOWN = "tests/known_copies.txt"
+LEAST = 40
+
+
+def files(pattern):
+    """The crate and the text of each file that a pattern names."""
+    for it in sorted(glob.glob(path(pattern), recursive=True)):
+        name = os.path.relpath(it, path())
+        yield name.split(os.sep)[1], name, read(name)
+
+
+def definitions(text):
+    """The name, the words before it and the text of each definition of a file, without comments."""
+    found, depth = [], 0
+    for line in text.splitlines():
+        line = re.sub(r"(^|\s)-- .*", "", line)
+        indent, words = len(line) - len(line.lstrip()), line.split()
+        if not words or words[0] in ("use", "mod", "module") or words[:2] in (["pub", "use"], ["pub", "mod"]):
+            depth = 2 if words[:1] == ["module"] else depth
+            continue
+        if indent == 0:
+            depth = 2 if words[-1] == "mutual" else 0
+        head = DEFINITION.match(line)
+        if head and indent == depth:
+            found.append((head[2], head[1].split(), []))
+        if found:
+            found[-1][2].append(line)
+    return [(name, words, "\n".join(lines)) for name, words, lines in found]
+
+
+def functions(text):
+    """The name and the body of each function of a file that has a body of several lines."""
+    head, body = None, None
+    for line in text.splitlines():
+        begins = FUNCTION.match(line)
+        if body is not None:
+            if line == head[1] + "}":
+                yield head[2], "\n".join(body)
+                head, body = None, None
+            else:
+                body.append(line)
+        elif begins or head:
+            head = begins or head
+            # the brace stands in the first line, alone behind a contract, or behind the result's type below all parameters
+            if line == head[1] + "{" or line.endswith("{") and (begins or line.startswith(head[1] + ")")):
+                body = []
+
+
+def without_name(name, text):
+    """A text in one line, with a mark in place of a name."""
+    marked = re.sub(rf"(?<![^\s(){{}};,.]){re.escape(name)}(?![^\s(){{}};,.])", "◆", text)
+    return " ".join(marked.split())
+
+
+def defined_twice():
+    """A sentence for each public name that two crates define."""
+    found = {}
+    for crate, file, text in files("crates/*/specs/**/*.antt"):
+        for name, words, _ in definitions(text):
+            if "pub" in words:
+                found.setdefault(name, {}).setdefault(crate, file)
+    return [f"{name} is defined in two crates: {', '.join(it.values())}" for name, it in sorted(found.items()) if len(it) > 1]
+
+
+def copies():
+    """What is equal but for its name, as lines of the list of known copies."""
+    found = {}
+    for crate, _, text in files("crates/*/specs/**/*.antt"):
+        for name, _, body in definitions(text):
+            found.setdefault(("definition", without_name(name, body)), []).append(f"{crate}::{name}")
+    for crate, file, text in files("crates/*/src/**/*.rt"):
+        for name, body in functions(text) if "tests" not in re.split(r"[/.]", file) else []:
+            body = without_name(name, body)
+            if len(body) >= LEAST:
+                found.setdefault(("function", body), []).append(f"{crate}::{name}")
+    return {" ".join([kind, *sorted(names)]) for (kind, _), names in found.items() if len(names) > 1}
+
+
+def main():
+    known, there = set(lines_of(KNOWN)), copies()
+    new = [f"these are equal but for their names: {it}" for it in sorted(there - known)]
+    gone = [f"{KNOWN} has copies that are no longer there: {it}" for it in sorted(known - there)]
+    checks = [defined_twice(), new, gone]
+    for sentence in sum(checks, []):
+        print(f"tests/check_names.py: {sentence}")
+    failed = sum(bool(it) for it in checks)
+    return ended(len(checks) - failed, failed)
+
+
+sys.exit(main())

@@ -1,0 +1,72 @@
+#!/bin/sh
+# Makes a Debian package of all programs, their pages and their documents. It can be installed beside Debian's own subversion,
+# since its programs have other names, as svndumpfilter-proved. The version is that of CHANGELOG.md; if that has unreleased
+# changes, the time and the name of the last commit are appended.
+set -eu
+cd "$(dirname -- "$0")/.."
+package=svndumpfilter-proved
+maintainer='The maintainers of svndumpfilter-proved <maintainers@users.noreply.geimust.example>'
+root=build/deb
+documents=$root/usr/share/doc/$package
+architecture=$(dpkg --print-architecture)
+
+# commit FORMAT: of the last commit, or nothing where there is none
+commit() {
+    TZ=UTC git log -1 --date=format-local:%Y%m%d%H%M%S --format="$1" 2> /dev/null || true
+}
+
+version=$(sed -n 's/^## \([0-9][0-9.]*\) .*/\1/p' CHANGELOG.md | head -n 1)
+if grep -q '^## Unreleased' CHANGELOG.md; then
+    since=$(commit %cd.%h)
+    version=$version+${since:-unreleased}
+fi
+day=$(commit %cD)
+
+rm -rf "$root" build/${package}_*.deb
+DESTDIR=$root PREFIX=/usr NAME=$package FORCE=1 tools/install.sh install > /dev/null
+rm "$documents/installed"
+strip --strip-all "$root/usr/bin/"*
+gzip -9n "$root/usr/share/man/man1/"*
+cp CHANGELOG.md "$documents"
+
+gzip -9n > "$documents/changelog.gz" <<END
+$package ($version) unstable; urgency=medium
+
+  * CHANGELOG.md, beside this file, says what has changed.
+
+ -- $maintainer  ${day:-$(date -R -r CHANGELOG.md)}
+END
+cat > "$documents/copyright" <<END
+$package: a filter of Subversion dump files, and a survey of what it loses.
+
+Copyright 2026, the authors of $package. No licence has been chosen yet, so none is granted: whoever wants to hand
+this package on has to ask them.
+END
+
+# the C library is all that the programs load; their symbols say which version of it they need
+loads=$(objdump -p "$root/usr/bin/"* | sed -n 's/^ *NEEDED *//p' | sort -u)
+needs=$(objdump -T "$root/usr/bin/"* |
+    sed -n 's/.*GLIBC_\([0-9.]*\).*/\1/p' | sort -u -V | tail -n 1)
+if [ "$loads" != libc.so.6 ] || [ -z "$needs" ]; then
+    echo "tools/make_deb.sh: the programs load more than the C library, and no package is known for that: $loads" >&2
+    exit 1
+fi
+
+mkdir "$root/DEBIAN"
+cat > "$root/DEBIAN/control" <<END
+Package: $package
+Version: $version
+Architecture: $architecture
+Maintainer: $maintainer
+Installed-Size: $(du -ks "$root/usr" | cut -f1)
+Depends: libc6 (>= $needs)
+Section: vcs
+Priority: optional
+Description: filter for Subversion dump files, proved
+ Cuts paths out of the dump of a Subversion repository. What it writes is
+ proved to be what the definition of the filter says. A second program tells
+ before that where the loaded repository may not be the one that is meant.
+END
+(cd "$root" && find usr -type f -exec md5sum {} + | sort -k 2) > "$root/DEBIAN/md5sums"
+chmod -R u=rwX,go=rX "$root"
+dpkg-deb --root-owner-group --build "$root" "build/${package}_${version}_$architecture.deb"
