@@ -1,6 +1,17 @@
 //! What a cut of a dump finds before it writes.
+//!
+//! [`canonical_prefix`] reads a prefix as `svnadmin load` reads paths. [`first_refused`] finds the first change of a dump
+//! that the load would reject, as far as paths and kinds of node go, and why.
+//!
+//! ```
+//! let text = canonical_prefix(alloc, prefix.as_bytes())?;
+//! Ok(text.as_slice() == wanted.as_bytes())
+//! ```
+//!
+//! `tests::is_read` runs this.
 #![tactic(auto)]
 
+mod canonical;
 mod copies;
 mod kinds;
 pub mod laws;
@@ -8,6 +19,7 @@ mod load_check;
 mod parent_path;
 mod refusal;
 
+pub use canonical::canonical_prefix;
 pub use dump_rules::Memory;
 pub use kinds::Kinds;
 pub use load_check::{Refused, first_refused};

@@ -1,5 +1,5 @@
-//! What no clause says: each refusal on a worked dump, and memory that is refused.
-use crate::{Memory, Refusal, Refused, first_refused};
+//! What no clause says: each refusal on an example, prefixes in canonical form, and failures of allocations.
+use crate::{Memory, Refusal, Refused, canonical_prefix, first_refused};
 use dump_changes::{Reading, read_changes};
 use dump_index::{ChangeIndex, are_in_order};
 use std::alloc::Global;
@@ -69,5 +69,26 @@ fn copies_and_texts_that_are_refused(rt: HostRuntime) -> Result<(), Fail> {
 fn a_check_or_no_memory(rt: HostRuntime) {
     let node = "Node-path: e\nNode-action: add\nNode-copyfrom-rev: 1\nNode-copyfrom-path: d\n";
     let answer = is_refused(rt.alloc(), node, None);
+    assert!(rt; matches!(answer, Ok(true) | Err(Memory)));
+}
+
+fn is_read(alloc: Global, prefix: &str, wanted: &str) -> Result<bool, Memory> {
+    let text = canonical_prefix(alloc, prefix.as_bytes())?;
+    Ok(text.as_slice() == wanted.as_bytes())
+}
+
+#[test]
+fn prefixes_are_made_canonical(rt: HostRuntime) -> Result<(), Fail> {
+    let alloc = rt.alloc();
+    assert!(rt; is_read(alloc, "./a", "a")? && is_read(alloc, "/a//b/./", "a/b")?);
+    assert!(rt;
+        is_read(alloc, ".", "")? && is_read(alloc, "/", "")? && is_read(alloc, "..", "..")?
+    );
+    Ok(())
+}
+
+#[test]
+fn a_prefix_or_no_memory(rt: HostRuntime) {
+    let answer = is_read(rt.alloc(), "a/b", "a/b");
     assert!(rt; matches!(answer, Ok(true) | Err(Memory)));
 }
