@@ -21,6 +21,7 @@ import subprocess
 import sys
 import tempfile
 
+sys.path.insert(0, os.path.join(os.path.dirname(__file__), "..", "tools"))
 from repository import cases, ended, installed_names, lacking, path as path_to, programs, read
 
 # the names by which the programs are installed, by their own words

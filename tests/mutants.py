@@ -26,6 +26,7 @@ import tempfile
 import threading
 from concurrent.futures import ThreadPoolExecutor
 
+sys.path.insert(0, os.path.join(os.path.dirname(__file__), "..", "tools"))
 from repository import PARTS, copied, ended, lanes, libraries, path, read, room
 
 FUNCTION = re.compile(r"^fn (\S+): (.*)")
