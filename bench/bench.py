@@ -18,6 +18,7 @@ import sys
 import tempfile
 import time
 
+sys.path.insert(0, os.path.join(os.path.dirname(__file__), "..", "tools"))
 from repository import path as path_to, programs
 
 RUNS = 5

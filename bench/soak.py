@@ -13,6 +13,7 @@ import subprocess
 import sys
 import tempfile
 
+sys.path.insert(0, os.path.join(os.path.dirname(__file__), "..", "tools"))
 from repository import ended, path as path_to, programs
 
 PROGRAM, PLAIN = programs()["filter"].built, path_to("build", "run_plain")

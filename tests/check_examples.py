@@ -11,9 +11,10 @@ are what the others print, without svnmucc's line on each commit. An example wit
 Subversion is not installed, the examples of a section are left out from the first one that uses it, and the script says so.
 
 It also looks at the pages: whether man shows the examples as they are, whether the filter's page has each fault of the
-format and the survey's each line of docs/SURVEY.md, and whether the cases that docs/DIFFERENCES.md names show what it says
-of Subversion's own tool. The last line is 'N passed, M failed'.
+format and the survey's each line of docs/SURVEY.md, whether the cases that docs/DIFFERENCES.md names show what it says of
+Subversion's own tool, and whether those in a column Case of a table in docs/ exist. The last line is 'N passed, M failed'.
 """
+import glob
 import os
 import re
 import shutil
@@ -21,6 +22,7 @@ import subprocess
 import sys
 import tempfile
 
+sys.path.insert(0, os.path.join(os.path.dirname(__file__), "..", "tools"))
 from repository import cases, ended, installed_names, lacking, path as path_to, programs, read
 
 # the names by which the programs are installed, by their own words
@@ -213,6 +215,19 @@ def wrong_differences():
     return wrong
 
 
+def unknown_cases():
+    """The cases in a last column Case of a table in docs/ that do not exist."""
+    found = []
+    for page in sorted(glob.glob(path_to("docs", "*.md"))):
+        is_in_table = False
+        for line in read(page).splitlines():
+            last = line.rstrip().removesuffix("|").rpartition("|")[2].strip()
+            if is_in_table:
+                found += [it for it in re.findall(r"`([a-z0-9_]+)`", last) if it not in cases()]
+            is_in_table = line.startswith("|") and (is_in_table or last == "Case")
+    return found
+
+
 def untold(page):
     """The lines of the survey, by docs/SURVEY.md, that its page does not have."""
     lines = re.findall(r"^\| `([^`]*)` \|", read("docs", "SURVEY.md"), re.MULTILINE)
@@ -238,6 +253,7 @@ def wrong_in_pages(pages, examples):
     for name, called in [(it, it) for it in pages] + [("README", NAMES["filter"])]:
         unnamed = not any(it.page == name and called in "".join(it.commands) for it in examples)
         looks.append(unnamed and f"no example of {name} calls {called}")
+    looks.append((unknown := unknown_cases()) and f"docs/ names these cases, which do not exist: {unknown}")
     differences = wrong_differences()
     if differences is None:
         print("tests/check_examples.py: the svndumpfilter of Subversion 1.14 is not installed, so DIFFERENCES is not compared with it")

@@ -15,6 +15,7 @@ import subprocess
 import sys
 import tempfile
 
+sys.path.insert(0, os.path.join(os.path.dirname(__file__), "..", "tools"))
 from repository import cases, ended, installed_names, lacking, libraries, path, programs, run_once
 
 NAME = "svndumpfilter-proved"

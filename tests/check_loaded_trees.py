@@ -28,6 +28,7 @@ import subprocess
 import sys
 import tempfile
 
+sys.path.insert(0, os.path.join(os.path.dirname(__file__), "..", "tools"))
 from repository import ended, lacking, path as path_to, programs
 
 TOOLS = ("svn", "svnadmin", "svnlook", "svnmucc")

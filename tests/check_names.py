@@ -13,6 +13,7 @@ import os
 import re
 import sys
 
+sys.path.insert(0, os.path.join(os.path.dirname(__file__), "..", "tools"))
 from repository import ended, lines_of, path, read
 
 # the line that begins a definition, directly in a file or in a module or a block of definitions that name each other

@@ -7,9 +7,11 @@ Where one of the two is not installed, its scripts are left out, and the script 
 'N passed, M failed', of scripts.
 """
 import glob
+import os
 import subprocess
 import sys
 
+sys.path.insert(0, os.path.join(os.path.dirname(__file__), "..", "tools"))
 from repository import ended, lacking, path
 
 LINTERS = {

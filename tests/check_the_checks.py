@@ -13,6 +13,7 @@ import subprocess
 import sys
 import tempfile
 
+sys.path.insert(0, os.path.join(os.path.dirname(__file__), "..", "tools"))
 from repository import ended, path, read
 
 PIECE = "function: dump_writer::piece::Piece::push\nfile: src/piece.rt\nold: Ok(self.chunks.push(chunk)?)\n"
@@ -82,7 +83,7 @@ def said_by(folder, *words):
 def tried(texts, *words):
     """What tests/mutants.py says of these mutants of dump_writer."""
     with tempfile.TemporaryDirectory(prefix="planted-") as folder:
-        copied(folder, "tests/mutants.py", "tests/repository.py", "crates.txt", "HANDLES")
+        copied(folder, "tests/mutants.py", "tools/repository.py", "crates.txt", "HANDLES")
         copied(folder, *(f"crates/{it}" for it in os.listdir(path("crates")) if it != "dump_writer"))
         copied(folder, *(f"crates/dump_writer/{it}" for it in os.listdir(path("crates", "dump_writer")) if it != "wrong"))
         wrong = os.path.join(folder, "crates", "dump_writer", "wrong")
@@ -96,7 +97,7 @@ def tried(texts, *words):
 def edited(check, file, pairs):
     """What a check says where a file is edited."""
     with tempfile.TemporaryDirectory(prefix="planted-") as folder:
-        copied(folder, check, "tests/repository.py", "tests/statements.txt", KNOWN, "docs/TRUSTED.md", "crates.txt", "programs.txt")
+        copied(folder, check, "tools/repository.py", "tests/statements.txt", KNOWN, "docs/TRUSTED.md", "crates.txt", "programs.txt")
         shutil.copytree(path("crates"), os.path.join(folder, "crates"), ignore=shutil.ignore_patterns("out", "proofs"))
         text = read(file)
         for old, new in pairs:

@@ -13,6 +13,7 @@ import os
 import re
 import sys
 
+sys.path.insert(0, os.path.join(os.path.dirname(__file__), "..", "tools"))
 from repository import ended, libraries, lines_of, path as path_to, programs, read
 
 BEGIN = "<!-- the definitions of the statement, by tests/check_trusted.py --print -->\n"

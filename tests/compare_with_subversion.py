@@ -17,6 +17,7 @@ import subprocess
 import sys
 import tempfile
 
+sys.path.insert(0, os.path.join(os.path.dirname(__file__), "..", "tools"))
 from repository import ended, lacking, programs
 
 TOOLS = ("svnadmin", "svndumpfilter", "svn", "svnmucc", "svnrdump")

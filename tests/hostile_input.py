@@ -17,6 +17,7 @@ import tempfile
 import threading
 import time
 
+sys.path.insert(0, os.path.join(os.path.dirname(__file__), "..", "tools"))
 from repository import ended, path, programs
 
 PROGRAM = programs()["filter"].built

@@ -26,7 +26,8 @@ import tempfile
 import threading
 from concurrent.futures import ThreadPoolExecutor
 
-from repository import PARTS, copied, ended, lanes, libraries, path, read, room
+sys.path.insert(0, os.path.join(os.path.dirname(__file__), "..", "tools"))
+from repository import PARTS, below, copied, ended, lanes, libraries, path, read, room
 
 FUNCTION = re.compile(r"^fn (\S+): (.*)")
 GOAL = re.compile(r"^note: \S+: (.*)")
@@ -81,10 +82,10 @@ def applied(mutants, crate):
     return texts
 
 
-def source_bytes(crate):
-    """How much there is to check in a crate."""
-    folders = [path("crates", crate, it) for it in PARTS]
-    return sum(os.path.getsize(os.path.join(at, name)) for it in folders for at, _, names in os.walk(it) for name in names)
+def size(crate, known):
+    """About how long a check of a crate takes: by its sources, and by the crates below it, which the check loads."""
+    files = (os.path.join(at, name) for it in PARTS for at, _, names in os.walk(path("crates", crate, it)) for name in names)
+    return sum(map(os.path.getsize, files)) * (1 + len(below(crate, known)))
 
 
 def fits(mutant, mutants, crate):
@@ -172,7 +173,6 @@ class Trial:
         names = sorted(os.listdir(path("crates", crate, "wrong")))
         self.crate, self.size, self.rounds, self.copies = crate, len(names), [], []
         self.running, self.count, self.wrong = 0, 0, {}
-        self.bytes = source_bytes(crate)
         for name in names:
             try:
                 mutant = Mutant(crate, name)
@@ -214,7 +214,7 @@ class Trials:
 
     def __init__(self, crates, known, folder):
         # the largest crate is begun first, since the others fit beside it
-        self.trials = sorted(map(Trial, crates), key=lambda it: -it.bytes)
+        self.trials = [Trial(it) for it in sorted(crates, key=lambda it: -size(it, known))]
         self.known, self.folder, self.turn = known, folder, threading.Condition()
         for trial in self.trials:
             if not trial.rounds:

@@ -31,6 +31,7 @@ import os
 import re
 import sys
 
+sys.path.insert(0, os.path.join(os.path.dirname(__file__), "..", "tools"))
 from repository import cases, path
 
 FIRST = re.compile(rb"^(?=(?:Node-path|Revision-number|UUID|SVN-fs-dump-format-version): )", re.MULTILINE)

@@ -1,5 +1,5 @@
 """What the scripts know of this repository: its programs, its cases and its crates, and copies of crates in which the
-toolchain can work. tests/ and bench/ have links to this file."""
+toolchain can work. (rt ci takes no link in a directory, so the scripts of tests/ and bench/ name this one as they begin.)"""
 import contextlib
 import functools
 import importlib.util
