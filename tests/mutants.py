@@ -110,7 +110,7 @@ class Copy:
     """A copy of a crate and of those that it depends on, with the work that checks kept."""
 
     def __init__(self, crate, known, folder):
-        self.crate, self.home = crate, room(crate, known, folder)
+        self.crate, self.folder, self.home = crate, folder, room(crate, known, folder)
         copied(crate, folder, ["out/incremental"])
 
     def check(self, mutants, jobs):
@@ -208,6 +208,11 @@ class Trial:
             print(f"tests/mutants.py: {name}: {why}", flush=True)
         print(f"tests/mutants.py: {self.crate}: {self.size} mutants in {self.count} rounds, {len(self.wrong)} failed", flush=True)
 
+    def clear(self):
+        """Removes the copies of the crate, so that those of all crates do not fill the disk and the memory together."""
+        while self.copies:
+            shutil.rmtree(self.copies.pop().folder)
+
 
 class Trials:
     """The trials of some crates. Rounds run in parallel, those of one crate each in a copy of its own."""
@@ -252,9 +257,12 @@ class Trials:
                 if said is not None:
                     trial.take(mutants, said)
                     trial.copies.append(copy)
-                if not trial.rounds and not trial.running:
+                is_over = not trial.rounds and not trial.running
+                if is_over:
                     trial.tell()
                 self.turn.notify_all()
+        if is_over:
+            trial.clear()
 
 
 def misfits(crate):
