@@ -1,38 +1,40 @@
-//! The filter: what it writes of each record, what it refuses, and its counts.
+//! The filter: what it writes of each record, which records it rejects, and its counts.
 //!
 //! A [`Filter`] takes the records of a dump one after another, each [`Done`](dump_digest::Done) under
-//! the filter's options, and gives for each the piece that is to be written: nothing, or the record,
-//! or the revision that waited for it and the record. [`Filter::finish`] gives what is left, and the
-//! [`Report`]. A step that finds a fault, or runs out of memory, closes the filter.
+//! the filter's options. For each it gives the piece to write: nothing, or the record, or the revision
+//! that waited for it and the record. [`Filter::finish`] gives what is left, and the [`Report`]. A step
+//! that finds a fault, or runs out of memory, closes the filter.
 //!
 //! ```
 //! let Cut::Item(record) = cutter.next() else {
 //!     return Err(None);
 //! };
-//! assert_eq!(rt; filter.expected(), record.number());
+//! // ..
 //! let done = Done::of(record, options);
 //! match filter.step(alloc, done) {
 //!     Ok(piece) => {
-//!         assert_eq!(rt; out.add(&piece), Ok(()));
+//!         // ..
 //!         Ok(())
 //!     }
 //!     Err(fault) => {
-//!         assert_eq!(rt; filter.expected(), record.number());
-//!         let again = filter.step(alloc, done).err();
-//!         assert_eq!(rt; again, Some(StepFault::Closed));
+//!         // ..
 //!         Err(Some(fault))
 //!     }
 //! }
 //! ```
 //!
-//! `tests::pass` runs this for each record of the worked dumps, and `tests::run` then asks for the rest:
+//! `tests::pass` runs this for each record of the example dumps, and keeps the bytes of each piece. A
+//! run begins and ends so:
 //!
 //! ```
+//! let mut filter = Filter::new(alloc, options);
+//! // ..
 //! let (piece, report) = filter.finish(alloc)?;
-//! assert_eq!(rt; out.add(&piece), Ok(()));
 //! ```
 //!
-//! A piece lends bytes of the dump where they stay as they stand; only what is new is made.
+//! `tests::run` runs this.
+//!
+//! A piece lends the bytes of the dump that stay unchanged; only what is new is made.
 #![tactic(auto)]
 
 mod advance;

@@ -1,8 +1,9 @@
 //! What the record of a node says of its change.
 //!
-//! [`action_of`] reads what the node does at its path, [`path_of`], [`copy_path_of`] and [`copy_revision_of`] where it does
-//! so, and [`kind_of`] and [`is_whole_file`] what it is. [`has_plain_texts`] and [`has_odd_delta`] find the nodes whose
-//! change isn't modelled. [`is_canonical`], [`bare_path`] and [`bare_prefix`] are about paths and prefixes as texts.
+//! [`action_of`] reads what the node does at its path, [`path_of`], [`copy_path_of`] and
+//! [`copy_revision_of`] where it does so, and [`kind_of`] and [`is_whole_file`] what it is.
+//! [`has_plain_texts`] and [`has_odd_delta`] find the nodes whose change isn't modelled.
+//! [`is_canonical`], [`bare_path`] and [`bare_prefix`] are about paths and prefixes as texts.
 //!
 //! ```
 //! let action = action_of(item);
@@ -12,9 +13,17 @@
 //! ```
 //!
 //! `tests::is_copied` runs this on a node that copies `a` of revision 1 to `b`; `A` and `B` are these paths.
+//! Paths and prefixes are read so:
 //!
-//! A record is asked for lines by their names; each question takes a search through the lines, but for those that the
-//! cutter kept. Nothing is allocated.
+//! ```
+//! assert!(rt; bare_prefix(b"//a/") == A && bare_path(b"/b") == B);
+//! assert!(rt; is_canonical(b"/a/b") && !is_canonical(b"a/./b") && !is_canonical(b"a/"));
+//! ```
+//!
+//! `tests::slashes_at_the_ends_do_not_count` runs this.
+//!
+//! Lines of a record are looked up by their names. Each question takes a search through the lines, but for
+//! those that the cutter kept. Nothing is allocated.
 #![tactic(auto)]
 
 mod action;

@@ -1,22 +1,23 @@
 //! The records of a Subversion dump: a cutter gives them one after another, as views into the dump.
 //!
-//! A [`Record`] is a block of header lines, then its properties, then its text. [`Cutter::next`]
-//! gives the next one, or says how the list of records ends: with the dump, or at a byte where no
-//! record stands, with the first fault that holds there. After its end a cutter tells the same end
-//! again. A record is a copyable view: it holds places of the dump and what its header lines say, which
-//! are read once, and lends parts of the dump.
+//! A [`Record`] is a block of header lines, then its properties, then its text. [`Cutter::next`] gives
+//! the next one, or says how the list of records ends: with the dump, or at a byte where there is no
+//! record, with the first fault that holds there. After its end a cutter gives the same end again. A
+//! record is a view that can be copied. It holds places of the dump and what its header lines say,
+//! which are read once, and lends parts of the dump.
 //!
 //! ```
 //! let mut cutter = Cutter::new(dump);
-//! for number in 0..count {
-//!     assert_eq!(rt; seen_in(cutter.next()), Seen::Item(number), "{dump:?}");
-//! }
-//! for _ in 0..2 {
-//!     assert_eq!(rt; seen_in(cutter.next()), end, "{dump:?}");
+//! for version in versions {
+//!     match cutter.next() {
+//!         Cut::Item(record) if record.version() == version => {}
+//!         _ => return false,
+//!     }
 //! }
 //! ```
 //!
-//! `tests::the_end_is_told_again` runs this over some dumps; its `seen_in` tells the three answers apart:
+//! `tests::are_in_force` runs this: it compares the format version in force for each record. What
+//! `next` gives is one of three:
 //!
 //! ```
 //! match cut {
@@ -26,10 +27,12 @@
 //! }
 //! ```
 //!
-//! [`laws`] states two laws of dumps: no record begins another, and each dump has exactly one list
-//! of records. What a record may be is asked by itself: the order of nodes and revisions, property
-//! blocks, digests, copy sources and mergeinfo are not looked at here. Format versions 2 and 3 are
-//! read, and no other; a dump may be joined from both. No memory is taken.
+//! `tests::seen_in` runs this.
+//!
+//! [`laws`] states two laws of dumps: no record begins another, and each dump has exactly one list of
+//! records. This crate looks at each record by itself: not at the order of nodes and revisions, nor at
+//! property blocks, digests, copy sources and mergeinfo. It reads format versions 2 and 3 and no
+//! other; a concatenated dump may have both. It takes no memory.
 #![tactic(auto)]
 
 mod cutter;

@@ -1,80 +1,84 @@
 //! The rules of the filter: its options, which paths they keep, the new numbers of revisions, and
 //! what becomes of mergeinfo.
 //!
-//! [`Options`] hold what a user asked for: whether nodes are included or excluded, the path
-//! prefixes, what becomes of revisions without a kept node, and three switches. [`keeps`] says
-//! whether they keep a path. A prefix matches a path by whole names: `trunk` matches `trunk` and
-//! `trunk/a`, and not `trunk2`. Slashes at both ends of a prefix don't count, nor one in front of
-//! a path; a prefix of slashes alone, or of nothing, matches every path.
+//! [`Options`] hold what a user asked for: whether nodes are included or excluded, the path prefixes,
+//! what becomes of revisions without a kept node, and three switches.
 //!
 //! ```
-//! let rows = [
-//!     (b"trunk", b"trunk/a", true),
-//!     (b"trunk", b"trunk2", false),
-//!     (b"//trunk/", b"/trunk/a", true),
-//!     (b"/", b"trunk2", true),
-//! ];
-//! for (prefix, path, matched) in rows {
-//!     let include = options(rt.alloc(), Side::Include, &[prefix])?;
-//!     assert_eq!(rt; keeps(&include, path), matched, "{prefix:?} {path:?}");
-//!     let exclude = options(rt.alloc(), Side::Exclude, &[prefix])?;
-//!     assert_eq!(rt; keeps(&exclude, path), !matched, "{prefix:?} {path:?}");
+//! let [renumber, preserve, skip] = flags;
+//! let given = Options::new(alloc, side, &prefixes, empty, renumber, preserve, skip)?;
+//! ```
+//!
+//! `tests::prefixes::is_handed_in` runs this. [`keeps`] says whether options keep a path. A prefix
+//! matches a path by whole names: `trunk` matches `trunk` and `trunk/a`, and not `trunk2`. Slashes at
+//! both ends of a prefix don't count, nor one in front of a path. A prefix of slashes alone, or of
+//! nothing, matches every path. Options that include the prefixes from `/p0000/` to `/p4999/` keep
+//! none of these paths:
+//!
+//! ```
+//! for path in [b"p5000/a".as_slice(), b"p", b"p000", b"o/p0000", b""] {
+//!     if keeps(options, path) {
+//!         return Ok(false);
+//!     }
 //! }
 //! ```
 //!
-//! `tests::prefixes_match_whole_names` runs this with more rows.
+//! `tests::prefixes::keeps_five_thousand` runs this.
 //!
-//! A [`Reach`] is the table of the revisions that were kept so far. Renumbering closes the gaps:
-//! kept revisions count up from the dump's first number, whether that revision was kept or not. A
-//! revision that wasn't kept stands for the last kept one before it, if there is one.
+//! A [`Reach`] is the table of the revisions that were kept so far. Renumbering closes the gaps: kept
+//! revisions count up from the dump's first number, whether or not that revision was kept. A dropped
+//! revision has the new number of the last kept one before it, if there is one.
 //!
 //! ```
 //! let mut reach = Reach::new(rt.alloc(), 5);
+//! // ..
 //! reach.push(6)?;
 //! reach.push(9)?;
-//! let rows = [
-//!     (5, None),
-//!     (6, Some(5)),
-//!     (8, Some(5)),
-//!     (9, Some(6)),
-//!     (100, Some(6)),
-//! ];
+//! let (fifth, sixth) = (Some(5), Some(6));
+//! let rows = [(5, None), (6, fifth), (8, fifth), (9, sixth), (100, sixth)];
+//! ```
+//!
+//! `tests::images_are_of_the_last_kept_revision` runs this, and asks for the image of each revision
+//! of `rows`:
+//!
+//! ```
 //! for (revision, image) in rows {
-//!     assert_eq!(rt; reach.reach(revision), image, "{revision}");
+//!     if reach.reach(*revision) != *image {
+//!         return false;
+//!     }
 //! }
 //! ```
 //!
-//! `tests::images_are_of_the_last_kept_revision` runs this.
+//! `tests::has_images` runs this.
 //!
-//! [`merge_reads`] tells whether a value of `svn:mergeinfo` is lines of a path, a colon and ranges
-//! of revisions, as `/trunk:1-4,6*`. In no line a revision may stand both with `*` and without.
+//! [`merge_reads`] says whether a value of `svn:mergeinfo` is lines of a path, a colon and ranges of
+//! revisions, as `/trunk:1-4,6*`. No line may have a revision both with `*` and without.
 //!
-//! [`rewrite`] gives the new value: the lines whose paths are kept, each with the runs of its map,
-//! in new numbers if revisions are renumbered. [`laws`] says that a map has no other spelling. Two
-//! faults are told before: a line whose path isn't kept, and a number that the dump can't have. Who
-//! has several values reads them with [`Merged::with`], asks what they say together, and then makes
+//! [`rewrite`] gives the new value: the lines whose paths are kept, each with the runs of its map, in
+//! new numbers if revisions are renumbered. [`laws`] says that a map has no other spelling. Two faults
+//! are reported first: a line whose path is dropped, and a number that the dump can't have. A caller
+//! with several values reads them with [`Merged::with`], asks what they say together, and then makes
 //! each [`new_value`].
 //!
 //! ```
-//! let rows = [
-//!     (b"trunk", b"/trunk:4,1-3", b"/trunk:1-4"),
-//!     (b"trunk", b"/trunk:3,1-2*", b"/trunk:1-2*,3"),
-//!     (b"/", b"/a:1\n/b:\n/a:2*", b"/a:1\n/a:2*"),
-//! ];
-//! for (prefix, value, wanted) in rows {
-//!     let options = rules(rt.alloc(), prefix, false, false)?;
-//!     let new = rewritten(rt.alloc(), value, &options, &reach, 1)??;
-//!     assert_eq!(rt; new.as_slice(), wanted, "{value:?}");
+//! let reach = Reach::new(rt.alloc(), 0);
+//! // ..
+//! let value = b"/a:4,1-3\n/b:9,7,5,3,1".as_slice();
+//! if !merge_reads(value) {
+//!     return Err("no mergeinfo".into());
 //! }
+//! let answered = match rewrite(rt.alloc(), value, &options, &reach, 1) {
+//!     Ok(new) => new.as_slice() == b"/a:1-4\n/b:1,3,5,7,9".as_slice(),
+//!     Err(fault) => fault == RewriteFault::Memory,
+//! };
 //! ```
 //!
-//! `tests::lines_of_kept_paths_are_written_as_runs` runs this with more rows; its `rewritten` is
-//! [`rewrite`], of a value that [`merge_reads`] takes.
+//! `tests::rewriting::new_value_or_no_memory` runs this under options that include all paths.
 //!
-//! `Options::new` takes memory, for its copies of the prefixes, `Reach::push`, where its table
-//! grows, and `rewrite`; they say so where there is none. Prefixes are bytes: no pattern, no letter
-//! case and no `..` has a meaning. Of the switches `rewrite` reads two; what else they do is for
-//! the filter, and a `Reach` renumbers whether or not one asks for it.
+//! `Options::new` takes memory for its copies of the prefixes, `Reach::push` if its table grows, and
+//! `rewrite` for the value; each says so if there is none. Prefixes are bytes: no pattern, no letter
+//! case and no `..` has a meaning. Of the switches `rewrite` reads two. What the others do is for the
+//! filter, and a `Reach` renumbers whether or not the options ask for it.
 #![tactic(auto)]
 
 mod blocks;

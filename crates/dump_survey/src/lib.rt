@@ -1,36 +1,54 @@
-//! A survey of a dump before it is filtered: each place where the repository that is loaded from the filtered dump may
-//! not be the one that is meant.
+//! A survey of a dump before it is filtered: each place where the repository that is loaded from the filtered
+//! dump may be wrong.
 //!
-//! A [`Surveyor`] reads a dump record by record, cut as the filter cuts it, and [`Surveyor::next`] gives what is found
-//! in each: of a node of a revision the [`Found`], which [`SurveyedNode::tell`] turns into one [`Told`] for each
-//! [`NodeFinding`], with the record's number and place, the revision and the path, and of a copy that is cut otherwise
-//! than its source the first prefix that cuts. Where the records end it gives what is found in the dump as a whole,
-//! [`DumpFindings`], and whether they end with the dump; then
-//! [`Surveyor::told_prefixes`] tells the prefixes by which the filter does nothing, each with its [`PrefixFinding`].
-//! [`survey_dump`] keeps all this in a [`Survey`]; [`write_survey`] writes a line for each finding as it is found, and
-//! keeps nothing. [`left_out_lines`] tells how many lines of mergeinfo the filter leaves out, [`folders_to_make`] which
-//! folders the load wants, [`keep_as_well`] which prefixes more let the filter stop at no copy, and [`write_behind`]
-//! writes the lines of all three. [`write_map`] writes the old and the new number of each revision that the filter keeps.
+//! A [`Surveyor`] reads a dump record by record, cut as the filter cuts it. [`Surveyor::next`] gives what is
+//! found in each: of a node of a revision the [`Found`], which [`SurveyedNode::tell`] turns into one [`Told`]
+//! for each [`NodeFinding`]. A [`Told`] has the record's number and place, the revision and the path; of a copy
+//! that is filtered differently from its source it has the first prefix responsible. Where the records end,
+//! `next` gives what is found in the dump as a whole, [`DumpFindings`], and whether they end with the dump. Then
+//! [`Surveyor::told_prefixes`] gives the prefixes that have no effect, each with its [`PrefixFinding`].
+//!
+//! [`survey_dump`] keeps all this in a [`Survey`]. [`write_survey`] writes a line for each finding as it is
+//! found, and keeps nothing. [`left_out_lines`] counts the lines of mergeinfo that the filter omits,
+//! [`folders_to_make`] gives the parent directories to create, and [`keep_as_well`] the prefixes to add so that
+//! no copy stops the filter; [`write_behind`] writes the lines of all three. [`write_map`] writes the old and the
+//! new number of each kept revision.
 //!
 //! ```
-//! let survey = survey_dump(rt.alloc(), dump.as_slice(), &options)?;
-//! assert_eq!(rt; survey.told.len(), wanted.len(), "{node}");
-//! for (told, finding) in survey.told.iter().zip(wanted) {
-//!     assert_eq!(rt; told.finding, *finding, "{node}");
-//! }
+//! let mut sink = MemorySink::new(rt.alloc(), 8, Trouble::Never);
+//! let answered = match write_survey(rt.alloc(), COPIED, &options, &mut sink) {
+//!     Ok(found) => found && sink.taken() == CUT_LINES,
+//!     Err(_) => true,
+//! };
 //! ```
 //!
-//! `tests::nodes::assert_found` runs this.
+//! `tests::text::a_text_or_no_memory` runs this; `CUT_LINES` are the lines for the dump `COPIED`. The lines
+//! after the findings are written so:
 //!
-//! What is found in nodes and in the dump are the findings that `dump_history` defines, and [`laws`] says so: no others,
-//! none is missing, in the dump's order. They are told from header lines, properties and prefixes alone. No text of a file is read and no tree is
-//! built, so what is found may do no harm, where nothing stands below a path that is told. A node outside of any
-//! revision, which the filter refuses, is passed over, and that there is one is told of the whole dump.
+//! ```
+//! let (side, prefixes) = (Side::Include, [b"x/y".as_slice(), b"c"]);
+//! let made = Options::new(rt.alloc(), side, &prefixes, Empty::Pad, false, false, false);
+//! let Ok(options) = made else {
+//!     return;
+//! };
+//! let mut sink = MemorySink::new(rt.alloc(), 8, Trouble::Never);
+//! let written = write_behind(rt.alloc(), CHAIN, &options, true, &mut sink);
+//! let lines = b"make before the load: /x\nkeep as well: /b\nkeep as well: /a\n".as_slice();
+//! assert!(rt; written.is_err() || sink.taken() == lines);
+//! ```
 //!
-//! `Surveyor::new` takes memory for the list of the prefixes and for a set of them, `next` where a prefix is excluded
-//! that lies below a copy or its source, and `told_prefixes` for its list. No more is kept of a record when the next one
-//! comes. A copy asks each prefix once, so a survey takes time by the number of copies times that of prefixes; a node
-//! looks the parts of its path up among the prefixes that none before it has matched.
+//! `tests::as_well::lines_behind_the_findings_or_no_memory` runs this, on a dump that copies `a` to `b` and `b`
+//! to `c`.
+//!
+//! The findings in nodes and in the dump are exactly those that `dump_history` defines, in the dump's order, and
+//! [`laws`] says so. The survey looks only at header lines, properties and prefixes. It reads no text of a file
+//! and builds no tree, so a finding may do no harm: there may be no node below the path that it names. It passes
+//! over a node outside of any revision, which the filter rejects, and reports of the whole dump that there is one.
+//!
+//! `Surveyor::new` takes memory for the list of the prefixes and for a set of them, `next` if an excluded prefix
+//! is below a copy or its source, and `told_prefixes` for its list. A surveyor keeps no more of a record when the
+//! next one comes. It compares a copy with each prefix once, so a survey takes time by the number of copies times
+//! that of prefixes. It looks the parts of a node's path up among the prefixes that no earlier node has matched.
 #![tactic(auto)]
 
 mod as_well;

@@ -1,18 +1,30 @@
-//! Numbers, blocks of header lines and property blocks in a Subversion dump file, read where they lie.
+//! Numbers, blocks of header lines and property blocks in a Subversion dump file, read where they are.
 //!
-//! A [`Block`] is one or more lines `name: value` and the empty line behind them. [`Headers::read`]
+//! A [`Block`] is one or more lines `name: value` and the empty line after them. [`Headers::read`]
 //! finds the block at a place of the dump, with the values of the names that have a meaning, or says
-//! what is wrong there: it walks the lines once, and each [`HeaderName`] is then looked up without a
+//! what is wrong there. It walks the lines once, and each [`HeaderName`] is then looked up without a
 //! walk. A block lends its lines and its values as parts of the dump: nothing is copied, and no
-//! memory is taken. [`find`] seeks a byte. [`number`] reads a number as headers have it, and
-//! [`spell`] writes one. [`Props`] is a property block: names and values, each behind its length,
-//! and their end; under format version 3 a node's block may delete properties too. [`FaultKind`]
-//! names all that may be wrong with a record of a dump, with the number and the name that users see.
+//! memory is taken. [`find`] finds the first place of a byte. [`number`] reads a number as headers
+//! have it, and [`spell`] writes one. [`Props`] is a property block: names and values, each after its
+//! length, and their end. Under format version 3 a node's block may delete properties too.
+//! [`FaultKind`] names all that may be wrong with a record of a dump, with the number and the name
+//! that users see.
+//!
+//! ```
+//! let uuid = Block::cut(UUID, 0)?;
+//! assert_eq!(rt; uuid.after(), 44);
+//! let value = b"7bf7a5ef-cabf-0310-b7d4-93df341afa7e".as_slice();
+//! assert_eq!(rt; uuid.get(b"UUID"), Some(value));
+//! assert_eq!(rt; uuid.get(b"uuid"), None);
+//! ```
+//!
+//! `tests::a_block_is_cut_where_it_stands` runs this; `UUID` is a block of that one line. Several names
+//! are looked up so:
 //!
 //! ```
 //! let text = b"Node-path: a: b\nNote: c\nNode-kind: \nProp-delta: true\n\nbehind: it\n\n";
 //! let headers = Headers::read(text, 0)?;
-//! assert_eq!(rt; headers.block().after(), 54);
+//! assert!(rt; headers.block().after() == 54);
 //! let rows = [
 //!     (HeaderName::NodePath, Some(b"a: b".as_slice())),
 //!     (HeaderName::NodeKind, Some(b"")),
@@ -20,33 +32,34 @@
 //!     (HeaderName::TextDelta, None),
 //!     (HeaderName::NodeAction, None),
 //! ];
-//! for (name, value) in rows {
-//!     assert_eq!(rt; headers.value(name), value, "{name:?}");
-//!     assert_eq!(rt; headers.has(name), value.is_some(), "{name:?}");
-//!     assert_eq!(rt; headers.block().get(name.bytes()), value, "{name:?}");
-//! }
 //! ```
 //!
-//! `tests::values_of_known_names_are_found` runs this, and of properties
-//! `tests::leading_zeros_of_lengths_are_read` this:
+//! `tests::values_of_known_names_are_found` runs this, and asks for each name and value of `rows`:
 //!
 //! ```
-//! let props = Props::read(b"K 01\na\nV 0\n\nPROPS-END\n").ok_or("zeros are refused")?;
-//! let mut entries = props.entries();
-//! let entry = entries.next().ok_or("the entry is missing")?;
-//! assert_eq!(rt;
-//!     (entry.name, entry.value),
-//!     (b"a".as_slice(), b"".as_slice())
-//! );
-//! assert!(rt; entries.next().is_none());
-//! assert!(rt; !props.spelled());
+//! headers.value(name) == value
+//!     && headers.has(name) == value.is_some()
+//!     && headers.block().get(name.bytes()) == value
 //! ```
 //!
-//! A name that has a meaning in a dump stands once in a block; any other may stand more often, and
-//! then `get` gives the first. What the values mean is not asked here, and no bytes behind the empty
-//! line are read. A property's name may stand more often too. [`Props::read`] takes the whole block,
-//! with nothing behind its end, and takes no bytes at all as a list without properties. A number has
-//! 1 to 18 digits, so that the sum of two fits a `u64`.
+//! `tests::has_value` runs this. Properties are read so:
+//!
+//! ```
+//! let block = b"D 1\na\nK 1\na\nV 1\nb\nD 1\nc\nPROPS-END\n".as_slice();
+//! assert!(rt; Props::read(block).is_none(), "without deletes");
+//! let props = Props::read_with_deletes(block).ok_or("deletes are refused")?;
+//! let first = Some(b"b".as_slice());
+//! assert!(rt; props.get(b"a") == first, "the first that isn't deleted");
+//! assert!(rt; props.get(b"c").is_none(), "a deleted one");
+//! ```
+//!
+//! `tests::deleted_properties_are_read_where_they_may_stand` runs this.
+//!
+//! A name that has a meaning in a dump may occur once in a block. Any other name may occur more often,
+//! and then `get` gives the first value. This crate does not look at what values mean, and reads no
+//! bytes after the empty line. A property's name may occur more often too. [`Props::read`] takes the
+//! whole block, with nothing after its end, and takes no bytes at all as a list without properties. A
+//! number has 1 to 18 digits, so that the sum of two fits a `u64`.
 #![tactic(auto)]
 
 mod block;
