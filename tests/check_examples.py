@@ -12,7 +12,11 @@ Subversion is not installed, the examples of a section are left out from the fir
 
 It also looks at the pages: whether man shows the examples as they are, whether the filter's page has each fault of the
 format and the survey's each line of docs/SURVEY.md, whether the cases that docs/DIFFERENCES.md names show what it says of
-Subversion's own tool, and whether those in a column Case of a table in docs/ exist. The last line is 'N passed, M failed'.
+Subversion's own tool, and whether those in a column Case of a table in docs/ exist.
+
+The page of a crate, at the head of its src/lib.rt, has examples of public calls. The paragraph after an example begins with
+the name of the function in the crate's tests, or in those of another crate, that has these lines. A line '// ..' is in place
+of lines that the page omits. The last line is 'N passed, M failed'.
 """
 import glob
 import os
@@ -30,6 +34,9 @@ NAMES = installed_names("svndumpfilter-proved")
 TOOLS = ("svn", "svnadmin", "svnlook", "svnmucc", "svnrdump")
 SECONDS = 60
 SUBVERSIONS = b"svndumpfilter, version 1.14."
+# crates whose pages have no such example yet
+WITHOUT_EXAMPLE = ("dump_changes", "dump_index")
+BLOCK = re.compile(r"^```\n(.*?)^```\n\n(?:`([\w:]+)`(?: of `(\w+)`)?)?", re.MULTILINE | re.DOTALL)
 # what roff writes otherwise than it reads
 MARKS = {r"\e": "\\", r"\(aq": "'", r"\(ha": "^", r"\(ti": "~", r"\&": ""}
 COMMITTED = re.compile(r"^r\d+ committed by .*\n", re.MULTILINE)
@@ -235,6 +242,61 @@ def untold(page):
     return [it.strip() for it in parts if it.strip(" ,") not in page.replace("\\", "")]
 
 
+def test_sources(crate):
+    """The texts of a crate's tests, by their modules."""
+    found = {}
+    for file in glob.glob(path_to("crates", crate, "src", "**", "*.rt"), recursive=True):
+        module = os.path.relpath(file, path_to("crates", crate, "src")).removesuffix(".rt").replace(os.sep, "::")
+        if "tests" in module.split("::"):
+            found[module] = read(file)
+    return found
+
+
+def stripped(text):
+    """The lines of a text without their indentation, and without empty ones."""
+    return [line.strip() for line in text.splitlines() if line.strip()]
+
+
+def has_in_order(body, parts):
+    """Whether a function has some runs of lines, one after another."""
+    for part in parts:
+        places = range(len(body) - len(part) + 1)
+        at = next((it for it in places if body[it : it + len(part)] == part), None)
+        if at is None:
+            return False
+        body = body[at + len(part) :]
+    return True
+
+
+def wrong_example(text, name, crate):
+    """What is wrong with an example on the page of a crate, which names a function in the tests of a crate."""
+    sources = test_sources(crate)
+    module, _, function = name.rpartition("::")
+    body = re.search(rf"^fn {function}\b.*?^}}", sources.get(module, ""), re.MULTILINE | re.DOTALL)
+    if not body:
+        return f"{crate} has no test or function {name}"
+    if not has_in_order(stripped(body[0]), [stripped(it) for it in re.split(r"^ *// \.\.$", text, flags=re.MULTILINE)]):
+        return f"{name} of {crate} does not have the lines of the example"
+    own = {it for source in sources.values() for it in re.findall(r"^fn (\w+)", source, re.MULTILINE)}
+    called = own.intersection(re.findall(r"(?<![.:\w])(\w+)\(", text))
+    return f"the example of {name} calls what is not public: {' '.join(sorted(called))}" if called else None
+
+
+def wrong_on_crate_pages():
+    """What is wrong with the examples on the pages of the crates."""
+    found = []
+    for file in sorted(glob.glob(path_to("crates", "*", "src", "lib.rt"))):
+        crate = file.split(os.sep)[-3]
+        if crate in WITHOUT_EXAMPLE:
+            continue
+        page = "".join(line[3:].removeprefix(" ") for line in read(file).splitlines(True) if line.startswith("//!"))
+        blocks = BLOCK.findall(page)
+        if not blocks and any("#[test]" in it for it in test_sources(crate).values()):
+            found.append(f"the page of {crate} has no example")
+        found += [f"the page of {crate}: {it}" for block in blocks if (it := wrong_example(block[0], block[1], block[2] or crate))]
+    return found
+
+
 def wrong_in_pages(pages, examples):
     """What is wrong with the pages as they stand, a line for each look at them."""
     looks = []
@@ -254,6 +316,7 @@ def wrong_in_pages(pages, examples):
         unnamed = not any(it.page == name and called in "".join(it.commands) for it in examples)
         looks.append(unnamed and f"no example of {name} calls {called}")
     looks.append((unknown := unknown_cases()) and f"docs/ names these cases, which do not exist: {unknown}")
+    looks.append("\n".join(wrong_on_crate_pages()))
     differences = wrong_differences()
     if differences is None:
         print("tests/check_examples.py: the svndumpfilter of Subversion 1.14 is not installed, so DIFFERENCES is not compared with it")
