@@ -34,8 +34,6 @@ NAMES = installed_names("svndumpfilter-proved")
 TOOLS = ("svn", "svnadmin", "svnlook", "svnmucc", "svnrdump")
 SECONDS = 60
 SUBVERSIONS = b"svndumpfilter, version 1.14."
-# crates whose pages have no such example yet
-WITHOUT_EXAMPLE = ("dump_changes", "dump_index")
 BLOCK = re.compile(r"^```\n(.*?)^```\n\n(?:`([\w:]+)`(?: of `(\w+)`)?)?", re.MULTILINE | re.DOTALL)
 # what roff writes otherwise than it reads
 MARKS = {r"\e": "\\", r"\(aq": "'", r"\(ha": "^", r"\(ti": "~", r"\&": ""}
@@ -287,8 +285,6 @@ def wrong_on_crate_pages():
     found = []
     for file in sorted(glob.glob(path_to("crates", "*", "src", "lib.rt"))):
         crate = file.split(os.sep)[-3]
-        if crate in WITHOUT_EXAMPLE:
-            continue
         page = "".join(line[3:].removeprefix(" ") for line in read(file).splitlines(True) if line.startswith("//!"))
         blocks = BLOCK.findall(page)
         if not blocks and any("#[test]" in it for it in test_sources(crate).values()):

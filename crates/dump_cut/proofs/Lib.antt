@@ -1,6 +1,14 @@
 pub mod CheckLemmas
+pub mod ExcludedLemmas
+pub mod GrowingLemmas
 pub mod LoadLaws
 pub mod NamedLemmas
 pub mod NameTextLemmas
+pub mod OwnFormLemmas
 pub mod ParentLemmas
+pub mod RangeLemmas
 pub mod RefusalLemmas
+pub mod ReturnedLemmas
+pub mod SourceLemmas
+pub mod TakenLemmas
+pub mod TakenLaw

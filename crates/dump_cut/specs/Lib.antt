@@ -1,3 +1,6 @@
+pub mod ExcludedPaths
 pub mod Refusals
+pub mod Returned
+pub mod TakenCopies
 pub mod LoadChecks
 pub mod steps

@@ -1,3 +1,4 @@
+pub mod ExcludedTexts
 pub mod KindViews
 pub mod NamedPaths
 pub mod NameTexts

@@ -1,6 +1,7 @@
 //! Laws of what a cut finds, each the contract of a function that does nothing.
 ghost use Rattle.dump_cut.specs.LoadChecks.{RefusedIsFirst, UnrefusedLoads};
 ghost use Rattle.dump_cut.specs.Refusals.{RefusedIsNotAllowed};
+ghost use Rattle.dump_cut.specs.TakenCopies.{SeparatedDumpIsItsExpansion, TakenDumpLoads, TakenRevisionsSeparate};
 
 /// Where no change is rejected, a dump whose text deltas apply loads into an empty repository. Where one is, the load takes
 /// the changes before it, and stops there.
@@ -8,4 +9,12 @@ pub fn loads_are_decided()
     ensures kinds { RefusedIsNotAllowed }
     ensures loads { UnrefusedLoads }
     ensures stops { RefusedIsFirst }
+{}
+
+/// Where each change of a dump is taken as it is, what the filter writes of the dump loads into an empty repository, and
+/// each revision has the tree that it had, without the excluded paths.
+pub fn taken_dumps_are_cut()
+    ensures separated { TakenRevisionsSeparate }
+    ensures expansion { SeparatedDumpIsItsExpansion }
+    ensures loads { TakenDumpLoads }
 {}

@@ -13,17 +13,23 @@
 
 mod canonical;
 mod copies;
+mod excluded;
 mod kinds;
 pub mod laws;
 mod load_check;
 mod parent_path;
 mod refusal;
+mod returns;
+mod taken;
 
 pub use canonical::canonical_prefix;
 pub use dump_rules::Memory;
+pub use excluded::Excluded;
 pub use kinds::Kinds;
 pub use load_check::{Refused, first_refused};
 pub use refusal::{Refusal, refusal_of};
+pub use returns::{PlacedRest, Way, all_followed, followed_rests};
+pub use taken::first_not_taken;
 
 #[cfg(test)]
 mod tests;

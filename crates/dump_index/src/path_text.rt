@@ -21,7 +21,7 @@ pub fn ends_in_slash(text: &[u8]) -> bool
 }
 
 /// What the path goes on with behind a top and a slash; nothing, where it doesn't.
-pub(crate) fn rest_behind<'p>(top: &[u8], path: &'p [u8]) -> &'p [u8]
+pub fn rest_behind<'p>(top: &[u8], path: &'p [u8]) -> &'p [u8]
     ensures { result.now ≡ rest_text top.now path.now }
 {
     if top.is_empty() {
@@ -33,8 +33,8 @@ pub(crate) fn rest_behind<'p>(top: &[u8], path: &'p [u8]) -> &'p [u8]
     }
 }
 
-/// A path below another one.
-pub(crate) fn joined(alloc: Global, top: &[u8], rest: &[u8]) -> Result<Vec<u8>, Memory>
+/// The rest of a path, joined to a path above it.
+pub fn joined(alloc: Global, top: &[u8], rest: &[u8]) -> Result<Vec<u8>, Memory>
     ensures { IfOk result (λ text. text.items ≡ joined_text top.now rest.now) }
 {
     let mut text = Vec::from_slice(alloc, top)?;
@@ -48,7 +48,7 @@ pub(crate) fn joined(alloc: Global, top: &[u8], rest: &[u8]) -> Result<Vec<u8>, 
 }
 
 /// What the paths below this one begin with: the path and a slash, but of the root nothing.
-pub(crate) fn top_of(alloc: Global, path: &[u8]) -> Result<Vec<u8>, Memory>
+pub fn top_of(alloc: Global, path: &[u8]) -> Result<Vec<u8>, Memory>
     ensures { IfOk result (λ text. text.items ≡ top_text path.now) }
 {
     let mut text = Vec::from_slice(alloc, path)?;

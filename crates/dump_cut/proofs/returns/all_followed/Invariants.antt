@@ -1,0 +1,14 @@
+use Rattle.std.proofs.Common.{◌≡◌, List, map}
+use Rattle.std.specs.List.{AllZip}
+use Rattle.dump_trees.specs.FollowedRests.{all_rests}
+use Rattle.dump_trees.specs.Looking.{Placed}
+use Rattle.dump_index.specs.IndexLaws.{IsListed}
+use Rattle.dump_index.specs.ToldKinds.{kinds_told_by}
+use Rattle.dump_cut.specs.ExcludedPaths.{paths_of}
+use Rattle.dump_cut.specs.Returned.{rest_meant, way_meant}
+use Rattle.dump_cut.proofs.returns.all_followed.Given as goal
+
+abbrev pub invariant-loop-place : goal.invariant-loop-place
+invariant-loop-place l = (placed : List Placed) → AllZip IsListed l.index placed
+    → map rest_meant l.found.items
+    ≡ all_rests (way_meant l.way) (paths_of l.excluded) (kinds_told_by l.index) placed l.place

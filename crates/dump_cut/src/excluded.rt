@@ -1,0 +1,161 @@
+//! The paths that a cut excludes.
+ghost use Rattle.std.specs.Prelude.{◌≡◌, ◌++◌, ◌∷◌, [], IfOk, IsTrue, OnErr, OnOk, bytes_eq, false, map, not};
+ghost use Rattle.std.specs.List.{list_all, list_any};
+ghost use Rattle.dump_trees.specs.CanonicalPaths.{canonical_paths};
+ghost use Rattle.dump_trees.specs.Paths.{NodePath, names_of};
+ghost use Rattle.dump_trees.specs.Returns.{is_covered, rests_covered};
+ghost use Rattle.dump_trees.specs.Siblings.{has_node_names};
+ghost use Rattle.dump_index.specs.InOrder.{ends_in_slash};
+ghost use Rattle.dump_cut.specs.ExcludedPaths.{IsGrownIf, paths_of};
+ghost use Rattle.dump_cut.specs.steps.ExcludedTexts.{is_text_below, texts_below};
+
+use crate::canonical::canonical_prefix;
+use dump_index::rest_behind;
+use dump_rules::Memory;
+use std::alloc::Global;
+use std::collections::BTreeSet;
+use std::marker::Model;
+
+/// The byte that comes behind a slash: texts that begin with a path and a slash come before the path and this byte.
+const BEHIND_SLASH: u8 = b'0';
+
+/// Paths in canonical form, without a leading slash. Each of them is excluded, with all that is below it. None of them is
+/// at or below another one.
+#[derive(Drop)]
+pub struct Excluded {
+    paths: BTreeSet<Vec<u8>>,
+}
+
+impl Model for Excluded {
+    ghost use Rattle.std.specs.Prelude.{ℕ, List, map};
+    ghost use Rattle.dump_cut.specs.steps.ExcludedTexts.{AreExcluded};
+
+    ghost Value = { List (List ℕ) };
+
+    ghost view = { λ excluded. map (λ path. path.items) excluded.paths.keys };
+
+    ghost invariant = { λ excluded. AreExcluded (map (λ path. path.items) excluded.paths.keys) };
+}
+
+/// The path, and this byte behind it.
+fn with_byte(alloc: Global, path: &[u8], byte: u8) -> Result<Vec<u8>, Memory>
+    ensures { IfOk result (λ text. text.items ≡ path.now ++ byte ∷ []) }
+{
+    let mut text = Vec::from_slice(alloc, path)?;
+    text.push(byte)?;
+    Ok(text)
+}
+
+/// Whether the path is strictly below the top.
+fn is_below(top: &[u8], path: &[u8]) -> bool
+    ensures { result ≡ is_text_below top.now path.now }
+{
+    if top.is_empty() {
+        return !path.is_empty();
+    }
+    let end = top.len();
+    if path.len() <= end {
+        return false;
+    }
+    path[end] == b'/' && &path[..end] == top
+}
+
+impl Excluded {
+    /// No path.
+    pub fn new(alloc: Global) -> Excluded
+        ensures { result ≡ [] }
+    {
+        Excluded {
+            paths: BTreeSet::new(alloc),
+        }
+    }
+
+    /// Whether the path is one of them.
+    fn has(&self, path: &[u8]) -> bool
+        ensures { result ≡ list_any (λ other. bytes_eq path.now other) self.now }
+    {
+        self.paths.contains(path)
+    }
+
+    /// Whether the path is at or below one of them. It looks up the path and each part of it before a slash.
+    pub fn covers(&self, path: &[u8]) -> bool
+        ensures { result ≡ is_covered (paths_of self.now) (names_of path.now) }
+    {
+        if self.has(b"") || self.has(path) {
+            return true;
+        }
+        for (place, byte) in path.iter().enumerate() {
+            if *byte == b'/' && self.has(&path[..place]) {
+                return true;
+            }
+        }
+        false
+    }
+
+    /// The paths below the top, in the order of their bytes. The top isn't covered.
+    fn below(&self, alloc: Global, top: &[u8]) -> Result<Vec<&[u8]>, Memory>
+        requires { is_covered (paths_of self.now) (names_of top.now) ≡ false }
+        ensures rests { IfOk result (λ rests. map (λ rest. rest.now) rests.items ≡ texts_below top.now self.now) }
+        ensures named { OnOk result (IsTrue (list_all has_node_names (paths_of self.now))) }
+    {
+        let mut rests = Vec::new(alloc);
+        if top.is_empty() {
+            for path in &self.paths {
+                rests.push(path.as_slice())?;
+            }
+            return Ok(rests);
+        }
+        let start = with_byte(alloc, top, b'/')?;
+        let end = with_byte(alloc, top, BEHIND_SLASH)?;
+        for path in self.paths.range(start..end) {
+            rests.push(rest_behind(top, path))?;
+        }
+        Ok(rests)
+    }
+
+    /// The rests of paths at or below the top from which on they cover what is there: all of it, where they cover the top.
+    pub fn rests_covered(&self, alloc: Global, top: &[u8]) -> Result<Vec<&[u8]>, Memory>
+        ensures rests { IfOk result (λ rests. map (λ rest. names_of rest.now) rests.items
+            ≡ rests_covered (names_of top.now) (paths_of self.now)) }
+        ensures bare { IfOk result (λ rests. IsTrue (list_all (λ rest. not (ends_in_slash rest.now)) rests.items)) }
+    {
+        if !self.covers(top) {
+            return self.below(alloc, top);
+        }
+        let mut whole = Vec::new(alloc);
+        whole.push(b"".as_slice())?;
+        Ok(whole)
+    }
+
+    /// Adds a path, in place of those below it. A path that they cover adds nothing. Whether it is added.
+    pub fn add(&mut self, alloc: Global, path: &[u8]) -> Result<bool, Memory>
+        requires { IsTrue (has_node_names (names_of path.now)) }
+        ensures new { IfOk result (λ added. added ≡ not (is_covered (paths_of self.old) (names_of path.now))) }
+        ensures grown { IfOk result (IsGrownIf (paths_of self.old) (names_of path.now) (paths_of self.new)) }
+        ensures refused { OnErr result (self.new ≡ self.old) }
+    {
+        if self.covers(path) {
+            return Ok(false);
+        }
+        let has_some_below = !self.below(alloc, path)?.is_empty();
+        let copy = Vec::from_slice(alloc, path)?;
+        self.paths.insert(copy)?;
+        if has_some_below {
+            self.paths.retain(|other| !is_below(path, other));
+        }
+        Ok(true)
+    }
+
+    /// The paths that these prefixes name, read as `svnadmin load` reads paths, but for those at or below others.
+    pub fn of(alloc: Global, prefixes: &[&[u8]]) -> Result<Excluded, Memory>
+        ensures { IfOk result (λ excluded. (path : NodePath) → is_covered (paths_of excluded) path
+            ≡ is_covered (canonical_paths (map (λ prefix. prefix.now) prefixes.now)) path) }
+    {
+        let mut excluded = Excluded::new(alloc);
+        for prefix in prefixes {
+            let path = canonical_prefix(alloc, prefix)?;
+            excluded.add(alloc, &path)?;
+        }
+        Ok(excluded)
+    }
+}
