@@ -9,6 +9,17 @@
 //! ```
 //!
 //! `tests::is_read` runs this.
+//!
+//! An [`Excluded`] holds the paths that a cut excludes. [`all_followed`] finds what copies bring back of them, and
+//! [`first_not_taken`] the first change that the filter doesn't take as it is, if there is one:
+//!
+//! ```
+//! let excluded = Excluded::of(alloc, prefixes)?;
+//! let found = all_followed(alloc, &index, &excluded, Way::ToCopies)?;
+//! let not_taken = first_not_taken(alloc, &index, &excluded)?;
+//! ```
+//!
+//! `tests::brings` runs this.
 #![tactic(auto)]
 
 mod canonical;

@@ -1,5 +1,13 @@
-//! What no clause says: each refusal on an example, prefixes in canonical form, and failures of allocations.
-use crate::{Memory, Refusal, Refused, canonical_prefix, first_refused};
+//! What no clause says: each refusal on an example, prefixes in canonical form, copies of excluded paths, and failures of
+//! allocations.
+ghost use Rattle.std.specs.Prelude.{IfOk, IfSome, IsTrue};
+ghost use Rattle.std.specs.List.{list_all};
+ghost use Rattle.dump_cut.specs.steps.NamedPaths.{has_named_paths};
+
+use crate::{
+    Excluded, Memory, PlacedRest, Refusal, Refused, Way, all_followed, canonical_prefix,
+    first_not_taken, first_refused,
+};
 use dump_changes::{Reading, read_changes};
 use dump_index::{ChangeIndex, are_in_order};
 use std::alloc::Global;
@@ -9,8 +17,10 @@ const HEAD: &str = "SVN-fs-dump-format-version: 3\n\nRevision-number: 0\n\nRevis
 Node-path: d\nNode-kind: dir\nNode-action: add\n\n\n\
 Node-path: d/f\nNode-kind: file\nNode-action: add\n\n\nRevision-number: 2\n\n";
 
-/// What a dump of these nodes, behind a directory `d` with a file `f`, is refused for; None where it can't be read.
-fn refused(alloc: Global, dump: &[u8]) -> Result<Option<Option<Refused>>, Memory> {
+/// The index of the changes of a dump; None where it can't be read.
+fn index_of<'a>(alloc: Global, dump: &'a [u8]) -> Result<Option<ChangeIndex<'a>>, Memory>
+    ensures { IfOk result (λ read. IfSome read (λ index. IsTrue (list_all has_named_paths index))) }
+{
     let Reading::Changes(changes) = read_changes(alloc, dump)? else {
         return Ok(None);
     };
@@ -18,14 +28,28 @@ fn refused(alloc: Global, dump: &[u8]) -> Result<Option<Option<Refused>>, Memory
         return Ok(None);
     }
     let index = ChangeIndex::new(alloc, changes)?;
-    Ok(Some(first_refused(alloc, &index)?))
+    Ok(Some(index))
+}
+
+/// What a dump is refused for; None where it can't be read.
+fn refused(alloc: Global, dump: &[u8]) -> Result<Option<Option<Refused>>, Memory> {
+    match index_of(alloc, dump)? {
+        Some(index) => Ok(Some(first_refused(alloc, &index)?)),
+        None => Ok(None),
+    }
+}
+
+/// A dump with this node, in a revision after that of a directory `d` with a file `f`.
+fn dump_with(alloc: Global, node: &str) -> Result<Vec<u8>, Memory> {
+    let mut dump = Vec::from_slice(alloc, HEAD.as_bytes())?;
+    dump.extend_from_slice(node.as_bytes())?;
+    dump.extend_from_slice(b"\n\n")?;
+    Ok(dump)
 }
 
 /// Whether the node is the first to be refused, for this reason; or none is.
 fn is_refused(alloc: Global, node: &str, refusal: Option<Refusal>) -> Result<bool, Memory> {
-    let mut dump = Vec::from_slice(alloc, HEAD.as_bytes())?;
-    dump.extend_from_slice(node.as_bytes())?;
-    dump.extend_from_slice(b"\n\n")?;
+    let dump = dump_with(alloc, node)?;
     let found = refused(alloc, &dump)?;
     Ok(found == Some(refusal.map(|refusal| Refused { place: 2, refusal })))
 }
@@ -91,4 +115,70 @@ fn prefixes_are_made_canonical(rt: HostRuntime) -> Result<(), Fail> {
 fn a_prefix_or_no_memory(rt: HostRuntime) {
     let answer = is_read(rt.alloc(), "a/b", "a/b");
     assert!(rt; matches!(answer, Ok(true) | Err(Memory)));
+}
+
+const COPY: &str = "Node-path: e\nNode-action: add\nNode-copyfrom-rev: 1\nNode-copyfrom-path: d\n";
+
+/// Whether the copy of `d` to `e` alone was found, and this is its rest; or nothing was found.
+fn is_rest(found: &[PlacedRest<'_>], rest: Option<&[u8]>) -> bool {
+    match (found, rest) {
+        ([one], Some(rest)) => one.place == 2 && one.rest == rest,
+        ([], None) => true,
+        _ => false,
+    }
+}
+
+/// Whether the copy of `d` to `e` brings this rest back, where these prefixes are excluded, and this change is the first
+/// that isn't taken.
+fn brings(
+    alloc: Global,
+    prefixes: &[&[u8]],
+    rest: Option<&[u8]>,
+    first: Option<usize>,
+) -> Result<bool, Memory> {
+    let dump = dump_with(alloc, COPY)?;
+    let Some(index) = index_of(alloc, &dump)? else {
+        return Ok(false);
+    };
+    let excluded = Excluded::of(alloc, prefixes)?;
+    let found = all_followed(alloc, &index, &excluded, Way::ToCopies)?;
+    let not_taken = first_not_taken(alloc, &index, &excluded)?;
+    Ok(is_rest(&found, rest) && not_taken == first)
+}
+
+#[test]
+fn copies_bring_excluded_paths_back(rt: HostRuntime) -> Result<(), Fail> {
+    let alloc = rt.alloc();
+    assert!(rt; brings(alloc, &[b"/d/f".as_slice()], Some(b"f"), Some(2))?);
+    assert!(rt; brings(alloc, &[b"d".as_slice()], Some(b""), Some(2))?);
+    assert!(rt; brings(alloc, &[b"e/f".as_slice()], None, Some(2))?);
+    assert!(rt; brings(alloc, &[b"d/f".as_slice(), b"e/./f"], None, None)?);
+    assert!(rt; brings(alloc, &[b"d/g".as_slice()], None, None)?);
+    Ok(())
+}
+
+#[test]
+fn returns_or_no_memory(rt: HostRuntime) {
+    let answer = brings(rt.alloc(), &[b"d/f".as_slice(), b"e"], None, None);
+    assert!(rt; matches!(answer, Ok(true) | Err(Memory)));
+}
+
+#[test]
+fn paths_are_covered_from_above(rt: HostRuntime) -> Result<(), Fail> {
+    let alloc = rt.alloc();
+    let excluded = Excluded::of(alloc, &[b"d/f".as_slice(), b"//d/", b"ab/."])?;
+    assert!(rt; excluded.covers(b"d") && excluded.covers(b"d/f") && excluded.covers(b"ab/c"));
+    assert!(rt; !excluded.covers(b"abc") && !excluded.covers(b"a") && !excluded.covers(b""));
+    let root = Excluded::of(alloc, &[b"/".as_slice(), b"a"])?;
+    assert!(rt; root.covers(b"") && root.covers(b"b/c"));
+    Ok(())
+}
+
+#[test]
+fn no_path_covers_nothing(rt: HostRuntime) -> Result<(), Fail> {
+    let mut excluded = Excluded::new(rt.alloc());
+    assert!(rt; !excluded.covers(b"") && !excluded.covers(b"a"));
+    assert!(rt; excluded.add(rt.alloc(), b"a/b")? && excluded.add(rt.alloc(), b"a")?);
+    assert!(rt; !excluded.add(rt.alloc(), b"a/c")? && excluded.covers(b"a/c"));
+    Ok(())
 }
