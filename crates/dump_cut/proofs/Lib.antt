@@ -1,5 +1,6 @@
 pub mod CheckLemmas
 pub mod ExcludedLemmas
+pub mod FollowedLemmas
 pub mod GrowingLemmas
 pub mod LoadLaws
 pub mod NamedLemmas

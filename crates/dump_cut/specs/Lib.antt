@@ -1,4 +1,5 @@
 pub mod ExcludedPaths
+pub mod FollowedCopies
 pub mod Refusals
 pub mod Returned
 pub mod TakenCopies

@@ -1,4 +1,5 @@
 pub mod ExcludedTexts
+pub mod FollowedPaths
 pub mod KindViews
 pub mod NamedPaths
 pub mod NameTexts

@@ -117,6 +117,7 @@ impl Excluded {
     pub fn rests_covered(&self, alloc: Global, top: &[u8]) -> Result<Vec<&[u8]>, Memory>
         ensures rests { IfOk result (λ rests. map (λ rest. names_of rest.now) rests.items
             ≡ rests_covered (names_of top.now) (paths_of self.now)) }
+        ensures named { IfOk result (λ rests. IsTrue (list_all (λ rest. has_node_names (names_of rest.now)) rests.items)) }
         ensures bare { IfOk result (λ rests. IsTrue (list_all (λ rest. not (ends_in_slash rest.now)) rests.items)) }
     {
         if !self.covers(top) {

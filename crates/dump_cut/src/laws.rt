@@ -1,4 +1,5 @@
 //! Laws of what a cut finds, each the contract of a function that does nothing.
+ghost use Rattle.dump_cut.specs.FollowedCopies.{FollowedIsLeast};
 ghost use Rattle.dump_cut.specs.LoadChecks.{RefusedIsFirst, UnrefusedLoads};
 ghost use Rattle.dump_cut.specs.Refusals.{RefusedIsNotAllowed};
 ghost use Rattle.dump_cut.specs.TakenCopies.{SeparatedDumpIsItsExpansion, TakenDumpLoads, TakenRevisionsSeparate};
@@ -17,4 +18,10 @@ pub fn taken_dumps_are_cut()
     ensures separated { TakenRevisionsSeparate }
     ensures expansion { SeparatedDumpIsItsExpansion }
     ensures loads { TakenDumpLoads }
+{}
+
+/// Paths from which all copies of a dump are followed cover the least set of paths that has what is given, what is below
+/// it, and what copies are followed to.
+pub fn followed_paths_are_least()
+    ensures { FollowedIsLeast }
 {}

@@ -19,12 +19,20 @@
 //! let not_taken = first_not_taken(alloc, &index, &excluded)?;
 //! ```
 //!
-//! `tests::brings` runs this.
+//! `tests::brings` runs this. [`follow`] excludes these paths too, and what copies bring of them, until nothing more comes
+//! back:
+//!
+//! ```
+//! let additions = follow(alloc, &index, &mut excluded, way)?;
+//! ```
+//!
+//! `tests::follows` runs this.
 #![tactic(auto)]
 
 mod canonical;
 mod copies;
 mod excluded;
+mod followed;
 mod kinds;
 pub mod laws;
 mod load_check;
@@ -36,6 +44,7 @@ mod taken;
 pub use canonical::canonical_prefix;
 pub use dump_rules::Memory;
 pub use excluded::Excluded;
+pub use followed::{Addition, follow};
 pub use kinds::Kinds;
 pub use load_check::{Refused, first_refused};
 pub use refusal::{Refusal, refusal_of};

@@ -51,7 +51,7 @@ impl Way {
     }
 
     /// The path to which it is followed.
-    fn to<'p>(self, path: &'p [u8], source: &'p [u8]) -> &'p [u8]
+    pub(crate) fn to<'p>(self, path: &'p [u8], source: &'p [u8]) -> &'p [u8]
         ensures { names_of result.now ≡ to_of (way_meant self) (names_of path.now) (names_of source.now) }
     {
         match self {
@@ -98,7 +98,8 @@ pub fn followed_rests<'e>(
     source: Source<'_>,
 ) -> Result<Vec<&'e [u8]>, Memory>
     requires { IsTrue (has_node_names (names_of source.path.now)) }
-    ensures { IfOk result (λ rests. (placed : List Placed) → AllZip IsListed index.now placed
+    ensures named { IfOk result (λ rests. IsTrue (list_all (λ rest. has_node_names (names_of rest.now)) rests.items)) }
+    ensures followed { IfOk result (λ rests. (placed : List Placed) → AllZip IsListed index.now placed
         → map (λ rest. names_of rest.now) rests.items
         ≡ followed_told (way_meant way) (paths_of excluded.now) (kinds_told_by index.now) placed source.entry.revision
         (names_of path.now) (names_of source.entry.path.now)) }

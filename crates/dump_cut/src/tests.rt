@@ -5,8 +5,8 @@ ghost use Rattle.std.specs.List.{list_all};
 ghost use Rattle.dump_cut.specs.steps.NamedPaths.{has_named_paths};
 
 use crate::{
-    Excluded, Memory, PlacedRest, Refusal, Refused, Way, all_followed, canonical_prefix,
-    first_not_taken, first_refused,
+    Addition, Excluded, Memory, PlacedRest, Refusal, Refused, Way, all_followed, canonical_prefix,
+    first_not_taken, first_refused, follow,
 };
 use dump_changes::{Reading, read_changes};
 use dump_index::{ChangeIndex, are_in_order};
@@ -181,4 +181,38 @@ fn no_path_covers_nothing(rt: HostRuntime) -> Result<(), Fail> {
     assert!(rt; excluded.add(rt.alloc(), b"a/b")? && excluded.add(rt.alloc(), b"a")?);
     assert!(rt; !excluded.add(rt.alloc(), b"a/c")? && excluded.covers(b"a/c"));
     Ok(())
+}
+
+/// Whether this path alone was added.
+fn is_added(additions: &[Addition], path: &[u8]) -> bool {
+    match additions {
+        [one] => one.place == 2 && one.path.as_slice() == path,
+        _ => false,
+    }
+}
+
+/// Whether the copy of `d` to `e` is followed from this prefix to the path, and then each change is taken.
+fn follows(alloc: Global, prefix: &[u8], way: Way, path: &[u8]) -> Result<bool, Memory> {
+    let dump = dump_with(alloc, COPY)?;
+    let Some(index) = index_of(alloc, &dump)? else {
+        return Ok(false);
+    };
+    let mut excluded = Excluded::of(alloc, &[prefix])?;
+    let additions = follow(alloc, &index, &mut excluded, way)?;
+    let not_taken = first_not_taken(alloc, &index, &excluded)?;
+    Ok(is_added(&additions, path) && excluded.covers(path) && not_taken.is_none())
+}
+
+#[test]
+fn copies_are_followed(rt: HostRuntime) -> Result<(), Fail> {
+    let alloc = rt.alloc();
+    assert!(rt; follows(alloc, b"d/f", Way::ToCopies, b"e/f")?);
+    assert!(rt; follows(alloc, b"e/f", Way::ToSources, b"d/f")?);
+    Ok(())
+}
+
+#[test]
+fn paths_or_no_memory(rt: HostRuntime) {
+    let answer = follows(rt.alloc(), b"d", Way::ToCopies, b"e");
+    assert!(rt; matches!(answer, Ok(true) | Err(Memory)));
 }

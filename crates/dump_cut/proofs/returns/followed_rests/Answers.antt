@@ -1,4 +1,4 @@
-use Rattle.std.proofs.Common.{◌≡◌, ◌++◌, ◌&&◌, arith, filter, is_some, map, not, sym, ap, ap₂, ◌∙◌}
+use Rattle.std.proofs.Common.{◌≡◌, ◌++◌, ◌&&◌, arith, take, filter, is_some, map, not, sym, ap, ap₂, ◌∙◌}
 use Rattle.std.proofs.lemmas.List.{take_all}
 use Rattle.dump_trees.specs.Following.{from_of}
 use Rattle.dump_trees.specs.Paths.{names_of}
@@ -9,6 +9,8 @@ use Rattle.dump_cut.specs.ExcludedPaths.{paths_of}
 use Rattle.dump_cut.specs.Returned.{way_meant}
 use Rattle.std.specs.List.{list_all}
 use Rattle.dump_index.specs.InOrder.{ends_in_slash}
+use Rattle.dump_trees.specs.Siblings.{has_node_names}
+use Rattle.dump_cut.proofs.FollowedLemmas.{filtered_named, named_shown}
 use Rattle.dump_cut.proofs.ParentLemmas.{ends_named}
 use Rattle.dump_cut.proofs.ReturnedLemmas.{bare_at}
 use Rattle.dump_cut.proofs.returns.followed_rests.Goals as goal
@@ -22,8 +24,8 @@ is_new_there-requires-clause-rest c =
     (ap (list_all (λ rest. not (ends_in_slash rest.now))) c.deref-rest-items.ensures.value ∙ c.in_ok-covered.ensures.bare)
     c.loop-rest-test.true
 
-pub returns : goal.returns
-returns c = λ placed all.
+pub returns-clause-followed : goal.returns-clause-followed
+returns-clause-followed c = λ placed all.
     let tops = paths_of c.args.excluded.now in
     let source = names_of c.args.source.path.now in
     let test = λ (count : Rattle.std.proofs.Common.ℕ) (to rest : Rattle.dump_trees.specs.Paths.NodePath).
@@ -35,3 +37,12 @@ returns c = λ placed all.
     (c.in_ok-covered.ensures.rests ∙ ap (λ from. rests_covered from tops) c.from.ensures)
     ∙ ap₂ (λ count to. filter (test count to) (rests_covered (from_of (way_meant c.args.way) (names_of c.args.path.now) source) tops))
     (c.end_of-count.ensures ∙ sym (end_same c.args.index.now placed all c.args.source.revision)) c.to-to.ensures))
+
+pub returns-clause-named : goal.returns-clause-named
+returns-clause-named c =
+    named_shown (λ rest. names_of rest.now) c.loop-rest.rests.items
+    ∙ filtered_named _ (map (λ rest. names_of rest.now) c.loop-rest.rests.items)
+    (map (λ rest. names_of rest.now) (take c.loop-rest.rest-index c.deref-rest-items.result.now)) c.loop-rest.invariant
+    (ap (λ rests. list_all has_node_names (map (λ rest. names_of rest.now) rests))
+    (take_all c.loop-rest.rest-index c.deref-rest-items.result.now c.loop-rest-test.false ∙ c.deref-rest-items.ensures.value)
+    ∙ (sym (named_shown (λ rest. names_of rest.now) c.in_ok-covered.covered.items) ∙ c.in_ok-covered.ensures.named))

@@ -1,0 +1,275 @@
+-- Copies that are followed one by one.
+use Rattle.std.proofs.Common.{◌≡◌, ℕ, zero, suc, ◌<◌, Bool, true, false, not, ◌&&◌, ◌||◌, List, [], ◌∷◌, ◌++◌, length, map, filter, Option, Some, None, Contains, inl, inr, refl, sym, ap, ap₂, ◌∙◌, subst, arith}
+use Rattle.std.specs.Prelude.{slice_get, if◌then◌else◌}
+use Rattle.std.specs.List.{AllZip, list_all}
+use Rattle.std.proofs.lemmas.Bool.{and_parts, and_from, not-true}
+use Rattle.std.proofs.lemmas.Option.{slice_get_within}
+use Rattle.std.proofs.lemmas.List.Elements.{Contains-append_left, Contains-append_right}
+use Rattle.dump_trees.specs.Changes.{Made, Change}
+use Rattle.dump_trees.specs.Following.{Way, to_of, followed_told, IsFollowed, IsGrown, AreFollowed, PlacedCopy}
+use Rattle.dump_trees.specs.FollowedRests.{PlacedRest, all_rests, rests_at}
+use Rattle.dump_trees.specs.LoadCheck.{ToldKinds}
+use Rattle.dump_trees.specs.Looking.{Placed, placed_from}
+use Rattle.dump_trees.specs.Paths.{NodePath, names_of, below}
+use Rattle.dump_trees.specs.Returns.{is_covered, named_rest, rests_below, rests_covered}
+use Rattle.dump_trees.specs.Siblings.{has_node_names}
+use Rattle.dump_trees.specs.Trees.{Tree}
+use Rattle.dump_trees.proofs.changes.TreeLemmas.{below_rest}
+use Rattle.dump_trees.proofs.paths.SiblingLemmas.{both_names, rest_names}
+use Rattle.dump_trees.proofs.expansions.FoundSiblings.{contains_map}
+use Rattle.dump_trees.proofs.cuts.CoveredPaths.{contains_cases, contains_first, contains_later, contains_none}
+use Rattle.dump_trees.proofs.cuts.FollowLemmas.{listed_are_followed}
+use Rattle.dump_trees.proofs.cuts.PlacedCopies.{copies_are_placed}
+use Rattle.dump_trees.proofs.cuts.RestLemmas.{all_rests_are_listed}
+use Rattle.dump_index.specs.IndexLaws.{IsListed}
+use Rattle.dump_index.specs.Listed.{Listed}
+use Rattle.dump_index.specs.ToldKinds.{kinds_told_by}
+use Rattle.dump_index.proofs.LawLemmas.{Both, both_at}
+use Rattle.dump_cut.specs.ExcludedPaths.{IsGrownIf}
+use Rattle.dump_cut.specs.FollowedCopies.{ComeByFollowing, IsIndexOf}
+use Rattle.dump_cut.specs.steps.FollowedPaths.{AddsPath, AreFollowedTo, IsFollowedTo, KeepsFollowing}
+use Rattle.dump_cut.proofs.GrowingLemmas.{added_covers}
+
+-- the rest of the copy at a place is among all rests
+
+last_or_before : (place count : ℕ) → place < suc count → (place ≡ count → ⊥) → place < count
+last_or_before place count low other = omega (arith, low, other)
+
+at_listed : (way : Way) (tops : List NodePath) (told : ToldKinds) (placed : List Placed) (count place : ℕ) (rest : NodePath)
+    → place < count → Contains (rests_at way tops told placed (slice_get placed place)) rest
+    → Contains (all_rests way tops told placed count) (record { place = place; rest = rest })
+at_listed way tops told placed zero place rest low there = absurd (omega (arith, low))
+at_listed way tops told placed (suc count) place rest low there =
+    cases (at_listed way tops told placed count place rest) (Rattle.std.proofs.Common.nat_eq place count) refl
+  where
+    here : List PlacedRest
+    here = map (λ r. record { place = count; rest = r }) (rests_at way tops told placed (slice_get placed count))
+
+    cases : (place < count → Contains (rests_at way tops told placed (slice_get placed place)) rest
+        → Contains (all_rests way tops told placed count) (record { place = place; rest = rest }))
+        → (b : Bool) → Rattle.std.proofs.Common.nat_eq place count ≡ b
+        → Contains (all_rests way tops told placed count
+        ++ map (λ r. record { place = count; rest = r }) (rests_at way tops told placed (slice_get placed count)))
+        (record { place = place; rest = rest })
+    cases further true is =
+        let same : place ≡ count = Rattle.std.proofs.Common.eqb-true place count is in
+        Contains-append_right (all_rests way tops told placed count)
+        (map (λ r. record { place = count; rest = r }) (rests_at way tops told placed (slice_get placed count)))
+        (record { place = place; rest = rest })
+        (subst (λ n. Contains {X = PlacedRest}
+        (map (λ r. record { place = n; rest = r }) (rests_at way tops told placed (slice_get placed n)))
+        (record { place = place; rest = rest })) same
+        (contains_map (λ r. record { place = place; rest = r }) (rests_at way tops told placed (slice_get placed place))
+        rest there))
+    cases further false isnt =
+        let less : place < count = last_or_before place count low (λ same.
+        let bad : true ≡ false = sym (Rattle.std.proofs.lemmas.Bool.eq-eqb place count same) ∙ isnt in cc) in
+        Contains-append_left (all_rests way tops told placed count)
+        (map (λ r. record { place = count; rest = r }) (rests_at way tops told placed (slice_get placed count)))
+        (record { place = place; rest = rest }) (further less there)
+
+-- a copy that an index tells of is followed to what is told
+
+pub followed_at : (way : Way) (tops : List NodePath) (listed : List Listed) (place : ℕ) (l : Listed) (number : ℕ)
+    (source : NodePath) (revisions : List (List Change)) (trees : List Tree) (rest : NodePath)
+    → slice_get listed place ≡ Some l → l.made ≡ Some (Made.Copied number source) → IsIndexOf listed revisions trees
+    → Contains (followed_told way tops (kinds_told_by listed) (placed_from 1 revisions) number (names_of l.path) source) rest
+    → IsFollowedTo way trees revisions tops (to_of way (names_of l.path) source ++ rest)
+followed_at way tops listed place l number source revisions trees rest there made index among =
+    cases (both_at listed placed index.lists place)
+  where
+    placed : List Placed
+    placed = placed_from 1 revisions
+
+    told : ToldKinds
+    told = kinds_told_by listed
+
+    found : (p : Placed) → slice_get (placed_from 1 revisions) place ≡ Some p → IsListed l p
+        → IsFollowedTo way trees revisions tops (to_of way (names_of l.path) source ++ rest)
+    found p at its =
+        let listed_rest : Contains (rests_at way tops (kinds_told_by listed) (placed_from 1 revisions)
+        (slice_get (placed_from 1 revisions) place)) rest =
+        subst (λ rests. Contains rests rest)
+        (sym (ap (rests_at way tops (kinds_told_by listed) (placed_from 1 revisions)) at
+        ∙ ap₂ (λ path m. Rattle.dump_trees.specs.FollowedRests.rests_made way tops (kinds_told_by listed) (placed_from 1 revisions) path m)
+        its.path (its.made ∙ made))) among in
+        let (path, from, old, copy, its_rest) =
+        (all_rests_are_listed way tops (kinds_told_by listed) revisions trees (placed_from 1 revisions) refl index.tells
+        index.loads).0 (record { place = place; rest = rest })
+        (at_listed way tops (kinds_told_by listed) (placed_from 1 revisions) (length (placed_from 1 revisions)) place rest
+        (slice_get_within (placed_from 1 revisions) place p at) listed_rest) in
+        let one : Some p ≡ Some copy.at = sym at ∙ copy.there in
+        let same : p ≡ copy.at = cc in
+        let to : names_of l.path ≡ path = sym its.path ∙ (ap (λ (q : Placed). q.change.path) same ∙ copy.to) in
+        let both : Some (Made.Copied number source) ≡ Some (Made.Copied copy.number from) =
+        sym (its.made ∙ made) ∙ (ap (λ (q : Placed). q.change.made) same ∙ copy.copies) in
+        let start : source ≡ from = cc in
+        record {
+          path = path;
+          source = from;
+          rest = rest;
+          old = old;
+          copy = (copies_are_placed trees revisions path from old).1 place copy;
+          there = its_rest;
+          at = ap₂ (λ t s. to_of way t s ++ rest) to start;
+        }
+
+    cases : Both listed (placed_from 1 revisions) place
+        → IsFollowedTo way trees revisions tops (to_of way (names_of l.path) source ++ rest)
+    cases (Both.Neither none other) = absurd (let bad : None ≡ Some l = sym none ∙ there in cc)
+    cases (Both.One k p one at its) =
+        let both : Some k ≡ Some l = sym one ∙ there in
+        let same : k ≡ l = cc in
+        found p at (subst (λ (m : Listed). IsListed m p) same its)
+
+-- one addition more
+
+followed_more : (way : Way) (trees : List Tree) (revisions : List (List Change)) (additions : List NodePath)
+    (tops mid : List NodePath) (added : NodePath) (more : List NodePath)
+    → AreFollowed way trees revisions tops additions mid → IsFollowed way trees revisions mid added → IsGrown mid added more
+    → AreFollowed way trees revisions tops (additions ++ added ∷ []) more
+followed_more way trees revisions [] tops mid added more same one grown = (
+  subst (λ paths. IsFollowed way trees revisions paths added) same one,
+  more,
+  subst (λ paths. IsGrown paths added more) same grown,
+  refl,
+)
+followed_more way trees revisions (first ∷ additions) tops mid added more (its, next, grows, rest) one grown =
+    (its, next, grows, followed_more way trees revisions additions next mid added more rest one grown)
+
+kept_more : (way : Way) (listed : List Listed) (old mid new additions before : List NodePath) (paths : List NodePath)
+    (added : NodePath) → AreFollowedTo way listed old paths → Contains paths added
+    → ((path : NodePath) → is_covered old path ≡ true → is_covered mid path ≡ true)
+    → is_covered mid added ≡ false → IsGrown mid added new
+    → KeepsFollowing way listed old before mid additions → KeepsFollowing way listed old before new (additions ++ added ∷ [])
+kept_more way listed old mid new additions before paths added are there grow outside grown keeps first comes revisions trees index =
+    let to = are revisions trees added index there in
+    followed_more way trees revisions additions first mid added new (keeps first comes revisions trees index)
+    (subst (λ path. IsFollowed way trees revisions mid path) (sym to.at)
+    (listed_are_followed way trees revisions old mid to.path to.source to.rest to.old to.copy to.there grow
+    (ap (is_covered mid) (sym to.at) ∙ outside)))
+    grown
+
+pub kept_step : (way : Way) (listed : List Listed) (old mid before adds new after paths : List NodePath) (added : NodePath)
+    → AreFollowedTo way listed old paths → Contains paths added
+    → ((path : NodePath) → is_covered old path ≡ true → is_covered mid path ≡ true)
+    → AddsPath mid adds added new after → KeepsFollowing way listed old before mid adds
+    → KeepsFollowing way listed old before new after
+kept_step way listed old mid before adds new after paths added are there grow step keeps =
+    cases step.is_new step.outside step.grown step.more
+  where
+    cases : (b : Bool) → b ≡ not (is_covered mid added) → IsGrownIf mid added new b
+        → after ≡ (if b then adds ++ added ∷ [] else adds) → KeepsFollowing way listed old before new after
+    cases true outside grown more first comes =
+        subst (λ additions. ComeByFollowing way listed first additions new) (sym more)
+        (kept_more way listed old mid new adds before paths added are there grow (not-true _ (sym outside)) grown keeps first
+        comes)
+    cases false outside same more first comes =
+        subst (λ additions. ComeByFollowing way listed first additions new) (sym more)
+        (subst (λ tops. ComeByFollowing way listed first adds tops) (sym same) (keeps first comes))
+
+pub grows_step : (mid adds : List NodePath) (added : NodePath) (new after : List NodePath) → AddsPath mid adds added new after
+    → (path : NodePath) → is_covered mid path ≡ true → is_covered new path ≡ true
+grows_step mid adds added new after step path was =
+    added_covers mid new added step.is_new step.outside step.grown path
+    ∙ Rattle.std.proofs.lemmas.Bool.or_left (is_covered mid path) _ was
+
+pub contains_at : {A : Type 0} (f : A → NodePath) (xs : List A) (n : ℕ) (d : A) → n < length xs
+    → Contains (map f xs) (f (Rattle.std.proofs.Common.get_or xs n d))
+contains_at f [] n d low = absurd (omega (arith, low))
+contains_at f (x ∷ xs) zero d low = contains_first (f x) (map f xs)
+contains_at f (x ∷ xs) (suc n) d low = contains_later (f x) (map f xs) _ (contains_at f xs n d (omega (arith, low)))
+
+pub to_named : (way : Way) (path source : NodePath) → has_node_names path ≡ true → has_node_names source ≡ true
+    → has_node_names (to_of way path source) ≡ true
+to_named Way.ToCopies path source one other = one
+to_named Way.ToSources path source one other = other
+
+-- the rests of paths with names have names
+
+pub named_below : (top : NodePath) (tops : List NodePath) → list_all has_node_names tops ≡ true
+    → list_all has_node_names (rests_below top tops) ≡ true
+named_below top [] named = refl
+named_below top (path ∷ tops) named =
+    let parts = and_parts (has_node_names path) (list_all has_node_names tops) named in
+    cases (below top path) refl parts.0 (named_below top tops parts.1)
+  where
+    cases : (o : Option NodePath) → below top path ≡ o → has_node_names path ≡ true
+        → list_all has_node_names (rests_below top tops) ≡ true
+        → list_all has_node_names (named_rest o ++ rests_below top tops) ≡ true
+    cases None at its further = further
+    cases (Some []) at its further = further
+    cases (Some (name ∷ rest)) at its further =
+        and_from (has_node_names (name ∷ rest)) (list_all has_node_names (rests_below top tops))
+        (rest_names top (name ∷ rest) (ap has_node_names (sym (below_rest top path (name ∷ rest) at)) ∙ its)) further
+
+pub named_covered : (top : NodePath) (tops : List NodePath) → list_all has_node_names tops ≡ true
+    → list_all has_node_names (rests_covered top tops) ≡ true
+named_covered top tops named = cases (is_covered tops top)
+  where
+    cases : (b : Bool) → list_all has_node_names (Rattle.std.proofs.Common.cond b ([] ∷ []) (rests_below top tops)) ≡ true
+    cases true = refl
+    cases false = named_below top tops named
+
+-- the names of rests and of paths that are listed
+
+pub named_shown : {A : Type 0} (names : A → NodePath) (xs : List A)
+    → list_all (λ x. has_node_names (names x)) xs ≡ list_all has_node_names (map names xs)
+named_shown names [] = refl
+named_shown names (x ∷ xs) = ap (λ b. has_node_names (names x) && b) (named_shown names xs)
+
+filter_named : (test : NodePath → Bool) (paths : List NodePath) → list_all has_node_names paths ≡ true
+    → list_all has_node_names (filter test paths) ≡ true
+filter_named test [] named = refl
+filter_named test (path ∷ paths) named =
+    let parts = and_parts (has_node_names path) (list_all has_node_names paths) named in
+    cases (test path) parts.0 (filter_named test paths parts.1)
+  where
+    cases : (b : Bool) → has_node_names path ≡ true → list_all has_node_names (filter test paths) ≡ true
+        → list_all has_node_names (Rattle.std.proofs.Common.cond b (path ∷ filter test paths) (filter test paths)) ≡ true
+    cases true its further = and_from (has_node_names path) (list_all has_node_names (filter test paths)) its further
+    cases false its further = further
+
+pub filtered_named : (test : NodePath → Bool) (xs paths : List NodePath) → xs ≡ filter test paths
+    → list_all has_node_names paths ≡ true → list_all has_node_names xs ≡ true
+filtered_named test xs paths are named = ap (list_all has_node_names) are ∙ filter_named test paths named
+
+pub behind_named : (to : NodePath) (rests : List NodePath) → has_node_names to ≡ true → list_all has_node_names rests ≡ true
+    → list_all has_node_names (map (λ rest. to ++ rest) rests) ≡ true
+behind_named to [] its named = refl
+behind_named to (rest ∷ rests) its named =
+    let parts = and_parts (has_node_names rest) (list_all has_node_names rests) named in
+    and_from (has_node_names (to ++ rest)) (list_all has_node_names (map (λ r. to ++ r) rests))
+    (both_names to rest its parts.0) (behind_named to rests its parts.1)
+
+pub map_contains : (to : NodePath) (rests : List NodePath) (path : NodePath) → Contains (map (λ rest. to ++ rest) rests) path
+    → (rest : NodePath) × Contains rests rest × (path ≡ to ++ rest)
+map_contains to [] path there = absurd (contains_none path there)
+map_contains to (rest ∷ rests) path there =
+    elim (contains_cases (to ++ rest) (map (λ r. to ++ r) rests) path there) [
+      | inl same ↦ (rest, contains_first rest rests, sym same)
+      | inr later ↦
+          let (found, among, same) = map_contains to rests path later in (found, contains_later rest rests found among, same)
+    ]
+
+-- the paths to which the copies of a change are followed, from the rests that are told
+pub paths_followed : (way : Way) (tops : List NodePath) (listed : List Listed) (l : Listed) (number : ℕ) (source : NodePath)
+    (paths : List NodePath) (to : NodePath) (rests : List NodePath) → l.made ≡ Some (Made.Copied number source)
+    → to ≡ to_of way (names_of l.path) source → paths ≡ map (λ rest. to ++ rest) rests
+    → ((placed : List Placed) → AllZip IsListed listed placed
+    → rests ≡ followed_told way tops (kinds_told_by listed) placed number (names_of l.path) source)
+    → (place : ℕ) → slice_get listed place ≡ Some l → AreFollowedTo way listed tops paths
+paths_followed way tops listed l number source paths to rests made goes are told place there revisions trees path index among =
+    let (rest, its, same) = map_contains to rests path (subst (λ ps. Contains ps path) are among) in
+    subst (λ p. IsFollowedTo way trees revisions tops p) (sym (same ∙ ap (λ t. t ++ rest) goes))
+    (followed_at way tops listed place l number source revisions trees rest there made index
+    (subst (λ rs. Contains rs rest) (told (placed_from 1 revisions) index.lists) its))
+
+pub nothing_followed : (way : Way) (listed : List Listed) (tops : List NodePath) → AreFollowedTo way listed tops []
+nothing_followed way listed tops revisions trees path index among = absurd (contains_none path among)
+
+-- what is kept by one step, and then by another
+pub keeps_both : (way : Way) (listed : List Listed) (old before mid adds new after : List NodePath)
+    → KeepsFollowing way listed old before mid adds → KeepsFollowing way listed mid adds new after
+    → KeepsFollowing way listed old before new after
+keeps_both way listed old before mid adds new after one other first comes = other first (one first comes)

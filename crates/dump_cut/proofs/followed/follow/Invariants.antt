@@ -1,0 +1,8 @@
+use Rattle.dump_cut.specs.ExcludedPaths.{paths_of}
+use Rattle.dump_cut.specs.FollowedCopies.{ComeByFollowing, added_paths}
+use Rattle.dump_cut.specs.Returned.{way_meant}
+use Rattle.dump_cut.proofs.followed.follow.Given as goal
+
+abbrev pub invariant-loop : goal.invariant-loop
+invariant-loop l = ComeByFollowing (way_meant l.way) l.index (paths_of l.fn.excluded) (added_paths l.additions.items)
+    (paths_of l.excluded)

@@ -1,0 +1,9 @@
+use Rattle.dump_cut.specs.ExcludedPaths.{paths_of}
+use Rattle.dump_cut.specs.FollowedCopies.{added_paths}
+use Rattle.dump_cut.specs.Returned.{way_meant}
+use Rattle.dump_cut.specs.steps.FollowedPaths.{KeepsFollowing}
+use Rattle.dump_cut.proofs.followed.follow_each.Given as goal
+
+abbrev pub invariant-loop-place : goal.invariant-loop-place
+invariant-loop-place l = KeepsFollowing (way_meant l.way) l.index (paths_of l.fn.excluded) (added_paths l.fn.additions.items)
+    (paths_of l.excluded) (added_paths l.additions.items)

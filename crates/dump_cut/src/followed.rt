@@ -1,0 +1,143 @@
+//! What is excluded too, since copies are followed from what is excluded.
+ghost use Rattle.std.specs.Prelude.{◌≡◌, [], ℕ, List, IfOk, IsTrue, OnOk, Some, length, map, slice_get};
+ghost use Rattle.std.specs.List.{AllZip, list_all};
+ghost use Rattle.dump_trees.specs.FollowedRests.{all_rests};
+ghost use Rattle.dump_trees.specs.Following as Following;
+ghost use Rattle.dump_trees.specs.Looking.{Placed};
+ghost use Rattle.dump_trees.specs.Paths.{names_of};
+ghost use Rattle.dump_trees.specs.Siblings.{has_node_names};
+ghost use Rattle.dump_index.specs.IndexLaws.{IsListed};
+ghost use Rattle.dump_index.specs.Listed.{Listed, listed_of};
+ghost use Rattle.dump_index.specs.ToldKinds.{kinds_told_by};
+ghost use Rattle.dump_cut.specs.ExcludedPaths.{paths_of};
+ghost use Rattle.dump_cut.specs.FollowedCopies.{ComeByFollowing, added_paths};
+ghost use Rattle.dump_cut.specs.Returned.{way_meant};
+ghost use Rattle.dump_cut.specs.steps.FollowedPaths.{AddsPath, AreFollowedTo, KeepsFollowing};
+ghost use Rattle.dump_cut.specs.steps.NamedPaths.{has_named_paths};
+
+use crate::copies::source_of;
+use crate::excluded::Excluded;
+use crate::returns::{Way, all_followed, followed_rests};
+use dump_index::{ChangeIndex, NodeChange, joined};
+use dump_rules::Memory;
+use std::alloc::Global;
+
+/// A path that is excluded too.
+#[derive(Drop)]
+pub struct Addition {
+    /// Which change of the dump is the copy that is followed to it, from 0 on.
+    pub place: usize,
+    /// Without a leading slash.
+    pub path: Vec<u8>,
+}
+
+/// The paths to which the copy that the change makes is followed, if it makes one.
+fn followed_paths(
+    alloc: Global,
+    index: &ChangeIndex<'_>,
+    excluded: &Excluded,
+    way: Way,
+    change: &NodeChange<'_>,
+) -> Result<Vec<Vec<u8>>, Memory>
+    requires { IsTrue (has_named_paths (listed_of change.now)) }
+    ensures named { IfOk result (λ paths. IsTrue (list_all (λ path. has_node_names (names_of path.items)) paths.items)) }
+    ensures followed { IfOk result (λ paths. (place : ℕ) → slice_get index.now place ≡ Some (listed_of change.now)
+        → AreFollowedTo (way_meant way) index.now (paths_of excluded.now) (map (λ path. names_of path.items) paths.items)) }
+{
+    let Some(source) = source_of(change) else {
+        return Ok(Vec::new(alloc));
+    };
+    let to = way.to(change.path, source.path);
+    let rests = followed_rests(alloc, index, excluded, way, change.path, source)?;
+    let mut paths = Vec::new(alloc);
+    for rest in &rests {
+        let path = joined(alloc, to, rest)?;
+        paths.push(path)?;
+    }
+    Ok(paths)
+}
+
+/// Excludes the path, and adds it to the additions, if it isn't excluded yet.
+fn add_path(
+    alloc: Global,
+    excluded: &mut Excluded,
+    place: usize,
+    path: &[u8],
+    additions: &mut Vec<Addition>,
+) -> Result<(), Memory>
+    requires { IsTrue (has_node_names (names_of path.now)) }
+    ensures { OnOk result (AddsPath (paths_of excluded.old) (added_paths additions.old.items) (names_of path.now)
+        (paths_of excluded.new) (added_paths additions.new.items)) }
+{
+    if !excluded.add(alloc, path)? {
+        return Ok(());
+    }
+    let copy = Vec::from_slice(alloc, path)?;
+    additions.push(Addition { place, path: copy })?;
+    Ok(())
+}
+
+/// Excludes the paths that aren't excluded yet, and adds them to the additions.
+fn add_paths(
+    alloc: Global,
+    excluded: &mut Excluded,
+    place: usize,
+    paths: &[Vec<u8>],
+    additions: &mut Vec<Addition>,
+) -> Result<(), Memory>
+    requires { IsTrue (list_all (λ path. has_node_names (names_of path.items)) paths.now) }
+    ensures { OnOk result ((way : Following.Way) (listed : List Listed)
+        → AreFollowedTo way listed (paths_of excluded.old) (map (λ path. names_of path.items) paths.now)
+        → KeepsFollowing way listed (paths_of excluded.old) (added_paths additions.old.items) (paths_of excluded.new)
+        (added_paths additions.new.items)) }
+{
+    for path in paths {
+        add_path(alloc, excluded, place, path, additions)?;
+    }
+    Ok(())
+}
+
+/// Follows each copy of the dump once, in its order.
+fn follow_each(
+    alloc: Global,
+    index: &ChangeIndex<'_>,
+    excluded: &mut Excluded,
+    way: Way,
+    additions: &mut Vec<Addition>,
+) -> Result<(), Memory>
+    requires { IsTrue (list_all has_named_paths index.now) }
+    ensures { OnOk result (KeepsFollowing (way_meant way) index.now (paths_of excluded.old) (added_paths additions.old.items)
+        (paths_of excluded.new) (added_paths additions.new.items)) }
+{
+    let changes = index.changes();
+    for (place, change) in changes.iter().enumerate() {
+        let paths = followed_paths(alloc, index, excluded, way, change)?;
+        add_paths(alloc, excluded, place, &paths, additions)?;
+    }
+    Ok(())
+}
+
+/// Follows the copies of a dump that loads until no copy is followed to a path that isn't excluded yet, and gives the paths
+/// that are excluded too, in this order. On an error the paths may have grown.
+pub fn follow(
+    alloc: Global,
+    index: &ChangeIndex<'_>,
+    excluded: &mut Excluded,
+    way: Way,
+) -> Result<Vec<Addition>, Memory>
+    requires { IsTrue (list_all has_named_paths index.now) }
+    ensures followed { IfOk result (λ additions. ComeByFollowing (way_meant way) index.now (paths_of excluded.old)
+        (added_paths additions.items) (paths_of excluded.new)) }
+    ensures ended { OnOk result ((placed : List Placed) → AllZip IsListed index.now placed
+        → all_rests (way_meant way) (paths_of excluded.new) (kinds_told_by index.now) placed (length placed) ≡ []) }
+{
+    let mut additions = Vec::new(alloc);
+    // each pass but the last adds a path, and no memory holds so many
+    for _ in 0..u64::MAX {
+        if all_followed(alloc, index, excluded, way)?.is_empty() {
+            return Ok(additions);
+        }
+        follow_each(alloc, index, excluded, way, &mut additions)?;
+    }
+    Err(Memory)
+}
