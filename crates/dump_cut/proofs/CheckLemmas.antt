@@ -10,7 +10,7 @@ use Rattle.dump_index.specs.declared.change.NodeChange.{NodeChange}
 use Rattle.dump_index.proofs.KeyLemmas.{listed_at}
 use Rattle.dump_index.proofs.LawLemmas.{Both, both_at}
 use Rattle.dump_cut.specs.LoadChecks.{reason_there}
-use Rattle.dump_cut.specs.steps.NamedPaths.{has_named_paths}
+use Rattle.dump_cut.specs.NamedPaths.{has_named_paths}
 use Rattle.dump_cut.specs.Refusals.{refused_for}
 use Rattle.dump_cut.specs.steps.KindViews.{kinds_meant}
 use Rattle.dump_cut.specs.declared.kinds.Kinds.{Kinds}

@@ -13,7 +13,7 @@ use Rattle.dump_trees.specs.Siblings.{is_within}
 use Rattle.dump_index.specs.Effects.{goes_on, stands_over}
 use Rattle.dump_index.proofs.FrontLemmas.{cut_goes_on, goes_on_cut}
 use Rattle.dump_index.proofs.RestLemmas.{rest_same, rest_over, rest_none}
-use Rattle.dump_cut.specs.ExcludedPaths.{paths_of}
+use Rattle.dump_cut.specs.steps.ExcludedPaths.{paths_of}
 
 -- whether a text is the path, or above it
 abbrev pub is_text_above : List ℕ → List ℕ → Bool

@@ -25,7 +25,7 @@ use Rattle.dump_index.specs.IndexLaws.{IsListed}
 use Rattle.dump_index.specs.Listed.{Listed}
 use Rattle.dump_index.specs.ToldKinds.{kinds_told_by}
 use Rattle.dump_index.proofs.LawLemmas.{Both, both_at}
-use Rattle.dump_cut.specs.ExcludedPaths.{IsGrownIf}
+use Rattle.dump_cut.specs.steps.ExcludedPaths.{IsGrownIf}
 use Rattle.dump_cut.specs.FollowedCopies.{ComeByFollowing, IsIndexOf}
 use Rattle.dump_cut.specs.steps.FollowedPaths.{AddsPath, AreFollowedTo, IsFollowedTo, KeepsFollowing}
 use Rattle.dump_cut.proofs.GrowingLemmas.{added_covers}

@@ -19,7 +19,7 @@ use Rattle.dump_trees.proofs.cuts.CoveredPaths.{covered_more, within_rest}
 use Rattle.dump_trees.proofs.cuts.FollowLemmas.{grown_paths_cover}
 use Rattle.dump_index.specs.Effects.{stands_over}
 use Rattle.dump_index.specs.steps.Touching.{rest_text}
-use Rattle.dump_cut.specs.ExcludedPaths.{IsGrownIf, paths_of}
+use Rattle.dump_cut.specs.steps.ExcludedPaths.{IsGrownIf, paths_of}
 use Rattle.dump_cut.specs.steps.ExcludedTexts.{AreExcluded, is_text_below, texts_below}
 use Rattle.dump_cut.proofs.ExcludedLemmas.{is_text_above, covered_texts, within_texts}
 

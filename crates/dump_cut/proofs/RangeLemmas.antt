@@ -18,7 +18,7 @@ use Rattle.dump_index.proofs.FrontLemmas.{cut_goes_on, goes_on_cut}
 use Rattle.dump_index.proofs.RestLemmas.{split, split_some, rest_same, rest_over, rest_none}
 use Rattle.dump_index.proofs.SlashLemmas.{rest_some, ends_rest}
 use Rattle.dump_cut.proofs.ParentLemmas.{ends_named}
-use Rattle.dump_cut.specs.ExcludedPaths.{paths_of}
+use Rattle.dump_cut.specs.steps.ExcludedPaths.{paths_of}
 use Rattle.dump_cut.specs.steps.ExcludedTexts.{is_text_below, texts_below}
 
 -- whether a text is in the range that begins with the one text, and ends before the other

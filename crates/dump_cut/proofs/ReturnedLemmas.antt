@@ -12,7 +12,7 @@ use Rattle.dump_trees.specs.Looking.{Placed}
 use Rattle.dump_index.specs.InOrder.{ends_in_slash}
 use Rattle.dump_index.specs.ToldKinds.{kind_meant}
 use Rattle.dump_index.specs.declared.change.NodeKind.{NodeKind}
-use Rattle.dump_cut.specs.Returned.{placed_rests}
+use Rattle.dump_cut.specs.steps.Returned.{placed_rests}
 use Rattle.dump_cut.specs.TakenCopies.{is_made_taken, is_taken_at}
 
 -- two clauses of one result

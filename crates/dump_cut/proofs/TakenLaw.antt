@@ -12,7 +12,7 @@ use Rattle.dump_index.specs.IndexLaws.{IsListed}
 use Rattle.dump_index.specs.Listed.{Listed, listed_of}
 use Rattle.dump_index.specs.ToldKinds.{kinds_told_by}
 use Rattle.dump_index.proofs.ToldLemmas.{index_tells_kinds}
-use Rattle.dump_cut.specs.steps.NamedPaths.{has_named_paths, has_named_source}
+use Rattle.dump_cut.specs.NamedPaths.{has_named_paths, has_named_source}
 use Rattle.dump_cut.specs.TakenCopies.{TakenDumpLoads}
 use Rattle.dump_cut.proofs.OwnFormLemmas.{own_expansion}
 use Rattle.dump_cut.proofs.TakenLemmas.{taken_revisions_separate}

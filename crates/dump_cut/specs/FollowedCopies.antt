@@ -6,18 +6,13 @@ use Rattle.dump_trees.specs.FollowedRests.{all_rests}
 use Rattle.dump_trees.specs.Following.{Way, AreFollowed, Covers, IsClosed, IsInClosure}
 use Rattle.dump_trees.specs.LoadCheck.{TellsKinds}
 use Rattle.dump_trees.specs.Looking.{placed_from}
-use Rattle.dump_trees.specs.Paths.{NodePath, names_of}
+use Rattle.dump_trees.specs.Paths.{NodePath}
 use Rattle.dump_trees.specs.Revisions.{loaded_over}
 use Rattle.dump_trees.specs.Trees.{Tree, root_alone}
 use Rattle.dump_index.specs.IndexLaws.{AreListed, IsListed}
 use Rattle.dump_index.specs.Listed.{Listed, listed_of}
 use Rattle.dump_index.specs.ToldKinds.{kinds_told_by}
 use Rattle.dump_index.specs.declared.change.NodeChange.{NodeChange}
-use Rattle.dump_cut.specs.declared.followed.Addition.{Addition}
-
--- the paths that are added
-abbrev pub added_paths : List Addition → List NodePath
-added_paths additions = map (λ (addition : Addition). names_of addition.path.items) additions
 
 -- an index of these changes tells what exists in this history, which loads to these trees
 pub record IsIndexOf (listed : List Listed) (revisions : List (List Change)) (trees : List Tree) : Type 0 where

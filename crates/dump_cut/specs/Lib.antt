@@ -1,7 +1,6 @@
-pub mod ExcludedPaths
 pub mod FollowedCopies
-pub mod Refusals
-pub mod Returned
-pub mod TakenCopies
 pub mod LoadChecks
+pub mod NamedPaths
+pub mod Refusals
+pub mod TakenCopies
 pub mod steps

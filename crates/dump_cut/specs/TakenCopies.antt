@@ -24,7 +24,7 @@ use Rattle.dump_index.specs.IndexLaws.{AreListed}
 use Rattle.dump_index.specs.Listed.{listed_of}
 use Rattle.dump_index.specs.ToldKinds.{kinds_told_by}
 use Rattle.dump_index.specs.declared.change.NodeChange.{NodeChange}
-use Rattle.dump_cut.specs.steps.NamedPaths.{has_named_paths}
+use Rattle.dump_cut.specs.NamedPaths.{has_named_paths}
 
 -- copies
 

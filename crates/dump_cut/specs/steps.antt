@@ -1,6 +1,7 @@
+pub mod ExcludedPaths
 pub mod ExcludedTexts
 pub mod FollowedPaths
 pub mod KindViews
-pub mod NamedPaths
 pub mod NameTexts
 pub mod ParentTexts
+pub mod Returned

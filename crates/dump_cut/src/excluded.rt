@@ -6,7 +6,7 @@ ghost use Rattle.dump_trees.specs.Paths.{NodePath, names_of};
 ghost use Rattle.dump_trees.specs.Returns.{is_covered, rests_covered};
 ghost use Rattle.dump_trees.specs.Siblings.{has_node_names};
 ghost use Rattle.dump_index.specs.InOrder.{ends_in_slash};
-ghost use Rattle.dump_cut.specs.ExcludedPaths.{IsGrownIf, paths_of};
+ghost use Rattle.dump_cut.specs.steps.ExcludedPaths.{IsGrownIf, paths_of};
 ghost use Rattle.dump_cut.specs.steps.ExcludedTexts.{is_text_below, texts_below};
 
 use crate::canonical::canonical_prefix;

@@ -9,11 +9,12 @@ ghost use Rattle.dump_trees.specs.Siblings.{has_node_names};
 ghost use Rattle.dump_index.specs.IndexLaws.{IsListed};
 ghost use Rattle.dump_index.specs.Listed.{Listed, listed_of};
 ghost use Rattle.dump_index.specs.ToldKinds.{kinds_told_by};
-ghost use Rattle.dump_cut.specs.ExcludedPaths.{paths_of};
-ghost use Rattle.dump_cut.specs.FollowedCopies.{ComeByFollowing, added_paths};
-ghost use Rattle.dump_cut.specs.Returned.{way_meant};
+ghost use Rattle.dump_cut.specs.steps.ExcludedPaths.{paths_of};
+ghost use Rattle.dump_cut.specs.FollowedCopies.{ComeByFollowing};
+ghost use Rattle.dump_cut.specs.steps.FollowedPaths.{added_paths};
+ghost use Rattle.dump_cut.specs.steps.Returned.{way_meant};
 ghost use Rattle.dump_cut.specs.steps.FollowedPaths.{AddsPath, AreFollowedTo, KeepsFollowing};
-ghost use Rattle.dump_cut.specs.steps.NamedPaths.{has_named_paths};
+ghost use Rattle.dump_cut.specs.NamedPaths.{has_named_paths};
 
 use crate::copies::source_of;
 use crate::excluded::Excluded;

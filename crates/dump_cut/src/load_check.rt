@@ -9,7 +9,7 @@ ghost use Rattle.dump_index.specs.IndexLaws.{IsListed};
 ghost use Rattle.dump_index.specs.Listed.{listed_made, listed_of};
 ghost use Rattle.dump_index.specs.ToldKinds.{kind_meant, kinds_told_by};
 ghost use Rattle.dump_cut.specs.LoadChecks.{IsFirstRefused};
-ghost use Rattle.dump_cut.specs.steps.NamedPaths.{has_named_paths};
+ghost use Rattle.dump_cut.specs.NamedPaths.{has_named_paths};
 ghost use Rattle.dump_cut.specs.steps.KindViews.{kinds_meant};
 
 use crate::copies::source_of;

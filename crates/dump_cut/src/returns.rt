@@ -11,9 +11,9 @@ ghost use Rattle.dump_index.specs.InOrder.{ends_in_slash};
 ghost use Rattle.dump_index.specs.IndexLaws.{IsListed};
 ghost use Rattle.dump_index.specs.Listed.{listed_made, listed_of};
 ghost use Rattle.dump_index.specs.ToldKinds.{kinds_told_by};
-ghost use Rattle.dump_cut.specs.Returned.{placed_rests, rest_meant, way_meant};
-ghost use Rattle.dump_cut.specs.ExcludedPaths.{paths_of};
-ghost use Rattle.dump_cut.specs.steps.NamedPaths.{has_named_paths};
+ghost use Rattle.dump_cut.specs.steps.Returned.{placed_rests, rest_meant, way_meant};
+ghost use Rattle.dump_cut.specs.steps.ExcludedPaths.{paths_of};
+ghost use Rattle.dump_cut.specs.NamedPaths.{has_named_paths};
 
 use crate::copies::source_of;
 use crate::excluded::Excluded;

@@ -7,9 +7,9 @@ ghost use Rattle.dump_trees.specs.Siblings.{has_node_names};
 ghost use Rattle.dump_index.specs.IndexLaws.{IsListed};
 ghost use Rattle.dump_index.specs.Listed.{listed_made, listed_of};
 ghost use Rattle.dump_index.specs.ToldKinds.{kinds_told_by};
-ghost use Rattle.dump_cut.specs.ExcludedPaths.{paths_of};
+ghost use Rattle.dump_cut.specs.steps.ExcludedPaths.{paths_of};
 ghost use Rattle.dump_cut.specs.TakenCopies.{IsFirstNotTaken, is_copy_taken, is_made_taken};
-ghost use Rattle.dump_cut.specs.steps.NamedPaths.{has_named_paths};
+ghost use Rattle.dump_cut.specs.NamedPaths.{has_named_paths};
 
 use crate::copies::source_of;
 use crate::excluded::Excluded;

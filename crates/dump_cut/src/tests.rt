@@ -2,7 +2,7 @@
 //! allocations.
 ghost use Rattle.std.specs.Prelude.{IfOk, IfSome, IsTrue};
 ghost use Rattle.std.specs.List.{list_all};
-ghost use Rattle.dump_cut.specs.steps.NamedPaths.{has_named_paths};
+ghost use Rattle.dump_cut.specs.NamedPaths.{has_named_paths};
 
 use crate::{
     Addition, Excluded, Memory, PlacedRest, Refusal, Refused, Way, all_followed, canonical_prefix,

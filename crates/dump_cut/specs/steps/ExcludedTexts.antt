@@ -5,7 +5,7 @@ use Rattle.dump_trees.specs.Returns.{lie_apart}
 use Rattle.dump_trees.specs.Siblings.{has_node_names}
 use Rattle.dump_index.specs.Effects.{stands_over}
 use Rattle.dump_index.specs.steps.Touching.{rest_text}
-use Rattle.dump_cut.specs.ExcludedPaths.{paths_of}
+use Rattle.dump_cut.specs.steps.ExcludedPaths.{paths_of}
 
 -- they have names of nodes, and none of them is at or below another one
 abbrev pub AreExcluded : List (List ℕ) → Type 0

@@ -1,13 +1,18 @@
 -- The paths to which one copy is followed, and what more additions keep.
-use Rattle.std.specs.Prelude.{◌≡◌, ◌++◌, ◌∷◌, [], Bool, not, List, Contains, if◌then◌else◌}
+use Rattle.std.specs.Prelude.{◌≡◌, ◌++◌, ◌∷◌, [], Bool, not, List, map, Contains, if◌then◌else◌}
 use Rattle.dump_trees.specs.Changes.{Change}
 use Rattle.dump_trees.specs.Following.{Way, Copies, followed, to_of}
-use Rattle.dump_trees.specs.Paths.{NodePath}
+use Rattle.dump_trees.specs.Paths.{NodePath, names_of}
 use Rattle.dump_trees.specs.Returns.{is_covered}
 use Rattle.dump_trees.specs.Trees.{Tree}
 use Rattle.dump_index.specs.Listed.{Listed}
-use Rattle.dump_cut.specs.ExcludedPaths.{IsGrownIf}
+use Rattle.dump_cut.specs.steps.ExcludedPaths.{IsGrownIf}
+use Rattle.dump_cut.specs.declared.followed.Addition.{Addition}
 use Rattle.dump_cut.specs.FollowedCopies.{ComeByFollowing, IsIndexOf}
+
+-- the paths that are added
+abbrev pub added_paths : List Addition → List NodePath
+added_paths additions = map (λ (addition : Addition). names_of addition.path.items) additions
 
 -- a copy is followed to the path, where these paths are what there is so far
 pub record IsFollowedTo (way : Way) (trees : List Tree) (revisions : List (List Change)) (tops : List NodePath)

@@ -1,8 +1,8 @@
 use Rattle.std.proofs.Common.{map, sym, ap, subst, ◌∙◌}
 use Rattle.std.specs.Prelude.{Contains}
 use Rattle.dump_trees.specs.Paths.{names_of}
-use Rattle.dump_cut.specs.ExcludedPaths.{paths_of}
-use Rattle.dump_cut.specs.FollowedCopies.{added_paths}
+use Rattle.dump_cut.specs.steps.ExcludedPaths.{paths_of}
+use Rattle.dump_cut.specs.steps.FollowedPaths.{added_paths}
 use Rattle.dump_cut.proofs.FollowedLemmas.{contains_at, grows_step, kept_step}
 use Rattle.dump_cut.proofs.followed.add_paths.Goals as goal
 

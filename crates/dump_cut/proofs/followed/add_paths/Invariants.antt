@@ -3,8 +3,8 @@ use Rattle.dump_trees.specs.Following.{Way}
 use Rattle.dump_trees.specs.Paths.{NodePath, names_of}
 use Rattle.dump_trees.specs.Returns.{is_covered}
 use Rattle.dump_index.specs.Listed.{Listed}
-use Rattle.dump_cut.specs.ExcludedPaths.{paths_of}
-use Rattle.dump_cut.specs.FollowedCopies.{added_paths}
+use Rattle.dump_cut.specs.steps.ExcludedPaths.{paths_of}
+use Rattle.dump_cut.specs.steps.FollowedPaths.{added_paths}
 use Rattle.dump_cut.specs.steps.FollowedPaths.{AreFollowedTo, KeepsFollowing}
 use Rattle.dump_cut.proofs.followed.add_paths.Given as goal
 

@@ -1,6 +1,7 @@
-use Rattle.dump_cut.specs.ExcludedPaths.{paths_of}
-use Rattle.dump_cut.specs.FollowedCopies.{ComeByFollowing, added_paths}
-use Rattle.dump_cut.specs.Returned.{way_meant}
+use Rattle.dump_cut.specs.steps.ExcludedPaths.{paths_of}
+use Rattle.dump_cut.specs.FollowedCopies.{ComeByFollowing}
+use Rattle.dump_cut.specs.steps.FollowedPaths.{added_paths}
+use Rattle.dump_cut.specs.steps.Returned.{way_meant}
 use Rattle.dump_cut.proofs.followed.follow.Given as goal
 
 abbrev pub invariant-loop : goal.invariant-loop

@@ -3,11 +3,11 @@ use Rattle.std.specs.List.{list_all, slice_get}
 use Rattle.dump_index.specs.Listed.{listed_of}
 use Rattle.dump_index.proofs.KeyLemmas.{listed_at}
 use Rattle.dump_trees.specs.Paths.{names_of}
-use Rattle.dump_cut.specs.ExcludedPaths.{paths_of}
-use Rattle.dump_cut.specs.FollowedCopies.{added_paths}
+use Rattle.dump_cut.specs.steps.ExcludedPaths.{paths_of}
+use Rattle.dump_cut.specs.steps.FollowedPaths.{added_paths}
 use Rattle.dump_cut.specs.steps.FollowedPaths.{AreFollowedTo}
-use Rattle.dump_cut.specs.Returned.{way_meant}
-use Rattle.dump_cut.specs.steps.NamedPaths.{has_named_paths}
+use Rattle.dump_cut.specs.steps.Returned.{way_meant}
+use Rattle.dump_cut.specs.NamedPaths.{has_named_paths}
 use Rattle.dump_cut.proofs.CheckLemmas.{named_at}
 use Rattle.dump_cut.proofs.FollowedLemmas.{keeps_both}
 use Rattle.dump_cut.proofs.followed.follow_each.Goals as goal

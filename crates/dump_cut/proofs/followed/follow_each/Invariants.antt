@@ -1,6 +1,6 @@
-use Rattle.dump_cut.specs.ExcludedPaths.{paths_of}
-use Rattle.dump_cut.specs.FollowedCopies.{added_paths}
-use Rattle.dump_cut.specs.Returned.{way_meant}
+use Rattle.dump_cut.specs.steps.ExcludedPaths.{paths_of}
+use Rattle.dump_cut.specs.steps.FollowedPaths.{added_paths}
+use Rattle.dump_cut.specs.steps.Returned.{way_meant}
 use Rattle.dump_cut.specs.steps.FollowedPaths.{KeepsFollowing}
 use Rattle.dump_cut.proofs.followed.follow_each.Given as goal
 

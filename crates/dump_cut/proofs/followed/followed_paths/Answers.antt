@@ -6,9 +6,9 @@ use Rattle.dump_trees.specs.Paths.{NodePath, names_of}
 use Rattle.dump_trees.specs.Siblings.{has_node_names}
 use Rattle.dump_index.specs.Listed.{listed_made, listed_of}
 use Rattle.dump_index.proofs.SlashLemmas.{names_joined}
-use Rattle.dump_cut.specs.ExcludedPaths.{paths_of}
-use Rattle.dump_cut.specs.Returned.{way_meant}
-use Rattle.dump_cut.specs.steps.NamedPaths.{has_named_source}
+use Rattle.dump_cut.specs.steps.ExcludedPaths.{paths_of}
+use Rattle.dump_cut.specs.steps.Returned.{way_meant}
+use Rattle.dump_cut.specs.NamedPaths.{has_named_source}
 use Rattle.dump_cut.proofs.FollowedLemmas.{behind_named, named_shown, paths_followed, to_named}
 use Rattle.dump_cut.proofs.GrowingLemmas.{map_joined}
 use Rattle.dump_cut.proofs.RangeLemmas.{shown_twice}

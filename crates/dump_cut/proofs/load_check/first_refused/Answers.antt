@@ -4,7 +4,7 @@ use Rattle.std.specs.List.{AllZip, list_all}
 use Rattle.dump_index.specs.IndexLaws.{IsListed}
 use Rattle.dump_index.specs.Listed.{listed_of}
 use Rattle.dump_index.specs.ToldKinds.{kinds_told_by}
-use Rattle.dump_cut.specs.steps.NamedPaths.{has_named_paths}
+use Rattle.dump_cut.specs.NamedPaths.{has_named_paths}
 use Rattle.dump_cut.proofs.CheckLemmas.{named_at, reason_is, same_length, stands_at}
 use Rattle.dump_cut.proofs.load_check.first_refused.Goals as goal
 

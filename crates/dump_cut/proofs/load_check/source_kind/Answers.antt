@@ -7,7 +7,7 @@ use Rattle.dump_trees.specs.Siblings.{has_node_names}
 use Rattle.dump_index.specs.Listed.{listed_made}
 use Rattle.dump_index.specs.ToldKinds.{kind_meant, kinds_told_by}
 use Rattle.dump_index.proofs.LawLemmas.{end_same}
-use Rattle.dump_cut.specs.steps.NamedPaths.{has_named_source}
+use Rattle.dump_cut.specs.NamedPaths.{has_named_source}
 use Rattle.dump_cut.proofs.ParentLemmas.{ends_named}
 use Rattle.dump_cut.proofs.RefusalLemmas.{in_ok}
 use Rattle.dump_cut.proofs.load_check.source_kind.Goals as goal

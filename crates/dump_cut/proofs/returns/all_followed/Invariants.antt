@@ -4,8 +4,8 @@ use Rattle.dump_trees.specs.FollowedRests.{all_rests}
 use Rattle.dump_trees.specs.Looking.{Placed}
 use Rattle.dump_index.specs.IndexLaws.{IsListed}
 use Rattle.dump_index.specs.ToldKinds.{kinds_told_by}
-use Rattle.dump_cut.specs.ExcludedPaths.{paths_of}
-use Rattle.dump_cut.specs.Returned.{rest_meant, way_meant}
+use Rattle.dump_cut.specs.steps.ExcludedPaths.{paths_of}
+use Rattle.dump_cut.specs.steps.Returned.{rest_meant, way_meant}
 use Rattle.dump_cut.proofs.returns.all_followed.Given as goal
 
 abbrev pub invariant-loop-place : goal.invariant-loop-place

@@ -5,8 +5,8 @@ use Rattle.dump_trees.specs.Paths.{names_of}
 use Rattle.dump_trees.specs.Returns.{is_covered, rests_covered}
 use Rattle.dump_index.specs.ToldKinds.{kinds_told_by}
 use Rattle.dump_index.proofs.LawLemmas.{end_same}
-use Rattle.dump_cut.specs.ExcludedPaths.{paths_of}
-use Rattle.dump_cut.specs.Returned.{way_meant}
+use Rattle.dump_cut.specs.steps.ExcludedPaths.{paths_of}
+use Rattle.dump_cut.specs.steps.Returned.{way_meant}
 use Rattle.std.specs.List.{list_all}
 use Rattle.dump_index.specs.InOrder.{ends_in_slash}
 use Rattle.dump_trees.specs.Siblings.{has_node_names}

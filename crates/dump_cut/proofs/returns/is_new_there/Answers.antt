@@ -7,7 +7,7 @@ use Rattle.dump_trees.specs.Returns.{is_covered}
 use Rattle.dump_index.specs.InOrder.{ends_in_slash}
 use Rattle.dump_index.specs.ToldKinds.{kinds_told_by}
 use Rattle.dump_index.proofs.SlashLemmas.{ends_joined, names_joined}
-use Rattle.dump_cut.specs.ExcludedPaths.{paths_of}
+use Rattle.dump_cut.specs.steps.ExcludedPaths.{paths_of}
 use Rattle.dump_cut.proofs.returns.is_new_there.Goals as goal
 
 pub returns-then-covers : goal.returns-then-covers

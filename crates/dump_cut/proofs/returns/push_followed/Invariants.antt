@@ -1,6 +1,6 @@
 use Rattle.std.proofs.Common.{◌≡◌, ◌++◌, map, take}
 use Rattle.dump_trees.specs.Paths.{names_of}
-use Rattle.dump_cut.specs.Returned.{placed_rests, rest_meant}
+use Rattle.dump_cut.specs.steps.Returned.{placed_rests, rest_meant}
 use Rattle.dump_cut.proofs.returns.push_followed.Given as goal
 
 abbrev pub invariant-loop-rest : goal.invariant-loop-rest

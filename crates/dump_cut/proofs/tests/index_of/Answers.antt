@@ -1,6 +1,6 @@
 use Rattle.std.proofs.Common.{ap, ◌∙◌}
 use Rattle.std.specs.List.{list_all}
-use Rattle.dump_cut.specs.steps.NamedPaths.{has_named_paths}
+use Rattle.dump_cut.specs.NamedPaths.{has_named_paths}
 use Rattle.dump_cut.proofs.NamedLemmas.{read_named}
 use Rattle.dump_cut.proofs.tests.index_of.Goals as goal
 

@@ -3,7 +3,7 @@ use Rattle.std.proofs.lemmas.Fn.{filter_same}
 use Rattle.dump_trees.specs.Following.{IsGrown}
 use Rattle.dump_trees.specs.Paths.{names_of}
 use Rattle.dump_trees.specs.Returns.{is_covered}
-use Rattle.dump_cut.specs.ExcludedPaths.{paths_of}
+use Rattle.dump_cut.specs.steps.ExcludedPaths.{paths_of}
 use Rattle.dump_cut.specs.steps.ExcludedTexts.{is_text_below, texts_below}
 use Rattle.dump_cut.proofs.GrowingLemmas.{grown_excluded, grown_texts, same_texts}
 use Rattle.dump_cut.proofs.RangeLemmas.{empty_list, filter_items}

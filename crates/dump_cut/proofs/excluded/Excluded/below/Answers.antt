@@ -3,7 +3,7 @@ use Rattle.std.proofs.lemmas.Iterator.Consumers.{YieldsList-end, YieldsList-from
 use Rattle.std.specs.Ordering.{is_gt, nat_cmp}
 use Rattle.std.specs.Cmp.Lexicographic.{slice_cmp}
 use Rattle.dump_index.specs.steps.Touching.{rest_text}
-use Rattle.dump_cut.specs.ExcludedPaths.{paths_of}
+use Rattle.dump_cut.specs.steps.ExcludedPaths.{paths_of}
 use Rattle.dump_cut.specs.steps.ExcludedTexts.{texts_below}
 use Rattle.dump_cut.proofs.GrowingLemmas.{uncovered_other}
 use Rattle.dump_cut.proofs.RangeLemmas.{all_below_root, empty_text, forward, range_texts, shown_twice}

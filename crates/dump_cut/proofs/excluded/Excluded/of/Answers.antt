@@ -4,7 +4,7 @@ use Rattle.dump_trees.specs.CanonicalPaths.{canonical_paths}
 use Rattle.dump_trees.specs.Paths.{names_of}
 use Rattle.dump_trees.specs.Returns.{is_covered}
 use Rattle.dump_trees.specs.Siblings.{has_node_names, is_within}
-use Rattle.dump_cut.specs.ExcludedPaths.{paths_of}
+use Rattle.dump_cut.specs.steps.ExcludedPaths.{paths_of}
 use Rattle.dump_cut.proofs.GrowingLemmas.{added_covers, canonical_named, map_joined, prefix_more}
 use Rattle.dump_cut.proofs.excluded.Excluded.of.Goals as goal
 
