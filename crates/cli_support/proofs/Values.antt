@@ -1,0 +1,114 @@
+-- Worked values of the definitions, computed and proved by the kernel.
+use Rattle.cli_support.proofs.Prelude.{◌≡◌, refl, true, false, List, [], ◌∷◌, ℕ, length, Some, None, Ok, Err, codes, Include, Exclude, Pad, DropEmptied, DropAll, Answers, empty_of, filter_command, is_call_of, is_set, meaning_in, named_side, prefixes, refusal_status, settings_of, side_in, switch, Words, BothDrops, Memory}
+use Rattle.clap.specs.Words.{App, Row, with_rule}
+use Rattle.clap.specs.declared.builder.value_parser.Reading.TheVariants as reading
+use Rattle.clap.proofs.OnLiterals.{clap_on_literals}
+
+-- FilterCommand
+
+spelled_switch : (switch (codes "quiet")).long ≡ Some (codes "quiet")
+spelled_switch = refl
+
+wanted_prefixes : prefixes.required ≡ true
+wanted_prefixes = refl
+
+five_options : length (filter_command (codes "p")).top.rules ≡ 5
+five_options = refl
+
+no_subcommands : (filter_command (codes "p")).subs ≡ []
+no_subcommands = refl
+
+-- Arguments
+
+includes : named_side (codes "include") ≡ Some Include
+includes = refl
+
+excludes : side_in (codes "exclude" ∷ codes "include" ∷ []) ≡ Some Exclude
+excludes = refl
+
+no_side : side_in (codes "--" ∷ codes "include" ∷ []) ≡ None
+no_side = refl
+
+abbrev row : List ℕ → List (List ℕ) → Row
+row name values = record { id = name; values = values; count = None; source = None; reading = reading.AsWritten }
+
+abbrev rows : List ℕ → List ℕ → List Row
+rows empty all =
+    row (codes "drop-empty-revs") (empty ∷ []) ∷ row (codes "drop-all-empty-revs") (all ∷ [])
+    ∷ row (codes "renumber-revs") (codes "true" ∷ []) ∷ row (codes "preserve-revprops") (codes "false" ∷ [])
+    ∷ row (codes "skip-missing-merge-sources") (codes "false" ∷ []) ∷ row (codes "PREFIX") (codes "trunk" ∷ []) ∷ []
+
+set : is_set (codes "renumber-revs") (rows (codes "false") (codes "false")) ≡ true
+set = refl
+
+not_set : is_set (codes "preserve-revprops") (rows (codes "false") (codes "false")) ≡ false
+not_set = refl
+
+pads : empty_of false false ≡ Some Pad
+pads = refl
+
+drops : empty_of true false ≡ Some DropEmptied
+drops = refl
+
+drops_all : empty_of false true ≡ Some DropAll
+drops_all = refl
+
+drops_both : empty_of true true ≡ None
+drops_both = refl
+
+settings : settings_of Exclude (rows (codes "false") (codes "true"))
+    ≡ Ok (record {
+      side = Exclude;
+      prefixes = codes "trunk" ∷ [];
+      empty = DropAll;
+      renumber = true;
+      preserve = false;
+      skip_missing = false;
+    })
+settings = refl
+
+both_drops : settings_of Exclude (rows (codes "true") (codes "true")) ≡ Err BothDrops
+both_drops = refl
+
+abbrev command : App
+command = with_rule (with_rule (filter_command (codes "p")) (switch (codes "loud"))) prefixes
+
+-- an option behind a prefix is read, and one behind the two minus signs is a prefix
+around : meaning_in command settings_of
+    (codes "include" ∷ codes "a" ∷ codes "--drop-all-empty-revs" ∷ codes "--" ∷ codes "--x" ∷ [])
+    ≡ Ok (record {
+      side = Include;
+      prefixes = codes "a" ∷ codes "--x" ∷ [];
+      empty = DropAll;
+      renumber = false;
+      preserve = false;
+      skip_missing = false;
+    })
+unfolding clap_on_literals
+around = refl
+
+no_prefix : meaning_in command settings_of (codes "include" ∷ []) ≡ Err Words
+unfolding clap_on_literals
+no_prefix = refl
+
+option_before : meaning_in command settings_of (codes "--loud" ∷ codes "include" ∷ codes "a" ∷ []) ≡ Err Words
+option_before = refl
+
+lawful : is_call_of command (codes "p" ∷ codes "include" ∷ codes "--loud" ∷ codes "a" ∷ []) ≡ true
+unfolding clap_on_literals
+lawful = refl
+
+refused_for_its_arguments : Answers (λ (n : ℕ). n) (Err Words) (Err Words)
+refused_for_its_arguments = refl
+
+refused_for_others : ¬ Answers (λ (n : ℕ). n) (Err BothDrops) (Err Words)
+refused_for_others e = cc
+
+answered : Answers (λ (n : ℕ). n) (Ok 7) (Ok 7)
+answered = refl
+
+arguments_refused : refusal_status 3 Words ≡ 2
+arguments_refused = refl
+
+no_memory : refusal_status 3 Memory ≡ 3
+no_memory = refl

@@ -1,0 +1,29 @@
+-- The options of the filter in a command that clap reads arguments by.
+use Rattle.std.specs.Prelude.{true, Some, codes}
+use Rattle.clap.specs.Lexer.{usize_max}
+use Rattle.clap.specs.Simple.{on_top}
+use Rattle.clap.specs.Words.{App, Rule, Text, new_app, new_rule, with_rule}
+use Rattle.clap.specs.declared.builder.action.ArgAction.TheVariants.{SetTrue}
+
+-- an option without a value
+abbrev pub switch : Text → Rule
+switch name = record (new_rule name) { long = Some name; action = Some SetTrue }
+
+-- one or more prefixes
+abbrev pub prefixes : Rule
+prefixes = record (new_rule (codes "PREFIX")) {
+  required = true;
+  range = Some (record { start_inclusive = 1; end_inclusive = usize_max });
+}
+
+-- a command of this name without help
+abbrev pub bare_command : Text → App
+bare_command name = on_top (λ s. record s { disable_help_flag = true }) (new_app name)
+
+-- the same with the options of the filter
+abbrev pub filter_command : Text → App
+filter_command name =
+    let drops = with_rule (with_rule (bare_command name) (switch (codes "drop-empty-revs")))
+    (switch (codes "drop-all-empty-revs")) in
+    let numbers = with_rule (with_rule drops (switch (codes "renumber-revs"))) (switch (codes "preserve-revprops")) in
+    with_rule numbers (switch (codes "skip-missing-merge-sources"))

@@ -1,0 +1,42 @@
+//! What the command-line programs have in common: their arguments, their input, their output and the lines with which
+//! they end.
+//!
+//! A program is called with a side, the options of the filter and its own ones, and path prefixes. [`side_in`] reads the
+//! side that a line begins with. [`filter_command`] is a command with the options of the filter, to which a program adds
+//! its own ones, a [`switch`] for example, and the [`prefixes`] at last. [`read_line`] reads a line by such a command,
+//! [`read_options`] makes the options of the filter of what was found, and [`is_set`] says whether a switch is set.
+//!
+//! ```
+//! let command = filter_command(alloc, "svndumptest")?
+//!     .arg(switch(alloc, "loud"))?
+//!     .arg(prefixes(alloc))?;
+//! let matches = read_line(command, line)?;
+//! let options = read_options(alloc, side, &matches)?;
+//! let loud = is_set(&matches, "loud");
+//! ```
+//!
+//! `tests::lines::a_line_is_read` runs this.
+//!
+//! [`arguments`] are those of the process, and [`input_size`] is a guess at the size of its input. [`read_all`] reads the
+//! input, [`output_buffer`] is the buffer of an `OutMut`, and [`finish`] hands on what waits there. [`refuse`] and [`fail`]
+//! write the line of what ended a [`Program`], and give its status.
+#![tactic(auto)]
+
+mod buffered;
+mod flags;
+mod input;
+mod line;
+mod outcome;
+mod process;
+mod usage;
+
+pub use buffered::{finish, output_buffer};
+pub use flags::{filter_command, prefixes, switch};
+pub use input::{Unread, read_all};
+pub use line::{is_set, read_line, read_options, side_in};
+pub use outcome::{Cause, Program, fail, fail_unread, refuse};
+pub use process::{arguments, as_texts, input_size};
+pub use usage::Usage;
+
+#[cfg(test)]
+mod tests;

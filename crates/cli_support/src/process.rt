@@ -1,0 +1,38 @@
+//! What a program asks its process for.
+ghost use Rattle.std.specs.Prelude.{◌≡◌, IfOk, map};
+ghost use Rattle.std.specs.String.{string_bytes};
+
+use crate::usage::Usage;
+use std::alloc::Global;
+use std::io::ErrorKind;
+use std::{env, fs};
+
+/// The arguments of the process, where each is UTF-8. The first is the program's name.
+pub fn arguments(rt: &HostRuntime) -> Result<Vec<String>, Usage> {
+    match env::args(rt) {
+        Ok(arguments) => arguments.collect(rt.alloc()).map_err(|_| Usage::Memory),
+        Err(error) if error.kind() == ErrorKind::InvalidData => Err(Usage::Words),
+        Err(_) => Err(Usage::Memory),
+    }
+}
+
+/// How many bytes standard input has where it is a file, else 0 or another number.
+pub fn input_size(rt: &HostRuntime) -> u64 {
+    match fs::metadata(rt, "/dev/stdin") {
+        Ok(input) => input.len(),
+        Err(_) => 0,
+    }
+}
+
+/// The texts of these strings.
+pub fn as_texts<'a>(alloc: Global, strings: &'a [String]) -> Result<Vec<&'a str>, Usage>
+    ensures { IfOk result (λ texts. map (λ text. text.now) texts.items ≡ map string_bytes strings.now) }
+{
+    let mut texts = Vec::new(alloc);
+    for string in strings {
+        if texts.push(string.as_str()).is_err() {
+            return Err(Usage::Memory);
+        }
+    }
+    Ok(texts)
+}
