@@ -1,5 +1,5 @@
 -- Worked values of the definitions, computed and proved by the kernel.
-use Rattle.dump_cli.proofs.Prelude.{◌≡◌, ℕ, refl, true, false, List, [], ◌∷◌, length, Some, None, Ok, Err, codes, inl, inr, ap, arith, lit<, lit≤, Include, Exclude, Pad, DropEmptied, DropAll, lent, report_of, padding, Clean, Fault, Failed, empty_answer, switch, number, prefixes, program, Words, BothDrops, Memory, is_set, flag_number, side_of, empty_of, order_of, AnswersTo, IsNumber, AreFilled, status_of, BreaksOff, Ran, CarriesOut, refusal_status, Obeys, Drives, IsSilent, TellsBehind, FailsOnlyBehind}
+use Rattle.dump_cli.proofs.Prelude.{◌≡◌, ℕ, refl, true, false, List, [], ◌∷◌, length, Some, None, Ok, Err, codes, inl, inr, ap, arith, lit<, lit≤, Include, lent, report_of, padding, Clean, Fault, Failed, empty_answer, number, program, Words, BothDrops, flag_number, order_of, AnswersTo, IsNumber, AreFilled, status_of, BreaksOff, Ran, CarriesOut, Obeys, Drives, IsSilent, TellsBehind, FailsOnlyBehind, is_sink_failure}
 use base.Fml.{GName}
 use Rattle.clap.specs.Words.{Row}
 use Rattle.clap.specs.declared.builder.value_parser.Reading.TheVariants as reading
@@ -8,14 +8,8 @@ use Rattle.dump_pipeline.specs.declared.answer.Failure.TheVariants as failures
 
 -- CommandLine
 
-spelled_flag : (switch (codes "quiet")).long ≡ Some (codes "quiet")
-spelled_flag = refl
-
 default_number : (number (codes "workers") 64 (codes "4")).defaults ≡ codes "4" ∷ []
 default_number = refl
-
-wanted_prefixes : prefixes.required ≡ true
-wanted_prefixes = refl
 
 -- eight flags, and the prefixes
 nine_rules : length program.top.rules ≡ 9
@@ -34,38 +28,14 @@ flags empty all =
     ∷ row (codes "workers") (codes "12" ∷ []) ∷ row (codes "window") (codes "64" ∷ [])
     ∷ row (codes "PREFIX") (codes "trunk" ∷ []) ∷ []
 
-set : is_set (codes "quiet") (flags (codes "false") (codes "false")) ≡ true
-set = refl
-
-not_set : is_set (codes "renumber-revs") (flags (codes "false") (codes "false")) ≡ false
-not_set = refl
-
 twelve : flag_number (codes "workers") (flags (codes "false") (codes "false")) ≡ 12
 twelve = refl
 
-includes : side_of (codes "include") ≡ Include
-includes = refl
-
-excludes : side_of (codes "exclude") ≡ Exclude
-excludes = refl
-
-pads : empty_of false false ≡ Some Pad
-pads = refl
-
-drops : empty_of true false ≡ Some DropEmptied
-drops = refl
-
-drops_all : empty_of false true ≡ Some DropAll
-drops_all = refl
-
-drops_both : empty_of true true ≡ None
-drops_both = refl
-
-order : order_of (codes "include", flags (codes "false") (codes "false"))
+order : order_of Include (flags (codes "false") (codes "false"))
     ≡ Ok (record { settings = padding; workers = 12; window = 64; quiet = true })
 order = refl
 
-both_drops : order_of (codes "include", flags (codes "true") (codes "true")) ≡ Err BothDrops
+both_drops : order_of Include (flags (codes "true") (codes "true")) ≡ Err BothDrops
 both_drops = refl
 
 refused_for_its_words : AnswersTo (Err Words) (Err Words)
@@ -102,6 +72,12 @@ told e = cc
 
 fault_is_told : ¬ IsSilent (Fault faults.HeaderCut 0 0) true
 fault_is_told is = is
+
+sink_failed : is_sink_failure (Failed failures.Sink 7) ≡ true
+sink_failed = refl
+
+other_failure : is_sink_failure (Failed failures.Memory 7) ≡ false
+other_failure = refl
 
 -- the writer took one byte of three
 one_of_three : BreaksOff (Some (codes "x")) (Some (codes "xa")) (codes "abc") (Failed failures.Sink 1)
@@ -142,12 +118,6 @@ empty_input = record {
 
 no_input : CarriesOut padding None (Some []) (Some []) 1
 no_input = inr (refl, refl)
-
-words_refused : refusal_status Words ≡ 2
-words_refused = refl
-
-no_memory : refusal_status Memory ≡ 1
-no_memory = refl
 
 nothing_written : Obeys (Err Words) None (Some []) (Some []) 2
 nothing_written = (refl, refl)

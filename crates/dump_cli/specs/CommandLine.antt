@@ -1,14 +1,9 @@
 -- The command that clap reads the words behind the side by.
-use Rattle.std.specs.Prelude.{ℕ, true, [], ◌∷◌, Some, codes}
-use Rattle.clap.specs.Lexer.{usize_max}
-use Rattle.clap.specs.Simple.{on_top}
-use Rattle.clap.specs.Words.{App, Rule, Text, new_app, new_rule, with_rule}
-use Rattle.clap.specs.declared.builder.action.ArgAction.TheVariants.{Set, SetTrue}
+use Rattle.std.specs.Prelude.{ℕ, [], ◌∷◌, Some, codes}
+use Rattle.clap.specs.Words.{App, Rule, Text, new_rule, with_rule}
+use Rattle.clap.specs.declared.builder.action.ArgAction.TheVariants.{Set}
 use Rattle.clap.specs.declared.builder.value_parser.ValueParser.TheVariants as parsers
-
--- a flag without a value
-abbrev pub switch : Text → Rule
-switch name = record (new_rule name) { long = Some name; action = Some SetTrue }
+use Rattle.cli_support.specs.FilterCommand.{filter_command, prefixes, switch}
 
 -- a flag with a number from 1 up
 abbrev pub number : Text → ℕ → Text → Rule
@@ -19,23 +14,10 @@ number name most default = record (new_rule name) {
   defaults = default ∷ [];
 }
 
--- one or more prefixes
-abbrev pub prefixes : Rule
-prefixes = record (new_rule (codes "PREFIX")) {
-  required = true;
-  range = Some (record { start_inclusive = 1; end_inclusive = usize_max });
-}
-
--- no help
-abbrev pub bare : App
-bare = on_top (λ s. record s { disable_help_flag = true }) (new_app (codes "svndumpfilter"))
-
 -- flags in any order, before, between and behind the prefixes; the side stands before all of them
 abbrev pub program : App
 program =
-    let drops = with_rule (with_rule bare (switch (codes "drop-empty-revs"))) (switch (codes "drop-all-empty-revs")) in
-    let numbers = with_rule (with_rule drops (switch (codes "renumber-revs"))) (switch (codes "preserve-revprops")) in
-    let quiet = with_rule (with_rule numbers (switch (codes "skip-missing-merge-sources"))) (switch (codes "quiet")) in
+    let quiet = with_rule (filter_command (codes "svndumpfilter")) (switch (codes "quiet")) in
     let plan = with_rule (with_rule quiet (number (codes "workers") 64 (codes "4")))
     (number (codes "window") 4096 (codes "64")) in
     with_rule plan prefixes

@@ -9,8 +9,8 @@ use Rattle.dump_pipeline.specs.declared.answer.Failure.TheVariants as failures
 use Rattle.dump_pipeline.specs.RunAnswer.{IsRunAnswer}
 use Rattle.dump_cli.specs.Words.{AnswersTo, Meaning}
 use Rattle.dump_cli.specs.declared.words.Order.{Order}
-use Rattle.dump_cli.specs.declared.words.Usage.{Usage}
-use Rattle.dump_cli.specs.declared.words.Usage.TheVariants.{Words, BothDrops, Memory}
+use Rattle.cli_support.specs.Arguments.{refusal_status}
+use Rattle.cli_support.specs.declared.usage.Usage.{Usage}
 
 abbrev pub status_of : Answer → ℕ
 status_of (Clean _) = 0
@@ -42,13 +42,8 @@ CarriesOut settings input old new status =
     ⊎ (Keeps old new × (status ≡ 1))
 
 -- words that are no order are refused by 2, and an order that is out of memory by 1
-abbrev pub refusal_status : Usage → ℕ
-refusal_status Words = 2
-refusal_status BothDrops = 2
-refusal_status Memory = 1
-
 abbrev pub Obeys : Result Order Usage → Option (List ℕ) → Option (List ℕ) → Option (List ℕ) → ℕ → Type 0
-Obeys (Err usage) input old new status = Keeps old new × (status ≡ refusal_status usage)
+Obeys (Err usage) input old new status = Keeps old new × (status ≡ refusal_status 1 usage)
 Obeys (Ok order) input old new status = CarriesOut order.options input old new status
 
 -- words of this meaning have an answer, and it is obeyed

@@ -1,25 +1,28 @@
 //! The whole program, over any reader and writers.
 ghost use Rattle.std.specs.Prelude.{◌≡◌, [], map};
-ghost use Rattle.std.specs.Io.KnownBytes.{GrowsBy, Keeps};
+ghost use Rattle.std.specs.Io.KnownBytes.{Keeps};
 ghost use Rattle.dump_writer.specs.steps.SinkStates.{lent_taken, loan_of};
 ghost use Rattle.dump_pipeline.specs.RunAnswer.{SinkFailsOnly};
 ghost use Rattle.dump_cli.specs.Words.{meaning_of};
-ghost use Rattle.dump_cli.specs.Drive.{CarriesOut, Drives, Ran, refusal_status, status_of};
-ghost use Rattle.dump_cli.specs.steps.DrainedRun.{FailsOnlyBehind, IsSilent, TellsBehind};
+ghost use Rattle.dump_cli.specs.Drive.{CarriesOut, Drives, Ran, status_of};
+ghost use Rattle.dump_cli.specs.steps.DrainedRun.{FailsOnlyBehind, IsSilent, TellsBehind, is_sink_failure};
 
-use crate::input::{Unread, read_all};
-use crate::messages::{write_failure, write_fault, write_report, write_unread, write_usage};
-use crate::words::{Order, Usage, options_of};
+use crate::messages::{write_fault, write_report};
+use crate::words::{Order, options_of};
+use cli_support::{Cause, Program, fail, fail_unread, finish, output_buffer, read_all, refuse};
 use dump_pipeline::{Answer, Failure, FreeGate, Plan, run};
 use dump_rules::Options;
-use dump_writer::{OutMut, SinkDown};
+use dump_writer::OutMut;
 use std::alloc::Global;
 use std::io::{Read, Write};
 use std::sync::Wait;
 use std::thread::Threads;
 
-/// So many bytes of small texts wait for one call of the writer.
-const BUFFER: usize = 1 << 16;
+/// How the lines name the program, and the status of a failure.
+pub const PROGRAM: Program = Program {
+    name: "svndumpfilter",
+    failed: 1,
+};
 
 /// The whole program, with its exit status.
 pub fn drive<'a, H: Threads + Wait + Sync, R: Read, W: Write, E: Write>(
@@ -49,20 +52,7 @@ pub fn drive_sized<'a, H: Threads + Wait + Sync, R: Read, W: Write, E: Write>(
 {
     match options_of(alloc, words) {
         Ok(order) => carry_out(rt, alloc, &order, size, reader, writer, errors),
-        Err(usage) => refuse(errors, usage),
-    }
-}
-
-/// The line and the status of words that are no order.
-pub fn refuse<E: Write>(errors: &mut E, usage: Usage) -> u8
-    ensures { result ≡ refusal_status usage }
-{
-    match usage {
-        Usage::Words | Usage::BothDrops => {
-            write_usage(errors);
-            2
-        }
-        Usage::Memory => tell_out_of_memory(errors),
+        Err(usage) => refuse(errors, PROGRAM, usage),
     }
 }
 
@@ -80,14 +70,10 @@ fn carry_out<H: Threads + Wait + Sync, R: Read, W: Write, E: Write>(
 {
     let input = match read_all(alloc, reader, size) {
         Ok(input) => input,
-        Err(Unread::Memory) => return tell_out_of_memory(errors),
-        Err(Unread::Source) => {
-            write_unread(errors);
-            return 1;
-        }
+        Err(unread) => return fail_unread(errors, PROGRAM, unread),
     };
-    let Ok(buffer) = Vec::with_capacity(alloc, BUFFER) else {
-        return tell_out_of_memory(errors);
+    let Ok(buffer) = output_buffer(alloc) else {
+        return fail(errors, PROGRAM, Cause::Memory, 0);
     };
     let mut sink = OutMut::new(writer, buffer);
     let answer = run_and_flush(
@@ -128,28 +114,26 @@ fn flush_behind<W: Write>(sink: &mut OutMut<'_, W>, answer: Answer) -> Answer
     ensures sink { FailsOnlyBehind sink.old.out.failures sink.new.out.failures answer result }
     ensures loan { loan_of sink.new ≡ loan_of sink.old }
 {
-    if let Answer::Failed {
-        failure: Failure::Sink,
-        ..
-    } = answer
-    {
-        return sink_down(sink);
-    }
-    match sink.flush() {
+    match finish(sink, is_sink_down(answer)) {
         Ok(()) => answer,
-        Err(SinkDown) => sink_down(sink),
+        Err(written) => Answer::Failed {
+            failure: Failure::Sink,
+            written,
+        },
     }
 }
 
-/// The failure of a sink, with the bytes that its writer took.
-fn sink_down<W: Write>(sink: &OutMut<'_, W>) -> Answer
-    ensures count { result ≡ Answer.Failed Failure.Sink sink.now.out.written }
-    ensures grown { GrowsBy sink.now.out.start sink.now.out.taken sink.now.out.written }
+/// Whether a run's sink failed.
+fn is_sink_down(answer: Answer) -> bool
+    ensures { result ≡ is_sink_failure answer }
 {
-    Answer::Failed {
-        failure: Failure::Sink,
-        written: sink.written(),
-    }
+    matches!(
+        answer,
+        Answer::Failed {
+            failure: Failure::Sink,
+            ..
+        }
+    )
 }
 
 /// The line of an answer, and the status.
@@ -172,17 +156,15 @@ fn tell<E: Write>(errors: &mut E, answer: Answer, quiet: bool) -> u8
             write_fault(errors, kind, number, place);
             1
         }
-        Answer::Failed { failure, written } => {
-            write_failure(errors, failure, written);
-            1
-        }
+        Answer::Failed { failure, written } => fail(errors, PROGRAM, cause(failure), written),
     }
 }
 
-/// The line and the status where there was no memory before the run.
-fn tell_out_of_memory<E: Write>(errors: &mut E) -> u8
-    ensures { result ≡ 1 }
-{
-    write_failure(errors, Failure::Memory, 0);
-    1
+/// How the line of a failure names it.
+fn cause(failure: Failure) -> Cause {
+    match failure {
+        Failure::Sink => Cause::Sink,
+        Failure::Memory => Cause::Memory,
+        Failure::Threads => Cause::Threads,
+    }
 }

@@ -3,24 +3,21 @@
 
 mod command;
 mod drive;
-mod input;
 mod messages;
 #[cfg(test)]
 mod tests;
 mod words;
 
-use drive::{drive_sized, refuse};
-use std::io::ErrorKind;
+use cli_support::{Usage, arguments, as_texts, input_size, refuse};
+use drive::{PROGRAM, drive_sized};
 use std::process::ExitCode;
 use std::sync::Wait;
 use std::thread::Threads;
-use std::{env, fs};
-use words::Usage;
 
 fn main(rt: HostRuntime) -> ExitCode {
     let status = match run_words(&rt, &rt) {
         Ok(status) => status,
-        Err(usage) => refuse(&mut rt.stderr(), usage),
+        Err(usage) => refuse(&mut rt.stderr(), PROGRAM, usage),
     };
     ExitCode::from(status)
 }
@@ -28,13 +25,8 @@ fn main(rt: HostRuntime) -> ExitCode {
 /// The whole program on the words and the streams of the process.
 fn run_words<H: Threads + Wait + Sync>(threads: &H, rt: &HostRuntime) -> Result<u8, Usage> {
     let alloc = rt.alloc();
-    let words = read_words(rt)?;
-    let mut texts = Vec::new(alloc);
-    for word in &words {
-        if texts.push(word.as_str()).is_err() {
-            return Err(Usage::Memory);
-        }
-    }
+    let words = arguments(rt)?;
+    let texts = as_texts(alloc, &words)?;
     Ok(drive_sized(
         threads,
         alloc,
@@ -44,21 +36,4 @@ fn run_words<H: Threads + Wait + Sync>(threads: &H, rt: &HostRuntime) -> Result<
         &mut rt.stdout(),
         &mut rt.stderr(),
     ))
-}
-
-/// The words of the process, where each is UTF-8.
-fn read_words(rt: &HostRuntime) -> Result<Vec<String>, Usage> {
-    match env::args(rt) {
-        Ok(words) => words.collect(rt.alloc()).map_err(|_| Usage::Memory),
-        Err(error) if error.kind() == ErrorKind::InvalidData => Err(Usage::Words),
-        Err(_) => Err(Usage::Memory),
-    }
-}
-
-/// How many bytes standard input has where it is a file, else 0 or another number.
-fn input_size(rt: &HostRuntime) -> u64 {
-    match fs::metadata(rt, "/dev/stdin") {
-        Ok(input) => input.len(),
-        Err(_) => 0,
-    }
 }

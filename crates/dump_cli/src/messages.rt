@@ -5,23 +5,8 @@ ghost use Rattle.std.specs.Io.KnownBytes.{Appends};
 ghost use Rattle.dump_cli.specs.steps.Lines.{report_line};
 
 use dump_filter::Report;
-use dump_pipeline::Failure;
 use dump_text::FaultKind;
 use std::io::{self, Write};
-
-/// The failure's number, as users see it.
-fn code(failure: Failure) -> u8 {
-    match failure {
-        Failure::Sink => 20,
-        Failure::Memory => 21,
-        Failure::Threads => 22,
-    }
-}
-
-/// How the program is called.
-pub fn write_usage<E: Write>(errors: &mut E) {
-    let _ = errors.write_all(b"usage: svndumpfilter include|exclude [OPTIONS] PREFIX...\n");
-}
 
 /// The counts of a clean run.
 pub fn write_report<E: Write>(errors: &mut E, report: Report) -> io::Result<()>
@@ -48,18 +33,4 @@ pub fn write_fault<E: Write>(errors: &mut E, kind: FaultKind, number: u64, place
         errors,
         "svndumpfilter: fault {code} {name} in record {number} at byte {place}"
     );
-}
-
-/// The failure of a run that had written so many bytes.
-pub fn write_failure<E: Write>(errors: &mut E, failure: Failure, written: u64) {
-    let code = code(failure);
-    let _ = writeln!(
-        errors,
-        "svndumpfilter: failure {code} {failure:?} after {written} bytes"
-    );
-}
-
-/// The failure of the input, of which nothing was filtered.
-pub fn write_unread<E: Write>(errors: &mut E) {
-    let _ = errors.write_all(b"svndumpfilter: failure 24 Source after 0 bytes\n");
 }

@@ -1,23 +1,25 @@
 //! Worked lines of arguments.
 
 use crate::{Usage, filter_command, is_set, prefixes, read_line, read_options, side_in, switch};
+use clap::Command;
 use dump_rules::{Empty, Options, Side};
-use std::alloc::Global;
+use std::alloc::{AllocError, Global};
 use std::process::Abort;
 use std::test::Fail;
 
-/// The options of the filter in a line, and whether `--loud` is set, by a command that has this option of its own.
+/// A command that has the option `--loud` of its own.
+fn loud_command<'a>(alloc: Global) -> Result<Command<'a>, AllocError> {
+    filter_command(alloc, "svndumptest")?
+        .arg(switch(alloc, "loud"))?
+        .arg(prefixes(alloc))
+}
+
+/// The options of the filter in a line, and whether `--loud` is set.
 fn read<'a>(alloc: Global, line: &'a [&'a str]) -> Result<(Options, bool), Usage> {
     let Some(side) = side_in(line) else {
         return Err(Usage::Words);
     };
-    let Ok(command) = filter_command(alloc, "svndumptest") else {
-        return Err(Usage::Memory);
-    };
-    let Ok(command) = command.arg(switch(alloc, "loud")) else {
-        return Err(Usage::Memory);
-    };
-    let Ok(command) = command.arg(prefixes(alloc)) else {
+    let Ok(command) = loud_command(alloc) else {
         return Err(Usage::Memory);
     };
     let matches = read_line(command, line)?;

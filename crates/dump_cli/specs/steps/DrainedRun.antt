@@ -1,5 +1,5 @@
 -- What a run tells once its last bytes are written out.
-use Rattle.std.specs.Prelude.{◌≡◌, ℕ, Bool, true, ◌⊎◌, []}
+use Rattle.std.specs.Prelude.{◌≡◌, ℕ, Bool, true, false, ◌⊎◌, []}
 use Rattle.std.specs.Io.KnownBytes.{GrowsBy}
 use Rattle.dump_writer.specs.steps.SinkStates.{LentState}
 use Rattle.dump_pipeline.specs.declared.answer.Answer.{Answer}
@@ -11,6 +11,11 @@ use Rattle.dump_pipeline.specs.RunAnswer.{SinkFailsOnly}
 abbrev pub IsSilent : Answer → Bool → Type 0
 IsSilent (Clean report) quiet = quiet ≡ true
 IsSilent answer quiet = ⊥
+
+-- whether an answer is the failure of the sink
+abbrev pub is_sink_failure : Answer → Bool
+is_sink_failure (Failed failures.Sink written) = true
+is_sink_failure answer = false
 
 -- what is told behind a run: its answer, where nothing waits any more; or the failure of the sink, with the bytes that
 -- the writer took

@@ -1,6 +1,7 @@
 //! Worked words.
 
-use crate::words::{Order, Usage, options_of};
+use crate::words::{Order, options_of};
+use cli_support::Usage;
 use dump_rules::{Empty, Options, Side};
 use std::alloc::Global;
 use std::process::Abort;

@@ -1,71 +1,71 @@
-use Rattle.dump_cli.proofs.Prelude.{◌≡◌, ◌∙◌, ap, drop, map, subst, sym, true, List, [], Some, Err, Bor, option_map, program, AnswersTo, meaning_of_line, side_name, second_true}
-use Rattle.clap.specs.Kinds.{HasKind}
+use Rattle.dump_cli.proofs.Prelude.{◌≡◌, ◌∙◌, ap, drop, map, subst, sym, true, List, Some, Ok, Err, Bor, program, AnswersTo, lawful_is_read, line_answers, order_of, refusal_answers, second_holds, side_in, ReadsLine, Words}
 use Rattle.clap.specs.Walk.{is_empty}
-use Rattle.clap.specs.Words.{takes, Text, fault_of, found_of, is_simple, is_simple_and_free, matches_of, rows_of}
-use Rattle.dump_cli.proofs.ProgramLemmas.{filled, free, simple}
-use Rattle.dump_cli.proofs.WordLemmas.{refusal_answers, refusal_unlawful, never_words, taken_answers}
+use Rattle.clap.specs.Words.{takes, Text, fault_of, found_of, is_simple_and_free, rows_of}
+use Rattle.cli_support.specs.Arguments.{meaning_in}
+use Rattle.dump_cli.specs.Words.{shown}
+use Rattle.dump_cli.proofs.ProgramLemmas.{filled, free}
+use Rattle.dump_cli.proofs.WordLemmas.{never_words}
 use Rattle.dump_cli.proofs.words.options_of.Goals as goal
 
 pub read_order-requires : goal.read_order-requires
-read_order-requires c = filled c.in-Ok.command c.in-Ok-try_get_matches_from.matches c.in-Ok.ensures
-    c.in-Ok-try_get_matches_from.ensures.parsed
+read_order-requires c = filled c.in-Ok.command c.in-Ok-read_line.matches c.in-Ok.ensures c.in-Ok-read_line.ensures.parsed
 
-pub returns-in-Ok-try_get_matches_from-clause-meaning : goal.returns-in-Ok-try_get_matches_from-clause-meaning
-returns-in-Ok-try_get_matches_from-clause-meaning c =
+pub returns-in-Ok-read_line-clause-meaning : goal.returns-in-Ok-read_line-clause-meaning
+returns-in-Ok-read_line-clause-meaning c =
     let line : List Text = map (λ w. w.now) c.in-Some.line.now in
     let behind : drop 1 (map (λ w. w.now) c.args.words.now) ≡ line =
     ap (λ (ws : List (Bor Text)). drop 1 (map (λ w. w.now) ws)) c.in-Some.ensures.cases.0 in
-    let named : side_name line ≡ Some c.in-Some-side_name.name.now =
-    sym c.side_name.ensures ∙ ap (option_map (λ (n : Bor Text). n.now)) c.in-Some-side_name.is in
-    let none : fault_of program line ≡ [] = ap (λ a. fault_of a line) (sym c.in-Ok.ensures)
-    ∙ c.in-Ok-try_get_matches_from.ensures.kinds (ap is_simple_and_free c.in-Ok.ensures ∙ free) in
-    let same : rows_of (found_of c.in-Ok-try_get_matches_from.matches) ≡ matches_of program line =
-    (c.in-Ok-try_get_matches_from.ensures.matches (ap is_simple c.in-Ok.ensures ∙ simple)).0
-    ∙ ap (λ a. matches_of a line) c.in-Ok.ensures in
-    subst (λ l. AnswersTo (meaning_of_line l) c.read_order.result) (sym behind)
-    (taken_answers line c.in-Some-side_name.name.now _ c.read_order.result named none same c.read_order.ensures)
+    let named : side_in line ≡ Some c.in-Some-side_in.side = sym c.side_in.ensures ∙ c.in-Some-side_in.is in
+    let reads : ReadsLine program line (Ok c.in-Ok-read_line.matches) =
+    subst (ReadsLine program line) c.in-Ok-read_line.is
+    (subst (λ a. ReadsLine a line c.read_line.result) c.in-Ok.ensures
+    (c.read_line.ensures.read (ap is_simple_and_free c.in-Ok.ensures ∙ free))) in
+    subst (λ l. AnswersTo (meaning_in program order_of l) c.read_order.result) (sym behind)
+    (line_answers program order_of shown line c.in-Some-side_in.side named c.in-Ok-read_line.matches
+    c.read_order.result reads c.read_order.ensures)
 
-pub returns-in-Ok-try_get_matches_from-clause-lawful : goal.returns-in-Ok-try_get_matches_from-clause-lawful
-returns-in-Ok-try_get_matches_from-clause-lawful c lawful is =
-    never_words c.in-Some-side_name.name.now (rows_of (found_of c.in-Ok-try_get_matches_from.matches))
-    c.read_order.result c.read_order.ensures is
+pub returns-in-Ok-read_line-clause-lawful : goal.returns-in-Ok-read_line-clause-lawful
+returns-in-Ok-read_line-clause-lawful c lawful is =
+    never_words c.in-Some-side_in.side (rows_of (found_of c.in-Ok-read_line.matches)) c.read_order.result
+    c.read_order.ensures is
 
-pub returns-in-Ok-try_get_matches_from-clause-takes : goal.returns-in-Ok-try_get_matches_from-clause-takes
-returns-in-Ok-try_get_matches_from-clause-takes c taken is =
-    never_words c.in-Some-side_name.name.now (rows_of (found_of c.in-Ok-try_get_matches_from.matches))
-    c.read_order.result c.read_order.ensures is
+pub returns-in-Ok-read_line-clause-takes : goal.returns-in-Ok-read_line-clause-takes
+returns-in-Ok-read_line-clause-takes c taken is =
+    never_words c.in-Some-side_in.side (rows_of (found_of c.in-Ok-read_line.matches)) c.read_order.result
+    c.read_order.ensures is
 
 pub returns-in-Err-clause-meaning : goal.returns-in-Err-clause-meaning
 returns-in-Err-clause-meaning c =
     let line : List Text = map (λ w. w.now) c.in-Some.line.now in
     let behind : drop 1 (map (λ w. w.now) c.args.words.now) ≡ line =
     ap (λ (ws : List (Bor Text)). drop 1 (map (λ w. w.now) ws)) c.in-Some.ensures.cases.0 in
-    let named : side_name line ≡ Some c.in-Some-side_name.name.now =
-    sym c.side_name.ensures ∙ ap (option_map (λ (n : Bor Text). n.now)) c.in-Some-side_name.is in
-    let has : HasKind (fault_of program line) c.in-Err.error = subst
-    (λ a. HasKind (fault_of a line) c.in-Err.error) c.in-Ok.ensures
-    (c.in-Err.ensures.kinds (ap is_simple_and_free c.in-Ok.ensures ∙ free)) in
-    subst (λ l. AnswersTo (meaning_of_line l) (Err c.refusal.result)) (sym behind)
-    (refusal_answers line c.in-Some-side_name.name.now c.in-Err.error c.refusal.result named has c.refusal.ensures.memory
-    c.refusal.ensures.either)
+    let named : side_in line ≡ Some c.in-Some-side_in.side = sym c.side_in.ensures ∙ c.in-Some-side_in.is in
+    let reads : ReadsLine program line (Err c.in-Err.usage) =
+    subst (ReadsLine program line) c.in-Err.is
+    (subst (λ a. ReadsLine a line c.read_line.result) c.in-Ok.ensures
+    (c.read_line.ensures.read (ap is_simple_and_free c.in-Ok.ensures ∙ free))) in
+    subst (λ l. AnswersTo (meaning_in program order_of l) (Err c.in-Err.usage)) (sym behind)
+    (refusal_answers program order_of shown line c.in-Some-side_in.side named c.in-Err.usage reads)
 
 pub returns-in-Err-clause-lawful : goal.returns-in-Err-clause-lawful
 returns-in-Err-clause-lawful c lawful is =
     let line : List Text = map (λ w. w.now) c.in-Some.line.now in
     let behind : drop 1 (map (λ w. w.now) c.args.words.now) ≡ line =
     ap (λ (ws : List (Bor Text)). drop 1 (map (λ w. w.now) ws)) c.in-Some.ensures.cases.0 in
-    let has : HasKind (fault_of program line) c.in-Err.error = subst
-    (λ a. HasKind (fault_of a line) c.in-Err.error) c.in-Ok.ensures
-    (c.in-Err.ensures.kinds (ap is_simple_and_free c.in-Ok.ensures ∙ free)) in
+    let reads : ReadsLine program line (Err c.in-Err.usage) =
+    subst (ReadsLine program line) c.in-Err.is
+    (subst (λ a. ReadsLine a line c.read_line.result) c.in-Ok.ensures
+    (c.read_line.ensures.read (ap is_simple_and_free c.in-Ok.ensures ∙ free))) in
     let none : is_empty (fault_of program line) ≡ true =
-    ap (λ l. is_empty (fault_of program l)) (sym behind) ∙ second_true _ _ lawful in
-    refusal_unlawful line c.in-Err.error c.refusal.result has c.refusal.ensures.memory none cc
+    ap (λ l. is_empty (fault_of program l)) (sym behind) ∙ second_holds _ _ lawful in
+    let words : c.in-Err.usage ≡ Words = cc in
+    lawful_is_read program line c.in-Err.usage reads none words
 
 pub returns-in-Err-clause-takes : goal.returns-in-Err-clause-takes
 returns-in-Err-clause-takes c taken is =
     let line : List Text = map (λ w. w.now) c.in-Some.line.now in
     let behind : drop 1 (map (λ w. w.now) c.args.words.now) ≡ line =
     ap (λ (ws : List (Bor Text)). drop 1 (map (λ w. w.now) ws)) c.in-Some.ensures.cases.0 in
-    let passes : takes program line ≡ true = ap (λ l. takes program l) (sym behind) ∙ second_true _ _ taken in
-    let memory = c.refusal.ensures.memory (c.in-Err.ensures.passes (ap (λ a. takes a line) c.in-Ok.ensures ∙ passes)) in
-    cc
+    let passes : takes program line ≡ true = ap (λ l. takes program l) (sym behind) ∙ second_holds _ _ taken in
+    let words : c.read_line.result ≡ Err Words = cc in
+    c.read_line.ensures.takes (ap (λ a. takes a line) c.in-Ok.ensures ∙ passes) words
