@@ -1,32 +1,6 @@
 -- A survey whose last bytes are handed on.
-use Rattle.survey_cli.proofs.Prelude.{◌≡◌, ℕ, Bool, List, [], ◌++◌, Option, None, Some, Result, Ok, Err, IfOk, IfErr, IfSome, OnErr, MatchBool, true, false, inl, inr, refl, sym, ap, subst, ◌∙◌, append_assoc, append_cancel_left, Appends, Keeps, GrowsBy, append_known, Appends-kept, Appends-trans, each_dump_has_one_list, Settings, kept_revisions, LentState, lent_taken, IsPrefixOf, IsSurveyText, BreaksOffSurvey, IsRevisionMap, map_lines, AreLinesBehind, TakesSomeBehind, SurveyFailure, IsCallText, IsMapAskedFor, IsWholeText, SurveysDump, SurveysInput, TakesFirst, BrokenOff, Call, Arrives, FrontBreaksOff, MapBreaksOff, SurveyBreaksOff, told_status}
+use Rattle.survey_cli.proofs.Prelude.{◌≡◌, ℕ, Bool, List, [], ◌++◌, Option, None, Some, Result, Ok, Err, IfOk, IfErr, IfSome, OnErr, MatchBool, true, false, inl, inr, refl, sym, ap, subst, ◌∙◌, append_assoc, Appends, Keeps, GrowsBy, append_known, Appends-kept, Appends-trans, from_none, handed_on, part_taken, each_dump_has_one_list, Settings, kept_revisions, LentState, lent_taken, IsPrefixOf, IsSurveyText, BreaksOffSurvey, IsRevisionMap, map_lines, AreLinesBehind, TakesSomeBehind, SurveyFailure, IsCallText, IsMapAskedFor, IsWholeText, SurveysDump, SurveysInput, TakesFirst, BrokenOff, Call, Arrives, FrontBreaksOff, MapBreaksOff, SurveyBreaksOff, told_status}
 use Rattle.std.proofs.lemmas.List.{append-nil}
-
--- where nothing waits the known bytes are those of the writer
-from_none : (a b : Option (List ℕ)) (bytes : List ℕ) → Appends (append_known a []) b bytes → Appends a b bytes
-from_none None b bytes more = tt
-from_none (Some xs) None bytes more = absurd more
-from_none (Some xs) (Some ys) bytes more = more ∙ ap (λ t. t ++ bytes) (append-nil xs)
-
-to_none : (a c : Option (List ℕ)) (bytes : List ℕ) → Appends a (append_known c []) bytes → Appends a c bytes
-to_none None c bytes more = tt
-to_none (Some xs) None bytes more = more
-to_none (Some xs) (Some ys) bytes more = sym (append-nil ys) ∙ more
-
--- of the bytes that were sent the writer took those that don't wait
-taken_of_sent : (a c : Option (List ℕ)) (waiting sent : List ℕ) (n : ℕ) → GrowsBy a c n
-    → Appends a (append_known c waiting) sent → TakesFirst a c sent
-taken_of_sent None c waiting sent n grown all = ([], (sent, refl), tt)
-taken_of_sent (Some xs) None waiting sent n grown all = absurd all
-taken_of_sent (Some xs) (Some ys) waiting sent n grown all = (
-  grown.0,
-  (
-    waiting,
-    append_cancel_left xs sent (grown.0 ++ waiting)
-        (sym all ∙ ap (λ t. t ++ waiting) grown.1 ∙ append_assoc xs grown.0 waiting),
-  ),
-  grown.1,
-)
 
 -- who took the first bytes of a first part took the first of the whole
 longer : (a c : Option (List ℕ)) (sent text : List ℕ) → IsPrefixOf sent text → TakesFirst a c sent → TakesFirst a c text
@@ -40,16 +14,8 @@ longer a c sent text begins took = (
 broke_off : (a b c : Option (List ℕ)) (waiting sent text : List ℕ) (n : ℕ) → Appends (append_known a []) b sent
     → Keeps b (append_known c waiting) → GrowsBy a c n → IsPrefixOf sent text → TakesFirst a c text
 broke_off a b c waiting sent text n appended kept grown begins =
-    longer a c sent text begins (taken_of_sent a c waiting sent n grown
+    longer a c sent text begins (part_taken a c waiting sent n grown
     (Appends-kept a b (append_known c waiting) sent (from_none a b sent appended) kept))
-
--- a whole text behind which nothing waits
-handed_on : (a b : Option (List ℕ)) (sink : LentState) (text : List ℕ) → Appends (append_known a []) b text
-    → Keeps b (lent_taken sink) → sink.waiting ≡ [] → Appends a sink.out.taken text
-handed_on a b sink text appended kept none = from_none a sink.out.taken text
-    (to_none (append_known a []) sink.out.taken text
-    (Appends-kept (append_known a []) b (append_known sink.out.taken []) text appended
-    (subst (λ w. Keeps b (append_known sink.out.taken w)) none kept)))
 
 -- what is told of a failure holds where there is one
 pub at_err : {X E A : Type 0} (r : Result X E) → A → OnErr r A

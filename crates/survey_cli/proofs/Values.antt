@@ -1,15 +1,10 @@
 -- Worked values of the definitions, computed and proved by the kernel.
-use Rattle.survey_cli.proofs.Prelude.{◌≡◌, refl, true, false, List, [], ◌∷◌, length, Some, None, Ok, Err, codes, Include, Exclude, Pad, DropAll, flags, prefix_words, plain_flag, is_survey_call, TellsCall, empty_by_drops, call_of_words, side_in, named_side, Words, BothDrops}
+use Rattle.survey_cli.proofs.Prelude.{◌≡◌, refl, true, false, List, [], ◌∷◌, length, Ok, Err, codes, Include, Pad, DropAll, flags, TellsCall, call_of_words, Words, BothDrops}
+use Rattle.survey_cli.specs.steps.LawfulLines.{is_survey_call}
 use Rattle.clap.specs.Words.{Text}
 use Rattle.clap.proofs.OnLiterals.{clap_on_literals}
 
 -- CommandLine
-
-spelled_flag : (plain_flag (codes "renumber-revs")).long ≡ Some (codes "renumber-revs")
-spelled_flag = refl
-
-wanted_prefixes : prefix_words.required ≡ true
-wanted_prefixes = refl
 
 -- six flags, and the prefixes
 seven_rules : length flags.top.rules ≡ 7
@@ -19,21 +14,6 @@ no_sides : flags.subs ≡ []
 no_sides = refl
 
 -- Words
-
-includes : named_side (codes "include") ≡ Some Include
-includes = refl
-
-excludes : side_in (codes "exclude" ∷ codes "include" ∷ []) ≡ Some Exclude
-excludes = refl
-
-no_side : side_in (codes "--" ∷ codes "include" ∷ []) ≡ None
-no_side = refl
-
-pads : empty_by_drops false false ≡ Some Pad
-pads = refl
-
-drops_both : empty_by_drops true true ≡ None
-drops_both = refl
 
 abbrev flagged : List Text → List Text
 flagged words = codes "p" ∷ codes "include" ∷ words

@@ -8,8 +8,8 @@ use Rattle.dump_survey.specs.RevisionMap.{IsRevisionMap}
 use Rattle.dump_survey.specs.SurveyText.{IsSurveyText}
 use Rattle.survey_cli.specs.Words.{TellsCall}
 use Rattle.survey_cli.specs.declared.words.Call.{Call}
-use Rattle.survey_cli.specs.declared.words.Usage.{Usage}
-use Rattle.survey_cli.specs.declared.words.Usage.TheVariants.{Words, BothDrops, Memory}
+use Rattle.cli_support.specs.Arguments.{refusal_status}
+use Rattle.cli_support.specs.declared.usage.Usage.{Usage}
 
 -- the status of a whole survey: whether something is found
 abbrev pub finding_status : Bool → ℕ
@@ -56,15 +56,10 @@ abbrev pub SurveysInput : Call → Option (List ℕ) → Option (List ℕ) → O
 SurveysInput call input old new status =
     IfSome input (λ dump. SurveysDump call dump old new status) ⊎ (Keeps old new × (status ≡ 3))
 
--- other words are refused by 2, and where reading them is out of memory by 3
-abbrev pub usage_status : Usage → ℕ
-usage_status Words = 2
-usage_status BothDrops = 2
-usage_status Memory = 3
-
--- words that were refused write nothing, and others are obeyed on the input
+-- words that were refused write nothing, with the status 2, or 3 where reading them is out of memory, and others are
+-- obeyed on the input
 abbrev pub SurveysOrRefuses : Result Call Usage → Option (List ℕ) → Option (List ℕ) → Option (List ℕ) → ℕ → Type 0
-SurveysOrRefuses (Err usage) input old new status = Keeps old new × (status ≡ usage_status usage)
+SurveysOrRefuses (Err usage) input old new status = Keeps old new × (status ≡ refusal_status 3 usage)
 SurveysOrRefuses (Ok call) input old new status = SurveysInput call input old new status
 
 -- words of this meaning have an answer, and it is obeyed

@@ -3,20 +3,22 @@ ghost use Rattle.std.specs.Prelude.{◌≡◌, [], List, ℕ, map, Ok, IfErr, If
 ghost use Rattle.std.specs.Io.KnownBytes.{Appends, GrowsBy, Keeps};
 ghost use Rattle.dump_writer.specs.steps.SinkStates.{lent_taken, loan_of};
 ghost use Rattle.survey_cli.specs.Words.{call_of_words};
-ghost use Rattle.survey_cli.specs.Drive.{IsCallText, IsMapAskedFor, IsWholeText, SurveysInput, DrivesSurvey, usage_status};
+ghost use Rattle.survey_cli.specs.Drive.{IsCallText, IsMapAskedFor, IsWholeText, SurveysInput, DrivesSurvey};
 ghost use Rattle.survey_cli.specs.steps.Answered.{Arrives, FrontBreaksOff, MapBreaksOff, SurveyBreaksOff, told_status};
 
-use crate::input::{Unread, read_all};
-use crate::messages::{write_failure, write_unread, write_usage};
-use crate::words::{Call, Usage, call_of};
+use crate::words::{Call, call_of};
+use cli_support::{Cause, Program, fail, fail_unread, finish, output_buffer, read_all, refuse};
 use dump_rules::Options;
 use dump_survey::{SurveyFailure, write_behind, write_map, write_survey};
-use dump_writer::{OutMut, SinkDown};
+use dump_writer::OutMut;
 use std::alloc::Global;
 use std::io::{Read, Write};
 
-/// So many bytes of small texts wait for one call of the writer.
-const BUFFER: usize = 1 << 16;
+/// How the lines name the program, and the status of a failure.
+pub const PROGRAM: Program = Program {
+    name: "svndumpsurvey",
+    failed: 3,
+};
 
 /// A survey that broke off.
 #[derive(Clone, Copy)]
@@ -40,20 +42,7 @@ pub fn drive<'a, R: Read, W: Write, E: Write>(
 {
     match call_of(alloc, words) {
         Ok(call) => survey_input(alloc, &call, size, reader, writer, errors),
-        Err(usage) => refuse(errors, usage),
-    }
-}
-
-/// The line and the status of words that give no options.
-pub fn refuse<E: Write>(errors: &mut E, usage: Usage) -> u8
-    ensures { result ≡ usage_status usage }
-{
-    match usage {
-        Usage::Words | Usage::BothDrops => {
-            write_usage(errors);
-            2
-        }
-        Usage::Memory => tell_out_of_memory(errors),
+        Err(usage) => refuse(errors, PROGRAM, usage),
     }
 }
 
@@ -70,14 +59,10 @@ fn survey_input<R: Read, W: Write, E: Write>(
 {
     let input = match read_all(alloc, reader, size) {
         Ok(input) => input,
-        Err(Unread::Memory) => return tell_out_of_memory(errors),
-        Err(Unread::Source) => {
-            write_unread(errors);
-            return 3;
-        }
+        Err(unread) => return fail_unread(errors, PROGRAM, unread),
     };
-    let Ok(buffer) = Vec::with_capacity(alloc, BUFFER) else {
-        return tell_out_of_memory(errors);
+    let Ok(buffer) = output_buffer(alloc) else {
+        return fail(errors, PROGRAM, Cause::Memory, 0);
     };
     let mut sink = OutMut::new(writer, buffer);
     let answer = survey_and_flush(alloc, input.as_slice(), call, &mut sink);
@@ -164,13 +149,14 @@ fn flush_behind<W: Write>(
     ensures grown { IfErr result (λ broken. GrowsBy sink.new.out.start sink.new.out.taken broken.written) }
     ensures loan { loan_of sink.new ≡ loan_of sink.old }
 {
-    if let Err(SurveyFailure::Sink) = answer {
-        return Err(broken_off(sink, SurveyFailure::Sink));
-    }
-    match (sink.flush(), answer) {
+    let is_down = matches!(answer, Err(SurveyFailure::Sink));
+    match (finish(sink, is_down), answer) {
         (Ok(()), Ok(found)) => Ok(found),
         (Ok(()), Err(failure)) => Err(broken_off(sink, failure)),
-        (Err(SinkDown), _) => Err(broken_off(sink, SurveyFailure::Sink)),
+        (Err(written), _) => Err(BrokenOff {
+            failure: SurveyFailure::Sink,
+            written,
+        }),
     }
 }
 
@@ -191,17 +177,14 @@ fn tell<E: Write>(errors: &mut E, answer: Result<bool, BrokenOff>) -> u8
     match answer {
         Ok(false) => 0,
         Ok(true) => 1,
-        Err(BrokenOff { failure, written }) => {
-            write_failure(errors, failure, written);
-            3
-        }
+        Err(BrokenOff { failure, written }) => fail(errors, PROGRAM, cause(failure), written),
     }
 }
 
-/// The line and the status where there was no memory before the survey.
-fn tell_out_of_memory<E: Write>(errors: &mut E) -> u8
-    ensures { result ≡ 3 }
-{
-    write_failure(errors, SurveyFailure::Memory, 0);
-    3
+/// How the line of a failure names it.
+fn cause(failure: SurveyFailure) -> Cause {
+    match failure {
+        SurveyFailure::Sink => Cause::Sink,
+        SurveyFailure::Memory => Cause::Memory,
+    }
 }

@@ -3,22 +3,18 @@
 
 mod command;
 mod drive;
-mod input;
-mod messages;
 #[cfg(test)]
 mod tests;
 mod words;
 
-use drive::{drive, refuse};
-use std::io::ErrorKind;
+use cli_support::{Usage, arguments, as_texts, input_size, refuse};
+use drive::{PROGRAM, drive};
 use std::process::ExitCode;
-use std::{env, fs};
-use words::Usage;
 
 fn main(rt: HostRuntime) -> ExitCode {
     let status = match run_words(&rt) {
         Ok(status) => status,
-        Err(usage) => refuse(&mut rt.stderr(), usage),
+        Err(usage) => refuse(&mut rt.stderr(), PROGRAM, usage),
     };
     ExitCode::from(status)
 }
@@ -26,13 +22,8 @@ fn main(rt: HostRuntime) -> ExitCode {
 /// The whole program on the words and the streams of the process.
 fn run_words(rt: &HostRuntime) -> Result<u8, Usage> {
     let alloc = rt.alloc();
-    let words = read_words(rt)?;
-    let mut texts = Vec::new(alloc);
-    for word in &words {
-        if texts.push(word.as_str()).is_err() {
-            return Err(Usage::Memory);
-        }
-    }
+    let words = arguments(rt)?;
+    let texts = as_texts(alloc, &words)?;
     Ok(drive(
         alloc,
         texts.as_slice(),
@@ -41,21 +32,4 @@ fn run_words(rt: &HostRuntime) -> Result<u8, Usage> {
         &mut rt.stdout(),
         &mut rt.stderr(),
     ))
-}
-
-/// The words of the process, where each is UTF-8.
-fn read_words(rt: &HostRuntime) -> Result<Vec<String>, Usage> {
-    match env::args(rt) {
-        Ok(words) => words.collect(rt.alloc()).map_err(|_| Usage::Memory),
-        Err(error) if error.kind() == ErrorKind::InvalidData => Err(Usage::Words),
-        Err(_) => Err(Usage::Memory),
-    }
-}
-
-/// How many bytes standard input has where it is a file, else 0 or another number.
-fn input_size(rt: &HostRuntime) -> u64 {
-    match fs::metadata(rt, "/dev/stdin") {
-        Ok(input) => input.len(),
-        Err(_) => 0,
-    }
 }

@@ -1,6 +1,7 @@
 //! Worked words.
 
-use crate::words::{Call, Usage, call_of};
+use crate::words::{Call, call_of};
+use cli_support::Usage;
 use dump_rules::{Empty, Options, Side};
 use std::alloc::Global;
 use std::process::Abort;

@@ -1,23 +1,33 @@
-use Rattle.survey_cli.proofs.Prelude.{◌≡◌, ◌∙◌, ap, drop, map, subst, sym, true, List, [], Some, Err, Bor, flags, TellsCall, call_of_line, side_in}
-use Rattle.clap.specs.Kinds.{HasKind}
+use Rattle.survey_cli.proofs.Prelude.{◌≡◌, ◌∙◌, ap, drop, map, subst, sym, true, List, Some, Ok, Err, Bor, flags, TellsCall, lawful_is_read, line_answers, call_of_side, refusal_answers, second_holds, side_in, ReadsLine, Words}
 use Rattle.clap.specs.Walk.{is_empty}
-use Rattle.clap.specs.Words.{takes, Text, fault_of, found_of, is_simple, is_simple_and_free, matches_of, rows_of}
-use Rattle.survey_cli.proofs.LineLemmas.{free, refusal_answers, refusal_unlawful, second_holds, simple, taken_answers}
+use Rattle.clap.specs.Words.{takes, Text, fault_of, found_of, is_simple_and_free, rows_of}
+use Rattle.cli_support.specs.Arguments.{meaning_in}
+use Rattle.survey_cli.proofs.LineLemmas.{free, never_words}
 use Rattle.survey_cli.proofs.words.call_of.Goals as goal
 
-pub returns-in-Ok-try_get_matches_from-clause-meaning : goal.returns-in-Ok-try_get_matches_from-clause-meaning
-returns-in-Ok-try_get_matches_from-clause-meaning c =
+pub returns-in-Ok-read_line-clause-meaning : goal.returns-in-Ok-read_line-clause-meaning
+returns-in-Ok-read_line-clause-meaning c =
     let line : List Text = map (λ w. w.now) c.in-Some.line.now in
     let behind : drop 1 (map (λ w. w.now) c.args.words.now) ≡ line =
     ap (λ (ws : List (Bor Text)). drop 1 (map (λ w. w.now) ws)) c.in-Some.ensures.cases.0 in
     let named : side_in line ≡ Some c.in-Some-side_in.side = sym c.side_in.ensures ∙ c.in-Some-side_in.is in
-    let none : fault_of flags line ≡ [] = ap (λ a. fault_of a line) (sym c.in-Ok.ensures)
-    ∙ c.in-Ok-try_get_matches_from.ensures.kinds (ap is_simple_and_free c.in-Ok.ensures ∙ free) in
-    let same : rows_of (found_of c.in-Ok-try_get_matches_from.matches) ≡ matches_of flags line =
-    (c.in-Ok-try_get_matches_from.ensures.matches (ap is_simple c.in-Ok.ensures ∙ simple)).0
-    ∙ ap (λ a. matches_of a line) c.in-Ok.ensures in
-    subst (λ l. TellsCall (call_of_line l) c.read_call.result) (sym behind)
-    (taken_answers line c.in-Some-side_in.side _ c.read_call.result named none same c.read_call.ensures)
+    let reads : ReadsLine flags line (Ok c.in-Ok-read_line.matches) =
+    subst (ReadsLine flags line) c.in-Ok-read_line.is
+    (subst (λ a. ReadsLine a line c.read_line.result) c.in-Ok.ensures
+    (c.read_line.ensures.read (ap is_simple_and_free c.in-Ok.ensures ∙ free))) in
+    subst (λ l. TellsCall (meaning_in flags call_of_side l) c.read_call.result) (sym behind)
+    (line_answers flags call_of_side (λ call. call) line c.in-Some-side_in.side named c.in-Ok-read_line.matches
+    c.read_call.result reads c.read_call.ensures)
+
+pub returns-in-Ok-read_line-clause-lawful : goal.returns-in-Ok-read_line-clause-lawful
+returns-in-Ok-read_line-clause-lawful c lawful is =
+    never_words c.in-Some-side_in.side (rows_of (found_of c.in-Ok-read_line.matches)) c.read_call.result
+    c.read_call.ensures is
+
+pub returns-in-Ok-read_line-clause-takes : goal.returns-in-Ok-read_line-clause-takes
+returns-in-Ok-read_line-clause-takes c taken is =
+    never_words c.in-Some-side_in.side (rows_of (found_of c.in-Ok-read_line.matches)) c.read_call.result
+    c.read_call.ensures is
 
 pub returns-in-Err-clause-meaning : goal.returns-in-Err-clause-meaning
 returns-in-Err-clause-meaning c =
@@ -25,24 +35,26 @@ returns-in-Err-clause-meaning c =
     let behind : drop 1 (map (λ w. w.now) c.args.words.now) ≡ line =
     ap (λ (ws : List (Bor Text)). drop 1 (map (λ w. w.now) ws)) c.in-Some.ensures.cases.0 in
     let named : side_in line ≡ Some c.in-Some-side_in.side = sym c.side_in.ensures ∙ c.in-Some-side_in.is in
-    let has : HasKind (fault_of flags line) c.in-Err.error = subst
-    (λ a. HasKind (fault_of a line) c.in-Err.error) c.in-Ok.ensures
-    (c.in-Err.ensures.kinds (ap is_simple_and_free c.in-Ok.ensures ∙ free)) in
-    subst (λ l. TellsCall (call_of_line l) (Err c.refusal.result)) (sym behind)
-    (refusal_answers line c.in-Some-side_in.side c.in-Err.error c.refusal.result named has c.refusal.ensures.memory
-    c.refusal.ensures.either)
+    let reads : ReadsLine flags line (Err c.in-Err.usage) =
+    subst (ReadsLine flags line) c.in-Err.is
+    (subst (λ a. ReadsLine a line c.read_line.result) c.in-Ok.ensures
+    (c.read_line.ensures.read (ap is_simple_and_free c.in-Ok.ensures ∙ free))) in
+    subst (λ l. TellsCall (meaning_in flags call_of_side l) (Err c.in-Err.usage)) (sym behind)
+    (refusal_answers flags call_of_side (λ call. call) line c.in-Some-side_in.side named c.in-Err.usage reads)
 
 pub returns-in-Err-clause-lawful : goal.returns-in-Err-clause-lawful
 returns-in-Err-clause-lawful c lawful is =
     let line : List Text = map (λ w. w.now) c.in-Some.line.now in
     let behind : drop 1 (map (λ w. w.now) c.args.words.now) ≡ line =
     ap (λ (ws : List (Bor Text)). drop 1 (map (λ w. w.now) ws)) c.in-Some.ensures.cases.0 in
-    let has : HasKind (fault_of flags line) c.in-Err.error = subst
-    (λ a. HasKind (fault_of a line) c.in-Err.error) c.in-Ok.ensures
-    (c.in-Err.ensures.kinds (ap is_simple_and_free c.in-Ok.ensures ∙ free)) in
+    let reads : ReadsLine flags line (Err c.in-Err.usage) =
+    subst (ReadsLine flags line) c.in-Err.is
+    (subst (λ a. ReadsLine a line c.read_line.result) c.in-Ok.ensures
+    (c.read_line.ensures.read (ap is_simple_and_free c.in-Ok.ensures ∙ free))) in
     let none : is_empty (fault_of flags line) ≡ true =
     ap (λ l. is_empty (fault_of flags l)) (sym behind) ∙ second_holds _ _ lawful in
-    refusal_unlawful line c.in-Err.error c.refusal.result has c.refusal.ensures.memory none cc
+    let words : c.in-Err.usage ≡ Words = cc in
+    lawful_is_read flags line c.in-Err.usage reads none words
 
 pub returns-in-Err-clause-takes : goal.returns-in-Err-clause-takes
 returns-in-Err-clause-takes c taken is =
@@ -50,5 +62,5 @@ returns-in-Err-clause-takes c taken is =
     let behind : drop 1 (map (λ w. w.now) c.args.words.now) ≡ line =
     ap (λ (ws : List (Bor Text)). drop 1 (map (λ w. w.now) ws)) c.in-Some.ensures.cases.0 in
     let passes : takes flags line ≡ true = ap (λ l. takes flags l) (sym behind) ∙ second_holds _ _ taken in
-    let memory = c.refusal.ensures.memory (c.in-Err.ensures.passes (ap (λ a. takes a line) c.in-Ok.ensures ∙ passes)) in
-    cc
+    let words : c.read_line.result ≡ Err Words = cc in
+    c.read_line.ensures.takes (ap (λ a. takes a line) c.in-Ok.ensures ∙ passes) words

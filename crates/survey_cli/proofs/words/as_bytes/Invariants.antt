@@ -1,5 +1,0 @@
-use Rattle.std.proofs.Common.{◌≡◌, map, take}
-use Rattle.survey_cli.proofs.words.as_bytes.Given as goal
-
-abbrev pub invariant-loop-word : goal.invariant-loop-word
-invariant-loop-word l = map (λ text. text.now) l.texts.items ≡ map (λ word. word.now) (take l.word-index l.words)

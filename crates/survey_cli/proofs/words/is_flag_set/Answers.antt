@@ -1,8 +1,0 @@
-use Rattle.std.proofs.Common.{◌∙◌}
-use Rattle.clap.specs.Words.{found_of}
-use Rattle.survey_cli.proofs.WordLemmas.{flag_is}
-use Rattle.survey_cli.proofs.words.is_flag_set.Goals as goal
-
-pub returns : goal.returns
-returns c = c.unwrap_or.ensures
-    ∙ flag_is _ (found_of c.args.matches.now) c.args.name.now c.get_one.result c.get_one.ensures.none c.get_one.ensures.value
