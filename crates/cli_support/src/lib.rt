@@ -7,18 +7,20 @@
 //! [`read_options`] makes the options of the filter of what was found, and [`is_set`] says whether a switch is set.
 //!
 //! ```
-//! fn loud_command<'a>(alloc: Global) -> Result<Command<'a>, AllocError> {
-//!     filter_command(alloc, "svndumptest")?
-//!         .arg(switch(alloc, "loud"))?
-//!         .arg(prefixes(alloc))
-//! }
-//!
-//! let matches = read_line(loud_command(alloc)?, line)?;
-//! let options = read_options(alloc, side, &matches)?;
-//! let loud = is_set(&matches, "loud");
+//! filter_command(alloc, "svndumptest")?
+//!     .arg(switch(alloc, "loud"))?
+//!     .arg(prefixes(alloc))
 //! ```
 //!
-//! `tests::lines::a_line_is_read` runs this, by its `loud_command` and `read`.
+//! `tests::lines::loud_command` runs this. A line is read by this command so:
+//!
+//! ```
+//! let matches = read_line(command, line)?;
+//! let options = read_options(alloc, side, &matches)?;
+//! Ok((options, is_set(&matches, "loud")))
+//! ```
+//!
+//! `tests::lines::read` runs this.
 //!
 //! [`arguments`] are those of the process, and [`input_size`] is a guess at the size of its input. [`read_all`] reads the
 //! input, [`output_buffer`] is the buffer of an `OutMut`, and [`finish`] hands on what waits there. [`refuse`] and [`fail`]
