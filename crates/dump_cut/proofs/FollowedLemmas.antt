@@ -6,7 +6,7 @@ use Rattle.std.proofs.lemmas.Bool.{and_parts, and_from, not-true}
 use Rattle.std.proofs.lemmas.Option.{slice_get_within}
 use Rattle.std.proofs.lemmas.List.Elements.{Contains-append_left, Contains-append_right}
 use Rattle.dump_trees.specs.Changes.{Made, Change}
-use Rattle.dump_trees.specs.Following.{Way, to_of, followed_told, IsFollowed, IsGrown, AreFollowed, PlacedCopy}
+use Rattle.dump_trees.specs.Following.{Way, to_of, followed_told, IsFollowed, IsGrown, AreFollowed}
 use Rattle.dump_trees.specs.FollowedRests.{PlacedRest, all_rests, rests_at}
 use Rattle.dump_trees.specs.LoadCheck.{ToldKinds}
 use Rattle.dump_trees.specs.Looking.{Placed, placed_from}

@@ -1,6 +1,5 @@
 use Rattle.std.proofs.Common.{map, sym, ap, subst, ◌∙◌}
 use Rattle.std.specs.List.{list_all, slice_get}
-use Rattle.dump_index.specs.Listed.{listed_of}
 use Rattle.dump_index.proofs.KeyLemmas.{listed_at}
 use Rattle.dump_trees.specs.Paths.{names_of}
 use Rattle.dump_cut.specs.steps.ExcludedPaths.{paths_of}
