@@ -1,10 +1,10 @@
 -- Copies that are followed one by one.
 use Rattle.std.proofs.Common.{◌≡◌, ℕ, zero, suc, ◌<◌, Bool, true, false, not, ◌&&◌, ◌||◌, List, [], ◌∷◌, ◌++◌, length, map, filter, Option, Some, None, Contains, inl, inr, refl, sym, ap, ap₂, ◌∙◌, subst, arith}
 use Rattle.std.specs.Prelude.{slice_get, if◌then◌else◌}
-use Rattle.std.specs.List.{AllZip, list_all}
+use Rattle.std.specs.List.{All, AllZip, list_all}
 use Rattle.std.proofs.lemmas.Bool.{and_parts, and_from, not-true}
 use Rattle.std.proofs.lemmas.Option.{slice_get_within}
-use Rattle.std.proofs.lemmas.List.Elements.{Contains-append_left, Contains-append_right}
+use Rattle.std.proofs.lemmas.List.Elements.{All-append, All-cons, All-nil, Contains-append_left, Contains-append_right}
 use Rattle.dump_trees.specs.Changes.{Made, Change}
 use Rattle.dump_trees.specs.Following.{Way, to_of, followed_told, IsFollowed, IsGrown, AreFollowed}
 use Rattle.dump_trees.specs.FollowedRests.{PlacedRest, all_rests, rests_at}
@@ -26,8 +26,9 @@ use Rattle.dump_index.specs.Listed.{Listed}
 use Rattle.dump_index.specs.ToldKinds.{kinds_told_by}
 use Rattle.dump_index.proofs.LawLemmas.{Both, both_at}
 use Rattle.dump_cut.specs.steps.ExcludedPaths.{IsGrownIf}
+use Rattle.dump_cut.specs.declared.followed.Addition.{Addition}
 use Rattle.dump_cut.specs.FollowedCopies.{ComeByFollowing, IsIndexOf}
-use Rattle.dump_cut.specs.steps.FollowedPaths.{AddsPath, AreFollowedTo, IsFollowedTo, KeepsFollowing}
+use Rattle.dump_cut.specs.steps.FollowedPaths.{AddsOne, AddsPath, AreFollowedTo, ArePlaced, IsFollowedTo, KeepsFollowing, LeadsTo}
 use Rattle.dump_cut.proofs.GrowingLemmas.{added_covers}
 
 -- the rest of the copy at a place is among all rests
@@ -74,7 +75,7 @@ pub followed_at : (way : Way) (tops : List NodePath) (listed : List Listed) (pla
     (source : NodePath) (revisions : List (List Change)) (trees : List Tree) (rest : NodePath)
     → slice_get listed place ≡ Some l → l.made ≡ Some (Made.Copied number source) → IsIndexOf listed revisions trees
     → Contains (followed_told way tops (kinds_told_by listed) (placed_from 1 revisions) number (names_of l.path) source) rest
-    → IsFollowedTo way trees revisions tops (to_of way (names_of l.path) source ++ rest)
+    → IsFollowedTo way trees revisions tops place (to_of way (names_of l.path) source ++ rest)
 followed_at way tops listed place l number source revisions trees rest there made index among =
     cases (both_at listed placed index.lists place)
   where
@@ -85,7 +86,7 @@ followed_at way tops listed place l number source revisions trees rest there mad
     told = kinds_told_by listed
 
     found : (p : Placed) → slice_get (placed_from 1 revisions) place ≡ Some p → IsListed l p
-        → IsFollowedTo way trees revisions tops (to_of way (names_of l.path) source ++ rest)
+        → IsFollowedTo way trees revisions tops place (to_of way (names_of l.path) source ++ rest)
     found p at its =
         let listed_rest : Contains (rests_at way tops (kinds_told_by listed) (placed_from 1 revisions)
         (slice_get (placed_from 1 revisions) place)) rest =
@@ -109,13 +110,13 @@ followed_at way tops listed place l number source revisions trees rest there mad
           source = from;
           rest = rest;
           old = old;
-          copy = (copies_are_placed trees revisions path from old).1 place copy;
+          copy = copy;
           there = its_rest;
           at = ap₂ (λ t s. to_of way t s ++ rest) to start;
         }
 
     cases : Both listed (placed_from 1 revisions) place
-        → IsFollowedTo way trees revisions tops (to_of way (names_of l.path) source ++ rest)
+        → IsFollowedTo way trees revisions tops place (to_of way (names_of l.path) source ++ rest)
     cases (Both.Neither none other) = absurd (let bad : None ≡ Some l = sym none ∙ there in cc)
     cases (Both.One k p one at its) =
         let both : Some k ≡ Some l = sym one ∙ there in
@@ -138,31 +139,32 @@ followed_more way trees revisions (first ∷ additions) tops mid added more (its
     (its, next, grows, followed_more way trees revisions additions next mid added more rest one grown)
 
 kept_more : (way : Way) (listed : List Listed) (old mid new additions before : List NodePath) (paths : List NodePath)
-    (added : NodePath) → AreFollowedTo way listed old paths → Contains paths added
+    (added : NodePath) (place : ℕ) → AreFollowedTo way listed old place paths → Contains paths added
     → ((path : NodePath) → is_covered old path ≡ true → is_covered mid path ≡ true)
     → is_covered mid added ≡ false → IsGrown mid added new
     → KeepsFollowing way listed old before mid additions → KeepsFollowing way listed old before new (additions ++ added ∷ [])
-kept_more way listed old mid new additions before paths added are there grow outside grown keeps first comes revisions trees index =
+kept_more way listed old mid new additions before paths added place are there grow outside grown keeps first comes revisions trees index =
     let to = are revisions trees added index there in
     followed_more way trees revisions additions first mid added new (keeps first comes revisions trees index)
     (subst (λ path. IsFollowed way trees revisions mid path) (sym to.at)
-    (listed_are_followed way trees revisions old mid to.path to.source to.rest to.old to.copy to.there grow
+    (listed_are_followed way trees revisions old mid to.path to.source to.rest to.old
+    ((copies_are_placed trees revisions to.path to.source to.old).1 place to.copy) to.there grow
     (ap (is_covered mid) (sym to.at) ∙ outside)))
     grown
 
 pub kept_step : (way : Way) (listed : List Listed) (old mid before adds new after paths : List NodePath) (added : NodePath)
-    → AreFollowedTo way listed old paths → Contains paths added
+    (place : ℕ) → AreFollowedTo way listed old place paths → Contains paths added
     → ((path : NodePath) → is_covered old path ≡ true → is_covered mid path ≡ true)
     → AddsPath mid adds added new after → KeepsFollowing way listed old before mid adds
     → KeepsFollowing way listed old before new after
-kept_step way listed old mid before adds new after paths added are there grow step keeps =
+kept_step way listed old mid before adds new after paths added place are there grow step keeps =
     cases step.is_new step.outside step.grown step.more
   where
     cases : (b : Bool) → b ≡ not (is_covered mid added) → IsGrownIf mid added new b
         → after ≡ (if b then adds ++ added ∷ [] else adds) → KeepsFollowing way listed old before new after
     cases true outside grown more first comes =
         subst (λ additions. ComeByFollowing way listed first additions new) (sym more)
-        (kept_more way listed old mid new adds before paths added are there grow (not-true _ (sym outside)) grown keeps first
+        (kept_more way listed old mid new adds before paths added place are there grow (not-true _ (sym outside)) grown keeps first
         comes)
     cases false outside same more first comes =
         subst (λ additions. ComeByFollowing way listed first additions new) (sym more)
@@ -258,18 +260,37 @@ pub paths_followed : (way : Way) (tops : List NodePath) (listed : List Listed) (
     → to ≡ to_of way (names_of l.path) source → paths ≡ map (λ rest. to ++ rest) rests
     → ((placed : List Placed) → AllZip IsListed listed placed
     → rests ≡ followed_told way tops (kinds_told_by listed) placed number (names_of l.path) source)
-    → (place : ℕ) → slice_get listed place ≡ Some l → AreFollowedTo way listed tops paths
+    → (place : ℕ) → slice_get listed place ≡ Some l → AreFollowedTo way listed tops place paths
 paths_followed way tops listed l number source paths to rests made goes are told place there revisions trees path index among =
     let (rest, its, same) = map_contains to rests path (subst (λ ps. Contains ps path) are among) in
-    subst (λ p. IsFollowedTo way trees revisions tops p) (sym (same ∙ ap (λ t. t ++ rest) goes))
+    subst (λ p. IsFollowedTo way trees revisions tops place p) (sym (same ∙ ap (λ t. t ++ rest) goes))
     (followed_at way tops listed place l number source revisions trees rest there made index
     (subst (λ rs. Contains rs rest) (told (placed_from 1 revisions) index.lists) its))
-
-pub nothing_followed : (way : Way) (listed : List Listed) (tops : List NodePath) → AreFollowedTo way listed tops []
-nothing_followed way listed tops revisions trees path index among = absurd (contains_none path among)
 
 -- what is kept by one step, and then by another
 pub keeps_both : (way : Way) (listed : List Listed) (old before mid adds new after : List NodePath)
     → KeepsFollowing way listed old before mid adds → KeepsFollowing way listed mid adds new after
     → KeepsFollowing way listed old before new after
 keeps_both way listed old before mid adds new after one other first comes = other first (one first comes)
+
+-- the places of the additions
+
+pub placed_more : (way : Way) (listed : List Listed) (old paths : List NodePath) (place : ℕ) (path : NodePath)
+    (before after : List Addition) → AreFollowedTo way listed old place paths → Contains paths path
+    → AddsOne place path before after → ArePlaced way listed before → ArePlaced way listed after
+placed_more way listed old paths place path before after are there (inl same) placed revisions trees index =
+    subst (All (λ (a : Addition). LeadsTo way trees (placed_from 1 revisions) a.place (names_of a.path.items))) (sym same)
+    (placed revisions trees index)
+placed_more way listed old paths place path before after are there (inr (added, more, at, is)) placed revisions trees index =
+    let to = are revisions trees path index there in
+    let its : LeadsTo way trees (placed_from 1 revisions) added.place (names_of added.path.items) =
+    subst (λ n. LeadsTo way trees (placed_from 1 revisions) n (names_of added.path.items)) (sym at)
+    (subst (λ p. LeadsTo way trees (placed_from 1 revisions) place p) (sym is)
+    (record { path = to.path; source = to.source; rest = to.rest; old = to.old; copy = to.copy; at = to.at })) in
+    subst (All (λ (a : Addition). LeadsTo way trees (placed_from 1 revisions) a.place (names_of a.path.items))) (sym more)
+    (All-append (λ (a : Addition). LeadsTo way trees (placed_from 1 revisions) a.place (names_of a.path.items)) before (added ∷ [])
+    (placed revisions trees index) (All-cons (λ (a : Addition). LeadsTo way trees (placed_from 1 revisions) a.place (names_of a.path.items)) added []
+    its (All-nil (λ (a : Addition). LeadsTo way trees (placed_from 1 revisions) a.place (names_of a.path.items)))))
+
+pub none_placed : (way : Way) (listed : List Listed) → ArePlaced way listed []
+none_placed way listed revisions trees index = All-nil _

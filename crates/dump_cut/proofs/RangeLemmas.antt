@@ -7,12 +7,13 @@ use Rattle.std.specs.Cmp.Lexicographic.{slice_cmp}
 use Rattle.std.specs.Cmp.{both_ways}
 use Rattle.std.specs.Ordering.{ordering_then, is_gt, is_le, nat_cmp}
 use Rattle.std.specs.declared.cmp.Ordering.{Ordering}
-use Rattle.dump_trees.specs.Paths.{names_of, below}
+use Rattle.dump_trees.specs.Paths.{names_of, below, path_text}
 use Rattle.dump_trees.specs.Returns.{rests_below, named_rest}
 use Rattle.dump_trees.specs.Siblings.{has_node_names}
 use Rattle.dump_index.specs.InOrder.{ends_in_slash}
 use Rattle.dump_index.specs.Effects.{goes_on, stands_over}
 use Rattle.dump_index.specs.steps.Touching.{rest_text}
+use Rattle.dump_trees.proofs.paths.PathNames.{split_text}
 use Rattle.dump_index.proofs.BelowLemmas.{Sides, sides}
 use Rattle.dump_index.proofs.FrontLemmas.{cut_goes_on, goes_on_cut}
 use Rattle.dump_index.proofs.RestLemmas.{split, split_some, rest_same, rest_over, rest_none}
@@ -257,3 +258,8 @@ shown_twice f show (x ∷ xs) = ap (λ rest. f (show x) ∷ rest) (shown_twice f
 pub empty_list : {A : Type 0} (xs : List A) → (length xs == 0) ≡ true → xs ≡ []
 empty_list [] is = refl
 empty_list (x ∷ xs) is = let none : length (x ∷ xs) ≡ 0 = eqb-true (length (x ∷ xs)) 0 is in absurd (omega arith)
+
+-- the prefix of a path that isn't the root
+pub prefix_text : (path : List ℕ) → (length path == 0) ≡ false → 47 ∷ path ≡ path_text (names_of path)
+prefix_text [] some = absurd (let bad : true ≡ false = some in cc)
+prefix_text (b ∷ path) some = sym (split_text (b ∷ path))

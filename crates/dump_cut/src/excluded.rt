@@ -1,17 +1,18 @@
 //! The paths that a cut excludes.
-ghost use Rattle.std.specs.Prelude.{◌≡◌, ◌++◌, ◌∷◌, [], IfOk, IsTrue, OnErr, OnOk, bytes_eq, false, map, not};
+ghost use Rattle.std.specs.Prelude.{◌≡◌, ◌++◌, ◌∷◌, [], IfOk, IsTrue, OnErr, OnOk, bytes_eq, false, map, not, true};
 ghost use Rattle.std.specs.List.{list_all, list_any};
+ghost use Rattle.dump_rules.specs.declared.options.Empty.TheVariants.{Pad};
 ghost use Rattle.dump_trees.specs.CanonicalPaths.{canonical_paths};
-ghost use Rattle.dump_trees.specs.Paths.{NodePath, names_of};
+ghost use Rattle.dump_trees.specs.Paths.{NodePath, names_of, path_text};
 ghost use Rattle.dump_trees.specs.Returns.{is_covered, rests_covered};
-ghost use Rattle.dump_trees.specs.Siblings.{has_node_names};
+ghost use Rattle.dump_trees.specs.Siblings.{ExcludesPaths, has_node_names};
 ghost use Rattle.dump_index.specs.InOrder.{ends_in_slash};
 ghost use Rattle.dump_cut.specs.steps.ExcludedPaths.{IsGrownIf, paths_of};
 ghost use Rattle.dump_cut.specs.steps.ExcludedTexts.{is_text_below, texts_below};
 
 use crate::canonical::canonical_prefix;
 use dump_index::rest_behind;
-use dump_rules::Memory;
+use dump_rules::{Empty, Memory, Options, Side};
 use std::alloc::Global;
 use std::collections::BTreeSet;
 use std::marker::Model;
@@ -44,6 +45,18 @@ fn with_byte(alloc: Global, path: &[u8], byte: u8) -> Result<Vec<u8>, Memory>
     let mut text = Vec::from_slice(alloc, path)?;
     text.push(byte)?;
     Ok(text)
+}
+
+/// The prefix that names the path to the filter: with a slash before each name.
+fn prefix_of(alloc: Global, path: &[u8]) -> Result<Vec<u8>, Memory>
+    ensures { IfOk result (λ prefix. prefix.items ≡ path_text (names_of path.now)) }
+{
+    if path.is_empty() {
+        return Ok(Vec::new(alloc));
+    }
+    let mut prefix = Vec::from_slice(alloc, b"/")?;
+    prefix.extend_from_slice(path)?;
+    Ok(prefix)
 }
 
 /// Whether the path is strictly below the top.
@@ -158,5 +171,34 @@ impl Excluded {
             excluded.add(alloc, &path)?;
         }
         Ok(excluded)
+    }
+
+    /// The prefixes that name the paths to the filter, in the order of the paths.
+    fn prefixes(&self, alloc: Global) -> Result<Vec<Vec<u8>>, Memory>
+        ensures texts { IfOk result (λ prefixes. map (λ prefix. prefix.items) prefixes.items ≡ map path_text (paths_of self.now)) }
+        ensures named { OnOk result (IsTrue (list_all has_node_names (paths_of self.now))) }
+    {
+        let mut prefixes = Vec::new(alloc);
+        for path in &self.paths {
+            let prefix = prefix_of(alloc, path)?;
+            prefixes.push(prefix)?;
+        }
+        Ok(prefixes)
+    }
+
+    /// The options of the filter that excludes these paths. Under them each revision stays, with its own number and
+    /// properties, and lines of mergeinfo go whose paths are excluded.
+    pub fn filter_options(&self, alloc: Global) -> Result<Options, Memory>
+        ensures excludes { IfOk result (λ options. ExcludesPaths options (paths_of self.now)) }
+        ensures stays { IfOk result (λ options. (options.empty ≡ Pad) × (options.preserve ≡ true)) }
+        ensures skips { IfOk result (λ options. options.skip_missing ≡ true) }
+        ensures named { OnOk result (IsTrue (list_all has_node_names (paths_of self.now))) }
+    {
+        let prefixes = self.prefixes(alloc)?;
+        let mut texts = Vec::new(alloc);
+        for prefix in &prefixes {
+            texts.push(prefix.as_slice())?;
+        }
+        Options::new(alloc, Side::Exclude, &texts, Empty::Pad, false, true, true)
     }
 }

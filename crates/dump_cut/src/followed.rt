@@ -1,5 +1,5 @@
 //! What is excluded too, since copies are followed from what is excluded.
-ghost use Rattle.std.specs.Prelude.{◌≡◌, [], ℕ, List, IfOk, IsTrue, OnOk, Some, length, map, slice_get};
+ghost use Rattle.std.specs.Prelude.{◌≡◌, [], ℕ, List, IfOk, IsTrue, OnOk, Some, length, map, option_map, slice_get};
 ghost use Rattle.std.specs.List.{AllZip, list_all};
 ghost use Rattle.dump_trees.specs.FollowedRests.{all_rests};
 ghost use Rattle.dump_trees.specs.Following as Following;
@@ -7,13 +7,13 @@ ghost use Rattle.dump_trees.specs.Looking.{Placed};
 ghost use Rattle.dump_trees.specs.Paths.{names_of};
 ghost use Rattle.dump_trees.specs.Siblings.{has_node_names};
 ghost use Rattle.dump_index.specs.IndexLaws.{IsListed};
-ghost use Rattle.dump_index.specs.Listed.{Listed, listed_of};
+ghost use Rattle.dump_index.specs.Listed.{Listed, listed_made, listed_of};
 ghost use Rattle.dump_index.specs.ToldKinds.{kinds_told_by};
 ghost use Rattle.dump_cut.specs.steps.ExcludedPaths.{paths_of};
 ghost use Rattle.dump_cut.specs.FollowedCopies.{ComeByFollowing};
 ghost use Rattle.dump_cut.specs.steps.FollowedPaths.{added_paths};
 ghost use Rattle.dump_cut.specs.steps.Returned.{way_meant};
-ghost use Rattle.dump_cut.specs.steps.FollowedPaths.{AddsPath, AreFollowedTo, KeepsFollowing};
+ghost use Rattle.dump_cut.specs.steps.FollowedPaths.{AddsOne, AddsPath, AreFollowedTo, ArePlaced, KeepsFollowing, paths_made};
 ghost use Rattle.dump_cut.specs.NamedPaths.{has_named_paths};
 
 use crate::copies::source_of;
@@ -43,7 +43,10 @@ fn followed_paths(
     requires { IsTrue (has_named_paths (listed_of change.now)) }
     ensures named { IfOk result (λ paths. IsTrue (list_all (λ path. has_node_names (names_of path.items)) paths.items)) }
     ensures followed { IfOk result (λ paths. (place : ℕ) → slice_get index.now place ≡ Some (listed_of change.now)
-        → AreFollowedTo (way_meant way) index.now (paths_of excluded.now) (map (λ path. names_of path.items) paths.items)) }
+        → AreFollowedTo (way_meant way) index.now (paths_of excluded.now) place (map (λ path. names_of path.items) paths.items)) }
+    ensures exact { IfOk result (λ paths. (placed : List Placed) → AllZip IsListed index.now placed
+        → map (λ path. names_of path.items) paths.items ≡ paths_made (way_meant way) (paths_of excluded.now)
+        (kinds_told_by index.now) placed (names_of change.now.path.now) (option_map listed_made change.now.made)) }
 {
     let Some(source) = source_of(change) else {
         return Ok(Vec::new(alloc));
@@ -67,7 +70,8 @@ fn add_path(
     additions: &mut Vec<Addition>,
 ) -> Result<(), Memory>
     requires { IsTrue (has_node_names (names_of path.now)) }
-    ensures { OnOk result (AddsPath (paths_of excluded.old) (added_paths additions.old.items) (names_of path.now)
+    ensures one { OnOk result (AddsOne place (names_of path.now) additions.old.items additions.new.items) }
+    ensures adds { OnOk result (AddsPath (paths_of excluded.old) (added_paths additions.old.items) (names_of path.now)
         (paths_of excluded.new) (added_paths additions.new.items)) }
 {
     if !excluded.add(alloc, path)? {
@@ -87,8 +91,11 @@ fn add_paths(
     additions: &mut Vec<Addition>,
 ) -> Result<(), Memory>
     requires { IsTrue (list_all (λ path. has_node_names (names_of path.items)) paths.now) }
-    ensures { OnOk result ((way : Following.Way) (listed : List Listed)
-        → AreFollowedTo way listed (paths_of excluded.old) (map (λ path. names_of path.items) paths.now)
+    ensures placed { OnOk result ((way : Following.Way) (listed : List Listed)
+        → AreFollowedTo way listed (paths_of excluded.old) place (map (λ path. names_of path.items) paths.now)
+        → ArePlaced way listed additions.old.items → ArePlaced way listed additions.new.items) }
+    ensures keeps { OnOk result ((way : Following.Way) (listed : List Listed)
+        → AreFollowedTo way listed (paths_of excluded.old) place (map (λ path. names_of path.items) paths.now)
         → KeepsFollowing way listed (paths_of excluded.old) (added_paths additions.old.items) (paths_of excluded.new)
         (added_paths additions.new.items)) }
 {
@@ -107,7 +114,9 @@ fn follow_each(
     additions: &mut Vec<Addition>,
 ) -> Result<(), Memory>
     requires { IsTrue (list_all has_named_paths index.now) }
-    ensures { OnOk result (KeepsFollowing (way_meant way) index.now (paths_of excluded.old) (added_paths additions.old.items)
+    ensures placed { OnOk result (ArePlaced (way_meant way) index.now additions.old.items
+        → ArePlaced (way_meant way) index.now additions.new.items) }
+    ensures keeps { OnOk result (KeepsFollowing (way_meant way) index.now (paths_of excluded.old) (added_paths additions.old.items)
         (paths_of excluded.new) (added_paths additions.new.items)) }
 {
     let changes = index.changes();
@@ -129,6 +138,7 @@ pub fn follow(
     requires { IsTrue (list_all has_named_paths index.now) }
     ensures followed { IfOk result (λ additions. ComeByFollowing (way_meant way) index.now (paths_of excluded.old)
         (added_paths additions.items) (paths_of excluded.new)) }
+    ensures placed { IfOk result (λ additions. ArePlaced (way_meant way) index.now additions.items) }
     ensures ended { OnOk result ((placed : List Placed) → AllZip IsListed index.now placed
         → all_rests (way_meant way) (paths_of excluded.new) (kinds_told_by index.now) placed (length placed) ≡ []) }
 {

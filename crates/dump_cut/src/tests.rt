@@ -10,6 +10,7 @@ use crate::{
 };
 use dump_changes::{Reading, read_changes};
 use dump_index::{ChangeIndex, are_in_order};
+use dump_rules::keeps;
 use std::alloc::Global;
 use std::test::Fail;
 
@@ -215,4 +216,13 @@ fn copies_are_followed(rt: HostRuntime) -> Result<(), Fail> {
 fn paths_or_no_memory(rt: HostRuntime) {
     let answer = follows(rt.alloc(), b"d", Way::ToCopies, b"e");
     assert!(rt; matches!(answer, Ok(true) | Err(Memory)));
+}
+
+#[test]
+fn the_filter_excludes_the_paths(rt: HostRuntime) -> Result<(), Fail> {
+    let excluded = Excluded::of(rt.alloc(), &[b"d/f".as_slice(), b"./e"])?;
+    let options = excluded.filter_options(rt.alloc())?;
+    assert!(rt; !keeps(&options, b"d/f/g") && !keeps(&options, b"e") && keeps(&options, b"d"));
+    assert!(rt; options.preserve() && options.skip_missing() && !options.renumber());
+    Ok(())
 }

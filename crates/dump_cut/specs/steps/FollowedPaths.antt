@@ -1,7 +1,10 @@
 -- The paths to which one copy is followed, and what more additions keep.
-use Rattle.std.specs.Prelude.{◌≡◌, ◌++◌, ◌∷◌, [], Bool, not, List, map, Contains, if◌then◌else◌}
-use Rattle.dump_trees.specs.Changes.{Change}
-use Rattle.dump_trees.specs.Following.{Way, Copies, followed, to_of}
+use Rattle.std.specs.List.{All}
+use Rattle.std.specs.Prelude.{◌⊎◌, ℕ, Option, Some, None, ◌≡◌, ◌++◌, ◌∷◌, [], Bool, not, List, map, Contains, if◌then◌else◌}
+use Rattle.dump_trees.specs.Changes.{Made, Change}
+use Rattle.dump_trees.specs.Following.{Way, PlacedCopy, followed, followed_told, to_of}
+use Rattle.dump_trees.specs.LoadCheck.{ToldKinds}
+use Rattle.dump_trees.specs.Looking.{Placed, placed_from}
 use Rattle.dump_trees.specs.Paths.{NodePath, names_of}
 use Rattle.dump_trees.specs.Returns.{is_covered}
 use Rattle.dump_trees.specs.Trees.{Tree}
@@ -14,21 +17,21 @@ use Rattle.dump_cut.specs.FollowedCopies.{ComeByFollowing, IsIndexOf}
 abbrev pub added_paths : List Addition → List NodePath
 added_paths additions = map (λ (addition : Addition). names_of addition.path.items) additions
 
--- a copy is followed to the path, where these paths are what there is so far
-pub record IsFollowedTo (way : Way) (trees : List Tree) (revisions : List (List Change)) (tops : List NodePath)
+-- the copy at this place is followed to the path, where these paths are what there is so far
+pub record IsFollowedTo (way : Way) (trees : List Tree) (revisions : List (List Change)) (tops : List NodePath) (place : ℕ)
     (to : NodePath) : Type 0 where
   pub path : NodePath
   pub source : NodePath
   pub rest : NodePath
   pub old : Tree
-  pub copy : Copies trees revisions path source old
+  pub copy : PlacedCopy trees (placed_from 1 revisions) place path source old
   pub there : Contains (followed way tops old path source) rest
   pub at : to ≡ to_of way path source ++ rest
 
--- in each history that an index of these changes tells of, copies are followed to each of the paths
-abbrev pub AreFollowedTo : Way → List Listed → List NodePath → List NodePath → Type 0
-AreFollowedTo way listed tops paths = (revisions : List (List Change)) (trees : List Tree) (path : NodePath) →
-    IsIndexOf listed revisions trees → Contains paths path → IsFollowedTo way trees revisions tops path
+-- in each history that an index of these changes tells of, the copy at this place is followed to each of the paths
+abbrev pub AreFollowedTo : Way → List Listed → List NodePath → ℕ → List NodePath → Type 0
+AreFollowedTo way listed tops place paths = (revisions : List (List Change)) (trees : List Tree) (path : NodePath) →
+    IsIndexOf listed revisions trees → Contains paths path → IsFollowedTo way trees revisions tops place path
 
 -- what came by following still does, with more additions
 abbrev pub KeepsFollowing : Way → List Listed → List NodePath → List NodePath → List NodePath → List NodePath → Type 0
@@ -41,3 +44,30 @@ pub record AddsPath (old before : List NodePath) (added : NodePath) (new after :
   pub outside : is_new ≡ not (is_covered old added)
   pub grown : IsGrownIf old added new is_new
   pub more : after ≡ (if is_new then before ++ added ∷ [] else before)
+
+-- at most one addition is new: that of the path, by the copy at this place
+abbrev pub AddsOne : ℕ → NodePath → List Addition → List Addition → Type 0
+AddsOne place path old new = (new ≡ old)
+    ⊎ ((added : Addition) × (new ≡ old ++ added ∷ []) × (added.place ≡ place) × (names_of added.path.items ≡ path))
+
+-- the copy at this place leads to the path: it is below the path to which the copy is followed
+pub record LeadsTo (way : Way) (trees : List Tree) (placed : List Placed) (place : ℕ) (to : NodePath) : Type 0 where
+  pub path : NodePath
+  pub source : NodePath
+  pub rest : NodePath
+  pub old : Tree
+  pub copy : PlacedCopy trees placed place path source old
+  pub at : to ≡ to_of way path source ++ rest
+
+-- in each history that an index of these changes tells of, each addition is of a path to which the copy at its place leads
+abbrev pub ArePlaced : Way → List Listed → List Addition → Type 0
+ArePlaced way listed additions = (revisions : List (List Change)) (trees : List Tree) → IsIndexOf listed revisions trees
+    → All (λ (a : Addition). LeadsTo way trees (placed_from 1 revisions) a.place (names_of a.path.items)) additions
+
+-- the paths to which what a change makes is followed
+abbrev pub paths_made : Way → List NodePath → ToldKinds → List Placed → NodePath → Option Made → List NodePath
+paths_made way tops told placed path None = []
+paths_made way tops told placed path (Some Made.NewFolder) = []
+paths_made way tops told placed path (Some Made.NewFile) = []
+paths_made way tops told placed path (Some (Made.Copied number source)) =
+    map (λ rest. to_of way path source ++ rest) (followed_told way tops told placed number path source)

@@ -3,21 +3,27 @@ use Rattle.std.specs.Prelude.{Contains}
 use Rattle.dump_trees.specs.Paths.{names_of}
 use Rattle.dump_cut.specs.steps.ExcludedPaths.{paths_of}
 use Rattle.dump_cut.specs.steps.FollowedPaths.{added_paths}
-use Rattle.dump_cut.proofs.FollowedLemmas.{contains_at, grows_step, kept_step}
+use Rattle.dump_cut.proofs.FollowedLemmas.{contains_at, grows_step, kept_step, placed_more}
 use Rattle.dump_cut.proofs.followed.add_paths.Goals as goal
 
 pub loop-path-preserved : goal.loop-path-preserved
-loop-path-preserved c = record {
-  keeps = λ way listed are.
-      kept_step way listed (paths_of c.args.excluded.now) (paths_of c.loop-path.excluded) (added_paths c.args.additions.now.items)
-      (added_paths c.loop-path.additions.items) (paths_of c.add_path.new.excluded) (added_paths c.add_path.new.additions.items)
-      (map (λ path. names_of path.items) c.args.paths.now) (names_of c.deref.result.now) are
-      (subst (λ text. Contains (map (λ path. names_of path.items) c.args.paths.now) (names_of text))
-      (sym (c.deref.ensures.value ∙ ap (λ path. path.items) c.path-item.is))
-      (contains_at (λ path. names_of path.items) c.args.paths.now c.loop-path.path-index _ c.loop-path-test.true))
-      c.loop-path.invariant.grow c.in_ok-add_path.ensures (c.loop-path.invariant.keeps way listed are);
-  grow = λ path was.
-      grows_step (paths_of c.loop-path.excluded) (added_paths c.loop-path.additions.items) (names_of c.deref.result.now)
-      (paths_of c.add_path.new.excluded) (added_paths c.add_path.new.additions.items) c.in_ok-add_path.ensures path
-      (c.loop-path.invariant.grow path was);
-}
+loop-path-preserved c =
+    let there = subst (λ text. Contains (map (λ path. names_of path.items) c.args.paths.now) (names_of text))
+    (sym (c.deref.ensures.value ∙ ap (λ path. path.items) c.path-item.is))
+    (contains_at (λ path. names_of path.items) c.args.paths.now c.loop-path.path-index _ c.loop-path-test.true) in
+    record {
+      placed = λ way listed are before.
+          placed_more way listed (paths_of c.args.excluded.now) (map (λ path. names_of path.items) c.args.paths.now)
+          c.args.place (names_of c.deref.result.now) c.loop-path.additions.items c.add_path.new.additions.items are there
+          c.in_ok-add_path.ensures.one (c.loop-path.invariant.placed way listed are before);
+      keeps = λ way listed are.
+          kept_step way listed (paths_of c.args.excluded.now) (paths_of c.loop-path.excluded)
+          (added_paths c.args.additions.now.items) (added_paths c.loop-path.additions.items)
+          (paths_of c.add_path.new.excluded) (added_paths c.add_path.new.additions.items)
+          (map (λ path. names_of path.items) c.args.paths.now) (names_of c.deref.result.now) c.args.place are there
+          c.loop-path.invariant.grow c.in_ok-add_path.ensures.adds (c.loop-path.invariant.keeps way listed are);
+      grow = λ path was.
+          grows_step (paths_of c.loop-path.excluded) (added_paths c.loop-path.additions.items) (names_of c.deref.result.now)
+          (paths_of c.add_path.new.excluded) (added_paths c.add_path.new.additions.items) c.in_ok-add_path.ensures.adds path
+          (c.loop-path.invariant.grow path was);
+    }

@@ -5,13 +5,16 @@ use Rattle.dump_trees.specs.Returns.{is_covered}
 use Rattle.dump_index.specs.Listed.{Listed}
 use Rattle.dump_cut.specs.steps.ExcludedPaths.{paths_of}
 use Rattle.dump_cut.specs.steps.FollowedPaths.{added_paths}
-use Rattle.dump_cut.specs.steps.FollowedPaths.{AreFollowedTo, KeepsFollowing}
+use Rattle.dump_cut.specs.steps.FollowedPaths.{AreFollowedTo, ArePlaced, KeepsFollowing}
 use Rattle.dump_cut.proofs.followed.add_paths.Given as goal
 
 abbrev pub invariant-loop-path : goal.invariant-loop-path
 invariant-loop-path l = record {
+  placed : ((way : Way) (listed : List Listed)
+      → AreFollowedTo way listed (paths_of l.fn.excluded) l.place (map (λ path. names_of path.items) l.paths)
+      → ArePlaced way listed l.fn.additions.items → ArePlaced way listed l.additions.items);
   keeps : ((way : Way) (listed : List Listed)
-      → AreFollowedTo way listed (paths_of l.fn.excluded) (map (λ path. names_of path.items) l.paths)
+      → AreFollowedTo way listed (paths_of l.fn.excluded) l.place (map (λ path. names_of path.items) l.paths)
       → KeepsFollowing way listed (paths_of l.fn.excluded) (added_paths l.fn.additions.items) (paths_of l.excluded)
       (added_paths l.additions.items));
   grow : ((path : NodePath) → is_covered (paths_of l.fn.excluded) path ≡ true → is_covered (paths_of l.excluded) path ≡ true);

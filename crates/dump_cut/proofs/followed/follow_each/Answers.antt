@@ -18,12 +18,18 @@ followed_paths-requires c =
 
 pub loop-place-preserved : goal.loop-place-preserved
 loop-place-preserved c =
-    keeps_both (way_meant c.args.way) c.args.index.now (paths_of c.args.excluded.now) (added_paths c.args.additions.now.items)
-    (paths_of c.loop-place.excluded) (added_paths c.loop-place.additions.items) (paths_of c.add_paths.new.excluded)
-    (added_paths c.add_paths.new.additions.items) c.loop-place.invariant
-    (c.in_ok-add_paths.ensures (way_meant c.args.way) c.args.index.now
-    (subst (λ paths. AreFollowedTo (way_meant c.args.way) c.args.index.now (paths_of c.loop-place.excluded)
-    (map (λ path. names_of path.items) paths)) (sym c.deref.ensures.value)
+    let are = subst (λ paths. AreFollowedTo (way_meant c.args.way) c.args.index.now (paths_of c.loop-place.excluded)
+    c.loop-place.place (map (λ path. names_of path.items) paths)) (sym c.deref.ensures.value)
     (c.in_ok-paths.ensures.followed c.loop-place.place
     (ap (λ listed. slice_get listed c.loop-place.place) (sym c.changes-changes.ensures)
-    ∙ listed_at c.changes-changes.result.now c.loop-place.place _ c.loop-place-test.true))))
+    ∙ listed_at c.changes-changes.result.now c.loop-place.place _ c.loop-place-test.true)) in
+    record {
+      placed = λ before.
+          c.in_ok-add_paths.ensures.placed (way_meant c.args.way) c.args.index.now are (c.loop-place.invariant.placed before);
+      keeps =
+          keeps_both (way_meant c.args.way) c.args.index.now (paths_of c.args.excluded.now)
+          (added_paths c.args.additions.now.items) (paths_of c.loop-place.excluded)
+          (added_paths c.loop-place.additions.items) (paths_of c.add_paths.new.excluded)
+          (added_paths c.add_paths.new.additions.items) c.loop-place.invariant.keeps
+          (c.in_ok-add_paths.ensures.keeps (way_meant c.args.way) c.args.index.now are);
+    }

@@ -5,6 +5,8 @@ use Rattle.std.proofs.lemmas.List.{take_all, take_more}
 use Rattle.dump_trees.specs.Paths.{NodePath, names_of}
 use Rattle.dump_trees.specs.Siblings.{has_node_names}
 use Rattle.dump_index.specs.Listed.{listed_made, listed_of}
+use Rattle.dump_index.specs.ToldKinds.{kinds_told_by}
+use Rattle.dump_cut.specs.steps.FollowedPaths.{paths_made}
 use Rattle.dump_index.proofs.SlashLemmas.{names_joined}
 use Rattle.dump_cut.specs.steps.ExcludedPaths.{paths_of}
 use Rattle.dump_cut.specs.steps.Returned.{way_meant}
@@ -52,3 +54,10 @@ returns-clause-followed c =
     c.in-Some.source.revision (names_of c.in-Some.source.path.now) (map (λ path. names_of path.items) c.loop-rest.paths.items)
     (names_of c.to-to.result.now) (map (λ rest. names_of rest.now) c.in_ok-rests.rests.items)
     (ap (option_map listed_made) c.in-Some.ensures.copy) c.to-to.ensures (all-paths c) c.in_ok-rests.ensures.followed
+
+pub returns-clause-exact : goal.returns-clause-exact
+returns-clause-exact c = λ placed all.
+    all-paths c
+    ∙ (ap₂ (λ to rests. map (λ rest. to ++ rest) rests) c.to-to.ensures (c.in_ok-rests.ensures.followed placed all)
+    ∙ sym (ap (λ m. paths_made (way_meant c.args.way) (paths_of c.args.excluded.now) (kinds_told_by c.args.index.now) placed
+    (names_of c.args.change.now.path.now) (option_map listed_made m)) c.in-Some.ensures.copy))
