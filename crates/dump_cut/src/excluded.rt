@@ -190,7 +190,7 @@ impl Excluded {
     /// properties, and lines of mergeinfo go whose paths are excluded.
     pub fn filter_options(&self, alloc: Global) -> Result<Options, Memory>
         ensures excludes { IfOk result (λ options. ExcludesPaths options (paths_of self.now)) }
-        ensures stays { IfOk result (λ options. (options.empty ≡ Pad) × (options.preserve ≡ true)) }
+        ensures stays { IfOk result (λ options. (options.empty ≡ Pad) × (options.renumber ≡ false) × (options.preserve ≡ true)) }
         ensures skips { IfOk result (λ options. options.skip_missing ≡ true) }
         ensures named { OnOk result (IsTrue (list_all has_node_names (paths_of self.now))) }
     {
