@@ -1,15 +1,17 @@
 -- Copies that are followed one by one.
-use Rattle.std.proofs.Common.{◌≡◌, ℕ, zero, suc, ◌<◌, Bool, true, false, not, ◌&&◌, ◌||◌, List, [], ◌∷◌, ◌++◌, length, map, filter, Option, Some, None, Contains, inl, inr, refl, sym, ap, ap₂, ◌∙◌, subst, arith}
+use Rattle.std.proofs.Common.{◌≡◌, ℕ, zero, suc, ◌+◌, ◌<◌, ◌≤◌, Bool, true, false, not, ◌&&◌, ◌||◌, List, [], ◌∷◌, ◌++◌, length, map, filter, Option, Some, None, is_some, Contains, inl, inr, refl, sym, ap, ap₂, ◌∙◌, subst, arith}
 use Rattle.std.specs.Prelude.{slice_get, if◌then◌else◌}
 use Rattle.std.specs.List.{All, AllZip, list_all}
 use Rattle.std.proofs.lemmas.Bool.{and_parts, and_from, not-true}
+use Rattle.std.proofs.lemmas.List.{length-append}
+use Rattle.std.proofs.lemmas.List.Folds.{list_all-append}
 use Rattle.std.proofs.lemmas.Option.{slice_get_within}
 use Rattle.std.proofs.lemmas.List.Elements.{All-append, All-cons, All-nil, Contains-append_left, Contains-append_right}
 use Rattle.dump_trees.specs.Changes.{Made, Change}
-use Rattle.dump_trees.specs.Following.{Way, to_of, followed_told, IsFollowed, IsGrown, AreFollowed}
-use Rattle.dump_trees.specs.FollowedRests.{PlacedRest, all_rests, rests_at}
+use Rattle.dump_trees.specs.Following.{Way, from_of, to_of, followed_told, IsFollowed, IsGrown, AreFollowed}
+use Rattle.dump_trees.specs.FollowedRests.{PlacedRest, all_rests, rests_at, rests_made}
 use Rattle.dump_trees.specs.LoadCheck.{ToldKinds}
-use Rattle.dump_trees.specs.Looking.{Placed, placed_from}
+use Rattle.dump_trees.specs.Looking.{Placed, end_of, placed_from}
 use Rattle.dump_trees.specs.Paths.{NodePath, names_of, below}
 use Rattle.dump_trees.specs.Returns.{is_covered, named_rest, rests_below, rests_covered}
 use Rattle.dump_trees.specs.Siblings.{has_node_names}
@@ -17,7 +19,7 @@ use Rattle.dump_trees.specs.Trees.{Tree}
 use Rattle.dump_trees.proofs.changes.TreeLemmas.{below_rest}
 use Rattle.dump_trees.proofs.paths.SiblingLemmas.{both_names, rest_names}
 use Rattle.dump_trees.proofs.expansions.FoundSiblings.{contains_map}
-use Rattle.dump_trees.proofs.cuts.CoveredPaths.{contains_cases, contains_first, contains_later, contains_none}
+use Rattle.dump_trees.proofs.cuts.CoveredPaths.{contains_cases, contains_first, contains_later, contains_none, filter_passed}
 use Rattle.dump_trees.proofs.cuts.FollowLemmas.{listed_are_followed}
 use Rattle.dump_trees.proofs.cuts.PlacedCopies.{copies_are_placed}
 use Rattle.dump_trees.proofs.cuts.RestLemmas.{all_rests_are_listed}
@@ -28,8 +30,10 @@ use Rattle.dump_index.proofs.LawLemmas.{Both, both_at}
 use Rattle.dump_cut.specs.steps.ExcludedPaths.{IsGrownIf}
 use Rattle.dump_cut.specs.declared.followed.Addition.{Addition}
 use Rattle.dump_cut.specs.FollowedCopies.{ComeByFollowing, IsIndexOf}
-use Rattle.dump_cut.specs.steps.FollowedPaths.{AddsOne, AddsPath, AreFollowedTo, ArePlaced, IsFollowedTo, KeepsFollowing, LeadsTo}
+use Rattle.dump_cut.specs.steps.FollowedPaths.{AddsOne, AddsPath, AreFollowedTo, ArePlaced, IsFollowedTo, IsIdle, KeepsFollowing, LeadsTo, paths_made}
+use Rattle.dump_cut.specs.steps.Returned.{placed_rests}
 use Rattle.dump_cut.proofs.GrowingLemmas.{added_covers}
+use Rattle.dump_cut.proofs.ReturnedLemmas.{rests_more}
 
 -- the rest of the copy at a place is among all rests
 
@@ -294,3 +298,71 @@ placed_more way listed old paths place path before after are there (inr (added, 
 
 pub none_placed : (way : Way) (listed : List Listed) → ArePlaced way listed []
 none_placed way listed revisions trees index = All-nil _
+
+-- what adds nothing
+
+-- where there is no addition more, the path was covered, and the paths are the same
+pub unadded : (old before : List NodePath) (added : NodePath) (new after : List NodePath)
+    → AddsPath old before added new after → length after ≡ length before
+    → (new ≡ old) × (is_covered old added ≡ true)
+unadded old before added new after step same = cases step.is_new step.outside step.grown step.more
+  where
+    cases : (b : Bool) → b ≡ not (is_covered old added) → IsGrownIf old added new b
+        → after ≡ (if b then before ++ added ∷ [] else before) → (new ≡ old) × (is_covered old added ≡ true)
+    cases true outside grown more =
+        let longer : length after ≡ length before + 1 = ap length more ∙ length-append before (added ∷ []) in
+        absurd (omega (arith, longer, same))
+    cases false outside is more = (is, from_not (is_covered old added) outside)
+      where
+        from_not : (b : Bool) → false ≡ not b → b ≡ true
+        from_not true none = refl
+        from_not false none = absurd (let bad : false ≡ true = none in cc)
+
+pub not_shorter : (place : ℕ) (path : NodePath) (before after : List Addition) → AddsOne place path before after
+    → length before ≤ length after
+not_shorter place path before after (inl same) =
+    let long : length after ≡ length before = ap length same in omega (arith, long)
+not_shorter place path before after (inr (added, more, at, is)) =
+    let longer : length after ≡ length before + 1 = ap length more ∙ length-append before (added ∷ []) in omega (arith, longer)
+
+-- one path more adds nothing
+pub idle_more : (first : List NodePath) (paths : List NodePath) (mid new : List NodePath) (path : NodePath)
+    → IsIdle first paths mid → (new ≡ mid) × (is_covered mid path ≡ true) → IsIdle first (paths ++ path ∷ []) new
+idle_more first paths mid new path (same, covered) (next, its) = (
+  next ∙ same,
+  list_all-append (is_covered first) paths (path ∷ [])
+      ∙ and_from (list_all (is_covered first) paths) (list_all (is_covered first) (path ∷ [])) covered
+      (and_from (is_covered first path) true (ap (λ tops. is_covered tops path) (sym same) ∙ its) refl),
+)
+
+-- where all paths to which a change is followed are covered, it isn't followed
+pub nothing_made : (way : Way) (tops : List NodePath) (told : ToldKinds) (placed : List Placed) (path : NodePath)
+    (made : Option Made) → list_all (is_covered tops) (paths_made way tops told placed path made) ≡ true
+    → rests_made way tops told placed path made ≡ []
+nothing_made way tops told placed path None covered = refl
+nothing_made way tops told placed path (Some Made.NewFolder) covered = refl
+nothing_made way tops told placed path (Some Made.NewFile) covered = refl
+nothing_made way tops told placed path (Some (Made.Copied number source)) covered =
+    none (followed_told way tops told placed number path source) (λ rest there. there) covered
+  where
+    none : (rests : List NodePath)
+        → ((rest : NodePath) → Contains rests rest → Contains (followed_told way tops told placed number path source) rest)
+        → list_all (is_covered tops) (map (λ rest. to_of way path source ++ rest) rests) ≡ true → rests ≡ []
+    none [] each all = refl
+    none (rest ∷ rests) each all =
+        let passes = filter_passed (λ r. is_some (told (end_of placed number) (source ++ r))
+        && not (is_covered tops (to_of way path source ++ r))) (rests_covered (from_of way path source) tops) rest
+        (each rest (contains_first rest rests)) in
+        let outside = not-true _ (and_parts (is_some (told (end_of placed number) (source ++ rest)))
+        (not (is_covered tops (to_of way path source ++ rest))) passes).1 in
+        let inside = (and_parts (is_covered tops (to_of way path source ++ rest)) _ all).0 in
+        absurd (let bad : true ≡ false = sym inside ∙ outside in cc)
+
+-- one change more that isn't followed
+pub still_none : (way : Way) (tops : List NodePath) (told : ToldKinds) (placed : List Placed) (place : ℕ) (p : Placed)
+    (path : NodePath) (made : Option Made) → slice_get placed place ≡ Some p → p.change.path ≡ path → p.change.made ≡ made
+    → all_rests way tops told placed place ≡ [] → rests_made way tops told placed path made ≡ []
+    → all_rests way tops told placed (place + 1) ≡ []
+still_none way tops told placed place p path made there at makes before none =
+    rests_more way tops told placed place p path made there at makes
+    ∙ ap₂ (λ rests found. rests ++ placed_rests place found) before none

@@ -45,7 +45,7 @@ with_true false = refl
 
 -- the change at a place, by its path and what it makes
 
-rests_more : (way : Way) (tops : List NodePath) (told : ToldKinds) (placed : List Placed) (place : ℕ) (p : Placed)
+pub rests_more : (way : Way) (tops : List NodePath) (told : ToldKinds) (placed : List Placed) (place : ℕ) (p : Placed)
     (path : NodePath) (made : Option Made) → slice_get placed place ≡ Some p → p.change.path ≡ path → p.change.made ≡ made
     → all_rests way tops told placed (place + 1)
     ≡ all_rests way tops told placed place ++ placed_rests place (rests_made way tops told placed path made)

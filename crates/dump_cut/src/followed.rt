@@ -1,5 +1,5 @@
 //! What is excluded too, since copies are followed from what is excluded.
-ghost use Rattle.std.specs.Prelude.{◌≡◌, [], ℕ, List, IfOk, IsTrue, OnOk, Some, length, map, option_map, slice_get};
+ghost use Rattle.std.specs.Prelude.{◌≡◌, ◌≤◌, [], ℕ, List, IfOk, IsTrue, OnOk, Some, length, map, option_map, slice_get};
 ghost use Rattle.std.specs.List.{AllZip, list_all};
 ghost use Rattle.dump_trees.specs.FollowedRests.{all_rests};
 ghost use Rattle.dump_trees.specs.Following as Following;
@@ -13,12 +13,12 @@ ghost use Rattle.dump_cut.specs.steps.ExcludedPaths.{paths_of};
 ghost use Rattle.dump_cut.specs.FollowedCopies.{ComeByFollowing};
 ghost use Rattle.dump_cut.specs.steps.FollowedPaths.{added_paths};
 ghost use Rattle.dump_cut.specs.steps.Returned.{way_meant};
-ghost use Rattle.dump_cut.specs.steps.FollowedPaths.{AddsOne, AddsPath, AreFollowedTo, ArePlaced, KeepsFollowing, paths_made};
+ghost use Rattle.dump_cut.specs.steps.FollowedPaths.{AddsOne, AddsPath, AreFollowedTo, ArePlaced, IsIdle, KeepsFollowing, paths_made};
 ghost use Rattle.dump_cut.specs.NamedPaths.{has_named_paths};
 
 use crate::copies::source_of;
 use crate::excluded::Excluded;
-use crate::returns::{Way, all_followed, followed_rests};
+use crate::returns::{Way, followed_rests};
 use dump_index::{ChangeIndex, NodeChange, joined};
 use dump_rules::Memory;
 use std::alloc::Global;
@@ -98,6 +98,9 @@ fn add_paths(
         → AreFollowedTo way listed (paths_of excluded.old) place (map (λ path. names_of path.items) paths.now)
         → KeepsFollowing way listed (paths_of excluded.old) (added_paths additions.old.items) (paths_of excluded.new)
         (added_paths additions.new.items)) }
+    ensures grows { OnOk result (length additions.old.items ≤ length additions.new.items) }
+    ensures idle { OnOk result (length additions.new.items ≡ length additions.old.items
+        → IsIdle (paths_of excluded.old) (map (λ path. names_of path.items) paths.now) (paths_of excluded.new)) }
 {
     for path in paths {
         add_path(alloc, excluded, place, path, additions)?;
@@ -118,6 +121,9 @@ fn follow_each(
         → ArePlaced (way_meant way) index.now additions.new.items) }
     ensures keeps { OnOk result (KeepsFollowing (way_meant way) index.now (paths_of excluded.old) (added_paths additions.old.items)
         (paths_of excluded.new) (added_paths additions.new.items)) }
+    ensures idle { OnOk result (length additions.new.items ≡ length additions.old.items
+        → (placed : List Placed) → AllZip IsListed index.now placed
+        → all_rests (way_meant way) (paths_of excluded.new) (kinds_told_by index.now) placed (length placed) ≡ []) }
 {
     let changes = index.changes();
     for (place, change) in changes.iter().enumerate() {
@@ -145,10 +151,11 @@ pub fn follow(
     let mut additions = Vec::new(alloc);
     // each pass but the last adds a path, and no memory holds so many
     for _ in 0..u64::MAX {
-        if all_followed(alloc, index, excluded, way)?.is_empty() {
+        let before = additions.len();
+        follow_each(alloc, index, excluded, way, &mut additions)?;
+        if additions.len() == before {
             return Ok(additions);
         }
-        follow_each(alloc, index, excluded, way, &mut additions)?;
     }
     Err(Memory)
 }

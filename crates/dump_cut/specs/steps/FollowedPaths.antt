@@ -1,6 +1,6 @@
 -- The paths to which one copy is followed, and what more additions keep.
-use Rattle.std.specs.List.{All}
-use Rattle.std.specs.Prelude.{◌⊎◌, ℕ, Option, Some, None, ◌≡◌, ◌++◌, ◌∷◌, [], Bool, not, List, map, Contains, if◌then◌else◌}
+use Rattle.std.specs.List.{All, list_all}
+use Rattle.std.specs.Prelude.{◌⊎◌, ℕ, Option, Some, None, ◌≡◌, ◌++◌, ◌∷◌, [], Bool, not, List, map, Contains, IsTrue, if◌then◌else◌}
 use Rattle.dump_trees.specs.Changes.{Made, Change}
 use Rattle.dump_trees.specs.Following.{Way, PlacedCopy, followed, followed_told, to_of}
 use Rattle.dump_trees.specs.LoadCheck.{ToldKinds}
@@ -71,3 +71,7 @@ paths_made way tops told placed path (Some Made.NewFolder) = []
 paths_made way tops told placed path (Some Made.NewFile) = []
 paths_made way tops told placed path (Some (Made.Copied number source)) =
     map (λ rest. to_of way path source ++ rest) (followed_told way tops told placed number path source)
+
+-- nothing is excluded more, since these paths cover all of those
+abbrev pub IsIdle : List NodePath → List NodePath → List NodePath → Type 0
+IsIdle old paths new = (new ≡ old) × IsTrue (list_all (is_covered old) paths)
