@@ -38,7 +38,7 @@ mod usage;
 pub use buffered::{finish, output_buffer};
 pub use flags::{filter_command, prefixes, switch};
 pub use input::{Unread, read_all};
-pub use line::{is_set, read_line, read_options, side_in};
+pub use line::{is_set, read_line, read_options, read_prefixes, side_in};
 pub use outcome::{Cause, Program, fail, fail_unread, refuse};
 pub use process::{arguments, as_texts, input_size};
 pub use usage::Usage;

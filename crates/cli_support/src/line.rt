@@ -92,7 +92,7 @@ fn read_empty(matches: &ArgMatches<'_>) -> Option<Empty>
 }
 
 /// The bytes of the prefixes, as they were given.
-fn read_prefixes<'a>(alloc: Global, matches: &ArgMatches<'a>) -> Result<Vec<&'a [u8]>, Usage>
+pub fn read_prefixes<'a>(alloc: Global, matches: &ArgMatches<'a>) -> Result<Vec<&'a [u8]>, Usage>
     ensures { IfOk result (λ texts. map (λ text. text.now) texts.items ≡ unwrap_or (all_of (codes "PREFIX") (rows_of (found_of matches.now))) []) }
 {
     match matches.get_strs("PREFIX") {

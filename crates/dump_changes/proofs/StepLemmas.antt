@@ -11,7 +11,7 @@ use Rattle.dump_index.specs.IndexLaws.{IsListed}
 use Rattle.dump_index.specs.declared.change.NodeChange.{NodeChange}
 use Rattle.dump_changes.specs.declared.read.Position.{Position}
 use Rattle.dump_changes.specs.declared.read.Step.TheVariants.{Goes, Makes}
-use Rattle.dump_changes.specs.steps.DumpReading.{MakesListed}
+use Rattle.dump_changes.specs.ListedDumps.{MakesListed}
 use Rattle.dump_changes.specs.steps.Reading.{Reads, NoMore, Revision, Node, IsReadingStep}
 use Rattle.std.proofs.Common.{unwrap_or}
 use Rattle.dump_text.specs.Names.{revision_name}

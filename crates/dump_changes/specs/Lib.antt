@@ -1,1 +1,2 @@
+pub mod ListedDumps
 pub mod steps

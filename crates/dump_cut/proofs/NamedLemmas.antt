@@ -19,7 +19,7 @@ use Rattle.dump_history.specs.RecordChanges.{Patching, MakesChange, copied_from,
 use Rattle.dump_index.specs.IndexLaws.{IsListed}
 use Rattle.dump_index.specs.Listed.{Listed, listed_of}
 use Rattle.dump_index.specs.declared.change.NodeChange.{NodeChange}
-use Rattle.dump_changes.specs.steps.DumpReading.{MakesListed}
+use Rattle.dump_changes.specs.ListedDumps.{MakesListed}
 use Rattle.dump_cut.specs.NamedPaths.{has_named_paths, has_named_source}
 
 -- the same of a change of the repository

@@ -17,7 +17,7 @@ use Rattle.dump_cut.specs.TakenCopies.{TakenDumpLoads}
 use Rattle.dump_cut.proofs.OwnFormLemmas.{own_expansion}
 use Rattle.dump_cut.proofs.TakenLemmas.{taken_revisions_separate}
 
-placed_named : (listed : List Listed) (placed : List Placed) → AllZip IsListed listed placed
+pub placed_named : (listed : List Listed) (placed : List Placed) → AllZip IsListed listed placed
     → list_all has_named_paths listed ≡ true → list_all (λ (p : Placed). has_node_names p.change.path) placed ≡ true
 placed_named [] [] all named = refl
 placed_named [] (p ∷ placed) all named = absurd all

@@ -1,23 +1,14 @@
--- What is read of a dump: the changes of its revisions, as an index lists them.
+-- What is read of a dump.
 use Rattle.std.specs.Prelude.{◌≡◌, ◌||◌, ⊤, ℕ, true, List}
 use Rattle.dump_records.specs.RecordText.{DumpRecord}
 use Rattle.dump_records.specs.DumpText.{Ending, HasRecords}
 use Rattle.dump_records.specs.steps.CutRecords.{IsRecordOf}
 use Rattle.dump_digest.specs.RecordParts.{is_node, is_revision_record}
 use Rattle.dump_trees.specs.Changes.{Change}
-use Rattle.dump_trees.specs.Looking.{placed_from}
 use Rattle.dump_history.specs.RecordChanges.{Patching, MakesChange}
-use Rattle.dump_history.specs.DumpChanges.{MakeRevisions}
-use Rattle.dump_index.specs.IndexLaws.{AreListed}
-use Rattle.dump_index.specs.declared.change.NodeChange.{NodeChange}
+use Rattle.dump_changes.specs.ListedDumps.{MakesListed}
 use Rattle.dump_changes.specs.declared.read.Reading.{Reading}
 use Rattle.dump_changes.specs.declared.read.Reading.TheVariants.{Changes, NoChange, OutOfOrder, NoRevision, Broken}
-
--- the dump is records to its end, which make revisions whose changes are these, whatever text deltas make
-abbrev pub MakesListed : List ℕ → List NodeChange → Type 0
-MakesListed dump changes = (records : List DumpRecord) × HasRecords dump records Ending.Whole
-    × ((patched : Patching) → (revisions : List (List Change)) × MakeRevisions patched records revisions
-    × AreListed changes (placed_from 1 revisions))
 
 -- what is read
 abbrev pub IsReadingOfDump : List ℕ → Reading → Type 0
