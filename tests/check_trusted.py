@@ -157,7 +157,7 @@ class Group:
         named = [f"`{it}`" for _, _, it in functions if it != "*"]
         if program != next(iter(programs())) and named[-1] == "`drive`":
             named[-1] = f"the {program}'s `drive`"
-        self.names = f"{', '.join(named[:-1])} and {named[-1]}"
+        self.names = " and ".join(filter(None, [", ".join(named[:-1]), named[-1]]))
         self.has_laws = any(name == "*" for _, _, name in functions)
 
 

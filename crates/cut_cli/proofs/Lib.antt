@@ -1,0 +1,4 @@
+pub mod CommandLemmas
+pub mod CutLemmas
+pub mod DriveLemmas
+mod Values

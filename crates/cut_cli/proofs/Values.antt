@@ -1,0 +1,85 @@
+-- Worked values of the definitions, computed by the kernel.
+use Rattle.std.proofs.Common.{◌≡◌, List, [], ◌∷◌, length, Ok, Err, codes, refl, true, false}
+use Rattle.clap.specs.Words.{Text}
+use Rattle.clap.proofs.OnLiterals.{clap_on_literals}
+use Rattle.cli_support.specs.declared.usage.Usage.TheVariants.{BothDrops, Words}
+use Rattle.dump_pipeline.specs.declared.answer.Answer.TheVariants.{Failed, Fault}
+use Rattle.dump_pipeline.specs.declared.answer.Failure.TheVariants.{Memory}
+use Rattle.dump_rules.specs.declared.options.Side.TheVariants.{Exclude, Include}
+use Rattle.dump_text.specs.declared.fault.FaultKind.TheVariants.{Md5}
+use Rattle.cut_cli.specs.CommandLine.{cut_command}
+use Rattle.cut_cli.specs.Drive.{obstacle_status, stop_line, stop_line_of}
+use Rattle.cut_cli.specs.Words.{TellsCut, cut_of_words}
+use Rattle.cut_cli.specs.declared.examine.Obstacle.TheVariants.{ComesBack, Loses}
+
+-- CommandLine
+
+-- four options, and the prefixes
+five_rules : length cut_command.top.rules ≡ 5
+five_rules = refl
+
+no_sides : cut_command.subs ≡ []
+no_sides = refl
+
+-- Words
+
+abbrev given : List Text → List Text
+given words = codes "p" ∷ codes "exclude" ∷ words
+
+-- an option after a prefix is read, and one after the two minus signs is a prefix
+around : cut_of_words (given (codes "a" ∷ codes "--follow-copies" ∷ codes "--quiet" ∷ codes "--" ∷ codes "--x" ∷ []))
+    ≡ Ok (record {
+      side = Exclude;
+      prefixes = codes "a" ∷ codes "--x" ∷ [];
+      follow = true;
+      dry_run = false;
+      quiet = true;
+      verbose = false;
+    })
+unfolding clap_on_literals
+around = refl
+
+others : cut_of_words (codes "p" ∷ codes "include" ∷ codes "--verbose" ∷ codes "--dry-run" ∷ codes "/" ∷ [])
+    ≡ Ok (record {
+      side = Include;
+      prefixes = codes "/" ∷ [];
+      follow = false;
+      dry_run = true;
+      quiet = false;
+      verbose = true;
+    })
+unfolding clap_on_literals
+others = refl
+
+no_prefix : cut_of_words (given []) ≡ Err Words
+unfolding clap_on_literals
+no_prefix = refl
+
+empty_prefix : cut_of_words (given (codes "a" ∷ [] ∷ [])) ≡ Err Words
+unfolding clap_on_literals
+empty_prefix = refl
+
+quiet_and_verbose : cut_of_words (given (codes "--quiet" ∷ codes "a" ∷ codes "--verbose" ∷ [])) ≡ Err Words
+unfolding clap_on_literals
+quiet_and_verbose = refl
+
+options_of_the_filter : cut_of_words (given (codes "--renumber-revs" ∷ codes "a" ∷ [])) ≡ Err Words
+unfolding clap_on_literals
+options_of_the_filter = refl
+
+refused_for_others : ¬ TellsCut (Err BothDrops) (Err Words)
+refused_for_others e = cc
+
+-- Drive
+
+no_last_line : stop_line_of (Failed Memory 3) ≡ []
+no_last_line = refl
+
+same_line : stop_line Md5 ≡ stop_line_of (Fault Md5 0 0)
+same_line = refl
+
+returns_have_a_status : obstacle_status ComesBack ≡ 3
+returns_have_a_status = refl
+
+others_have_one : obstacle_status (Loses 3) ≡ 1
+others_have_one = refl

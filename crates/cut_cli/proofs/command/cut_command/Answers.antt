@@ -1,0 +1,16 @@
+use Rattle.std.proofs.Common.{ap, ◌∙◌, true}
+use Rattle.std.proofs.lemmas.Result.{IfOk-weaker}
+use Rattle.clap.specs.Simple.{app_of_fields, on_top}
+use Rattle.cli_support.proofs.CommandLemmas.{one_more}
+use Rattle.cut_cli.proofs.command.cut_command.Goals as goal
+
+pub returns : goal.returns
+returns c =
+    let bare = ap app_of_fields c.disable_help_flag.ensures
+    ∙ ap (on_top (λ s. record s { disable_help_flag = true })) c.new.ensures.app in
+    let e1 = one_more _ _ _ _ _ c.in_ok-arg.ensures c.switch.ensures.local bare c.switch.ensures.rule in
+    let e2 = one_more _ _ _ _ _ c.in_ok-arg-2.ensures c.switch-2.ensures.local e1 c.switch-2.ensures.rule in
+    let e3 = one_more _ _ _ _ _ c.in_ok-arg-3.ensures c.switch-3.ensures.local e2 c.switch-3.ensures.rule in
+    let e4 = one_more _ _ _ _ _ c.in_ok-arg-4.ensures c.switch-4.ensures.local e3 c.switch-4.ensures.rule in
+    IfOk-weaker c.arg-5.result _ _
+    (λ r adds. one_more _ _ _ _ _ adds c.prefixes.ensures.local e4 c.prefixes.ensures.rule) c.arg-5.ensures

@@ -1,0 +1,12 @@
+-- The command that clap reads the arguments after the side by.
+use Rattle.std.specs.Prelude.{codes}
+use Rattle.clap.specs.Words.{App, with_rule}
+use Rattle.cli_support.specs.FilterCommand.{bare_command, prefixes, switch}
+
+-- options in any order, before, between and after the prefixes
+abbrev pub cut_command : App
+cut_command =
+    let copies = with_rule (bare_command (codes "svndumpcut")) (switch (codes "follow-copies")) in
+    let dry = with_rule copies (switch (codes "dry-run")) in
+    let said = with_rule (with_rule dry (switch (codes "quiet"))) (switch (codes "verbose")) in
+    with_rule said prefixes

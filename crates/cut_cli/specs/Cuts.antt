@@ -1,0 +1,156 @@
+-- What is found out of a dump before it is filtered, and what the filter then writes.
+use Rattle.std.specs.Prelude.{◌≡◌, ◌≢◌, ◌||◌, ⊤, ℕ, true, false, List, [], ◌∷◌, ◌++◌, length, map, Some, None, IsTrue}
+use Rattle.std.specs.List.{AllZip, list_all}
+use Rattle.dump_digest.specs.RecordParts.{is_node, is_revision_record}
+use Rattle.dump_records.specs.DumpText.{BeginsWithRecords, Ending, HasRecords}
+use Rattle.dump_records.specs.RecordText.{DumpRecord}
+use Rattle.dump_rules.specs.declared.options.Empty.TheVariants.{Pad}
+use Rattle.dump_rules.specs.Settings.{Settings}
+use Rattle.dump_filter.specs.FilterLaws.{LengthsFit}
+use Rattle.dump_trees.specs.CanonicalPaths.{canonical_paths}
+use Rattle.dump_trees.specs.Changes.{Change}
+use Rattle.dump_trees.specs.ComingBack.{NothingComesBack}
+use Rattle.dump_trees.specs.FollowedRests.{all_rests}
+use Rattle.dump_trees.specs.Following.{Way, Covers, IsInClosure}
+use Rattle.dump_trees.specs.LoadCheck.{all_apply}
+use Rattle.dump_trees.specs.Looking.{Placed, placed_from}
+use Rattle.dump_trees.specs.Paths.{NodePath}
+use Rattle.dump_trees.specs.Returns.{is_covered}
+use Rattle.dump_trees.specs.Siblings.{ExcludesPaths, has_node_names}
+use Rattle.dump_trees.specs.Trees.{Tree, root_alone}
+use Rattle.dump_history.specs.CutDumps.{FiltersExpansion, LoadsNumbered, TreeRestricts}
+use Rattle.dump_history.specs.DumpChanges.{LoadsAs, MakeRevisions}
+use Rattle.dump_history.specs.RecordChanges.{MakesChange, Patching}
+use Rattle.dump_index.specs.IndexLaws.{IsListed}
+use Rattle.dump_index.specs.InOrder.{are_in_order}
+use Rattle.dump_index.specs.Listed.{Listed, listed_of}
+use Rattle.dump_index.specs.ToldKinds.{kinds_told_by}
+use Rattle.dump_index.specs.declared.change.NodeChange.{NodeChange}
+use Rattle.dump_changes.specs.ListedDumps.{MakesListed}
+use Rattle.dump_cut.specs.FollowedCopies.{ComeByFollowing}
+use Rattle.dump_cut.specs.LoadChecks.{IsFirstRefused}
+use Rattle.dump_cut.specs.TakenCopies.{IsFirstNotTaken}
+use Rattle.cut_cli.specs.Words.{CutMeaning}
+use Rattle.cut_cli.specs.declared.examine.Obstacle.{Obstacle}
+use Rattle.cut_cli.specs.declared.examine.Obstacle.TheVariants.{ComesBack, Loses, Refused, Unread}
+use Rattle.cut_cli.specs.declared.read.Unread.{Unread as UnreadDump}
+use Rattle.cut_cli.specs.declared.read.Unread.TheVariants as unread
+
+-- reading
+
+-- an index of the changes of the dump says this of them
+abbrev pub AreChangesOf : List ℕ → List Listed → Type 0
+AreChangesOf dump listed = (changes : List NodeChange) × MakesListed dump changes × (map listed_of changes ≡ listed)
+
+-- the record with this number is a node that makes no change
+abbrev pub MakesNoChange : List ℕ → ℕ → Type 0
+MakesNoChange dump number = (r : DumpRecord)
+    × ((before : List DumpRecord) × BeginsWithRecords dump (before ++ r ∷ []) × (length before ≡ number))
+    × (is_node r ≡ true) × ((patched : Patching) (c : Change) → MakesChange patched r c → ⊥)
+
+-- the record with this number is a node or a revision
+abbrev pub IsInHistory : List ℕ → ℕ → Type 0
+IsInHistory dump number = (r : DumpRecord)
+    × ((before : List DumpRecord) × BeginsWithRecords dump (before ++ r ∷ []) × (length before ≡ number))
+    × ((is_node r || is_revision_record r) ≡ true)
+
+-- why there is no such index
+abbrev pub IsUnreadFor : List ℕ → UnreadDump → Type 0
+IsUnreadFor dump (unread.Broken kind place) = (records : List DumpRecord) × HasRecords dump records (Ending.Broken kind place)
+IsUnreadFor dump (unread.NoChange number) = MakesNoChange dump number
+IsUnreadFor dump (unread.OutOfOrder number) = IsInHistory dump number
+IsUnreadFor dump unread.NoRevision = ⊤
+IsUnreadFor dump (unread.LaterCopy number) =
+    (changes : List NodeChange) × MakesListed dump changes × (are_in_order 0 changes ≡ false)
+
+-- what is excluded
+
+-- the paths exclude what these prefixes name, read as svnadmin load reads paths, and nothing else
+abbrev pub AreNamed : List (List ℕ) → List NodePath → Type 0
+AreNamed prefixes excluded = (path : NodePath) → is_covered excluded path ≡ is_covered (canonical_paths prefixes) path
+
+-- no copy brings back anything of what these paths exclude
+abbrev pub BringsNothingBack : List Listed → List NodePath → Type 0
+BringsNothingBack listed excluded = (placed : List Placed) → AllZip IsListed listed placed
+    → all_rests Way.ToCopies excluded (kinds_told_by listed) placed (length placed) ≡ []
+
+-- some copy does
+abbrev pub BringsSomeBack : List Listed → List NodePath → Type 0
+BringsSomeBack listed excluded = (placed : List Placed) → AllZip IsListed listed placed
+    → all_rests Way.ToCopies excluded (kinds_told_by listed) placed (length placed) ≢ []
+
+-- the call excludes these paths: those that it names, and those to which copies are followed from there, if it asks for
+-- that. Nothing comes back of them
+pub record ExcludesAsAsked (m : CutMeaning) (listed : List Listed) (excluded : List NodePath) : Type 0 where
+  pub first : List NodePath
+  pub additions : List NodePath
+  pub named : AreNamed m.prefixes first
+  pub come : ComeByFollowing Way.ToCopies listed first additions excluded
+  pub unfollowed : m.follow ≡ false → excluded ≡ first
+  pub nothing_back : BringsNothingBack listed excluded
+
+-- the call doesn't ask to follow copies, and something would come back
+abbrev pub Returns : CutMeaning → List Listed → Type 0
+Returns m listed = (m.follow ≡ false)
+    × ((excluded : List NodePath) × AreNamed m.prefixes excluded × BringsSomeBack listed excluded)
+
+-- a load takes all changes of the dump, as far as paths and kinds go
+abbrev pub IsTakenDump : List ℕ → List Listed → Type 0
+IsTakenDump dump listed = AreChangesOf dump listed × IsFirstRefused listed None
+
+-- why nothing is written
+abbrev pub IsObstacleTo : CutMeaning → List ℕ → Obstacle → Type 0
+IsObstacleTo m dump (Unread reason) = IsUnreadFor dump reason
+IsObstacleTo m dump (Refused refused) = (listed : List Listed) × AreChangesOf dump listed
+    × IsFirstRefused listed (Some refused)
+IsObstacleTo m dump ComesBack = (listed : List Listed) × IsTakenDump dump listed × Returns m listed
+IsObstacleTo m dump (Loses place) = (listed : List Listed) × (excluded : List NodePath) × IsTakenDump dump listed
+    × ExcludesAsAsked m listed excluded
+    × ((placed : List Placed) → AllZip IsListed listed placed
+    → IsFirstNotTaken excluded (kinds_told_by listed) placed (Some place))
+
+-- these are the options of a filter that cuts the dump: it excludes these paths, keeps each revision with its number and
+-- properties, and leaves mergeinfo of excluded paths out
+pub record IsReadyFor (m : CutMeaning) (dump : List ℕ) (settings : Settings) : Type 0 where
+  pub listed : List Listed
+  pub excluded : List NodePath
+  pub is_taken : IsTakenDump dump listed
+  pub are_excluded : ExcludesAsAsked m listed excluded
+  pub taken : (placed : List Placed) → AllZip IsListed listed placed
+      → IsFirstNotTaken excluded (kinds_told_by listed) placed None
+  pub excludes : ExcludesPaths settings excluded
+  pub have_names : IsTrue (list_all has_node_names excluded)
+  pub pads : settings.empty ≡ Pad
+  pub numbers : settings.renumber ≡ false
+  pub preserves : settings.preserve ≡ true
+  pub skips : settings.skip_missing ≡ true
+
+-- what is written
+
+-- the dump loads into an empty repository, and so does what is written of it: each revision has its own number and
+-- properties, and the tree that it had, without the excluded paths. These are the least set that has what the call names,
+-- and what copies bring of it elsewhere; nothing that is kept came from there
+pub record CutLoads (patched : Patching) (m : CutMeaning) (settings : Settings) (excluded : List NodePath) (dump : List ℕ)
+    (records : List DumpRecord) (revisions : List (List Change)) (text : List ℕ) : Type 0 where
+  pub trees : List Tree
+  pub loads : LoadsAs patched root_alone records revisions trees
+  pub first : List NodePath
+  pub named : AreNamed m.prefixes first
+  pub unfollowed : m.follow ≡ false → excluded ≡ first
+  pub reached : (path : NodePath) → Covers excluded path → IsInClosure Way.ToCopies trees revisions first path
+  pub least : (path : NodePath) → IsInClosure Way.ToCopies trees revisions first path → Covers excluded path
+  pub nothing_back : NothingComesBack settings trees revisions
+  pub filters : LengthsFit settings records
+      → FiltersExpansion patched settings dump records revisions trees records text
+  pub numbered : LengthsFit settings records
+      → LoadsNumbered patched (TreeRestricts settings records) records trees text
+
+-- the text is the cut of the dump, where text deltas apply, if it has some
+pub record IsCutText (m : CutMeaning) (settings : Settings) (dump text : List ℕ) : Type 0 where
+  pub excluded : List NodePath
+  pub records : List DumpRecord
+  pub excludes : ExcludesPaths settings excluded
+  pub whole : HasRecords dump records Ending.Whole
+  pub loads : (patched : Patching) → (revisions : List (List Change)) × MakeRevisions patched records revisions
+      × (IsTrue (all_apply root_alone (placed_from 1 revisions) (length (placed_from 1 revisions)))
+      → CutLoads patched m settings excluded dump records revisions text)

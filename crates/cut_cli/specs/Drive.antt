@@ -1,0 +1,107 @@
+-- What the program does with its arguments and its input.
+use Rattle.std.specs.Prelude.{◌≡◌, ◌⊎◌, ℕ, List, [], ◌∷◌, ◌++◌, Option, None, Result, Ok, Err, IfSome, MatchBool, codes, decimal}
+use Rattle.std.specs.List.{concat}
+use Rattle.std.specs.Io.KnownBytes.{Appends, GrowsBy, Keeps}
+use Rattle.dump_text.specs.FaultTable.{fault_code}
+use Rattle.dump_text.specs.declared.fault.FaultKind.{FaultKind}
+use Rattle.dump_records.specs.RecordText.{DumpRecord}
+use Rattle.dump_rules.specs.Settings.{Settings}
+use Rattle.dump_rules.specs.declared.options.Side.{Side}
+use Rattle.dump_rules.specs.declared.options.Side.TheVariants.{Exclude, Include}
+use Rattle.dump_filter.specs.WholeText.{IsCleanText}
+use Rattle.dump_writer.specs.SinkWords.{IsPrefixOf}
+use Rattle.dump_pipeline.specs.RunAnswer.{IsRunAnswer}
+use Rattle.dump_pipeline.specs.declared.answer.Answer.{Answer}
+use Rattle.dump_pipeline.specs.declared.answer.Answer.TheVariants.{Clean, Fault, Failed}
+use Rattle.dump_pipeline.specs.declared.answer.Failure.{Failure}
+use Rattle.cli_support.specs.Arguments.{refusal_status}
+use Rattle.cli_support.specs.declared.usage.Usage.{Usage}
+use Rattle.cut_cli.specs.Cuts.{IsCutText, IsObstacleTo, IsReadyFor}
+use Rattle.cut_cli.specs.Words.{CutMeaning, TellsCut, cut_meaning}
+use Rattle.cut_cli.specs.declared.examine.Obstacle.{Obstacle}
+use Rattle.cut_cli.specs.declared.examine.Obstacle.TheVariants as obstacles
+use Rattle.cut_cli.specs.declared.words.Call.{Call}
+
+abbrev pub cut_status : Answer → ℕ
+cut_status (Clean _) = 0
+cut_status (Fault _ _ _) = 1
+cut_status (Failed _ _) = 1
+
+abbrev pub obstacle_status : Obstacle → ℕ
+obstacle_status (obstacles.Unread _) = 1
+obstacle_status (obstacles.Refused _) = 1
+obstacle_status obstacles.ComesBack = 3
+obstacle_status (obstacles.Loses _) = 1
+
+-- the line after the records before a fault: no reader of dumps takes it for a record
+abbrev pub stop_line : FaultKind → List ℕ
+stop_line kind = concat (codes "svndumpcut stopped here because of fault " ∷ decimal (fault_code kind) ∷ codes "\n" ∷ [])
+
+-- what is written after the filter's text
+abbrev pub stop_line_of : Answer → List ℕ
+stop_line_of (Clean _) = []
+stop_line_of (Fault kind _ _) = stop_line kind
+stop_line_of (Failed _ _) = []
+
+-- the writer took the first of the bytes, perhaps all
+abbrev pub TakesPart : Option (List ℕ) → Option (List ℕ) → List ℕ → Type 0
+TakesPart old new sent = (part : List ℕ) × IsPrefixOf part sent × Appends old new part
+
+-- the output broke off, and the answer is the failure with the count of the bytes that the writer took
+pub record BreaksOffCut (old new : Option (List ℕ)) (sent : List ℕ) (told : Answer) : Type 0 where
+  pub failure : Failure
+  pub written : ℕ
+  pub part : TakesPart old new sent
+  pub counted : GrowsBy old new written
+  pub told_is : told ≡ Failed failure written
+
+-- a run on the input gave an answer and sent bytes: all of them reached the writer, with the last line of a fault, and the
+-- answer is told; or the output broke off
+pub record RanCut (settings : Settings) (dump : List ℕ) (old new : Option (List ℕ)) (told : Answer) : Type 0 where
+  pub answer : Answer
+  pub sent : List ℕ
+  pub answered : IsRunAnswer settings dump sent answer
+  pub arrived : (Appends old new (sent ++ stop_line_of answer) × (told ≡ answer))
+      ⊎ BreaksOffCut old new (sent ++ stop_line_of answer) told
+
+-- the dump is filtered, or no memory was left for that
+abbrev pub WritesCut : Settings → List ℕ → Option (List ℕ) → Option (List ℕ) → ℕ → Type 0
+WritesCut settings dump old new status =
+    ((told : Answer) × RanCut settings dump old new told × (status ≡ cut_status told)) ⊎ (Keeps old new × (status ≡ 1))
+
+-- the same where the call is for a trial: the writer receives nothing
+abbrev pub WritesIfAsked : CutMeaning → Settings → List ℕ → Option (List ℕ) → Option (List ℕ) → ℕ → Type 0
+WritesIfAsked m settings dump old new status =
+    MatchBool m.dry_run (WritesCut settings dump None None status × Keeps old new) (WritesCut settings dump old new status)
+
+-- what the filter writes of the whole dump is its cut
+abbrev pub CleanTextsAreCuts : CutMeaning → Settings → List ℕ → Type 0
+CleanTextsAreCuts m settings dump = (records : List DumpRecord) (text : List ℕ) →
+    IsCleanText settings dump records text → IsCutText m settings dump text
+
+-- a dump is cut; or nothing is written, for an obstacle or out of memory
+abbrev pub CutsDump : CutMeaning → List ℕ → Option (List ℕ) → Option (List ℕ) → ℕ → Type 0
+CutsDump m dump old new status =
+    ((settings : Settings) × IsReadyFor m dump settings × CleanTextsAreCuts m settings dump
+    × WritesIfAsked m settings dump old new status)
+    ⊎ ((obstacle : Obstacle) × IsObstacleTo m dump obstacle × Keeps old new × (status ≡ obstacle_status obstacle))
+    ⊎ (Keeps old new × (status ≡ 1))
+
+-- the program can't include yet, and excludes in the whole input; or it wasn't read, and nothing is written
+abbrev pub AnswersBy : Side → CutMeaning → Option (List ℕ) → Option (List ℕ) → Option (List ℕ) → ℕ → Type 0
+AnswersBy Include m input old new status = Keeps old new × (status ≡ 2)
+AnswersBy Exclude m input old new status =
+    IfSome input (λ dump. CutsDump m dump old new status) ⊎ (Keeps old new × (status ≡ 1))
+
+abbrev pub AnswersCall : CutMeaning → Option (List ℕ) → Option (List ℕ) → Option (List ℕ) → ℕ → Type 0
+AnswersCall m input old new status = AnswersBy m.side m input old new status
+
+-- arguments that ask for nothing are refused
+abbrev pub ObeysCut : Result Call Usage → Option (List ℕ) → Option (List ℕ) → Option (List ℕ) → ℕ → Type 0
+ObeysCut (Err usage) input old new status = Keeps old new × (status ≡ refusal_status 1 usage)
+ObeysCut (Ok call) input old new status = AnswersCall (cut_meaning call) input old new status
+
+-- arguments of this meaning have an answer, and it is obeyed
+abbrev pub DrivesCut : Result CutMeaning Usage → Option (List ℕ) → Option (List ℕ) → Option (List ℕ) → ℕ → Type 0
+DrivesCut meaning input old new status = (answer : Result Call Usage) × TellsCut meaning answer
+    × ObeysCut answer input old new status

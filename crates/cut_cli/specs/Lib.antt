@@ -1,0 +1,5 @@
+pub mod CommandLine
+pub mod Cuts
+pub mod Drive
+pub mod Words
+pub mod steps

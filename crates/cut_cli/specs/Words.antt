@@ -1,0 +1,57 @@
+-- What the program's arguments mean, by the side and by what clap finds after it.
+use Rattle.std.specs.Prelude.{Bool, ◌||◌, ◌&&◌, List, [], Result, Ok, Err, codes, drop, map, unwrap_or, if◌then◌else◌}
+use Rattle.std.specs.List.{list_any}
+use Rattle.clap.specs.Walk.{is_empty}
+use Rattle.clap.specs.Words.{Row, Text, all_of}
+use Rattle.dump_rules.specs.declared.options.Side.{Side}
+use Rattle.cli_support.specs.Arguments.{Answers, is_set, meaning_in}
+use Rattle.cli_support.specs.declared.usage.Usage.{Usage}
+use Rattle.cli_support.specs.declared.usage.Usage.TheVariants.{Words}
+use Rattle.cut_cli.specs.CommandLine.{cut_command}
+use Rattle.cut_cli.specs.declared.words.Call.{Call}
+
+-- what a call asks for: a side, prefixes, whether copies are followed, whether nothing is written, and what is reported
+pub record CutMeaning : Type 0 where
+  pub side : Side
+  pub prefixes : List Text
+  pub follow : Bool
+  pub dry_run : Bool
+  pub quiet : Bool
+  pub verbose : Bool
+
+abbrev pub cut_meaning : Call → CutMeaning
+cut_meaning call = record {
+  side = call.side;
+  prefixes = map (λ prefix. prefix.now) call.prefixes.items;
+  follow = call.follow;
+  dry_run = call.dry_run;
+  quiet = call.quiet;
+  verbose = call.verbose;
+}
+
+-- the prefixes of the rows
+abbrev pub prefixes_in : List Row → List Text
+prefixes_in rows = unwrap_or (all_of (codes "PREFIX") rows) []
+
+-- whether the rows have an empty prefix, or options that contradict each other
+abbrev pub are_refused : List Row → Bool
+are_refused rows = list_any is_empty (prefixes_in rows) || (is_set (codes "quiet") rows && is_set (codes "verbose") rows)
+
+-- what a side and its rows ask for
+abbrev pub cut_of_side : Side → List Row → Result CutMeaning Usage
+cut_of_side side rows = if are_refused rows then Err Words else Ok (record {
+  side = side;
+  prefixes = prefixes_in rows;
+  follow = is_set (codes "follow-copies") rows;
+  dry_run = is_set (codes "dry-run") rows;
+  quiet = is_set (codes "quiet") rows;
+  verbose = is_set (codes "verbose") rows;
+})
+
+-- what the arguments ask for: only a line that begins with a side and that the command takes asks for something
+abbrev pub cut_of_words : List Text → Result CutMeaning Usage
+cut_of_words words = meaning_in cut_command cut_of_side (drop 1 words)
+
+-- the answer to arguments of this meaning: out of memory may hide it, and nothing else
+abbrev pub TellsCut : Result CutMeaning Usage → Result Call Usage → Type 0
+TellsCut meaning answer = Answers cut_meaning meaning answer

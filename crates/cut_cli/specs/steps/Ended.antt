@@ -1,0 +1,14 @@
+-- What a run tells once its last bytes are handed on.
+use Rattle.std.specs.Prelude.{◌≡◌, ◌⊎◌, Result, IsOk, [], ℕ}
+use Rattle.std.specs.Io.KnownBytes.{GrowsBy}
+use Rattle.dump_writer.specs.steps.SinkStates.{LentState}
+use Rattle.dump_pipeline.specs.declared.answer.Answer.{Answer}
+use Rattle.dump_pipeline.specs.declared.answer.Answer.TheVariants.{Failed}
+use Rattle.dump_pipeline.specs.declared.answer.Failure.{Failure}
+
+-- the run's answer, where its last line is written and nothing waits any more; or a failure, with the bytes that the
+-- writer took
+abbrev pub TellsAfter : {A : Type 0} → LentState → Answer → Result A Failure → Answer → Type 0
+TellsAfter sink ran ending told = ((told ≡ ran) × IsOk ending × (sink.waiting ≡ []))
+    ⊎ ((failure : Failure) × (written : ℕ) × (told ≡ Failed failure written)
+    × GrowsBy sink.out.start sink.out.taken written)

@@ -1,0 +1,21 @@
+//! The command that the arguments after the side are read by.
+ghost use Rattle.std.specs.Prelude.{◌≡◌, IfOk};
+ghost use Rattle.clap.specs.Words.{app_of};
+ghost use Rattle.cut_cli.specs.CommandLine.{cut_command};
+
+use clap::Command;
+use cli_support::{prefixes, switch};
+use std::alloc::{AllocError, Global};
+
+/// The options and the prefixes. It has no subcommands: the side is no argument of it.
+pub fn cut_command<'a>(alloc: Global) -> Result<Command<'a>, AllocError>
+    ensures { IfOk result (λ c. app_of c ≡ cut_command) }
+{
+    Command::new(alloc, "svndumpcut")
+        .disable_help_flag(true)
+        .arg(switch(alloc, "follow-copies"))?
+        .arg(switch(alloc, "dry-run"))?
+        .arg(switch(alloc, "quiet"))?
+        .arg(switch(alloc, "verbose"))?
+        .arg(prefixes(alloc))
+}

@@ -1,0 +1,248 @@
+//! The whole program, over any reader and writers.
+ghost use Rattle.std.specs.Prelude.{◌≡◌, [], IfOk, OnErr, OnOk, map};
+ghost use Rattle.std.specs.Io.KnownBytes.{Appends, Keeps};
+ghost use Rattle.dump_writer.specs.steps.SinkStates.{lent_taken, loan_of};
+ghost use Rattle.cut_cli.specs.Drive.{AnswersCall, CutsDump, DrivesCut, RanCut, TakesPart, WritesCut, stop_line, stop_line_of, obstacle_status, cut_status};
+ghost use Rattle.cut_cli.specs.Words.{cut_of_words, cut_meaning};
+ghost use Rattle.cut_cli.specs.steps.Ended.{TellsAfter};
+
+use crate::examine::{Obstacle, Ready, examine};
+use crate::lines::{write_fault, write_no_include, write_report};
+use crate::words::{Call, call_of};
+use cli_support::{Cause, Program, fail, fail_unread, finish, output_buffer, read_all, refuse};
+use dump_changes::Memory;
+use dump_pipeline::{Answer, Failure, FreeGate, Plan, run};
+use dump_rules::{Options, Side};
+use dump_text::FaultKind;
+use dump_writer::{Chunk, OutMut, Piece, Sink, write_piece};
+use std::alloc::Global;
+use std::io::{self, Read, Write};
+use std::sync::Wait;
+use std::thread::Threads;
+
+/// How the lines name the program, and the status of a failure.
+pub const PROGRAM: Program = Program {
+    name: "svndumpcut",
+    failed: 1,
+};
+
+/// How many workers check records, and how many records are under way at most.
+const WORKERS: usize = 4;
+
+const WINDOW: usize = 64;
+
+/// The whole program, with its exit status. The reader is thought to have so many bytes; the number spares growing and has
+/// no other meaning.
+pub fn drive<'a, H: Threads + Wait + Sync, R: Read, W: Write, E: Write>(
+    rt: &H,
+    alloc: Global,
+    words: &'a [&'a str],
+    size: u64,
+    reader: &mut R,
+    writer: &mut W,
+    errors: &mut E,
+) -> u8
+    ensures { DrivesCut (cut_of_words (map (λ word. word.now) words.now)) (R.remaining reader.old) (W.contents writer.old) (W.contents writer.new) result }
+{
+    match call_of(alloc, words) {
+        Ok(call) => answer_call(rt, alloc, &call, size, reader, writer, errors),
+        Err(usage) => refuse(errors, PROGRAM, usage),
+    }
+}
+
+/// Cuts the whole input, as the call asks for. It can't include yet.
+fn answer_call<H: Threads + Wait + Sync, R: Read, W: Write, E: Write>(
+    rt: &H,
+    alloc: Global,
+    call: &Call<'_>,
+    size: u64,
+    reader: &mut R,
+    writer: &mut W,
+    errors: &mut E,
+) -> u8
+    ensures { AnswersCall (cut_meaning call.now) (R.remaining reader.old) (W.contents writer.old) (W.contents writer.new) result }
+{
+    match call.side {
+        Side::Include => {
+            let _ = write_no_include(errors);
+            2
+        }
+        Side::Exclude => match read_all(alloc, reader, size) {
+            Ok(input) => cut(rt, alloc, input.as_slice(), call, writer, errors),
+            Err(unread) => fail_unread(errors, PROGRAM, unread),
+        },
+    }
+}
+
+/// Cuts a dump.
+fn cut<H: Threads + Wait + Sync, W: Write, E: Write>(
+    rt: &H,
+    alloc: Global,
+    dump: &[u8],
+    call: &Call<'_>,
+    writer: &mut W,
+    errors: &mut E,
+) -> u8
+    ensures { CutsDump (cut_meaning call.now) dump.now (W.contents writer.old) (W.contents writer.new) result }
+{
+    match examine(alloc, dump, call, errors) {
+        Ok(Ok(ready)) if call.dry_run => {
+            write_cut(rt, alloc, dump, call, &ready, &mut io::sink(), errors)
+        }
+        Ok(Ok(ready)) => write_cut(rt, alloc, dump, call, &ready, writer, errors),
+        Ok(Err(obstacle)) => obstacle_status(obstacle),
+        Err(Memory) => fail(errors, PROGRAM, Cause::Memory, 0),
+    }
+}
+
+/// The status where nothing is written.
+fn obstacle_status(obstacle: Obstacle) -> u8
+    ensures { result ≡ obstacle_status obstacle }
+{
+    match obstacle {
+        Obstacle::ComesBack => 3,
+        _ => 1,
+    }
+}
+
+/// Filters a dump that is ready, and says how it ended.
+fn write_cut<H: Threads + Wait + Sync, W: Write, E: Write>(
+    rt: &H,
+    alloc: Global,
+    dump: &[u8],
+    call: &Call<'_>,
+    ready: &Ready,
+    writer: &mut W,
+    errors: &mut E,
+) -> u8
+    ensures { WritesCut ready.now.options dump.now (W.contents writer.old) (W.contents writer.new) result }
+{
+    let Ok(buffer) = output_buffer(alloc) else {
+        return fail(errors, PROGRAM, Cause::Memory, 0);
+    };
+    let mut sink = OutMut::new(writer, buffer);
+    let answer = run_and_flush(rt, alloc, dump, &ready.options, &mut sink);
+    let _ = sink.into_inner();
+    tell(errors, dump, answer, call.quiet, ready.emptied)
+}
+
+/// Runs the filter, and hands on all that waits after the run.
+fn run_and_flush<H: Threads + Wait + Sync, W: Write>(
+    rt: &H,
+    alloc: Global,
+    dump: &[u8],
+    options: &Options,
+    sink: &mut OutMut<'_, W>,
+) -> Answer
+    requires waiting { sink.old.waiting ≡ [] }
+    requires start { sink.old.out.start ≡ sink.old.out.taken }
+    ensures ran { RanCut options.now dump.now sink.old.out.taken sink.new.out.taken result }
+    ensures loan { loan_of sink.new ≡ loan_of sink.old }
+{
+    let answer = run(rt, alloc, dump, options, plan(), &FreeGate, sink);
+    let ending = write_ending(alloc, answer, sink);
+    flush_after(sink, answer, ending)
+}
+
+/// How the run is spread over threads.
+fn plan() -> Plan {
+    let Some(plan) = Plan::new(WORKERS, WINDOW) else {
+        unreachable!()
+    };
+    plan
+}
+
+/// The line that ends the output where the filter found a fault. No reader of dumps takes it for a record.
+fn ending(alloc: Global, kind: FaultKind) -> Result<Vec<u8>, io::Error>
+    ensures { IfOk result (λ line. line.items ≡ stop_line kind) }
+{
+    let mut line = Vec::new(alloc);
+    let code = kind.code();
+    writeln!(&mut line, "svndumpcut stopped here because of fault {code}")?;
+    Ok(line)
+}
+
+/// Writes that line, where the filter found a fault.
+fn write_ending<S: Sink>(alloc: Global, answer: Answer, sink: &mut S) -> Result<(), Failure>
+    ensures whole { OnOk result (Appends (S.taken sink.old) (S.taken sink.new) (stop_line_of answer)) }
+    ensures part { OnErr result (TakesPart (S.taken sink.old) (S.taken sink.new) (stop_line_of answer)) }
+    ensures through { S.through sink.new ≡ S.through sink.old }
+{
+    let Answer::Fault { kind, .. } = answer else {
+        return Ok(());
+    };
+    let Ok(line) = ending(alloc, kind) else {
+        return Err(Failure::Memory);
+    };
+    let mut piece = Piece::new(alloc);
+    if piece.push(Chunk::Lent(line.as_slice())).is_err() {
+        return Err(Failure::Memory);
+    }
+    match write_piece(sink, &piece) {
+        Ok(()) => Ok(()),
+        Err(_) => Err(Failure::Sink),
+    }
+}
+
+/// Hands on all that waits after a run and its last line, unless the sink failed: then no more is tried.
+fn flush_after<W: Write>(
+    sink: &mut OutMut<'_, W>,
+    answer: Answer,
+    ending: Result<(), Failure>,
+) -> Answer
+    ensures taken { Keeps (lent_taken sink.old) (lent_taken sink.new) }
+    ensures told { TellsAfter sink.new answer ending result }
+    ensures loan { loan_of sink.new ≡ loan_of sink.old }
+{
+    let is_down = is_sink_down(answer) || matches!(ending, Err(Failure::Sink));
+    match (finish(sink, is_down), ending) {
+        (Ok(()), Ok(())) => answer,
+        (Ok(()), Err(failure)) => Answer::Failed {
+            failure,
+            written: sink.written(),
+        },
+        (Err(written), _) => Answer::Failed {
+            failure: Failure::Sink,
+            written,
+        },
+    }
+}
+
+/// Whether a run's sink failed.
+fn is_sink_down(answer: Answer) -> bool {
+    matches!(
+        answer,
+        Answer::Failed {
+            failure: Failure::Sink,
+            ..
+        }
+    )
+}
+
+/// The line of an answer, and the status.
+fn tell<E: Write>(errors: &mut E, dump: &[u8], answer: Answer, quiet: bool, emptied: u64) -> u8
+    ensures { result ≡ cut_status answer }
+{
+    match answer {
+        Answer::Clean(report) => {
+            if !quiet {
+                let _ = write_report(errors, report, emptied);
+            }
+            0
+        }
+        Answer::Fault { kind, number, .. } => {
+            let _ = write_fault(errors, dump, kind, number);
+            1
+        }
+        Answer::Failed { failure, written } => fail(errors, PROGRAM, cause(failure), written),
+    }
+}
+
+/// How the line of a failure names it.
+fn cause(failure: Failure) -> Cause {
+    match failure {
+        Failure::Sink => Cause::Sink,
+        Failure::Memory => Cause::Memory,
+        Failure::Threads => Cause::Threads,
+    }
+}

@@ -1,0 +1,227 @@
+//! What is found out of a dump before anything is written.
+ghost use Rattle.std.specs.Prelude.{◌≡◌, ℕ, List, IfOk, IsTrue, MatchBool, MatchOption};
+ghost use Rattle.std.specs.List.{list_all};
+ghost use Rattle.dump_cut.specs.NamedPaths.{has_named_paths};
+ghost use Rattle.dump_cut.specs.steps.ExcludedPaths.{paths_of};
+ghost use Rattle.cut_cli.specs.Cuts.{AreChangesOf, ExcludesAsAsked, AreNamed, BringsNothingBack, BringsSomeBack, IsTakenDump, Returns};
+ghost use Rattle.cut_cli.specs.Words.{cut_meaning};
+ghost use Rattle.cut_cli.specs.steps.Examined.{IsExamined};
+
+use crate::lines::{
+    shown, write_additions, write_loss, write_places, write_refused, write_returns, write_unread,
+};
+use crate::prefixes::report_prefixes;
+use crate::read::{Unread, read_index};
+use crate::sizes::sizes_of;
+use crate::words::Call;
+use dump_changes::Memory;
+use dump_cut::{
+    Excluded, PlacedRest, Refused, Way, all_followed, first_not_taken, first_refused, follow,
+};
+use dump_index::{ChangeIndex, NodeChange};
+use dump_rules::Options;
+use std::alloc::Global;
+use std::io::Write;
+
+/// Why nothing is written.
+#[derive(Clone, Copy, Debug, PartialEq, Eq)]
+pub enum Obstacle {
+    /// The changes of the dump aren't known.
+    Unread(Unread),
+    /// `svnadmin load` would reject a change of the dump.
+    Refused(Refused),
+    /// Copies would bring excluded content back.
+    ComesBack,
+    /// The change at this place is a copy to a directory of which a part is excluded at the copy, and not at the source. It
+    /// would have to be written as other changes.
+    Loses(usize),
+}
+
+/// How a dump is cut.
+#[derive(Drop)]
+pub struct Ready {
+    /// The options of the filter that writes the cut.
+    pub options: Options,
+    /// How many revisions have changes, and all of them at excluded paths.
+    pub emptied: u64,
+}
+
+/// How many revisions have changes, and all of them at excluded paths.
+fn count_emptied(excluded: &Excluded, changes: &[NodeChange<'_>]) -> u64 {
+    let mut emptied: u64 = 0;
+    let mut revision = 0;
+    let mut keeps_some = true;
+    for change in changes {
+        if change.revision != revision {
+            emptied = emptied.saturating_add(u64::from(!keeps_some));
+            revision = change.revision;
+            keeps_some = false;
+        }
+        keeps_some = keeps_some || !excluded.covers(change.path);
+    }
+    emptied.saturating_add(u64::from(!keeps_some))
+}
+
+/// The paths that the prefixes name.
+fn named(alloc: Global, call: &Call<'_>) -> Result<Excluded, Memory>
+    ensures { IfOk result (λ excluded. AreNamed (cut_meaning call.now).prefixes (paths_of excluded)) }
+{
+    Excluded::of(alloc, &call.prefixes)
+}
+
+/// How many paths `--follow-copies` would exclude too.
+fn count_additions(alloc: Global, index: &ChangeIndex<'_>, call: &Call<'_>) -> Result<usize, Memory>
+    requires { IsTrue (list_all has_named_paths index.now) }
+{
+    let mut excluded = named(alloc, call)?;
+    let additions = follow(alloc, index, &mut excluded, Way::ToCopies)?;
+    Ok(additions.len())
+}
+
+/// Lists what copies bring back.
+fn list_returns<E: Write>(
+    alloc: Global,
+    dump: &[u8],
+    index: &ChangeIndex<'_>,
+    excluded: &Excluded,
+    call: &Call<'_>,
+    returns: &[PlacedRest<'_>],
+    errors: &mut E,
+) -> Result<(), Memory>
+    requires { IsTrue (list_all has_named_paths index.now) }
+{
+    let most = shown(call).min(returns.len());
+    let sizes = sizes_of(alloc, dump, index, excluded, &returns[..most])?;
+    let count = count_additions(alloc, index, call)?;
+    let _ = write_returns(errors, index.changes(), returns, &sizes, count);
+    Ok(())
+}
+
+/// Whether copies bring back some of what is excluded. It reports them.
+fn brings_back<E: Write>(
+    alloc: Global,
+    dump: &[u8],
+    index: &ChangeIndex<'_>,
+    excluded: &Excluded,
+    call: &Call<'_>,
+    errors: &mut E,
+) -> Result<bool, Memory>
+    requires { IsTrue (list_all has_named_paths index.now) }
+    ensures { IfOk result (λ found. MatchBool found (BringsSomeBack index.now (paths_of excluded.now))
+        (BringsNothingBack index.now (paths_of excluded.now))) }
+{
+    let returns = all_followed(alloc, index, excluded, Way::ToCopies)?;
+    if returns.is_empty() {
+        return Ok(false);
+    }
+    let _ = write_places(errors, returns.len());
+    if !call.quiet {
+        list_returns(alloc, dump, index, excluded, call, &returns, errors)?;
+    }
+    Ok(true)
+}
+
+/// The paths that the call excludes; none, where copies would bring some of it back. It reports what copies bring.
+fn exclude<E: Write>(
+    alloc: Global,
+    dump: &[u8],
+    index: &ChangeIndex<'_>,
+    call: &Call<'_>,
+    errors: &mut E,
+) -> Result<Option<Excluded>, Memory>
+    requires { IsTrue (list_all has_named_paths index.now) }
+    ensures { IfOk result (λ found. MatchOption found (Returns (cut_meaning call.now) index.now)
+        (λ excluded. ExcludesAsAsked (cut_meaning call.now) index.now (paths_of excluded))) }
+{
+    let mut excluded = named(alloc, call)?;
+    if call.follow {
+        let additions = follow(alloc, index, &mut excluded, Way::ToCopies)?;
+        let _ = write_additions(errors, call, index.changes(), &additions);
+        return Ok(Some(excluded));
+    }
+    if brings_back(alloc, dump, index, &excluded, call, errors)? {
+        return Ok(None);
+    }
+    Ok(Some(excluded))
+}
+
+/// Reports what the copy at this place would lose.
+fn report_loss<E: Write>(
+    alloc: Global,
+    index: &ChangeIndex<'_>,
+    excluded: &Excluded,
+    place: usize,
+    errors: &mut E,
+) -> Result<(), Memory>
+    requires { IsTrue (list_all has_named_paths index.now) }
+{
+    let lost = all_followed(alloc, index, excluded, Way::ToSources)?;
+    if let Some(found) = lost.iter().find(|found| found.place == place) {
+        let _ = write_loss(errors, index.changes(), *found);
+    }
+    Ok(())
+}
+
+/// The options of a filter that excludes these paths, where it takes each change as it is.
+fn prepare<E: Write>(
+    alloc: Global,
+    index: &ChangeIndex<'_>,
+    excluded: &Excluded,
+    call: &Call<'_>,
+    errors: &mut E,
+) -> Result<Result<Ready, Obstacle>, Memory>
+    requires { IsTrue (list_all has_named_paths index.now) }
+    ensures { IfOk result (λ found. (dump : List ℕ) → IsTakenDump dump index.now
+        → ExcludesAsAsked (cut_meaning call.now) index.now (paths_of excluded.now)
+        → IsExamined (cut_meaning call.now) dump found) }
+{
+    if let Some(place) = first_not_taken(alloc, index, excluded)? {
+        report_loss(alloc, index, excluded, place, errors)?;
+        return Ok(Err(Obstacle::Loses(place)));
+    }
+    let options = excluded.filter_options(alloc)?;
+    let emptied = count_emptied(excluded, index.changes());
+    Ok(Ok(Ready { options, emptied }))
+}
+
+/// Looks at the changes of a dump.
+fn examine_changes<E: Write>(
+    alloc: Global,
+    dump: &[u8],
+    index: &ChangeIndex<'_>,
+    call: &Call<'_>,
+    errors: &mut E,
+) -> Result<Result<Ready, Obstacle>, Memory>
+    requires named { IsTrue (list_all has_named_paths index.now) }
+    requires changes { AreChangesOf dump.now index.now }
+    ensures { IfOk result (IsExamined (cut_meaning call.now) dump.now) }
+{
+    if let Some(refused) = first_refused(alloc, index)? {
+        let _ = write_refused(errors, dump, index.changes(), refused);
+        return Ok(Err(Obstacle::Refused(refused)));
+    }
+    report_prefixes(alloc, index, call, errors)?;
+    match exclude(alloc, dump, index, call, errors)? {
+        Some(excluded) => prepare(alloc, index, &excluded, call, errors),
+        None => Ok(Err(Obstacle::ComesBack)),
+    }
+}
+
+/// Looks whether the dump loads, what the call excludes of it, and whether the filter can write the cut. It reports what
+/// it finds.
+pub fn examine<E: Write>(
+    alloc: Global,
+    dump: &[u8],
+    call: &Call<'_>,
+    errors: &mut E,
+) -> Result<Result<Ready, Obstacle>, Memory>
+    ensures { IfOk result (IsExamined (cut_meaning call.now) dump.now) }
+{
+    match read_index(alloc, dump)? {
+        Ok(index) => examine_changes(alloc, dump, &index, call, errors),
+        Err(unread) => {
+            let _ = write_unread(errors, dump, unread);
+            Ok(Err(Obstacle::Unread(unread)))
+        }
+    }
+}

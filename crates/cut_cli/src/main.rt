@@ -1,0 +1,45 @@
+//! A program that cuts paths out of a Subversion dump file, over standard input and output.
+#![tactic(auto)]
+
+mod command;
+mod drive;
+mod examine;
+mod lines;
+mod prefixes;
+mod read;
+mod sizes;
+mod spot;
+mod words;
+
+use cli_support::{Usage, arguments, as_texts, input_size, refuse};
+use drive::{PROGRAM, drive};
+use std::process::ExitCode;
+use std::sync::Wait;
+use std::thread::Threads;
+
+#[cfg(test)]
+mod tests;
+
+fn main(rt: HostRuntime) -> ExitCode {
+    let status = match run_words(&rt, &rt) {
+        Ok(status) => status,
+        Err(usage) => refuse(&mut rt.stderr(), PROGRAM, usage),
+    };
+    ExitCode::from(status)
+}
+
+/// The whole program on the words and the streams of the process.
+fn run_words<H: Threads + Wait + Sync>(threads: &H, rt: &HostRuntime) -> Result<u8, Usage> {
+    let alloc = rt.alloc();
+    let words = arguments(rt)?;
+    let texts = as_texts(alloc, &words)?;
+    Ok(drive(
+        threads,
+        alloc,
+        texts.as_slice(),
+        input_size(rt),
+        &mut rt.reader(),
+        &mut rt.stdout(),
+        &mut rt.stderr(),
+    ))
+}

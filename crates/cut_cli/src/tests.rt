@@ -1,0 +1,144 @@
+//! What no clause says: the lines as users see them, and streams that fail.
+
+use crate::drive::drive;
+use crate::words::call_of;
+use cli_support::Usage;
+use dump_rules::Side;
+use std::alloc::Global;
+use std::io::{self, ErrorKind, Read, Write};
+use std::process::Abort;
+use std::sync::Wait;
+use std::thread::Threads;
+
+/// Revision 1 adds `d` and `d/f`, and revision 2 copies `d` to `e`.
+const COPIED: &[u8] = b"SVN-fs-dump-format-version: 2\n\n\
+Revision-number: 0\nProp-content-length: 10\nContent-length: 10\n\nPROPS-END\n\n\
+Revision-number: 1\nProp-content-length: 10\nContent-length: 10\n\nPROPS-END\n\n\
+Node-path: d\nNode-kind: dir\nNode-action: add\n\n\n\n\
+Node-path: d/f\nNode-kind: file\nNode-action: add\nText-content-length: 2\nContent-length: 2\n\na\n\n\n\
+Revision-number: 2\nProp-content-length: 10\nContent-length: 10\n\nPROPS-END\n\n\
+Node-path: e\nNode-action: add\nNode-copyfrom-rev: 1\nNode-copyfrom-path: d\n\n\n\n";
+
+/// The same without `d/f`.
+const CUT: &[u8] = b"SVN-fs-dump-format-version: 2\n\n\
+Revision-number: 0\nProp-content-length: 10\nContent-length: 10\n\nPROPS-END\n\n\
+Revision-number: 1\nProp-content-length: 10\nContent-length: 10\n\nPROPS-END\n\n\
+Node-path: d\nNode-kind: dir\nNode-action: add\n\n\n\n\
+Revision-number: 2\nProp-content-length: 10\nContent-length: 10\n\nPROPS-END\n\n\
+Node-path: e\nNode-action: add\nNode-copyfrom-rev: 1\nNode-copyfrom-path: d\n\n\n\n";
+
+const RETURN_LINES: &[u8] =
+    b"svndumpcut: nothing written: copies would bring excluded content back, in 1 place\n  \
+r2: /e/f, copied from /d/f@1: 1 file, 2 bytes\n\
+use --follow-copies to exclude these too, 1 path in all\n";
+
+const FOLLOW_LINES: &[u8] = b"also excluded, as copies of excluded content: 1 path\n  \
+/e/f (r2, copied from /d/f@1)\n\
+revisions kept 3, dropped 0; nodes kept 2, dropped 1; texts checked 0\n";
+
+/// Fails at once, in reading and in writing.
+#[derive(Drop)]
+struct Broken;
+
+impl Read for Broken {
+    fn read(&mut self, _bytes: &mut [u8]) -> io::Result<usize> {
+        Err(ErrorKind::BrokenPipe.into())
+    }
+}
+
+impl Write for Broken {
+    fn write(&mut self, _bytes: &[u8]) -> io::Result<usize> {
+        Err(ErrorKind::BrokenPipe.into())
+    }
+
+    fn flush(&mut self) -> io::Result<()> {
+        Err(ErrorKind::BrokenPipe.into())
+    }
+}
+
+/// Whether a cut with these arguments has this status, and leaves these bytes and lines on the streams.
+fn is_cut<'a, H: Threads + Wait + Sync>(
+    rt: &H,
+    alloc: Global,
+    words: &'a [&'a str],
+    wanted: (u8, &[u8], &[u8]),
+) -> bool {
+    let mut reader = COPIED;
+    let mut output = Vec::new(alloc);
+    let mut errors = Vec::new(alloc);
+    let status = drive(rt, alloc, words, 0, &mut reader, &mut output, &mut errors);
+    status == wanted.0 && output.as_slice() == wanted.1 && errors.as_slice() == wanted.2
+}
+
+#[test]
+fn copies_are_reported_or_followed(rt: HostRuntime) {
+    let words = ["svndumpcut", "exclude", "d/f"];
+    assert!(rt; is_cut(&rt, rt.alloc(), &words, (3, b"", RETURN_LINES)));
+    let words = ["svndumpcut", "exclude", "--follow-copies", "d/f"];
+    assert!(rt; is_cut(&rt, rt.alloc(), &words, (0, CUT, FOLLOW_LINES)));
+    let words = [
+        "svndumpcut",
+        "exclude",
+        "--follow-copies",
+        "--dry-run",
+        "d/f",
+    ];
+    assert!(rt; is_cut(&rt, rt.alloc(), &words, (0, b"", FOLLOW_LINES)));
+}
+
+#[test]
+fn other_calls_are_refused(rt: HostRuntime) {
+    let line = b"svndumpcut: this version cannot include; exclude the other paths\n".as_slice();
+    assert!(rt;
+        is_cut(
+            &rt,
+            rt.alloc(),
+            &["svndumpcut", "include", "d"],
+            (2, b"", line)
+        )
+    );
+    let usage = b"usage: svndumpcut include|exclude [OPTIONS] PREFIX...\n".as_slice();
+    assert!(rt;
+        is_cut(
+            &rt,
+            rt.alloc(),
+            &["svndumpcut", "exclude", ""],
+            (2, b"", usage)
+        )
+    );
+    let words = ["svndumpcut", "exclude", "--quiet", "--verbose", "d"];
+    assert!(rt; is_cut(&rt, rt.alloc(), &words, (2, b"", usage)));
+}
+
+const FILE: [&str; 4] = ["svndumpcut", "exclude", "--follow-copies", "d/f"];
+
+fn is_unread<H: Threads + Wait + Sync>(rt: &H, alloc: Global) -> bool {
+    let mut output = Vec::new(alloc);
+    let mut errors = Vec::new(alloc);
+    let status = drive(rt, alloc, &FILE, 0, &mut Broken, &mut output, &mut errors);
+    let line = b"svndumpcut: failure 24 Source after 0 bytes\n".as_slice();
+    status == 1 && errors.as_slice() == line && output.is_empty()
+}
+
+fn is_unwritten<H: Threads + Wait + Sync>(rt: &H, alloc: Global) -> bool {
+    let mut reader = COPIED;
+    let mut errors = Vec::new(alloc);
+    let status = drive(rt, alloc, &FILE, 0, &mut reader, &mut Broken, &mut errors);
+    status == 1
+}
+
+#[test]
+fn broken_streams_are_failures(rt: HostRuntime) {
+    assert!(rt; is_unread(&rt, rt.alloc()));
+    assert!(rt; is_unwritten(&rt, rt.alloc()));
+}
+
+#[test]
+fn arguments_or_no_memory(rt: HostRuntime) {
+    let answer = call_of(rt.alloc(), &FILE);
+    let is_read = match answer {
+        Ok(call) => call.side == Side::Exclude && call.follow && !call.dry_run && !call.quiet,
+        Err(usage) => usage == Usage::Memory,
+    };
+    assert!(rt; is_read);
+}
