@@ -13,7 +13,8 @@
 #                 installed, Subversion's own svndumpfilter
 # make soak       runs the filter ten thousand times on random dumps with random plans, beside the filter on one thread
 # make install    installs all programs, their manual pages and documents under $(DESTDIR)$(PREFIX), the filter by the name
-#                 $(NAME) and the others by names like it; FORCE=1 overwrites files that were not installed from here
+#                 $(NAME), the survey by a name like it, and svndumpcut by its own; FORCE=1 overwrites files that were not
+#                 installed from here
 # make uninstall  removes what was so installed, and nothing else
 # make deb        makes a Debian package of the same, build/svndumpfilter-proved_VERSION_ARCHITECTURE.deb
 # make clean      removes build/; what the checks keep in crates/*/out stays

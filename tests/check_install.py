@@ -19,7 +19,7 @@ sys.path.insert(0, os.path.join(os.path.dirname(__file__), "..", "tools"))
 from repository import cases, ended, installed_names, lacking, libraries, path, programs, run_once
 
 NAME = "svndumpfilter-proved"
-DOCUMENTS = ["README.md", "DIFFERENCES.md", "SURVEY.md"]
+DOCUMENTS = ["README.md", "CUT.md", "DIFFERENCES.md", "SURVEY.md"]
 SOMEBODY = "somebody else's\n"
 RESULTS = []
 
@@ -107,12 +107,13 @@ def check_make_install(root):
     wanted += [root.at("share", "doc", NAME, it) for it in [*DOCUMENTS, "installed"]]
     expect(root.files() == sorted(wanted), f"these are installed: {root.files()}")
     expect(root.make("install")[0], "make install failed over what it had installed")
-    for name in "svndumpfilter", "cut":
+    expect_pages(root, NAME)
+    # svndumpcut and its page are then those of the last name
+    for name in "cut", "svndumpfilter":
         expect(root.make("install", f"NAME={name}")[0], f"make install failed with NAME={name}")
         expect_programs(root.at("bin"), installed_names(name))
     for word, name in plain.items():
         expect(text_of(root.page(name)) == text_of(path(programs()[word].page)), f"the page {name} is not as it is in docs/")
-    expect_pages(root, NAME)
     expect_pages(root, "svndumpfilter")
 
 

@@ -5,14 +5,15 @@
 #     tools/install.sh install|uninstall
 #
 # What was installed is noted, with digests, in share/doc/$NAME/installed. A file that is at one of the places and not as it is
-# noted there is somebody else's. It is overwritten only if $FORCE is 1, and never removed.
+# noted there, or under another NAME, is somebody else's. It is overwritten only if $FORCE is 1, and never removed. svndumpcut
+# has one name under each NAME, so it stays where another note has it.
 set -eu
 cd "$(dirname -- "$0")/.."
 root=$DESTDIR$PREFIX
 documents=share/doc/$NAME
 note=$documents/installed
 pages=share/man/man1
-texts="README.md docs/DIFFERENCES.md docs/SURVEY.md"
+texts="README.md docs/CUT.md docs/DIFFERENCES.md docs/SURVEY.md"
 names=$(tools/installed_names.sh "$NAME" | cut -d' ' -f2)
 files=
 for installed in $names; do
@@ -26,10 +27,25 @@ is_there() {
     [ -e "$root/$1" ] || [ -L "$root/$1" ]
 }
 
+# is_noted FILE NOTE: it is as the note has it
+is_noted() {
+    [ -f "$2" ] && [ -f "$root/$1" ] && [ ! -L "$root/$1" ] &&
+        (cd "$root" && sha256sum -- "$1") | grep -q -x -F -f - -- "$2"
+}
+
+# is_anothers FILE: it is as it was installed with another NAME
+is_anothers() {
+    for it in "$root"/share/doc/*/installed; do
+        if [ "$it" != "$root/$note" ] && is_noted "$1" "$it"; then
+            return 0
+        fi
+    done
+    return 1
+}
+
 # is_ours FILE: it is as it was installed
 is_ours() {
-    [ -f "$root/$note" ] && [ -f "$root/$1" ] && [ ! -L "$root/$1" ] &&
-        (cd "$root" && sha256sum -- "$1") | grep -q -x -F -f - -- "$root/$note"
+    is_noted "$1" "$root/$note" || is_anothers "$1"
 }
 
 refuse_to_overwrite() {
@@ -78,7 +94,9 @@ uninstall_all() {
         return 0
     fi
     for file in $files; do
-        if is_ours "$file"; then
+        if is_anothers "$file"; then
+            continue
+        elif is_noted "$file" "$root/$note"; then
             rm -f -- "$root/$file"
         elif is_there "$file"; then
             echo "tools/install.sh: $root/$file is not as it was installed, and stays" >&2

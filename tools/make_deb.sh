@@ -1,6 +1,6 @@
 #!/bin/sh
 # Makes a Debian package of all programs, their pages and their documents. It can be installed beside Debian's own subversion,
-# since its programs have other names, as svndumpfilter-proved. The version is that of CHANGELOG.md; if that has unreleased
+# which has no program of these names. The version is that of CHANGELOG.md; if that has unreleased
 # changes, the time and the name of the last commit are appended.
 set -eu
 cd "$(dirname -- "$0")/.."
@@ -37,7 +37,7 @@ $package ($version) unstable; urgency=medium
  -- $maintainer  ${day:-$(date -R -r CHANGELOG.md)}
 END
 cat > "$documents/copyright" <<END
-$package: a filter of Subversion dump files, and a survey of what it loses.
+$package: removes paths from Subversion dump files, filters them, and reports what filtering loses.
 
 Copyright 2026, the authors of $package. No licence has been chosen yet, so none is granted: whoever wants to hand
 this package on has to ask them.
@@ -62,10 +62,16 @@ Installed-Size: $(du -ks "$root/usr" | cut -f1)
 Depends: libc6 (>= $needs)
 Section: vcs
 Priority: optional
-Description: filter for Subversion dump files, proved
- Cuts paths out of the dump of a Subversion repository. What it writes is
- proved to be what the definition of the filter says. A second program tells
- before that where the loaded repository may not be the one that is meant.
+Description: programs that remove paths from Subversion dumps, proved
+ svndumpcut removes paths from the dump of a whole Subversion repository,
+ and copies of them too if asked. Where it ends with status 0, it is proved
+ that what it wrote loads if the dump loads, and has the old trees without
+ these paths.
+ .
+ svndumpfilter-proved filters a dump as Subversion's svndumpfilter does.
+ What it writes is proved to be what the definition of the filter says.
+ svndumpsurvey-proved reports before that where the loaded repository may
+ not be the one that is meant.
 END
 (cd "$root" && find usr -type f -exec md5sum {} + | sort -k 2) > "$root/DEBIAN/md5sums"
 chmod -R u=rwX,go=rX "$root"
