@@ -1,5 +1,5 @@
 -- What the filter writes of a dump that is ready is its cut.
-use Rattle.std.proofs.Common.{◌≡◌, ℕ, Bool, true, false, IfSome, MatchBool, List, length, map, Option, Some, is_some, refl, sym, inl, ◌∙◌, subst}
+use Rattle.std.proofs.Common.{ap, ◌≡◌, ◌||◌, ℕ, Bool, true, false, IfSome, MatchBool, List, length, map, Option, Some, is_some, refl, sym, inl, ◌∙◌, subst}
 use Rattle.std.proofs.KnownBytes.{Keeps-refl}
 use Rattle.std.specs.Io.KnownBytes.{Keeps}
 use Rattle.std.specs.List.{AllZip, list_all}
@@ -17,7 +17,9 @@ use Rattle.dump_trees.specs.Revisions.{loaded_over}
 use Rattle.dump_trees.specs.Trees.{Tree, root_alone}
 use Rattle.dump_trees.proofs.cuts.FollowLemmas.{following_is_least}
 use Rattle.dump_trees.proofs.cuts.RestLemmas.{all_rests_are_listed, no_returns_bring_nothing}
+use Rattle.dump_filter.specs.Groups.{is_pad}
 use Rattle.dump_history.specs.DumpChanges.{LoadsAs, MakeRevisions}
+use Rattle.dump_history.proofs.cuts.CutLaws.{excluded_dump_loads}
 use Rattle.dump_history.specs.RecordChanges.{Patching}
 use Rattle.dump_index.specs.IndexLaws.{AreListed, IsListed}
 use Rattle.dump_index.specs.Listed.{listed_of}
@@ -27,6 +29,7 @@ use Rattle.dump_index.proofs.ToldLemmas.{index_tells_kinds}
 use Rattle.dump_changes.specs.ListedDumps.{MakesListed}
 use Rattle.dump_cut.specs.LoadChecks.{IsFirstRefused}
 use Rattle.dump_cut.specs.NamedPaths.{has_named_paths}
+use Rattle.dump_cut.specs.TakenCopies.{emptied_by}
 use Rattle.dump_cut.proofs.LoadLaws.{unrefused_loads}
 use Rattle.dump_cut.proofs.NamedLemmas.{read_named}
 use Rattle.dump_cut.proofs.OwnFormLemmas.{own_expansion}
@@ -86,10 +89,13 @@ module _ (m : CutMeaning) (dump : List ℕ) (settings : Settings) (records : Lis
           nothing_back = (no_returns_bring_nothing settings ready.excluded told revisions trees placed refl tells loads names
               ready.excludes ready.have_names).0 none;
           filters = λ fit. own_expansion patched settings dump text records revisions trees clean.whole loads_as apart clean fit;
-          numbered = λ fit. taken_dump_loads patched settings ready.excluded dump text records changes revisions trees
+          numbered = λ stays fit. taken_dump_loads patched settings ready.excluded dump text records changes revisions trees
               clean.whole loads_as listed named ready.excludes ready.have_names
               (subst (λ l. Rattle.dump_cut.specs.TakenCopies.IsFirstNotTaken ready.excluded (kinds_told_by l) placed Option.None)
-              (sym same) taken) clean fit ready.pads ready.preserves;
+              (sym same) taken) clean fit (ready.empties ∙ ap emptied_by stays) ready.preserves;
+          renumbered = λ drops fit. excluded_dump_loads patched settings dump text records records revisions trees
+              (own_expansion patched settings dump text records revisions trees clean.whole loads_as apart clean fit)
+              ready.excludes.side (ap (λ b. b || is_pad settings.empty) (ready.numbers ∙ drops));
         }
 
   -- a history that an index lists loads, where its deltas apply

@@ -14,9 +14,9 @@ use Rattle.cut_cli.specs.declared.examine.Obstacle.TheVariants.{ComesBack, Loses
 
 -- CommandLine
 
--- four options, and the prefixes
-five_rules : length cut_command.top.rules ≡ 5
-five_rules = refl
+-- five options, and the prefixes
+six_rules : length cut_command.top.rules ≡ 6
+six_rules = refl
 
 no_sides : cut_command.subs ≡ []
 no_sides = refl
@@ -32,6 +32,7 @@ around : cut_of_words (given (codes "a" ∷ codes "--follow-copies" ∷ codes "-
       side = Exclude;
       prefixes = codes "a" ∷ codes "--x" ∷ [];
       follow = true;
+      drop = false;
       dry_run = false;
       quiet = true;
       verbose = false;
@@ -39,11 +40,13 @@ around : cut_of_words (given (codes "a" ∷ codes "--follow-copies" ∷ codes "-
 unfolding clap_on_literals
 around = refl
 
-others : cut_of_words (codes "p" ∷ codes "include" ∷ codes "--verbose" ∷ codes "--dry-run" ∷ codes "/" ∷ [])
+others : cut_of_words (codes "p" ∷ codes "include" ∷ codes "--verbose" ∷ codes "--dry-run" ∷ codes "--drop-empty-revs"
+    ∷ codes "/" ∷ [])
     ≡ Ok (record {
       side = Include;
       prefixes = codes "/" ∷ [];
       follow = false;
+      drop = true;
       dry_run = true;
       quiet = false;
       verbose = true;

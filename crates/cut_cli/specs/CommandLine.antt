@@ -7,6 +7,7 @@ use Rattle.cli_support.specs.FilterCommand.{bare_command, prefixes, switch}
 abbrev pub cut_command : App
 cut_command =
     let copies = with_rule (bare_command (codes "svndumpcut")) (switch (codes "follow-copies")) in
-    let dry = with_rule copies (switch (codes "dry-run")) in
+    let drops = with_rule copies (switch (codes "drop-empty-revs")) in
+    let dry = with_rule drops (switch (codes "dry-run")) in
     let said = with_rule (with_rule dry (switch (codes "quiet"))) (switch (codes "verbose")) in
     with_rule said prefixes

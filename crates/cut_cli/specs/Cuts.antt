@@ -4,7 +4,6 @@ use Rattle.std.specs.List.{AllZip, list_all}
 use Rattle.dump_digest.specs.RecordParts.{is_node, is_revision_record}
 use Rattle.dump_records.specs.DumpText.{BeginsWithRecords, Ending, HasRecords}
 use Rattle.dump_records.specs.RecordText.{DumpRecord}
-use Rattle.dump_rules.specs.declared.options.Empty.TheVariants.{Pad}
 use Rattle.dump_rules.specs.Settings.{Settings}
 use Rattle.dump_filter.specs.FilterLaws.{LengthsFit}
 use Rattle.dump_trees.specs.CanonicalPaths.{canonical_paths}
@@ -18,7 +17,7 @@ use Rattle.dump_trees.specs.Paths.{NodePath}
 use Rattle.dump_trees.specs.Returns.{is_covered}
 use Rattle.dump_trees.specs.Siblings.{ExcludesPaths, has_node_names}
 use Rattle.dump_trees.specs.Trees.{Tree, root_alone}
-use Rattle.dump_history.specs.CutDumps.{FiltersExpansion, LoadsNumbered, TreeRestricts}
+use Rattle.dump_history.specs.CutDumps.{FiltersExpansion, LoadsNew, LoadsNumbered, TreeRestricts}
 use Rattle.dump_history.specs.DumpChanges.{LoadsAs, MakeRevisions}
 use Rattle.dump_history.specs.RecordChanges.{MakesChange, Patching}
 use Rattle.dump_index.specs.IndexLaws.{IsListed}
@@ -29,7 +28,7 @@ use Rattle.dump_index.specs.declared.change.NodeChange.{NodeChange}
 use Rattle.dump_changes.specs.ListedDumps.{MakesListed}
 use Rattle.dump_cut.specs.FollowedCopies.{ComeByFollowing}
 use Rattle.dump_cut.specs.LoadChecks.{IsFirstRefused}
-use Rattle.dump_cut.specs.TakenCopies.{IsFirstNotTaken}
+use Rattle.dump_cut.specs.TakenCopies.{IsFirstNotTaken, emptied_by}
 use Rattle.cut_cli.specs.Words.{CutMeaning}
 use Rattle.cut_cli.specs.declared.examine.Obstacle.{Obstacle}
 use Rattle.cut_cli.specs.declared.examine.Obstacle.TheVariants.{ComesBack, Loses, Refused, Unread}
@@ -109,8 +108,8 @@ IsObstacleTo m dump (Loses place) = (listed : List Listed) × (excluded : List N
     × ((placed : List Placed) → AllZip IsListed listed placed
     → IsFirstNotTaken excluded (kinds_told_by listed) placed (Some place))
 
--- these are the options of a filter that cuts the dump: it excludes these paths, keeps each revision with its number and
--- properties, and leaves mergeinfo of excluded paths out
+-- these are the options of a filter that cuts the dump: it excludes these paths, leaves mergeinfo of them out, and keeps
+-- each revision with its number and properties; or it drops those that lose all of their nodes, and renumbers
 pub record IsReadyFor (m : CutMeaning) (dump : List ℕ) (settings : Settings) : Type 0 where
   pub listed : List Listed
   pub excluded : List NodePath
@@ -120,16 +119,17 @@ pub record IsReadyFor (m : CutMeaning) (dump : List ℕ) (settings : Settings) :
       → IsFirstNotTaken excluded (kinds_told_by listed) placed None
   pub excludes : ExcludesPaths settings excluded
   pub have_names : IsTrue (list_all has_node_names excluded)
-  pub pads : settings.empty ≡ Pad
-  pub numbers : settings.renumber ≡ false
+  pub empties : settings.empty ≡ emptied_by m.drop
+  pub numbers : settings.renumber ≡ m.drop
   pub preserves : settings.preserve ≡ true
   pub skips : settings.skip_missing ≡ true
 
 -- what is written
 
 -- the dump loads into an empty repository, and so does what is written of it: each revision has its own number and
--- properties, and the tree that it had, without the excluded paths. These are the least set that has what the call names,
--- and what copies bring of it elsewhere; nothing that is kept came from there
+-- properties, and the tree that it had, without the excluded paths. If the call drops revisions that lose all of their
+-- nodes, this is true of the others under their new numbers. The excluded paths are the least set that has what the call
+-- names, and what copies bring of it elsewhere; nothing that is kept came from there
 pub record CutLoads (patched : Patching) (m : CutMeaning) (settings : Settings) (excluded : List NodePath) (dump : List ℕ)
     (records : List DumpRecord) (revisions : List (List Change)) (text : List ℕ) : Type 0 where
   pub trees : List Tree
@@ -142,8 +142,10 @@ pub record CutLoads (patched : Patching) (m : CutMeaning) (settings : Settings) 
   pub nothing_back : NothingComesBack settings trees revisions
   pub filters : LengthsFit settings records
       → FiltersExpansion patched settings dump records revisions trees records text
-  pub numbered : LengthsFit settings records
+  pub numbered : m.drop ≡ false → LengthsFit settings records
       → LoadsNumbered patched (TreeRestricts settings records) records trees text
+  pub renumbered : m.drop ≡ true → LengthsFit settings records
+      → LoadsNew patched settings (TreeRestricts settings records) records trees text
 
 -- the text is the cut of the dump, where text deltas apply, if it has some
 pub record IsCutText (m : CutMeaning) (settings : Settings) (dump text : List ℕ) : Type 0 where

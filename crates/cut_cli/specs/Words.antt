@@ -10,11 +10,13 @@ use Rattle.cli_support.specs.declared.usage.Usage.TheVariants.{Words}
 use Rattle.cut_cli.specs.CommandLine.{cut_command}
 use Rattle.cut_cli.specs.declared.words.Call.{Call}
 
--- what a call asks for: a side, prefixes, whether copies are followed, whether nothing is written, and what is reported
+-- what a call asks for: a side, prefixes, whether copies are followed, whether emptied revisions are dropped, whether
+-- nothing is written, and what is reported
 pub record CutMeaning : Type 0 where
   pub side : Side
   pub prefixes : List Text
   pub follow : Bool
+  pub drop : Bool
   pub dry_run : Bool
   pub quiet : Bool
   pub verbose : Bool
@@ -24,6 +26,7 @@ cut_meaning call = record {
   side = call.side;
   prefixes = map (λ prefix. prefix.now) call.prefixes.items;
   follow = call.follow;
+  drop = call.drop;
   dry_run = call.dry_run;
   quiet = call.quiet;
   verbose = call.verbose;
@@ -43,6 +46,7 @@ cut_of_side side rows = if are_refused rows then Err Words else Ok (record {
   side = side;
   prefixes = prefixes_in rows;
   follow = is_set (codes "follow-copies") rows;
+  drop = is_set (codes "drop-empty-revs") rows;
   dry_run = is_set (codes "dry-run") rows;
   quiet = is_set (codes "quiet") rows;
   verbose = is_set (codes "verbose") rows;

@@ -42,7 +42,7 @@ pub enum Obstacle {
 pub struct Ready {
     /// The options of the filter that writes the cut.
     pub options: Options,
-    /// How many revisions have changes, and all of them at excluded paths.
+    /// How many revisions stay that have changes, and all of them at excluded paths.
     pub emptied: u64,
 }
 
@@ -179,8 +179,12 @@ fn prepare<E: Write>(
         report_loss(alloc, index, excluded, place, errors)?;
         return Ok(Err(Obstacle::Loses(place)));
     }
-    let options = excluded.filter_options(alloc)?;
-    let emptied = count_emptied(excluded, index.changes());
+    let options = excluded.filter_options(alloc, call.drop)?;
+    let emptied = if call.drop {
+        0
+    } else {
+        count_emptied(excluded, index.changes())
+    };
     Ok(Ok(Ready { options, emptied }))
 }
 

@@ -444,8 +444,13 @@ pub fn write_report<E: Write>(errors: &mut E, report: Report, emptied: u64) -> i
     if emptied > 0 {
         write!(errors, " ({emptied} of them emptied)")?;
     }
+    write!(errors, ", dropped {revisions_dropped}")?;
+    if revisions_dropped > 0 {
+        let youngest = revisions_kept.saturating_sub(1);
+        write!(errors, " (the youngest is now r{youngest})")?;
+    }
     writeln!(
         errors,
-        ", dropped {revisions_dropped}; nodes kept {nodes_kept}, dropped {nodes_dropped}; texts checked {texts_checked}"
+        "; nodes kept {nodes_kept}, dropped {nodes_dropped}; texts checked {texts_checked}"
     )
 }

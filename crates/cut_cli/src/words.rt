@@ -19,6 +19,8 @@ pub struct Call<'a> {
     pub prefixes: Vec<&'a [u8]>,
     /// Whether the copies of what is excluded are excluded too.
     pub follow: bool,
+    /// Whether revisions are dropped that lose all of their nodes, and the others are renumbered.
+    pub drop: bool,
     /// Whether nothing is written.
     pub dry_run: bool,
     /// Whether warnings and faults alone are reported.
@@ -76,6 +78,7 @@ fn read_call<'a>(alloc: Global, side: Side, matches: &ArgMatches<'a>) -> Result<
         side,
         prefixes,
         follow: is_set(matches, "follow-copies"),
+        drop: is_set(matches, "drop-empty-revs"),
         dry_run: is_set(matches, "dry-run"),
         quiet,
         verbose,

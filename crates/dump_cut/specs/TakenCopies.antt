@@ -1,10 +1,11 @@
 -- Copies that the filter takes as they are, told by excluded paths and by what exists at the sources; and dumps that it
 -- takes as they are, since it takes all of their copies.
-use Rattle.std.specs.Prelude.{◌≡◌, ℕ, ◌<◌, Bool, true, ◌&&◌, ◌||◌, ◌==◌, List, [], ◌∷◌, length, map, Option, Some, None, slice_get, IsTrue, IsFalse}
+use Rattle.std.specs.Prelude.{◌≡◌, ℕ, ◌<◌, Bool, true, false, ◌&&◌, ◌||◌, ◌==◌, List, [], ◌∷◌, length, map, Option, Some, None, slice_get, IsTrue, IsFalse}
 use Rattle.std.specs.List.{list_all}
 use Rattle.dump_records.specs.DumpText.{Ending, HasRecords}
 use Rattle.dump_records.specs.RecordText.{DumpRecord}
-use Rattle.dump_rules.specs.declared.options.Empty.TheVariants.{Pad}
+use Rattle.dump_rules.specs.declared.options.Empty.{Empty}
+use Rattle.dump_rules.specs.declared.options.Empty.TheVariants.{DropEmptied, Pad}
 use Rattle.dump_rules.specs.Settings.{Settings}
 use Rattle.dump_filter.specs.FilterLaws.{LengthsFit}
 use Rattle.dump_filter.specs.WholeText.{IsCleanText}
@@ -59,6 +60,11 @@ abbrev pub IsFirstNotTaken : List NodePath → ToldKinds → List Placed → Opt
 IsFirstNotTaken excluded told placed None = AllTaken excluded told placed (length placed)
 IsFirstNotTaken excluded told placed (Some place) =
     AllTaken excluded told placed place × IsFalse (is_taken_at excluded told placed (slice_get placed place))
+
+-- what becomes of revisions that lose all of their nodes, by whether these are to be dropped
+abbrev pub emptied_by : Bool → Empty
+emptied_by true = DropEmptied
+emptied_by false = Pad
 
 -- where each change of a dump that loads is taken, the filter's cut separates each
 abbrev pub TakenRevisionsSeparate : Type 0

@@ -1,12 +1,12 @@
 //! The paths that a cut excludes.
 ghost use Rattle.std.specs.Prelude.{◌≡◌, ◌++◌, ◌∷◌, [], IfOk, IsTrue, OnErr, OnOk, bytes_eq, false, map, not, true};
 ghost use Rattle.std.specs.List.{list_all, list_any};
-ghost use Rattle.dump_rules.specs.declared.options.Empty.TheVariants.{Pad};
 ghost use Rattle.dump_trees.specs.CanonicalPaths.{canonical_paths};
 ghost use Rattle.dump_trees.specs.Paths.{NodePath, names_of, path_text};
 ghost use Rattle.dump_trees.specs.Returns.{is_covered, rests_covered};
 ghost use Rattle.dump_trees.specs.Siblings.{ExcludesPaths, has_node_names};
 ghost use Rattle.dump_index.specs.InOrder.{ends_in_slash};
+ghost use Rattle.dump_cut.specs.TakenCopies.{emptied_by};
 ghost use Rattle.dump_cut.specs.steps.ExcludedPaths.{IsGrownIf, paths_of};
 ghost use Rattle.dump_cut.specs.steps.ExcludedTexts.{is_text_below, texts_below};
 
@@ -186,11 +186,13 @@ impl Excluded {
         Ok(prefixes)
     }
 
-    /// The options of the filter that excludes these paths. Under them each revision stays, with its own number and
-    /// properties, and lines of mergeinfo go whose paths are excluded.
-    pub fn filter_options(&self, alloc: Global) -> Result<Options, Memory>
+    /// The options of the filter that excludes these paths. Under them lines of mergeinfo go whose paths are excluded. Each
+    /// revision stays, with its own number and properties; or those that lose all of their nodes are dropped, and the
+    /// others are renumbered and keep their properties.
+    pub fn filter_options(&self, alloc: Global, drops: bool) -> Result<Options, Memory>
         ensures excludes { IfOk result (λ options. ExcludesPaths options (paths_of self.now)) }
-        ensures stays { IfOk result (λ options. (options.empty ≡ Pad) × (options.renumber ≡ false) × (options.preserve ≡ true)) }
+        ensures revisions { IfOk result (λ options. (options.empty ≡ emptied_by drops) × (options.renumber ≡ drops)
+            × (options.preserve ≡ true)) }
         ensures skips { IfOk result (λ options. options.skip_missing ≡ true) }
         ensures named { OnOk result (IsTrue (list_all has_node_names (paths_of self.now))) }
     {
@@ -199,6 +201,11 @@ impl Excluded {
         for prefix in &prefixes {
             texts.push(prefix.as_slice())?;
         }
-        Options::new(alloc, Side::Exclude, &texts, Empty::Pad, false, true, true)
+        let empty = if drops {
+            Empty::DropEmptied
+        } else {
+            Empty::Pad
+        };
+        Options::new(alloc, Side::Exclude, &texts, empty, drops, true, true)
     }
 }

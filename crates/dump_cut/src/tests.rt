@@ -10,7 +10,7 @@ use crate::{
 };
 use dump_changes::{Reading, read_changes};
 use dump_index::{ChangeIndex, are_in_order};
-use dump_rules::keeps;
+use dump_rules::{Empty, keeps};
 use std::alloc::Global;
 use std::test::Fail;
 
@@ -221,8 +221,10 @@ fn paths_or_no_memory(rt: HostRuntime) {
 #[test]
 fn the_filter_excludes_the_paths(rt: HostRuntime) -> Result<(), Fail> {
     let excluded = Excluded::of(rt.alloc(), &[b"d/f".as_slice(), b"./e"])?;
-    let options = excluded.filter_options(rt.alloc())?;
+    let options = excluded.filter_options(rt.alloc(), false)?;
     assert!(rt; !keeps(&options, b"d/f/g") && !keeps(&options, b"e") && keeps(&options, b"d"));
     assert!(rt; options.preserve() && options.skip_missing() && !options.renumber());
+    let dropping = excluded.filter_options(rt.alloc(), true)?;
+    assert!(rt; dropping.empty() == Empty::DropEmptied && dropping.renumber());
     Ok(())
 }
