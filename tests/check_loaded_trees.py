@@ -1,25 +1,37 @@
 #!/usr/bin/env python3
-"""Sees that the filtered repository has the right trees wherever the survey reports nothing.
+"""Sees that a filtered or cut repository has the right trees: the filter's wherever the survey reports nothing.
 
-    tests/check_loaded_trees.py [SEED]
+    tests/check_loaded_trees.py [SEED [filter] [cut]]
 
-SEED is 1 where none is given; another one makes other repositories. Repositories are made by svnmucc and svn: copies,
-renames of projects and of the directories above them, replaced and deleted directories, properties, branches and merges.
-Each is dumped, without deltas and with them, and each dump is surveyed and filtered by many sets of prefixes and options.
-The output is loaded by svnadmin over the directories that the survey lists, made in revision 1 in the order of its lines.
-Then the tree at each number is compared with the original's, restricted to the kept paths as docs/FILTER.md says: kinds,
-texts, properties, mergeinfo; and so are the properties of each kept revision. The same is done with parts of each history,
-as svnadmin dump -r writes them. The original is what svnadmin loads of such a part, and where the load lowers numbers
-mergeinfo is not compared.
+SEED is 1 where none is given; another one makes other repositories. The words behind it say which of the two parts below
+are run; both are where none is given. Repositories are made by svnmucc and svn: copies, renames of projects and of the
+directories above them, replaced and deleted directories, properties, branches and merges. Each is dumped, without deltas
+and with them.
+
+filter: each dump is surveyed and filtered by many sets of prefixes and options. The output is loaded by svnadmin over the
+directories that the survey lists, made in revision 1 in the order of its lines. Then the tree at each number is compared
+with the original's, restricted to the kept paths as docs/FILTER.md says: kinds, texts, properties, mergeinfo; and so are
+the properties of each kept revision. The same is done with parts of each history, as svnadmin dump -r writes them. The
+original is what svnadmin loads of such a part, and where the load lowers numbers mergeinfo is not compared.
 
 A run passes if all is equal, or if the survey has a line. Where the filter stops, the survey must have a line with that
 record and fault, and none with a fault where the filter does not stop. After fault 12 the same is run once more, with all
 the prefixes that the survey suggests: then no copy may stop the filter. (No path here begins with two slashes: no prefix
-names such a path.) The files of a failed run are kept in build/loaded_trees. Where Subversion is not installed, the test is
-left out and says so. The last line is 'N passed, M failed'.
+names such a path.)
+
+cut: svndumpcut excludes many sets of one to three paths from each dump, without --follow-copies and with it, some also with
+--dry-run. Which paths are excluded in the end, what copies bring back and which copies can't be written is computed here,
+from the original's trees and copies as docs/CUT.md says: the status and the lists have to be as computed. Nothing may be
+written but with status 0. What is written then is loaded into an empty repository, with svnadmin's checks of properties. It
+has to have each revision of the original with its number and its properties, and its tree without the excluded paths, and
+no text that only excluded files have. Of parts of a history nothing may be written.
+
+The files of a failed run are kept in build/loaded_trees. Where Subversion is not installed, the test is left out and says
+so. The last line is 'N passed, M failed'.
 """
 import collections
 import concurrent.futures
+import functools
 import os
 import random
 import re
@@ -33,11 +45,15 @@ from repository import ended, lacking, path as path_to, programs
 
 TOOLS = ("svn", "svnadmin", "svnlook", "svnmucc")
 SECONDS = 120
+# on a disk a load waits for it more than a second
+MEMORY = "/dev/shm" if os.access("/dev/shm", os.W_OK) else None
 REPOSITORIES, COMMITS, RUNS = 8, 18, 40
 # of each repository so many parts, and of each part so many runs
 PARTS, PART_RUNS = 3, 5
 # a repository doesn't grow above so many paths
 PATHS = 80
+# of each repository so many sets of paths are cut out, and so many parts are offered to svndumpcut
+CUTS, CUT_PARTS = 100, 6
 OPTIONS = [
     ["--drop-empty-revs", "--renumber-revs"],
     ["--drop-empty-revs", "--renumber-revs", "--skip-missing-merge-sources"],
@@ -59,6 +75,27 @@ AS_WELL = {
 # the fault and the record at which the filter stopped, and those that the survey tells, the other way round
 FAULT = re.compile(rb"svndumpfilter: fault (\d+) \w+ in record (\d+) ")
 TOLD_FAULT = re.compile(rb"^record (\d+), .*: fault (\d+)$", re.MULTILINE)
+# what svndumpcut lists: a path that it excludes too, what a copy would bring, and a copy that it can't write
+FROM = rb", copied from /(?P<source>.*)@(?P<number>\d+)"
+ADDED = re.compile(rb"^  /(?P<target>.*) \(r(?P<revision>\d+)" + FROM + rb"\)$", re.MULTILINE)
+ADDED_COUNT = re.compile(rb"^also excluded, as copies of excluded content: (\d+) paths?$", re.MULTILINE)
+BACK = re.compile(rb"^  r(?P<revision>\d+): /(?P<target>.*)" + FROM + rb": (?P<amount>.*)$", re.MULTILINE)
+BACK_COUNT = re.compile(
+    rb"^svndumpcut: nothing written: copies would bring excluded content back, in (\d+) places?\n(?:  .*\n)*"
+    rb"use --follow-copies to exclude these too, (\d+) paths? in all\n\Z",
+    re.MULTILINE,
+)
+UNWRITABLE = re.compile(
+    rb"^svndumpcut: nothing written: r(?P<revision>\d+): /(?P<target>.*)" + FROM + rb": /(.*) is excluded, and /(.*) "
+    rb"is not; this version cannot write such a copy: exclude both or neither\n\Z",
+    re.MULTILINE,
+)
+CUT_COUNTS = re.compile(
+    rb"^revisions kept (\d+)(?: \((\d+) of them emptied\))?, dropped 0; nodes kept (\d+), dropped (\d+); "
+    rb"texts checked \d+\n\Z",
+    re.MULTILINE,
+)
+MARKER = re.compile(rb"^only in text \d+\.$", re.MULTILINE)
 
 
 def left_out():
@@ -89,16 +126,21 @@ class Life:
         call("svnadmin", "create", self.path)
         # the paths of each revision, a folder's with a slash at its end
         self.trees = [[]]
-        self.names = 0
+        self.names = self.texts = 0
 
     def name(self):
         self.names += 1
         return self.chance.choice("abcdefgh") + str(self.names)
 
     def text(self):
+        """An empty file, or one with a few lines, of which the last is in no other text."""
         path = os.path.join(self.folder, f"text{self.names}")
+        lines = [f"{self.chance.randrange(1000)}\n" for _ in range(self.chance.randrange(4))]
+        self.texts += 1
+        if lines:
+            lines.append(f"only in text {self.texts}.\n")
         with open(path, "w", encoding="utf-8") as it:
-            it.write("".join(f"{self.chance.randrange(1000)}\n" for _ in range(self.chance.randrange(4))))
+            it.write("".join(lines))
         return path
 
     def committed(self):
@@ -299,6 +341,27 @@ def records(dump):
 Node = collections.namedtuple("Node", "properties text")
 
 
+# a copy, or what it takes of one path to another
+Copy = collections.namedtuple("Copy", "revision source number target")
+
+
+def taken(copy, tree):
+    """What a copy takes of the tree that has its source."""
+    below = copy.source + b"/" if copy.source else b""
+    for it in tree:
+        if it == copy.source or it.startswith(below):
+            rest = it[len(below) :] if it != copy.source else b""
+            yield copy._replace(source=it, target=copy.target + b"/" + rest if rest else copy.target)
+
+
+def copy_of(record, revision):
+    """The copy that a node of a revision is, if it is one."""
+    headers = record.headers
+    if b"Node-copyfrom-path" not in headers:
+        return None
+    return Copy(revision, headers[b"Node-copyfrom-path"], int(headers[b"Node-copyfrom-rev"]), headers[b"Node-path"])
+
+
 def step(trees, tree, record):
     """What a record makes of a tree, as svnadmin load does it with a dump that svnadmin wrote without deltas."""
     headers = record.headers
@@ -307,13 +370,9 @@ def step(trees, tree, record):
         for it in [it for it in tree if it == path or it.startswith(path + b"/")]:
             del tree[it]
     if action in (b"add", b"replace"):
-        if b"Node-copyfrom-path" in headers:
-            source = headers[b"Node-copyfrom-path"]
-            below = source + b"/" if source else b""
-            for it, node in trees[int(headers[b"Node-copyfrom-rev"])].items():
-                if it == source or it.startswith(below):
-                    rest = it[len(below) :] if it != source else b""
-                    tree[path + b"/" + rest if rest else path] = node
+        copy = copy_of(record, len(trees) - 1)
+        if copy:
+            tree.update((it.target, trees[copy.number][it.source]) for it in taken(copy, trees[copy.number]))
         else:
             tree[path] = Node({}, None if headers[b"Node-kind"] == b"dir" else b"")
     if record.properties is not None:
@@ -323,13 +382,16 @@ def step(trees, tree, record):
 
 
 class History:
-    """The trees and revision properties of a repository, and the paths of each revision's nodes, from its dump."""
+    """The trees and revision properties of a repository, the paths of each revision's nodes, and the copies, from its dump.
+
+    With each copy stands all that it takes.
+    """
 
     def __init__(self, repository, first=0):
         self.path = repository
         # the number of the first revision that was loaded into it, above 0 where that was a part of a history
         self.first = first
-        self.trees, self.properties, self.nodes = [], [], []
+        self.trees, self.properties, self.nodes, self.copies = [], [], [], []
         tree = {b"": Node({}, None)}
         for record in records(call("svnadmin", "dump", "-q", repository)):
             if b"Revision-number" in record.headers:
@@ -340,6 +402,19 @@ class History:
             elif b"Node-path" in record.headers:
                 step(self.trees, tree, record)
                 self.nodes[-1].append(record.headers[b"Node-path"])
+                copy = copy_of(record, len(self.trees) - 1)
+                if copy:
+                    self.copies.append((copy, list(taken(copy, self.trees[copy.number]))))
+
+    @functools.cached_property
+    def markers(self):
+        """The lines that are in one text alone, each with the paths that have that text."""
+        found = {}
+        for tree in self.trees:
+            for path, node in tree.items():
+                for marker in MARKER.findall(node.text or b""):
+                    found.setdefault(marker, set()).add(path)
+        return found
 
     def with_nodes_of(self, part):
         """With the nodes of the part that was loaded, since a node that changes nothing isn't in a dump of what it made."""
@@ -393,6 +468,43 @@ class Call:
         if not is_padded:
             return dict(properties)
         return {**{name: value for name, value in properties if name == b"svn:date"}, b"svn:log": PADDED_LOG}
+
+
+class Excluded(Call):
+    """Paths that svndumpcut excludes, and what the copies of a history do to them, by docs/CUT.md."""
+
+    def __init__(self, paths):
+        super().__init__("exclude", ["--preserve-revprops", "--skip-missing-merge-sources"], [])
+        self.paths = set(paths)
+
+    def keeps(self, path):
+        names = path.removeprefix(b"/").split(b"/")
+        return not any(b"/".join(names[:count]) in self.paths for count in range(len(names) + 1))
+
+    def back(self, history):
+        """What copies bring back."""
+        everything = (it for _, some in history.copies for it in some)
+        return [it for it in everything if self.keeps(it.target) and not self.keeps(it.source)]
+
+    def unwritable(self, history):
+        """What kept copies have at their sources alone, each with the copy."""
+        kept = ((copy, it) for copy, some in history.copies if self.keeps(copy.target) for it in some)
+        return [(copy, it) for copy, it in kept if self.keeps(it.source) and not self.keeps(it.target)]
+
+    def followed(self, history):
+        """With all that copies bring back, until none does."""
+        found = Excluded(self.paths)
+        back = found.back(history)
+        while back:
+            found.paths.update(it.target for it in back)
+            back = found.back(history)
+        return found
+
+    def counts(self, history):
+        """How many revisions there are, how many are emptied, and how many nodes are kept and dropped."""
+        kept = [[self.keeps(it) for it in some] for some in history.nodes]
+        nodes = [it for some in kept for it in some]
+        return len(kept), sum(bool(it) and not any(it) for it in kept), sum(nodes), len(nodes) - sum(nodes)
 
 
 def mergeinfo(value):
@@ -478,14 +590,14 @@ def without_mergeinfo(tree):
     }
 
 
-def load(folder, dump, folders, first=0):
+def load(folder, dump, folders, first=0, options=("--no-flush-to-disk", "--bypass-prop-validation")):
     """Loads a dump into a new repository over these folders, and returns it, or what svnadmin says."""
     path = os.path.join(folder, f"loaded{first or ''}")
     call("svnadmin", "create", path)
     if folders:
         made = [word for it in folders for word in ("mkdir", it.decode())]
         call("svnmucc", "--non-interactive", "-m", "Folders for the load.", "-U", "file://" + path, *made)
-    it = ran("svnadmin", "load", "-q", "--no-flush-to-disk", "--bypass-prop-validation", path, given=dump)
+    it = ran("svnadmin", "load", "-q", *options, path, given=dump)
     if it.returncode != 0:
         return None, it.stderr.decode("utf-8", "replace").strip().splitlines()[-1]
     return History(path, first), None
@@ -498,17 +610,40 @@ class Refused:
         self.first, self.why = first, why
 
 
-class Run:
-    """A dump, a call, and what became of it."""
+class Trial:
+    """A dump, the words of a call, and what became of it."""
+
+    def __init__(self, name, original, dump, words):
+        self.name, self.original, self.dump, self.words = name, original, dump, words
+        self.verdicts, self.why = [], None
+
+    def fail(self, why):
+        self.verdicts.append("failed")
+        self.why = why
+        return self
+
+    def keep(self):
+        """Keeps what a failed run was made of."""
+        folder = path_to("build", "loaded_trees", self.name)
+        os.makedirs(folder, exist_ok=True)
+        with open(os.path.join(folder, "dump"), "wb") as it:
+            it.write(self.dump)
+        with open(os.path.join(folder, "args"), "w", encoding="utf-8") as it:
+            it.write("".join(word + "\n" for word in self.words))
+        return folder
+
+
+class Run(Trial):
+    """A run of the survey and of the filter."""
 
     def __init__(self, name, original, dump, own, is_validated):
-        self.name, self.original, self.dump, self.own, self.is_validated = name, original, dump, own, is_validated
-        self.is_grown, self.verdicts, self.why = False, [], None
+        super().__init__(name, original, dump, own.words)
+        self.own, self.is_validated, self.is_grown = own, is_validated, False
 
-    def judge(self, program, survey):
+    def judge(self, built):
         """What becomes of it, and where the filter stops for fault 12, of it with what the survey tells to keep as well."""
-        told = ran(survey, *self.own.words, given=self.dump)
-        filtered = ran(program, *self.own.words, given=self.dump)
+        told = ran(built["survey"], *self.words, given=self.dump)
+        filtered = ran(built["filter"], *self.words, given=self.dump)
         if told.returncode not in (0, 1):
             return self.fail(f"the survey's status is {told.returncode}: {told.stderr.decode()}")
         faults = TOLD_FAULT.findall(told.stdout)
@@ -524,19 +659,14 @@ class Run:
         self.verdicts.append(f"stopped by fault {int(fault[1])}")
         if fault[1] == b"12":
             self.grow(told.stdout.decode())
-            self.judge(program, survey)
+            self.judge(built)
         return self
 
     def grow(self, told):
         """Takes what the survey told to keep, or to leave out, as well."""
-        side = self.own.words[0]
+        side = self.words[0]
         self.own = Call(side, self.own.options, [*self.own.given, *AS_WELL[side].findall(told)])
-        self.is_grown = True
-
-    def fail(self, why):
-        self.verdicts.append("failed")
-        self.why = why
-        return self
+        self.words, self.is_grown = self.own.words, True
 
     def compare(self, told, filtered):
         """Loads what was filtered, and compares it with what is meant."""
@@ -549,7 +679,7 @@ class Run:
         folders = FOLDER.findall(told.stdout)
         if sorted(folders) != meant.folders:
             return self.fail(f"the survey tells the folders {folders}, and {meant.folders} are meant")
-        with tempfile.TemporaryDirectory() as folder:
+        with tempfile.TemporaryDirectory(dir=MEMORY) as folder:
             loaded, why = load(folder, filtered, folders)
             if loaded:
                 if self.is_validated:
@@ -560,15 +690,151 @@ class Run:
         self.verdicts.append(("told" if told.returncode else "silent") + (" and differing" if why else " and equal"))
         return self
 
-    def keep(self):
-        """Keeps what a failed run was made of."""
-        folder = path_to("build", "loaded_trees", self.name)
-        os.makedirs(folder, exist_ok=True)
-        with open(os.path.join(folder, "dump"), "wb") as it:
-            it.write(self.dump)
-        with open(os.path.join(folder, "args"), "w", encoding="utf-8") as it:
-            it.write("".join(word + "\n" for word in self.own.words))
-        return folder
+
+class Cut(Trial):
+    """Runs of svndumpcut on the dump of a whole repository, without and with --follow-copies."""
+
+    def __init__(self, name, original, dump, given, place):
+        super().__init__(name, original, dump, [])
+        self.given, self.is_dry, self.is_validated = given, place % 3 == 0, place % 10 == 0
+        # how many paths --follow-copies adds, as it is said without it, and the last output that was right
+        self.added, self.right = 0, None
+
+    def judge(self, built):
+        excluded = Excluded(map(canonical, self.given))
+        for options, meant in ([], excluded), (["--follow-copies"], excluded.followed(self.original)):
+            self.words = ["exclude", *options, "--verbose", *self.given]
+            answer = ran(built["cut"], *self.words, given=self.dump)
+            why = self.wrong(answer, excluded, meant)
+            if not why and self.is_dry:
+                self.words.append("--dry-run")
+                why = self.wrong_dry(built, answer)
+            if why:
+                return self.fail(why)
+        return self
+
+    def wrong(self, answer, excluded, meant):
+        """What is wrong with an answer, where some paths are given, and these are meant to be excluded."""
+        status = 3 if meant.back(self.original) else 1 if meant.unwritable(self.original) else 0
+        if answer.returncode != status or b"warning" in answer.stderr:
+            return f"the status is {answer.returncode}, and {status} is meant: {answer.stderr.decode()}"
+        if status and answer.stdout:
+            return f"something is written with status {status}"
+        why = self.wrong_added(answer.stderr, excluded, meant)
+        if why or status == 3:
+            return why or self.wrong_back(answer.stderr, meant)
+        if status == 1:
+            return self.wrong_unwritable(answer.stderr, meant)
+        return self.wrong_output(answer, meant)
+
+    def wrong_added(self, told, excluded, meant):
+        """Each path that is listed has to come from what stands before it, and all of them are those that are meant."""
+        found, added = Excluded(excluded.paths), listed(ADDED, told)
+        for it in added:
+            if not any(it in some for _, some in self.original.copies):
+                return f"no copy takes {it}"
+            if found.keeps(it.source) or not found.keeps(it.target):
+                return f"{it} is listed, and doesn't add a path to those before it"
+            found.paths.add(it.target)
+        if any(map(meant.keeps, found.paths)) or any(map(found.keeps, meant.paths)):
+            return f"{sorted(found.paths)} are excluded, and {sorted(meant.paths)} are meant"
+        said = [int(it) for it in ADDED_COUNT.findall(told)]
+        if said != ([len(added)] if added else []) or len(added) != self.added * (meant is not excluded):
+            return f"{len(added)} paths are listed, {said} are announced, and {self.added} were without --follow-copies"
+        return None
+
+    def wrong_back(self, told, meant):
+        """Each place that is listed has to be one, and all that copies bring back is at or below one."""
+        back, places, said = meant.back(self.original), listed(BACK, told), BACK_COUNT.search(told)
+        if not said or int(said[1]) != len(places):
+            return f"{len(places)} places are listed: {told.decode()}"
+        self.added = int(said[2])
+        if not set(places) <= set(back):
+            return f"nothing is brought back in {set(places) - set(back)}"
+        found = Excluded(it.target for it in places)
+        if any(found.keeps(it.target) for it in back):
+            return f"{back} are brought back, and only {places} are listed"
+        for place, it in zip(places, BACK.finditer(told)):
+            amount = self.amount(place, back)
+            if it["amount"].decode().removesuffix(", changed in the copy") != amount:
+                return f"{place} brings back {amount}: {told.decode()}"
+        self.verdicts.append("not cut, since copies bring content back")
+        return None
+
+    def amount(self, place, back):
+        """How much is brought back in a place, as svndumpcut says it."""
+        here = Excluded([place.source]), Excluded([place.target])
+        some = {it for it in back if it._replace(source=b"", target=b"") == place._replace(source=b"", target=b"")}
+        some = [it for it in some if not here[0].keeps(it.source) and not here[1].keeps(it.target)]
+        texts = [self.original.trees[it.number][it.source].text for it in some]
+        files = [len(it) for it in texts if it is not None]
+        if not files:
+            return f"{len(texts)} director{'y' if len(texts) == 1 else 'ies'}"
+        said = f"{len(files)} file{'s' * (len(files) != 1)}"
+        if self.dump.startswith(b"SVN-fs-dump-format-version: 3"):
+            return said
+        return f"{said}, {sum(files):,} byte{'s' * (sum(files) != 1)}"
+
+    def wrong_unwritable(self, told, meant):
+        """The line has to be about the first copy that can't be written, and about a part of it."""
+        it, unwritable = UNWRITABLE.search(told), meant.unwritable(self.original)
+        if not it:
+            return f"there is another line: {told.decode()}"
+        copy = listed(UNWRITABLE, told)[0]
+        if copy != unwritable[0][0] or (copy, copy._replace(source=it[6], target=it[5])) not in unwritable:
+            return f"the line is about {copy}, and one of {unwritable} is meant: {told.decode()}"
+        self.verdicts.append("not cut, since a copy can't be written")
+        return None
+
+    def wrong_output(self, answer, meant):
+        """What is wrong with what was written."""
+        said = CUT_COUNTS.search(answer.stderr)
+        if not said or tuple(int(it or 0) for it in said.groups()) != meant.counts(self.original):
+            return f"{meant.counts(self.original)} are meant: {answer.stderr.decode()}"
+        for marker, paths in self.original.markers.items():
+            if marker in answer.stdout and not any(map(meant.keeps, paths)):
+                return f"the output has '{marker.decode()}', which only excluded files have"
+        if answer.stdout != self.right:
+            with tempfile.TemporaryDirectory(dir=MEMORY) as folder:
+                loaded, why = load(folder, answer.stdout, [], options=["--ignore-uuid"])
+                if loaded and self.is_validated:
+                    loaded.validate()
+                why = why or Meant(self.original, meant).wrong(loaded)
+            if why:
+                return why
+        self.right = answer.stdout
+        self.verdicts.append("cut and equal")
+        return None
+
+    def wrong_dry(self, built, answer):
+        """A dry run has to answer the same, and to write nothing."""
+        it = ran(built["cut"], *self.words, given=self.dump)
+        if it.stdout or (it.returncode, it.stderr) != (answer.returncode, answer.stderr):
+            return f"a dry run's status is {it.returncode}, with {len(it.stdout)} bytes: {it.stderr.decode()}"
+        self.verdicts.append("dry and alike")
+        return None
+
+
+class CutPart(Trial):
+    """A run of svndumpcut on a part of a history."""
+
+    def judge(self, built):
+        it = ran(built["cut"], *self.words, given=self.dump)
+        if it.returncode != 1 or it.stdout or b": the dump lacks a revision before this one; " not in it.stderr:
+            return self.fail(f"the status is {it.returncode}, with {len(it.stdout)} bytes: {it.stderr.decode()}")
+        self.verdicts.append("not cut, since it is a part")
+        return self
+
+
+def canonical(path):
+    """A prefix as svndumpcut reads it."""
+    return "/".join(it for it in path.split("/") if it not in ("", ".")).encode()
+
+
+def listed(pattern, told):
+    """What svndumpcut lists of copies."""
+    found = pattern.finditer(told)
+    return [Copy(int(it["revision"]), it["source"], int(it["number"]), it["target"]) for it in found]
 
 
 def prefixes(trees, side, chance):
@@ -584,7 +850,28 @@ def prefixes(trees, side, chance):
     return [chance.choice([it, it, it, f"/{it}/"]) for it in dict.fromkeys(some)]
 
 
-def make_runs(number, seed, folder):
+def cut_prefixes(history, chance):
+    """One to three paths that were there at some time, of all kinds, or such that no copy takes; rarely the root."""
+    if chance.random() < 0.02:
+        return ["/"]
+    ever = {path: node for tree in history.trees for path, node in sorted(tree.items()) if path}
+    kinds = [
+        [it for it in ever if b"/" not in it],
+        [it for it in ever if it.startswith(b"tags/") and it.count(b"/") == 1],
+        [it for it, node in ever.items() if node.text is None],
+        [it for it, node in ever.items() if node.text is not None],
+        [it.target for _, some in history.copies for it in some],
+        [it.source for _, some in history.copies for it in some],
+    ]
+    copied = {it for _, some in history.copies for taken in some for it in (taken.source, taken.target)}
+    if chance.random() < 0.2 and not copied.issuperset(ever):
+        kinds = [[it for it in ever if it not in copied]]
+    some = [chance.choice(chance.choice(list(filter(None, kinds)))) for _ in range(chance.choice([1, 1, 2, 3]))]
+    paths = [it.decode() or "/" for it in dict.fromkeys(some)]
+    return [chance.choice([it, it, it, f"/{it}/", f"./{it}", it.replace("/", "//")]) for it in paths]
+
+
+def make_runs(number, seed, folder, tried):
     """Makes a repository, and the runs over its dumps."""
     chance = random.Random(f"{seed} {number}")
     own = os.path.join(folder, str(number))
@@ -595,13 +882,16 @@ def make_runs(number, seed, folder):
     original.validate()
     plain = call("svnadmin", "dump", "-q", life.path)
     deltas = call("svnadmin", "dump", "-q", "--deltas", life.path)
-    runs = []
-    for place in range(RUNS):
-        side = chance.choice(["include", "exclude"])
-        words = Call(side, chance.choice(OPTIONS), prefixes(life.trees, side, chance))
-        dump = chance.choice([plain, plain, deltas])
-        runs.append(Run(f"{seed}-{number}-{place}", original, dump, words, place % 10 == 0))
-    return runs + part_runs(f"{seed}-{number}", life, own, chance)
+    name, dumps, runs = f"{seed}-{number}", [plain, plain, deltas], []
+    if "filter" in tried:
+        for place in range(RUNS):
+            side = chance.choice(["include", "exclude"])
+            words = Call(side, chance.choice(OPTIONS), prefixes(life.trees, side, chance))
+            runs.append(Run(f"{name}-{place}", original, chance.choice(dumps), words, place % 10 == 0))
+        runs += part_runs(name, life, own, chance)
+    if "cut" in tried:
+        runs += cut_runs(f"{name}-cut", original, dumps, random.Random(f"{name} cut"))
+    return runs
 
 
 def part_runs(name, life, folder, chance):
@@ -621,21 +911,36 @@ def part_runs(name, life, folder, chance):
     return runs
 
 
+def cut_runs(name, original, dumps, chance):
+    """The runs of svndumpcut over a repository, and over parts of its history."""
+    runs = []
+    for place in range(CUTS):
+        given = cut_prefixes(original, chance)
+        runs.append(Cut(f"{name}-{place}", original, chance.choice(dumps), given, place))
+    for first in chance.sample(range(2, len(original.trees)), CUT_PARTS):
+        last = chance.randrange(first, len(original.trees))
+        more = [it for it in ("--deltas", "--incremental") if chance.random() < 0.5]
+        part = call("svnadmin", "dump", "-q", "-r", f"{first}:{last}", *more, original.path)
+        words = ["exclude", *chance.choice([[], ["--follow-copies"]]), *cut_prefixes(original, chance)]
+        runs.append(CutPart(f"{name}-{first}-{last}", original, part, words))
+    return runs
+
+
 def main(words):
-    program, survey = programs()["filter"].built, programs()["survey"].built
-    seed = int(words[0]) if words else 1
+    built = {word: it.built for word, it in programs().items()}
+    seed, tried = int(words[0]) if words else 1, words[1:] or ["filter", "cut"]
     why = left_out()
     if why:
         print(f"tests/check_loaded_trees.py: left out, since {why}")
         return 0
     verdicts = collections.Counter()
-    with tempfile.TemporaryDirectory() as folder, concurrent.futures.ThreadPoolExecutor(os.cpu_count()) as pool:
-        made = list(pool.map(lambda number: make_runs(number, seed, folder), range(REPOSITORIES)))
+    with tempfile.TemporaryDirectory(dir=MEMORY) as folder, concurrent.futures.ThreadPoolExecutor(os.cpu_count()) as pool:
+        made = list(pool.map(lambda number: make_runs(number, seed, folder, tried), range(REPOSITORIES)))
         runs = [run for some in made for run in some]
-        for run in pool.map(lambda run: run.judge(program, survey), runs):
+        for run in pool.map(lambda run: run.judge(built), runs):
             verdicts.update(run.verdicts)
             if run.why:
-                print(f"{run.name}, {' '.join(run.own.words)}: {run.why}; kept in {run.keep()}")
+                print(f"{run.name}, {' '.join(run.words)}: {run.why}; kept in {run.keep()}")
     for verdict, count in sorted(verdicts.items()):
         print(f"tests/check_loaded_trees.py: {count} {verdict}")
     return ended(verdicts.total() - verdicts["failed"], verdicts["failed"])
