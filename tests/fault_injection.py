@@ -1,12 +1,13 @@
 #!/usr/bin/env python3
-"""Refuses each memory allocation and each thread start of the filter, one in each run, in turn.
+"""Refuses each memory allocation and each thread start of the filter and the cut, one in each run, in turn.
 
     tests/fault_injection.py
 
-The library fault_injection.c is loaded into build/svndumpfilter, and counts the requests. A round ends with the first run
-that has fewer requests than the number that is refused. Whatever is refused, the program ends at once: it succeeds, or it
-reports a failure of memory or threads, and its output is then the first part of the right one, of the length that it
-reports. The unit tests whose names say that memory runs out are run in the same way, where crates/*/out has them built:
+The library fault_injection.c is loaded into build/svndumpfilter and build/svndumpcut, and counts the requests. A round ends
+with the first run that has fewer requests than the number that is refused. Whatever is refused, the program ends at once: it
+does what its case wants, or it reports a failure of memory or threads, and its output is then the first part of the right
+one, of the length that it reports. Before the line of the failure svndumpcut may have written the first lines that its case
+wants. The unit tests whose names say that memory runs out are run in the same way, where crates/*/out has them built:
 such a test passes whatever is refused. Where nothing is refused, the program starts the threads that its arguments ask
 for. The last line is 'N passed, M failed'.
 """
@@ -22,14 +23,17 @@ sys.path.insert(0, os.path.join(os.path.dirname(__file__), "..", "tools"))
 from repository import cases, ended, path, programs
 
 SECONDS = 60
-# a case, and the arguments that are added to its own
+# a program, a case, and the arguments that are added to its own
 CASES = [
-    ("include_keeps_what_a_prefix_matches", []),
-    ("revisions_are_renumbered_with_their_copies", ["--workers", "2", "--window", "4"]),
+    ("filter", "include_keeps_what_a_prefix_matches", []),
+    ("filter", "revisions_are_renumbered_with_their_copies", ["--workers", "2", "--window", "4"]),
+    ("cut", "exclude_follows_copies", []),
+    ("cut", "exclude_would_come_back", []),
+    ("cut", "exclude_drops_emptied_revisions", []),
 ]
 # arguments, and how many threads are started by them: the workers, the cutter and the sequencer
 PLANS = [([], 6), (["--workers", "1"], 3), (["--workers=5", "--window=2"], 7), (["--workers", "64"], 66)]
-FAILURE = re.compile(rb"svndumpfilter: failure (21 Memory|22 Threads) after ([0-9]+) bytes\n")
+FAILURE = re.compile(rb"svndump(?:filter|cut): failure (21 Memory|22 Threads) after ([0-9]+) bytes\n")
 
 TESTS = re.compile(r"or_no_memory|out_of_memory|a_refused_(allocation|growth)")
 
@@ -80,18 +84,22 @@ class Round:
 
 
 class CaseRound(Round):
-    """The filter on one case, with more arguments."""
+    """A program on one case, with more arguments."""
 
-    def __init__(self, name, more, folder):
-        case, words = cases()[name], cases()[name].arguments("filter")
-        super().__init__(name, [programs()["filter"].built, words[0], *more, *words[1:]], case.part("stdin"), folder)
-        self.output, self.errors = case.of("filter", "stdout"), case.of("filter", "stderr")
+    def __init__(self, word, name, more, folder):
+        case, words = cases()[name], cases()[name].arguments(word)
+        super().__init__(name, [programs()[word].built, words[0], *more, *words[1:]], case.part("stdin"), folder)
+        self.output, self.errors = case.of(word, "stdout"), case.of(word, "stderr")
+        self.status, self.has_lines_before = case.status(word), word == "cut"
 
     def difference(self, ran, is_start):
-        if ran.returncode == 0:
+        if ran.returncode == self.status:
             same = ran.stdout == self.output and ran.stderr == self.errors
-            return None if same else f"status 0 with {ran.stdout!r}, {ran.stderr!r}"
-        told = FAILURE.fullmatch(ran.stderr)
+            return None if same else f"status {ran.returncode} with {ran.stdout!r}, {ran.stderr!r}"
+        *before, line = ran.stderr.splitlines(keepends=True) or [b""]
+        told = FAILURE.fullmatch(line)
+        if before and not (self.has_lines_before and self.errors.startswith(b"".join(before))):
+            return f"{before!r} before the failure"
         if ran.returncode != 1 or not told:
             return f"status {ran.returncode}, {ran.stderr!r}"
         if int(told[2]) != len(ran.stdout) or not self.output.startswith(ran.stdout):
@@ -109,8 +117,8 @@ class TestRound(Round):
 
 
 def rounds(folder):
-    for case, more in CASES:
-        yield CaseRound(case, more, folder)
+    for word, case, more in CASES:
+        yield CaseRound(word, case, more, folder)
     for tests in sorted(glob.glob(path("crates", "*", "out", "*_tests"))):
         names = subprocess.run([tests, "--list"], capture_output=True, check=True, text=True).stdout.split()
         for name in filter(TESTS.search, (it.removesuffix(":") for it in names)):
@@ -121,7 +129,7 @@ def plans(folder):
     """How many plans started as many threads as they ask for, and how many didn't."""
     passed = failed = 0
     for words, wanted in PLANS:
-        asked, wrong = CaseRound(CASES[0][0], words, folder).run({})
+        asked, wrong = CaseRound(*CASES[0][:2], words, folder).run({})
         if wrong is None and asked["starts"] == wanted:
             passed += 1
         else:
