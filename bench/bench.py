@@ -38,14 +38,9 @@ COPIES = [
 ]
 
 
-def beside():
-    """The programs beside the filter."""
-    return [it for it in programs().values() if it.word != "filter"]
-
-
 def ends_well(command, status):
-    """Whether a command may end with this status: the programs beside the filter end with 1 where they find something."""
-    return status == 0 or status == 1 and command[0] in [it.built for it in beside()]
+    """Whether a command may end with this status: the survey ends with 1 where it finds something."""
+    return status == 0 or status == 1 and command[0] == programs()["survey"].built
 
 
 def timed(command, path):
@@ -103,9 +98,15 @@ def pinned(program, plain):
 
 def others(program):
     words = ["--drop-empty-revs", "--renumber-revs", "--skip-missing-merge-sources", "trunk"]
-    rows = [(f"{it.word}, include trunk", [it.built, "include", "trunk"]) for it in beside()]
-    rows += [("with 4 workers, renumbering", [program, "include", *words])]
-    rows += [(f"{it.word}, renumbering", [it.built, "include", *words]) for it in beside()]
+    survey, cut = programs()["survey"].built, programs()["cut"].built
+    rows = [
+        ("survey, include trunk", [survey, "include", "trunk"]),
+        ("with 4 workers, renumbering", [program, "include", *words]),
+        ("survey, renumbering", [survey, "include", *words]),
+        ("with 4 workers, exclude other", [program, "exclude", "--skip-missing-merge-sources", "other"]),
+        ("cut, exclude other", [cut, "exclude", "other"]),
+        ("cut, exclude a file", [cut, "exclude", "other/file1-1"]),
+    ]
     stock = shutil.which("svndumpfilter")
     if stock:
         rows.append(("stock svndumpfilter, include trunk", [stock, "include", "trunk"]))
@@ -159,7 +160,8 @@ def main():
         for title, arguments, calls in COPIES:
             make(arguments, path)
             head(title, arguments, path)
-            show_rows([(f"{it.word}, {words}", [it.built, *words.split()]) for words in calls for it in beside()], path)
+            survey = programs()["survey"].built
+            show_rows([(f"survey, {words}", [survey, *words.split()]) for words in calls], path)
     return 0 if same else 1
 
 

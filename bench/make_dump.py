@@ -4,7 +4,8 @@
     bench/make_dump.py [--revisions N] [--nodes N] [--text BYTES] [--copies SHARE] [--mergeinfo SHARE] [--seed N]
         [--chain N] [--fan N]
 
-Each revision after revision 0 has --nodes nodes, half of them under trunk and half under other. A node is a file with
+Revision 1 adds the directories trunk and other, so that the dump loads. Each revision after revision 0 has --nodes nodes
+more, half of them under trunk and half under other. A node is a file with
 a text of about --text bytes and its two digests, or, for a share of --copies, a directory that is copied from an
 earlier revision, or, for a share of --mergeinfo, a change of trunk's mergeinfo.
 After these come as many copies as --chain says, one a revision, each of what the one before it made; all but the last
@@ -59,6 +60,10 @@ def copy(path, number, source):
     )
 
 
+def directory(path):
+    return record([b"Node-path: " + path, b"Node-kind: dir", b"Node-action: add"], [])
+
+
 def node(chance, number, index, arguments):
     side = b"trunk" if index % 2 == 0 else b"other"
     kind = chance.random()
@@ -103,6 +108,8 @@ def main():
     out.write(revision(0))
     for number in range(1, arguments.revisions + 1):
         out.write(revision(number))
+        if number == 1:
+            out.write(directory(b"trunk") + directory(b"other"))
         for index in range(arguments.nodes):
             out.write(node(chance, number, index, arguments))
     out.writelines(copies(arguments.revisions + 1, arguments.chain, arguments.fan))
