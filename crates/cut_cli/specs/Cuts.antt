@@ -1,6 +1,6 @@
 -- What is found out of a dump before it is filtered, and what the filter then writes.
-use Rattle.std.specs.Prelude.{◌≡◌, ◌≢◌, ◌||◌, ⊤, ℕ, true, false, List, [], ◌∷◌, ◌++◌, length, map, Some, None, IsTrue}
-use Rattle.std.specs.List.{AllZip, list_all}
+use Rattle.std.specs.Prelude.{◌≡◌, ◌≢◌, ◌||◌, ℕ, true, false, List, [], ◌∷◌, ◌++◌, length, map, Some, None, IsTrue}
+use Rattle.std.specs.List.{AllZip, list_all, list_any}
 use Rattle.dump_digest.specs.RecordParts.{is_node, is_revision_record}
 use Rattle.dump_records.specs.DumpText.{BeginsWithRecords, Ending, HasRecords}
 use Rattle.dump_records.specs.RecordText.{DumpRecord}
@@ -58,7 +58,8 @@ abbrev pub IsUnreadFor : List ℕ → UnreadDump → Type 0
 IsUnreadFor dump (unread.Broken kind place) = (records : List DumpRecord) × HasRecords dump records (Ending.Broken kind place)
 IsUnreadFor dump (unread.NoChange number) = MakesNoChange dump number
 IsUnreadFor dump (unread.OutOfOrder number) = IsInHistory dump number
-IsUnreadFor dump unread.NoRevision = ⊤
+IsUnreadFor dump unread.NoRevision = (records : List DumpRecord) × HasRecords dump records Ending.Whole
+    × (list_any is_revision_record records ≡ false)
 IsUnreadFor dump (unread.LaterCopy number) =
     (changes : List NodeChange) × MakesListed dump changes × (are_in_order 0 changes ≡ false)
 

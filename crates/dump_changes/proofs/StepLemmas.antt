@@ -12,8 +12,10 @@ use Rattle.dump_index.specs.declared.change.NodeChange.{NodeChange}
 use Rattle.dump_changes.specs.declared.read.Position.{Position}
 use Rattle.dump_changes.specs.declared.read.Step.TheVariants.{Goes, Makes}
 use Rattle.dump_changes.specs.ListedDumps.{MakesListed}
-use Rattle.dump_changes.specs.steps.Reading.{Reads, NoMore, Revision, Node, IsReadingStep}
-use Rattle.std.proofs.Common.{unwrap_or}
+use Rattle.dump_changes.specs.steps.Reading.{Reads, NoMore, Revision, Node, IsBeforeFirst, IsReadingStep}
+use Rattle.std.proofs.Common.{◌||◌, ap₂, unwrap_or}
+use Rattle.std.proofs.lemmas.List.Folds.{list_any-append}
+use Rattle.std.specs.List.{list_any}
 use Rattle.dump_text.specs.Names.{revision_name}
 use Rattle.dump_records.specs.HeaderRules.{header_number}
 use Rattle.dump_records.specs.declared.kind.RecordKind.{RecordKind}
@@ -27,6 +29,7 @@ pub record ReadSoFar (dump : List ℕ) (cutter : CutterState) (at : Position) (c
   pub before : List DumpRecord
   pub begins : BeginsWithRecords dump before
   pub count : length before ≡ cutter.number
+  pub no_revision : at.next ≡ 0 → list_any is_revision_record before ≡ false
   pub reads : (patched : Patching) → (placed : List Placed) × AllZip IsListed (map listed_of changes) placed
       × ((records : List DumpRecord) (more : List Placed) → Reads patched at.next at.present records more
       → Reads patched 0 None (before ++ records) (placed ++ more))
@@ -45,6 +48,7 @@ none_read dump cutter at changes is first outside none = record {
   before = [];
   begins = begins_with_none dump;
   count = sym (ap (λ (c : CutterState). c.number) is);
+  no_revision = λ none. refl;
   reads = λ patched. (
     [],
     subst (λ (cs : List NodeChange). AllZip IsListed (map listed_of cs) []) (sym none) tt,
@@ -90,13 +94,21 @@ module _ (dump : List ℕ) (cutter after : CutterState) (at : Position) (changes
         let number = ap (λ (c : CutterState). c.number) step.3 in
         (number, omega arith)
 
+    -- there is no revision yet, where the record is none
+    none_next : at.next ≡ 0 → is_revision_record (record_item item) ≡ false
+        → list_any is_revision_record (so_far.before ++ record_item item ∷ []) ≡ false
+    none_next none other = list_any-append is_revision_record so_far.before (record_item item ∷ [])
+        ∙ ap₂ (λ a b. a || (b || false)) (so_far.no_revision none) other
+
     -- a record that makes no change
-    pub read_on : (next : Position) → IsReadingStep (record_item item) at (Goes next) → ReadSoFar dump after next changes
-    read_on next goes = record {
+    pub read_on : (next : Position) → IsReadingStep (record_item item) at (Goes next)
+        → IsBeforeFirst (record_item item) at (Goes next) → ReadSoFar dump after next changes
+    read_on next goes first = record {
       dump_is = ap (λ (c : CutterState). c.dump) step.3 ∙ so_far.dump_is;
       before = so_far.before ++ record_item item ∷ [];
       begins = begins_next;
       count = count_next;
+      no_revision = λ none. let its = first none in none_next its.0 its.1;
       reads = λ patched.
           let front = so_far.reads patched in (
             front.0,
@@ -109,13 +121,14 @@ module _ (dump : List ℕ) (cutter after : CutterState) (at : Position) (changes
     }
 
     -- and one that does
-    pub read_more : (c : NodeChange) (all : List NodeChange) → IsReadingStep (record_item item) at (Makes c) → all ≡ changes ++ c ∷ []
-        → ReadSoFar dump after at all
-    read_more c all makes all_is = record {
+    pub read_more : (c : NodeChange) (all : List NodeChange) → IsReadingStep (record_item item) at (Makes c)
+        → IsBeforeFirst (record_item item) at (Makes c) → all ≡ changes ++ c ∷ [] → ReadSoFar dump after at all
+    read_more c all makes other all_is = record {
       dump_is = ap (λ (s : CutterState). s.dump) step.3 ∙ so_far.dump_is;
       before = so_far.before ++ record_item item ∷ [];
       begins = begins_next;
       count = count_next;
+      no_revision = λ none. none_next none other;
       reads = λ patched.
           let front = so_far.reads patched in
           let made = makes patched in
@@ -139,6 +152,12 @@ module _ (dump : List ℕ) (cutter after : CutterState) (at : Position) (changes
       whole_list dump so_far.before ending so_far.begins
       (subst (λ d. EndsAfter d (length so_far.before) ending) so_far.dump_is
       (subst (λ n. EndsAfter cutter.dump n ending) (sym so_far.count) ends))
+
+  -- where none of them is a revision
+  pub none_there : EndsAfter cutter.dump cutter.number Ending.Whole → at.next ≡ 0
+      → (records : List DumpRecord) × HasRecords dump records Ending.Whole
+      × (list_any is_revision_record records ≡ false)
+  none_there ends none = (so_far.before, all_records Ending.Whole ends, so_far.no_revision none)
 
   pub all_read : EndsAfter cutter.dump cutter.number Ending.Whole → (at.next ≡ 0 → ⊥) → MakesListed dump changes
   all_read ends some = (

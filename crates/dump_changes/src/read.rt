@@ -3,7 +3,7 @@ ghost use Rattle.std.specs.Prelude.{◌≡◌, false, true, IfOk};
 ghost use Rattle.dump_records.specs.steps.RecordViews.{record_item};
 ghost use Rattle.dump_digest.specs.RecordParts.{is_node, is_revision_record};
 ghost use Rattle.dump_changes.specs.steps.DumpReading.{IsReadingOfDump};
-ghost use Rattle.dump_changes.specs.steps.Reading.{IsReadingStep};
+ghost use Rattle.dump_changes.specs.steps.Reading.{IsBeforeFirst, IsReadingStep};
 
 use crate::node::node_change;
 use dump_index::NodeChange;
@@ -54,7 +54,8 @@ impl Position {
     fn revision<'a>(&self, item: &Record<'a>) -> Step<'a>
         requires node { is_node (record_item item.now) ≡ false }
         requires revision { is_revision_record (record_item item.now) ≡ true }
-        ensures { IsReadingStep (record_item item.now) self.now result }
+        ensures reading { IsReadingStep (record_item item.now) self.now result }
+        ensures first { IsBeforeFirst (record_item item.now) self.now result }
     {
         match item.revision() {
             Some(number) if number == self.next && number < u64::MAX => Step::Goes(Position {
@@ -69,7 +70,8 @@ impl Position {
     fn node<'a>(&self, item: &Record<'a>) -> Step<'a>
         requires node { is_node (record_item item.now) ≡ true }
         requires revision { is_revision_record (record_item item.now) ≡ false }
-        ensures { IsReadingStep (record_item item.now) self.now result }
+        ensures reading { IsReadingStep (record_item item.now) self.now result }
+        ensures first { IsBeforeFirst (record_item item.now) self.now result }
     {
         match self.present {
             Some(number) if number > 0 => match node_change(item, number) {
@@ -82,7 +84,8 @@ impl Position {
 
     /// What the record is.
     fn step<'a>(&self, item: &Record<'a>) -> Step<'a>
-        ensures { IsReadingStep (record_item item.now) self.now result }
+        ensures reading { IsReadingStep (record_item item.now) self.now result }
+        ensures first { IsBeforeFirst (record_item item.now) self.now result }
     {
         match item.kind() {
             RecordKind::Revision => self.revision(item),

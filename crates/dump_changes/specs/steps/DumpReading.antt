@@ -1,5 +1,6 @@
 -- What is read of a dump.
-use Rattle.std.specs.Prelude.{◌≡◌, ◌||◌, ⊤, ℕ, true, List}
+use Rattle.std.specs.Prelude.{◌≡◌, ◌||◌, ℕ, true, false, List}
+use Rattle.std.specs.List.{list_any}
 use Rattle.dump_records.specs.RecordText.{DumpRecord}
 use Rattle.dump_records.specs.DumpText.{Ending, HasRecords}
 use Rattle.dump_records.specs.steps.CutRecords.{IsRecordOf}
@@ -17,5 +18,6 @@ IsReadingOfDump dump (NoChange number) = (r : DumpRecord) × IsRecordOf dump num
     × ((patched : Patching) (c : Change) → MakesChange patched r c → ⊥)
 IsReadingOfDump dump (OutOfOrder number) = (r : DumpRecord) × IsRecordOf dump number r
     × ((is_node r || is_revision_record r) ≡ true)
-IsReadingOfDump dump NoRevision = ⊤
+IsReadingOfDump dump NoRevision = (records : List DumpRecord) × HasRecords dump records Ending.Whole
+    × (list_any is_revision_record records ≡ false)
 IsReadingOfDump dump (Broken kind place) = (records : List DumpRecord) × HasRecords dump records (Ending.Broken kind place)

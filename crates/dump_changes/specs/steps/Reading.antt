@@ -1,5 +1,5 @@
 -- Records that are read one by one.
-use Rattle.std.specs.Prelude.{◌≡◌, ◌||◌, ℕ, suc, true, false, List, [], ◌∷◌, Option, Some, None}
+use Rattle.std.specs.Prelude.{◌≡◌, ◌||◌, ⊤, ℕ, suc, true, false, List, [], ◌∷◌, Option, Some, None}
 use Rattle.dump_records.specs.RecordText.{DumpRecord}
 use Rattle.dump_digest.specs.RecordParts.{is_revision_record, is_node}
 use Rattle.dump_filter.specs.Groups.{revision_number}
@@ -26,6 +26,13 @@ pub data Reads (patched : Patching) : ℕ → Option ℕ → List DumpRecord →
   Other : (next : ℕ) (present : Option ℕ) (r : DumpRecord) (records : List DumpRecord) (placed : List Placed)
       → is_revision_record r ≡ false → is_node r ≡ false
       → Reads patched next None records placed → Reads patched next present (r ∷ records) placed
+
+-- a record after which no revision has come yet is none
+abbrev pub IsBeforeFirst : DumpRecord → Position → Step → Type 0
+IsBeforeFirst r at NoChange = ⊤
+IsBeforeFirst r at OutOfOrder = ⊤
+IsBeforeFirst r at (Goes next) = next.next ≡ 0 → (at.next ≡ 0) × (is_revision_record r ≡ false)
+IsBeforeFirst r at (Makes c) = is_revision_record r ≡ false
 
 -- what is behind the record makes with it what the step says
 abbrev pub IsReadingStep : DumpRecord → Position → Step → Type 0

@@ -1,7 +1,7 @@
 use Rattle.std.proofs.Common.{subst, arith, refl}
 use Rattle.dump_records.specs.declared.cutter.Cut.{Cut}
 use Rattle.dump_changes.proofs.Prelude.{Ending, CutStep, record_item}
-use Rattle.dump_changes.proofs.StepLemmas.{none_read, is_next, read_nearer, read_on, read_more, all_records, all_read}
+use Rattle.dump_changes.proofs.StepLemmas.{none_read, is_next, read_nearer, read_on, read_more, all_records, none_there, all_read}
 use Rattle.dump_changes.proofs.read.read_changes.Goals as goal
 
 pub loop-item-init : goal.loop-item-init
@@ -20,7 +20,7 @@ pub loop-item-preserved-in-Goes : goal.loop-item-preserved-in-Goes
 loop-item-preserved-in-Goes c =
     let step = subst (λ (x : Cut). CutStep c.loop-item.cutter x c.next.new.self) c.in-Item.is c.next.ensures in
     read_on c.args.dump.now c.loop-item.cutter c.next.new.self c.loop-item.at c.loop-item.changes.items
-    c.loop-item.invariant c.in-Item.item step c.in-Goes.behind c.in-Goes.ensures
+    c.loop-item.invariant c.in-Item.item step c.in-Goes.behind c.in-Goes.ensures.reading c.in-Goes.ensures.first
 
 pub loop-item-smaller : goal.loop-item-smaller
 loop-item-smaller c =
@@ -33,7 +33,7 @@ pub loop-item-preserved : goal.loop-item-preserved
 loop-item-preserved c =
     let step = subst (λ (x : Cut). CutStep c.loop-item.cutter x c.next.new.self) c.in-Item.is c.next.ensures in
     read_more c.args.dump.now c.loop-item.cutter c.next.new.self c.loop-item.at c.loop-item.changes.items
-    c.loop-item.invariant c.in-Item.item step c.in-Makes.change c.push.new.self.items c.in-Makes.ensures
+    c.loop-item.invariant c.in-Item.item step c.in-Makes.change c.push.new.self.items c.in-Makes.ensures.reading c.in-Makes.ensures.first
     c.in_ok-push-in-Makes.ensures.items
 
 pub returns-in-NoChange : goal.returns-in-NoChange
@@ -42,8 +42,8 @@ returns-in-NoChange c =
       record_item c.in-Item.item,
       is_next c.args.dump.now c.loop-item.cutter c.next.new.self c.loop-item.at c.loop-item.changes.items
           c.loop-item.invariant c.in-Item.item step c.number.result c.number.ensures,
-      c.in-NoChange.ensures.0,
-      c.in-NoChange.ensures.1,
+      c.in-NoChange.ensures.reading.0,
+      c.in-NoChange.ensures.reading.1,
     )
 
 pub returns-in-OutOfOrder : goal.returns-in-OutOfOrder
@@ -52,8 +52,14 @@ returns-in-OutOfOrder c =
       record_item c.in-Item.item,
       is_next c.args.dump.now c.loop-item.cutter c.next.new.self c.loop-item.at c.loop-item.changes.items
           c.loop-item.invariant c.in-Item.item step _ c.number-in-OutOfOrder.ensures,
-      c.in-OutOfOrder.ensures,
+      c.in-OutOfOrder.ensures.reading,
     )
+
+pub returns-in-Finished : goal.returns-in-Finished
+returns-in-Finished c =
+    let step = subst (λ (x : Cut). CutStep c.loop-item.cutter x c.next.new.self) c.in-Finished.is c.next.ensures in
+    none_there c.args.dump.now c.loop-item.cutter c.next.new.self c.loop-item.at c.loop-item.changes.items
+    c.loop-item.invariant step.0 c.if-at-eq0.true
 
 pub returns-in-Finished-2 : goal.returns-in-Finished-2
 returns-in-Finished-2 c =

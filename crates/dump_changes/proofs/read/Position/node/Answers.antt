@@ -5,8 +5,8 @@ use Rattle.std.proofs.Common.{subst}
 use Rattle.dump_changes.proofs.StepLemmas.{node_reads}
 use Rattle.dump_changes.proofs.read.Position.node.Goals as goal
 
-pub returns-in-Some-node_change : goal.returns-in-Some-node_change
-returns-in-Some-node_change c patched =
+pub returns-in-Some-node_change-clause-reading : goal.returns-in-Some-node_change-clause-reading
+returns-in-Some-node_change-clause-reading c patched =
     let its = c.in-Some-node_change.ensures patched in (
       its.0,
       subst (λ (n : ℕ). IsListed (listed_of c.in-Some-node_change.change) (record { revision = n; change = its.0 }))
