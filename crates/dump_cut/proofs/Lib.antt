@@ -1,6 +1,8 @@
 pub mod CheckLemmas
+pub mod DeleteGroups
 pub mod ExcludedLemmas
 pub mod FollowedLemmas
+pub mod FoundDeletes
 pub mod GrowingLemmas
 pub mod LoadLaws
 pub mod NamedLemmas
@@ -13,3 +15,6 @@ pub mod ReturnedLemmas
 pub mod SourceLemmas
 pub mod TakenLemmas
 pub mod TakenLaw
+pub mod TrimLemmas
+pub mod TrimLaw
+pub mod TrimmedTextLemmas

@@ -2,7 +2,7 @@
 use Rattle.std.proofs.Common.{◌≡◌, ℕ, zero, suc, ◌+◌, ◌<◌, Bool, true, false, not, ◌&&◌, List, [], ◌∷◌, ◌++◌, length, map, get_or, Option, Some, None, is_some, option_map, Result, Ok, Err, IfOk, OnOk, Bor, refl, sym, ap, ap₂, ◌∙◌, arith}
 use Rattle.std.proofs.lemmas.Bool.{and_parts, not-true}
 use Rattle.std.specs.List.{list_all, slice_get}
-use Rattle.dump_trees.specs.Paths.{NodePath}
+use Rattle.dump_trees.specs.Paths.{NodePath, names_of}
 use Rattle.dump_trees.specs.Changes.{Made}
 use Rattle.dump_trees.specs.Following.{Way}
 use Rattle.dump_trees.specs.FollowedRests as FollowedRests
@@ -14,12 +14,32 @@ use Rattle.dump_index.specs.ToldKinds.{kind_meant}
 use Rattle.dump_index.specs.declared.change.NodeKind.{NodeKind}
 use Rattle.dump_cut.specs.steps.Returned.{placed_rests}
 use Rattle.dump_cut.specs.TakenCopies.{is_made_taken, is_taken_at}
+use Rattle.dump_cut.proofs.RangeLemmas.{shown_twice}
 
 -- two clauses of one result
 pub in_both : {A E : Type 0} (r : Result A E) (P Q : A → Type 0) (R : Type 0) → IfOk r P → OnOk r R
     → ((a : A) → P a → R → Q a) → IfOk r Q
 in_both (Ok a) P Q R one other then = then a one other
 in_both (Err e) P Q R one other then = tt
+
+-- and one clause that follows from another
+pub ok_then : {A E : Type 0} (r : Result A E) (P Q : A → Type 0) → IfOk r P → ((a : A) → P a → Q a) → IfOk r Q
+ok_then (Ok a) P Q one then = then a one
+ok_then (Err e) P Q one then = tt
+
+-- what holds whatever comes
+pub ok_always : {A E P : Type 0} (r : Result A E) → P → OnOk r P
+ok_always (Ok a) it = it
+ok_always (Err e) it = tt
+
+-- the paths are the rests, behind the top
+pub paths_behind : (top : NodePath) (shown : List (Bor (List ℕ))) (rests : List (Bor (List ℕ))) (paths : List NodePath)
+    → shown ≡ rests → paths ≡ map (λ rest. top ++ names_of rest.now) shown
+    → paths ≡ map (λ rest. top ++ rest) (map (λ rest. names_of rest.now) rests)
+paths_behind top shown rests paths same is =
+    is
+    ∙ (ap (map (λ rest. top ++ names_of rest.now)) same
+    ∙ shown_twice (λ rest. top ++ rest) (λ rest. names_of rest.now) rests)
 
 pub bare_shown : (rests : List (Bor (List ℕ))) → list_all (λ (rest : Bor (List ℕ)). not (ends_in_slash rest.now)) rests
     ≡ list_all (λ (rest : List ℕ). not (ends_in_slash rest)) (map (λ (rest : Bor (List ℕ)). rest.now) rests)

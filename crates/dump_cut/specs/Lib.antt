@@ -3,4 +3,5 @@ pub mod LoadChecks
 pub mod NamedPaths
 pub mod Refusals
 pub mod TakenCopies
+pub mod TrimmedCopies
 pub mod steps

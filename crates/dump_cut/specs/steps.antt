@@ -1,3 +1,4 @@
+pub mod Deletes
 pub mod ExcludedPaths
 pub mod ExcludedTexts
 pub mod FollowedPaths
@@ -5,3 +6,4 @@ pub mod KindViews
 pub mod NameTexts
 pub mod ParentTexts
 pub mod Returned
+pub mod TrimmedTexts

@@ -3,7 +3,7 @@ ghost use Rattle.std.specs.Prelude.{◌≡◌, ◌++◌, ◌∷◌, [], IfOk, Is
 ghost use Rattle.std.specs.List.{list_all, list_any};
 ghost use Rattle.dump_trees.specs.CanonicalPaths.{canonical_paths};
 ghost use Rattle.dump_trees.specs.Paths.{NodePath, names_of, path_text};
-ghost use Rattle.dump_trees.specs.Returns.{is_covered, rests_covered};
+ghost use Rattle.dump_trees.specs.Returns.{is_covered, lie_apart, rests_covered};
 ghost use Rattle.dump_trees.specs.Siblings.{ExcludesPaths, has_node_names};
 ghost use Rattle.dump_index.specs.InOrder.{ends_in_slash};
 ghost use Rattle.dump_cut.specs.TakenCopies.{emptied_by};
@@ -177,6 +177,7 @@ impl Excluded {
     fn prefixes(&self, alloc: Global) -> Result<Vec<Vec<u8>>, Memory>
         ensures texts { IfOk result (λ prefixes. map (λ prefix. prefix.items) prefixes.items ≡ map path_text (paths_of self.now)) }
         ensures named { OnOk result (IsTrue (list_all has_node_names (paths_of self.now))) }
+        ensures apart { OnOk result (IsTrue (lie_apart (paths_of self.now))) }
     {
         let mut prefixes = Vec::new(alloc);
         for path in &self.paths {
@@ -195,6 +196,7 @@ impl Excluded {
             × (options.preserve ≡ true)) }
         ensures skips { IfOk result (λ options. options.skip_missing ≡ true) }
         ensures named { OnOk result (IsTrue (list_all has_node_names (paths_of self.now))) }
+        ensures apart { OnOk result (IsTrue (lie_apart (paths_of self.now))) }
     {
         let prefixes = self.prefixes(alloc)?;
         let mut texts = Vec::new(alloc);

@@ -18,8 +18,9 @@ ghost use Rattle.dump_cut.specs.NamedPaths.{has_named_paths};
 
 use crate::copies::source_of;
 use crate::excluded::Excluded;
+use crate::joined_rests::joined_rests;
 use crate::returns::{Way, followed_rests};
-use dump_index::{ChangeIndex, NodeChange, joined};
+use dump_index::{ChangeIndex, NodeChange};
 use dump_rules::Memory;
 use std::alloc::Global;
 
@@ -53,12 +54,7 @@ fn followed_paths(
     };
     let to = way.to(change.path, source.path);
     let rests = followed_rests(alloc, index, excluded, way, change.path, source)?;
-    let mut paths = Vec::new(alloc);
-    for rest in &rests {
-        let path = joined(alloc, to, rest)?;
-        paths.push(path)?;
-    }
-    Ok(paths)
+    joined_rests(alloc, to, &rests)
 }
 
 /// Excludes the path, and adds it to the additions, if it isn't excluded yet.

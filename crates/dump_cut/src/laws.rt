@@ -3,6 +3,7 @@ ghost use Rattle.dump_cut.specs.FollowedCopies.{FollowedIsLeast};
 ghost use Rattle.dump_cut.specs.LoadChecks.{RefusedIsFirst, UnrefusedLoads};
 ghost use Rattle.dump_cut.specs.Refusals.{RefusedIsNotAllowed};
 ghost use Rattle.dump_cut.specs.TakenCopies.{SeparatedDumpIsItsExpansion, TakenDumpLoads, TakenRevisionsSeparate};
+ghost use Rattle.dump_cut.specs.TrimmedCopies.{TrimmedCopiesLoad};
 
 /// Where no change is rejected, a dump whose text deltas apply loads into an empty repository. Where one is, the load takes
 /// the changes before it, and stops there.
@@ -18,6 +19,12 @@ pub fn taken_dumps_are_cut()
     ensures separated { TakenRevisionsSeparate }
     ensures expansion { SeparatedDumpIsItsExpansion }
     ensures loads { TakenDumpLoads }
+{}
+
+/// Where nothing comes back of what is excluded, each copy can stay: what the filter writes, with deletes behind the copies of
+/// what they take to excluded paths alone, is the dump of the repository that is meant.
+pub fn lost_parts_are_deleted()
+    ensures { TrimmedCopiesLoad }
 {}
 
 /// Paths from which all copies of a dump are followed cover the least set of paths that has what is given, what is below

@@ -19,7 +19,19 @@
 //! let not_taken = first_not_taken(alloc, &index, &excluded)?;
 //! ```
 //!
-//! `tests::brings` runs this. [`follow`] excludes these paths too, and what copies bring of them, until nothing more comes
+//! `tests::brings` runs this. [`Deletes`] are what copies take to excluded paths. With these deletes behind its nodes, what
+//! the filter writes is the dump that is meant:
+//!
+//! ```
+//! let Ok(deletes) = Deletes::find(alloc, &index, &excluded)? else {
+//!     return Ok(false);
+//! };
+//! let Ok(piece) = deletes.write_behind(alloc, &dump) else {
+//!     return Err(Memory);
+//! };
+//! ```
+//!
+//! `tests::deletes` runs this. [`follow`] excludes these paths too, and what copies bring of them, until nothing more comes
 //! back:
 //!
 //! ```
@@ -31,8 +43,10 @@
 
 mod canonical;
 mod copies;
+mod deletes;
 mod excluded;
 mod followed;
+mod joined_rests;
 mod kinds;
 pub mod laws;
 mod load_check;
@@ -40,8 +54,10 @@ mod parent_path;
 mod refusal;
 mod returns;
 mod taken;
+mod trimming;
 
 pub use canonical::canonical_prefix;
+pub use deletes::Deletes;
 pub use dump_rules::Memory;
 pub use excluded::Excluded;
 pub use followed::{Addition, follow};

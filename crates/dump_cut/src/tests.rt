@@ -5,8 +5,8 @@ ghost use Rattle.std.specs.List.{list_all};
 ghost use Rattle.dump_cut.specs.NamedPaths.{has_named_paths};
 
 use crate::{
-    Addition, Excluded, Memory, PlacedRest, Refusal, Refused, Way, all_followed, canonical_prefix,
-    first_not_taken, first_refused, follow,
+    Addition, Deletes, Excluded, Memory, PlacedRest, Refusal, Refused, Way, all_followed,
+    canonical_prefix, first_not_taken, first_refused, follow,
 };
 use dump_changes::{Reading, read_changes};
 use dump_index::{ChangeIndex, are_in_order};
@@ -227,4 +227,43 @@ fn the_filter_excludes_the_paths(rt: HostRuntime) -> Result<(), Fail> {
     let dropping = excluded.filter_options(rt.alloc(), true)?;
     assert!(rt; dropping.empty() == Empty::DropEmptied && dropping.renumber());
     Ok(())
+}
+
+/// Whether these deletes stand behind the copy of `d` to `e`, where this prefix is excluded.
+fn deletes(alloc: Global, prefix: &[u8], nodes: &str) -> Result<bool, Memory> {
+    let dump = dump_with(alloc, COPY)?;
+    let Some(index) = index_of(alloc, &dump)? else {
+        return Ok(false);
+    };
+    let excluded = Excluded::of(alloc, &[prefix])?;
+    let Ok(deletes) = Deletes::find(alloc, &index, &excluded)? else {
+        return Ok(false);
+    };
+    let Ok(piece) = deletes.write_behind(alloc, &dump) else {
+        return Err(Memory);
+    };
+    let mut text = Vec::new(alloc);
+    for chunk in piece.chunks() {
+        text.extend_from_slice(chunk.bytes())?;
+    }
+    let wanted = dump_with(alloc, nodes)?;
+    Ok(text.as_slice() == wanted.as_slice() && deletes.behind().len() == 3)
+}
+
+const DELETE: &str =
+    "Node-path: e\nNode-action: add\nNode-copyfrom-rev: 1\nNode-copyfrom-path: d\n\n\
+\nNode-path: e/f\nNode-action: delete\n";
+
+#[test]
+fn copies_are_followed_by_deletes(rt: HostRuntime) -> Result<(), Fail> {
+    let alloc = rt.alloc();
+    assert!(rt; deletes(alloc, b"e/f", DELETE)?);
+    assert!(rt; deletes(alloc, b"e/g", COPY)?);
+    Ok(())
+}
+
+#[test]
+fn deletes_or_no_memory(rt: HostRuntime) {
+    let answer = deletes(rt.alloc(), b"e/f", DELETE);
+    assert!(rt; matches!(answer, Ok(true) | Err(Memory)));
 }
