@@ -20,7 +20,7 @@ the prefixes that the survey suggests: then no copy may stop the filter. (No pat
 names such a path.)
 
 cut: svndumpcut excludes many sets of one to three paths from each dump, without --follow-copies and with it, some also with
---dry-run. Which paths are excluded in the end, what copies bring back and which copies can't be written is computed here,
+--dry-run. Which paths are excluded in the end, what copies bring back and what is deleted behind copies is computed here,
 from the original's trees and copies as docs/CUT.md says: the status and the lists have to be as computed. Nothing may be
 written but with status 0. What is written then is loaded into an empty repository, with svnadmin's checks of properties. It
 has to have each revision of the original with its number and its properties, and its tree without the excluded paths, and
@@ -75,7 +75,7 @@ AS_WELL = {
 # the fault and the record at which the filter stopped, and those that the survey tells, the other way round
 FAULT = re.compile(rb"svndumpfilter: fault (\d+) \w+ in record (\d+) ")
 TOLD_FAULT = re.compile(rb"^record (\d+), .*: fault (\d+)$", re.MULTILINE)
-# what svndumpcut lists: a path that it excludes too, what a copy would bring, and a copy that it can't write
+# what svndumpcut lists: a path that it excludes too, what a copy would bring, and a copy that is followed by deletes
 FROM = rb", copied from /(?P<source>.*)@(?P<number>\d+)"
 ADDED = re.compile(rb"^  /(?P<target>.*) \(r(?P<revision>\d+)" + FROM + rb"\)$", re.MULTILINE)
 ADDED_COUNT = re.compile(rb"^also excluded, as copies of excluded content: (\d+) paths?$", re.MULTILINE)
@@ -85,14 +85,12 @@ BACK_COUNT = re.compile(
     rb"use --follow-copies to exclude these too, (\d+) paths? in all\n\Z",
     re.MULTILINE,
 )
-UNWRITABLE = re.compile(
-    rb"^svndumpcut: nothing written: r(?P<revision>\d+): /(?P<target>.*)" + FROM + rb": /(.*) is excluded, and /(.*) "
-    rb"is not; this version cannot write such a copy: exclude both or neither\n\Z",
-    re.MULTILINE,
+DELETED = re.compile(
+    rb"^r(?P<revision>\d+): /(?P<target>.*)" + FROM + rb": (?P<count>\d+) paths? deleted behind the copy$", re.MULTILINE
 )
 CUT_COUNTS = re.compile(
-    rb"^revisions kept (\d+)(?: \((\d+) of them emptied\))?, dropped 0; nodes kept (\d+), dropped (\d+); "
-    rb"texts checked \d+\n\Z",
+    rb"^revisions kept (\d+)(?: \((\d+) of them emptied\))?, dropped 0; nodes kept (\d+), dropped (\d+)"
+    rb"(?:; (\d+) paths? deleted behind copies)?; texts checked \d+\n\Z",
     re.MULTILINE,
 )
 MARKER = re.compile(rb"^only in text \d+\.$", re.MULTILINE)
@@ -486,10 +484,14 @@ class Excluded(Call):
         everything = (it for _, some in history.copies for it in some)
         return [it for it in everything if self.keeps(it.target) and not self.keeps(it.source)]
 
-    def unwritable(self, history):
-        """What kept copies have at their sources alone, each with the copy."""
-        kept = ((copy, it) for copy, some in history.copies if self.keeps(copy.target) for it in some)
-        return [(copy, it) for copy, it in kept if self.keeps(it.source) and not self.keeps(it.target)]
+    def deleted(self, history):
+        """What is deleted behind kept copies: the topmost paths of what they have at their sources alone, by copy."""
+        found = []
+        for copy, some in history.copies:
+            lost = {it.target for it in some if self.keeps(it.source) and not self.keeps(it.target)}
+            if self.keeps(copy.target) and lost:
+                found.append((copy, {it for it in lost if not any(is_below(it, other) for other in lost)}))
+        return found
 
     def followed(self, history):
         """With all that copies bring back, until none does."""
@@ -504,7 +506,8 @@ class Excluded(Call):
         """How many revisions there are, how many are emptied, and how many nodes are kept and dropped."""
         kept = [[self.keeps(it) for it in some] for some in history.nodes]
         nodes = [it for some in kept for it in some]
-        return len(kept), sum(bool(it) and not any(it) for it in kept), sum(nodes), len(nodes) - sum(nodes)
+        deletes = sum(len(paths) for _, paths in self.deleted(history))
+        return len(kept), sum(bool(it) and not any(it) for it in kept), sum(nodes), len(nodes) - sum(nodes), deletes
 
 
 def mergeinfo(value):
@@ -715,7 +718,7 @@ class Cut(Trial):
 
     def wrong(self, answer, excluded, meant):
         """What is wrong with an answer, where some paths are given, and these are meant to be excluded."""
-        status = 3 if meant.back(self.original) else 1 if meant.unwritable(self.original) else 0
+        status = 3 if meant.back(self.original) else 0
         if answer.returncode != status or b"warning" in answer.stderr:
             return f"the status is {answer.returncode}, and {status} is meant: {answer.stderr.decode()}"
         if status and answer.stdout:
@@ -723,9 +726,7 @@ class Cut(Trial):
         why = self.wrong_added(answer.stderr, excluded, meant)
         if why or status == 3:
             return why or self.wrong_back(answer.stderr, meant)
-        if status == 1:
-            return self.wrong_unwritable(answer.stderr, meant)
-        return self.wrong_output(answer, meant)
+        return self.wrong_deleted(answer, meant) or self.wrong_output(answer, meant)
 
     def wrong_added(self, told, excluded, meant):
         """Each path that is listed has to come from what stands before it, and all of them are those that are meant."""
@@ -775,15 +776,16 @@ class Cut(Trial):
             return said
         return f"{said}, {sum(files):,} byte{'s' * (sum(files) != 1)}"
 
-    def wrong_unwritable(self, told, meant):
-        """The line has to be about the first copy that can't be written, and about a part of it."""
-        it, unwritable = UNWRITABLE.search(told), meant.unwritable(self.original)
-        if not it:
-            return f"there is another line: {told.decode()}"
-        copy = listed(UNWRITABLE, told)[0]
-        if copy != unwritable[0][0] or (copy, copy._replace(source=it[6], target=it[5])) not in unwritable:
-            return f"the line is about {copy}, and one of {unwritable} is meant: {told.decode()}"
-        self.verdicts.append("not cut, since a copy can't be written")
+    def wrong_deleted(self, answer, meant):
+        """The lines and the output have to have each copy that is followed by deletes, and each delete."""
+        deleted = meant.deleted(self.original)
+        said = [int(it["count"]) for it in DELETED.finditer(answer.stderr)]
+        if listed(DELETED, answer.stderr) != [copy for copy, _ in deleted] or said != [len(it) for _, it in deleted]:
+            return f"{deleted} are meant: {answer.stderr.decode()}"
+        for _, paths in deleted:
+            for path in paths:
+                if b"\nNode-path: " + path + b"\nNode-action: delete\n\n" not in answer.stdout:
+                    return f"{path.decode()} is not deleted"
         return None
 
     def wrong_output(self, answer, meant):
@@ -803,7 +805,7 @@ class Cut(Trial):
             if why:
                 return why
         self.right = answer.stdout
-        self.verdicts.append("cut and equal")
+        self.verdicts.append("cut and equal, with deletes" if meant.deleted(self.original) else "cut and equal")
         return None
 
     def wrong_dry(self, built, answer):
@@ -824,6 +826,11 @@ class CutPart(Trial):
             return self.fail(f"the status is {it.returncode}, with {len(it.stdout)} bytes: {it.stderr.decode()}")
         self.verdicts.append("not cut, since it is a part")
         return self
+
+
+def is_below(path, other):
+    """Whether a path is strictly below another one."""
+    return path != other and path.startswith(other + b"/" if other else b"")
 
 
 def canonical(path):

@@ -1,25 +1,35 @@
 -- What the filter writes of a dump that is ready is its cut.
-use Rattle.std.proofs.Common.{ap, ◌≡◌, ◌||◌, ℕ, Bool, true, false, IfSome, MatchBool, List, length, map, Option, Some, is_some, refl, sym, inl, ◌∙◌, subst}
+use Rattle.std.proofs.Common.{ap, ◌≡◌, ◌||◌, ℕ, Bool, true, false, IfSome, MatchBool, List, [], length, map, Option, Some, None, Result, Ok, is_some, refl, sym, inl, ◌∙◌, subst}
 use Rattle.std.proofs.KnownBytes.{Keeps-refl}
 use Rattle.std.specs.Io.KnownBytes.{Keeps}
+use Rattle.std.specs.Prelude.{MatchOption}
 use Rattle.std.specs.List.{AllZip, list_all}
 use Rattle.dump_records.specs.DumpText.{Ending, HasRecords}
 use Rattle.dump_records.specs.RecordText.{DumpRecord}
 use Rattle.dump_records.proofs.ListLaw.{each_dump_has_one_list}
 use Rattle.dump_rules.specs.Settings.{Settings}
+use Rattle.dump_rules.specs.declared.options.Empty.TheVariants.{Pad}
 use Rattle.dump_rules.specs.declared.options.Side.TheVariants.{Exclude}
+use Rattle.dump_filter.specs.FilterLaws.{LengthsFit}
 use Rattle.dump_filter.specs.WholeText.{IsCleanText}
 use Rattle.dump_trees.specs.Changes.{Change}
+use Rattle.dump_trees.specs.FollowedRests.{all_rests}
 use Rattle.dump_trees.specs.Following.{Way}
-use Rattle.dump_trees.specs.LoadCheck.{all_apply}
-use Rattle.dump_trees.specs.Looking.{placed_from}
+use Rattle.dump_trees.specs.LoadCheck.{all_apply, TellsKinds, ToldKinds}
+use Rattle.dump_trees.specs.Looking.{Placed, placed_from}
+use Rattle.dump_trees.specs.Paths.{NodePath}
 use Rattle.dump_trees.specs.Revisions.{loaded_over}
+use Rattle.dump_trees.specs.Siblings.{have_node_names}
 use Rattle.dump_trees.specs.Trees.{Tree, root_alone}
 use Rattle.dump_trees.proofs.cuts.FollowLemmas.{following_is_least}
 use Rattle.dump_trees.proofs.cuts.RestLemmas.{all_rests_are_listed, no_returns_bring_nothing}
 use Rattle.dump_filter.specs.Groups.{is_pad}
+use Rattle.dump_history.specs.CutDumps.{FiltersExpansion, LoadsNew, LoadsNumbered, TreeRestricts}
 use Rattle.dump_history.specs.DumpChanges.{LoadsAs, MakeRevisions}
+use Rattle.dump_history.specs.TrimmedDumps.{FiltersRenumbered, FiltersTrimmed}
 use Rattle.dump_history.proofs.cuts.CutLaws.{excluded_dump_loads}
+use Rattle.dump_history.proofs.cuts.RenumberedLaw.{trimmed_dump_loads_renumbered}
+use Rattle.dump_history.proofs.cuts.TrimmedLaw.{trimmed_dump_loads}
 use Rattle.dump_history.specs.RecordChanges.{Patching}
 use Rattle.dump_index.specs.IndexLaws.{AreListed, IsListed}
 use Rattle.dump_index.specs.Listed.{listed_of}
@@ -29,15 +39,18 @@ use Rattle.dump_index.proofs.ToldLemmas.{index_tells_kinds}
 use Rattle.dump_changes.specs.ListedDumps.{MakesListed}
 use Rattle.dump_cut.specs.LoadChecks.{IsFirstRefused}
 use Rattle.dump_cut.specs.NamedPaths.{has_named_paths}
-use Rattle.dump_cut.specs.TakenCopies.{emptied_by}
+use Rattle.dump_cut.specs.TakenCopies.{IsFirstNotTaken, emptied_by}
+use Rattle.dump_cut.specs.TrimmedCopies.{AreDeletes, IsTrimmedBy, TrimsDump}
 use Rattle.dump_cut.proofs.LoadLaws.{unrefused_loads}
 use Rattle.dump_cut.proofs.NamedLemmas.{read_named}
 use Rattle.dump_cut.proofs.OwnFormLemmas.{own_expansion}
 use Rattle.dump_cut.proofs.TakenLaw.{placed_named, revisions_named, taken_dump_loads}
 use Rattle.dump_cut.proofs.TakenLemmas.{taken_revisions_separate}
-use Rattle.cut_cli.specs.Cuts.{CutLoads, IsCutText, IsReadyFor}
+use Rattle.dump_cut.proofs.TrimLaw.{trimmed_copies_load}
+use Rattle.cut_cli.specs.Cuts.{CutLoads, FiltersOrTrims, IsCutText, IsReadyFor, IsTrimmedIf}
 use Rattle.cut_cli.specs.Drive.{AnswersBy, AnswersCall, CleanTextsAreCuts, CutsDump, WritesCut, WritesIfAsked}
 use Rattle.cut_cli.specs.Words.{CutMeaning}
+use Rattle.cut_cli.specs.steps.Examined.{AreDeletesIfAny}
 
 -- a dump has one list of records
 one_list : (dump : List ℕ) (records others : List DumpRecord) → HasRecords dump records Ending.Whole
@@ -48,115 +61,227 @@ one_list dump records others has have =
 
 some_value : {A : Type 0} (o : Option A) → is_some o ≡ true → (x : A) × (o ≡ Some x)
 some_value (Some x) is = (x, refl)
-some_value Option.None is = absurd (let bad : false ≡ true = is in cc)
+some_value None is = absurd (let bad : false ≡ true = is in cc)
 
-module _ (m : CutMeaning) (dump : List ℕ) (settings : Settings) (records : List DumpRecord) (text : List ℕ)
-    (ready : IsReadyFor m dump settings) (clean : IsCleanText settings dump records text)
-    (changes : List NodeChange) (same : map listed_of changes ≡ ready.listed)
+-- paths to delete behind each kept node
+abbrev pub Deletes : Type 0
+Deletes = List (List (List ℕ))
+
+-- deletes that are found say this of the copies
+pub found_copies : (excluded : List NodePath) (told : ToldKinds) (placed : List Placed)
+    (found : Result (Option (List (List (List ℕ)))) ℕ) (deletes : Option (List (List (List ℕ)))) → found ≡ Ok deletes
+    → AreDeletesIfAny excluded told placed found
+    → MatchOption deletes (IsFirstNotTaken excluded told placed None) (AreDeletes excluded told placed)
+found_copies excluded told placed found deletes is are =
+    cases deletes (subst (AreDeletesIfAny excluded told placed) is are)
+  where
+    cases : (d : Option (List (List (List ℕ)))) → AreDeletesIfAny excluded told placed (Ok d)
+        → MatchOption d (IsFirstNotTaken excluded told placed None) (AreDeletes excluded told placed)
+    cases None its = its
+    cases (Some ds) its = its
+
+-- what is written of a dump that loads
+record Written (m : CutMeaning) (dump : List ℕ) (settings : Settings) (records : List DumpRecord) (deletes : Option Deletes)
+    (patched : Patching) (revisions : List (List Change)) (trees : List Tree) (text : List ℕ) : Type 0 where
+  filters : LengthsFit settings records
+      → FiltersOrTrims deletes m.drop patched settings dump records revisions trees text
+  numbered : m.drop ≡ false → LengthsFit settings records
+      → LoadsNumbered patched (TreeRestricts settings records) records trees text
+  renumbered : m.drop ≡ true → LengthsFit settings records
+      → LoadsNew patched settings (TreeRestricts settings records) records trees text
+
+module _ (m : CutMeaning) (dump : List ℕ) (settings : Settings) (records : List DumpRecord) (filtered text : List ℕ)
+    (clean : IsCleanText settings dump records filtered) (changes : List NodeChange)
     (named : list_all has_named_paths (map listed_of changes) ≡ true) where
   module _ (patched : Patching) (revisions : List (List Change)) (makes : MakeRevisions patched records revisions)
       (listed : AreListed changes (placed_from 1 revisions)) (trees : List Tree)
       (loads : loaded_over root_alone revisions ≡ Some trees) where
-    its : AllZip IsListed ready.listed (placed_from 1 revisions)
-    its = subst (λ l. AllZip IsListed l (placed_from 1 revisions)) same listed
-
     loads_as : LoadsAs patched root_alone records revisions trees
     loads_as = record { makes = makes; loads = loads }
 
-    cut_of : CutLoads patched m settings ready.excluded dump records revisions text
-    cut_of =
-        let placed = placed_from 1 revisions in
-        let told = kinds_told_by ready.listed in
-        let tells = subst (λ l. Rattle.dump_trees.specs.LoadCheck.TellsKinds (kinds_told_by l) root_alone placed) same
-        (index_tells_kinds changes placed listed) in
-        let are = ready.are_excluded in
-        let names = revisions_named 1 revisions (placed_named (map listed_of changes) placed listed named) in
-        let none = are.nothing_back placed its in
-        let taken = ready.taken placed its in
-        let comes = are.come revisions trees (record { lists = its; tells = tells; loads = loads }) in
-        let least = following_is_least Way.ToCopies trees revisions are.first are.additions ready.excluded loads comes
-        ((all_rests_are_listed Way.ToCopies ready.excluded told revisions trees placed refl tells loads).2 none) in
-        let apart = taken_revisions_separate settings ready.excluded told revisions trees tells loads names ready.excludes
-        ready.have_names taken in
-        record {
-          trees = trees;
-          loads = loads_as;
-          first = are.first;
-          named = are.named;
-          unfollowed = are.unfollowed;
-          reached = least.1;
-          least = least.2;
-          nothing_back = (no_returns_bring_nothing settings ready.excluded told revisions trees placed refl tells loads names
-              ready.excludes ready.have_names).0 none;
-          filters = λ fit. own_expansion patched settings dump text records revisions trees clean.whole loads_as apart clean fit;
-          numbered = λ stays fit. taken_dump_loads patched settings ready.excluded dump text records changes revisions trees
-              clean.whole loads_as listed named ready.excludes ready.have_names
-              (subst (λ l. Rattle.dump_cut.specs.TakenCopies.IsFirstNotTaken ready.excluded (kinds_told_by l) placed Option.None)
-              (sym same) taken) clean fit (ready.empties ∙ ap emptied_by stays) ready.preserves;
-          renumbered = λ drops fit. excluded_dump_loads patched settings dump text records records revisions trees
-              (own_expansion patched settings dump text records revisions trees clean.whole loads_as apart clean fit)
-              ready.excludes.side (ap (λ b. b || is_pad settings.empty) (ready.numbers ∙ drops));
-        }
+    names : have_node_names revisions ≡ true
+    names = revisions_named 1 revisions (placed_named (map listed_of changes) (placed_from 1 revisions) listed named)
 
-  -- a history that an index lists loads, where its deltas apply
-  loaded : (patched : Patching) (revisions : List (List Change)) → MakeRevisions patched records revisions
-      → AreListed changes (placed_from 1 revisions)
-      → all_apply root_alone (placed_from 1 revisions) (length (placed_from 1 revisions)) ≡ true
-      → CutLoads patched m settings ready.excluded dump records revisions text
-  loaded patched revisions makes listed apply =
-      let unrefused = subst (λ l. IsFirstRefused l Option.None) (sym same) ready.is_taken.1 in
-      let some = some_value (loaded_over root_alone revisions) (unrefused_loads changes revisions listed unrefused apply) in
-      cut_of patched revisions makes listed some.0 some.1
+    module _ (deletes : Option Deletes) (ready : IsReadyFor m dump settings deletes)
+        (same : map listed_of changes ≡ ready.listed) where
+      its : AllZip IsListed ready.listed (placed_from 1 revisions)
+      its = subst (λ l. AllZip IsListed l (placed_from 1 revisions)) same listed
 
-  is_cut : MakesListed dump changes → IsCutText m settings dump text
-  is_cut (others, whole, make) =
-      let are = one_list dump others records whole clean.whole in
-      record {
-        excluded = ready.excluded;
-        records = records;
-        excludes = ready.excludes;
-        whole = clean.whole;
-        loads = λ patched.
-            let made = make patched in
-            let makes = subst (λ rs. MakeRevisions patched rs made.0) are made.1 in
-            (made.0, makes, loaded patched made.0 makes made.2);
+      none_back : all_rests Way.ToCopies ready.excluded (kinds_told_by (map listed_of changes)) (placed_from 1 revisions)
+          (length (placed_from 1 revisions)) ≡ []
+      none_back = subst (λ l. all_rests Way.ToCopies ready.excluded (kinds_told_by l) (placed_from 1 revisions)
+          (length (placed_from 1 revisions)) ≡ []) (sym same)
+          (ready.are_excluded.nothing_back (placed_from 1 revisions) its)
+
+    -- each copy is taken as it is
+    module _ (ready : IsReadyFor m dump settings None) (same : map listed_of changes ≡ ready.listed) where
+      taken : IsFirstNotTaken ready.excluded (kinds_told_by (map listed_of changes)) (placed_from 1 revisions) None
+      taken = subst (λ l. IsFirstNotTaken ready.excluded (kinds_told_by l) (placed_from 1 revisions) None) (sym same)
+          (ready.copies (placed_from 1 revisions) (its None ready same))
+
+      own : LengthsFit settings records → FiltersExpansion patched settings dump records revisions trees records filtered
+      own fit = own_expansion patched settings dump filtered records revisions trees clean.whole loads_as
+          (taken_revisions_separate settings ready.excluded (kinds_told_by (map listed_of changes)) revisions trees
+          (index_tells_kinds changes (placed_from 1 revisions) listed) loads names ready.excludes ready.have_names taken)
+          clean fit
+
+      taken_written : Written m dump settings records None patched revisions trees filtered
+      taken_written = record {
+        filters = own;
+        numbered = λ stays fit. taken_dump_loads patched settings ready.excluded dump filtered records changes revisions trees
+            clean.whole loads_as listed named ready.excludes ready.have_names taken clean fit
+            (ready.empties ∙ ap emptied_by stays) ready.preserves;
+        renumbered = λ drops fit. excluded_dump_loads patched settings dump filtered records records revisions trees (own fit)
+            ready.excludes.side (ap (λ b. b || is_pad settings.empty) (ready.numbers ∙ drops));
       }
 
--- what the filter writes of the whole dump is its cut
-pub clean_texts_are_cuts : (m : CutMeaning) (dump : List ℕ) (settings : Settings) → IsReadyFor m dump settings
-    → CleanTextsAreCuts m settings dump
-clean_texts_are_cuts m dump settings ready records text clean =
-    let (changes, makes, same) = ready.is_taken.0 in
-    is_cut m dump settings records text ready clean changes same (read_named dump changes makes) makes
+    -- deletes stand behind some copies
+    module _ (deletes : Deletes) (ready : IsReadyFor m dump settings (Some deletes))
+        (same : map listed_of changes ≡ ready.listed) (trims : IsTrimmedBy deletes filtered text) where
+      trims_dump : LengthsFit settings records
+          → TrimsDump patched settings ready.excluded dump filtered text records changes revisions trees deletes
+      trims_dump fit = record {
+        has = clean.whole;
+        loads = loads_as;
+        listed = listed;
+        named = named;
+        excludes = ready.excludes;
+        are_named = ready.have_names;
+        apart = ready.apart;
+        nothing_back = none_back (Some deletes) ready same;
+        are_deletes = subst (λ l. AreDeletes ready.excluded (kinds_told_by l) (placed_from 1 revisions) deletes) (sym same)
+            (ready.copies (placed_from 1 revisions) (its (Some deletes) ready same));
+        clean = clean;
+        fit = fit;
+        trimmed = trims;
+      }
 
-module _ (m : CutMeaning) (dump : List ℕ) (settings : Settings) (old new : Option (List ℕ)) (status : ℕ)
-    (ready : IsReadyFor m dump settings) where
+      both : LengthsFit settings records
+          → (settings.empty ≡ Pad → settings.renumber ≡ false
+          → FiltersTrimmed patched settings dump records revisions trees text)
+          × (settings.renumber ≡ true → FiltersRenumbered patched settings dump records revisions trees text)
+      both fit = trimmed_copies_load patched settings ready.excluded dump filtered text records changes revisions trees deletes
+          (trims_dump fit)
+
+      pads : m.drop ≡ false → settings.empty ≡ Pad
+      pads stays = ready.empties ∙ ap emptied_by stays
+
+      trimmed_filters : (drops : Bool) → m.drop ≡ drops → LengthsFit settings records
+          → FiltersOrTrims (Some deletes) drops patched settings dump records revisions trees text
+      trimmed_filters true is fit = (both fit).1 (ready.numbers ∙ is)
+      trimmed_filters false is fit = (both fit).0 (pads is) (ready.numbers ∙ is)
+
+      trimmed_written : Written m dump settings records (Some deletes) patched revisions trees text
+      trimmed_written = record {
+        filters = trimmed_filters m.drop refl;
+        numbered = λ stays fit. trimmed_dump_loads patched settings dump records revisions trees text
+            ((both fit).0 (pads stays) (ready.numbers ∙ stays)) ready.excludes.side (pads stays) ready.preserves
+            (ready.numbers ∙ stays);
+        renumbered = λ drops fit. trimmed_dump_loads_renumbered patched settings dump records revisions trees text
+            ((both fit).1 (ready.numbers ∙ drops)) ready.excludes.side (ready.numbers ∙ drops);
+      }
+
+    is_written : (deletes : Option Deletes) (ready : IsReadyFor m dump settings deletes)
+        → map listed_of changes ≡ ready.listed → IsTrimmedIf deletes filtered text
+        → Written m dump settings records deletes patched revisions trees text
+    is_written None ready same trims =
+        subst (λ t. Written m dump settings records None patched revisions trees t) (sym trims) (taken_written ready same)
+    is_written (Some deletes) ready same trims = trimmed_written deletes ready same trims
+
+    module _ (deletes : Option Deletes) (ready : IsReadyFor m dump settings deletes)
+        (same : map listed_of changes ≡ ready.listed) (trims : IsTrimmedIf deletes filtered text) where
+      cut_of : CutLoads patched m settings deletes ready.excluded dump records revisions text
+      cut_of =
+          let placed = placed_from 1 revisions in
+          let told = kinds_told_by (map listed_of changes) in
+          let tells = index_tells_kinds changes placed listed in
+          let are = ready.are_excluded in
+          let none = none_back deletes ready same in
+          let comes = are.come revisions trees (record {
+            lists = its deletes ready same;
+            tells = subst (λ l. TellsKinds (kinds_told_by l) root_alone placed) same tells;
+            loads = loads;
+          }) in
+          let least = following_is_least Way.ToCopies trees revisions are.first are.additions ready.excluded loads comes
+          ((all_rests_are_listed Way.ToCopies ready.excluded told revisions trees placed refl tells loads).2 none) in
+          let written = is_written deletes ready same trims in
+          record {
+            trees = trees;
+            loads = loads_as;
+            first = are.first;
+            named = are.named;
+            unfollowed = are.unfollowed;
+            reached = least.1;
+            least = least.2;
+            nothing_back = (no_returns_bring_nothing settings ready.excluded told revisions trees placed refl tells loads names
+                ready.excludes ready.have_names).0 none;
+            filters = written.filters;
+            numbered = written.numbered;
+            renumbered = written.renumbered;
+          }
+
+  module _ (deletes : Option Deletes) (ready : IsReadyFor m dump settings deletes)
+      (same : map listed_of changes ≡ ready.listed) (trims : IsTrimmedIf deletes filtered text) where
+    -- a history that an index lists loads, where its deltas apply
+    loaded : (patched : Patching) (revisions : List (List Change)) → MakeRevisions patched records revisions
+        → AreListed changes (placed_from 1 revisions)
+        → all_apply root_alone (placed_from 1 revisions) (length (placed_from 1 revisions)) ≡ true
+        → CutLoads patched m settings deletes ready.excluded dump records revisions text
+    loaded patched revisions makes listed apply =
+        let unrefused = subst (λ l. IsFirstRefused l None) (sym same) ready.is_taken.1 in
+        let some = some_value (loaded_over root_alone revisions) (unrefused_loads changes revisions listed unrefused apply) in
+        cut_of patched revisions makes listed some.0 some.1 deletes ready same trims
+
+    is_cut : MakesListed dump changes → IsCutText m settings deletes dump text
+    is_cut (others, whole, make) =
+        let are = one_list dump others records whole clean.whole in
+        record {
+          excluded = ready.excluded;
+          records = records;
+          excludes = ready.excludes;
+          whole = clean.whole;
+          loads = λ patched.
+              let made = make patched in
+              let makes = subst (λ rs. MakeRevisions patched rs made.0) are made.1 in
+              (made.0, makes, loaded patched made.0 makes made.2);
+        }
+
+-- what the filter writes of the whole dump, with the deletes, is its cut
+pub clean_texts_are_cuts : (m : CutMeaning) (dump : List ℕ) (settings : Settings) (deletes : Option Deletes)
+    → IsReadyFor m dump settings deletes → CleanTextsAreCuts m settings deletes dump
+clean_texts_are_cuts m dump settings deletes ready records filtered text clean trims =
+    let (changes, makes, same) = ready.is_taken.0 in
+    is_cut m dump settings records filtered text clean changes (read_named dump changes makes) deletes ready same trims makes
+
+module _ (m : CutMeaning) (dump : List ℕ) (settings : Settings) (deletes : Option Deletes) (old new : Option (List ℕ))
+    (status : ℕ) (ready : IsReadyFor m dump settings deletes) where
   -- so the dump is cut
-  cuts_ready : WritesIfAsked m settings dump old new status → CutsDump m dump old new status
-  cuts_ready writes = inl (settings, ready, clean_texts_are_cuts m dump settings ready, writes)
+  cuts_ready : WritesIfAsked m settings deletes dump old new status → CutsDump m dump old new status
+  cuts_ready writes = inl (settings, deletes, ready, clean_texts_are_cuts m dump settings deletes ready, writes)
 
   -- also in a trial, of which the writer keeps what it has
-  pub tries_cut : m.dry_run ≡ true → WritesCut settings dump Option.None Option.None status
+  pub tries_cut : m.dry_run ≡ true → WritesCut settings deletes dump None None status
       → CutsDump m dump old old status
   tries_cut dry writes = inl (
     settings,
+    deletes,
     ready,
-    clean_texts_are_cuts m dump settings ready,
+    clean_texts_are_cuts m dump settings deletes ready,
     on m.dry_run dry,
   )
     where
       on : (b : Bool) → b ≡ true
-          → MatchBool b (WritesCut settings dump Option.None Option.None status × Keeps old old)
-          (WritesCut settings dump old old status)
+          → MatchBool b (WritesCut settings deletes dump None None status × Keeps old old)
+          (WritesCut settings deletes dump old old status)
       on true is = (writes, Keeps-refl old)
       on false is = absurd (let bad : false ≡ true = is in cc)
 
-  pub writes_cut : m.dry_run ≡ false → WritesCut settings dump old new status → CutsDump m dump old new status
+  pub writes_cut : m.dry_run ≡ false → WritesCut settings deletes dump old new status → CutsDump m dump old new status
   writes_cut wet writes = cuts_ready (on m.dry_run wet)
     where
       on : (b : Bool) → b ≡ false
-          → MatchBool b (WritesCut settings dump Option.None Option.None status × Keeps old new)
-          (WritesCut settings dump old new status)
+          → MatchBool b (WritesCut settings deletes dump None None status × Keeps old new)
+          (WritesCut settings deletes dump old new status)
       on true is = absurd (let bad : true ≡ false = is in cc)
       on false is = writes
 
@@ -168,5 +293,5 @@ input_cut m input dump old new status is whole cuts =
     subst (λ s. AnswersBy s m input old new status) (sym is) (inl (of_whole input whole))
   where
     of_whole : (i : Option (List ℕ)) → IfSome i (λ left. dump ≡ left) → IfSome i (λ left. CutsDump m left old new status)
-    of_whole Option.None all = tt
+    of_whole None all = tt
     of_whole (Some left) all = subst (λ text. CutsDump m text old new status) all cuts

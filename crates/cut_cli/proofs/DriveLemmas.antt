@@ -1,17 +1,17 @@
 -- A run with its last line, and what is told once its last bytes are handed on.
-use Rattle.std.proofs.Common.{◌≡◌, ℕ, true, false, List, [], ◌++◌, take, drop, Option, Result, Ok, Err, OnErr, OnOk, sym, subst, inl, inr, append_assoc, ap, ◌∙◌}
+use Rattle.std.proofs.Common.{◌≡◌, ℕ, true, false, List, [], ◌++◌, take, drop, Option, Some, None, Result, Ok, Err, OnErr, OnOk, sym, subst, inl, inr, append_assoc, ap, ◌∙◌}
 use Rattle.std.proofs.KnownBytes.{Appends-kept, Appends-trans}
 use Rattle.std.proofs.lemmas.List.{append-nil, take-append-drop}
 use Rattle.std.specs.Io.KnownBytes.{Appends, GrowsBy, Keeps, append_known}
 use Rattle.dump_rules.specs.Settings.{Settings}
 use Rattle.dump_writer.specs.steps.SinkCalls.{TakesOnlyFirst}
 use Rattle.dump_writer.specs.steps.SinkStates.{LentState, lent_taken}
-use Rattle.dump_pipeline.specs.RunAnswer.{RunLeaves}
+use Rattle.dump_pipeline.specs.RunAnswer.{IsRunAnswer, RunLeaves}
 use Rattle.dump_pipeline.specs.declared.answer.Answer.{Answer}
 use Rattle.dump_pipeline.specs.declared.answer.Failure.{Failure}
 use Rattle.cli_support.proofs.OutputLemmas.{from_none, handed_on, part_taken}
-use Rattle.cut_cli.specs.Drive.{RanCut, TakesPart, stop_line_of}
-use Rattle.cut_cli.specs.steps.Ended.{TellsAfter}
+use Rattle.cut_cli.specs.Drive.{IsSent, RanCut, TakesPart, stop_line_of}
+use Rattle.cut_cli.specs.steps.Ended.{IsTrimmedPiece, TellsAfter}
 
 -- the first bytes of a text, fewer than all
 pub first_of : (old new : Option (List ℕ)) (text line : List ℕ) (n : ℕ) → TakesOnlyFirst old new text n → line ≡ text
@@ -19,69 +19,81 @@ pub first_of : (old new : Option (List ℕ)) (text line : List ℕ) (n : ℕ) �
 first_of old new text line n (count, low, more, is) same =
     (take count text, (drop count text, same ∙ sym (take-append-drop count text)), more)
 
-module _ (settings : Settings) (dump : List ℕ) (answer : Answer) (a b d : Option (List ℕ)) (sink : LentState)
-    (ran : RunLeaves settings dump (append_known a []) b answer) (kept : Keeps d (lent_taken sink))
-    (start : sink.out.start ≡ a) where
-  -- all that the run sent, with a first part of the last line
-  sent_with : (part : List ℕ) → Appends b d part → Appends a (lent_taken sink) (ran.received ++ part)
-  sent_with part more = Appends-kept a d (lent_taken sink) (ran.received ++ part)
-      (Appends-trans a b d ran.received part (from_none a b ran.received ran.appended) more) kept
+-- what is true of a result without an error, or of one with an error
+on_ok : {A E P Q : Type 0} (r : Result A E) → OnOk r P → (P → Q) → OnOk r Q
+on_ok (Ok x) one then = then one
+on_ok (Err e) one then = tt
 
-  -- of which the last bytes may wait for a writer that failed
-  first_taken : (n : ℕ) → GrowsBy a sink.out.taken n → TakesPart b d (stop_line_of answer)
-      → TakesPart a sink.out.taken (ran.received ++ stop_line_of answer)
+on_err : {A E P Q : Type 0} (r : Result A E) → OnErr r P → (P → Q) → OnErr r Q
+on_err (Ok x) one then = tt
+on_err (Err e) one then = then one
+
+-- a first part of the same bytes
+pub same_part : {A E : Type 0} (r : Result A E) (old new : Option (List ℕ)) (text line : List ℕ) → text ≡ line
+    → OnErr r (TakesPart old new text) → OnErr r (TakesPart old new line)
+same_part r old new text line same part = subst (λ t. OnErr r (TakesPart old new t)) same part
+
+-- bytes that come where nothing waits
+module _ {A E : Type 0} (r : Result A E) (a d : Option (List ℕ)) (waiting piece all : List ℕ) (none : waiting ≡ [])
+    (same : piece ≡ all) where
+  pub moved_whole : OnOk r (Appends (append_known a waiting) d piece) → OnOk r (Appends (append_known a []) d all)
+  moved_whole whole =
+      subst (λ w. OnOk r (Appends (append_known a w) d all)) none
+      (subst (λ p. OnOk r (Appends (append_known a waiting) d p)) same whole)
+
+  pub moved_part : OnErr r (TakesPart (append_known a waiting) d piece) → OnErr r (TakesPart (append_known a []) d all)
+  moved_part part =
+      subst (λ w. OnErr r (TakesPart (append_known a w) d all)) none
+      (subst (λ p. OnErr r (TakesPart (append_known a waiting) d p)) same part)
+
+module _ (settings : Settings) (deletes : Option (List (List (List ℕ)))) (dump : List ℕ) (answer : Answer) (sent : List ℕ)
+    (answered : IsSent settings deletes dump sent answer) (a d : Option (List ℕ)) (sink : LentState)
+    (kept : Keeps d (lent_taken sink)) (start : sink.out.start ≡ a) where
+  -- of a first part the last bytes may wait for a writer that failed
+  first_taken : (n : ℕ) → GrowsBy a sink.out.taken n → TakesPart (append_known a []) d (sent ++ stop_line_of answer)
+      → TakesPart a sink.out.taken (sent ++ stop_line_of answer)
   first_taken n grown (part, (rest, is), more) =
-      let (taken, (behind, parts), appended) = part_taken a sink.out.taken sink.waiting (ran.received ++ part) n grown
-      (sent_with part more) in (
+      let (taken, (behind, parts), appended) = part_taken a sink.out.taken sink.waiting part n grown
+      (Appends-kept a d (lent_taken sink) part (from_none a d part more) kept) in (
         taken,
-        (
-          behind ++ rest,
-          ap (λ l. ran.received ++ l) is ∙ sym (append_assoc ran.received part rest)
-              ∙ ap (λ l. l ++ rest) parts ∙ append_assoc taken behind rest,
-        ),
+        (behind ++ rest, is ∙ ap (λ l. l ++ rest) parts ∙ append_assoc taken behind rest),
         appended,
       )
 
-  -- a run with what is told after it
-  pub ran_and_told : {A : Type 0} (ending : Result A Failure) (told : Answer)
-      → OnOk ending (Appends b d (stop_line_of answer)) → OnErr ending (TakesPart b d (stop_line_of answer))
-      → TellsAfter sink answer ending told → RanCut settings dump a sink.out.taken told
-  ran_and_told (Ok x) told whole part (inl all) =
+  -- bytes with what is told once they are written
+  pub told_after : {A : Type 0} (ending : Result A Failure) (told : Answer)
+      → OnOk ending (Appends (append_known a []) d (sent ++ stop_line_of answer))
+      → OnErr ending (TakesPart (append_known a []) d (sent ++ stop_line_of answer))
+      → TellsAfter sink answer ending told → RanCut settings deletes dump a sink.out.taken told
+  told_after (Ok x) told whole part (inl all) =
       record {
         answer = answer;
-        sent = ran.received;
-        answered = ran.answered;
-        arrived = inl (
-          handed_on a d sink (ran.received ++ stop_line_of answer)
-              (Appends-trans (append_known a []) b d ran.received (stop_line_of answer) ran.appended whole) kept all.2,
-          all.0,
-        );
+        sent = sent;
+        answered = answered;
+        arrived = inl (handed_on a d sink (sent ++ stop_line_of answer) whole kept all.2, all.0);
       }
-  ran_and_told (Err e) told whole part (inl all) = absurd (let bad : false ≡ true = all.1 in cc)
-  ran_and_told (Ok x) told whole part (inr (failure, written, is, grown)) =
-      broke (stop_line_of answer, ([], sym (append-nil (stop_line_of answer))), whole)
-    where
-      broke : TakesPart b d (stop_line_of answer) → RanCut settings dump a sink.out.taken told
-      broke first =
-          let counted = subst (λ s. GrowsBy s sink.out.taken written) start grown in
-          record {
-            answer = answer;
-            sent = ran.received;
-            answered = ran.answered;
-            arrived = inr (record {
-              failure = failure;
-              written = written;
-              part = first_taken written counted first;
-              counted = counted;
-              told_is = is;
-            });
-          }
-  ran_and_told (Err e) told whole part (inr (failure, written, is, grown)) =
+  told_after (Err e) told whole part (inl all) = absurd (let bad : false ≡ true = all.1 in cc)
+  told_after (Ok x) told whole part (inr (failure, written, is, grown)) =
       let counted = subst (λ s. GrowsBy s sink.out.taken written) start grown in
       record {
         answer = answer;
-        sent = ran.received;
-        answered = ran.answered;
+        sent = sent;
+        answered = answered;
+        arrived = inr (record {
+          failure = failure;
+          written = written;
+          part = first_taken written counted
+              (sent ++ stop_line_of answer, ([], sym (append-nil (sent ++ stop_line_of answer))), whole);
+          counted = counted;
+          told_is = is;
+        });
+      }
+  told_after (Err e) told whole part (inr (failure, written, is, grown)) =
+      let counted = subst (λ s. GrowsBy s sink.out.taken written) start grown in
+      record {
+        answer = answer;
+        sent = sent;
+        answered = answered;
         arrived = inr (record {
           failure = failure;
           written = written;
@@ -90,3 +102,33 @@ module _ (settings : Settings) (dump : List ℕ) (answer : Answer) (a b d : Opti
           told_is = is;
         });
       }
+
+-- a run with what is told after it
+pub ran_and_told : (settings : Settings) (dump : List ℕ) (answer : Answer) (a b d : Option (List ℕ)) (sink : LentState)
+    → RunLeaves settings dump (append_known a []) b answer → Keeps d (lent_taken sink) → sink.out.start ≡ a
+    → {A : Type 0} (ending : Result A Failure) (told : Answer)
+    → OnOk ending (Appends b d (stop_line_of answer)) → OnErr ending (TakesPart b d (stop_line_of answer))
+    → TellsAfter sink answer ending told → RanCut settings None dump a sink.out.taken told
+ran_and_told settings dump answer a b d sink ran kept start ending told whole part tells =
+    told_after settings None dump answer ran.received ran.answered a d sink kept start ending told
+    (on_ok ending whole
+    (λ more. Appends-trans (append_known a []) b d ran.received (stop_line_of answer) ran.appended more))
+    (on_err ending part with_front) tells
+  where
+    with_front : TakesPart b d (stop_line_of answer)
+        → TakesPart (append_known a []) d (ran.received ++ stop_line_of answer)
+    with_front (first, (rest, is), more) = (
+      ran.received ++ first,
+      (rest, ap (λ l. ran.received ++ l) is ∙ sym (append_assoc ran.received first rest)),
+      Appends-trans (append_known a []) b d ran.received first ran.appended more,
+    )
+
+-- what a run leaves in memory that was empty
+pub in_memory : (settings : Settings) (deletes : List (List (List ℕ))) (dump filtered piece : List ℕ) (answer : Answer)
+    → RunLeaves settings dump (Some []) (Some filtered) answer → IsTrimmedPiece deletes filtered answer piece
+    → (sent : List ℕ) × IsSent settings (Some deletes) dump sent answer × (piece ≡ sent ++ stop_line_of answer)
+in_memory settings deletes dump filtered piece answer ran (sent, trimmed, is) = (
+  sent,
+  (filtered, subst (λ bytes. IsRunAnswer settings dump bytes answer) (sym ran.appended) ran.answered, trimmed),
+  is,
+)

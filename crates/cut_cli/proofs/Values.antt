@@ -10,7 +10,7 @@ use Rattle.dump_text.specs.declared.fault.FaultKind.TheVariants.{Md5}
 use Rattle.cut_cli.specs.CommandLine.{cut_command}
 use Rattle.cut_cli.specs.Drive.{obstacle_status, stop_line, stop_line_of}
 use Rattle.cut_cli.specs.Words.{TellsCut, cut_of_words}
-use Rattle.cut_cli.specs.declared.examine.Obstacle.TheVariants.{ComesBack, Loses}
+use Rattle.cut_cli.specs.declared.examine.Obstacle.TheVariants.{ComesBack, OddDelete}
 
 -- CommandLine
 
@@ -84,5 +84,5 @@ same_line = refl
 returns_have_a_status : obstacle_status ComesBack ≡ 3
 returns_have_a_status = refl
 
-others_have_one : obstacle_status (Loses 3) ≡ 1
+others_have_one : obstacle_status (OddDelete 3) ≡ 1
 others_have_one = refl

@@ -1,5 +1,5 @@
 -- What is found out of a dump before it is filtered, and what the filter then writes.
-use Rattle.std.specs.Prelude.{◌≡◌, ◌≢◌, ◌||◌, ℕ, true, false, List, [], ◌∷◌, ◌++◌, length, map, Some, None, IsTrue}
+use Rattle.std.specs.Prelude.{◌≡◌, ◌≢◌, ◌||◌, ℕ, true, false, List, [], ◌∷◌, ◌++◌, length, map, Bool, Option, Some, None, MatchOption, IsTrue}
 use Rattle.std.specs.List.{AllZip, list_all, list_any}
 use Rattle.dump_digest.specs.RecordParts.{is_node, is_revision_record}
 use Rattle.dump_records.specs.DumpText.{BeginsWithRecords, Ending, HasRecords}
@@ -14,12 +14,13 @@ use Rattle.dump_trees.specs.Following.{Way, Covers, IsInClosure}
 use Rattle.dump_trees.specs.LoadCheck.{all_apply}
 use Rattle.dump_trees.specs.Looking.{Placed, placed_from}
 use Rattle.dump_trees.specs.Paths.{NodePath}
-use Rattle.dump_trees.specs.Returns.{is_covered}
+use Rattle.dump_trees.specs.Returns.{is_covered, lie_apart}
 use Rattle.dump_trees.specs.Siblings.{ExcludesPaths, has_node_names}
 use Rattle.dump_trees.specs.Trees.{Tree, root_alone}
 use Rattle.dump_history.specs.CutDumps.{FiltersExpansion, LoadsNew, LoadsNumbered, TreeRestricts}
 use Rattle.dump_history.specs.DumpChanges.{LoadsAs, MakeRevisions}
 use Rattle.dump_history.specs.RecordChanges.{MakesChange, Patching}
+use Rattle.dump_history.specs.TrimmedDumps.{FiltersRenumbered, FiltersTrimmed}
 use Rattle.dump_index.specs.IndexLaws.{IsListed}
 use Rattle.dump_index.specs.InOrder.{are_in_order}
 use Rattle.dump_index.specs.Listed.{Listed, listed_of}
@@ -29,9 +30,10 @@ use Rattle.dump_changes.specs.ListedDumps.{MakesListed}
 use Rattle.dump_cut.specs.FollowedCopies.{ComeByFollowing}
 use Rattle.dump_cut.specs.LoadChecks.{IsFirstRefused}
 use Rattle.dump_cut.specs.TakenCopies.{IsFirstNotTaken, emptied_by}
+use Rattle.dump_cut.specs.TrimmedCopies.{AreDeletes, HasOddDelete, IsTrimmedBy}
 use Rattle.cut_cli.specs.Words.{CutMeaning}
 use Rattle.cut_cli.specs.declared.examine.Obstacle.{Obstacle}
-use Rattle.cut_cli.specs.declared.examine.Obstacle.TheVariants.{ComesBack, Loses, Refused, Unread}
+use Rattle.cut_cli.specs.declared.examine.Obstacle.TheVariants.{ComesBack, OddDelete, Refused, Unread}
 use Rattle.cut_cli.specs.declared.read.Unread.{Unread as UnreadDump}
 use Rattle.cut_cli.specs.declared.read.Unread.TheVariants as unread
 
@@ -104,20 +106,23 @@ IsObstacleTo m dump (Unread reason) = IsUnreadFor dump reason
 IsObstacleTo m dump (Refused refused) = (listed : List Listed) × AreChangesOf dump listed
     × IsFirstRefused listed (Some refused)
 IsObstacleTo m dump ComesBack = (listed : List Listed) × IsTakenDump dump listed × Returns m listed
-IsObstacleTo m dump (Loses place) = (listed : List Listed) × (excluded : List NodePath) × IsTakenDump dump listed
+IsObstacleTo m dump (OddDelete place) = (listed : List Listed) × (excluded : List NodePath) × IsTakenDump dump listed
     × ExcludesAsAsked m listed excluded
-    × ((placed : List Placed) → AllZip IsListed listed placed
-    → IsFirstNotTaken excluded (kinds_told_by listed) placed (Some place))
+    × ((placed : List Placed) → AllZip IsListed listed placed → HasOddDelete excluded (kinds_told_by listed) placed place)
 
--- these are the options of a filter that cuts the dump: it excludes these paths, leaves mergeinfo of them out, and keeps
--- each revision with its number and properties; or it drops those that lose all of their nodes, and renumbers
-pub record IsReadyFor (m : CutMeaning) (dump : List ℕ) (settings : Settings) : Type 0 where
+-- these are the options of a filter that cuts the dump, and the paths to delete behind each node that it keeps: it excludes
+-- these paths, leaves mergeinfo of them out, and keeps each revision with its number and properties; or it drops those that
+-- lose all of their nodes, and renumbers. Without deletes it takes each change as it is
+pub record IsReadyFor (m : CutMeaning) (dump : List ℕ) (settings : Settings) (deletes : Option (List (List (List ℕ))))
+    : Type 0 where
   pub listed : List Listed
   pub excluded : List NodePath
   pub is_taken : IsTakenDump dump listed
   pub are_excluded : ExcludesAsAsked m listed excluded
-  pub taken : (placed : List Placed) → AllZip IsListed listed placed
-      → IsFirstNotTaken excluded (kinds_told_by listed) placed None
+  pub copies : (placed : List Placed) → AllZip IsListed listed placed
+      → MatchOption deletes (IsFirstNotTaken excluded (kinds_told_by listed) placed None)
+      (AreDeletes excluded (kinds_told_by listed) placed)
+  pub apart : IsTrue (lie_apart excluded)
   pub excludes : ExcludesPaths settings excluded
   pub have_names : IsTrue (list_all has_node_names excluded)
   pub empties : settings.empty ≡ emptied_by m.drop
@@ -127,12 +132,29 @@ pub record IsReadyFor (m : CutMeaning) (dump : List ℕ) (settings : Settings) :
 
 -- what is written
 
+-- the text is what the filter writes, with the deletes behind its nodes, if there are some
+abbrev pub IsTrimmedIf : Option (List (List (List ℕ))) → List ℕ → List ℕ → Type 0
+IsTrimmedIf None filtered text = text ≡ filtered
+IsTrimmedIf (Some deletes) filtered text = IsTrimmedBy deletes filtered text
+
+-- the text is what the filter writes of the dump itself; or that with the deletes of what copies take to excluded paths,
+-- where each revision is kept, or where some are dropped
+abbrev pub FiltersOrTrims : Option (List (List (List ℕ))) → Bool → Patching → Settings → List ℕ → List DumpRecord
+    → List (List Change) → List Tree → List ℕ → Type 0
+FiltersOrTrims None drops patched settings dump records revisions trees text =
+    FiltersExpansion patched settings dump records revisions trees records text
+FiltersOrTrims (Some deletes) false patched settings dump records revisions trees text =
+    FiltersTrimmed patched settings dump records revisions trees text
+FiltersOrTrims (Some deletes) true patched settings dump records revisions trees text =
+    FiltersRenumbered patched settings dump records revisions trees text
+
 -- the dump loads into an empty repository, and so does what is written of it: each revision has its own number and
 -- properties, and the tree that it had, without the excluded paths. If the call drops revisions that lose all of their
 -- nodes, this is true of the others under their new numbers. The excluded paths are the least set that has what the call
 -- names, and what copies bring of it elsewhere; nothing that is kept came from there
-pub record CutLoads (patched : Patching) (m : CutMeaning) (settings : Settings) (excluded : List NodePath) (dump : List ℕ)
-    (records : List DumpRecord) (revisions : List (List Change)) (text : List ℕ) : Type 0 where
+pub record CutLoads (patched : Patching) (m : CutMeaning) (settings : Settings) (deletes : Option (List (List (List ℕ))))
+    (excluded : List NodePath) (dump : List ℕ) (records : List DumpRecord) (revisions : List (List Change)) (text : List ℕ)
+    : Type 0 where
   pub trees : List Tree
   pub loads : LoadsAs patched root_alone records revisions trees
   pub first : List NodePath
@@ -142,18 +164,19 @@ pub record CutLoads (patched : Patching) (m : CutMeaning) (settings : Settings) 
   pub least : (path : NodePath) → IsInClosure Way.ToCopies trees revisions first path → Covers excluded path
   pub nothing_back : NothingComesBack settings trees revisions
   pub filters : LengthsFit settings records
-      → FiltersExpansion patched settings dump records revisions trees records text
+      → FiltersOrTrims deletes m.drop patched settings dump records revisions trees text
   pub numbered : m.drop ≡ false → LengthsFit settings records
       → LoadsNumbered patched (TreeRestricts settings records) records trees text
   pub renumbered : m.drop ≡ true → LengthsFit settings records
       → LoadsNew patched settings (TreeRestricts settings records) records trees text
 
 -- the text is the cut of the dump, where text deltas apply, if it has some
-pub record IsCutText (m : CutMeaning) (settings : Settings) (dump text : List ℕ) : Type 0 where
+pub record IsCutText (m : CutMeaning) (settings : Settings) (deletes : Option (List (List (List ℕ)))) (dump text : List ℕ)
+    : Type 0 where
   pub excluded : List NodePath
   pub records : List DumpRecord
   pub excludes : ExcludesPaths settings excluded
   pub whole : HasRecords dump records Ending.Whole
   pub loads : (patched : Patching) → (revisions : List (List Change)) × MakeRevisions patched records revisions
       × (IsTrue (all_apply root_alone (placed_from 1 revisions) (length (placed_from 1 revisions)))
-      → CutLoads patched m settings excluded dump records revisions text)
+      → CutLoads patched m settings deletes excluded dump records revisions text)

@@ -1,5 +1,5 @@
 -- What the program does with its arguments and its input.
-use Rattle.std.specs.Prelude.{◌≡◌, ◌⊎◌, ℕ, List, [], ◌∷◌, ◌++◌, Option, None, Result, Ok, Err, IfSome, MatchBool, codes, decimal}
+use Rattle.std.specs.Prelude.{◌≡◌, ◌⊎◌, ℕ, List, [], ◌∷◌, ◌++◌, Option, None, Some, Result, Ok, Err, IfSome, MatchBool, codes, decimal}
 use Rattle.std.specs.List.{concat}
 use Rattle.std.specs.Io.KnownBytes.{Appends, GrowsBy, Keeps}
 use Rattle.dump_text.specs.FaultTable.{fault_code}
@@ -16,7 +16,8 @@ use Rattle.dump_pipeline.specs.declared.answer.Answer.TheVariants.{Clean, Fault,
 use Rattle.dump_pipeline.specs.declared.answer.Failure.{Failure}
 use Rattle.cli_support.specs.Arguments.{refusal_status}
 use Rattle.cli_support.specs.declared.usage.Usage.{Usage}
-use Rattle.cut_cli.specs.Cuts.{IsCutText, IsObstacleTo, IsReadyFor}
+use Rattle.dump_cut.specs.TrimmedCopies.{IsTrimmedBy}
+use Rattle.cut_cli.specs.Cuts.{IsCutText, IsObstacleTo, IsReadyFor, IsTrimmedIf}
 use Rattle.cut_cli.specs.Words.{CutMeaning, TellsCut, cut_meaning}
 use Rattle.cut_cli.specs.declared.examine.Obstacle.{Obstacle}
 use Rattle.cut_cli.specs.declared.examine.Obstacle.TheVariants as obstacles
@@ -31,7 +32,7 @@ abbrev pub obstacle_status : Obstacle → ℕ
 obstacle_status (obstacles.Unread _) = 1
 obstacle_status (obstacles.Refused _) = 1
 obstacle_status obstacles.ComesBack = 3
-obstacle_status (obstacles.Loses _) = 1
+obstacle_status (obstacles.OddDelete _) = 1
 
 -- the line after the records before a fault: no reader of dumps takes it for a record
 abbrev pub stop_line : FaultKind → List ℕ
@@ -55,35 +56,52 @@ pub record BreaksOffCut (old new : Option (List ℕ)) (sent : List ℕ) (told : 
   pub counted : GrowsBy old new written
   pub told_is : told ≡ Failed failure written
 
--- a run on the input gave an answer and sent bytes: all of them reached the writer, with the last line of a fault, and the
--- answer is told; or the output broke off
-pub record RanCut (settings : Settings) (dump : List ℕ) (old new : Option (List ℕ)) (told : Answer) : Type 0 where
+-- what is written of what the filter wrote, by its answer: all of it, with deletes behind its nodes; or nothing
+abbrev pub IsTrimmedOf : List (List (List ℕ)) → List ℕ → List ℕ → Answer → Type 0
+IsTrimmedOf deletes filtered sent (Clean _) = IsTrimmedBy deletes filtered sent
+IsTrimmedOf deletes filtered sent (Fault _ _ _) = sent ≡ []
+IsTrimmedOf deletes filtered sent (Failed _ _) = sent ≡ []
+
+-- a run on the input gives the answer, and these bytes are what it sends, or what is written of that
+abbrev pub IsSent : Settings → Option (List (List (List ℕ))) → List ℕ → List ℕ → Answer → Type 0
+IsSent settings None dump sent answer = IsRunAnswer settings dump sent answer
+IsSent settings (Some deletes) dump sent answer =
+    (filtered : List ℕ) × IsRunAnswer settings dump filtered answer × IsTrimmedOf deletes filtered sent answer
+
+-- a run on the input gave an answer, and bytes were sent: all of them reached the writer, with the last line of a fault, and
+-- the answer is told; or the output broke off
+pub record RanCut (settings : Settings) (deletes : Option (List (List (List ℕ)))) (dump : List ℕ)
+    (old new : Option (List ℕ)) (told : Answer) : Type 0 where
   pub answer : Answer
   pub sent : List ℕ
-  pub answered : IsRunAnswer settings dump sent answer
+  pub answered : IsSent settings deletes dump sent answer
   pub arrived : (Appends old new (sent ++ stop_line_of answer) × (told ≡ answer))
       ⊎ BreaksOffCut old new (sent ++ stop_line_of answer) told
 
 -- the dump is filtered, or no memory was left for that
-abbrev pub WritesCut : Settings → List ℕ → Option (List ℕ) → Option (List ℕ) → ℕ → Type 0
-WritesCut settings dump old new status =
-    ((told : Answer) × RanCut settings dump old new told × (status ≡ cut_status told)) ⊎ (Keeps old new × (status ≡ 1))
+abbrev pub WritesCut : Settings → Option (List (List (List ℕ))) → List ℕ → Option (List ℕ) → Option (List ℕ) → ℕ → Type 0
+WritesCut settings deletes dump old new status =
+    ((told : Answer) × RanCut settings deletes dump old new told × (status ≡ cut_status told))
+    ⊎ (Keeps old new × (status ≡ 1))
 
 -- the same where the call is for a trial: the writer receives nothing
-abbrev pub WritesIfAsked : CutMeaning → Settings → List ℕ → Option (List ℕ) → Option (List ℕ) → ℕ → Type 0
-WritesIfAsked m settings dump old new status =
-    MatchBool m.dry_run (WritesCut settings dump None None status × Keeps old new) (WritesCut settings dump old new status)
+abbrev pub WritesIfAsked : CutMeaning → Settings → Option (List (List (List ℕ))) → List ℕ → Option (List ℕ)
+    → Option (List ℕ) → ℕ → Type 0
+WritesIfAsked m settings deletes dump old new status =
+    MatchBool m.dry_run (WritesCut settings deletes dump None None status × Keeps old new)
+    (WritesCut settings deletes dump old new status)
 
--- what the filter writes of the whole dump is its cut
-abbrev pub CleanTextsAreCuts : CutMeaning → Settings → List ℕ → Type 0
-CleanTextsAreCuts m settings dump = (records : List DumpRecord) (text : List ℕ) →
-    IsCleanText settings dump records text → IsCutText m settings dump text
+-- what the filter writes of the whole dump, with these deletes, is its cut
+abbrev pub CleanTextsAreCuts : CutMeaning → Settings → Option (List (List (List ℕ))) → List ℕ → Type 0
+CleanTextsAreCuts m settings deletes dump = (records : List DumpRecord) (filtered text : List ℕ) →
+    IsCleanText settings dump records filtered → IsTrimmedIf deletes filtered text
+    → IsCutText m settings deletes dump text
 
 -- a dump is cut; or nothing is written, for an obstacle or out of memory
 abbrev pub CutsDump : CutMeaning → List ℕ → Option (List ℕ) → Option (List ℕ) → ℕ → Type 0
 CutsDump m dump old new status =
-    ((settings : Settings) × IsReadyFor m dump settings × CleanTextsAreCuts m settings dump
-    × WritesIfAsked m settings dump old new status)
+    ((settings : Settings) × (deletes : Option (List (List (List ℕ)))) × IsReadyFor m dump settings deletes
+    × CleanTextsAreCuts m settings deletes dump × WritesIfAsked m settings deletes dump old new status)
     ⊎ ((obstacle : Obstacle) × IsObstacleTo m dump obstacle × Keeps old new × (status ≡ obstacle_status obstacle))
     ⊎ (Keeps old new × (status ≡ 1))
 

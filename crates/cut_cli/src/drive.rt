@@ -8,9 +8,11 @@ ghost use Rattle.cut_cli.specs.steps.Ended.{TellsAfter};
 
 use crate::examine::{Obstacle, Ready, examine};
 use crate::lines::{write_fault, write_no_include, write_report};
+use crate::trim::run_and_trim;
 use crate::words::{Call, call_of};
 use cli_support::{Cause, Program, fail, fail_unread, finish, output_buffer, read_all, refuse};
 use dump_changes::Memory;
+use dump_cut::Deletes;
 use dump_pipeline::{Answer, Failure, FreeGate, Plan, run};
 use dump_rules::{Options, Side};
 use dump_text::FaultKind;
@@ -115,15 +117,18 @@ fn write_cut<H: Threads + Wait + Sync, W: Write, E: Write>(
     writer: &mut W,
     errors: &mut E,
 ) -> u8
-    ensures { WritesCut ready.now.options dump.now (W.contents writer.old) (W.contents writer.new) result }
+    ensures { WritesCut ready.now.options ready.now.deletes dump.now (W.contents writer.old) (W.contents writer.new) result }
 {
     let Ok(buffer) = output_buffer(alloc) else {
         return fail(errors, PROGRAM, Cause::Memory, 0);
     };
     let mut sink = OutMut::new(writer, buffer);
-    let answer = run_and_flush(rt, alloc, dump, &ready.options, &mut sink);
+    let answer = match &ready.deletes {
+        None => run_and_flush(rt, alloc, dump, &ready.options, &mut sink),
+        Some(deletes) => run_and_trim(rt, alloc, dump, &ready.options, deletes, &mut sink),
+    };
     let _ = sink.into_inner();
-    tell(errors, dump, answer, call.quiet, ready.emptied)
+    tell(errors, dump, answer, call.quiet, ready)
 }
 
 /// Runs the filter, and hands on all that waits after the run.
@@ -136,7 +141,7 @@ fn run_and_flush<H: Threads + Wait + Sync, W: Write>(
 ) -> Answer
     requires waiting { sink.old.waiting ≡ [] }
     requires start { sink.old.out.start ≡ sink.old.out.taken }
-    ensures ran { RanCut options.now dump.now sink.old.out.taken sink.new.out.taken result }
+    ensures ran { RanCut options.now None dump.now sink.old.out.taken sink.new.out.taken result }
     ensures loan { loan_of sink.new ≡ loan_of sink.old }
 {
     let answer = run(rt, alloc, dump, options, plan(), &FreeGate, sink);
@@ -145,7 +150,7 @@ fn run_and_flush<H: Threads + Wait + Sync, W: Write>(
 }
 
 /// How the run is spread over threads.
-fn plan() -> Plan {
+pub(crate) fn plan() -> Plan {
     let Some(plan) = Plan::new(WORKERS, WINDOW) else {
         unreachable!()
     };
@@ -153,7 +158,7 @@ fn plan() -> Plan {
 }
 
 /// The line that ends the output where the filter found a fault. No reader of dumps takes it for a record.
-fn ending(alloc: Global, kind: FaultKind) -> Result<Vec<u8>, io::Error>
+pub(crate) fn ending(alloc: Global, kind: FaultKind) -> Result<Vec<u8>, io::Error>
     ensures { IfOk result (λ line. line.items ≡ stop_line kind) }
 {
     let mut line = Vec::new(alloc);
@@ -178,14 +183,23 @@ fn write_ending<S: Sink>(alloc: Global, answer: Answer, sink: &mut S) -> Result<
     if piece.push(Chunk::Lent(line.as_slice())).is_err() {
         return Err(Failure::Memory);
     }
-    match write_piece(sink, &piece) {
+    write_whole(sink, &piece)
+}
+
+/// Writes a piece, or a first part of it before the sink failed.
+pub(crate) fn write_whole<S: Sink>(sink: &mut S, piece: &Piece<'_>) -> Result<(), Failure>
+    ensures whole { OnOk result (Appends (S.taken sink.old) (S.taken sink.new) piece.now) }
+    ensures part { OnErr result (TakesPart (S.taken sink.old) (S.taken sink.new) piece.now) }
+    ensures through { S.through sink.new ≡ S.through sink.old }
+{
+    match write_piece(sink, piece) {
         Ok(()) => Ok(()),
         Err(_) => Err(Failure::Sink),
     }
 }
 
 /// Hands on all that waits after a run and its last line, unless the sink failed: then no more is tried.
-fn flush_after<W: Write>(
+pub(crate) fn flush_after<W: Write>(
     sink: &mut OutMut<'_, W>,
     answer: Answer,
     ending: Result<(), Failure>,
@@ -220,13 +234,13 @@ fn is_sink_down(answer: Answer) -> bool {
 }
 
 /// The line of an answer, and the status.
-fn tell<E: Write>(errors: &mut E, dump: &[u8], answer: Answer, quiet: bool, emptied: u64) -> u8
+fn tell<E: Write>(errors: &mut E, dump: &[u8], answer: Answer, quiet: bool, ready: &Ready) -> u8
     ensures { result ≡ cut_status answer }
 {
     match answer {
         Answer::Clean(report) => {
             if !quiet {
-                let _ = write_report(errors, report, emptied);
+                let _ = write_report(errors, report, ready.emptied, count_deletes(&ready.deletes));
             }
             0
         }
@@ -236,6 +250,17 @@ fn tell<E: Write>(errors: &mut E, dump: &[u8], answer: Answer, quiet: bool, empt
         }
         Answer::Failed { failure, written } => fail(errors, PROGRAM, cause(failure), written),
     }
+}
+
+/// How many paths are deleted behind copies.
+fn count_deletes(deletes: &Option<Deletes>) -> usize {
+    let mut count: usize = 0;
+    if let Some(deletes) = deletes {
+        for paths in deletes.behind() {
+            count = count.saturating_add(paths.len());
+        }
+    }
+    count
 }
 
 /// How the line of a failure names it.

@@ -1,14 +1,19 @@
 //! What is found out of a dump before anything is written.
 ghost use Rattle.std.specs.Prelude.{◌≡◌, ℕ, List, IfOk, IsTrue, MatchBool, MatchOption};
-ghost use Rattle.std.specs.List.{list_all};
+ghost use Rattle.std.specs.List.{AllZip, list_all};
+ghost use Rattle.dump_index.specs.IndexLaws.{IsListed};
+ghost use Rattle.dump_index.specs.ToldKinds.{kinds_told_by};
+ghost use Rattle.dump_trees.specs.Looking.{Placed};
 ghost use Rattle.dump_cut.specs.NamedPaths.{has_named_paths};
 ghost use Rattle.dump_cut.specs.steps.ExcludedPaths.{paths_of};
 ghost use Rattle.cut_cli.specs.Cuts.{AreChangesOf, ExcludesAsAsked, AreNamed, BringsNothingBack, BringsSomeBack, IsTakenDump, Returns};
+ghost use Rattle.cut_cli.specs.steps.Examined.{AreDeletesIfAny};
 ghost use Rattle.cut_cli.specs.Words.{cut_meaning};
 ghost use Rattle.cut_cli.specs.steps.Examined.{IsExamined};
 
 use crate::lines::{
-    shown, write_additions, write_loss, write_places, write_refused, write_returns, write_unread,
+    shown, write_additions, write_deletes, write_odd_delete, write_places, write_refused,
+    write_returns, write_unread,
 };
 use crate::prefixes::report_prefixes;
 use crate::read::{Unread, read_index};
@@ -16,7 +21,8 @@ use crate::sizes::sizes_of;
 use crate::words::Call;
 use dump_changes::Memory;
 use dump_cut::{
-    Excluded, PlacedRest, Refused, Way, all_followed, first_not_taken, first_refused, follow,
+    Deletes, Excluded, PlacedRest, Refused, Way, all_followed, first_not_taken, first_refused,
+    follow,
 };
 use dump_index::{ChangeIndex, NodeChange};
 use dump_rules::Options;
@@ -32,9 +38,8 @@ pub enum Obstacle {
     Refused(Refused),
     /// Copies would bring excluded content back.
     ComesBack,
-    /// The change at this place is a copy to a directory of which a part is excluded at the copy, and not at the source. It
-    /// would have to be written as other changes.
-    Loses(usize),
+    /// The change at this place is a copy, behind which a path would have to be deleted that no line of a dump can hold.
+    OddDelete(usize),
 }
 
 /// How a dump is cut.
@@ -42,6 +47,8 @@ pub enum Obstacle {
 pub struct Ready {
     /// The options of the filter that writes the cut.
     pub options: Options,
+    /// The paths to delete behind each node that the filter keeps; none, where it has to delete nothing.
+    pub deletes: Option<Deletes>,
     /// How many revisions stay that have changes, and all of them at excluded paths.
     pub emptied: u64,
 }
@@ -145,24 +152,36 @@ fn exclude<E: Write>(
     Ok(Some(excluded))
 }
 
-/// Reports what the copy at this place would lose.
-fn report_loss<E: Write>(
+/// The paths to delete behind each kept change; none, where each copy loses nothing. It reports them.
+fn look_for_deletes<E: Write>(
     alloc: Global,
     index: &ChangeIndex<'_>,
     excluded: &Excluded,
-    place: usize,
+    call: &Call<'_>,
     errors: &mut E,
-) -> Result<(), Memory>
+) -> Result<Result<Option<Deletes>, usize>, Memory>
     requires { IsTrue (list_all has_named_paths index.now) }
+    ensures { IfOk result (λ found. (placed : List Placed) → AllZip IsListed index.now placed
+        → AreDeletesIfAny (paths_of excluded.now) (kinds_told_by index.now) placed found) }
 {
-    let lost = all_followed(alloc, index, excluded, Way::ToSources)?;
-    if let Some(found) = lost.iter().find(|found| found.place == place) {
-        let _ = write_loss(errors, index.changes(), *found);
+    if first_not_taken(alloc, index, excluded)?.is_none() {
+        return Ok(Ok(None));
     }
-    Ok(())
+    match Deletes::find(alloc, index, excluded)? {
+        Ok(deletes) => {
+            if call.verbose {
+                let _ = write_deletes(errors, index.changes(), excluded, deletes.behind());
+            }
+            Ok(Ok(Some(deletes)))
+        }
+        Err(place) => {
+            let _ = write_odd_delete(errors, index.changes(), place);
+            Ok(Err(place))
+        }
+    }
 }
 
-/// The options of a filter that excludes these paths, where it takes each change as it is.
+/// How a filter that excludes these paths, and deletes behind copies, writes the cut.
 fn prepare<E: Write>(
     alloc: Global,
     index: &ChangeIndex<'_>,
@@ -175,17 +194,21 @@ fn prepare<E: Write>(
         → ExcludesAsAsked (cut_meaning call.now) index.now (paths_of excluded.now)
         → IsExamined (cut_meaning call.now) dump found) }
 {
-    if let Some(place) = first_not_taken(alloc, index, excluded)? {
-        report_loss(alloc, index, excluded, place, errors)?;
-        return Ok(Err(Obstacle::Loses(place)));
-    }
+    let deletes = match look_for_deletes(alloc, index, excluded, call, errors)? {
+        Ok(deletes) => deletes,
+        Err(place) => return Ok(Err(Obstacle::OddDelete(place))),
+    };
     let options = excluded.filter_options(alloc, call.drop)?;
     let emptied = if call.drop {
         0
     } else {
         count_emptied(excluded, index.changes())
     };
-    Ok(Ok(Ready { options, emptied }))
+    Ok(Ok(Ready {
+        options,
+        deletes,
+        emptied,
+    }))
 }
 
 /// Looks at the changes of a dump.

@@ -3,7 +3,7 @@ use crate::read::Unread;
 use crate::sizes::Size;
 use crate::spot::{Spot, spot_of};
 use crate::words::Call;
-use dump_cut::{Addition, PlacedRest, Refusal, Refused};
+use dump_cut::{Addition, Excluded, PlacedRest, Refusal, Refused};
 use dump_digest::properties_of;
 use dump_filter::Report;
 use dump_index::{NodeChange, NodeMade, Source, rest_behind};
@@ -399,27 +399,62 @@ pub fn write_refused<E: Write>(
     write_rejection(errors, refused.refusal, spot)
 }
 
-/// Says which copy would have to be written as other changes, and what it would lose.
-pub fn write_loss<E: Write>(
+/// Writes revision and path of the copy at this place, and its source.
+fn write_copy<E: Write>(
     errors: &mut E,
-    changes: &[NodeChange<'_>],
-    lost: PlacedRest<'_>,
+    change: NodeChange<'_>,
+    source: Source<'_>,
 ) -> io::Result<()> {
-    let Some((change, source)) = source_at(changes, lost.place) else {
-        return Ok(());
-    };
     let revision = change.revision;
-    write!(errors, "svndumpcut: nothing written: r{revision}: ")?;
+    write!(errors, "r{revision}: ")?;
     write_path(errors, change.path)?;
     write!(errors, ", ")?;
-    write_source(errors, source, b"")?;
-    write!(errors, ": ")?;
-    write_joined(errors, change.path, lost.rest)?;
-    write!(errors, " is excluded, and ")?;
-    write_joined(errors, source.path, lost.rest)?;
+    write_source(errors, source, b"")
+}
+
+/// Lists the copies behind which paths are deleted: these behind each change at a path that isn't excluded.
+pub fn write_deletes<E: Write>(
+    errors: &mut E,
+    changes: &[NodeChange<'_>],
+    excluded: &Excluded,
+    deletes: &[Vec<Vec<u8>>],
+) -> io::Result<()> {
+    let mut behind = deletes;
+    for (place, change) in changes.iter().enumerate() {
+        if excluded.covers(change.path) {
+            continue;
+        }
+        let [paths, others @ ..] = behind else {
+            break;
+        };
+        behind = others;
+        let Some((change, source)) = source_at(changes, place) else {
+            continue;
+        };
+        if !paths.is_empty() {
+            write_copy(errors, change, source)?;
+            write!(errors, ": ")?;
+            write_count(errors, paths.len(), "path")?;
+            writeln!(errors, " deleted behind the copy")?;
+        }
+    }
+    Ok(())
+}
+
+/// Says that behind the copy at this place a path would have to be deleted that no line can hold.
+pub fn write_odd_delete<E: Write>(
+    errors: &mut E,
+    changes: &[NodeChange<'_>],
+    place: usize,
+) -> io::Result<()> {
+    let Some((change, source)) = source_at(changes, place) else {
+        return Ok(());
+    };
+    write!(errors, "svndumpcut: nothing written: ")?;
+    write_copy(errors, change, source)?;
     writeln!(
         errors,
-        " is not; this version cannot write such a copy: exclude both or neither"
+        ": a path that has to be deleted behind the copy has a line feed or a zero byte"
     )
 }
 
@@ -432,7 +467,12 @@ pub fn write_no_include<E: Write>(errors: &mut E) -> io::Result<()> {
 }
 
 /// Writes the counts of a run.
-pub fn write_report<E: Write>(errors: &mut E, report: Report, emptied: u64) -> io::Result<()> {
+pub fn write_report<E: Write>(
+    errors: &mut E,
+    report: Report,
+    emptied: u64,
+    deleted: usize,
+) -> io::Result<()> {
     let Report {
         revisions_kept,
         revisions_dropped,
@@ -449,8 +489,11 @@ pub fn write_report<E: Write>(errors: &mut E, report: Report, emptied: u64) -> i
         let youngest = revisions_kept.saturating_sub(1);
         write!(errors, " (the youngest is now r{youngest})")?;
     }
-    writeln!(
-        errors,
-        "; nodes kept {nodes_kept}, dropped {nodes_dropped}; texts checked {texts_checked}"
-    )
+    write!(errors, "; nodes kept {nodes_kept}, dropped {nodes_dropped}")?;
+    if deleted > 0 {
+        write!(errors, "; ")?;
+        write_count(errors, deleted, "path")?;
+        write!(errors, " deleted behind copies")?;
+    }
+    writeln!(errors, "; texts checked {texts_checked}")
 }

@@ -9,6 +9,7 @@ mod prefixes;
 mod read;
 mod sizes;
 mod spot;
+mod trim;
 mod words;
 
 use cli_support::{Usage, arguments, as_texts, input_size, refuse};
