@@ -1,7 +1,9 @@
 mod Prelude
 pub mod CommandLemmas
+pub mod FilledLemmas
 pub mod InputLemmas
 pub mod LineLemmas
+pub mod NumberLemmas
 pub mod OutputLemmas
 mod Values
 pub mod WordLemmas

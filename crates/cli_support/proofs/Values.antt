@@ -1,5 +1,5 @@
 -- Worked values of the definitions, computed and proved by the kernel.
-use Rattle.cli_support.proofs.Prelude.{◌≡◌, refl, true, false, List, [], ◌∷◌, ℕ, length, Some, None, Ok, Err, codes, Include, Exclude, Pad, DropEmptied, DropAll, Answers, empty_of, filter_command, is_call_of, is_set, meaning_in, named_side, prefixes, refusal_status, settings_of, side_in, switch, Words, BothDrops, Memory}
+use Rattle.cli_support.proofs.Prelude.{◌≡◌, refl, true, false, List, [], ◌∷◌, ℕ, length, lit<, lit≤, Some, None, Ok, Err, codes, Include, Exclude, Pad, DropEmptied, DropAll, Answers, AreFilled, IsNumber, empty_of, filter_command, flag_number, is_call_of, is_set, meaning_in, named_side, number, prefixes, refusal_status, settings_of, side_in, switch, Words, BothDrops, Memory}
 use Rattle.clap.specs.Words.{App, Row, with_rule}
 use Rattle.clap.specs.declared.builder.value_parser.Reading.TheVariants as reading
 use Rattle.clap.proofs.OnLiterals.{clap_on_literals}
@@ -8,6 +8,9 @@ use Rattle.clap.proofs.OnLiterals.{clap_on_literals}
 
 spelled_switch : (switch (codes "quiet")).long ≡ Some (codes "quiet")
 spelled_switch = refl
+
+default_number : (number (codes "workers") 64 (codes "4")).defaults ≡ codes "4" ∷ []
+default_number = refl
 
 wanted_prefixes : prefixes.required ≡ true
 wanted_prefixes = refl
@@ -43,6 +46,12 @@ set = refl
 
 not_set : is_set (codes "preserve-revprops") (rows (codes "false") (codes "false")) ≡ false
 not_set = refl
+
+abbrev plan_rows : List Row
+plan_rows = row (codes "workers") (codes "12" ∷ []) ∷ row (codes "window") (codes "64" ∷ []) ∷ []
+
+twelve : flag_number (codes "workers") plan_rows ≡ 12
+twelve = refl
 
 pads : empty_of false false ≡ Some Pad
 pads = refl
@@ -112,3 +121,14 @@ arguments_refused = refl
 
 no_memory : refusal_status 3 Memory ≡ 3
 no_memory = refl
+
+-- FilledFlags
+
+twelve_workers : IsNumber (codes "workers") 64 plan_rows
+twelve_workers = (codes "12", refl, ((lit< tt, (lit< tt, (lit< tt, tt))), lit< tt, lit≤ tt, lit≤ tt))
+
+sixty_four : IsNumber (codes "window") 4096 plan_rows
+sixty_four = (codes "64", refl, ((lit< tt, (lit< tt, (lit< tt, tt))), lit< tt, lit≤ tt, lit≤ tt))
+
+filled : AreFilled plan_rows
+filled = record { workers = twelve_workers; window = sixty_four }

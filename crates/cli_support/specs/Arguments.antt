@@ -2,6 +2,7 @@
 use Rattle.std.specs.Prelude.{◌≡◌, ℕ, Bool, true, false, List, [], Option, Some, None, Result, Ok, Err, ⊤, codes, slice_get, unwrap_or, if◌then◌else◌}
 use Rattle.std.specs.Option.{option_and_then, option_map_or}
 use Rattle.std.specs.Str.{bytes_eq}
+use Rattle.std.specs.Str.Parse.{digits_value, without_leading_plus}
 use Rattle.clap.specs.Walk.{is_empty}
 use Rattle.clap.specs.Words.{App, Row, Text, all_of, fault_of, matches_of, one_of}
 use Rattle.dump_rules.specs.Settings.{Settings}
@@ -24,6 +25,10 @@ side_in line = option_and_then named_side (slice_get line 0)
 -- whether a switch is set
 abbrev pub is_set : Text → List Row → Bool
 is_set name rows = option_map_or (λ text. bytes_eq text (codes "true")) (one_of name rows) false
+
+-- the number of an option; without it its default is in the rows
+abbrev pub flag_number : Text → List Row → ℕ
+flag_number name rows = digits_value 10 (without_leading_plus (unwrap_or (one_of name rows) []))
 
 -- what becomes of empty revisions: by the first drop option, by the second, and not by both
 abbrev pub empty_of : Bool → Bool → Option Empty

@@ -1,13 +1,23 @@
 -- The options of the filter in a command that clap reads arguments by.
-use Rattle.std.specs.Prelude.{true, Some, codes}
+use Rattle.std.specs.Prelude.{ℕ, true, [], ◌∷◌, Some, codes}
 use Rattle.clap.specs.Lexer.{usize_max}
 use Rattle.clap.specs.Simple.{on_top}
 use Rattle.clap.specs.Words.{App, Rule, Text, new_app, new_rule, with_rule}
-use Rattle.clap.specs.declared.builder.action.ArgAction.TheVariants.{SetTrue}
+use Rattle.clap.specs.declared.builder.action.ArgAction.TheVariants.{Set, SetTrue}
+use Rattle.clap.specs.declared.builder.value_parser.ValueParser.TheVariants as parsers
 
 -- an option without a value
 abbrev pub switch : Text → Rule
 switch name = record (new_rule name) { long = Some name; action = Some SetTrue }
+
+-- an option with a number from 1 up
+abbrev pub number : Text → ℕ → Text → Rule
+number name most default = record (new_rule name) {
+  long = Some name;
+  action = Some Set;
+  parser = Some (parsers.Unsigned 1 most);
+  defaults = default ∷ [];
+}
 
 -- one or more prefixes
 abbrev pub prefixes : Rule

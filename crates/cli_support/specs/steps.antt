@@ -1,1 +1,2 @@
+pub mod FilledFlags
 pub mod LineReading

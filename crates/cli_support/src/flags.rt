@@ -1,9 +1,9 @@
-//! The options of the filter, and the prefixes, as clap reads them.
-ghost use Rattle.std.specs.Prelude.{◌≡◌, IfOk, false};
+//! The options of the filter, those of how a run is spread over threads, and the prefixes, as clap reads them.
+ghost use Rattle.std.specs.Prelude.{◌≡◌, IfOk, false, codes};
 ghost use Rattle.clap.specs.Words.{app_of, rule_of};
-ghost use Rattle.cli_support.specs.FilterCommand.{filter_command, prefixes, switch};
+ghost use Rattle.cli_support.specs.FilterCommand.{filter_command, number, prefixes, switch};
 
-use clap::{Arg, ArgAction, Command};
+use clap::{Arg, ArgAction, Command, value_parser};
 use std::alloc::{AllocError, Global};
 
 /// An option without a value.
@@ -12,6 +12,30 @@ pub fn switch<'a>(alloc: Global, name: &'a str) -> Arg<'a>
     ensures local { result.global ≡ false }
 {
     Arg::new(alloc, name).long(name).action(ArgAction::SetTrue)
+}
+
+/// The option of how many workers there are, and the number that stands for none.
+pub fn workers<'a>(alloc: Global) -> Arg<'a>
+    ensures rule { rule_of result ≡ number (codes "workers") 64 (codes "4") }
+    ensures local { result.global ≡ false }
+{
+    Arg::new(alloc, "workers")
+        .long("workers")
+        .action(ArgAction::Set)
+        .value_parser(value_parser!(usize).range(1..=64))
+        .default_value("4")
+}
+
+/// The option of how wide the window is, and the number that stands for none.
+pub fn window<'a>(alloc: Global) -> Arg<'a>
+    ensures rule { rule_of result ≡ number (codes "window") 4096 (codes "64") }
+    ensures local { result.global ≡ false }
+{
+    Arg::new(alloc, "window")
+        .long("window")
+        .action(ArgAction::Set)
+        .value_parser(value_parser!(usize).range(1..=4096))
+        .default_value("64")
 }
 
 /// The path prefixes, of which there is one or more.

@@ -4,7 +4,8 @@
 //! A program is called with a side, the options of the filter and its own ones, and path prefixes. [`side_in`] reads the
 //! side that a line begins with. [`filter_command`] is a command with the options of the filter, to which a program adds
 //! its own ones, a [`switch`] for example, and the [`prefixes`] at last. [`read_line`] reads a line by such a command,
-//! [`read_options`] makes the options of the filter of what was found, and [`is_set`] says whether a switch is set.
+//! [`read_options`] makes the options of the filter of what was found, [`is_set`] says whether a switch is set, and
+//! [`read_number`] is the number of an option. [`workers`] and [`window`] are options of how a run is spread over threads.
 //!
 //! ```
 //! filter_command(alloc, "svndumptest")?
@@ -22,6 +23,8 @@
 //!
 //! `tests::lines::read` runs this.
 //!
+//! [`refusal`] is why a program refuses a line, where it reads what clap says of it by itself.
+//!
 //! [`arguments`] are those of the process, and [`input_size`] is a guess at the size of its input. [`read_all`] reads the
 //! input, [`output_buffer`] is the buffer of an `OutMut`, and [`finish`] hands on what waits there. [`refuse`] and [`fail`]
 //! write the line of what ended a [`Program`], and give its status.
@@ -36,12 +39,12 @@ mod process;
 mod usage;
 
 pub use buffered::{finish, output_buffer};
-pub use flags::{filter_command, prefixes, switch};
+pub use flags::{filter_command, prefixes, switch, window, workers};
 pub use input::{Unread, read_all};
-pub use line::{is_set, read_line, read_options, read_prefixes, side_in};
+pub use line::{is_set, read_line, read_number, read_options, read_prefixes, side_in};
 pub use outcome::{Cause, Program, fail, fail_unread, refuse};
 pub use process::{arguments, as_texts, input_size};
-pub use usage::Usage;
+pub use usage::{Usage, refusal};
 
 #[cfg(test)]
 mod tests;

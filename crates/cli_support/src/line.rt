@@ -1,8 +1,9 @@
 //! What a line of arguments gives: its side, what the command finds behind it, and the options of the filter.
-ghost use Rattle.std.specs.Prelude.{◌≡◌, ◌≢◌, [], IfOk, Err, map, true, codes, unwrap_or};
+ghost use Rattle.std.specs.Prelude.{◌≡◌, ◌≢◌, ◌≤◌, ℕ, [], IfOk, Err, map, true, codes, unwrap_or};
 ghost use Rattle.clap.specs.Built.{IsParsedFrom};
 ghost use Rattle.clap.specs.Words.{all_of, app_of, found_of, is_simple_and_free, rows_of, takes};
-ghost use Rattle.cli_support.specs.Arguments.{Answers, empty_in, is_set, named_side, settings_of, side_in};
+ghost use Rattle.cli_support.specs.Arguments.{Answers, empty_in, flag_number, is_set, named_side, settings_of, side_in};
+ghost use Rattle.cli_support.specs.steps.FilledFlags.{IsNumber};
 ghost use Rattle.cli_support.specs.steps.LineReading.{ReadsLine};
 
 use crate::usage::{Usage, refusal};
@@ -74,6 +75,18 @@ pub fn is_set(matches: &ArgMatches<'_>, name: &str) -> bool
     ensures { result ≡ is_set name.now (rows_of (found_of matches.now)) }
 {
     matches.get_one(name).unwrap_or(false)
+}
+
+/// The number that the option of this name gives.
+pub fn read_number(matches: &ArgMatches<'_>, name: &str) -> usize
+    requires { (most : ℕ) × IsNumber name.now most (rows_of (found_of matches.now)) }
+    ensures value { result ≡ flag_number name.now (rows_of (found_of matches.now)) }
+    ensures range { (most : ℕ) → IsNumber name.now most (rows_of (found_of matches.now)) → (1 ≤ result) × (result ≤ most) }
+{
+    let Some(number) = matches.get_one(name) else {
+        unreachable!()
+    };
+    number
 }
 
 /// What becomes of empty revisions, where the options don't contradict each other.

@@ -1,5 +1,5 @@
 -- An output that broke off.
-use Rattle.dump_cli.proofs.Prelude.{◌≡◌, ℕ, List, [], Option, refl, sym, subst, inl, inr, Appends, Appends-kept, Keeps, GrowsBy, append_known, from_none, handed_on, part_taken, Settings, LentState, lent_taken, Answer, Failed, RunLeaves, Ran, TellsBehind}
+use Rattle.dump_cli.proofs.Prelude.{◌≡◌, ℕ, List, [], Option, refl, sym, subst, inl, inr, Appends-kept, Keeps, GrowsBy, append_known, from_none, handed_on, part_taken, Settings, LentState, lent_taken, Answer, Failed, RunLeaves, Ran, TellsBehind}
 use Rattle.dump_pipeline.specs.declared.answer.Failure.TheVariants as failures
 
 -- a run whose last bytes wait for a writer that failed

@@ -1,6 +1,5 @@
 mod Prelude
 pub mod DriveLemmas
-pub mod NumberLemmas
 pub mod ProgramLemmas
 pub mod WordLemmas
 pub mod Values

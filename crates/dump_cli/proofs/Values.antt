@@ -1,5 +1,5 @@
 -- Worked values of the definitions, computed and proved by the kernel.
-use Rattle.dump_cli.proofs.Prelude.{◌≡◌, ℕ, refl, true, false, List, [], ◌∷◌, length, Some, None, Ok, Err, codes, inl, inr, ap, arith, lit<, lit≤, Include, lent, report_of, padding, Clean, Fault, Failed, empty_answer, number, program, Words, BothDrops, flag_number, order_of, AnswersTo, IsNumber, AreFilled, status_of, BreaksOff, Ran, CarriesOut, Obeys, Drives, IsSilent, TellsBehind, FailsOnlyBehind, is_sink_failure}
+use Rattle.dump_cli.proofs.Prelude.{◌≡◌, ℕ, refl, true, false, List, [], ◌∷◌, length, Some, None, Ok, Err, codes, inl, inr, ap, arith, Include, lent, report_of, padding, Clean, Fault, Failed, empty_answer, program, Words, BothDrops, order_of, AnswersTo, status_of, BreaksOff, Ran, CarriesOut, Obeys, Drives, IsSilent, TellsBehind, FailsOnlyBehind, is_sink_failure}
 use base.Fml.{GName}
 use Rattle.clap.specs.Words.{Row}
 use Rattle.clap.specs.declared.builder.value_parser.Reading.TheVariants as reading
@@ -7,9 +7,6 @@ use Rattle.dump_text.specs.declared.fault.FaultKind.TheVariants as faults
 use Rattle.dump_pipeline.specs.declared.answer.Failure.TheVariants as failures
 
 -- CommandLine
-
-default_number : (number (codes "workers") 64 (codes "4")).defaults ≡ codes "4" ∷ []
-default_number = refl
 
 -- eight flags, and the prefixes
 nine_rules : length program.top.rules ≡ 9
@@ -28,9 +25,6 @@ flags empty all =
     ∷ row (codes "workers") (codes "12" ∷ []) ∷ row (codes "window") (codes "64" ∷ [])
     ∷ row (codes "PREFIX") (codes "trunk" ∷ []) ∷ []
 
-twelve : flag_number (codes "workers") (flags (codes "false") (codes "false")) ≡ 12
-twelve = refl
-
 order : order_of Include (flags (codes "false") (codes "false"))
     ≡ Ok (record { settings = padding; workers = 12; window = 64; quiet = true })
 order = refl
@@ -43,18 +37,6 @@ refused_for_its_words = refl
 
 refused_for_others : ¬ AnswersTo (Err BothDrops) (Err Words)
 refused_for_others e = cc
-
-twelve_workers : IsNumber (codes "workers") 64 (flags (codes "false") (codes "false"))
-twelve_workers = (codes "12", refl, ((lit< tt, (lit< tt, (lit< tt, tt))), lit< tt, lit≤ tt, lit≤ tt))
-
-sixty_four : IsNumber (codes "window") 4096 (flags (codes "false") (codes "false"))
-sixty_four = (codes "64", refl, ((lit< tt, (lit< tt, (lit< tt, tt))), lit< tt, lit≤ tt, lit≤ tt))
-
-filled : AreFilled (flags (codes "false") (codes "false"))
-filled = record {
-  workers = twelve_workers;
-  window = sixty_four;
-}
 
 -- Drive
 

@@ -1,18 +1,13 @@
 -- What the program's words mean, by the side and by what clap finds behind it.
-use Rattle.std.specs.Prelude.{ℕ, Bool, List, [], Result, Ok, Err, codes, drop, unwrap_or}
-use Rattle.std.specs.Str.Parse.{digits_value, without_leading_plus}
-use Rattle.clap.specs.Words.{Row, Text, one_of}
+use Rattle.std.specs.Prelude.{ℕ, Bool, List, Result, Ok, Err, codes, drop}
+use Rattle.clap.specs.Words.{Row, Text}
 use Rattle.dump_rules.specs.Settings.{Settings}
 use Rattle.dump_rules.specs.declared.options.Side.{Side}
 use Rattle.dump_pipeline.specs.PlanViews.{worker_count, window_size}
-use Rattle.cli_support.specs.Arguments.{Answers, is_set, meaning_in, settings_of}
+use Rattle.cli_support.specs.Arguments.{Answers, flag_number, is_set, meaning_in, settings_of}
 use Rattle.cli_support.specs.declared.usage.Usage.{Usage}
 use Rattle.dump_cli.specs.CommandLine.{program}
 use Rattle.dump_cli.specs.declared.words.Order.{Order}
-
--- the number of a flag; without it its default stands in the rows
-abbrev pub flag_number : Text → List Row → ℕ
-flag_number name rows = digits_value 10 (without_leading_plus (unwrap_or (one_of name rows) []))
 
 -- an order: the filter's settings, how many workers, how wide a window, and whether a clean run is silent
 pub record Meaning : Type 0 where

@@ -1,4 +1,3 @@
 pub mod DrainedRun
-pub mod FilledFlags
 pub mod LawfulLines
 pub mod Lines

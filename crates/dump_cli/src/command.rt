@@ -1,35 +1,11 @@
 //! The command that the words behind the side are read by.
-ghost use Rattle.std.specs.Prelude.{◌≡◌, IfOk, false, codes};
-ghost use Rattle.clap.specs.Words.{app_of, rule_of};
-ghost use Rattle.dump_cli.specs.CommandLine.{number, program};
+ghost use Rattle.std.specs.Prelude.{◌≡◌, IfOk};
+ghost use Rattle.clap.specs.Words.{app_of};
+ghost use Rattle.dump_cli.specs.CommandLine.{program};
 
-use clap::{Arg, ArgAction, Command, value_parser};
-use cli_support::{filter_command, prefixes, switch};
+use clap::Command;
+use cli_support::{filter_command, prefixes, switch, window, workers};
 use std::alloc::{AllocError, Global};
-
-/// The flag of how many workers there are, and the number that stands for none.
-fn workers<'a>(alloc: Global) -> Arg<'a>
-    ensures rule { rule_of result ≡ number (codes "workers") 64 (codes "4") }
-    ensures local { result.global ≡ false }
-{
-    Arg::new(alloc, "workers")
-        .long("workers")
-        .action(ArgAction::Set)
-        .value_parser(value_parser!(usize).range(1..=64))
-        .default_value("4")
-}
-
-/// The flag of how wide the window is, and the number that stands for none.
-fn window<'a>(alloc: Global) -> Arg<'a>
-    ensures rule { rule_of result ≡ number (codes "window") 4096 (codes "64") }
-    ensures local { result.global ≡ false }
-{
-    Arg::new(alloc, "window")
-        .long("window")
-        .action(ArgAction::Set)
-        .value_parser(value_parser!(usize).range(1..=4096))
-        .default_value("64")
-}
 
 /// The flags and the prefixes behind the side, which is no word of the command.
 pub fn program<'a>(alloc: Global) -> Result<Command<'a>, AllocError>

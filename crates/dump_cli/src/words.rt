@@ -1,14 +1,15 @@
 //! The words on the command line.
-ghost use Rattle.std.specs.Prelude.{◌≡◌, ◌≢◌, ◌≤◌, ℕ, Err, map, true, codes};
+ghost use Rattle.std.specs.Prelude.{◌≡◌, ◌≢◌, Err, map, true, codes};
 ghost use Rattle.clap.specs.Words.{found_of, rows_of};
 ghost use Rattle.dump_pipeline.specs.PlanViews.{worker_count, window_size};
-ghost use Rattle.dump_cli.specs.Words.{AnswersTo, meaning_of, flag_number, order_of};
+ghost use Rattle.cli_support.specs.Arguments.{flag_number};
+ghost use Rattle.cli_support.specs.steps.FilledFlags.{AreFilled, IsNumber};
+ghost use Rattle.dump_cli.specs.Words.{AnswersTo, meaning_of, order_of};
 ghost use Rattle.dump_cli.specs.steps.LawfulLines.{is_call, is_taken};
-ghost use Rattle.dump_cli.specs.steps.FilledFlags.{AreFilled, IsNumber};
 
 use crate::command::program;
 use clap::ArgMatches;
-use cli_support::{Usage, is_set, read_line, read_options, side_in};
+use cli_support::{Usage, is_set, read_line, read_number, read_options, side_in};
 use dump_pipeline::Plan;
 use dump_rules::{Options, Side};
 use std::alloc::Global;
@@ -71,16 +72,4 @@ fn read_plan(inner: &ArgMatches<'_>) -> Plan
         unreachable!()
     };
     plan
-}
-
-/// The number that the flag of this name gives.
-fn read_number(inner: &ArgMatches<'_>, name: &str) -> usize
-    requires { (most : ℕ) × IsNumber name.now most (rows_of (found_of inner.now)) }
-    ensures value { result ≡ flag_number name.now (rows_of (found_of inner.now)) }
-    ensures range { (most : ℕ) → IsNumber name.now most (rows_of (found_of inner.now)) → (1 ≤ result) × (result ≤ most) }
-{
-    let Some(number) = inner.get_one(name) else {
-        unreachable!()
-    };
-    number
 }

@@ -1,5 +1,5 @@
 -- What a parse of a command without subcommands gives of a number that has a default.
-use Rattle.dump_cli.proofs.Prelude.{◌≡◌, ◌∙◌, ◌⊎◌, ◌<◌, ◌≤◌, ℕ, true, false, not, zero, suc, refl, sym, ap, subst, List, [], ◌∷◌, length, map, Option, Some, None, is_some, codes, inl, inr, arith, lit≤, ⊤, find, slice_get, Bor, All, list_any, slice_index_or, option_and_then, option_map, unwrap_or, bytes_eq, cases_lt, eqb-true, length-map, nil_from_length, bytes_eq-Decides, IsNumber}
+use Rattle.cli_support.proofs.Prelude.{◌≡◌, ◌∙◌, ◌⊎◌, ◌<◌, ◌≤◌, ℕ, true, false, not, zero, suc, refl, sym, ap, subst, List, [], ◌∷◌, length, map, Option, Some, None, is_some, codes, inl, inr, arith, lit≤, ⊤, find, slice_get, Bor, All, list_any, slice_index_or, option_and_then, option_map, unwrap_or, bytes_eq, cases_lt, eqb-true, length-map, nil_from_length, bytes_eq-Decides, IsNumber}
 use Rattle.std.proofs.lemmas.Bool.{cases_Bool, or_cases}
 use Rattle.clap.specs.Built.{IsAuto, IsParsedFrom, SameRules}
 use Rattle.clap.specs.Facts.{Entry, EntryPasses, HasId, PassesArg, WantsDefault, args_of, groups_of, least_values, parser_of_value, unwrap_or_range}
