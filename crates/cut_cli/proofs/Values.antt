@@ -14,9 +14,9 @@ use Rattle.cut_cli.specs.declared.examine.Obstacle.TheVariants.{ComesBack, OddDe
 
 -- CommandLine
 
--- five options, and the prefixes
-six_rules : length cut_command.top.rules ≡ 6
-six_rules = refl
+-- seven options, and the prefixes
+eight_rules : length cut_command.top.rules ≡ 8
+eight_rules = refl
 
 no_sides : cut_command.subs ≡ []
 no_sides = refl
@@ -36,6 +36,8 @@ around : cut_of_words (given (codes "a" ∷ codes "--follow-copies" ∷ codes "-
       dry_run = false;
       quiet = true;
       verbose = false;
+      workers = 4;
+      window = 64;
     })
 unfolding clap_on_literals
 around = refl
@@ -50,9 +52,34 @@ others : cut_of_words (codes "p" ∷ codes "include" ∷ codes "--verbose" ∷ c
       dry_run = true;
       quiet = false;
       verbose = true;
+      workers = 4;
+      window = 64;
     })
 unfolding clap_on_literals
 others = refl
+
+plan : cut_of_words (given (codes "--workers" ∷ codes "2" ∷ codes "a" ∷ codes "--window=300" ∷ []))
+    ≡ Ok (record {
+      side = Exclude;
+      prefixes = codes "a" ∷ [];
+      follow = false;
+      drop = false;
+      dry_run = false;
+      quiet = false;
+      verbose = false;
+      workers = 2;
+      window = 300;
+    })
+unfolding clap_on_literals
+plan = refl
+
+no_worker : cut_of_words (given (codes "--workers" ∷ codes "0" ∷ codes "a" ∷ [])) ≡ Err Words
+unfolding clap_on_literals
+no_worker = refl
+
+too_wide_a_window : cut_of_words (given (codes "--window" ∷ codes "4097" ∷ codes "a" ∷ [])) ≡ Err Words
+unfolding clap_on_literals
+too_wide_a_window = refl
 
 no_prefix : cut_of_words (given []) ≡ Err Words
 unfolding clap_on_literals

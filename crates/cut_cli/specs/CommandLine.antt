@@ -1,7 +1,7 @@
 -- The command that clap reads the arguments after the side by.
 use Rattle.std.specs.Prelude.{codes}
 use Rattle.clap.specs.Words.{App, with_rule}
-use Rattle.cli_support.specs.FilterCommand.{bare_command, prefixes, switch}
+use Rattle.cli_support.specs.FilterCommand.{bare_command, number, prefixes, switch}
 
 -- options in any order, before, between and after the prefixes
 abbrev pub cut_command : App
@@ -10,4 +10,5 @@ cut_command =
     let drops = with_rule copies (switch (codes "drop-empty-revs")) in
     let dry = with_rule drops (switch (codes "dry-run")) in
     let said = with_rule (with_rule dry (switch (codes "quiet"))) (switch (codes "verbose")) in
-    with_rule said prefixes
+    let plan = with_rule (with_rule said (number (codes "workers") 64 (codes "4"))) (number (codes "window") 4096 (codes "64")) in
+    with_rule plan prefixes

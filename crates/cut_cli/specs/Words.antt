@@ -1,17 +1,18 @@
 -- What the program's arguments mean, by the side and by what clap finds after it.
-use Rattle.std.specs.Prelude.{Bool, ◌||◌, ◌&&◌, List, [], Result, Ok, Err, codes, drop, map, unwrap_or, if◌then◌else◌}
+use Rattle.std.specs.Prelude.{ℕ, Bool, ◌||◌, ◌&&◌, List, [], Result, Ok, Err, codes, drop, map, unwrap_or, if◌then◌else◌}
 use Rattle.std.specs.List.{list_any}
 use Rattle.clap.specs.Walk.{is_empty}
 use Rattle.clap.specs.Words.{Row, Text, all_of}
 use Rattle.dump_rules.specs.declared.options.Side.{Side}
-use Rattle.cli_support.specs.Arguments.{Answers, is_set, meaning_in}
+use Rattle.dump_pipeline.specs.PlanViews.{worker_count, window_size}
+use Rattle.cli_support.specs.Arguments.{Answers, flag_number, is_set, meaning_in}
 use Rattle.cli_support.specs.declared.usage.Usage.{Usage}
 use Rattle.cli_support.specs.declared.usage.Usage.TheVariants.{Words}
 use Rattle.cut_cli.specs.CommandLine.{cut_command}
 use Rattle.cut_cli.specs.declared.words.Call.{Call}
 
 -- what a call asks for: a side, prefixes, whether copies are followed, whether emptied revisions are dropped, whether
--- nothing is written, and what is reported
+-- nothing is written, what is reported, how many workers there are, and how wide their window is
 pub record CutMeaning : Type 0 where
   pub side : Side
   pub prefixes : List Text
@@ -20,6 +21,8 @@ pub record CutMeaning : Type 0 where
   pub dry_run : Bool
   pub quiet : Bool
   pub verbose : Bool
+  pub workers : ℕ
+  pub window : ℕ
 
 abbrev pub cut_meaning : Call → CutMeaning
 cut_meaning call = record {
@@ -30,6 +33,8 @@ cut_meaning call = record {
   dry_run = call.dry_run;
   quiet = call.quiet;
   verbose = call.verbose;
+  workers = worker_count call.plan;
+  window = window_size call.plan;
 }
 
 -- the prefixes of the rows
@@ -50,6 +55,8 @@ cut_of_side side rows = if are_refused rows then Err Words else Ok (record {
   dry_run = is_set (codes "dry-run") rows;
   quiet = is_set (codes "quiet") rows;
   verbose = is_set (codes "verbose") rows;
+  workers = flag_number (codes "workers") rows;
+  window = flag_number (codes "window") rows;
 })
 
 -- what the arguments ask for: only a line that begins with a side and that the command takes asks for something

@@ -28,11 +28,6 @@ pub const PROGRAM: Program = Program {
     failed: 1,
 };
 
-/// How many workers check records, and how many records are under way at most.
-const WORKERS: usize = 4;
-
-const WINDOW: usize = 64;
-
 /// The whole program, with its exit status. The reader is thought to have so many bytes; the number spares growing and has
 /// no other meaning.
 pub fn drive<'a, H: Threads + Wait + Sync, R: Read, W: Write, E: Write>(
@@ -46,7 +41,7 @@ pub fn drive<'a, H: Threads + Wait + Sync, R: Read, W: Write, E: Write>(
 ) -> u8
     ensures { DrivesCut (cut_of_words (map (λ word. word.now) words.now)) (R.remaining reader.old) (W.contents writer.old) (W.contents writer.new) result }
 {
-    match call_of(alloc, words) {
+    match call_of(alloc, words, errors) {
         Ok(call) => answer_call(rt, alloc, &call, size, reader, writer, errors),
         Err(usage) => refuse(errors, PROGRAM, usage),
     }
@@ -123,9 +118,10 @@ fn write_cut<H: Threads + Wait + Sync, W: Write, E: Write>(
         return fail(errors, PROGRAM, Cause::Memory, 0);
     };
     let mut sink = OutMut::new(writer, buffer);
+    let options = &ready.options;
     let answer = match &ready.deletes {
-        None => run_and_flush(rt, alloc, dump, &ready.options, &mut sink),
-        Some(deletes) => run_and_trim(rt, alloc, dump, &ready.options, deletes, &mut sink),
+        None => run_and_flush(rt, alloc, dump, options, call.plan, &mut sink),
+        Some(deletes) => run_and_trim(rt, alloc, dump, options, deletes, call.plan, &mut sink),
     };
     let _ = sink.into_inner();
     tell(errors, dump, answer, call.quiet, ready)
@@ -137,6 +133,7 @@ fn run_and_flush<H: Threads + Wait + Sync, W: Write>(
     alloc: Global,
     dump: &[u8],
     options: &Options,
+    plan: Plan,
     sink: &mut OutMut<'_, W>,
 ) -> Answer
     requires waiting { sink.old.waiting ≡ [] }
@@ -144,17 +141,9 @@ fn run_and_flush<H: Threads + Wait + Sync, W: Write>(
     ensures ran { RanCut options.now None dump.now sink.old.out.taken sink.new.out.taken result }
     ensures loan { loan_of sink.new ≡ loan_of sink.old }
 {
-    let answer = run(rt, alloc, dump, options, plan(), &FreeGate, sink);
+    let answer = run(rt, alloc, dump, options, plan, &FreeGate, sink);
     let ending = write_ending(alloc, answer, sink);
     flush_after(sink, answer, ending)
-}
-
-/// How the run is spread over threads.
-pub(crate) fn plan() -> Plan {
-    let Some(plan) = Plan::new(WORKERS, WINDOW) else {
-        unreachable!()
-    };
-    plan
 }
 
 /// The line that ends the output where the filter found a fault. No reader of dumps takes it for a record.

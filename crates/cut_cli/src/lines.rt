@@ -15,7 +15,7 @@ use std::io::{self, Write};
 const SHOWN: usize = 10;
 
 /// Writes a text without control characters, and with each byte that is no UTF-8 as a number.
-fn write_seen<E: Write>(errors: &mut E, text: &[u8]) -> io::Result<()> {
+pub fn write_seen<E: Write>(errors: &mut E, text: &[u8]) -> io::Result<()> {
     for chunk in text.utf8_chunks() {
         for letter in chunk.valid().chars() {
             if letter.is_control() {

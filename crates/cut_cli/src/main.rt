@@ -5,6 +5,7 @@ mod command;
 mod drive;
 mod examine;
 mod lines;
+mod mistakes;
 mod prefixes;
 mod read;
 mod sizes;
@@ -14,6 +15,7 @@ mod words;
 
 use cli_support::{Usage, arguments, as_texts, input_size, refuse};
 use drive::{PROGRAM, drive};
+use mistakes::{Mistake, write_mistake};
 use std::process::ExitCode;
 use std::sync::Wait;
 use std::thread::Threads;
@@ -24,7 +26,12 @@ mod tests;
 fn main(rt: HostRuntime) -> ExitCode {
     let status = match run_words(&rt, &rt) {
         Ok(status) => status,
-        Err(usage) => refuse(&mut rt.stderr(), PROGRAM, usage),
+        Err(usage) => {
+            if usage == Usage::Words {
+                let _ = write_mistake(&mut rt.stderr(), Mistake::NotText);
+            }
+            refuse(&mut rt.stderr(), PROGRAM, usage)
+        }
     };
     ExitCode::from(status)
 }

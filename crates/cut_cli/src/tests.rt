@@ -97,17 +97,22 @@ fn other_calls_are_refused(rt: HostRuntime) {
             (2, b"", line)
         )
     );
-    let usage = b"usage: svndumpcut include|exclude [OPTIONS] PREFIX...\n".as_slice();
+    let empty = b"svndumpcut: a prefix is empty; the root is /\n\
+usage: svndumpcut include|exclude [OPTIONS] PREFIX...\n"
+        .as_slice();
     assert!(rt;
         is_cut(
             &rt,
             rt.alloc(),
             &["svndumpcut", "exclude", ""],
-            (2, b"", usage)
+            (2, b"", empty)
         )
     );
     let words = ["svndumpcut", "exclude", "--quiet", "--verbose", "d"];
-    assert!(rt; is_cut(&rt, rt.alloc(), &words, (2, b"", usage)));
+    let both = b"svndumpcut: --quiet and --verbose exclude each other\n\
+usage: svndumpcut include|exclude [OPTIONS] PREFIX...\n"
+        .as_slice();
+    assert!(rt; is_cut(&rt, rt.alloc(), &words, (2, b"", both)));
 }
 
 const FILE: [&str; 4] = ["svndumpcut", "exclude", "--follow-copies", "d/f"];
@@ -135,7 +140,8 @@ fn broken_streams_are_failures(rt: HostRuntime) {
 
 #[test]
 fn arguments_or_no_memory(rt: HostRuntime) {
-    let answer = call_of(rt.alloc(), &FILE);
+    let mut lines = Vec::new(rt.alloc());
+    let answer = call_of(rt.alloc(), &FILE, &mut lines);
     let is_read = match answer {
         Ok(call) => call.side == Side::Exclude && call.follow && !call.dry_run && !call.quiet,
         Err(usage) => usage == Usage::Memory,

@@ -5,9 +5,9 @@ ghost use Rattle.dump_writer.specs.steps.SinkStates.{loan_of};
 ghost use Rattle.cut_cli.specs.Drive.{RanCut, cut_status};
 ghost use Rattle.cut_cli.specs.steps.Ended.{IsTrimmedPiece};
 
-use crate::drive::{ending, flush_after, plan, write_whole};
+use crate::drive::{ending, flush_after, write_whole};
 use dump_cut::Deletes;
-use dump_pipeline::{Answer, Failure, FreeGate, run};
+use dump_pipeline::{Answer, Failure, FreeGate, Plan, run};
 use dump_rules::Options;
 use dump_writer::{Chunk, Memory, MemorySink, OutMut, Piece, Trouble};
 use std::alloc::Global;
@@ -26,6 +26,7 @@ pub(crate) fn run_and_trim<H: Threads + Wait + Sync, W: Write>(
     dump: &[u8],
     options: &Options,
     deletes: &Deletes,
+    plan: Plan,
     sink: &mut OutMut<'_, W>,
 ) -> Answer
     requires waiting { sink.old.waiting ≡ [] }
@@ -35,7 +36,7 @@ pub(crate) fn run_and_trim<H: Threads + Wait + Sync, W: Write>(
     ensures loan { loan_of sink.new ≡ loan_of sink.old }
 {
     let mut filtered = MemorySink::new(alloc, MOST, Trouble::Never);
-    let answer = run(rt, alloc, dump, options, plan(), &FreeGate, &mut filtered);
+    let answer = run(rt, alloc, dump, options, plan, &FreeGate, &mut filtered);
     if let Answer::Failed { failure, .. } = answer {
         return failed_first(failure);
     }

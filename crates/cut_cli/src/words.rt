@@ -1,15 +1,23 @@
 //! The arguments of a call.
-ghost use Rattle.std.specs.Prelude.{◌≡◌, ◌≢◌, Err, map, true};
+ghost use Rattle.std.specs.Prelude.{◌≡◌, ◌≢◌, ◌≤◌, Err, IfOk, map, true, codes};
 ghost use Rattle.std.specs.List.{list_any};
+ghost use Rattle.clap.specs.Built.{IsParsedFrom};
 ghost use Rattle.clap.specs.Walk.{is_empty};
-ghost use Rattle.clap.specs.Words.{found_of, rows_of};
+ghost use Rattle.clap.specs.Words.{app_of, found_of, is_simple_and_free, rows_of};
+ghost use Rattle.cli_support.specs.steps.LineReading.{ReadsLine};
+ghost use Rattle.cli_support.specs.Arguments.{flag_number};
+ghost use Rattle.cli_support.specs.steps.FilledFlags.{AreFilled};
+ghost use Rattle.dump_pipeline.specs.PlanViews.{worker_count, window_size};
 ghost use Rattle.cut_cli.specs.Words.{TellsCut, cut_of_words, cut_of_side};
 
 use crate::command::cut_command;
-use clap::ArgMatches;
-use cli_support::{Usage, is_set, read_line, read_prefixes, side_in};
+use crate::mistakes::{Mistake, write_mistake, write_refused_line};
+use clap::{ArgMatches, Command};
+use cli_support::{Usage, is_set, read_number, read_prefixes, refusal, side_in};
+use dump_pipeline::Plan;
 use dump_rules::Side;
 use std::alloc::Global;
+use std::io::Write;
 
 /// What a call asks for.
 #[derive(Drop)]
@@ -27,24 +35,67 @@ pub struct Call<'a> {
     pub quiet: bool,
     /// Whether lists are reported whole.
     pub verbose: bool,
+    /// How the filter's work is spread over threads.
+    pub plan: Plan,
 }
 
-/// What the arguments ask for. `words[0]` is the program's name.
-pub fn call_of<'a>(alloc: Global, words: &'a [&'a str]) -> Result<Call<'a>, Usage>
+/// What the arguments ask for. It says what is wrong with arguments that ask for nothing. `words[0]` is the program's name.
+pub fn call_of<'a, E: Write>(
+    alloc: Global,
+    words: &'a [&'a str],
+    errors: &mut E,
+) -> Result<Call<'a>, Usage>
     ensures { TellsCut (cut_of_words (map (λ word. word.now) words.now)) result }
 {
     let Some((_, line)) = words.split_first() else {
-        return Err(Usage::Words);
+        return wrong(errors, Mistake::NoArgument);
     };
     let Some(side) = side_in(line) else {
-        return Err(Usage::Words);
+        return wrong(errors, first_mistake(line));
     };
     let Ok(command) = cut_command(alloc) else {
         return Err(Usage::Memory);
     };
-    match read_line(command, line) {
-        Ok(matches) => read_call(alloc, side, &matches),
+    match read_named(alloc, command, line, errors) {
+        Ok(matches) => read_call(alloc, side, &matches, errors),
         Err(usage) => Err(usage),
+    }
+}
+
+/// What is wrong with a line that doesn't begin with a side.
+fn first_mistake<'a>(line: &'a [&'a str]) -> Mistake<'a> {
+    match line.first() {
+        Some(word) => Mistake::NoSubcommand(word),
+        None => Mistake::NoArgument,
+    }
+}
+
+/// Says what is wrong with the arguments.
+fn wrong<'a, E: Write>(errors: &mut E, mistake: Mistake<'_>) -> Result<Call<'a>, Usage>
+    ensures { result ≡ Err Usage.Words }
+{
+    let _ = write_mistake(errors, mistake);
+    Err(Usage::Words)
+}
+
+/// What a command finds behind the first argument of a line, which is the side. It says what is wrong with a line that the
+/// command doesn't take.
+fn read_named<'a, E: Write>(
+    alloc: Global,
+    command: Command<'a>,
+    line: &'a [&'a str],
+    errors: &mut E,
+) -> Result<ArgMatches<'a>, Usage>
+    ensures parsed { IfOk result (λ matches. IsParsedFrom command.entry matches) }
+    ensures read { is_simple_and_free (app_of command.entry) ≡ true
+        → ReadsLine (app_of command.entry) (map (λ word. word.now) line.now) result }
+{
+    match command.try_get_matches_from(line) {
+        Ok(matches) => Ok(matches),
+        Err(error) => {
+            let _ = write_refused_line(errors, alloc, line, &error);
+            Err(refusal(&error))
+        }
     }
 }
 
@@ -63,7 +114,13 @@ fn is_one_empty(prefixes: &[&[u8]]) -> bool
 }
 
 /// What a side and the arguments after it ask for.
-fn read_call<'a>(alloc: Global, side: Side, matches: &ArgMatches<'a>) -> Result<Call<'a>, Usage>
+fn read_call<'a, E: Write>(
+    alloc: Global,
+    side: Side,
+    matches: &ArgMatches<'a>,
+    errors: &mut E,
+) -> Result<Call<'a>, Usage>
+    requires { AreFilled (rows_of (found_of matches.now)) }
     ensures { TellsCut (cut_of_side side (rows_of (found_of matches.now))) result }
 {
     let Ok(prefixes) = read_prefixes(alloc, matches) else {
@@ -71,8 +128,11 @@ fn read_call<'a>(alloc: Global, side: Side, matches: &ArgMatches<'a>) -> Result<
     };
     let quiet = is_set(matches, "quiet");
     let verbose = is_set(matches, "verbose");
-    if is_one_empty(&prefixes) || (quiet && verbose) {
-        return Err(Usage::Words);
+    if is_one_empty(&prefixes) {
+        return wrong(errors, Mistake::EmptyPrefix);
+    }
+    if quiet && verbose {
+        return wrong(errors, Mistake::QuietAndVerbose);
     }
     Ok(Call {
         side,
@@ -82,5 +142,22 @@ fn read_call<'a>(alloc: Global, side: Side, matches: &ArgMatches<'a>) -> Result<
         dry_run: is_set(matches, "dry-run"),
         quiet,
         verbose,
+        plan: plan_of(
+            read_number(matches, "workers"),
+            read_number(matches, "window"),
+        ),
     })
+}
+
+/// So many workers, and a window of so many records.
+fn plan_of(workers: usize, window: usize) -> Plan
+    requires workers { (1 ≤ workers) × (workers ≤ 64) }
+    requires window { (1 ≤ window) × (window ≤ 4096) }
+    ensures workers { worker_count result ≡ workers }
+    ensures window { window_size result ≡ window }
+{
+    let Some(plan) = Plan::new(workers, window) else {
+        unreachable!()
+    };
+    plan
 }

@@ -13,5 +13,7 @@ returns c =
     let e3 = one_more _ _ _ _ _ c.in_ok-arg-3.ensures c.switch-3.ensures.local e2 c.switch-3.ensures.rule in
     let e4 = one_more _ _ _ _ _ c.in_ok-arg-4.ensures c.switch-4.ensures.local e3 c.switch-4.ensures.rule in
     let e5 = one_more _ _ _ _ _ c.in_ok-arg-5.ensures c.switch-5.ensures.local e4 c.switch-5.ensures.rule in
-    IfOk-weaker c.arg-6.result _ _
-    (λ r adds. one_more _ _ _ _ _ adds c.prefixes.ensures.local e5 c.prefixes.ensures.rule) c.arg-6.ensures
+    let e6 = one_more _ _ _ _ _ c.in_ok-arg-6.ensures c.workers.ensures.local e5 c.workers.ensures.rule in
+    let e7 = one_more _ _ _ _ _ c.in_ok-arg-7.ensures c.window.ensures.local e6 c.window.ensures.rule in
+    IfOk-weaker c.arg-8.result _ _
+    (λ r adds. one_more _ _ _ _ _ adds c.prefixes.ensures.local e7 c.prefixes.ensures.rule) c.arg-8.ensures

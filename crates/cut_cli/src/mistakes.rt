@@ -1,0 +1,110 @@
+//! The lines that name what is wrong with the arguments. What goes wrong in writing them is ignored: there is nowhere left
+//! to say so.
+use crate::lines::write_seen;
+use clap::Error;
+use clap::error::ErrorKind;
+use std::alloc::Global;
+use std::io::{self, Write};
+
+/// What is wrong with the arguments.
+#[derive(Clone, Copy)]
+pub enum Mistake<'a> {
+    /// There is no argument.
+    NoArgument,
+    /// The first argument is no subcommand.
+    NoSubcommand(&'a str),
+    /// No prefix is given.
+    NoPrefix,
+    /// A prefix is empty.
+    EmptyPrefix,
+    /// Two options exclude each other.
+    QuietAndVerbose,
+    /// An argument is not UTF-8.
+    NotText,
+}
+
+/// What is wrong, after the program's name.
+fn write_text<E: Write>(errors: &mut E, mistake: Mistake<'_>) -> io::Result<()> {
+    match mistake {
+        Mistake::NoArgument => write!(errors, "a subcommand is missing"),
+        Mistake::NoSubcommand(word) => {
+            write!(errors, "unknown subcommand '")?;
+            write_seen(errors, word.as_bytes())?;
+            write!(errors, "'")
+        }
+        Mistake::NoPrefix => write!(errors, "a prefix is missing"),
+        Mistake::EmptyPrefix => write!(errors, "a prefix is empty; the root is /"),
+        Mistake::QuietAndVerbose => write!(errors, "--quiet and --verbose exclude each other"),
+        Mistake::NotText => write!(errors, "an argument is not UTF-8"),
+    }
+}
+
+/// Writes the line of a mistake.
+pub fn write_mistake<E: Write>(errors: &mut E, mistake: Mistake<'_>) -> io::Result<()> {
+    write!(errors, "svndumpcut: ")?;
+    write_text(errors, mistake)?;
+    writeln!(errors, "")
+}
+
+/// Why an option of `svndumpfilter` is none of this program.
+fn foreign(word: &str) -> Option<&'static str> {
+    let name = match word.split_once('=') {
+        Some((name, _)) => name,
+        None => word,
+    };
+    match name {
+        "--preserve-revprops" => Some("--preserve-revprops is implied"),
+        "--skip-missing-merge-sources" => Some("--skip-missing-merge-sources is implied"),
+        "--renumber-revs" => Some("--renumber-revs is implied by --drop-empty-revs"),
+        "--drop-all-empty-revs" => Some("there is no --drop-all-empty-revs"),
+        "--pattern" => Some("there is no --pattern"),
+        _ => None,
+    }
+}
+
+/// The first of these options in a line.
+fn first_foreign(line: &[&str]) -> Option<&'static str> {
+    for word in line {
+        if *word == "--" {
+            return None;
+        }
+        if let Some(text) = foreign(word) {
+            return Some(text);
+        }
+    }
+    None
+}
+
+/// Writes what clap says of a mistake: its first paragraph, without the word that it begins with.
+fn write_message<E: Write>(errors: &mut E, alloc: Global, error: &Error) -> io::Result<()> {
+    let Ok(message) = format!(in alloc; "{error}") else {
+        return write!(errors, "the arguments are wrong");
+    };
+    let message = message.as_str();
+    let message = message.strip_prefix("error: ").unwrap_or(message);
+    let first = match message.split_once("\n\n") {
+        Some((first, _)) => first,
+        None => message.strip_suffix("\n").unwrap_or(message),
+    };
+    write_seen(errors, first.as_bytes())
+}
+
+/// Writes the line of arguments that clap refuses.
+pub fn write_refused_line<E: Write>(
+    errors: &mut E,
+    alloc: Global,
+    line: &[&str],
+    error: &Error,
+) -> io::Result<()> {
+    match error.kind() {
+        ErrorKind::OutOfMemory => return Ok(()),
+        ErrorKind::MissingRequiredArgument => return write_mistake(errors, Mistake::NoPrefix),
+        _ => {}
+    }
+    write!(errors, "svndumpcut: ")?;
+    match first_foreign(line) {
+        Some(text) if error.kind() == ErrorKind::UnknownArgument => write!(errors, "{text}")?,
+        _ => write_message(errors, alloc, error)?,
+    }
+    writeln!(errors, "")
+}
