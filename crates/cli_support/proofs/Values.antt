@@ -1,6 +1,9 @@
 -- Worked values of the definitions, computed and proved by the kernel.
 use Rattle.cli_support.proofs.Prelude.{◌≡◌, refl, true, false, List, [], ◌∷◌, ℕ, length, lit<, lit≤, Some, None, Ok, Err, codes, Include, Exclude, Pad, DropEmptied, DropAll, Answers, AreFilled, IsNumber, empty_of, filter_command, flag_number, is_call_of, is_set, meaning_in, named_side, number, prefixes, refusal_status, settings_of, side_in, switch, Words, BothDrops, Memory}
+use Rattle.std.proofs.Common.{inl, inr}
 use Rattle.clap.specs.Words.{App, Row, with_rule}
+use Rattle.cli_support.specs.Info.{Prints, TakesFront, info_in, info_of, named_info}
+use Rattle.cli_support.specs.declared.info.Info.TheVariants.{Help, Version}
 use Rattle.clap.specs.declared.builder.value_parser.Reading.TheVariants as reading
 use Rattle.clap.proofs.OnLiterals.{clap_on_literals}
 
@@ -132,3 +135,27 @@ sixty_four = (codes "64", refl, ((lit< tt, (lit< tt, (lit< tt, tt))), lit< tt, l
 
 filled : AreFilled plan_rows
 filled = record { workers = twelve_workers; window = sixty_four }
+
+-- Info
+
+help_is_an_option : named_info (codes "--help") ≡ Some Help
+help_is_an_option = refl
+
+no_short_option : named_info (codes "-h") ≡ None
+no_short_option = refl
+
+-- the first of them is answered
+both_texts : info_of (codes "p" ∷ codes "exclude" ∷ codes "--version" ∷ codes "--help" ∷ []) ≡ Some Version
+both_texts = refl
+
+prefix_behind : info_in (codes "exclude" ∷ codes "--" ∷ codes "--help" ∷ []) ≡ None
+prefix_behind = refl
+
+first_byte_alone : TakesFront (Some []) (Some (codes "a")) (codes "ab")
+first_byte_alone = (codes "a", (codes "b", refl), refl)
+
+printed : Prints 1 (codes "ab") (Some []) (Some (codes "ab")) 0
+printed = inl (refl, refl)
+
+printed_in_part : Prints 1 (codes "ab") (Some []) (Some (codes "a")) 1
+printed_in_part = inr (first_byte_alone, refl)

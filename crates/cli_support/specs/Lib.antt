@@ -1,3 +1,4 @@
 pub mod Arguments
 pub mod FilterCommand
+pub mod Info
 pub mod steps

@@ -25,6 +25,8 @@
 //!
 //! [`refusal`] is why a program refuses a line, where it reads what clap says of it by itself.
 //!
+//! [`info_of`] says whether arguments ask for help or the version, and [`print_text`] prints a text.
+//!
 //! [`arguments`] are those of the process, and [`input_size`] is a guess at the size of its input. [`read_all`] reads the
 //! input, [`output_buffer`] is the buffer of an `OutMut`, and [`finish`] hands on what waits there. [`refuse`] and [`fail`]
 //! write the line of what ended a [`Program`], and give its status.
@@ -32,6 +34,7 @@
 
 mod buffered;
 mod flags;
+mod info;
 mod input;
 mod line;
 mod outcome;
@@ -40,6 +43,7 @@ mod usage;
 
 pub use buffered::{finish, output_buffer};
 pub use flags::{filter_command, prefixes, switch, window, workers};
+pub use info::{Info, info_of, print_text};
 pub use input::{Unread, read_all};
 pub use line::{is_set, read_line, read_number, read_options, read_prefixes, side_in};
 pub use outcome::{Cause, Program, fail, fail_unread, refuse};

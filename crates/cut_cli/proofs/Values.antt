@@ -1,5 +1,5 @@
 -- Worked values of the definitions, computed by the kernel.
-use Rattle.std.proofs.Common.{◌≡◌, List, [], ◌∷◌, length, Ok, Err, codes, refl, true, false}
+use Rattle.std.proofs.Common.{◌≡◌, List, [], ◌∷◌, length, None, Some, Ok, Err, inl, codes, refl, true, false}
 use Rattle.clap.specs.Words.{Text}
 use Rattle.clap.proofs.OnLiterals.{clap_on_literals}
 use Rattle.cli_support.specs.declared.usage.Usage.TheVariants.{BothDrops, Words}
@@ -8,7 +8,9 @@ use Rattle.dump_pipeline.specs.declared.answer.Failure.TheVariants.{Memory}
 use Rattle.dump_rules.specs.declared.options.Side.TheVariants.{Exclude, Include}
 use Rattle.dump_text.specs.declared.fault.FaultKind.TheVariants.{Md5}
 use Rattle.cut_cli.specs.CommandLine.{cut_command}
-use Rattle.cut_cli.specs.Drive.{obstacle_status, stop_line, stop_line_of}
+use Rattle.cli_support.specs.declared.info.Info.TheVariants.{Version}
+use Rattle.cut_cli.specs.Drive.{AnswersArguments, obstacle_status, stop_line, stop_line_of}
+use Rattle.cut_cli.specs.Texts.{info_text}
 use Rattle.cut_cli.specs.Words.{TellsCut, cut_of_words}
 use Rattle.cut_cli.specs.declared.examine.Obstacle.TheVariants.{ComesBack, OddDelete}
 
@@ -100,6 +102,11 @@ options_of_the_filter = refl
 refused_for_others : ¬ TellsCut (Err BothDrops) (Err Words)
 refused_for_others e = cc
 
+-- Texts
+
+version : info_text Version ≡ codes "svndumpcut, version 1.2.0\n"
+version = refl
+
 -- Drive
 
 no_last_line : stop_line_of (Failed Memory 3) ≡ []
@@ -113,3 +120,6 @@ returns_have_a_status = refl
 
 others_have_one : obstacle_status (OddDelete 3) ≡ 1
 others_have_one = refl
+
+version_is_printed : AnswersArguments (Some Version) (Err Words) None (Some []) (Some (info_text Version)) 0
+version_is_printed = inl (refl, refl)

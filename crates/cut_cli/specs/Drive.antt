@@ -15,9 +15,12 @@ use Rattle.dump_pipeline.specs.declared.answer.Answer.{Answer}
 use Rattle.dump_pipeline.specs.declared.answer.Answer.TheVariants.{Clean, Fault, Failed}
 use Rattle.dump_pipeline.specs.declared.answer.Failure.{Failure}
 use Rattle.cli_support.specs.Arguments.{refusal_status}
+use Rattle.cli_support.specs.Info.{Prints}
+use Rattle.cli_support.specs.declared.info.Info.{Info}
 use Rattle.cli_support.specs.declared.usage.Usage.{Usage}
 use Rattle.dump_cut.specs.TrimmedCopies.{IsTrimmedBy}
 use Rattle.cut_cli.specs.Cuts.{IsCutText, IsObstacleTo, IsReadyFor, IsTrimmedIf}
+use Rattle.cut_cli.specs.Texts.{info_text}
 use Rattle.cut_cli.specs.Words.{CutMeaning, TellsCut, cut_meaning}
 use Rattle.cut_cli.specs.declared.examine.Obstacle.{Obstacle}
 use Rattle.cut_cli.specs.declared.examine.Obstacle.TheVariants as obstacles
@@ -123,3 +126,9 @@ ObeysCut (Ok call) input old new status = AnswersCall (cut_meaning call) input o
 abbrev pub DrivesCut : Result CutMeaning Usage → Option (List ℕ) → Option (List ℕ) → Option (List ℕ) → ℕ → Type 0
 DrivesCut meaning input old new status = (answer : Result Call Usage) × TellsCut meaning answer
     × ObeysCut answer input old new status
+
+-- arguments that ask for a text in place of a cut get it, and the input isn't read; others are answered by their meaning
+abbrev pub AnswersArguments : Option Info → Result CutMeaning Usage → Option (List ℕ) → Option (List ℕ) → Option (List ℕ)
+    → ℕ → Type 0
+AnswersArguments (Some info) meaning input old new status = Prints 1 (info_text info) old new status
+AnswersArguments None meaning input old new status = DrivesCut meaning input old new status

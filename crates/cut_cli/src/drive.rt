@@ -2,15 +2,19 @@
 ghost use Rattle.std.specs.Prelude.{◌≡◌, [], IfOk, OnErr, OnOk, map};
 ghost use Rattle.std.specs.Io.KnownBytes.{Appends, Keeps};
 ghost use Rattle.dump_writer.specs.steps.SinkStates.{lent_taken, loan_of};
-ghost use Rattle.cut_cli.specs.Drive.{AnswersCall, CutsDump, DrivesCut, RanCut, TakesPart, WritesCut, stop_line, stop_line_of, obstacle_status, cut_status};
+ghost use Rattle.cut_cli.specs.Drive.{AnswersArguments, AnswersCall, CutsDump, DrivesCut, RanCut, TakesPart, WritesCut, stop_line, stop_line_of, obstacle_status, cut_status};
+ghost use Rattle.cli_support.specs.Info.{info_of};
 ghost use Rattle.cut_cli.specs.Words.{cut_of_words, cut_meaning};
 ghost use Rattle.cut_cli.specs.steps.Ended.{TellsAfter};
 
 use crate::examine::{Obstacle, Ready, examine};
 use crate::lines::{write_fault, write_no_include, write_report};
+use crate::texts::info_text;
 use crate::trim::run_and_trim;
 use crate::words::{Call, call_of};
-use cli_support::{Cause, Program, fail, fail_unread, finish, output_buffer, read_all, refuse};
+use cli_support::{
+    Cause, Program, fail, fail_unread, finish, info_of, output_buffer, print_text, read_all, refuse,
+};
 use dump_changes::Memory;
 use dump_cut::Deletes;
 use dump_pipeline::{Answer, Failure, FreeGate, Plan, run};
@@ -31,6 +35,24 @@ pub const PROGRAM: Program = Program {
 /// The whole program, with its exit status. The reader is thought to have so many bytes; the number spares growing and has
 /// no other meaning.
 pub fn drive<'a, H: Threads + Wait + Sync, R: Read, W: Write, E: Write>(
+    rt: &H,
+    alloc: Global,
+    words: &'a [&'a str],
+    size: u64,
+    reader: &mut R,
+    writer: &mut W,
+    errors: &mut E,
+) -> u8
+    ensures { AnswersArguments (info_of (map (λ word. word.now) words.now)) (cut_of_words (map (λ word. word.now) words.now)) (R.remaining reader.old) (W.contents writer.old) (W.contents writer.new) result }
+{
+    match info_of(words) {
+        Some(info) => print_text(alloc, info_text(info), PROGRAM, writer, errors),
+        None => drive_cut(rt, alloc, words, size, reader, writer, errors),
+    }
+}
+
+/// The same of arguments that ask for no text.
+fn drive_cut<'a, H: Threads + Wait + Sync, R: Read, W: Write, E: Write>(
     rt: &H,
     alloc: Global,
     words: &'a [&'a str],

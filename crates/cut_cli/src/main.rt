@@ -10,6 +10,7 @@ mod prefixes;
 mod read;
 mod sizes;
 mod spot;
+mod texts;
 mod trim;
 mod words;
 

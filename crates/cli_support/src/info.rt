@@ -1,0 +1,99 @@
+//! The texts that a program prints in place of its work.
+ghost use Rattle.std.specs.Prelude.{◌≡◌, [], OnErr, OnOk, map};
+ghost use Rattle.std.specs.Io.KnownBytes.{Appends};
+ghost use Rattle.dump_writer.specs.steps.SinkStates.{loan_of};
+ghost use Rattle.cli_support.specs.Info.{Prints, TakesFront, info_in, info_of, named_info};
+
+use crate::buffered::{finish, output_buffer};
+use crate::outcome::{Cause, Program, fail};
+use dump_writer::{Chunk, OutMut, Piece, write_piece};
+use std::alloc::Global;
+use std::io::Write;
+
+/// What is asked for in place of a program's work.
+#[derive(Clone, Copy, Debug, PartialEq, Eq)]
+pub enum Info {
+    Help,
+    Version,
+}
+
+/// What the arguments ask for in place of the program's work. `words[0]` is the program's name.
+pub fn info_of(words: &[&str]) -> Option<Info>
+    ensures { result ≡ info_of (map (λ word. word.now) words.now) }
+{
+    match words.split_first() {
+        Some((_, line)) => info_in(line),
+        None => None,
+    }
+}
+
+/// What the first option of a line that asks for a text asks for. After two minus signs there are no options.
+fn info_in(line: &[&str]) -> Option<Info>
+    ensures { result ≡ info_in (map (λ word. word.now) line.now) }
+{
+    let mut left = line;
+    while let [word, others @ ..] = left {
+        if *word == "--" {
+            return None;
+        }
+        let info = named_info(word);
+        if info.is_some() {
+            return info;
+        }
+        left = others;
+    }
+    None
+}
+
+/// What this option asks for.
+fn named_info(word: &str) -> Option<Info>
+    ensures { result ≡ named_info word.now }
+{
+    match word {
+        "--help" => Some(Info::Help),
+        "--version" => Some(Info::Version),
+        _ => None,
+    }
+}
+
+/// Prints a text, and gives the status: 0, or that of a failure, of which it writes the line.
+pub fn print_text<W: Write, E: Write>(
+    alloc: Global,
+    text: &str,
+    program: Program,
+    writer: &mut W,
+    errors: &mut E,
+) -> u8
+    ensures { Prints program.failed text.now (W.contents writer.old) (W.contents writer.new) result }
+{
+    let Ok(buffer) = output_buffer(alloc) else {
+        return fail(errors, program, Cause::Memory, 0);
+    };
+    let mut sink = OutMut::new(writer, buffer);
+    let sent = send(alloc, text.as_bytes(), &mut sink);
+    let written = sink.written();
+    let _ = sink.into_inner();
+    match sent {
+        Ok(()) => 0,
+        Err(cause) => fail(errors, program, cause, written),
+    }
+}
+
+/// Writes a text, and hands on all of it.
+fn send<W: Write>(alloc: Global, text: &[u8], sink: &mut OutMut<'_, W>) -> Result<(), Cause>
+    requires waiting { sink.old.waiting ≡ [] }
+    requires start { sink.old.out.start ≡ sink.old.out.taken }
+    ensures whole { OnOk result (Appends sink.old.out.taken sink.new.out.taken text.now) }
+    ensures part { OnErr result (TakesFront sink.old.out.taken sink.new.out.taken text.now) }
+    ensures loan { loan_of sink.new ≡ loan_of sink.old }
+{
+    let mut piece = Piece::new(alloc);
+    if piece.push(Chunk::Lent(text)).is_err() {
+        return Err(Cause::Memory);
+    }
+    let is_down = write_piece(sink, &piece).is_err();
+    match finish(sink, is_down) {
+        Ok(()) => Ok(()),
+        Err(_) => Err(Cause::Sink),
+    }
+}

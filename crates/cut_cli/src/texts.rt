@@ -1,0 +1,40 @@
+//! The texts of `--help` and `--version`.
+ghost use Rattle.std.specs.Prelude.{◌≡◌};
+ghost use Rattle.cut_cli.specs.Texts.{info_text};
+
+use cli_support::Info;
+
+/// The text of `--help`.
+pub const HELP: &str = "usage: svndumpcut exclude [OPTIONS] PREFIX...
+
+Reads the dump of a whole Subversion repository on standard input, and writes it
+without the nodes at and below each prefix on standard output.
+
+  --follow-copies    exclude also what is copied from excluded content
+  --drop-empty-revs  drop revisions that lose all of their nodes, and renumber
+  --dry-run          do everything but write the new dump
+  --quiet            write only warnings, faults and failures
+  --verbose          write lists whole
+  --workers N        check records by N workers, 1 to 64; the default is 4
+  --window N         at most N records under way, 1 to 4096; the default is 64
+  --help             print this text
+  --version          print the version
+  --                 every argument after this one is a prefix
+
+The exit status is 0 if the dump is cut, 1 after a fault or a failure, 2 if the
+arguments are wrong, and 3 if copies would bring excluded content back.
+The manual page svndumpcut(1) has more.
+";
+
+/// The text of `--version`. CHANGELOG.md has this number.
+pub const VERSION: &str = "svndumpcut, version 1.2.0\n";
+
+/// The text that is asked for.
+pub fn info_text(info: Info) -> &'static str
+    ensures { result.now ≡ info_text info }
+{
+    match info {
+        Info::Help => HELP,
+        Info::Version => VERSION,
+    }
+}
