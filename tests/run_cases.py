@@ -12,6 +12,8 @@ cases have one name. It has these files, where PROGRAM is what stands behind svn
     PROGRAM.stdout  what it writes on standard output
     PROGRAM.stderr  what it writes on standard error
     PROGRAM.args    its arguments, where they are not those of args
+    FILE            a file that is an argument, or an argument's part after its first =. The program runs in the case's
+                    directory
     PROGRAM.cuts    then stdin is cut to each of its lengths, and there is neither PROGRAM.stderr nor a use of
                     PROGRAM.status. A line has the first and the last of some lengths, how many bytes of PROGRAM.stdout are
                     written at these, the status, and the line on standard error
@@ -47,10 +49,10 @@ class Wanted:
     def __init__(self, stdin, stdout, stderr, status):
         self.stdin, self.stdout, self.stderr, self.status = stdin, stdout, stderr, status
 
-    def wrong(self, command):
+    def wrong(self, command, folder):
         """What is wrong, a line for each part that differs."""
         try:
-            ran = subprocess.run(command, input=self.stdin, capture_output=True, timeout=SECONDS)
+            ran = subprocess.run(command, input=self.stdin, capture_output=True, timeout=SECONDS, cwd=folder)
         except subprocess.TimeoutExpired:
             return [f"it had not ended after {SECONDS} seconds"]
         wrong = [] if ran.returncode == self.status else [f"status {ran.returncode}, wanted {self.status}"]
@@ -92,7 +94,7 @@ def run(case, program):
         return [f"there is no {os.path.relpath(built)}: make {program} builds it"]
     for wanted in inputs(case, program):
         for words in calls(case, program):
-            wrong = wanted.wrong([built, *words])
+            wrong = wanted.wrong([built, *words], case.folder())
             if wrong:
                 return [f"with the arguments {words} and {len(wanted.stdin)} bytes"] + wrong
     return []
@@ -101,6 +103,7 @@ def run(case, program):
 def misnamed(case):
     """The files of a case that no program reads: a name is wrong, or the program's status is missing."""
     read = {"stdin", "args", *(f"{program}.{it}" for program in case.programs() for it in OWN)}
+    read |= {it.partition("=")[2] or it for program in case.programs() for it in case.arguments(program)}
     return sorted(set(case.files()) - read) or ([] if case.programs() else ["it"])
 
 

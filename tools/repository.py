@@ -64,13 +64,16 @@ class Case(typing.NamedTuple):
     def part(self, name):
         """What is in a file of it; nothing where that is not there."""
         try:
-            with open(path("tests", "cases", self.topic, self.name, name), "rb") as it:
+            with open(os.path.join(self.folder(), name), "rb") as it:
                 return it.read()
         except FileNotFoundError:
             return b""
 
+    def folder(self):
+        return path("tests", "cases", self.topic, self.name)
+
     def files(self):
-        return os.listdir(path("tests", "cases", self.topic, self.name))
+        return os.listdir(self.folder())
 
     def programs(self):
         """The words of the programs that run on it."""

@@ -5,5 +5,6 @@ pub mod InputLemmas
 pub mod LineLemmas
 pub mod NumberLemmas
 pub mod OutputLemmas
+pub mod TargetLemmas
 mod Values
 pub mod WordLemmas

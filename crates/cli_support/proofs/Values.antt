@@ -2,7 +2,9 @@
 use Rattle.cli_support.proofs.Prelude.{◌≡◌, refl, true, false, List, [], ◌∷◌, ℕ, length, lit<, lit≤, Some, None, Ok, Err, codes, Include, Exclude, Pad, DropEmptied, DropAll, Answers, AreFilled, IsNumber, empty_of, filter_command, flag_number, is_call_of, is_set, meaning_in, named_side, number, prefixes, refusal_status, settings_of, side_in, switch, Words, BothDrops, Memory}
 use Rattle.std.proofs.Common.{inl, inr}
 use Rattle.clap.specs.Words.{App, Row, with_rule}
+use Rattle.cli_support.specs.FilterCommand.{any_prefixes, repeated}
 use Rattle.cli_support.specs.Info.{Prints, TakesFront, info_in, info_of, named_info}
+use Rattle.cli_support.specs.Targets.{AreTextsOf, after_blanks, before_blanks, begun_by, is_blank, is_line_end, prefix_of_line, prefixes_of_text, prefixes_of_texts, lines_in_text}
 use Rattle.cli_support.specs.declared.info.Info.TheVariants.{Help, Version}
 use Rattle.clap.specs.declared.builder.value_parser.Reading.TheVariants as reading
 use Rattle.clap.proofs.OnLiterals.{clap_on_literals}
@@ -14,6 +16,12 @@ spelled_switch = refl
 
 default_number : (number (codes "workers") 64 (codes "4")).defaults ≡ codes "4" ∷ []
 default_number = refl
+
+optional : any_prefixes.required ≡ false
+optional = refl
+
+spelled_repeated : (repeated (codes "targets")).long ≡ Some (codes "targets")
+spelled_repeated = refl
 
 wanted_prefixes : prefixes.required ≡ true
 wanted_prefixes = refl
@@ -159,3 +167,45 @@ printed = inl (refl, refl)
 
 printed_in_part : Prints 1 (codes "ab") (Some []) (Some (codes "a")) 1
 printed_in_part = inr (first_byte_alone, refl)
+
+-- Targets
+
+carriage_return : is_line_end 13 ≡ true
+carriage_return = refl
+
+tab : is_blank 9 ≡ true
+tab = refl
+
+begun : begun_by 97 (codes "b" ∷ codes "c" ∷ []) ≡ codes "ab" ∷ codes "c" ∷ []
+begun = refl
+
+-- the last line may lack its end
+three_lines : lines_in_text (codes "a\n\nb") ≡ codes "a" ∷ [] ∷ codes "b" ∷ []
+three_lines = refl
+
+one_line : lines_in_text (codes "a\n") ≡ codes "a" ∷ []
+one_line = refl
+
+in_front : after_blanks (codes " \ta b ") ≡ codes "a b "
+in_front = refl
+
+at_the_end : before_blanks (codes " a b \t") ≡ codes " a b"
+at_the_end = refl
+
+within : prefix_of_line (codes " # b ") ≡ codes "# b"
+within = refl
+
+two_prefixes : prefixes_of_text (codes " a\r\n \n\n/b c") ≡ codes "a" ∷ codes "/b c" ∷ []
+two_prefixes = refl
+
+no_prefixes : prefixes_of_text (codes "\n \t\r\n") ≡ []
+no_prefixes = refl
+
+of_two_files : prefixes_of_texts (codes "b\n" ∷ codes "a" ∷ []) ≡ codes "b" ∷ codes "a" ∷ []
+of_two_files = refl
+
+known_text : AreTextsOf (λ name. Some name) (codes "f" ∷ []) (codes "f" ∷ [])
+known_text = (refl, tt)
+
+other_text : ¬ AreTextsOf (λ name. Some name) (codes "f" ∷ []) ([] ∷ [])
+other_text (e, _) = cc

@@ -1,9 +1,9 @@
 -- The options of the filter in a command that clap reads arguments by.
-use Rattle.std.specs.Prelude.{ℕ, true, [], ◌∷◌, Some, codes}
+use Rattle.std.specs.Prelude.{ℕ, true, false, [], ◌∷◌, Some, codes}
 use Rattle.clap.specs.Lexer.{usize_max}
 use Rattle.clap.specs.Simple.{on_top}
 use Rattle.clap.specs.Words.{App, Rule, Text, new_app, new_rule, with_rule}
-use Rattle.clap.specs.declared.builder.action.ArgAction.TheVariants.{Set, SetTrue}
+use Rattle.clap.specs.declared.builder.action.ArgAction.TheVariants.{Append, Set, SetTrue}
 use Rattle.clap.specs.declared.builder.value_parser.ValueParser.TheVariants as parsers
 
 -- an option without a value
@@ -25,6 +25,14 @@ prefixes = record (new_rule (codes "PREFIX")) {
   required = true;
   range = Some (record { start_inclusive = 1; end_inclusive = usize_max });
 }
+
+-- any number of prefixes, also none
+abbrev pub any_prefixes : Rule
+any_prefixes = record prefixes { required = false }
+
+-- an option with a value, which may be given again
+abbrev pub repeated : Text → Rule
+repeated name = record (new_rule name) { long = Some name; action = Some Append }
 
 -- a command of this name without help
 abbrev pub bare_command : Text → App

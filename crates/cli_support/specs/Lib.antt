@@ -1,4 +1,5 @@
 pub mod Arguments
 pub mod FilterCommand
 pub mod Info
+pub mod Targets
 pub mod steps

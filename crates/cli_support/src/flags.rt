@@ -1,7 +1,7 @@
 //! The options of the filter, those of how a run is spread over threads, and the prefixes, as clap reads them.
 ghost use Rattle.std.specs.Prelude.{◌≡◌, IfOk, false, codes};
 ghost use Rattle.clap.specs.Words.{app_of, rule_of};
-ghost use Rattle.cli_support.specs.FilterCommand.{filter_command, number, prefixes, switch};
+ghost use Rattle.cli_support.specs.FilterCommand.{any_prefixes, filter_command, number, prefixes, repeated, switch};
 
 use clap::{Arg, ArgAction, Command, value_parser};
 use std::alloc::{AllocError, Global};
@@ -44,6 +44,22 @@ pub fn prefixes<'a>(alloc: Global) -> Arg<'a>
     ensures local { result.global ≡ false }
 {
     Arg::new(alloc, "PREFIX").required(true).num_args(1..)
+}
+
+/// The same of a program whose prefixes may all be in files.
+pub fn any_prefixes<'a>(alloc: Global) -> Arg<'a>
+    ensures rule { rule_of result ≡ any_prefixes }
+    ensures local { result.global ≡ false }
+{
+    prefixes(alloc).required(false)
+}
+
+/// An option with a value, which may be given again.
+pub fn repeated<'a>(alloc: Global, name: &'a str) -> Arg<'a>
+    ensures rule { rule_of result ≡ repeated name.entry.now }
+    ensures local { result.global ≡ false }
+{
+    Arg::new(alloc, name).long(name).action(ArgAction::Append)
 }
 
 /// A command with the options of the filter. A program adds its own options, and the prefixes; the side is no argument of

@@ -25,6 +25,10 @@
 //!
 //! [`refusal`] is why a program refuses a line, where it reads what clap says of it by itself.
 //!
+//! [`NamedFiles`] are files that are read by their names. [`read_files`] reads those with prefixes, whose names
+//! [`read_values`] finds, and [`with_texts`] adds the prefixes in their texts to others. The [`prefixes`] of such a program are
+//! [`any_prefixes`].
+//!
 //! [`info_of`] says whether arguments ask for help or the version, and [`print_text`] prints a text.
 //!
 //! [`arguments`] are those of the process, and [`input_size`] is a guess at the size of its input. [`read_all`] reads the
@@ -39,15 +43,17 @@ mod input;
 mod line;
 mod outcome;
 mod process;
+mod targets;
 mod usage;
 
 pub use buffered::{finish, output_buffer};
-pub use flags::{filter_command, prefixes, switch, window, workers};
+pub use flags::{any_prefixes, filter_command, prefixes, repeated, switch, window, workers};
 pub use info::{Info, info_of, print_text};
 pub use input::{Unread, read_all};
-pub use line::{is_set, read_line, read_number, read_options, read_prefixes, side_in};
+pub use line::{is_set, read_line, read_number, read_options, read_prefixes, read_values, side_in};
 pub use outcome::{Cause, Program, fail, fail_unread, refuse};
 pub use process::{arguments, as_texts, input_size};
+pub use targets::{NamedFiles, UnreadFile, read_files, with_texts};
 pub use usage::{Usage, refusal};
 
 #[cfg(test)]

@@ -114,6 +114,33 @@ pub fn read_prefixes<'a>(alloc: Global, matches: &ArgMatches<'a>) -> Result<Vec<
     }
 }
 
+/// The values of the option of this name, as they were given.
+pub fn read_values<'a>(
+    alloc: Global,
+    matches: &ArgMatches<'a>,
+    name: &str,
+) -> Result<Vec<&'a str>, Usage>
+    ensures { IfOk result (λ texts. map (λ text. text.now) texts.items ≡ unwrap_or (all_of name.now (rows_of (found_of matches.now))) []) }
+{
+    match matches.get_strs(name) {
+        Some(values) => collected(alloc, values),
+        None => Ok(Vec::new(alloc)),
+    }
+}
+
+/// These words, in a vector.
+fn collected<'a>(alloc: Global, words: &[&'a str]) -> Result<Vec<&'a str>, Usage>
+    ensures { IfOk result (λ texts. map (λ text. text.now) texts.items ≡ map (λ word. word.now) words.now) }
+{
+    let mut texts = Vec::new(alloc);
+    for word in words {
+        if texts.push(*word).is_err() {
+            return Err(Usage::Memory);
+        }
+    }
+    Ok(texts)
+}
+
 /// The bytes of texts.
 fn as_bytes<'a>(alloc: Global, words: &[&'a str]) -> Result<Vec<&'a [u8]>, Usage>
     ensures { IfOk result (λ texts. map (λ text. text.now) texts.items ≡ map (λ word. word.now) words.now) }

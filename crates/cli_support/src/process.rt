@@ -1,9 +1,12 @@
 //! What a program asks its process for.
-ghost use Rattle.std.specs.Prelude.{◌≡◌, IfOk, map};
+ghost use Rattle.std.specs.Prelude.{◌≡◌, IfOk, None, map};
 ghost use Rattle.std.specs.String.{string_bytes};
 
+use crate::input::{Unread, read_all};
+use crate::targets::NamedFiles;
 use crate::usage::Usage;
 use std::alloc::Global;
+use std::fs::File;
 use std::io::ErrorKind;
 use std::{env, fs};
 
@@ -35,4 +38,17 @@ pub fn as_texts<'a>(alloc: Global, strings: &'a [String]) -> Result<Vec<&'a str>
         }
     }
     Ok(texts)
+}
+
+/// The files of the process. What they have isn't known before they are read.
+impl NamedFiles for HostRuntime {
+    ghost text_of = { λ _ _. None };
+
+    fn read_named(&self, alloc: Global, name: &str) -> Result<Vec<u8>, Unread> {
+        match File::open(self, name) {
+            Ok(mut file) => read_all(alloc, &mut file, 0),
+            Err(error) if error.kind() == ErrorKind::OutOfMemory => Err(Unread::Memory),
+            Err(_) => Err(Unread::Source),
+        }
+    }
 }

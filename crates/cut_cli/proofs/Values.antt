@@ -9,16 +9,16 @@ use Rattle.dump_rules.specs.declared.options.Side.TheVariants.{Exclude, Include}
 use Rattle.dump_text.specs.declared.fault.FaultKind.TheVariants.{Md5}
 use Rattle.cut_cli.specs.CommandLine.{cut_command}
 use Rattle.cli_support.specs.declared.info.Info.TheVariants.{Version}
-use Rattle.cut_cli.specs.Drive.{AnswersArguments, obstacle_status, stop_line, stop_line_of}
+use Rattle.cut_cli.specs.Drive.{AnswersArguments, AnswersWhole, ReadsTargets, obstacle_status, stop_line, stop_line_of}
 use Rattle.cut_cli.specs.Texts.{info_text}
-use Rattle.cut_cli.specs.Words.{TellsCut, cut_of_words}
+use Rattle.cut_cli.specs.Words.{CutMeaning, TellsCut, cut_of_words, with_texts_of}
 use Rattle.cut_cli.specs.declared.examine.Obstacle.TheVariants.{ComesBack, OddDelete}
 
 -- CommandLine
 
--- seven options, and the prefixes
-eight_rules : length cut_command.top.rules ≡ 8
-eight_rules = refl
+-- eight options, and the prefixes
+nine_rules : length cut_command.top.rules ≡ 9
+nine_rules = refl
 
 no_sides : cut_command.subs ≡ []
 no_sides = refl
@@ -33,6 +33,7 @@ around : cut_of_words (given (codes "a" ∷ codes "--follow-copies" ∷ codes "-
     ≡ Ok (record {
       side = Exclude;
       prefixes = codes "a" ∷ codes "--x" ∷ [];
+      targets = [];
       follow = true;
       drop = false;
       dry_run = false;
@@ -49,6 +50,7 @@ others : cut_of_words (codes "p" ∷ codes "include" ∷ codes "--verbose" ∷ c
     ≡ Ok (record {
       side = Include;
       prefixes = codes "/" ∷ [];
+      targets = [];
       follow = false;
       drop = true;
       dry_run = true;
@@ -64,6 +66,7 @@ plan : cut_of_words (given (codes "--workers" ∷ codes "2" ∷ codes "a" ∷ co
     ≡ Ok (record {
       side = Exclude;
       prefixes = codes "a" ∷ [];
+      targets = [];
       follow = false;
       drop = false;
       dry_run = false;
@@ -74,6 +77,22 @@ plan : cut_of_words (given (codes "--workers" ∷ codes "2" ∷ codes "a" ∷ co
     })
 unfolding clap_on_literals
 plan = refl
+
+files : cut_of_words (given (codes "--targets" ∷ codes "f" ∷ codes "--targets=g" ∷ []))
+    ≡ Ok (record {
+      side = Exclude;
+      prefixes = [];
+      targets = codes "f" ∷ codes "g" ∷ [];
+      follow = false;
+      drop = false;
+      dry_run = false;
+      quiet = false;
+      verbose = false;
+      workers = 4;
+      window = 64;
+    })
+unfolding clap_on_literals
+files = refl
 
 no_worker : cut_of_words (given (codes "--workers" ∷ codes "0" ∷ codes "a" ∷ [])) ≡ Err Words
 unfolding clap_on_literals
@@ -121,5 +140,28 @@ returns_have_a_status = refl
 others_have_one : obstacle_status (OddDelete 3) ≡ 1
 others_have_one = refl
 
-version_is_printed : AnswersArguments (Some Version) (Err Words) None (Some []) (Some (info_text Version)) 0
+version_is_printed : AnswersArguments (λ _. None) (Some Version) (Err Words) None (Some []) (Some (info_text Version)) 0
 version_is_printed = inl (refl, refl)
+
+abbrev meaning : List Text → CutMeaning
+meaning prefixes = record {
+  side = Include;
+  prefixes = prefixes;
+  targets = codes "f" ∷ [];
+  follow = false;
+  drop = false;
+  dry_run = false;
+  quiet = false;
+  verbose = false;
+  workers = 4;
+  window = 64;
+}
+
+in_the_file : (with_texts_of (meaning (codes "a" ∷ [])) (codes "b\n" ∷ [])).prefixes ≡ codes "a" ∷ codes "b" ∷ []
+in_the_file = refl
+
+no_prefix_at_all : AnswersWhole (meaning []) None (Some []) (Some []) 2
+no_prefix_at_all = (refl, refl)
+
+empty_file : ReadsTargets (λ _. Some []) (meaning []) None (Some []) (Some []) 2
+empty_file = inl ([] ∷ [], (refl, tt), (refl, refl))

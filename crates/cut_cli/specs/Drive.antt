@@ -2,6 +2,8 @@
 use Rattle.std.specs.Prelude.{◌≡◌, ◌⊎◌, ℕ, List, [], ◌∷◌, ◌++◌, Option, None, Some, Result, Ok, Err, IfSome, MatchBool, codes, decimal}
 use Rattle.std.specs.List.{concat}
 use Rattle.std.specs.Io.KnownBytes.{Appends, GrowsBy, Keeps}
+use Rattle.clap.specs.Walk.{is_empty}
+use Rattle.clap.specs.Words.{Text}
 use Rattle.dump_text.specs.FaultTable.{fault_code}
 use Rattle.dump_text.specs.declared.fault.FaultKind.{FaultKind}
 use Rattle.dump_records.specs.RecordText.{DumpRecord}
@@ -16,12 +18,13 @@ use Rattle.dump_pipeline.specs.declared.answer.Answer.TheVariants.{Clean, Fault,
 use Rattle.dump_pipeline.specs.declared.answer.Failure.{Failure}
 use Rattle.cli_support.specs.Arguments.{refusal_status}
 use Rattle.cli_support.specs.Info.{Prints}
+use Rattle.cli_support.specs.Targets.{AreTextsOf}
 use Rattle.cli_support.specs.declared.info.Info.{Info}
 use Rattle.cli_support.specs.declared.usage.Usage.{Usage}
 use Rattle.dump_cut.specs.TrimmedCopies.{IsTrimmedBy}
 use Rattle.cut_cli.specs.Cuts.{IsCutText, IsObstacleTo, IsReadyFor, IsTrimmedIf}
 use Rattle.cut_cli.specs.Texts.{info_text}
-use Rattle.cut_cli.specs.Words.{CutMeaning, TellsCut, cut_meaning}
+use Rattle.cut_cli.specs.Words.{CutMeaning, TellsCut, cut_meaning, with_texts_of}
 use Rattle.cut_cli.specs.declared.examine.Obstacle.{Obstacle}
 use Rattle.cut_cli.specs.declared.examine.Obstacle.TheVariants as obstacles
 use Rattle.cut_cli.specs.declared.words.Call.{Call}
@@ -117,18 +120,33 @@ AnswersBy Exclude m input old new status =
 abbrev pub AnswersCall : CutMeaning → Option (List ℕ) → Option (List ℕ) → Option (List ℕ) → ℕ → Type 0
 AnswersCall m input old new status = AnswersBy m.side m input old new status
 
+-- a call without a prefix is refused, and others are answered
+abbrev pub AnswersWhole : CutMeaning → Option (List ℕ) → Option (List ℕ) → Option (List ℕ) → ℕ → Type 0
+AnswersWhole m input old new status =
+    MatchBool (is_empty m.prefixes) (Keeps old new × (status ≡ 2)) (AnswersCall m input old new status)
+
+-- the files of a call are read, and it is answered with the prefixes in them too; or one wasn't read, or no memory was left
+abbrev pub ReadsTargets : (Text → Option (List ℕ)) → CutMeaning → Option (List ℕ) → Option (List ℕ) → Option (List ℕ) → ℕ
+    → Type 0
+ReadsTargets text_of m input old new status =
+    ((texts : List (List ℕ)) × AreTextsOf text_of m.targets texts
+    × AnswersWhole (with_texts_of m texts) input old new status)
+    ⊎ (Keeps old new × (status ≡ 1))
+
 -- arguments that ask for nothing are refused
-abbrev pub ObeysCut : Result Call Usage → Option (List ℕ) → Option (List ℕ) → Option (List ℕ) → ℕ → Type 0
-ObeysCut (Err usage) input old new status = Keeps old new × (status ≡ refusal_status 1 usage)
-ObeysCut (Ok call) input old new status = AnswersCall (cut_meaning call) input old new status
+abbrev pub ObeysCut : (Text → Option (List ℕ)) → Result Call Usage → Option (List ℕ) → Option (List ℕ) → Option (List ℕ)
+    → ℕ → Type 0
+ObeysCut text_of (Err usage) input old new status = Keeps old new × (status ≡ refusal_status 1 usage)
+ObeysCut text_of (Ok call) input old new status = ReadsTargets text_of (cut_meaning call) input old new status
 
 -- arguments of this meaning have an answer, and it is obeyed
-abbrev pub DrivesCut : Result CutMeaning Usage → Option (List ℕ) → Option (List ℕ) → Option (List ℕ) → ℕ → Type 0
-DrivesCut meaning input old new status = (answer : Result Call Usage) × TellsCut meaning answer
-    × ObeysCut answer input old new status
+abbrev pub DrivesCut : (Text → Option (List ℕ)) → Result CutMeaning Usage → Option (List ℕ) → Option (List ℕ)
+    → Option (List ℕ) → ℕ → Type 0
+DrivesCut text_of meaning input old new status = (answer : Result Call Usage) × TellsCut meaning answer
+    × ObeysCut text_of answer input old new status
 
 -- arguments that ask for a text in place of a cut get it, and the input isn't read; others are answered by their meaning
-abbrev pub AnswersArguments : Option Info → Result CutMeaning Usage → Option (List ℕ) → Option (List ℕ) → Option (List ℕ)
-    → ℕ → Type 0
-AnswersArguments (Some info) meaning input old new status = Prints 1 (info_text info) old new status
-AnswersArguments None meaning input old new status = DrivesCut meaning input old new status
+abbrev pub AnswersArguments : (Text → Option (List ℕ)) → Option Info → Result CutMeaning Usage → Option (List ℕ)
+    → Option (List ℕ) → Option (List ℕ) → ℕ → Type 0
+AnswersArguments text_of (Some info) meaning input old new status = Prints 1 (info_text info) old new status
+AnswersArguments text_of None meaning input old new status = DrivesCut text_of meaning input old new status

@@ -1,21 +1,23 @@
 -- What the program's arguments mean, by the side and by what clap finds after it.
-use Rattle.std.specs.Prelude.{ℕ, Bool, ◌||◌, ◌&&◌, List, [], Result, Ok, Err, codes, drop, map, unwrap_or, if◌then◌else◌}
+use Rattle.std.specs.Prelude.{ℕ, Bool, ◌||◌, ◌&&◌, List, [], ◌++◌, Result, Ok, Err, codes, drop, map, unwrap_or, if◌then◌else◌}
 use Rattle.std.specs.List.{list_any}
 use Rattle.clap.specs.Walk.{is_empty}
 use Rattle.clap.specs.Words.{Row, Text, all_of}
 use Rattle.dump_rules.specs.declared.options.Side.{Side}
 use Rattle.dump_pipeline.specs.PlanViews.{worker_count, window_size}
+use Rattle.cli_support.specs.Targets.{prefixes_of_texts}
 use Rattle.cli_support.specs.Arguments.{Answers, flag_number, is_set, meaning_in}
 use Rattle.cli_support.specs.declared.usage.Usage.{Usage}
 use Rattle.cli_support.specs.declared.usage.Usage.TheVariants.{Words}
 use Rattle.cut_cli.specs.CommandLine.{cut_command}
 use Rattle.cut_cli.specs.declared.words.Call.{Call}
 
--- what a call asks for: a side, prefixes, whether copies are followed, whether emptied revisions are dropped, whether
+-- what a call asks for: a side, prefixes, files with more of them, whether copies are followed, whether emptied revisions are dropped, whether
 -- nothing is written, what is reported, how many workers there are, and how wide their window is
 pub record CutMeaning : Type 0 where
   pub side : Side
   pub prefixes : List Text
+  pub targets : List Text
   pub follow : Bool
   pub drop : Bool
   pub dry_run : Bool
@@ -28,6 +30,7 @@ abbrev pub cut_meaning : Call → CutMeaning
 cut_meaning call = record {
   side = call.side;
   prefixes = map (λ prefix. prefix.now) call.prefixes.items;
+  targets = map (λ name. name.now) call.targets.items;
   follow = call.follow;
   drop = call.drop;
   dry_run = call.dry_run;
@@ -41,15 +44,21 @@ cut_meaning call = record {
 abbrev pub prefixes_in : List Row → List Text
 prefixes_in rows = unwrap_or (all_of (codes "PREFIX") rows) []
 
--- whether the rows have an empty prefix, or options that contradict each other
+-- the files with more prefixes
+abbrev pub targets_in : List Row → List Text
+targets_in rows = unwrap_or (all_of (codes "targets") rows) []
+
+-- whether the rows have no prefix and no file, or an empty prefix, or options that contradict each other
 abbrev pub are_refused : List Row → Bool
-are_refused rows = list_any is_empty (prefixes_in rows) || (is_set (codes "quiet") rows && is_set (codes "verbose") rows)
+are_refused rows = (is_empty (prefixes_in rows) && is_empty (targets_in rows))
+    || (list_any is_empty (prefixes_in rows) || (is_set (codes "quiet") rows && is_set (codes "verbose") rows))
 
 -- what a side and its rows ask for
 abbrev pub cut_of_side : Side → List Row → Result CutMeaning Usage
 cut_of_side side rows = if are_refused rows then Err Words else Ok (record {
   side = side;
   prefixes = prefixes_in rows;
+  targets = targets_in rows;
   follow = is_set (codes "follow-copies") rows;
   drop = is_set (codes "drop-empty-revs") rows;
   dry_run = is_set (codes "dry-run") rows;
@@ -66,3 +75,7 @@ cut_of_words words = meaning_in cut_command cut_of_side (drop 1 words)
 -- the answer to arguments of this meaning: out of memory may hide it, and nothing else
 abbrev pub TellsCut : Result CutMeaning Usage → Result Call Usage → Type 0
 TellsCut meaning answer = Answers cut_meaning meaning answer
+
+-- the same with the prefixes in these texts too
+abbrev pub with_texts_of : CutMeaning → List (List ℕ) → CutMeaning
+with_texts_of m texts = record m { prefixes = m.prefixes ++ prefixes_of_texts texts }

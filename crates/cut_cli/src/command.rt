@@ -4,7 +4,7 @@ ghost use Rattle.clap.specs.Words.{app_of};
 ghost use Rattle.cut_cli.specs.CommandLine.{cut_command};
 
 use clap::Command;
-use cli_support::{prefixes, switch, window, workers};
+use cli_support::{any_prefixes, repeated, switch, window, workers};
 use std::alloc::{AllocError, Global};
 
 /// The options and the prefixes. It has no subcommands: the side is no argument of it.
@@ -20,5 +20,6 @@ pub fn cut_command<'a>(alloc: Global) -> Result<Command<'a>, AllocError>
         .arg(switch(alloc, "verbose"))?
         .arg(workers(alloc))?
         .arg(window(alloc))?
-        .arg(prefixes(alloc))
+        .arg(repeated(alloc, "targets"))?
+        .arg(any_prefixes(alloc))
 }

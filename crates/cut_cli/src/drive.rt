@@ -2,18 +2,20 @@
 ghost use Rattle.std.specs.Prelude.{◌≡◌, [], IfOk, OnErr, OnOk, map};
 ghost use Rattle.std.specs.Io.KnownBytes.{Appends, Keeps};
 ghost use Rattle.dump_writer.specs.steps.SinkStates.{lent_taken, loan_of};
-ghost use Rattle.cut_cli.specs.Drive.{AnswersArguments, AnswersCall, CutsDump, DrivesCut, RanCut, TakesPart, WritesCut, stop_line, stop_line_of, obstacle_status, cut_status};
+ghost use Rattle.cut_cli.specs.Drive.{AnswersArguments, AnswersCall, AnswersWhole, CutsDump, DrivesCut, RanCut, ReadsTargets, TakesPart, WritesCut, stop_line, stop_line_of, obstacle_status, cut_status};
 ghost use Rattle.cli_support.specs.Info.{info_of};
 ghost use Rattle.cut_cli.specs.Words.{cut_of_words, cut_meaning};
 ghost use Rattle.cut_cli.specs.steps.Ended.{TellsAfter};
 
 use crate::examine::{Obstacle, Ready, examine};
 use crate::lines::{write_fault, write_no_include, write_report};
+use crate::mistakes::{Mistake, write_mistake, write_no_file};
 use crate::texts::info_text;
 use crate::trim::run_and_trim;
-use crate::words::{Call, call_of};
+use crate::words::{Call, call_of, with_targets};
 use cli_support::{
-    Cause, Program, fail, fail_unread, finish, info_of, output_buffer, print_text, read_all, refuse,
+    Cause, NamedFiles, Program, UnreadFile, Usage, fail, fail_unread, finish, info_of,
+    output_buffer, print_text, read_all, read_files, refuse,
 };
 use dump_changes::Memory;
 use dump_cut::Deletes;
@@ -34,39 +36,86 @@ pub const PROGRAM: Program = Program {
 
 /// The whole program, with its exit status. The reader is thought to have so many bytes; the number spares growing and has
 /// no other meaning.
-pub fn drive<'a, H: Threads + Wait + Sync, R: Read, W: Write, E: Write>(
+pub fn drive<'a, H: Threads + Wait + Sync, F: NamedFiles, R: Read, W: Write, E: Write>(
     rt: &H,
     alloc: Global,
     words: &'a [&'a str],
+    files: &F,
     size: u64,
     reader: &mut R,
     writer: &mut W,
     errors: &mut E,
 ) -> u8
-    ensures { AnswersArguments (info_of (map (λ word. word.now) words.now)) (cut_of_words (map (λ word. word.now) words.now)) (R.remaining reader.old) (W.contents writer.old) (W.contents writer.new) result }
+    ensures { AnswersArguments (F.text_of files.now) (info_of (map (λ word. word.now) words.now)) (cut_of_words (map (λ word. word.now) words.now)) (R.remaining reader.old) (W.contents writer.old) (W.contents writer.new) result }
 {
     match info_of(words) {
         Some(info) => print_text(alloc, info_text(info), PROGRAM, writer, errors),
-        None => drive_cut(rt, alloc, words, size, reader, writer, errors),
+        None => drive_cut(rt, alloc, words, files, size, reader, writer, errors),
     }
 }
 
 /// The same of arguments that ask for no text.
-fn drive_cut<'a, H: Threads + Wait + Sync, R: Read, W: Write, E: Write>(
+fn drive_cut<'a, H: Threads + Wait + Sync, F: NamedFiles, R: Read, W: Write, E: Write>(
     rt: &H,
     alloc: Global,
     words: &'a [&'a str],
+    files: &F,
     size: u64,
     reader: &mut R,
     writer: &mut W,
     errors: &mut E,
 ) -> u8
-    ensures { DrivesCut (cut_of_words (map (λ word. word.now) words.now)) (R.remaining reader.old) (W.contents writer.old) (W.contents writer.new) result }
+    ensures { DrivesCut (F.text_of files.now) (cut_of_words (map (λ word. word.now) words.now)) (R.remaining reader.old) (W.contents writer.old) (W.contents writer.new) result }
 {
     match call_of(alloc, words, errors) {
-        Ok(call) => answer_call(rt, alloc, &call, size, reader, writer, errors),
+        Ok(call) => answer_files(rt, alloc, call, files, size, reader, writer, errors),
         Err(usage) => refuse(errors, PROGRAM, usage),
     }
+}
+
+/// Cuts as the call asks for, with the prefixes in its files.
+fn answer_files<H: Threads + Wait + Sync, F: NamedFiles, R: Read, W: Write, E: Write>(
+    rt: &H,
+    alloc: Global,
+    call: Call<'_>,
+    files: &F,
+    size: u64,
+    reader: &mut R,
+    writer: &mut W,
+    errors: &mut E,
+) -> u8
+    ensures { ReadsTargets (F.text_of files.now) (cut_meaning call.entry) (R.remaining reader.old) (W.contents writer.old) (W.contents writer.new) result }
+{
+    let texts = match read_files(alloc, files, &call.targets) {
+        Ok(texts) => texts,
+        Err(UnreadFile { place, unread }) => {
+            let _ = write_no_file(errors, &call.targets, place);
+            return fail_unread(errors, PROGRAM, unread);
+        }
+    };
+    match with_targets(call, &texts) {
+        Ok(whole) => answer_whole(rt, alloc, &whole, size, reader, writer, errors),
+        Err(_) => fail(errors, PROGRAM, Cause::Memory, 0),
+    }
+}
+
+/// The same, where the call has all prefixes.
+fn answer_whole<H: Threads + Wait + Sync, R: Read, W: Write, E: Write>(
+    rt: &H,
+    alloc: Global,
+    call: &Call<'_>,
+    size: u64,
+    reader: &mut R,
+    writer: &mut W,
+    errors: &mut E,
+) -> u8
+    ensures { AnswersWhole (cut_meaning call.now) (R.remaining reader.old) (W.contents writer.old) (W.contents writer.new) result }
+{
+    if call.prefixes.is_empty() {
+        let _ = write_mistake(errors, Mistake::NoPrefixInFiles);
+        return refuse(errors, PROGRAM, Usage::Words);
+    }
+    answer_call(rt, alloc, call, size, reader, writer, errors)
 }
 
 /// Cuts the whole input, as the call asks for. It can't include yet.

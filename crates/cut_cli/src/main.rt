@@ -46,6 +46,7 @@ fn run_words<H: Threads + Wait + Sync>(threads: &H, rt: &HostRuntime) -> Result<
         threads,
         alloc,
         texts.as_slice(),
+        rt,
         input_size(rt),
         &mut rt.reader(),
         &mut rt.stdout(),

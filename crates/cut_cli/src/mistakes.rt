@@ -15,6 +15,8 @@ pub enum Mistake<'a> {
     NoSubcommand(&'a str),
     /// No prefix is given.
     NoPrefix,
+    /// The files have no prefix, and no other is given.
+    NoPrefixInFiles,
     /// A prefix is empty.
     EmptyPrefix,
     /// Two options exclude each other.
@@ -33,6 +35,10 @@ fn write_text<E: Write>(errors: &mut E, mistake: Mistake<'_>) -> io::Result<()> 
             write!(errors, "'")
         }
         Mistake::NoPrefix => write!(errors, "a prefix is missing"),
+        Mistake::NoPrefixInFiles => write!(
+            errors,
+            "a prefix is missing: the files of --targets have none"
+        ),
         Mistake::EmptyPrefix => write!(errors, "a prefix is empty; the root is /"),
         Mistake::QuietAndVerbose => write!(errors, "--quiet and --verbose exclude each other"),
         Mistake::NotText => write!(errors, "an argument is not UTF-8"),
@@ -96,10 +102,8 @@ pub fn write_refused_line<E: Write>(
     line: &[&str],
     error: &Error,
 ) -> io::Result<()> {
-    match error.kind() {
-        ErrorKind::OutOfMemory => return Ok(()),
-        ErrorKind::MissingRequiredArgument => return write_mistake(errors, Mistake::NoPrefix),
-        _ => {}
+    if error.kind() == ErrorKind::OutOfMemory {
+        return Ok(());
     }
     write!(errors, "svndumpcut: ")?;
     match first_foreign(line) {
@@ -107,4 +111,14 @@ pub fn write_refused_line<E: Write>(
         _ => write_message(errors, alloc, error)?,
     }
     writeln!(errors, "")
+}
+
+/// Says which file of prefixes was not read.
+pub fn write_no_file<E: Write>(errors: &mut E, names: &[&str], place: usize) -> io::Result<()> {
+    let Some(name) = names.get(place) else {
+        return Ok(());
+    };
+    write!(errors, "svndumpcut: cannot read '")?;
+    write_seen(errors, name.as_bytes())?;
+    writeln!(errors, "'")
 }

@@ -1,8 +1,10 @@
 //! What no clause says: the lines as users see them, and streams that fail.
 
+ghost use Rattle.std.specs.Prelude.{None};
+
 use crate::drive::drive;
 use crate::words::call_of;
-use cli_support::Usage;
+use cli_support::{NamedFiles, Unread, Usage};
 use dump_rules::Side;
 use std::alloc::Global;
 use std::io::{self, ErrorKind, Read, Write};
@@ -56,6 +58,18 @@ impl Write for Broken {
     }
 }
 
+/// No file is there.
+#[derive(Drop)]
+struct NoFiles;
+
+impl NamedFiles for NoFiles {
+    ghost text_of = { λ _ _. None };
+
+    fn read_named(&self, _alloc: Global, _name: &str) -> Result<Vec<u8>, Unread> {
+        Err(Unread::Source)
+    }
+}
+
 /// Whether a cut with these arguments has this status, and leaves these bytes and lines on the streams.
 fn is_cut<'a, H: Threads + Wait + Sync>(
     rt: &H,
@@ -66,7 +80,16 @@ fn is_cut<'a, H: Threads + Wait + Sync>(
     let mut reader = COPIED;
     let mut output = Vec::new(alloc);
     let mut errors = Vec::new(alloc);
-    let status = drive(rt, alloc, words, 0, &mut reader, &mut output, &mut errors);
+    let status = drive(
+        rt,
+        alloc,
+        words,
+        &NoFiles,
+        0,
+        &mut reader,
+        &mut output,
+        &mut errors,
+    );
     status == wanted.0 && output.as_slice() == wanted.1 && errors.as_slice() == wanted.2
 }
 
@@ -120,7 +143,16 @@ const FILE: [&str; 4] = ["svndumpcut", "exclude", "--follow-copies", "d/f"];
 fn is_unread<H: Threads + Wait + Sync>(rt: &H, alloc: Global) -> bool {
     let mut output = Vec::new(alloc);
     let mut errors = Vec::new(alloc);
-    let status = drive(rt, alloc, &FILE, 0, &mut Broken, &mut output, &mut errors);
+    let status = drive(
+        rt,
+        alloc,
+        &FILE,
+        &NoFiles,
+        0,
+        &mut Broken,
+        &mut output,
+        &mut errors,
+    );
     let line = b"svndumpcut: failure 24 Source after 0 bytes\n".as_slice();
     status == 1 && errors.as_slice() == line && output.is_empty()
 }
@@ -128,7 +160,16 @@ fn is_unread<H: Threads + Wait + Sync>(rt: &H, alloc: Global) -> bool {
 fn is_unwritten<H: Threads + Wait + Sync>(rt: &H, alloc: Global) -> bool {
     let mut reader = COPIED;
     let mut errors = Vec::new(alloc);
-    let status = drive(rt, alloc, &FILE, 0, &mut reader, &mut Broken, &mut errors);
+    let status = drive(
+        rt,
+        alloc,
+        &FILE,
+        &NoFiles,
+        0,
+        &mut reader,
+        &mut Broken,
+        &mut errors,
+    );
     status == 1
 }
 

@@ -10,6 +10,7 @@ pub const HELP: &str = "usage: svndumpcut exclude [OPTIONS] PREFIX...
 Reads the dump of a whole Subversion repository on standard input, and writes it
 without the nodes at and below each prefix on standard output.
 
+  --targets FILE     more prefixes, one a line; may be given again
   --follow-copies    exclude also what is copied from excluded content
   --drop-empty-revs  drop revisions that lose all of their nodes, and renumber
   --dry-run          do everything but write the new dump

@@ -8,15 +8,17 @@ ghost use Rattle.cli_support.specs.steps.LineReading.{ReadsLine};
 ghost use Rattle.cli_support.specs.Arguments.{flag_number};
 ghost use Rattle.cli_support.specs.steps.FilledFlags.{AreFilled};
 ghost use Rattle.dump_pipeline.specs.PlanViews.{worker_count, window_size};
-ghost use Rattle.cut_cli.specs.Words.{TellsCut, cut_of_words, cut_of_side};
+ghost use Rattle.cut_cli.specs.Words.{TellsCut, cut_of_words, cut_of_side, cut_meaning, with_texts_of};
 
 use crate::command::cut_command;
 use crate::mistakes::{Mistake, write_mistake, write_refused_line};
 use clap::{ArgMatches, Command};
-use cli_support::{Usage, is_set, read_number, read_prefixes, refusal, side_in};
+use cli_support::{
+    Usage, is_set, read_number, read_prefixes, read_values, refusal, side_in, with_texts,
+};
 use dump_pipeline::Plan;
 use dump_rules::Side;
-use std::alloc::Global;
+use std::alloc::{AllocError, Global};
 use std::io::Write;
 
 /// What a call asks for.
@@ -25,6 +27,8 @@ pub struct Call<'a> {
     pub side: Side,
     /// As they were given; none is empty.
     pub prefixes: Vec<&'a [u8]>,
+    /// The names of files with more prefixes.
+    pub targets: Vec<&'a str>,
     /// Whether the copies of what is excluded are excluded too.
     pub follow: bool,
     /// Whether revisions are dropped that lose all of their nodes, and the others are renumbered.
@@ -126,6 +130,12 @@ fn read_call<'a, E: Write>(
     let Ok(prefixes) = read_prefixes(alloc, matches) else {
         return Err(Usage::Memory);
     };
+    let Ok(targets) = read_values(alloc, matches, "targets") else {
+        return Err(Usage::Memory);
+    };
+    if prefixes.is_empty() && targets.is_empty() {
+        return wrong(errors, Mistake::NoPrefix);
+    }
     let quiet = is_set(matches, "quiet");
     let verbose = is_set(matches, "verbose");
     if is_one_empty(&prefixes) {
@@ -137,6 +147,7 @@ fn read_call<'a, E: Write>(
     Ok(Call {
         side,
         prefixes,
+        targets,
         follow: is_set(matches, "follow-copies"),
         drop: is_set(matches, "drop-empty-revs"),
         dry_run: is_set(matches, "dry-run"),
@@ -160,4 +171,14 @@ fn plan_of(workers: usize, window: usize) -> Plan
         unreachable!()
     };
     plan
+}
+
+/// The same call with the prefixes in these texts too.
+pub fn with_targets<'a>(call: Call<'a>, texts: &'a [Vec<u8>]) -> Result<Call<'a>, AllocError>
+    ensures { IfOk result (λ whole. cut_meaning whole ≡ with_texts_of (cut_meaning call.entry) (map (λ text. text.items) texts.now)) }
+{
+    Ok(Call {
+        prefixes: with_texts(call.prefixes, texts)?,
+        ..call
+    })
 }

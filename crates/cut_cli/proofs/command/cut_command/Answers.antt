@@ -15,5 +15,6 @@ returns c =
     let e5 = one_more _ _ _ _ _ c.in_ok-arg-5.ensures c.switch-5.ensures.local e4 c.switch-5.ensures.rule in
     let e6 = one_more _ _ _ _ _ c.in_ok-arg-6.ensures c.workers.ensures.local e5 c.workers.ensures.rule in
     let e7 = one_more _ _ _ _ _ c.in_ok-arg-7.ensures c.window.ensures.local e6 c.window.ensures.rule in
-    IfOk-weaker c.arg-8.result _ _
-    (λ r adds. one_more _ _ _ _ _ adds c.prefixes.ensures.local e7 c.prefixes.ensures.rule) c.arg-8.ensures
+    let e8 = one_more _ _ _ _ _ c.in_ok-arg-8.ensures c.repeated.ensures.local e7 c.repeated.ensures.rule in
+    IfOk-weaker c.arg-9.result _ _
+    (λ r adds. one_more _ _ _ _ _ adds c.any_prefixes.ensures.local e8 c.any_prefixes.ensures.rule) c.arg-9.ensures
