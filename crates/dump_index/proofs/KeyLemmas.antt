@@ -1,5 +1,5 @@
 -- The keys of changes: how they are listed, and how the latest change at a path is found among them.
-use Rattle.std.proofs.Common.{◌≡◌, ℕ, zero, suc, ◌+◌, ◌<◌, ◌≤◌, Bool, true, false, ◌&&◌, cond, List, [], ◌∷◌, ◌++◌, length, map, get_or, Some, None, option_map, nat_eq, nat_lt, bytes_eq, lit<, Contains, refl, sym, ap, subst, ◌∙◌, arith, inl, inr}
+use Rattle.std.proofs.Common.{◌≡◌, ℕ, zero, suc, ◌+◌, ◌<◌, ◌≤◌, Bool, true, false, ◌&&◌, cond, List, [], ◌∷◌, ◌++◌, length, map, filter, get_or, Option, Some, None, option_map, nat_eq, nat_lt, bytes_eq, lit<, Contains, refl, sym, ap, subst, ◌∙◌, arith, inl, inr}
 use Rattle.std.specs.Prelude.{slice_get}
 use Rattle.std.proofs.lemmas.Bool.{cases_lt, and_parts, and_from, false_from_ne_true, lt-ltb}
 use Rattle.std.proofs.lemmas.Bool.Decides.{nat_tests}
@@ -18,7 +18,8 @@ use Rattle.dump_index.specs.Listed.{Listed, listed_of}
 use Rattle.dump_index.specs.declared.change.NodeChange.{NodeChange}
 use Rattle.dump_index.specs.declared.order.Key.{Key}
 use Rattle.dump_index.specs.declared.order.Effect.{Effect}
-use Rattle.dump_index.specs.steps.Keys.{PathKey, key_of, key_cmp, is_key_before, IsSortedKeys, has_effect, has_effect_there, has_effect_at, latest_place, HasKeys}
+use Rattle.dump_index.specs.declared.order.Effect.TheVariants.{Any}
+use Rattle.dump_index.specs.steps.Keys.{PathKey, key_of, key_cmp, is_key_before, IsSortedKeys, has_effect, has_effect_there, has_effect_at, has_effect_here, is_of_effect, is_chosen, latest_place, HasKeys}
 use Rattle.dump_index.proofs.PlaceLemmas.{latest_is, latest_none}
 
 -- the element of a list
@@ -259,3 +260,66 @@ keys_moved effect listed keys moved others all =
       only = λ path place some.
           all.only path place (Contains-permutation (map key_of moved) (map key_of keys) (path, place) back some);
     }
+
+-- those of all keys whose changes have an effect
+module _ (effect : Effect) (listed : List Listed) where
+  abbrev these : List Key → List Key
+  these keys = filter (is_chosen effect listed) keys
+
+  chosen : (keys : List Key) (path : List ℕ) (place : ℕ) → Contains (map key_of keys) (path, place)
+      → has_effect_here effect listed place ≡ true → Contains (map key_of (these keys)) (path, place)
+  chosen [] path place (i, low, same) is = absurd (omega arith)
+  chosen (key ∷ keys) path place (zero, low, same) is =
+      let here : key.place ≡ place = ap (λ (k : PathKey). k.1) same in
+      let yes : is_chosen effect listed key ≡ true = ap (has_effect_here effect listed) here ∙ is in
+      subst (λ b. Contains (map key_of (cond b (key ∷ these keys) (these keys))) (path, place))
+      (sym yes) (0, omega arith, same)
+  chosen (key ∷ keys) path place (suc i, low, same) is =
+      behind (is_chosen effect listed key) (chosen keys path place (i, omega arith, same) is)
+    where
+      behind : (b : Bool) → Contains (map key_of (these keys)) (path, place)
+          → Contains (map key_of (cond b (key ∷ these keys) (these keys))) (path, place)
+      behind true some = (suc some.0, omega (arith, some.1), some.2)
+      behind false some = some
+
+  of_all : (keys : List Key) (path : List ℕ) (place : ℕ) → Contains (map key_of (these keys)) (path, place)
+      → Contains (map key_of keys) (path, place) × (has_effect_here effect listed place ≡ true)
+  of_all [] path place (i, low, same) = absurd (omega arith)
+  of_all (key ∷ keys) path place some = cases (is_chosen effect listed key) refl (of_all keys path place) some
+    where
+      IsThere : List Key → Type 0
+      IsThere others = Contains (map key_of others) (path, place) × (has_effect_here effect listed place ≡ true)
+
+      further : IsThere keys → IsThere (key ∷ keys)
+      further its = let found = its.0 in ((suc found.0, omega (arith, found.1), found.2), its.1)
+
+      cases : (b : Bool) → is_chosen effect listed key ≡ b → (Contains (map key_of (these keys)) (path, place) → IsThere keys)
+          → Contains (map key_of (cond b (key ∷ these keys) (these keys))) (path, place)
+          → IsThere (key ∷ keys)
+      cases false is rest more = further (rest more)
+      cases true is rest (zero, low, same) = (
+        (0, omega arith, same),
+        sym (ap (λ (k : PathKey). has_effect_here effect listed k.1) same) ∙ is,
+      )
+      cases true is rest (suc i, low, same) = further (rest (i, omega arith, same))
+
+  at_path : (o : Option Listed) (path : List ℕ) → has_effect_there effect path o ≡ true
+      → (is_of_effect effect o ≡ true) × (has_effect_there Any path o ≡ true)
+  at_path None path is = absurd (let bad : false ≡ true = is in cc)
+  at_path (Some l) path is = and_parts (has_effect effect l) (bytes_eq l.path path) is
+
+  at_both : (o : Option Listed) (path : List ℕ) → is_of_effect effect o ≡ true
+      → has_effect_there Any path o ≡ true → has_effect_there effect path o ≡ true
+  at_both None path is there = absurd (let bad : false ≡ true = is in cc)
+  at_both (Some l) path is there = and_from (has_effect effect l) (bytes_eq l.path path) is there
+
+  pub keys_chosen : (keys : List Key) → HasKeys Any listed (map key_of keys)
+      → HasKeys effect listed (map key_of (these keys))
+  keys_chosen keys all = record {
+    has = λ path place is.
+        let both = at_path (slice_get listed place) path is in
+        chosen keys path place (all.has path place both.1) both.0;
+    only = λ path place some.
+        let both = of_all keys path place some in
+        at_both (slice_get listed place) path both.1 (all.only path place both.0);
+  }

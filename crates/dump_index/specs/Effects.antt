@@ -5,7 +5,7 @@ use Rattle.dump_index.specs.Listed.{Listed}
 use Rattle.dump_index.specs.declared.change.Setting.{Setting}
 use Rattle.dump_index.specs.declared.change.Setting.TheVariants.{Keeps, Replaces, Edits, EditsNothing}
 use Rattle.dump_index.specs.declared.order.Effect.{Effect}
-use Rattle.dump_index.specs.declared.order.Effect.TheVariants.{Shaping, Moving, Props, Texts}
+use Rattle.dump_index.specs.declared.order.Effect.TheVariants.{Shaping, Moving, Props, Texts, Any}
 
 -- whether something is set
 abbrev pub sets : Setting → Bool
@@ -20,6 +20,7 @@ has_effect Shaping l = l.deletes || is_some l.made
 has_effect Moving l = l.deletes || is_copied l.made
 has_effect Props l = sets l.props
 has_effect Texts l = sets l.text
+has_effect Any l = true
 
 -- whether there is such a change, of this effect and at this path
 abbrev pub has_effect_there : Effect → List ℕ → Option Listed → Bool

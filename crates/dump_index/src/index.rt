@@ -86,10 +86,12 @@ impl<'a> ChangeIndex<'a> {
         ensures { IfOk result (λ index. index ≡ map listed_of changes.entry.items) }
     {
         let listed = changes.as_slice();
-        let shaping = PathOrder::new(alloc, listed, Effect::Shaping)?;
-        let moving = PathOrder::new(alloc, listed, Effect::Moving)?;
-        let props = PathOrder::new(alloc, listed, Effect::Props)?;
-        let texts = PathOrder::new(alloc, listed, Effect::Texts)?;
+        // one sort for all
+        let mut shaping = PathOrder::new(alloc, listed, Effect::Any)?;
+        let moving = shaping.with_effect(alloc, listed, Effect::Moving)?;
+        let props = shaping.with_effect(alloc, listed, Effect::Props)?;
+        let texts = shaping.with_effect(alloc, listed, Effect::Texts)?;
+        shaping.keep_effect(listed, Effect::Shaping);
         Ok(ChangeIndex {
             changes,
             shaping,

@@ -1,7 +1,7 @@
 //! Changes in the order of their paths, looked up by path.
-ghost use Rattle.std.specs.Prelude.{◌≡◌, ◌||◌, Bool, List, ℕ, IfOk, map};
+ghost use Rattle.std.specs.Prelude.{◌≡◌, ◌||◌, Bool, List, ℕ, IfOk, filter, map};
 ghost use Rattle.dump_index.specs.Listed.{Listed, listed_of};
-ghost use Rattle.dump_index.specs.steps.Keys.{HasKeys, IsSortedKeys, is_key_before, has_effect_at, has_effect, key_cmp, key_of, latest_place, sets};
+ghost use Rattle.dump_index.specs.steps.Keys.{HasKeys, IsSortedKeys, is_key_before, has_effect_at, has_effect_here, has_effect, is_chosen, key_cmp, key_of, latest_place, sets};
 ghost use Rattle.dump_index.specs.steps.Touching.{later, moves_above};
 ghost use Rattle.dump_index.specs.steps.Below.{AreFrom, IsBehind, IsNextChildKey, NoneBelow};
 
@@ -23,6 +23,8 @@ pub(crate) enum Effect {
     Props,
     /// It sets a text.
     Texts,
+    /// Each change has this one.
+    Any,
 }
 
 impl Setting {
@@ -44,6 +46,7 @@ impl Effect {
             Effect::Moving => change.deletes || matches!(change.made, Some(NodeMade::CopyOf(_))),
             Effect::Props => change.props.sets(),
             Effect::Texts => change.text.sets(),
+            Effect::Any => true,
         }
     }
 }
@@ -127,7 +130,58 @@ fn keys_of<'a>(
     Ok(keys)
 }
 
+/// Whether the change at this place has this effect.
+fn has_effect(changes: &[NodeChange<'_>], place: usize, effect: Effect) -> bool
+    ensures { result ≡ has_effect_here effect (map listed_of changes.now) place }
+{
+    match changes.get(place) {
+        Some(change) => effect.has(change),
+        None => false,
+    }
+}
+
+/// Those of the keys whose changes have this effect.
+fn chosen<'a>(
+    alloc: Global,
+    keys: &[Key<'a>],
+    changes: &[NodeChange<'a>],
+    effect: Effect,
+) -> Result<Vec<Key<'a>>, Memory>
+    ensures { IfOk result (λ found. found.items ≡ filter (is_chosen effect (map listed_of changes.now)) keys.now) }
+{
+    let mut found = Vec::new(alloc);
+    for key in keys {
+        if has_effect(changes, key.place, effect) {
+            found.push(*key)?;
+        }
+    }
+    Ok(found)
+}
+
 impl<'a> PathOrder<'a> {
+    /// Those of all changes that have this effect.
+    pub(crate) fn with_effect(
+        &self,
+        alloc: Global,
+        changes: &[NodeChange<'a>],
+        effect: Effect,
+    ) -> Result<PathOrder<'a>, Memory>
+        requires { HasKeys Effect.Any (map listed_of changes.now) self.now }
+        ensures { IfOk result (λ order. HasKeys effect (map listed_of changes.now) order) }
+    {
+        let keys = chosen(alloc, &self.keys, changes, effect)?;
+        Ok(PathOrder { keys })
+    }
+
+    /// Keeps those of all changes that have this effect.
+    pub(crate) fn keep_effect(&mut self, changes: &[NodeChange<'a>], effect: Effect)
+        requires { HasKeys Effect.Any (map listed_of changes.now) self.old }
+        ensures { HasKeys effect (map listed_of changes.now) self.new }
+    {
+        self.keys
+            .retain(|key| has_effect(changes, key.place, effect));
+    }
+
     /// The changes with this effect.
     pub(crate) fn new(
         alloc: Global,

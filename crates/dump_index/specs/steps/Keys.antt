@@ -1,5 +1,5 @@
 -- Changes in the order of their paths, and among those of one path in the order of the dump.
-use Rattle.std.specs.Prelude.{◌≡◌, ℕ, Bool, true, List}
+use Rattle.std.specs.Prelude.{◌≡◌, ℕ, Bool, true, false, List, Option, Some, None, slice_get}
 use Rattle.std.specs.List.{Contains}
 use Rattle.std.specs.List.Sorted.{IsSortedBy}
 use Rattle.std.specs.Cmp.Lexicographic.{slice_cmp}
@@ -32,3 +32,16 @@ IsSortedKeys keys = IsSortedBy (λ a b. is_key_before (key_of a) (key_of b)) key
 pub record HasKeys (effect : Effect) (listed : List Listed) (keys : List PathKey) : Type 0 where
   pub has : (path : List ℕ) (place : ℕ) → has_effect_at effect listed path place ≡ true → Contains keys (path, place)
   pub only : (path : List ℕ) (place : ℕ) → Contains keys (path, place) → has_effect_at effect listed path place ≡ true
+
+-- whether there is a change, and it is of this effect
+abbrev pub is_of_effect : Effect → Option Listed → Bool
+is_of_effect effect None = false
+is_of_effect effect (Some l) = has_effect effect l
+
+-- whether the change at this place is of this effect
+abbrev pub has_effect_here : Effect → List Listed → ℕ → Bool
+has_effect_here effect listed place = is_of_effect effect (slice_get listed place)
+
+-- whether the change of a key is of this effect
+abbrev pub is_chosen : Effect → List Listed → Key → Bool
+is_chosen effect listed key = has_effect_here effect listed key.place
