@@ -1,8 +1,10 @@
 -- Records that are read one by one make the revisions of the dump.
-use Rattle.std.proofs.Common.{◌≡◌, ℕ, suc, Bool, true, false, not, ◌&&◌, ◌||◌, cond, List, [], ◌∷◌, ◌++◌, map, Option, Some, None, nat_eq, refl, sym, ap, ap₂, ◌∙◌, subst, inl, inr, ◌⊎◌, eq-eqb, arith}
-use Rattle.std.specs.List.{AllZip, take_while}
+use Rattle.std.specs.Prelude.{⊤}
+use Rattle.std.proofs.Common.{◌≡◌, ◌<◌, ℕ, zero, suc, Bool, true, false, not, ◌&&◌, ◌||◌, cond, List, [], ◌∷◌, ◌++◌, map, Option, Some, None, nat_eq, nat_le, refl, sym, ap, ap₂, ◌∙◌, subst, inl, inr, ◌⊎◌, eq-eqb, eqb-true, arith}
+use Rattle.std.specs.List.{AllZip, list_any, take_while}
 use Rattle.std.proofs.lemmas.List.Sums.{take_while-cons}
-use Rattle.std.proofs.lemmas.Bool.{and_from}
+use Rattle.std.proofs.lemmas.Bool.{and_from, and_parts}
+use Rattle.dump_records.specs.DumpText.{Ending, HasRecords}
 use Rattle.dump_records.specs.RecordText.{DumpRecord}
 use Rattle.dump_digest.specs.RecordParts.{is_revision_record, is_node}
 use Rattle.dump_filter.specs.Groups.{Group, group_of, groups, group_number, revision_number, revision_numbers}
@@ -10,6 +12,10 @@ use Rattle.dump_trees.specs.Changes.{Change}
 use Rattle.dump_trees.specs.Looking.{Placed, placed_from}
 use Rattle.dump_history.specs.RecordChanges.{Patching, MakesChange}
 use Rattle.dump_history.specs.DumpChanges.{counts_from, has_ordered_nodes, MakeChanges, MakeRevisions}
+use Rattle.dump_index.specs.IndexLaws.{IsListed}
+use Rattle.dump_index.specs.Listed.{listed_of}
+use Rattle.dump_index.specs.declared.change.NodeChange.{NodeChange}
+use Rattle.dump_changes.specs.ListedDumps.{AreListedIn, MakesListed, are_numbered, rise_from, NodesMake, NoRecord, RevisionRecord, NodeRecord, OtherRecord}
 use Rattle.dump_changes.specs.steps.Reading.{Reads, NoMore, Revision, Node, Other}
 
 abbrev of_one : ℕ → List Change → List Placed
@@ -201,3 +207,87 @@ module _ (patched : Patching) where
         },
         all.placed_is ∙ ap (placed_from 0) is,
       )
+
+-- how a revision counts, and that others don't
+pub counts_revision : (next : ℕ) (r : DumpRecord) (records : List DumpRecord) → is_revision_record r ≡ true
+    → counts_from next (revision_numbers (r ∷ records))
+    ≡ (nat_eq (revision_number r) next && counts_from (suc next) (revision_numbers records))
+counts_revision next r records is =
+    ap (λ (b : Bool). counts_from next (map group_number (cond b (group_of r records ∷ groups records) (groups records)))) is
+
+pub counts_other : (next : ℕ) (r : DumpRecord) (records : List DumpRecord) → is_revision_record r ≡ false
+    → counts_from next (revision_numbers (r ∷ records)) ≡ counts_from next (revision_numbers records)
+counts_other next r records isnt =
+    ap (λ (b : Bool). counts_from next (map group_number (cond b (group_of r records ∷ groups records) (groups records)))) isnt
+
+pub numbers_other : (r : DumpRecord) (records : List DumpRecord) → is_revision_record r ≡ false
+    → revision_numbers (r ∷ records) ≡ revision_numbers records
+numbers_other r records isnt =
+    ap (λ (b : Bool). map group_number (cond b (group_of r records ∷ groups records) (groups records))) isnt
+
+pub rises_revision : (next : ℕ) (r : DumpRecord) (records : List DumpRecord) → is_revision_record r ≡ true
+    → rise_from next (revision_numbers (r ∷ records))
+    ≡ (nat_le next (revision_number r) && rise_from (suc (revision_number r)) (revision_numbers records))
+rises_revision next r records is =
+    ap (λ (b : Bool). rise_from next (map group_number (cond b (group_of r records ∷ groups records) (groups records)))) is
+
+-- the number of the present revision is the one before the next
+abbrev Fits : ℕ → Option ℕ → Type 0
+Fits next None = ⊤
+Fits next (Some number) = next ≡ suc number
+
+-- what nodes make, where the revisions are numbered one by one
+module _ (patched : Patching) where
+  a_node : (next number : ℕ) (r : DumpRecord) (records : List DumpRecord) (placed : List Placed) (c : Change)
+      → is_revision_record r ≡ false → is_node r ≡ true → MakesChange patched r c → 0 < number
+      → Reads patched next (Some number) records placed
+      → Reads patched next (Some number) (r ∷ records) (record { revision = number; change = c } ∷ placed)
+  a_node next zero r records placed c isnt is makes some rest = absurd (omega arith)
+  a_node next (suc number) r records placed c isnt is makes some rest = Node next number r records placed c isnt is makes rest
+
+  the_end : (next : ℕ) (present : Option ℕ) → (false ≡ true) ⊎ (0 < next) → Reads patched next present [] []
+  the_end next present (inl bad) = absurd (cc)
+  the_end zero present (inr some) = absurd (omega arith)
+  the_end (suc next) present (inr some) = NoMore next present
+
+  some_left : (next : ℕ) (r : DumpRecord) (records : List DumpRecord) → is_revision_record r ≡ false
+      → (list_any is_revision_record (r ∷ records) ≡ true) ⊎ (0 < next)
+      → (list_any is_revision_record records ≡ true) ⊎ (0 < next)
+  some_left next r records isnt (inl some) = inl (sym (ap (λ b. b || list_any is_revision_record records) isnt) ∙ some)
+  some_left next r records isnt (inr more) = inr more
+
+  pub nodes_read : (next : ℕ) (present : Option ℕ) (records : List DumpRecord) (placed : List Placed)
+      → NodesMake patched present records placed → counts_from next (revision_numbers records) ≡ true → Fits next present
+      → (list_any is_revision_record records ≡ true) ⊎ (0 < next) → Reads patched next present records placed
+  nodes_read next present _ _ (NoRecord _) counts fits some = the_end next present some
+  nodes_read next present _ placed (RevisionRecord _ r records _ is isnt rest) counts fits some =
+      let both = and_parts (nat_eq (revision_number r) next) (counts_from (suc next) (revision_numbers records))
+      (sym (counts_revision next r records is) ∙ counts) in
+      let number : revision_number r ≡ next = eqb-true (revision_number r) next both.0 in
+      Revision next present r records placed is isnt number
+      (subst (λ n. Reads patched (suc next) (Some n) records placed) number
+      (nodes_read (suc next) (Some (revision_number r)) records placed rest both.1 (ap suc (sym number))
+      (inr (omega arith))))
+  nodes_read next (Some _) _ _ (NodeRecord number r records placed c isnt is makes positive rest) counts fits some =
+      a_node next number r records placed c isnt is makes positive
+      (nodes_read next (Some number) records placed rest (sym (counts_other next r records isnt) ∙ counts) fits
+      (some_left next r records isnt some))
+  nodes_read next present _ placed (OtherRecord _ r records _ one two rest) counts fits some =
+      Other next present r records placed one two
+      (nodes_read next None records placed rest (sym (counts_other next r records one) ∙ counts) tt
+      (some_left next r records one some))
+
+-- the changes of the nodes of a dump are those of its revisions, where these are numbered one by one
+pub numbered_makes : (dump : List ℕ) (records : List DumpRecord) (changes : List NodeChange)
+    → HasRecords dump records Ending.Whole → are_numbered records ≡ true → AreListedIn records changes
+    → MakesListed dump changes
+numbered_makes dump records changes whole numbered listed = (
+  records,
+  whole,
+  λ patched.
+      let (placed, nodes, are) = listed patched in
+      let both = and_parts (list_any is_revision_record records) (counts_from 0 (revision_numbers records)) numbered in
+      let reads = nodes_read patched 0 None records placed nodes both.1 tt (inl both.0) in
+      let made = reads_revisions patched records placed reads in
+      (made.0, made.1, subst (λ (ps : List Placed). AllZip IsListed (map listed_of changes) ps) made.2 are),
+)

@@ -11,9 +11,15 @@ use Rattle.dump_index.specs.IndexLaws.{IsListed}
 use Rattle.dump_index.specs.declared.change.NodeChange.{NodeChange}
 use Rattle.dump_changes.specs.declared.read.Position.{Position}
 use Rattle.dump_changes.specs.declared.read.Step.TheVariants.{Goes, Makes}
-use Rattle.dump_changes.specs.ListedDumps.{MakesListed}
-use Rattle.dump_changes.specs.steps.Reading.{Reads, NoMore, Revision, Node, IsBeforeFirst, IsReadingStep}
-use Rattle.std.proofs.Common.{◌||◌, ap₂, unwrap_or}
+use Rattle.dump_changes.specs.ListedDumps.{AreListedIn, NodesMake, NoRecord, RevisionRecord, NodeRecord, are_numbered, rise_from}
+use Rattle.dump_changes.specs.declared.read.End.{End}
+use Rattle.dump_changes.specs.declared.read.Reading.{Reading}
+use Rattle.dump_changes.specs.steps.DumpReading.{EndsReading, IsNext, IsReadingOfDump}
+use Rattle.dump_changes.specs.steps.Reading.{IsBeforeFirst, IsCountingStep, IsEndAt, IsReadingStep, counts_on}
+use Rattle.std.proofs.Common.{◌||◌, ◌&&◌, ◌==◌, Bool, MatchBool, ap₂, eqb-true, inl, inr, lt-ltb, nat_le, nat_lt, unwrap_or}
+use Rattle.std.proofs.lemmas.Bool.{cases_Bool, or_parts}
+use Rattle.dump_filter.specs.Groups.{revision_numbers}
+use Rattle.dump_history.specs.DumpChanges.{counts_from}
 use Rattle.std.proofs.lemmas.List.Folds.{list_any-append}
 use Rattle.std.specs.List.{list_any}
 use Rattle.dump_text.specs.Names.{revision_name}
@@ -21,7 +27,7 @@ use Rattle.dump_records.specs.HeaderRules.{header_number}
 use Rattle.dump_records.specs.declared.kind.RecordKind.{RecordKind}
 use Rattle.dump_records.specs.declared.kind.RecordKind.TheVariants as kinds
 use Rattle.dump_filter.proofs.groups.KindLemmas.{IsOfKind}
-use Rattle.dump_changes.proofs.ReadLemmas.{reads_revisions}
+use Rattle.dump_changes.proofs.ReadLemmas.{counts_other, counts_revision, numbers_other, rises_revision}
 
 -- what the records that the cutter has given make
 pub record ReadSoFar (dump : List ℕ) (cutter : CutterState) (at : Position) (changes : List NodeChange) : Type 0 where
@@ -30,9 +36,13 @@ pub record ReadSoFar (dump : List ℕ) (cutter : CutterState) (at : Position) (c
   pub begins : BeginsWithRecords dump before
   pub count : length before ≡ cutter.number
   pub no_revision : at.next ≡ 0 → list_any is_revision_record before ≡ false
+  pub before_first : list_any is_revision_record before ≡ false → at.next ≡ 0
+  pub counts : (records : List DumpRecord) → counts_from 0 (revision_numbers (before ++ records)) ≡ counts_on at records
+  pub rises : (records : List DumpRecord)
+      → rise_from 0 (revision_numbers (before ++ records)) ≡ rise_from at.next (revision_numbers records)
   pub reads : (patched : Patching) → (placed : List Placed) × AllZip IsListed (map listed_of changes) placed
-      × ((records : List DumpRecord) (more : List Placed) → Reads patched at.next at.present records more
-      → Reads patched 0 None (before ++ records) (placed ++ more))
+      × ((records : List DumpRecord) (more : List Placed) → NodesMake patched at.present records more
+      → NodesMake patched None (before ++ records) (placed ++ more))
 
 -- a dump begins with no records
 begins_with_none : (dump : List ℕ) → BeginsWithRecords dump []
@@ -41,20 +51,21 @@ begins_with_none dump =
     begins_prefix dump [] records (has.0, has.1, has.2)
 
 pub none_read : (dump : List ℕ) (cutter : CutterState) (at : Position) (changes : List NodeChange)
-    → cutter ≡ record { dump = dump; number = 0 } → at.next ≡ 0 → at.present ≡ None → changes ≡ []
-    → ReadSoFar dump cutter at changes
-none_read dump cutter at changes is first outside none = record {
+    → cutter ≡ record { dump = dump; number = 0 } → at ≡ record { next = 0; present = None; numbered = true }
+    → changes ≡ [] → ReadSoFar dump cutter at changes
+none_read dump cutter at changes is first none = record {
   dump_is = ap (λ (c : CutterState). c.dump) is;
   before = [];
   begins = begins_with_none dump;
   count = sym (ap (λ (c : CutterState). c.number) is);
   no_revision = λ none. refl;
+  before_first = λ none. ap (λ (p : Position). p.next) first;
+  counts = λ records. ap (λ p. counts_on p records) (sym first);
+  rises = λ records. ap (λ (p : Position). rise_from p.next (revision_numbers records)) (sym first);
   reads = λ patched. (
     [],
     subst (λ (cs : List NodeChange). AllZip IsListed (map listed_of cs) []) (sym none) tt,
-    λ records more reads.
-        subst (λ n. Reads patched n None records more) first
-        (subst (λ p. Reads patched at.next p records more) outside reads),
+    λ records more reads. subst (λ (p : Position). NodesMake patched p.present records more) first reads,
   );
 }
 
@@ -80,9 +91,9 @@ module _ (dump : List ℕ) (cutter after : CutterState) (at : Position) (changes
         length-append so_far.before (record_item item ∷ [])
         ∙ (ap (λ n. n + 1) so_far.count ∙ sym (ap (λ (c : CutterState). c.number) step.3))
 
-    -- the record stands in the dump, under its number
-    pub is_next : (number : ℕ) → number ≡ record_number item → IsRecordOf dump number (record_item item)
-    is_next number is = (so_far.before, begins_next, so_far.count ∙ sym (is ∙ step.1))
+    -- the record has the next number
+    pub is_next : (number : ℕ) → number ≡ record_number item → IsNext dump so_far.before number (record_item item)
+    is_next number is = (begins_next, so_far.count ∙ sym (is ∙ step.1))
 
     -- the cutter is nearer to the end
     pub read_nearer : (after.number ≡ cutter.number + 1) × (after.number ≤ length dump)
@@ -100,21 +111,37 @@ module _ (dump : List ℕ) (cutter after : CutterState) (at : Position) (changes
     none_next none other = list_any-append is_revision_record so_far.before (record_item item ∷ [])
         ∙ ap₂ (λ a b. a || (b || false)) (so_far.no_revision none) other
 
+    -- where there is no revision yet with the record, it is none, and none was before
+    neither : list_any is_revision_record (so_far.before ++ record_item item ∷ []) ≡ false
+        → (list_any is_revision_record so_far.before ≡ false) × (is_revision_record (record_item item) ≡ false)
+    neither none =
+        let its = or_parts (list_any is_revision_record so_far.before) (is_revision_record (record_item item) || false)
+        (sym (list_any-append is_revision_record so_far.before (record_item item ∷ [])) ∙ none) in
+        (its.0, (or_parts (is_revision_record (record_item item)) false its.1).0)
+
     -- a record that makes no change
     pub read_on : (next : Position) → IsReadingStep (record_item item) at (Goes next)
-        → IsBeforeFirst (record_item item) at (Goes next) → ReadSoFar dump after next changes
-    read_on next goes first = record {
+        → IsBeforeFirst (record_item item) at (Goes next) → IsCountingStep (record_item item) at (Goes next)
+        → ReadSoFar dump after next changes
+    read_on next goes first counting = record {
       dump_is = ap (λ (c : CutterState). c.dump) step.3 ∙ so_far.dump_is;
       before = so_far.before ++ record_item item ∷ [];
       begins = begins_next;
       count = count_next;
-      no_revision = λ none. let its = first none in none_next its.0 its.1;
+      no_revision = λ none. let its = first.0 none in none_next its.0 its.1;
+      before_first = λ none. let its = neither none in first.1 (so_far.before_first its.0) its.1;
+      counts = λ records.
+          ap (λ rs. counts_from 0 (revision_numbers rs)) (append_assoc so_far.before (record_item item ∷ []) records)
+          ∙ so_far.counts (record_item item ∷ records) ∙ (counting records).0;
+      rises = λ records.
+          ap (λ rs. rise_from 0 (revision_numbers rs)) (append_assoc so_far.before (record_item item ∷ []) records)
+          ∙ so_far.rises (record_item item ∷ records) ∙ (counting records).1;
       reads = λ patched.
           let front = so_far.reads patched in (
             front.0,
             front.1,
             λ records more reads.
-                subst (λ (rs : List DumpRecord). Reads patched 0 None rs (front.0 ++ more))
+                subst (λ (rs : List DumpRecord). NodesMake patched None rs (front.0 ++ more))
                 (sym (append_assoc so_far.before (record_item item ∷ []) records))
                 (front.2 (record_item item ∷ records) more (goes patched records more reads)),
           );
@@ -122,13 +149,21 @@ module _ (dump : List ℕ) (cutter after : CutterState) (at : Position) (changes
 
     -- and one that does
     pub read_more : (c : NodeChange) (all : List NodeChange) → IsReadingStep (record_item item) at (Makes c)
-        → IsBeforeFirst (record_item item) at (Makes c) → all ≡ changes ++ c ∷ [] → ReadSoFar dump after at all
-    read_more c all makes other all_is = record {
+        → IsBeforeFirst (record_item item) at (Makes c) → IsCountingStep (record_item item) at (Makes c)
+        → all ≡ changes ++ c ∷ [] → ReadSoFar dump after at all
+    read_more c all makes other counting all_is = record {
       dump_is = ap (λ (s : CutterState). s.dump) step.3 ∙ so_far.dump_is;
       before = so_far.before ++ record_item item ∷ [];
       begins = begins_next;
       count = count_next;
       no_revision = λ none. none_next none other;
+      before_first = λ none. so_far.before_first (neither none).0;
+      counts = λ records.
+          ap (λ rs. counts_from 0 (revision_numbers rs)) (append_assoc so_far.before (record_item item ∷ []) records)
+          ∙ so_far.counts (record_item item ∷ records) ∙ (counting records).0;
+      rises = λ records.
+          ap (λ rs. rise_from 0 (revision_numbers rs)) (append_assoc so_far.before (record_item item ∷ []) records)
+          ∙ so_far.rises (record_item item ∷ records) ∙ (counting records).1;
       reads = λ patched.
           let front = so_far.reads patched in
           let made = makes patched in
@@ -138,9 +173,9 @@ module _ (dump : List ℕ) (cutter after : CutterState) (at : Position) (changes
                 (sym (ap (map listed_of) all_is ∙ map-append listed_of changes (c ∷ [])))
                 (zip_push (map listed_of changes) front.0 front.1 (listed_of c) new made.1),
             λ records more reads.
-                subst (λ (ps : List Placed). Reads patched 0 None ((so_far.before ++ record_item item ∷ []) ++ records) ps)
+                subst (λ (ps : List Placed). NodesMake patched None ((so_far.before ++ record_item item ∷ []) ++ records) ps)
                 (sym (append_assoc front.0 (new ∷ []) more))
-                (subst (λ (rs : List DumpRecord). Reads patched 0 None rs (front.0 ++ new ∷ more))
+                (subst (λ (rs : List DumpRecord). NodesMake patched None rs (front.0 ++ new ∷ more))
                 (sym (append_assoc so_far.before (record_item item ∷ []) records))
                 (front.2 (record_item item ∷ records) (new ∷ more) (made.2 records more reads))),
           );
@@ -153,53 +188,127 @@ module _ (dump : List ℕ) (cutter after : CutterState) (at : Position) (changes
       (subst (λ d. EndsAfter d (length so_far.before) ending) so_far.dump_is
       (subst (λ n. EndsAfter cutter.dump n ending) (sym so_far.count) ends))
 
-  -- where none of them is a revision
-  pub none_there : EndsAfter cutter.dump cutter.number Ending.Whole → at.next ≡ 0
-      → (records : List DumpRecord) × HasRecords dump records Ending.Whole
-      × (list_any is_revision_record records ≡ false)
-  none_there ends none = (so_far.before, all_records Ending.Whole ends, so_far.no_revision none)
+  -- all nodes read make these changes
+  pub nodes_made : AreListedIn so_far.before changes
+  nodes_made patched =
+      let front = so_far.reads patched in (
+        front.0,
+        subst (λ (rs : List DumpRecord). NodesMake patched None rs front.0) (append-nil so_far.before)
+            (subst (λ (ps : List Placed). NodesMake patched None (so_far.before ++ []) ps) (append-nil front.0)
+            (front.2 [] [] (NoRecord at.present))),
+        front.1,
+      )
 
-  pub all_read : EndsAfter cutter.dump cutter.number Ending.Whole → (at.next ≡ 0 → ⊥) → MakesListed dump changes
-  all_read ends some = (
-    so_far.before,
-    all_records Ending.Whole ends,
-    λ patched.
-        let front = so_far.reads patched in
-        let reads = subst (λ (rs : List DumpRecord). Reads patched 0 None rs front.0) (append-nil so_far.before)
-        (subst (λ (ps : List Placed). Reads patched 0 None (so_far.before ++ []) ps) (append-nil front.0)
-        (front.2 [] [] (at_end patched at.next refl))) in
-        let made = reads_revisions patched so_far.before front.0 reads in
-        (made.0, made.1, subst (λ (ps : List Placed). AllZip IsListed (map listed_of changes) ps) made.2 front.1),
-  )
+  -- they are numbered one by one, where the position says so
+  counted : counts_from 0 (revision_numbers so_far.before) ≡ at.numbered
+  counted =
+      ap (λ rs. counts_from 0 (revision_numbers rs)) (sym (append-nil so_far.before)) ∙ so_far.counts [] ∙ only at.numbered
     where
-      at_end : (patched : Patching) (n : ℕ) → at.next ≡ n → Reads patched n at.present [] []
-      at_end patched zero is = absurd (some is)
-      at_end patched (suc n) is = NoMore n at.present
+      only : (b : Bool) → (b && true) ≡ b
+      only true = refl
+      only false = refl
+
+  -- and there is a revision, where the next one isn't the first
+  some_revision : list_any is_revision_record so_far.before ≡ nat_lt 0 at.next
+  some_revision = elim (cases_Bool (list_any is_revision_record so_far.before)) [
+    | inl is ↦ is ∙ sym (positive at.next (λ none.
+        let bad : true ≡ false = sym is ∙ so_far.no_revision none in absurd (cc)))
+    | inr none ↦ none ∙ sym (ap (nat_lt 0) (so_far.before_first none))
+  ]
+    where
+      positive : (n : ℕ) → (n ≡ 0 → ⊥) → nat_lt 0 n ≡ true
+      positive zero some = absurd (some refl)
+      positive (suc n) some = lt-ltb 0 (suc n) (omega arith)
+
+  pub numbered_is : are_numbered so_far.before ≡ (at.numbered && nat_lt 0 at.next)
+  numbered_is = ap₂ (λ a b. a && b) some_revision counted ∙ swapped (nat_lt 0 at.next) at.numbered
+    where
+      swapped : (a b : Bool) → (a && b) ≡ (b && a)
+      swapped true true = refl
+      swapped true false = refl
+      swapped false true = refl
+      swapped false false = refl
+
+  pub ends_whole : EndsAfter cutter.dump cutter.number Ending.Whole → (end : End) → IsEndAt at end
+      → EndsReading dump so_far.before end
+  ends_whole ends end is = cases (at.numbered && nat_lt 0 at.next) numbered_is is
+    where
+      cases : (b : Bool) → are_numbered so_far.before ≡ b
+          → MatchBool b (end ≡ End.Numbered) (end ≡ End.OtherNumbers) → EndsReading dump so_far.before end
+      cases true numbered here =
+          subst (EndsReading dump so_far.before) (sym here) (all_records Ending.Whole ends, numbered)
+      cases false other here =
+          subst (EndsReading dump so_far.before) (sym here) (all_records Ending.Whole ends, other)
+
+  pub read_so_far : (end : End) → EndsReading dump so_far.before end → (reading : Reading) → reading.changes.items ≡ changes
+      → reading.end ≡ end → IsReadingOfDump dump reading
+  read_so_far end ends reading its ended = record {
+    records = so_far.before;
+    begins = so_far.begins;
+    rise = ap (λ rs. rise_from 0 (revision_numbers rs)) (sym (append-nil so_far.before)) ∙ so_far.rises [];
+    listed = subst (AreListedIn so_far.before) (sym its) nodes_made;
+    ends = subst (EndsReading dump so_far.before) (sym ended) ends;
+  }
 
 -- one record
 
 -- a node of a revision behind the first one
-pub node_reads : (patched : Patching) (next : ℕ) (present : Option ℕ) (number : ℕ) (r : DumpRecord) (change : Change)
+pub node_reads : (patched : Patching) (present : Option ℕ) (number : ℕ) (r : DumpRecord) (change : Change)
     (revision : ℕ) (records : List DumpRecord) (placed : List Placed) → is_revision_record r ≡ false → is_node r ≡ true
     → MakesChange patched r change → present ≡ Some number → 0 < number → number ≡ revision
-    → Reads patched next present records placed
-    → Reads patched next present (r ∷ records) (record { revision = revision; change = change } ∷ placed)
-node_reads patched next present zero r change revision records placed isnt is makes here some same reads = absurd (omega arith)
-node_reads patched next present (suc number) r change revision records placed isnt is makes here some same reads =
-    subst (λ n. Reads patched next present (r ∷ records) (record { revision = n; change = change } ∷ placed)) same
-    (subst (λ p. Reads patched next p (r ∷ records) (record { revision = suc number; change = change } ∷ placed)) (sym here)
-    (Node next number r records placed change isnt is makes (subst (λ p. Reads patched next p records placed) here reads)))
+    → NodesMake patched present records placed
+    → NodesMake patched present (r ∷ records) (record { revision = revision; change = change } ∷ placed)
+node_reads patched present number r change revision records placed isnt is makes here some same reads =
+    subst (λ n. NodesMake patched present (r ∷ records) (record { revision = n; change = change } ∷ placed)) same
+    (subst (λ p. NodesMake patched p (r ∷ records) (record { revision = number; change = change } ∷ placed)) (sym here)
+    (NodeRecord number r records placed change isnt is makes some (subst (λ p. NodesMake patched p records placed) here reads)))
 
--- a revision of the next number
-pub revision_reads : (patched : Patching) (next : ℕ) (present : Option ℕ) (number : ℕ) (r : DumpRecord)
+-- a revision
+pub revision_reads : (patched : Patching) (present : Option ℕ) (number : ℕ) (r : DumpRecord)
     (records : List DumpRecord) (placed : List Placed) → is_revision_record r ≡ true → is_node r ≡ false
-    → Some number ≡ header_number revision_name r.headers → number ≡ next
-    → Reads patched (number + 1) (Some number) records placed → Reads patched next present (r ∷ records) placed
-revision_reads patched next present number r records placed is isnt its same reads =
-    Revision next present r records placed is isnt (sym (ap (λ o. unwrap_or o 0) its) ∙ same)
-    (subst (λ n. Reads patched (suc n) (Some n) records placed) same
-    (subst (λ n. Reads patched n (Some number) records placed)
-    (let more : number + 1 ≡ suc number = omega arith in more) reads))
+    → Some number ≡ header_number revision_name r.headers
+    → NodesMake patched (Some number) records placed → NodesMake patched present (r ∷ records) placed
+revision_reads patched present number r records placed is isnt its reads =
+    RevisionRecord present r records placed is isnt
+    (subst (λ n. NodesMake patched (Some n) records placed) (ap (λ o. unwrap_or o 0) its) reads)
+
+-- it is the next one, or its number is another
+pub revision_counts : (numbered : Bool) (next number : ℕ) (r : DumpRecord) (records : List DumpRecord)
+    → is_revision_record r ≡ true → Some number ≡ header_number revision_name r.headers
+    → (numbered && counts_from next (revision_numbers (r ∷ records)))
+    ≡ ((numbered && (number == next)) && counts_from (number + 1) (revision_numbers records))
+revision_counts false next number r records is its = refl
+revision_counts true next number r records is its =
+    counts_revision next r records is
+    ∙ ap (λ n. (n == next) && counts_from (suc next) (revision_numbers records)) (sym (ap (λ o. unwrap_or o 0) its))
+    ∙ same (number == next) refl
+  where
+    same : (b : Bool) → (number == next) ≡ b
+        → (b && counts_from (suc next) (revision_numbers records)) ≡ (b && counts_from (number + 1) (revision_numbers records))
+    same false is = refl
+    same true is =
+        let its : number ≡ next = eqb-true number next is in
+        let more : number + 1 ≡ suc next = omega arith in
+        ap (λ n. counts_from n (revision_numbers records)) (sym more)
+
+-- and it is above those before
+pub revision_rises : (next number : ℕ) (r : DumpRecord) (records : List DumpRecord) → is_revision_record r ≡ true
+    → Some number ≡ header_number revision_name r.headers → nat_le next number ≡ true
+    → rise_from next (revision_numbers (r ∷ records)) ≡ rise_from (number + 1) (revision_numbers records)
+revision_rises next number r records is its above =
+    rises_revision next r records is
+    ∙ ap (λ n. nat_le next n && rise_from (suc n) (revision_numbers records)) (sym (ap (λ o. unwrap_or o 0) its))
+    ∙ ap (λ b. b && rise_from (suc number) (revision_numbers records)) above
+    ∙ ap (λ n. rise_from n (revision_numbers records)) (let more : suc number ≡ number + 1 = omega arith in more)
+
+-- other records don't count
+pub other_counts : (at : Position) (r : DumpRecord) (records : List DumpRecord) → is_revision_record r ≡ false
+    → (counts_on at (r ∷ records) ≡ counts_on at records)
+    × (rise_from at.next (revision_numbers (r ∷ records)) ≡ rise_from at.next (revision_numbers records))
+other_counts at r records isnt = (
+  ap (λ b. at.numbered && b) (counts_other at.next r records isnt),
+  ap (rise_from at.next) (numbers_other r records isnt),
+)
 
 -- the kinds of records
 pub is_revision : (r : DumpRecord) (which : RecordKind) → IsOfKind r which → which ≡ kinds.Revision

@@ -1,12 +1,16 @@
 -- The changes of a dump's revisions, as an index lists them.
-use Rattle.std.specs.Prelude.{ℕ, List}
+use Rattle.std.specs.Prelude.{◌≡◌, ◌<◌, ◌&&◌, ℕ, suc, nat_le, Bool, true, false, List, [], ◌∷◌, Option, Some, None, option_map}
+use Rattle.std.specs.List.{list_any}
 use Rattle.dump_records.specs.RecordText.{DumpRecord}
-use Rattle.dump_records.specs.DumpText.{Ending, HasRecords}
-use Rattle.dump_trees.specs.Changes.{Change}
-use Rattle.dump_trees.specs.Looking.{placed_from}
-use Rattle.dump_history.specs.RecordChanges.{Patching}
-use Rattle.dump_history.specs.DumpChanges.{MakeRevisions}
+use Rattle.dump_records.specs.DumpText.{BeginsWithRecords, Ending, HasRecords}
+use Rattle.dump_digest.specs.RecordParts.{is_node, is_revision_record}
+use Rattle.dump_filter.specs.Groups.{revision_number, revision_numbers}
+use Rattle.dump_trees.specs.Changes.{Change, Made}
+use Rattle.dump_trees.specs.Looking.{Placed, placed_from}
+use Rattle.dump_history.specs.RecordChanges.{MakesChange, Patching}
+use Rattle.dump_history.specs.DumpChanges.{MakeRevisions, counts_from}
 use Rattle.dump_index.specs.IndexLaws.{AreListed}
+use Rattle.dump_index.specs.Listed.{Listed}
 use Rattle.dump_index.specs.declared.change.NodeChange.{NodeChange}
 
 -- the dump is records to its end, which make revisions whose changes are these, whatever text deltas make
@@ -14,3 +18,51 @@ abbrev pub MakesListed : List ℕ → List NodeChange → Type 0
 MakesListed dump changes = (records : List DumpRecord) × HasRecords dump records Ending.Whole
     × ((patched : Patching) → (revisions : List (List Change)) × MakeRevisions patched records revisions
     × AreListed changes (placed_from 1 revisions))
+
+-- whether there are revisions, and they are numbered 0, 1, 2 and so on
+abbrev pub are_numbered : List DumpRecord → Bool
+are_numbered records = list_any is_revision_record records && counts_from 0 (revision_numbers records)
+
+-- whether numbers rise, and none is below this one
+abbrev pub rise_from : ℕ → List ℕ → Bool
+rise_from least [] = true
+rise_from least (n ∷ numbers) = nat_le least n && rise_from (suc n) numbers
+
+-- the nodes of these records make these changes, in order: a change has the number of the revision record before its node, or
+-- this number, if there is none. No node is in revision 0, or in no revision
+pub data NodesMake (patched : Patching) : Option ℕ → List DumpRecord → List Placed → Type 0 where
+  NoRecord : (present : Option ℕ) → NodesMake patched present [] []
+  RevisionRecord : (present : Option ℕ) (r : DumpRecord) (records : List DumpRecord) (placed : List Placed)
+      → is_revision_record r ≡ true → is_node r ≡ false → NodesMake patched (Some (revision_number r)) records placed
+      → NodesMake patched present (r ∷ records) placed
+  NodeRecord : (number : ℕ) (r : DumpRecord) (records : List DumpRecord) (placed : List Placed) (c : Change)
+      → is_revision_record r ≡ false → is_node r ≡ true → MakesChange patched r c → 0 < number
+      → NodesMake patched (Some number) records placed
+      → NodesMake patched (Some number) (r ∷ records) (record { revision = number; change = c } ∷ placed)
+  OtherRecord : (present : Option ℕ) (r : DumpRecord) (records : List DumpRecord) (placed : List Placed)
+      → is_revision_record r ≡ false → is_node r ≡ false → NodesMake patched None records placed
+      → NodesMake patched present (r ∷ records) placed
+
+-- the nodes of these records make these changes, as an index lists them, whatever text deltas make
+abbrev pub AreListedIn : List DumpRecord → List NodeChange → Type 0
+AreListedIn records changes =
+    (patched : Patching) → (placed : List Placed) × NodesMake patched None records placed × AreListed changes placed
+
+-- the dump is records to its end, whose nodes make these changes; and there is no revision, or they are not numbered 0, 1, 2
+-- and so on, but by rising numbers
+abbrev pub MakesListedByNumbers : List ℕ → List NodeChange → Type 0
+MakesListedByNumbers dump changes = (records : List DumpRecord) × HasRecords dump records Ending.Whole
+    × (are_numbered records ≡ false) × (rise_from 0 (revision_numbers records) ≡ true) × AreListedIn records changes
+
+-- the dump begins with records whose nodes make these changes
+abbrev pub BeginsWithListed : List ℕ → List NodeChange → Type 0
+BeginsWithListed dump changes = (records : List DumpRecord) × BeginsWithRecords dump records × AreListedIn records changes
+
+-- a change, but for the number of the revision of which it copies
+abbrev pub without_number : Listed → Listed
+without_number l = record l { made = option_map unnumbered l.made }
+  where
+    unnumbered : Made → Made
+    unnumbered Made.NewFolder = Made.NewFolder
+    unnumbered Made.NewFile = Made.NewFile
+    unnumbered (Made.Copied number source) = Made.Copied 0 source

@@ -1,32 +1,31 @@
 //! The changes that the nodes of a dump make, read from its bytes, as `dump_index` takes them.
 //!
 //! [`read_changes`] reads those of a whole dump, and [`node_change`] that of one node. If a node makes no change that is
-//! modelled, or the revisions aren't numbered 0, 1, 2 and so on, the reading says at which record.
+//! modelled, or the numbers of the revisions don't rise, the reading ends there and says at which record. Where the revisions
+//! aren't numbered 0, 1, 2 and so on, [`with_loaded_sources`] says of which ones a load takes copies.
 //!
 //! ```
 //! let none = read_changes(rt.alloc(), b"SVN-fs-dump-format-version: 2\n\n")?;
-//! assert!(rt; matches!(&none, Reading::NoRevision));
+//! assert!(rt; none.changes.is_empty() && none.end == End::OtherNumbers);
 //! let broken = read_changes(rt.alloc(), b"SVN-fs-dump-format-version: 2\n\nx")?;
-//! assert!(rt;
-//!     matches!(
-//!         &broken,
-//!         Reading::Broken {
-//!             kind: FaultKind::HeaderCut,
-//!             place: 31
-//!         }
-//!     )
-//! );
+//! let place = End::Broken {
+//!     kind: FaultKind::HeaderCut,
+//!     place: 31,
+//! };
+//! assert!(rt; broken.end == place);
 //! ```
 //!
 //! `tests::other_ends_are_told` runs this.
 #![tactic(auto)]
 
 mod node;
+mod numbers;
 mod read;
 
 pub use dump_rules::Memory;
 pub use node::node_change;
-pub use read::{Reading, read_changes};
+pub use numbers::{first_in_gap, revision_numbers, with_loaded_sources};
+pub use read::{End, Reading, read_changes};
 
 #[cfg(test)]
 mod tests;

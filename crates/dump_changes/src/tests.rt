@@ -1,5 +1,7 @@
 //! What no clause says: worked dumps, and memory that is refused.
-use crate::{Memory, Reading, read_changes};
+use crate::{
+    End, Memory, Reading, first_in_gap, read_changes, revision_numbers, with_loaded_sources,
+};
 use dump_index::{ChangeIndex, NodeChange, NodeKind, NodeMade, Setting, Source, are_in_order};
 use dump_text::FaultKind;
 use std::alloc::Global;
@@ -53,10 +55,7 @@ fn branched() -> [NodeChange<'static>; 4] {
 }
 
 fn reads(reading: &Reading<'_>, changes: &[NodeChange<'_>]) -> bool {
-    match reading {
-        Reading::Changes(found) => found.as_slice() == changes,
-        _ => false,
-    }
+    reading.end == End::Numbered && reading.changes.as_slice() == changes
 }
 
 #[test]
@@ -89,28 +88,9 @@ fn assert_indexed(
 #[test]
 fn a_dump_is_indexed(rt: HostRuntime) -> Result<(), Fail> {
     let alloc = rt.alloc();
-    if let Reading::Changes(changes) = read_changes(alloc, BRANCHED)? {
-        assert_indexed(&rt, alloc, changes)?;
-        return Ok(());
-    }
-    assert!(rt; false, "the changes are read");
+    let reading = read_changes(alloc, BRANCHED)?;
+    assert_indexed(&rt, alloc, reading.changes)?;
     Ok(())
-}
-
-/// Which record makes no change, where one doesn't.
-fn no_change_at(alloc: Global, dump: &[u8]) -> Result<Option<u64>, Memory> {
-    match read_changes(alloc, dump)? {
-        Reading::NoChange(number) => Ok(Some(number)),
-        _ => Ok(None),
-    }
-}
-
-/// Which record has no part in the revisions, where one hasn't.
-fn out_of_order_at(alloc: Global, dump: &[u8]) -> Result<Option<u64>, Memory> {
-    match read_changes(alloc, dump)? {
-        Reading::OutOfOrder(number) => Ok(Some(number)),
-        _ => Ok(None),
-    }
 }
 
 const NO_ACTION: &[u8] = b"SVN-fs-dump-format-version: 2\n\n\
@@ -126,31 +106,84 @@ const IN_FIRST: &[u8] = b"SVN-fs-dump-format-version: 2\n\n\
 Revision-number: 0\n\n\
 Node-path: a\nNode-kind: dir\nNode-action: add\n\n\n";
 
+const FALLEN: &[u8] = b"SVN-fs-dump-format-version: 2\n\n\
+Revision-number: 0\n\n\
+Revision-number: 2\n\n\
+Revision-number: 2\n\n";
+
+/// How the reading of a dump ends.
+fn end_of(alloc: Global, dump: &[u8]) -> Result<End, Memory> {
+    let reading = read_changes(alloc, dump)?;
+    Ok(reading.end)
+}
+
 #[test]
 fn what_makes_no_change_is_told(rt: HostRuntime) -> Result<(), Fail> {
     let alloc = rt.alloc();
-    assert!(rt; no_change_at(alloc, NO_ACTION)? == Some(3));
-    assert!(rt; out_of_order_at(alloc, LEFT_OUT)? == Some(2));
-    assert!(rt; out_of_order_at(alloc, IN_FIRST)? == Some(2));
-    assert!(rt; no_change_at(alloc, BRANCHED)? == None);
-    assert!(rt; out_of_order_at(alloc, BRANCHED)? == None);
+    assert!(rt; end_of(alloc, NO_ACTION)? == End::NoChange(3));
+    assert!(rt; end_of(alloc, LEFT_OUT)? == End::OtherNumbers);
+    assert!(rt; end_of(alloc, FALLEN)? == End::OutOfOrder(3));
+    assert!(rt; end_of(alloc, IN_FIRST)? == End::OutOfOrder(2));
+    assert!(rt; end_of(alloc, BRANCHED)? == End::Numbered);
     Ok(())
 }
 
 #[test]
 fn other_ends_are_told(rt: HostRuntime) -> Result<(), Fail> {
     let none = read_changes(rt.alloc(), b"SVN-fs-dump-format-version: 2\n\n")?;
-    assert!(rt; matches!(&none, Reading::NoRevision));
+    assert!(rt; none.changes.is_empty() && none.end == End::OtherNumbers);
     let broken = read_changes(rt.alloc(), b"SVN-fs-dump-format-version: 2\n\nx")?;
-    assert!(rt;
-        matches!(
-            &broken,
-            Reading::Broken {
-                kind: FaultKind::HeaderCut,
-                place: 31
-            }
-        )
-    );
+    let place = End::Broken {
+        kind: FaultKind::HeaderCut,
+        place: 31,
+    };
+    assert!(rt; broken.end == place);
+    Ok(())
+}
+
+/// The number of the revision of which a load takes the copy that revision 9 makes of this one.
+fn taken(alloc: Global, numbers: &[u64], number: u64) -> Result<Option<u64>, Memory> {
+    let source = Source {
+        revision: number,
+        path: b"trunk",
+    };
+    let copy = [change(b"b", Some(NodeMade::CopyOf(source)), 9, 20)];
+    let Ok(loaded) = with_loaded_sources(alloc, numbers, &copy)? else {
+        return Ok(None);
+    };
+    match loaded[0].made {
+        Some(NodeMade::CopyOf(source)) => Ok(Some(source.revision)),
+        _ => Ok(None),
+    }
+}
+
+/// As `svnadmin load` of Subversion 1.14 takes them: it loads 2, 5, 6 and 9 as revisions 2 to 5.
+#[test]
+fn sources_are_those_that_a_load_takes(rt: HostRuntime) -> Result<(), Fail> {
+    let alloc = rt.alloc();
+    let gaps: &[u64] = &[0, 1, 2, 5, 6, 9];
+    assert!(rt; taken(alloc, gaps, 5)? == Some(5));
+    assert!(rt; taken(alloc, gaps, 3)? == Some(2));
+    assert!(rt; taken(alloc, gaps, 4)? == Some(2));
+    assert!(rt; taken(alloc, gaps, 8)? == Some(6));
+    assert!(rt; taken(alloc, gaps, 7)? == Some(5));
+    assert!(rt; taken(alloc, gaps, 9)? == None);
+    let later: &[u64] = &[7, 8, 9];
+    assert!(rt; taken(alloc, later, 8)? == Some(8));
+    assert!(rt; taken(alloc, later, 6)? == Some(0));
+    assert!(rt; taken(alloc, later, 5)? == None);
+    Ok(())
+}
+
+#[test]
+fn numbers_are_listed(rt: HostRuntime) -> Result<(), Fail> {
+    let alloc = rt.alloc();
+    let numbers = revision_numbers(alloc, LEFT_OUT)?;
+    let wanted: &[u64] = &[0, 2];
+    assert!(rt; numbers.as_slice() == wanted);
+    let changes = branched();
+    assert!(rt; first_in_gap(&[0, 1, 2], &changes) == None);
+    assert!(rt; first_in_gap(&[0, 2], &changes) == Some(&changes[2]));
     Ok(())
 }
 

@@ -1,23 +1,34 @@
 -- What is read of a dump.
-use Rattle.std.specs.Prelude.{◌≡◌, ◌||◌, ℕ, true, false, List}
-use Rattle.std.specs.List.{list_any}
+use Rattle.std.specs.Prelude.{◌≡◌, ◌||◌, ℕ, true, false, List, [], ◌∷◌, ◌++◌, length}
 use Rattle.dump_records.specs.RecordText.{DumpRecord}
-use Rattle.dump_records.specs.DumpText.{Ending, HasRecords}
-use Rattle.dump_records.specs.steps.CutRecords.{IsRecordOf}
+use Rattle.dump_records.specs.DumpText.{BeginsWithRecords, Ending, HasRecords}
 use Rattle.dump_digest.specs.RecordParts.{is_node, is_revision_record}
+use Rattle.dump_filter.specs.Groups.{revision_numbers}
 use Rattle.dump_trees.specs.Changes.{Change}
 use Rattle.dump_history.specs.RecordChanges.{Patching, MakesChange}
-use Rattle.dump_changes.specs.ListedDumps.{MakesListed}
+use Rattle.dump_changes.specs.ListedDumps.{AreListedIn, are_numbered, rise_from}
+use Rattle.dump_changes.specs.declared.read.End.{End}
+use Rattle.dump_changes.specs.declared.read.End.TheVariants.{Numbered, OtherNumbers, NoChange, OutOfOrder, Broken}
 use Rattle.dump_changes.specs.declared.read.Reading.{Reading}
-use Rattle.dump_changes.specs.declared.read.Reading.TheVariants.{Changes, NoChange, OutOfOrder, NoRevision, Broken}
+
+-- the record behind these has this number
+abbrev pub IsNext : List ℕ → List DumpRecord → ℕ → DumpRecord → Type 0
+IsNext dump records number r = BeginsWithRecords dump (records ++ r ∷ []) × (length records ≡ number)
+
+-- the reading ends behind these records
+abbrev pub EndsReading : List ℕ → List DumpRecord → End → Type 0
+EndsReading dump records Numbered = HasRecords dump records Ending.Whole × (are_numbered records ≡ true)
+EndsReading dump records OtherNumbers = HasRecords dump records Ending.Whole × (are_numbered records ≡ false)
+EndsReading dump records (NoChange number) = (r : DumpRecord) × IsNext dump records number r × (is_node r ≡ true)
+    × ((patched : Patching) (c : Change) → MakesChange patched r c → ⊥)
+EndsReading dump records (OutOfOrder number) = (r : DumpRecord) × IsNext dump records number r
+    × ((is_node r || is_revision_record r) ≡ true)
+EndsReading dump records (Broken kind place) = HasRecords dump records (Ending.Broken kind place)
 
 -- what is read
-abbrev pub IsReadingOfDump : List ℕ → Reading → Type 0
-IsReadingOfDump dump (Changes changes) = MakesListed dump changes.items
-IsReadingOfDump dump (NoChange number) = (r : DumpRecord) × IsRecordOf dump number r × (is_node r ≡ true)
-    × ((patched : Patching) (c : Change) → MakesChange patched r c → ⊥)
-IsReadingOfDump dump (OutOfOrder number) = (r : DumpRecord) × IsRecordOf dump number r
-    × ((is_node r || is_revision_record r) ≡ true)
-IsReadingOfDump dump NoRevision = (records : List DumpRecord) × HasRecords dump records Ending.Whole
-    × (list_any is_revision_record records ≡ false)
-IsReadingOfDump dump (Broken kind place) = (records : List DumpRecord) × HasRecords dump records (Ending.Broken kind place)
+pub record IsReadingOfDump (dump : List ℕ) (reading : Reading) : Type 0 where
+  pub records : List DumpRecord
+  pub begins : BeginsWithRecords dump records
+  pub rise : rise_from 0 (revision_numbers records) ≡ true
+  pub listed : AreListedIn records reading.changes.items
+  pub ends : EndsReading dump records reading.end

@@ -12,7 +12,7 @@ returns-in-Some-node_change-clause-reading c patched =
       subst (λ (n : ℕ). IsListed (listed_of c.in-Some-node_change.change) (record { revision = n; change = its.0 }))
           its.2.revision its.2,
       λ records placed reads.
-          node_reads patched c.args.self.now.next c.args.self.now.present c.in-Some.number (record_item c.args.item.now) its.0
+          node_reads patched c.args.self.now.present c.in-Some.number (record_item c.args.item.now) its.0
           c.in-Some-node_change.change.revision records placed c.requires.revision c.requires.node its.1 c.in-Some.is
           c.if-number-gt0.true its.2.revision reads,
     )
