@@ -1,5 +1,5 @@
 -- The changes that are read of a dump have paths with names of nodes.
-use Rattle.std.proofs.Common.{◌≡◌, ℕ, suc, Bool, true, false, not, ◌&&◌, cond, List, [], ◌∷◌, map, Some, None, codes, refl, sym, ap, ◌∙◌, subst}
+use Rattle.std.proofs.Common.{◌≡◌, ℕ, suc, Bool, true, false, not, ◌&&◌, cond, List, [], ◌∷◌, map, Some, None, codes, refl, sym, ap, ◌∙◌, subst, Option, ap₂}
 use Rattle.std.proofs.lemmas.Bool.{and_parts, and_from}
 use Rattle.std.proofs.lemmas.List.Folds.{list_all-append}
 use Rattle.std.specs.List.{AllZip, list_all}
@@ -19,7 +19,7 @@ use Rattle.dump_history.specs.RecordChanges.{Patching, MakesChange, copied_from,
 use Rattle.dump_index.specs.IndexLaws.{IsListed}
 use Rattle.dump_index.specs.Listed.{Listed, listed_of}
 use Rattle.dump_index.specs.declared.change.NodeChange.{NodeChange}
-use Rattle.dump_changes.specs.ListedDumps.{MakesListed}
+use Rattle.dump_changes.specs.ListedDumps.{AreListedIn, MakesListed, NodesMake, NoRecord, RevisionRecord, NodeRecord, OtherRecord, without_number}
 use Rattle.dump_cut.specs.NamedPaths.{has_named_paths, has_named_source}
 
 -- the same of a change of the repository
@@ -126,3 +126,41 @@ read_named dump changes (records, whole, make) =
     let named = groups_named patched (groups records) ([] ∷ its.0) its.1.changes in
     listed_named (map listed_of changes) (placed_from 1 its.0) its.2
     (all_placed_named 1 its.0 (and_parts true (list_all (list_all is_named) its.0) named).1)
+
+-- and so has each front of it
+nodes_make_named : (patched : Patching) (present : Option ℕ) (records : List DumpRecord) (placed : List Placed)
+    → NodesMake patched present records placed → list_all (λ (p : Placed). is_named p.change) placed ≡ true
+nodes_make_named patched present _ _ (NoRecord _) = refl
+nodes_make_named patched present _ placed (RevisionRecord _ r records _ is isnt rest) =
+    nodes_make_named patched _ records placed rest
+nodes_make_named patched _ _ _ (NodeRecord number r records placed c isnt is makes positive rest) =
+    and_from (is_named c) (list_all (λ (p : Placed). is_named p.change) placed) (node_named patched r c makes)
+    (nodes_make_named patched (Some number) records placed rest)
+nodes_make_named patched present _ placed (OtherRecord _ r records _ one two rest) =
+    nodes_make_named patched None records placed rest
+
+pub listed_in_named : (records : List DumpRecord) (changes : List NodeChange) → AreListedIn records changes
+    → list_all has_named_paths (map listed_of changes) ≡ true
+listed_in_named records changes listed =
+    let patched : Patching = λ delta old. None in
+    let its = listed patched in
+    listed_named (map listed_of changes) its.0 its.2 (nodes_make_named patched None records its.0 its.1)
+
+-- whatever the numbers of the revisions of which they copy
+number_unnamed : (l : Listed) → has_named_paths (without_number l) ≡ has_named_paths l
+number_unnamed l = ap (λ b. has_node_names (names_of l.path) && b) (cases l.made)
+  where
+    cases : (made : Option Made) → has_named_source ((without_number (record l { made = made })).made) ≡ has_named_source made
+    cases None = refl
+    cases (Some Made.NewFolder) = refl
+    cases (Some Made.NewFile) = refl
+    cases (Some (Made.Copied number source)) = refl
+
+numbers_unnamed : (listed : List Listed) → list_all has_named_paths (map without_number listed) ≡ list_all has_named_paths listed
+numbers_unnamed [] = refl
+numbers_unnamed (l ∷ listed) = ap₂ (λ a b. a && b) (number_unnamed l) (numbers_unnamed listed)
+
+pub same_named : (one other : List Listed) → map without_number one ≡ map without_number other
+    → list_all has_named_paths one ≡ list_all has_named_paths other
+same_named one other same =
+    sym (numbers_unnamed one) ∙ ap (list_all has_named_paths) same ∙ numbers_unnamed other

@@ -8,7 +8,7 @@ use crate::{
     Addition, Deletes, Excluded, Memory, PlacedRest, Refusal, Refused, Way, all_followed,
     canonical_prefix, first_not_taken, first_refused, follow,
 };
-use dump_changes::{Reading, read_changes};
+use dump_changes::{End, read_changes};
 use dump_index::{ChangeIndex, are_in_order};
 use dump_rules::{Empty, keeps};
 use std::alloc::Global;
@@ -22,13 +22,11 @@ Node-path: d/f\nNode-kind: file\nNode-action: add\n\n\nRevision-number: 2\n\n";
 fn index_of<'a>(alloc: Global, dump: &'a [u8]) -> Result<Option<ChangeIndex<'a>>, Memory>
     ensures { IfOk result (λ read. IfSome read (λ index. IsTrue (list_all has_named_paths index))) }
 {
-    let Reading::Changes(changes) = read_changes(alloc, dump)? else {
-        return Ok(None);
-    };
-    if !are_in_order(&changes) {
+    let reading = read_changes(alloc, dump)?;
+    if reading.end != End::Numbered || !are_in_order(&reading.changes) {
         return Ok(None);
     }
-    let index = ChangeIndex::new(alloc, changes)?;
+    let index = ChangeIndex::new(alloc, reading.changes)?;
     Ok(Some(index))
 }
 
