@@ -24,7 +24,9 @@ cut: svndumpcut excludes many sets of one to three paths from each dump, without
 from the original's trees and copies as docs/CUT.md says: the status and the lists have to be as computed. Nothing may be
 written but with status 0. What is written then is loaded into an empty repository, with svnadmin's checks of properties. It
 has to have each revision of the original with its number and its properties, and its tree without the excluded paths, and
-no text that only excluded files have. Of parts of a history nothing may be written.
+no text that only excluded files have. The same is done with parts of each history, and with dumps whose numbers have gaps,
+which svndumpfilter makes: there the original is what svnadmin loads of them, and nothing may be written of a dump that it
+rejects.
 
 The files of a failed run are kept in build/loaded_trees. Where Subversion is not installed, the test is left out and says
 so. The last line is 'N passed, M failed'.
@@ -52,8 +54,8 @@ REPOSITORIES, COMMITS, RUNS = 8, 18, 40
 PARTS, PART_RUNS = 3, 5
 # a repository doesn't grow above so many paths
 PATHS = 80
-# of each repository so many sets of paths are cut out, and so many parts are offered to svndumpcut
-CUTS, CUT_PARTS = 100, 6
+# of each repository so many sets of paths are cut out, and so many parts and dumps with gaps are offered to svndumpcut
+CUTS, CUT_PARTS, CUT_GAPS = 100, 6, 6
 OPTIONS = [
     ["--drop-empty-revs", "--renumber-revs"],
     ["--drop-empty-revs", "--renumber-revs", "--skip-missing-merge-sources"],
@@ -93,6 +95,13 @@ CUT_COUNTS = re.compile(
     rb"(?:; (\d+) paths? deleted behind copies)?; texts checked \d+\n\Z",
     re.MULTILINE,
 )
+OWN_LIFE = re.compile(
+    rb"^svndumpcut: warning: /(.*) is excluded in every revision, though what r(\d+) has there was not copied from excluded "
+    rb"content\n",
+    re.MULTILINE,
+)
+# the faults of a dump that svnadmin doesn't load
+UNLOADED = re.compile(rb"^svndumpcut: r\d+: .* \(fault (31|34), record \d+, byte \d+\)$", re.MULTILINE)
 MARKER = re.compile(rb"^only in text \d+\.$", re.MULTILINE)
 
 
@@ -389,7 +398,7 @@ class History:
         self.path = repository
         # the number of the first revision that was loaded into it, above 0 where that was a part of a history
         self.first = first
-        self.trees, self.properties, self.nodes, self.copies = [], [], [], []
+        self.trees, self.properties, self.nodes, self.copies, self.made = [], [], [], [], []
         tree = {b"": Node({}, None)}
         for record in records(call("svnadmin", "dump", "-q", repository)):
             if b"Revision-number" in record.headers:
@@ -403,6 +412,8 @@ class History:
                 copy = copy_of(record, len(self.trees) - 1)
                 if copy:
                     self.copies.append((copy, list(taken(copy, self.trees[copy.number]))))
+                elif record.headers[b"Node-action"] in (b"add", b"replace"):
+                    self.made.append((len(self.trees) - 1, record.headers[b"Node-path"]))
 
     @functools.cached_property
     def markers(self):
@@ -483,6 +494,11 @@ class Excluded(Call):
         """What copies bring back."""
         everything = (it for _, some in history.copies for it in some)
         return [it for it in everything if self.keeps(it.target) and not self.keeps(it.source)]
+
+    def own_life(self, history, path):
+        """The first revision in which something comes to be at the path that isn't a copy of excluded content, if any."""
+        copied = [it.revision for _, some in history.copies for it in some if it.target == path and self.keeps(it.source)]
+        return min(copied + [revision for revision, made in history.made if made == path], default=None)
 
     def deleted(self, history):
         """What is deleted behind kept copies: the topmost paths of what they have at their sources alone, by copy."""
@@ -719,7 +735,8 @@ class Cut(Trial):
     def wrong(self, answer, excluded, meant):
         """What is wrong with an answer, where some paths are given, and these are meant to be excluded."""
         status = 3 if meant.back(self.original) else 0
-        if answer.returncode != status or b"warning" in answer.stderr:
+        lives = OWN_LIFE.findall(answer.stderr)
+        if answer.returncode != status or answer.stderr.count(b"warning") != len(lives):
             return f"the status is {answer.returncode}, and {status} is meant: {answer.stderr.decode()}"
         if status and answer.stdout:
             return f"something is written with status {status}"
@@ -729,16 +746,24 @@ class Cut(Trial):
         return self.wrong_deleted(answer, meant) or self.wrong_output(answer, meant)
 
     def wrong_added(self, told, excluded, meant):
-        """Each path that is listed has to come from what stands before it, and all of them are those that are meant."""
+        """Each path that is listed has to come from excluded content, and all of them are those that are meant."""
         found, added = Excluded(excluded.paths), listed(ADDED, told)
-        for it in added:
-            if not any(it in some for _, some in self.original.copies):
-                return f"no copy takes {it}"
-            if found.keeps(it.source) or not found.keeps(it.target):
-                return f"{it} is listed, and doesn't add a path to those before it"
-            found.paths.add(it.target)
+        targets = [it.target for it in added]
+        if targets != sorted(targets):
+            return f"{targets} are not sorted"
+        if not all(any(it in some for _, some in self.original.copies) for it in added):
+            return f"no copy takes one of {added}"
+        left = added
+        while any(not found.keeps(it.source) for it in left):
+            found.paths.update(it.target for it in left if not found.keeps(it.source))
+            left = [it for it in left if found.keeps(it.source)]
+        if left:
+            return f"{left} are listed, and are no copies of excluded content"
         if any(map(meant.keeps, found.paths)) or any(map(found.keeps, meant.paths)):
             return f"{sorted(found.paths)} are excluded, and {sorted(meant.paths)} are meant"
+        lives = [(path, meant.own_life(self.original, path)) for path in targets]
+        if [(path, int(revision)) for path, revision in OWN_LIFE.findall(told)] != [it for it in lives if it[1] is not None]:
+            return f"{lives} had content of their own: {told.decode()}"
         said = [int(it) for it in ADDED_COUNT.findall(told)]
         if said != ([len(added)] if added else []) or len(added) != self.added * (meant is not excluded):
             return f"{len(added)} paths are listed, {said} are announced, and {self.added} were without --follow-copies"
@@ -817,15 +842,40 @@ class Cut(Trial):
         return None
 
 
-class CutPart(Trial):
-    """A run of svndumpcut on a part of a history."""
+class CutOther(Trial):
+    """A run of svndumpcut on a dump of another form: on a part of a history, or on one whose numbers have gaps."""
 
     def judge(self, built):
         it = ran(built["cut"], *self.words, given=self.dump)
-        if it.returncode != 1 or it.stdout or b": the dump lacks a revision before this one; " not in it.stderr:
-            return self.fail(f"the status is {it.returncode}, with {len(it.stdout)} bytes: {it.stderr.decode()}")
-        self.verdicts.append("not cut, since it is a part")
-        return self
+        with tempfile.TemporaryDirectory(dir=MEMORY) as folder:
+            original, _ = load(folder, self.dump, [], options=["--ignore-uuid"])
+            why = self.wrong(it, original, os.path.join(folder, "cut")) if original else self.wrong_refused(it)
+        return self.fail(f"{why}: {it.stderr.decode()}") if why else self
+
+    def wrong_refused(self, it):
+        """What is wrong with the answer, where svnadmin rejects the dump."""
+        if it.returncode != 1 or it.stdout or not UNLOADED.search(it.stderr):
+            return f"svnadmin rejects the dump, and the status is {it.returncode}, with {len(it.stdout)} bytes"
+        self.verdicts.append("not cut, since svnadmin rejects it")
+        return None
+
+    def wrong(self, it, original, folder):
+        """The same, where the dump gives this history."""
+        meant = Excluded(canonical(path) for path in self.words if path[0] != "-" and path != "exclude")
+        if "--follow-copies" in self.words:
+            meant = meant.followed(original)
+        status = 3 if meant.back(original) else 0
+        if it.returncode != status or status and it.stdout:
+            return f"the status is {it.returncode}, and {status} is meant, with {len(it.stdout)} bytes"
+        if status:
+            self.verdicts.append("not cut, since copies of another dump bring content back")
+            return None
+        os.mkdir(folder)
+        loaded, why = load(folder, it.stdout, [], options=["--ignore-uuid"])
+        why = why or Meant(original, meant).wrong(loaded)
+        if not why:
+            self.verdicts.append("another dump cut and equal")
+        return why
 
 
 def is_below(path, other):
@@ -924,13 +974,28 @@ def cut_runs(name, original, dumps, chance):
     for place in range(CUTS):
         given = cut_prefixes(original, chance)
         runs.append(Cut(f"{name}-{place}", original, chance.choice(dumps), given, place))
+    for place, dump in enumerate([*parts_of(original, chance), *dumps_with_gaps(original, dumps, chance)]):
+        words = ["exclude", *chance.choice([[], ["--follow-copies"]]), *cut_prefixes(original, chance)]
+        runs.append(CutOther(f"{name}-other-{place}", original, dump, words))
+    return runs
+
+
+def parts_of(original, chance):
+    """Dumps of parts of a history."""
     for first in chance.sample(range(2, len(original.trees)), CUT_PARTS):
         last = chance.randrange(first, len(original.trees))
-        more = [it for it in ("--deltas", "--incremental") if chance.random() < 0.5]
-        part = call("svnadmin", "dump", "-q", "-r", f"{first}:{last}", *more, original.path)
-        words = ["exclude", *chance.choice([[], ["--follow-copies"]]), *cut_prefixes(original, chance)]
-        runs.append(CutPart(f"{name}-{first}-{last}", original, part, words))
-    return runs
+        more = [it for it in ("--deltas", "--incremental") if chance.random() < 0.3]
+        yield call("svnadmin", "dump", "-q", "-r", f"{first}:{last}", *more, original.path)
+
+
+def dumps_with_gaps(original, dumps, chance):
+    """Dumps that lack the revisions that lost all of their nodes."""
+    program = programs()["filter"].built
+    for _ in range(CUT_GAPS):
+        words = ["exclude", "--drop-empty-revs", "--skip-missing-merge-sources", *cut_prefixes(original, chance)]
+        it = ran(program, *words, given=chance.choice(dumps))
+        if it.returncode == 0:
+            yield it.stdout
 
 
 def main(words):

@@ -1,5 +1,5 @@
 -- What the filter writes of a dump that is ready is its cut.
-use Rattle.std.proofs.Common.{ap, ◌≡◌, ◌||◌, ℕ, Bool, true, false, IfSome, MatchBool, List, [], length, map, Option, Some, None, Result, Ok, is_some, refl, sym, inl, ◌∙◌, subst}
+use Rattle.std.proofs.Common.{ap, ◌≡◌, ◌||◌, ℕ, Bool, true, false, IfSome, MatchBool, List, [], length, map, Option, Some, None, Result, Ok, is_some, refl, sym, inl, inr, ◌∙◌, subst}
 use Rattle.std.proofs.KnownBytes.{Keeps-refl}
 use Rattle.std.specs.Io.KnownBytes.{Keeps}
 use Rattle.std.specs.Prelude.{MatchOption}
@@ -36,7 +36,7 @@ use Rattle.dump_index.specs.Listed.{listed_of}
 use Rattle.dump_index.specs.ToldKinds.{kinds_told_by}
 use Rattle.dump_index.specs.declared.change.NodeChange.{NodeChange}
 use Rattle.dump_index.proofs.ToldLemmas.{index_tells_kinds}
-use Rattle.dump_changes.specs.ListedDumps.{MakesListed}
+use Rattle.dump_changes.specs.ListedDumps.{MakesListed, are_numbered}
 use Rattle.dump_cut.specs.LoadChecks.{IsFirstRefused}
 use Rattle.dump_cut.specs.NamedPaths.{has_named_paths}
 use Rattle.dump_cut.specs.TakenCopies.{IsFirstNotTaken, emptied_by}
@@ -47,7 +47,7 @@ use Rattle.dump_cut.proofs.OwnFormLemmas.{own_expansion}
 use Rattle.dump_cut.proofs.TakenLaw.{placed_named, revisions_named, taken_dump_loads}
 use Rattle.dump_cut.proofs.TakenLemmas.{taken_revisions_separate}
 use Rattle.dump_cut.proofs.TrimLaw.{trimmed_copies_load}
-use Rattle.cut_cli.specs.Cuts.{CutLoads, FiltersOrTrims, IsCutText, IsReadyFor, IsTrimmedIf}
+use Rattle.cut_cli.specs.Cuts.{AreChangesOf, CutLoads, FiltersOrTrims, IsCutText, IsReadyFor, IsTrimmedIf}
 use Rattle.cut_cli.specs.Drive.{AnswersBy, AnswersCall, CleanTextsAreCuts, CutsDump, WritesCut, WritesIfAsked}
 use Rattle.cut_cli.specs.Words.{CutMeaning}
 use Rattle.cut_cli.specs.steps.Examined.{AreDeletesIfAny}
@@ -249,9 +249,15 @@ module _ (m : CutMeaning) (dump : List ℕ) (settings : Settings) (records : Lis
 -- what the filter writes of the whole dump, with the deletes, is its cut
 pub clean_texts_are_cuts : (m : CutMeaning) (dump : List ℕ) (settings : Settings) (deletes : Option Deletes)
     → IsReadyFor m dump settings deletes → CleanTextsAreCuts m settings deletes dump
-clean_texts_are_cuts m dump settings deletes ready records filtered text clean trims =
-    let (changes, makes, same) = ready.is_taken.0 in
-    is_cut m dump settings records filtered text clean changes (read_named dump changes makes) deletes ready same trims makes
+clean_texts_are_cuts m dump settings deletes ready records filtered text clean numbered trims = cases ready.is_taken.0
+  where
+    cases : AreChangesOf dump ready.listed → IsCutText m settings deletes dump text
+    cases (inl (changes, makes, same)) =
+        is_cut m dump settings records filtered text clean changes (read_named dump changes makes) deletes ready same trims makes
+    cases (inr (changes, (others, whole, other, rise, listed), same)) = absurd (
+      let bad : true ≡ false = sym numbered
+      ∙ ap are_numbered (sym (one_list dump others records whole clean.whole)) ∙ other in
+      cc)
 
 module _ (m : CutMeaning) (dump : List ℕ) (settings : Settings) (deletes : Option Deletes) (old new : Option (List ℕ))
     (status : ℕ) (ready : IsReadyFor m dump settings deletes) where

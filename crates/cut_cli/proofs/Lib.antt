@@ -1,4 +1,5 @@
 pub mod CommandLemmas
 pub mod CutLemmas
 pub mod DriveLemmas
+pub mod FrontLemmas
 mod Values

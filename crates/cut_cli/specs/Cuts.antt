@@ -1,5 +1,5 @@
 -- What is found out of a dump before it is filtered, and what the filter then writes.
-use Rattle.std.specs.Prelude.{◌≡◌, ◌≢◌, ◌||◌, ℕ, true, false, List, [], ◌∷◌, ◌++◌, length, map, Bool, Option, Some, None, MatchOption, IsTrue}
+use Rattle.std.specs.Prelude.{◌≡◌, ◌≢◌, ◌⊎◌, ◌||◌, ℕ, true, false, List, [], ◌∷◌, ◌++◌, length, map, Bool, Option, Some, None, MatchOption, IsTrue}
 use Rattle.std.specs.List.{AllZip, list_all, list_any}
 use Rattle.dump_digest.specs.RecordParts.{is_node, is_revision_record}
 use Rattle.dump_records.specs.DumpText.{BeginsWithRecords, Ending, HasRecords}
@@ -26,7 +26,7 @@ use Rattle.dump_index.specs.InOrder.{are_in_order}
 use Rattle.dump_index.specs.Listed.{Listed, listed_of}
 use Rattle.dump_index.specs.ToldKinds.{kinds_told_by}
 use Rattle.dump_index.specs.declared.change.NodeChange.{NodeChange}
-use Rattle.dump_changes.specs.ListedDumps.{MakesListed}
+use Rattle.dump_changes.specs.ListedDumps.{BeginsWithListed, MakesListed, MakesListedByNumbers, without_number}
 use Rattle.dump_cut.specs.FollowedCopies.{ComeByFollowing}
 use Rattle.dump_cut.specs.LoadChecks.{IsFirstRefused}
 use Rattle.dump_cut.specs.TakenCopies.{IsFirstNotTaken, emptied_by}
@@ -39,9 +39,20 @@ use Rattle.cut_cli.specs.declared.read.Unread.TheVariants as unread
 
 -- reading
 
--- an index of the changes of the dump says this of them
+-- an index says this of the changes, but for the numbers of the revisions of which they copy
+abbrev pub AreListedButNumbers : List NodeChange → List Listed → Type 0
+AreListedButNumbers changes listed = map without_number (map listed_of changes) ≡ map without_number listed
+
+-- an index of the changes of the dump says this of them. If its revisions aren't numbered 0, 1, 2 and so on, copies can have
+-- the numbers of other revisions there: those of which a load takes them
 abbrev pub AreChangesOf : List ℕ → List Listed → Type 0
-AreChangesOf dump listed = (changes : List NodeChange) × MakesListed dump changes × (map listed_of changes ≡ listed)
+AreChangesOf dump listed = ((changes : List NodeChange) × MakesListed dump changes × (map listed_of changes ≡ listed))
+    ⊎ ((changes : List NodeChange) × MakesListedByNumbers dump changes × AreListedButNumbers changes listed)
+
+-- an index of the changes of the dump's first records says this of them
+abbrev pub BeginsWithChanges : List ℕ → List Listed → Type 0
+BeginsWithChanges dump listed = (changes : List NodeChange) × BeginsWithListed dump changes
+    × AreListedButNumbers changes listed
 
 -- the record with this number is a node that makes no change
 abbrev pub MakesNoChange : List ℕ → ℕ → Type 0
@@ -60,10 +71,10 @@ abbrev pub IsUnreadFor : List ℕ → UnreadDump → Type 0
 IsUnreadFor dump (unread.Broken kind place) = (records : List DumpRecord) × HasRecords dump records (Ending.Broken kind place)
 IsUnreadFor dump (unread.NoChange number) = MakesNoChange dump number
 IsUnreadFor dump (unread.OutOfOrder number) = IsInHistory dump number
-IsUnreadFor dump unread.NoRevision = (records : List DumpRecord) × HasRecords dump records Ending.Whole
-    × (list_any is_revision_record records ≡ false)
 IsUnreadFor dump (unread.LaterCopy number) =
-    (changes : List NodeChange) × MakesListed dump changes × (are_in_order 0 changes ≡ false)
+    (changes : List NodeChange) × AreChangesOf dump (map listed_of changes) × (are_in_order 0 changes ≡ false)
+IsUnreadFor dump (unread.NoSource number) = (changes : List NodeChange) × MakesListedByNumbers dump changes
+IsUnreadFor dump (unread.Gap number) = (changes : List NodeChange) × MakesListedByNumbers dump changes
 
 -- what is excluded
 
@@ -103,7 +114,7 @@ IsTakenDump dump listed = AreChangesOf dump listed × IsFirstRefused listed None
 -- why nothing is written
 abbrev pub IsObstacleTo : CutMeaning → List ℕ → Obstacle → Type 0
 IsObstacleTo m dump (Unread reason) = IsUnreadFor dump reason
-IsObstacleTo m dump (Refused refused) = (listed : List Listed) × AreChangesOf dump listed
+IsObstacleTo m dump (Refused refused) = (listed : List Listed) × BeginsWithChanges dump listed
     × IsFirstRefused listed (Some refused)
 IsObstacleTo m dump ComesBack = (listed : List Listed) × IsTakenDump dump listed × Returns m listed
 IsObstacleTo m dump (OddDelete place) = (listed : List Listed) × (excluded : List NodePath) × IsTakenDump dump listed

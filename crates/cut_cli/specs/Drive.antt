@@ -1,5 +1,5 @@
 -- What the program does with its arguments and its input.
-use Rattle.std.specs.Prelude.{◌≡◌, ◌⊎◌, ℕ, List, [], ◌∷◌, ◌++◌, Option, None, Some, Result, Ok, Err, IfSome, MatchBool, codes, decimal}
+use Rattle.std.specs.Prelude.{◌≡◌, ◌⊎◌, ℕ, true, List, [], ◌∷◌, ◌++◌, Option, None, Some, Result, Ok, Err, IfSome, MatchBool, codes, decimal}
 use Rattle.std.specs.List.{concat}
 use Rattle.std.specs.Io.KnownBytes.{Appends, GrowsBy, Keeps}
 use Rattle.clap.specs.Walk.{is_empty}
@@ -21,6 +21,7 @@ use Rattle.cli_support.specs.Info.{Prints}
 use Rattle.cli_support.specs.Targets.{AreTextsOf}
 use Rattle.cli_support.specs.declared.info.Info.{Info}
 use Rattle.cli_support.specs.declared.usage.Usage.{Usage}
+use Rattle.dump_changes.specs.ListedDumps.{are_numbered}
 use Rattle.dump_cut.specs.TrimmedCopies.{IsTrimmedBy}
 use Rattle.cut_cli.specs.Cuts.{IsCutText, IsObstacleTo, IsReadyFor, IsTrimmedIf}
 use Rattle.cut_cli.specs.Texts.{info_text}
@@ -97,10 +98,10 @@ WritesIfAsked m settings deletes dump old new status =
     MatchBool m.dry_run (WritesCut settings deletes dump None None status × Keeps old new)
     (WritesCut settings deletes dump old new status)
 
--- what the filter writes of the whole dump, with these deletes, is its cut
+-- if the revisions of the dump are numbered 0, 1, 2 and so on: what the filter writes of it, with these deletes, is its cut
 abbrev pub CleanTextsAreCuts : CutMeaning → Settings → Option (List (List (List ℕ))) → List ℕ → Type 0
 CleanTextsAreCuts m settings deletes dump = (records : List DumpRecord) (filtered text : List ℕ) →
-    IsCleanText settings dump records filtered → IsTrimmedIf deletes filtered text
+    IsCleanText settings dump records filtered → are_numbered records ≡ true → IsTrimmedIf deletes filtered text
     → IsCutText m settings deletes dump text
 
 -- a dump is cut; or nothing is written, for an obstacle or out of memory

@@ -8,7 +8,8 @@ ghost use Rattle.cut_cli.specs.Words.{cut_of_words, cut_meaning};
 ghost use Rattle.cut_cli.specs.steps.Ended.{TellsAfter};
 
 use crate::examine::{Obstacle, Ready, examine};
-use crate::lines::{write_fault, write_no_include, write_report};
+use crate::faults::write_fault;
+use crate::lines::{write_no_include, write_report};
 use crate::mistakes::{Mistake, write_mistake, write_no_file};
 use crate::texts::info_text;
 use crate::trim::run_and_trim;

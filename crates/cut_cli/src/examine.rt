@@ -9,14 +9,13 @@ ghost use Rattle.dump_cut.specs.steps.ExcludedPaths.{paths_of};
 ghost use Rattle.cut_cli.specs.Cuts.{AreChangesOf, ExcludesAsAsked, AreNamed, BringsNothingBack, BringsSomeBack, IsTakenDump, Returns};
 ghost use Rattle.cut_cli.specs.steps.Examined.{AreDeletesIfAny};
 ghost use Rattle.cut_cli.specs.Words.{cut_meaning};
-ghost use Rattle.cut_cli.specs.steps.Examined.{IsExamined};
+ghost use Rattle.cut_cli.specs.steps.Examined.{IsExamined, IsFrontOf};
 
-use crate::lines::{
-    shown, write_additions, write_deletes, write_odd_delete, write_places, write_refused,
-    write_returns, write_unread,
-};
+use crate::faults::{write_refused, write_unread};
+use crate::lines::{shown, write_deletes, write_odd_delete, write_places, write_returns};
+use crate::own_lives::report_additions;
 use crate::prefixes::report_prefixes;
-use crate::read::{Unread, read_index};
+use crate::read::{Front, Unread, read_front};
 use crate::sizes::sizes_of;
 use crate::words::Call;
 use dump_changes::Memory;
@@ -143,7 +142,7 @@ fn exclude<E: Write>(
     let mut excluded = named(alloc, call)?;
     if call.follow {
         let additions = follow(alloc, index, &mut excluded, Way::ToCopies)?;
-        let _ = write_additions(errors, call, index.changes(), &additions);
+        report_additions(alloc, index, &excluded, call, &additions, errors)?;
         return Ok(Some(excluded));
     }
     if brings_back(alloc, dump, index, &excluded, call, errors)? {
@@ -211,7 +210,7 @@ fn prepare<E: Write>(
     }))
 }
 
-/// Looks at the changes of a dump.
+/// Looks at the changes of a dump that loads.
 fn examine_changes<E: Write>(
     alloc: Global,
     dump: &[u8],
@@ -220,18 +219,38 @@ fn examine_changes<E: Write>(
     errors: &mut E,
 ) -> Result<Result<Ready, Obstacle>, Memory>
     requires named { IsTrue (list_all has_named_paths index.now) }
-    requires changes { AreChangesOf dump.now index.now }
+    requires taken { IsTakenDump dump.now index.now }
     ensures { IfOk result (IsExamined (cut_meaning call.now) dump.now) }
 {
-    if let Some(refused) = first_refused(alloc, index)? {
-        let _ = write_refused(errors, dump, index.changes(), refused);
-        return Ok(Err(Obstacle::Refused(refused)));
-    }
-    report_prefixes(alloc, index, call, errors)?;
+    report_prefixes(alloc, dump, index, call, errors)?;
     match exclude(alloc, dump, index, call, errors)? {
         Some(excluded) => prepare(alloc, index, &excluded, call, errors),
         None => Ok(Err(Obstacle::ComesBack)),
     }
+}
+
+/// Looks at the changes of a dump up to where its reading stops: the first change that a load would reject comes before that.
+fn examine_front<E: Write>(
+    alloc: Global,
+    dump: &[u8],
+    front: &Front<'_>,
+    call: &Call<'_>,
+    errors: &mut E,
+) -> Result<Result<Ready, Obstacle>, Memory>
+    requires named { IsTrue (list_all has_named_paths front.now.index) }
+    requires front { IsFrontOf dump.now front.now }
+    ensures { IfOk result (IsExamined (cut_meaning call.now) dump.now) }
+{
+    let index = &front.index;
+    if let Some(refused) = first_refused(alloc, index)? {
+        let _ = write_refused(errors, dump, index.changes(), refused);
+        return Ok(Err(Obstacle::Refused(refused)));
+    }
+    if let Some(unread) = front.stop {
+        let _ = write_unread(errors, dump, unread);
+        return Ok(Err(Obstacle::Unread(unread)));
+    }
+    examine_changes(alloc, dump, index, call, errors)
 }
 
 /// Looks whether the dump loads, what the call excludes of it, and whether the filter can write the cut. It reports what
@@ -244,8 +263,8 @@ pub fn examine<E: Write>(
 ) -> Result<Result<Ready, Obstacle>, Memory>
     ensures { IfOk result (IsExamined (cut_meaning call.now) dump.now) }
 {
-    match read_index(alloc, dump)? {
-        Ok(index) => examine_changes(alloc, dump, &index, call, errors),
+    match read_front(alloc, dump, call.drop)? {
+        Ok(front) => examine_front(alloc, dump, &front, call, errors),
         Err(unread) => {
             let _ = write_unread(errors, dump, unread);
             Ok(Err(Obstacle::Unread(unread)))

@@ -1,14 +1,9 @@
 //! The lines on standard error. What goes wrong in writing them is ignored: there is nowhere left to say so.
-use crate::read::Unread;
 use crate::sizes::Size;
-use crate::spot::{Spot, spot_of};
 use crate::words::Call;
-use dump_cut::{Addition, Excluded, PlacedRest, Refusal, Refused};
-use dump_digest::properties_of;
+use dump_cut::{Addition, Excluded, PlacedRest};
 use dump_filter::Report;
 use dump_index::{NodeChange, NodeMade, Source, rest_behind};
-use dump_nodes::{action_of, has_odd_delta};
-use dump_text::FaultKind;
 use std::io::{self, Write};
 
 /// How many lines of a list are written without `--verbose`.
@@ -32,7 +27,7 @@ pub fn write_seen<E: Write>(errors: &mut E, text: &[u8]) -> io::Result<()> {
 }
 
 /// Writes a path with a slash before it.
-fn write_path<E: Write>(errors: &mut E, path: &[u8]) -> io::Result<()> {
+pub fn write_path<E: Write>(errors: &mut E, path: &[u8]) -> io::Result<()> {
     write!(errors, "/")?;
     write_seen(errors, path)
 }
@@ -92,8 +87,27 @@ pub fn write_spelling<E: Write>(errors: &mut E, prefix: &[u8], path: &[u8]) -> i
     writeln!(errors, "")
 }
 
+/// Warns that a load renumbers the first revision of the dump.
+pub fn write_first<E: Write>(errors: &mut E, first: u64) -> io::Result<()> {
+    writeln!(
+        errors,
+        "svndumpcut: warning: the dump begins at r{first}, which svnadmin load makes r1"
+    )
+}
+
+/// Lists the paths of prefixes that are inside other prefixes.
+pub fn write_nested<E: Write>(errors: &mut E, call: &Call<'_>, paths: &[&[u8]]) -> io::Result<()> {
+    let most = shown(call);
+    for path in paths.iter().take(most) {
+        write!(errors, "prefix ")?;
+        write_path(errors, path)?;
+        writeln!(errors, " is inside another prefix")?;
+    }
+    write_rest(errors, paths.len(), most)
+}
+
 /// Warns of prefixes whose paths no revision has.
-pub fn write_idle<E: Write>(errors: &mut E, call: &Call<'_>, paths: &[Vec<u8>]) -> io::Result<()> {
+pub fn write_idle<E: Write>(errors: &mut E, call: &Call<'_>, paths: &[&[u8]]) -> io::Result<()> {
     let most = shown(call);
     for path in paths.iter().take(most) {
         write!(errors, "svndumpcut: warning: no revision has ")?;
@@ -113,7 +127,7 @@ fn source_at<'a>(changes: &[NodeChange<'a>], place: usize) -> Option<(NodeChange
 }
 
 /// Writes `copied from` with the source of a copy, or a path below it.
-fn write_source<E: Write>(errors: &mut E, source: Source<'_>, rest: &[u8]) -> io::Result<()> {
+pub fn write_source<E: Write>(errors: &mut E, source: Source<'_>, rest: &[u8]) -> io::Result<()> {
     write!(errors, "copied from ")?;
     write_joined(errors, source.path, rest)?;
     let revision = source.revision;
@@ -204,12 +218,22 @@ fn write_addition<E: Write>(
     writeln!(errors, ")")
 }
 
+/// Warns that a path that is excluded too had other content in this revision.
+pub fn write_own_life<E: Write>(errors: &mut E, path: &[u8], revision: u64) -> io::Result<()> {
+    write!(errors, "svndumpcut: warning: ")?;
+    write_path(errors, path)?;
+    writeln!(
+        errors,
+        " is excluded in every revision, though what r{revision} has there was not copied from excluded content"
+    )
+}
+
 /// Says which paths are excluded too, as copies of excluded content.
 pub fn write_additions<E: Write>(
     errors: &mut E,
     call: &Call<'_>,
     changes: &[NodeChange<'_>],
-    additions: &[Addition],
+    additions: &[&Addition],
 ) -> io::Result<()> {
     if call.quiet || additions.is_empty() {
         return Ok(());
@@ -222,181 +246,6 @@ pub fn write_additions<E: Write>(
         write_addition(errors, changes, addition)?;
     }
     write_rest(errors, additions.len(), most)
-}
-
-/// What a fault is.
-fn fault_text(kind: FaultKind) -> &'static str {
-    match kind {
-        FaultKind::HeaderCut => "truncated header",
-        FaultKind::Header => "invalid header line",
-        FaultKind::Kind => "not a version, UUID, revision or node record",
-        FaultKind::Version => "unsupported format version",
-        FaultKind::Number => "invalid number",
-        FaultKind::Lengths => "the lengths do not agree",
-        FaultKind::ContentCut => "truncated content",
-        FaultKind::Order => "revision numbers do not rise, or a node is outside of a revision",
-        FaultKind::Props => "invalid properties",
-        FaultKind::Md5 => "MD5 checksum mismatch",
-        FaultKind::Sha1 => "SHA-1 checksum mismatch",
-        FaultKind::CopySource => "the copy source is excluded",
-        FaultKind::CopyRevision => "the dump has no revision up to that of the copy source",
-        FaultKind::MergeInfo => "invalid svn:mergeinfo",
-        FaultKind::MergeSource => "svn:mergeinfo of an excluded path",
-        FaultKind::MergeRange => "svn:mergeinfo of a revision that is not before this one",
-    }
-}
-
-/// Why `svnadmin load` would reject a node.
-fn refusal_text(refusal: Refusal) -> &'static str {
-    match refusal {
-        Refusal::Root => "it adds or deletes the root",
-        Refusal::NoPath => "the path does not exist",
-        Refusal::NoParent => "its parent is not a directory",
-        Refusal::Exists => "the path already exists",
-        Refusal::NoSource => "the copy source does not exist",
-        Refusal::TextOnDirectory => "a text on a directory",
-    }
-}
-
-/// Writes the revision and the path that a line is about.
-fn write_about<E: Write>(errors: &mut E, spot: Spot<'_>) -> io::Result<()> {
-    write!(errors, "svndumpcut: ")?;
-    if let Some(revision) = spot.revision() {
-        write!(errors, "r{revision}: ")?;
-    }
-    if let Some(path) = spot.path() {
-        write_path(errors, path)?;
-        write!(errors, ": ")?;
-    }
-    Ok(())
-}
-
-/// Writes the number of a fault and its record, and the end of the line.
-fn write_place<E: Write>(errors: &mut E, code: u8, spot: Spot<'_>) -> io::Result<()> {
-    let Spot { number, byte, .. } = spot;
-    writeln!(errors, " (fault {code}, record {number}, byte {byte})")
-}
-
-/// Writes the source of a copy after its path.
-fn write_copied<E: Write>(errors: &mut E, spot: Spot<'_>) -> io::Result<()> {
-    write!(errors, "svndumpcut: ")?;
-    if let Some(revision) = spot.revision() {
-        write!(errors, "r{revision}: ")?;
-    }
-    if let Some(path) = spot.path() {
-        write_path(errors, path)?;
-    }
-    if let Some(source) = spot.source() {
-        write!(errors, ", ")?;
-        write_source(errors, source, b"")?;
-    }
-    write!(errors, ": ")
-}
-
-/// Says that a load would reject the node, whose copy source doesn't exist.
-fn write_no_source<E: Write>(errors: &mut E, spot: Spot<'_>) -> io::Result<()> {
-    write_copied(errors, spot)?;
-    write_rejection(errors, Refusal::NoSource, spot)
-}
-
-/// Says why a load would reject the node.
-fn write_rejection<E: Write>(errors: &mut E, refusal: Refusal, spot: Spot<'_>) -> io::Result<()> {
-    let text = refusal_text(refusal);
-    write!(errors, "svnadmin load would reject this node: {text}")?;
-    write_place(errors, 34, spot)
-}
-
-/// Writes the line of a fault.
-fn write_fault_at<E: Write>(
-    errors: &mut E,
-    code: u8,
-    text: &str,
-    spot: Spot<'_>,
-) -> io::Result<()> {
-    write_about(errors, spot)?;
-    write!(errors, "{text}")?;
-    write_place(errors, code, spot)
-}
-
-/// Writes the line of a fault that the filter found.
-pub fn write_fault<E: Write>(
-    errors: &mut E,
-    dump: &[u8],
-    kind: FaultKind,
-    number: u64,
-) -> io::Result<()> {
-    let spot = spot_of(dump, number);
-    write_fault_at(errors, kind.code(), fault_text(kind), spot)
-}
-
-/// Writes the line of a node that makes no known change.
-fn write_no_change<E: Write>(errors: &mut E, spot: Spot<'_>) -> io::Result<()> {
-    let Some(record) = spot.record else {
-        return Ok(());
-    };
-    if properties_of(&record).is_none() {
-        return write_fault_at(errors, 9, fault_text(FaultKind::Props), spot);
-    }
-    let text = if !action_of(&record).is_known() {
-        "no action, or an unknown one"
-    } else if has_odd_delta(&record) {
-        "a delta in a dump of version 2"
-    } else {
-        "a path or name that is not in canonical form"
-    };
-    write_fault_at(errors, 30, text, spot)
-}
-
-/// Writes the line of a node outside of the revisions after revision 0, or of a revision whose number isn't the next one.
-fn write_out_of_order<E: Write>(errors: &mut E, spot: Spot<'_>) -> io::Result<()> {
-    if spot.path().is_some() && spot.group == Some(0) {
-        let text = "svnadmin load would reject this node: it is in revision 0";
-        return write_fault_at(errors, 34, text, spot);
-    }
-    if spot.path().is_some() || spot.revision() <= spot.last {
-        return write_fault_at(errors, 8, fault_text(FaultKind::Order), spot);
-    }
-    write_about(errors, spot)?;
-    let Spot { number, byte, .. } = spot;
-    writeln!(
-        errors,
-        "the dump lacks a revision before this one; this version takes only dumps with all revisions from 0 on (record {number}, byte {byte})"
-    )
-}
-
-/// Says why the changes of a dump aren't known.
-pub fn write_unread<E: Write>(errors: &mut E, dump: &[u8], unread: Unread) -> io::Result<()> {
-    match unread {
-        Unread::Broken { kind, place } => {
-            let spot = Spot {
-                byte: place,
-                ..spot_of(dump, u64::MAX)
-            };
-            write_fault_at(errors, kind.code(), fault_text(kind), spot)
-        }
-        Unread::NoChange(number) => write_no_change(errors, spot_of(dump, number)),
-        Unread::OutOfOrder(number) => write_out_of_order(errors, spot_of(dump, number)),
-        Unread::NoRevision => writeln!(errors, "svndumpcut: the dump has no revision"),
-        Unread::LaterCopy(number) => write_no_source(errors, spot_of(dump, number)),
-    }
-}
-
-/// Says why `svnadmin load` would reject a node of the dump.
-pub fn write_refused<E: Write>(
-    errors: &mut E,
-    dump: &[u8],
-    changes: &[NodeChange<'_>],
-    refused: Refused,
-) -> io::Result<()> {
-    let Some(change) = changes.get(refused.place) else {
-        return Ok(());
-    };
-    let spot = spot_of(dump, change.record_number);
-    if refused.refusal == Refusal::NoSource {
-        return write_no_source(errors, spot);
-    }
-    write_about(errors, spot)?;
-    write_rejection(errors, refused.refusal, spot)
 }
 
 /// Writes revision and path of the copy at this place, and its source.

@@ -4,8 +4,10 @@
 mod command;
 mod drive;
 mod examine;
+mod faults;
 mod lines;
 mod mistakes;
+mod own_lives;
 mod prefixes;
 mod read;
 mod sizes;

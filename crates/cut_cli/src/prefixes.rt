@@ -1,5 +1,6 @@
 //! What is reported of the prefixes themselves.
-use crate::lines::{write_idle, write_spelling};
+use crate::lines::{write_first, write_idle, write_nested, write_spelling};
+use crate::spot::first_revision;
 use crate::words::Call;
 use dump_changes::Memory;
 use dump_cut::canonical_prefix;
@@ -48,23 +49,90 @@ fn trimmed(prefix: &[u8]) -> &[u8] {
     left
 }
 
-/// Reports which prefixes aren't in canonical form, and those of paths that no revision has.
-pub fn report_prefixes<E: Write>(
+/// The paths of prefixes in canonical form. It reports those that aren't given so.
+fn canonical_paths<E: Write>(
     alloc: Global,
-    index: &ChangeIndex<'_>,
     call: &Call<'_>,
     errors: &mut E,
-) -> Result<(), Memory> {
-    let mut idle = Vec::new(alloc);
+) -> Result<Vec<Vec<u8>>, Memory> {
+    let mut paths = Vec::new(alloc);
     for prefix in &call.prefixes {
         let path = canonical_prefix(alloc, prefix)?;
         if !call.quiet && path.as_slice() != trimmed(prefix) {
             let _ = write_spelling(errors, prefix, &path);
         }
-        if !exists_ever(alloc, index, &path)? {
-            idle.push(path)?;
+        paths.push(path)?;
+    }
+    Ok(paths)
+}
+
+/// The paths, sorted, and each of them once.
+fn sorted(alloc: Global, paths: &[Vec<u8>]) -> Result<Vec<&[u8]>, Memory> {
+    let mut sorted: Vec<&[u8]> = Vec::new(alloc);
+    for path in paths {
+        sorted.push(path.as_slice())?;
+    }
+    sorted.sort_unstable_by(|a, b| a.cmp(b));
+    let mut once: Vec<&[u8]> = Vec::new(alloc);
+    for path in &sorted {
+        if once.last() != Some(path) {
+            once.push(*path)?;
         }
+    }
+    Ok(once)
+}
+
+/// Whether one of the sorted paths is above this one.
+fn is_nested(sorted: &[&[u8]], path: &[u8]) -> bool {
+    let is_given = |top: &[u8]| sorted.binary_search_by(|given| (*given).cmp(top)).is_ok();
+    if !path.is_empty() && is_given(b"") {
+        return true;
+    }
+    path.iter()
+        .enumerate()
+        .any(|(place, byte)| *byte == b'/' && is_given(&path[..place]))
+}
+
+/// Reports prefixes inside others, and those of paths that no revision has.
+fn report_paths<E: Write>(
+    alloc: Global,
+    index: &ChangeIndex<'_>,
+    call: &Call<'_>,
+    paths: &[&[u8]],
+    errors: &mut E,
+) -> Result<(), Memory> {
+    let mut nested: Vec<&[u8]> = Vec::new(alloc);
+    let mut idle: Vec<&[u8]> = Vec::new(alloc);
+    for path in paths {
+        if is_nested(paths, path) {
+            nested.push(*path)?;
+        }
+        if !exists_ever(alloc, index, path)? {
+            idle.push(*path)?;
+        }
+    }
+    if !call.quiet {
+        let _ = write_nested(errors, call, &nested);
     }
     let _ = write_idle(errors, call, &idle);
     Ok(())
+}
+
+/// Reports which prefixes aren't in canonical form, that a load renumbers the first revision, which prefixes are inside others,
+/// and those of paths that no revision has.
+pub fn report_prefixes<E: Write>(
+    alloc: Global,
+    dump: &[u8],
+    index: &ChangeIndex<'_>,
+    call: &Call<'_>,
+    errors: &mut E,
+) -> Result<(), Memory> {
+    let paths = canonical_paths(alloc, call, errors)?;
+    if let Some(first) = first_revision(dump) {
+        if first > 1 {
+            let _ = write_first(errors, first);
+        }
+    }
+    let paths = sorted(alloc, &paths)?;
+    report_paths(alloc, index, call, &paths, errors)
 }

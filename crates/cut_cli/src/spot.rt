@@ -90,3 +90,18 @@ pub fn spot_of<'a>(dump: &'a [u8], number: u64) -> Spot<'a> {
     }
     spot
 }
+
+/// The number of the dump's first revision.
+pub fn first_revision(dump: &[u8]) -> Option<u64> {
+    let mut cutter = Cutter::new(dump);
+    // no dump has more records than bytes
+    for _ in 0..=dump.len() {
+        let Cut::Item(record) = cutter.next() else {
+            return None;
+        };
+        if let RecordKind::Revision = record.kind() {
+            return record.revision();
+        }
+    }
+    None
+}

@@ -2,8 +2,8 @@
 ghost use Rattle.std.specs.Prelude.{◌≡◌, ◌⊎◌, [], IfOk, Some};
 ghost use Rattle.std.specs.Io.KnownBytes.{Keeps};
 ghost use Rattle.dump_writer.specs.steps.SinkStates.{loan_of};
-ghost use Rattle.cut_cli.specs.Drive.{RanCut, cut_status};
-ghost use Rattle.cut_cli.specs.steps.Ended.{IsTrimmedPiece};
+ghost use Rattle.cut_cli.specs.Drive.{RanCut};
+ghost use Rattle.cut_cli.specs.steps.Ended.{FailsFirst, IsTrimmedPiece};
 
 use crate::drive::{ending, flush_after, write_whole};
 use dump_cut::Deletes;
@@ -32,7 +32,7 @@ pub(crate) fn run_and_trim<H: Threads + Wait + Sync, W: Write>(
     requires waiting { sink.old.waiting ≡ [] }
     requires start { sink.old.out.start ≡ sink.old.out.taken }
     ensures ran { RanCut options.now (Some deletes.now) dump.now sink.old.out.taken sink.new.out.taken result
-        ⊎ (Keeps sink.old.out.taken sink.new.out.taken × (cut_status result ≡ 1)) }
+        ⊎ (Keeps sink.old.out.taken sink.new.out.taken × FailsFirst result) }
     ensures loan { loan_of sink.new ≡ loan_of sink.old }
 {
     let mut filtered = MemorySink::new(alloc, MOST, Trouble::Never);
@@ -49,7 +49,7 @@ pub(crate) fn run_and_trim<H: Threads + Wait + Sync, W: Write>(
 
 /// What is told of a failure before anything is written. Writing into memory fails where there is none.
 fn failed_first(failure: Failure) -> Answer
-    ensures { cut_status result ≡ 1 }
+    ensures { FailsFirst result }
 {
     let failure = match failure {
         Failure::Sink | Failure::Memory => Failure::Memory,

@@ -1,9 +1,13 @@
-use Rattle.std.proofs.Common.{◌≡◌, ◌++◌, [], Some, inl, rules}
+use Rattle.std.proofs.Common.{◌≡◌, ◌++◌, [], Some, inl, inr, rules}
+use Rattle.std.proofs.KnownBytes.{Keeps-refl}
 use Rattle.dump_pipeline.specs.RunAnswer.{RunLeaves}
 use Rattle.dump_writer.specs.steps.SinkStates.{lent_taken}
 use Rattle.cut_cli.specs.Drive.{stop_line_of}
 use Rattle.cut_cli.proofs.DriveLemmas.{in_memory, moved_part, moved_whole, told_after}
 use Rattle.cut_cli.proofs.trim.run_and_trim.Goals as goal
+
+pub returns-in-Failed-clause-ran : goal.returns-in-Failed-clause-ran
+returns-in-Failed-clause-ran g c = inr (Keeps-refl _, c.failed_first.ensures)
 
 pub returns : goal.returns
 returns g c =

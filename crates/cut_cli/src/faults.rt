@@ -1,0 +1,201 @@
+//! The lines of what stops the program in a dump.
+use crate::lines::{write_path, write_source};
+use crate::read::Unread;
+use crate::spot::{Spot, first_revision, spot_of};
+use dump_cut::{Refusal, Refused};
+use dump_digest::properties_of;
+use dump_index::NodeChange;
+use dump_nodes::{action_of, has_odd_delta};
+use dump_text::FaultKind;
+use std::io::{self, Write};
+
+/// What a fault is.
+fn fault_text(kind: FaultKind) -> &'static str {
+    match kind {
+        FaultKind::HeaderCut => "truncated header",
+        FaultKind::Header => "invalid header line",
+        FaultKind::Kind => "not a version, UUID, revision or node record",
+        FaultKind::Version => "unsupported format version",
+        FaultKind::Number => "invalid number",
+        FaultKind::Lengths => "the lengths do not agree",
+        FaultKind::ContentCut => "truncated content",
+        FaultKind::Order => "revision numbers do not rise, or a node is outside of a revision",
+        FaultKind::Props => "invalid properties",
+        FaultKind::Md5 => "MD5 checksum mismatch",
+        FaultKind::Sha1 => "SHA-1 checksum mismatch",
+        FaultKind::CopySource => "the copy source is excluded",
+        FaultKind::CopyRevision => "the dump has no revision up to that of the copy source",
+        FaultKind::MergeInfo => "invalid svn:mergeinfo",
+        FaultKind::MergeSource => "svn:mergeinfo of an excluded path",
+        FaultKind::MergeRange => "svn:mergeinfo of a revision that is not before this one",
+    }
+}
+
+/// Why `svnadmin load` would reject a node.
+fn refusal_text(refusal: Refusal) -> &'static str {
+    match refusal {
+        Refusal::Root => "it adds or deletes the root",
+        Refusal::NoPath => "the path does not exist",
+        Refusal::NoParent => "its parent is not a directory",
+        Refusal::Exists => "the path already exists",
+        Refusal::NoSource => "the copy source does not exist",
+        Refusal::TextOnDirectory => "a text on a directory",
+    }
+}
+
+/// Writes the revision and the path that a line is about.
+fn write_about<E: Write>(errors: &mut E, spot: Spot<'_>) -> io::Result<()> {
+    write!(errors, "svndumpcut: ")?;
+    if let Some(revision) = spot.revision() {
+        write!(errors, "r{revision}: ")?;
+    }
+    if let Some(path) = spot.path() {
+        write_path(errors, path)?;
+        write!(errors, ": ")?;
+    }
+    Ok(())
+}
+
+/// Writes the number of a fault and its record, and the end of the line.
+fn write_place<E: Write>(errors: &mut E, code: u8, spot: Spot<'_>) -> io::Result<()> {
+    let Spot { number, byte, .. } = spot;
+    writeln!(errors, " (fault {code}, record {number}, byte {byte})")
+}
+
+/// Writes the source of a copy after its path.
+fn write_copied<E: Write>(errors: &mut E, spot: Spot<'_>) -> io::Result<()> {
+    write!(errors, "svndumpcut: ")?;
+    if let Some(revision) = spot.revision() {
+        write!(errors, "r{revision}: ")?;
+    }
+    if let Some(path) = spot.path() {
+        write_path(errors, path)?;
+    }
+    if let Some(source) = spot.source() {
+        write!(errors, ", ")?;
+        write_source(errors, source, b"")?;
+    }
+    write!(errors, ": ")
+}
+
+/// Says why a load would reject the node. If the dump has revisions, and begins above revision 1, an earlier one is needed.
+fn write_rejection<E: Write>(
+    errors: &mut E,
+    dump: &[u8],
+    refusal: Refusal,
+    spot: Spot<'_>,
+) -> io::Result<()> {
+    match first_revision(dump) {
+        Some(first) if first > 1 => {
+            write_copied(errors, spot)?;
+            write!(
+                errors,
+                "depends on a revision before r{first}, the first in this dump: dump from revision 0"
+            )?;
+            write_place(errors, 31, spot)
+        }
+        _ => {
+            match refusal {
+                Refusal::NoSource => write_copied(errors, spot)?,
+                _ => write_about(errors, spot)?,
+            }
+            let text = refusal_text(refusal);
+            write!(errors, "svnadmin load would reject this node: {text}")?;
+            write_place(errors, 34, spot)
+        }
+    }
+}
+
+/// Says that the revision of a copy source has no new number.
+fn write_gap<E: Write>(errors: &mut E, spot: Spot<'_>) -> io::Result<()> {
+    write_copied(errors, spot)?;
+    write!(
+        errors,
+        "the dump does not have the revision of the copy source: run without --drop-empty-revs"
+    )?;
+    write_place(errors, 33, spot)
+}
+
+/// Writes the line of a fault.
+fn write_fault_at<E: Write>(
+    errors: &mut E,
+    code: u8,
+    text: &str,
+    spot: Spot<'_>,
+) -> io::Result<()> {
+    write_about(errors, spot)?;
+    write!(errors, "{text}")?;
+    write_place(errors, code, spot)
+}
+
+/// Writes the line of a fault that the filter found.
+pub fn write_fault<E: Write>(
+    errors: &mut E,
+    dump: &[u8],
+    kind: FaultKind,
+    number: u64,
+) -> io::Result<()> {
+    let spot = spot_of(dump, number);
+    write_fault_at(errors, kind.code(), fault_text(kind), spot)
+}
+
+/// Writes the line of a node that makes no known change.
+fn write_no_change<E: Write>(errors: &mut E, spot: Spot<'_>) -> io::Result<()> {
+    let Some(record) = spot.record else {
+        return Ok(());
+    };
+    if properties_of(&record).is_none() {
+        return write_fault_at(errors, 9, fault_text(FaultKind::Props), spot);
+    }
+    let text = if !action_of(&record).is_known() {
+        "no action, or an unknown one"
+    } else if has_odd_delta(&record) {
+        "a delta in a dump of version 2"
+    } else {
+        "a path or name that is not in canonical form"
+    };
+    write_fault_at(errors, 30, text, spot)
+}
+
+/// Writes the line of a node outside of the revisions after revision 0, or of a revision whose number isn't above the one
+/// before.
+fn write_out_of_order<E: Write>(errors: &mut E, spot: Spot<'_>) -> io::Result<()> {
+    if spot.path().is_some() && spot.group == Some(0) {
+        let text = "svnadmin load would reject this node: it is in revision 0";
+        return write_fault_at(errors, 34, text, spot);
+    }
+    write_fault_at(errors, 8, fault_text(FaultKind::Order), spot)
+}
+
+/// Says why the changes of a dump aren't known.
+pub fn write_unread<E: Write>(errors: &mut E, dump: &[u8], unread: Unread) -> io::Result<()> {
+    match unread {
+        Unread::Broken { kind, place } => {
+            let spot = Spot {
+                byte: place,
+                ..spot_of(dump, u64::MAX)
+            };
+            write_fault_at(errors, kind.code(), fault_text(kind), spot)
+        }
+        Unread::NoChange(number) => write_no_change(errors, spot_of(dump, number)),
+        Unread::OutOfOrder(number) => write_out_of_order(errors, spot_of(dump, number)),
+        Unread::LaterCopy(number) | Unread::NoSource(number) => {
+            write_rejection(errors, dump, Refusal::NoSource, spot_of(dump, number))
+        }
+        Unread::Gap(number) => write_gap(errors, spot_of(dump, number)),
+    }
+}
+
+/// Says why `svnadmin load` would reject a node of the dump.
+pub fn write_refused<E: Write>(
+    errors: &mut E,
+    dump: &[u8],
+    changes: &[NodeChange<'_>],
+    refused: Refused,
+) -> io::Result<()> {
+    let Some(change) = changes.get(refused.place) else {
+        return Ok(());
+    };
+    let spot = spot_of(dump, change.record_number);
+    write_rejection(errors, dump, refused.refusal, spot)
+}
