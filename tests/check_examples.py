@@ -235,9 +235,8 @@ def unknown_cases():
 
 def untold(page):
     """The lines of the survey, by docs/SURVEY.md, that its page does not have."""
-    lines = re.findall(r"^\| `([^`]*)` \|", read("docs", "SURVEY.md"), re.MULTILINE)
-    parts = [part for line in lines for part in line.strip(". ").split("..")]
-    return [it.strip() for it in parts if it.strip(" ,") not in page.replace("\\", "")]
+    lines = re.findall(r"^\| `([^`]*)`(?: \(fault \w+\))? \|", read("docs", "SURVEY.md"), re.MULTILINE)
+    return [it for it in lines if it not in page.replace("\\&", "")]
 
 
 def test_sources(crate):

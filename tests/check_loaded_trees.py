@@ -68,15 +68,15 @@ OPTIONS = [
 ]
 PADDED_LOG = b"This is an empty revision for padding."
 MERGEINFO = b"svn:mergeinfo"
-# the lines of the survey that tell a folder to make, and by the side what to keep or leave out as well
-FOLDER = re.compile(rb"^make before the load: /(.*)$", re.MULTILINE)
+# the lines of the survey that report a directory to create, and by the side a prefix to add
+FOLDER = re.compile(rb"^create first: /(.*)$", re.MULTILINE)
 AS_WELL = {
-    "include": re.compile(r"^keep as well: (/.*)$", re.MULTILINE),
-    "exclude": re.compile(r"^leave out as well: (/.*)$", re.MULTILINE),
+    "include": re.compile(r"^also include: (/.*)$", re.MULTILINE),
+    "exclude": re.compile(r"^also exclude: (/.*)$", re.MULTILINE),
 }
-# the fault and the record at which the filter stopped, and those that the survey tells, the other way round
+# the fault and the record at which the filter stopped, and those that the survey reports
 FAULT = re.compile(rb"svndumpfilter: fault (\d+) \w+ in record (\d+) ")
-TOLD_FAULT = re.compile(rb"^record (\d+), .*: fault (\d+)$", re.MULTILINE)
+TOLD_FAULT = re.compile(rb" \(fault (\d+), record (\d+), byte \d+\)$", re.MULTILINE)
 # what svndumpcut lists: a path that it excludes too, what a copy would bring, and a copy that is followed by deletes
 FROM = rb", copied from /(?P<source>.*)@(?P<number>\d+)"
 ADDED = re.compile(rb"^  /(?P<target>.*) \(r(?P<revision>\d+)" + FROM + rb"\)$", re.MULTILINE)
@@ -660,20 +660,20 @@ class Run(Trial):
         self.own, self.is_validated, self.is_grown = own, is_validated, False
 
     def judge(self, built):
-        """What becomes of it, and where the filter stops for fault 12, of it with what the survey tells to keep as well."""
+        """What becomes of it, and where the filter stops for fault 12, of it with the prefixes that the survey says to add."""
         told = ran(built["survey"], *self.words, given=self.dump)
         filtered = ran(built["filter"], *self.words, given=self.dump)
         if told.returncode not in (0, 1):
             return self.fail(f"the survey's status is {told.returncode}: {told.stderr.decode()}")
         faults = TOLD_FAULT.findall(told.stdout)
-        if self.is_grown and any(number == b"12" for _, number in faults):
-            return self.fail("the survey still tells fault 12, behind all that it told to keep or leave out as well")
+        if self.is_grown and any(number == b"12" for number, _ in faults):
+            return self.fail("the survey still reports fault 12, with all the prefixes that it said to add")
         if filtered.returncode == 0:
             if faults:
                 return self.fail("the survey tells a fault, and the filter has none")
             return self.compare(told, filtered.stdout)
         fault = FAULT.match(filtered.stderr)
-        if not fault or (fault[2], fault[1]) not in faults:
+        if not fault or (fault[1], fault[2]) not in faults:
             return self.fail(f"the survey has no line for it: {filtered.stderr.decode()}")
         self.verdicts.append(f"stopped by fault {int(fault[1])}")
         if fault[1] == b"12":
@@ -682,7 +682,7 @@ class Run(Trial):
         return self
 
     def grow(self, told):
-        """Takes what the survey told to keep, or to leave out, as well."""
+        """Takes the prefixes too that the survey said to add."""
         side = self.words[0]
         self.own = Call(side, self.own.options, [*self.own.given, *AS_WELL[side].findall(told)])
         self.words, self.is_grown = self.own.words, True

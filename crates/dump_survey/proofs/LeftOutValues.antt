@@ -57,11 +57,11 @@ no_line : left_out_line 0 ≡ []
 unfolding left_out_line
 no_line = refl
 
-one_line : left_out_line 1 ≡ codes "left out of mergeinfo: 1 line of a path that is not kept\n"
+one_line : left_out_line 1 ≡ codes "dropped from svn:mergeinfo: 1 line of an excluded path\n"
 unfolding left_out_line digits
 one_line = refl
 
-more_lines : left_out_line 12 ≡ codes "left out of mergeinfo: 12 lines of paths that are not kept\n"
+more_lines : left_out_line 12 ≡ codes "dropped from svn:mergeinfo: 12 lines of excluded paths\n"
 unfolding left_out_line digits
 more_lines = refl
 

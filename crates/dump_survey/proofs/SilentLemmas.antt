@@ -1,6 +1,6 @@
 -- Where nothing that matters is told, nothing that matters is found in the groups.
-use Rattle.dump_survey.proofs.Prelude.{◌≡◌, ℕ, Bool, true, false, not, ◌&&◌, ◌||◌, ◌==◌, List, [], ◌∷◌, ◌++◌, length, flat_map, map, None, IsTrue, IsFalse, refl, sym, ap, ◌∙◌, subst, arith, append-nil, append_assoc, list_all, list_any, and_from, ne_eqb, first_true, second_true, both_true, first_false, second_false, not_true, not_false, not_so, false_true, records_once, DumpRecord, Ending, HasRecords, FaultKind, CopySource, Settings, keeps_path, is_node, node_path, has_lost_source, is_whole_file, HoldsOfRecord, LengthsFit, IsCleanText, Patching, Finding, DumpFinding, AreDumpFindingsOf, is_obstacle, is_alarm, none_is, DumpRestricts, surveyed_dump, DumpTold, place_in, AreDumpTold, dump_line, told_prefixes, prefix_lines, NodeTold, told_view, AreTold, survey_ending, all_findings, none_told, SilentSurveyRestricts, SilentTextRestricts, SilentTextLeavesDigests, is_digest_fault, IsSurveyText, FindsNothing, stops_at, stops_somewhere, wanted_path, matches_itself, AreKeptAsWellIn, AreAsWellLines}
-use Rattle.dump_survey.specs.Lines.{node_line, at_words, dump_words, ending_line, place_text}
+use Rattle.dump_survey.proofs.Prelude.{◌≡◌, ℕ, Bool, true, false, not, ◌&&◌, ◌||◌, ◌==◌, List, [], ◌∷◌, ◌++◌, length, flat_map, map, None, IsTrue, IsFalse, refl, sym, ap, ◌∙◌, subst, arith, append-nil, append_assoc, list_all, list_any, and_from, ne_eqb, first_true, second_true, both_true, first_false, second_false, not_true, not_false, not_so, false_true, records_once, DumpRecord, Ending, HasRecords, FaultKind, CopySource, Settings, keeps_path, is_node, node_path, has_lost_source, is_whole_file, HoldsOfRecord, LengthsFit, IsCleanText, Patching, Finding, DumpFinding, AreDumpFindingsOf, is_obstacle, is_alarm, none_is, DumpRestricts, surveyed_dump, DumpTold, place_in, AreDumpTold, told_prefixes, prefix_lines, NodeTold, told_view, AreTold, survey_ending, all_findings, none_told, SilentSurveyRestricts, SilentTextRestricts, SilentTextLeavesDigests, is_digest_fault, IsSurveyText, FindsNothing, stops_at, stops_somewhere, wanted_path, matches_itself, AreKeptAsWellIn, AreAsWellLines}
+use Rattle.dump_survey.specs.Lines.{node_line, dump_line, dump_words, broken_line, ending_line}
 use Rattle.dump_survey.proofs.DigestLemmas.{digests_alone}
 use Rattle.dump_survey.proofs.PlaceLemmas.{nothing_found}
 use Rattle.dump_survey.proofs.TieLemmas.{told_are_findings}
@@ -71,7 +71,7 @@ both_none (x ∷ xs) ys none = cc
 
 -- a line of a node has bytes
 no_lines : (told : List NodeTold) → flat_map node_line told ≡ [] → told ≡ []
-unfolding node_line place_text
+unfolding node_line
 no_lines [] none = refl
 no_lines (t ∷ told) none = cc
 
@@ -89,15 +89,15 @@ some_words DumpFinding.NumbersLeft none = cc
 
 -- and so has what ends the list of records
 no_ending : (count : ℕ) (ending : Ending) → ending_line count ending ≡ [] → ending ≡ Ending.Whole
-unfolding ending_line place_text
+unfolding broken_line
 no_ending count Ending.Whole none = refl
-no_ending count (Ending.Broken kind place) none = cc
+no_ending count (Ending.Broken _ _) none = cc
 
 no_dump_lines : (told : List DumpTold) → flat_map dump_line told ≡ [] → told ≡ []
+unfolding dump_line
 no_dump_lines [] none = refl
 no_dump_lines (t ∷ told) none = absurd (some_words t.finding
-    (both_none (at_words t.at) (dump_words t.finding)
-    (both_none (at_words t.at ++ dump_words t.finding) (flat_map dump_line told) none).0).1)
+    (both_none (dump_words t.finding) _ (both_none (dump_line t) (flat_map dump_line told) none).0).0)
 
 -- where no line is written nothing is told
 module _ (settings : Settings) (dump said : List ℕ) (is : IsSurveyText settings dump said false) where

@@ -1,4 +1,4 @@
--- The lines of what is to be kept as well, word for word.
+-- The lines of the prefixes to add, word for word.
 use Rattle.std.specs.Prelude.{◌≡◌, ℕ, List, [], ◌∷◌, flat_map, codes}
 use Rattle.std.specs.List.{concat}
 use Rattle.dump_rules.specs.declared.options.Side.{Side}
@@ -9,10 +9,10 @@ use Rattle.dump_survey.specs.Lines.{shown_path}
 
 -- what such a line says before the path
 abbrev pub as_well_words : Side → List ℕ
-as_well_words Include = codes "keep as well: "
-as_well_words Exclude = codes "leave out as well: "
+as_well_words Include = codes "also include: "
+as_well_words Exclude = codes "also exclude: "
 
--- the line of a path to be kept as well
+-- the line of a path that is to be a prefix too
 unfoldable pub as_well_line : Side → List ℕ → List ℕ
 as_well_line side path = concat (as_well_words side ∷ shown_path path ∷ codes "\n" ∷ [])
 
@@ -20,7 +20,7 @@ as_well_line side path = concat (as_well_words side ∷ shown_path path ∷ code
 abbrev pub as_well_lines : Side → List (List ℕ) → List ℕ
 as_well_lines side paths = flat_map (as_well_line side) paths
 
--- these are the lines of all that is to be kept as well where this dump is filtered
+-- these are the lines of all prefixes to add where this dump is filtered
 pub record AreAsWellLines (settings : Settings) (dump lines : List ℕ) : Type 0 where
   pub paths : List (List ℕ)
   pub are_kept : AreKeptAsWellIn settings dump paths

@@ -25,9 +25,13 @@ place_in places DumpFinding.SourceBefore = places.source_before
 place_in places DumpFinding.NodeOutside = places.node_outside
 place_in places DumpFinding.NumbersLeft = places.numbers_left
 
--- what is told at the end, as the program has it
+-- a finding as it is told at the end, as the program has it
+abbrev pub told_of_dump : SurveyEnd → DumpFinding → DumpTold
+told_of_dump end f = record { finding = f; at = place_in end.places f }
+
+-- what is told at the end
 abbrev pub told_at_end : SurveyEnd → List DumpTold
-told_at_end end = map (λ f. record { finding = f; at = place_in end.places f }) (listed_findings end.dump)
+told_at_end end = map (told_of_dump end) (listed_findings end.dump)
 
 -- this is found in the dump with these records
 abbrev pub IsDumpFinding : Settings → List DumpRecord → DumpFinding → Type 0

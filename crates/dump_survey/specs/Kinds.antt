@@ -1,10 +1,12 @@
 -- The lines that count what was found, kind by kind, each with what to do about it, word for word.
-use Rattle.std.specs.Prelude.{ℕ, ◌==◌, List, [], ◌∷◌, ◌++◌, length, filter, flat_map, codes, decimal, if◌then◌else◌}
+use Rattle.std.specs.Prelude.{ℕ, ◌==◌, List, [], ◌∷◌, ◌++◌, length, filter, flat_map, codes, decimal, Option, None, if◌then◌else◌}
 use Rattle.std.specs.List.{concat}
+use Rattle.dump_text.specs.declared.fault.FaultKind.{FaultKind}
 use Rattle.dump_records.specs.DumpText.{Ending}
 use Rattle.dump_history.specs.Findings.{Finding, every_finding, DumpFinding}
 use Rattle.dump_survey.specs.declared.prefix_findings.PrefixFinding.{PrefixFinding}
 use Rattle.dump_survey.specs.declared.prefix_findings.PrefixFinding.TheVariants.{NotShort, Idle}
+use Rattle.dump_survey.specs.Lines.{fault_and_place, finding_fault, dump_fault}
 use Rattle.dump_survey.specs.PrefixFindings.{PrefixTold}
 use Rattle.dump_survey.specs.Told.{NodeTold}
 
@@ -38,61 +40,112 @@ prefix_place Idle = 1
 abbrev pub times_in_prefixes : List PrefixTold → PrefixFinding → ℕ
 times_in_prefixes told finding = length (filter (λ (t : PrefixTold). prefix_place t.finding == prefix_place finding) told)
 
--- the line of a kind that was found so often, if it was
-unfoldable pub kind_line : ℕ → List ℕ → List ℕ
-kind_line times words =
-    if times == 0 then [] else concat (codes "in all " ∷ decimal times ∷ words ∷ [])
+-- what the line of a kind says: what was found, the fault that it is, if it is one, and what to do
+pub record KindText : Type 0 where
+  pub what : List ℕ
+  pub fault : Option FaultKind
+  pub advice : List ℕ
 
--- what such a line says behind the number
-unfoldable pub finding_kind : Finding → List ℕ
-finding_kind Finding.UnreadBlock = codes ": properties that can't be read. Have the dump made again\n"
-finding_kind Finding.Delta = codes ": deltas under format version 2. Dump with --deltas, which writes version 3\n"
-finding_kind Finding.UnknownAction = codes ": no action, or an unknown one. Have the dump made again\n"
-finding_kind Finding.OddText = codes ": texts that the load reads otherwise. Mend the dump: no prefix may match what the load makes of them\n"
-finding_kind Finding.NoWholeFile = codes ": fault 12, copies of what is not kept. Include the source too, or leave the copy out too\n"
-finding_kind Finding.MissingCopyRevision =
-    codes ": fault 13, copies of revisions without a new number. Leave --renumber-revs out, or dump from an earlier revision on\n"
-finding_kind Finding.UnreadMergeinfo =
-    codes ": fault 14, mergeinfo that can't be read. Mend the property, and dump again; or leave the path out\n"
-finding_kind Finding.MissingMergeSource =
-    codes ": fault 15, mergeinfo of paths that are not kept. Give --skip-missing-merge-sources, or keep these paths too\n"
-finding_kind Finding.MissingMergeRevision =
-    codes ": fault 16, mergeinfo of revisions outside of the dump. Leave --renumber-revs out, or, if all are before the dump's first, give --skip-missing-merge-sources\n"
-finding_kind Finding.PropertiesLost = codes ": properties that may be lost with their source. Include the source too\n"
-finding_kind Finding.CopyLoses =
-    codes ": copies that may lose a part. Leave the same path out below the copy, or keep it below the source too\n"
-finding_kind Finding.CopyLetsIn = codes ": copies that may let a part in. Leave the same path out below the source too\n"
-finding_kind Finding.FolderTakes =
-    codes ": folders above a prefix that are deleted. Include the folder, or delete what stays behind the load\n"
-finding_kind Finding.FolderBrings =
-    codes ": folders above a prefix that are copies. Include the folder and its source\n"
-finding_kind Finding.TextComesIn =
-    codes ": texts of files that are not kept. Leave the copy out too, if its text is to go\n"
+-- the line of a kind that was found so often, if it was
+unfoldable pub kind_line : ℕ → KindText → List ℕ
+kind_line times kind =
+    if times == 0 then [] else concat (codes "total " ∷ decimal times ∷ codes ": " ∷ kind.what
+    ∷ fault_and_place kind.fault None ∷ codes ": " ∷ kind.advice ∷ codes "\n" ∷ [])
+
+-- what is found in nodes
+unfoldable pub finding_what : Finding → List ℕ
+finding_what Finding.UnreadBlock = codes "properties that cannot be read"
+finding_what Finding.Delta = codes "deltas in a dump of format version 2"
+finding_what Finding.UnknownAction = codes "nodes with no action, or an unknown one"
+finding_what Finding.OddText = codes "texts that svnadmin load reads differently"
+finding_what Finding.NoWholeFile = codes "copies whose source is excluded"
+finding_what Finding.MissingCopyRevision = codes "copies whose source's revision gets no new number"
+finding_what Finding.UnreadMergeinfo = codes "invalid svn:mergeinfo"
+finding_what Finding.MissingMergeSource = codes "svn:mergeinfo of excluded paths"
+finding_what Finding.MissingMergeRevision = codes "svn:mergeinfo of revisions outside of the dump"
+finding_what Finding.PropertiesLost = codes "copies that may lack the properties of their excluded source"
+finding_what Finding.CopyLoses = codes "copies that may lack paths that are excluded at their source"
+finding_what Finding.CopyLetsIn = codes "copies that may bring back paths that are excluded"
+finding_what Finding.FolderTakes = codes "excluded directories that are deleted"
+finding_what Finding.FolderBrings = codes "excluded copies of directories"
+finding_what Finding.TextComesIn = codes "copies with a text from their excluded source"
+
+-- what to do about it
+unfoldable pub finding_advice : Finding → List ℕ
+finding_advice Finding.UnreadBlock = codes "dump the repository again"
+finding_advice Finding.Delta = codes "use svnadmin dump --deltas, which writes version 3"
+finding_advice Finding.UnknownAction = codes "dump the repository again"
+finding_advice Finding.OddText = codes "correct them in the dump, since a prefix may not match what is loaded"
+finding_advice Finding.NoWholeFile = codes "include the source too, or exclude the copy"
+finding_advice Finding.MissingCopyRevision = codes "do not use --renumber-revs, or dump from an earlier revision on"
+finding_advice Finding.UnreadMergeinfo = codes "correct the property and dump the repository again, or exclude the path"
+finding_advice Finding.MissingMergeSource = codes "use --skip-missing-merge-sources, or include these paths too"
+finding_advice Finding.MissingMergeRevision =
+    codes "do not use --renumber-revs, or use --skip-missing-merge-sources if all of them are before the first one"
+finding_advice Finding.PropertiesLost = codes "include the source too"
+finding_advice Finding.CopyLoses = codes "exclude these paths below the copy too, or not below the source"
+finding_advice Finding.CopyLetsIn = codes "exclude these paths below the source too"
+finding_advice Finding.FolderTakes = codes "include the directory, or delete what stays after the load"
+finding_advice Finding.FolderBrings = codes "include the copy and its source"
+finding_advice Finding.TextComesIn = codes "exclude the copy too if its text has to go"
+
+unfoldable pub finding_kind : Finding → KindText
+finding_kind f = record { what = finding_what f; fault = finding_fault f; advice = finding_advice f }
+
+-- what is found in the dump as a whole
+unfoldable pub dump_what : DumpFinding → List ℕ
+dump_what DumpFinding.NoRevision = codes "a dump without a revision"
+dump_what DumpFinding.OtherNumbers = codes "revision numbers that do not rise by one"
+dump_what DumpFinding.NumberFalls = codes "revision numbers that do not rise"
+dump_what DumpFinding.UnreadRevision = codes "properties of a revision that cannot be read"
+dump_what DumpFinding.NodeInFirst = codes "a node in revision 0"
+dump_what DumpFinding.SourceBefore = codes "copies from a revision before the first one"
+dump_what DumpFinding.NodeOutside = codes "nodes outside of a revision"
+dump_what DumpFinding.NumbersLeft = codes "revision numbers with a gap"
+
+-- what to do about it
+unfoldable pub dump_advice : DumpFinding → List ℕ
+dump_advice DumpFinding.NoRevision = codes "there is nothing to load"
+dump_advice DumpFinding.OtherNumbers = codes "first renumber the dump with svndumpfilter include --renumber-revs /"
+dump_advice DumpFinding.NumberFalls = codes "dump the repository again"
+dump_advice DumpFinding.UnreadRevision = codes "dump the repository again"
+dump_advice DumpFinding.NodeInFirst = codes "dump the repository again"
+dump_advice DumpFinding.SourceBefore = codes "dump from an earlier revision on"
+dump_advice DumpFinding.NodeOutside = codes "dump the repository again"
+dump_advice DumpFinding.NumbersLeft = codes "use --renumber-revs"
+
+unfoldable pub dump_kind : DumpFinding → KindText
+dump_kind f = record { what = dump_what f; fault = dump_fault f; advice = dump_advice f }
 
 -- the line of a kind that is found in the dump as a whole, once
-unfoldable pub dump_kind_line : DumpFinding → List ℕ
-dump_kind_line DumpFinding.NoRevision = codes "in all 1: a dump without a revision. There is nothing to load\n"
-dump_kind_line DumpFinding.OtherNumbers =
-    codes "in all 1: numbers that do not rise by one. Renumber the dump first, by this survey's filter: include --renumber-revs /\n"
-dump_kind_line DumpFinding.NumberFalls =
-    codes "in all 1: fault 8, revisions whose numbers do not rise. Have the dump made again\n"
-dump_kind_line DumpFinding.UnreadRevision =
-    codes "in all 1: fault 9, properties of a revision that can't be read. Have the dump made again\n"
-dump_kind_line DumpFinding.NodeInFirst = codes "in all 1: a node in revision 0. Have the dump made again\n"
-dump_kind_line DumpFinding.SourceBefore =
-    codes "in all 1: copies from before the first revision. Dump from an earlier revision on\n"
-dump_kind_line DumpFinding.NodeOutside = codes "in all 1: fault 8, nodes in no revision. Have the dump made again\n"
-dump_kind_line DumpFinding.NumbersLeft = codes "in all 1: numbers with a gap. Give --renumber-revs\n"
+abbrev pub dump_kind_line : DumpFinding → List ℕ
+dump_kind_line f = kind_line 1 (dump_kind f)
 
--- what the line of a kind that is found in prefixes says behind the number
-unfoldable pub prefix_kind : PrefixFinding → List ℕ
-prefix_kind NotShort = codes ": prefixes that are not in their short form. Write them without empty names and lone dots\n"
-prefix_kind Idle = codes ": prefixes by which nothing is done. Look whether they are spelled as in the dump\n"
+-- what is found in prefixes, and what to do about it
+unfoldable pub prefix_kind : PrefixFinding → KindText
+prefix_kind NotShort = record {
+  what = codes "prefixes that are not in canonical form";
+  fault = None;
+  advice = codes "write them without empty names and without single dots";
+}
+prefix_kind Idle = record {
+  what = codes "prefixes that match nothing in the dump";
+  fault = None;
+  advice = codes "check that they are spelled as in the dump";
+}
+
+-- that the list of records ends before the dump's end, and what to do about it
+unfoldable pub broken_kind : KindText
+broken_kind = record {
+  what = codes "a dump that cannot be read to its end";
+  fault = None;
+  advice = codes "dump the repository again";
+}
 
 -- the line of what ends the list of records before the dump's end
-unfoldable pub ending_kind_line : Ending → List ℕ
+abbrev pub ending_kind_line : Ending → List ℕ
 ending_kind_line Ending.Whole = []
-ending_kind_line (Ending.Broken _ _) = codes "in all 1: a dump that breaks off. Have it made again\n"
+ending_kind_line (Ending.Broken _ _) = kind_line 1 broken_kind
 
 -- one line for each kind of what was found: in nodes, each so often; in the dump as a whole; in prefixes; and at the end
 abbrev pub kind_lines : (Finding → ℕ) → List DumpFinding → List PrefixTold → Ending → List ℕ

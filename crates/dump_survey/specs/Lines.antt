@@ -1,6 +1,8 @@
 -- The lines of a survey, word for word.
 use Rattle.std.specs.Prelude.{ℕ, ◌+◌, ◌/◌, ◌%◌, Bool, true, false, ◌||◌, ◌==◌, List, [], ◌∷◌, ◌++◌, Option, Some, None, flat_map, nat_lt, codes, decimal, if◌then◌else◌}
 use Rattle.std.specs.List.{concat}
+use Rattle.dump_text.specs.declared.fault.FaultKind.{FaultKind}
+use Rattle.dump_text.specs.declared.fault.FaultKind.TheVariants.{Order, Props, CopySource, CopyRevision, MergeInfo, MergeSource, MergeRange}
 use Rattle.dump_text.specs.FaultTable.{fault_code}
 use Rattle.dump_text.specs.FaultNames.{fault_name}
 use Rattle.dump_records.specs.DumpText.{Ending}
@@ -27,10 +29,18 @@ shown_path path = 47 ∷ flat_map shown_byte (bare_path path)
 unfoldable pub place_text : ℕ → ℕ → List ℕ
 place_text number place = concat (codes "record " ∷ decimal number ∷ codes ", byte " ∷ decimal place ∷ [])
 
+-- the fault of a line and its record, at its end in parentheses, so far as it has them
+unfoldable pub fault_and_place : Option FaultKind → Option Place → List ℕ
+fault_and_place None None = []
+fault_and_place None (Some p) = concat (codes " (" ∷ place_text p.number p.place ∷ codes ")" ∷ [])
+fault_and_place (Some kind) None = concat (codes " (fault " ∷ decimal (fault_code kind) ∷ codes ")" ∷ [])
+fault_and_place (Some kind) (Some p) = concat (codes " (fault " ∷ decimal (fault_code kind) ∷ codes ", "
+    ∷ place_text p.number p.place ∷ codes ")" ∷ [])
+
 -- what a node is copied from
 unfoldable pub source_text : NodeTold → List ℕ
-source_text t = concat (codes " is copied from " ∷ shown_path t.copy_path
-    ∷ codes " at r" ∷ decimal t.copy_revision ∷ [])
+source_text t = concat (codes ", copied from " ∷ shown_path t.copy_path
+    ∷ codes "@" ∷ decimal t.copy_revision ∷ [])
 
 -- whether a finding's line tells what the node is copied from
 abbrev pub tells_source : Finding → Bool
@@ -43,23 +53,36 @@ tells_source Finding.FolderBrings = true
 tells_source Finding.TextComesIn = true
 tells_source _ = false
 
--- what the line of a finding says behind the path, and behind what that is copied from
+-- the sentence of a finding in a node
 unfoldable pub finding_words : Finding → List ℕ
-finding_words Finding.UnreadBlock = codes " has properties that can't be read"
-finding_words Finding.Delta = codes " tells of a delta, which format version 2 doesn't have"
-finding_words Finding.UnknownAction = codes " has no action, or an unknown one"
-finding_words Finding.OddText = codes " has a path, a copy source or another text that the load reads otherwise"
-finding_words Finding.NoWholeFile = codes ", which is not kept: fault 12"
-finding_words Finding.MissingCopyRevision = codes ", for which there is no new number: fault 13"
-finding_words Finding.UnreadMergeinfo = codes " has mergeinfo that can't be read: fault 14"
-finding_words Finding.MissingMergeSource = codes " has mergeinfo of a path that is not kept: fault 15"
-finding_words Finding.MissingMergeRevision = codes " has mergeinfo of a revision outside of the dump: fault 16"
-finding_words Finding.PropertiesLost = codes ", which is not kept, and may lose its properties"
-finding_words Finding.CopyLoses = codes ", and may lose what is left out there and not here"
-finding_words Finding.CopyLetsIn = codes ", and may let in what is left out here and not there"
-finding_words Finding.FolderTakes = codes " is not kept, and is deleted: what is kept below it may stay"
-finding_words Finding.FolderBrings = codes ", and is not kept: what is kept below it may be missing"
-finding_words Finding.TextComesIn = codes ", which is not kept, and has a text from there"
+finding_words Finding.UnreadBlock = codes "its properties cannot be read"
+finding_words Finding.Delta = codes "a delta in a dump of format version 2"
+finding_words Finding.UnknownAction = codes "no action, or an unknown one"
+finding_words Finding.OddText = codes "a path, a copy source or another text that svnadmin load reads differently"
+finding_words Finding.NoWholeFile = codes "the source is excluded: svndumpfilter stops here"
+finding_words Finding.MissingCopyRevision =
+    codes "the source's revision gets no new number: svndumpfilter stops here"
+finding_words Finding.UnreadMergeinfo = codes "invalid svn:mergeinfo: svndumpfilter stops here"
+finding_words Finding.MissingMergeSource = codes "svn:mergeinfo of an excluded path: svndumpfilter stops here"
+finding_words Finding.MissingMergeRevision =
+    codes "svn:mergeinfo of a revision outside of the dump: svndumpfilter stops here"
+finding_words Finding.PropertiesLost = codes "the source is excluded: the copy may lack its properties"
+finding_words Finding.CopyLoses = codes "the copy may lack paths that are excluded at its source"
+finding_words Finding.CopyLetsIn = codes "the copy may bring back paths that are excluded here"
+finding_words Finding.FolderTakes =
+    codes "this excluded directory is deleted: what is included below it may stay"
+finding_words Finding.FolderBrings =
+    codes "this copy of a directory is excluded: what is included below it may be missing"
+finding_words Finding.TextComesIn = codes "the source is excluded, and the copy has a text from there"
+
+-- the fault with which the filter stops at a node in which this is found, if it does
+abbrev pub finding_fault : Finding → Option FaultKind
+finding_fault Finding.NoWholeFile = Some CopySource
+finding_fault Finding.MissingCopyRevision = Some CopyRevision
+finding_fault Finding.UnreadMergeinfo = Some MergeInfo
+finding_fault Finding.MissingMergeSource = Some MergeSource
+finding_fault Finding.MissingMergeRevision = Some MergeRange
+finding_fault _ = None
 
 -- what the line says of the prefix that cuts, which is shown as it was given, with its own slashes alone
 unfoldable pub cut_words : Option (List ℕ) → List ℕ
@@ -68,34 +91,41 @@ cut_words (Some prefix) = concat (codes ": prefix " ∷ flat_map shown_byte pref
 
 -- the line of a finding in a node
 unfoldable pub node_line : NodeTold → List ℕ
-node_line t = concat (place_text t.number t.place ∷ codes ", r" ∷ decimal t.revision ∷ codes ": "
-    ∷ shown_path t.path
-    ∷ (if tells_source t.finding then source_text t else [])
-    ∷ finding_words t.finding ∷ cut_words t.prefix ∷ codes "\n" ∷ [])
+node_line t = concat (codes "r" ∷ decimal t.revision ∷ codes ": " ∷ shown_path t.path
+    ∷ (if tells_source t.finding then source_text t else []) ∷ codes ": "
+    ∷ finding_words t.finding ∷ cut_words t.prefix
+    ∷ fault_and_place (finding_fault t.finding) (Some (record { number = t.number; place = t.place }))
+    ∷ codes "\n" ∷ [])
 
--- what the line of a finding in the dump as a whole says
+-- the sentence of a finding in the dump as a whole
 unfoldable pub dump_words : DumpFinding → List ℕ
-dump_words DumpFinding.NoRevision = codes "the dump has no revision\n"
-dump_words DumpFinding.OtherNumbers = codes "the revisions of the dump are not numbered one by one\n"
-dump_words DumpFinding.NumberFalls = codes "the number of a revision is not above the one before: fault 8\n"
-dump_words DumpFinding.UnreadRevision = codes "the properties of a revision can't be read: fault 9\n"
-dump_words DumpFinding.NodeInFirst = codes "revision 0 of the dump has a node\n"
-dump_words DumpFinding.SourceBefore = codes "a node of the dump is copied from before its first revision\n"
-dump_words DumpFinding.NodeOutside = codes "a node of the dump stands in no revision: fault 8\n"
+dump_words DumpFinding.NoRevision = codes "the dump has no revision"
+dump_words DumpFinding.OtherNumbers = codes "the revision numbers of the dump do not rise by one"
+dump_words DumpFinding.NumberFalls = codes "the number of a revision is not above the one before it"
+dump_words DumpFinding.UnreadRevision = codes "the properties of a revision cannot be read"
+dump_words DumpFinding.NodeInFirst = codes "revision 0 of the dump has a node"
+dump_words DumpFinding.SourceBefore = codes "a node of the dump is copied from a revision before the first one"
+dump_words DumpFinding.NodeOutside = codes "a node of the dump is outside of a revision"
 dump_words DumpFinding.NumbersLeft =
-    codes "a revision is left out, and a copy or mergeinfo behind it names revisions by their old numbers: give --renumber-revs\n"
+    codes "a revision is dropped, and a later copy or svn:mergeinfo names revisions by their old numbers: use --renumber-revs"
 
--- where the record is with which it comes up, if one is told
-unfoldable pub at_words : Option Place → List ℕ
-at_words None = []
-at_words (Some p) = place_text p.number p.place ++ codes ": "
+-- the fault with which the filter stops where this is found, if it does
+abbrev pub dump_fault : DumpFinding → Option FaultKind
+dump_fault DumpFinding.NumberFalls = Some Order
+dump_fault DumpFinding.UnreadRevision = Some Props
+dump_fault DumpFinding.NodeOutside = Some Order
+dump_fault _ = None
 
--- its line
-abbrev pub dump_line : DumpTold → List ℕ
-dump_line t = at_words t.at ++ dump_words t.finding
+-- the line of a finding in the dump as a whole, with the record with which it comes up, if one is told
+unfoldable pub dump_line : DumpTold → List ℕ
+dump_line t = concat (dump_words t.finding ∷ fault_and_place (dump_fault t.finding) t.at ∷ codes "\n" ∷ [])
+
+-- the line of a fault for which there is no record at this place
+unfoldable pub broken_line : FaultKind → Place → List ℕ
+broken_line kind at = concat (codes "the dump cannot be read from here on: " ∷ fault_name kind
+    ∷ fault_and_place (Some kind) (Some at) ∷ codes "\n" ∷ [])
 
 -- the line of what ends the list of so many records before the dump's end
-unfoldable pub ending_line : ℕ → Ending → List ℕ
+abbrev pub ending_line : ℕ → Ending → List ℕ
 ending_line count Ending.Whole = []
-ending_line count (Ending.Broken kind place) = concat (place_text count place ∷ codes ": fault "
-    ∷ decimal (fault_code kind) ∷ codes " " ∷ fault_name kind ∷ codes ", what follows is not read\n" ∷ [])
+ending_line count (Ending.Broken kind place) = broken_line kind (record { number = count; place = place })

@@ -13,7 +13,7 @@ use Rattle.dump_survey.specs.Lines.{shown_path}
 
 -- the line of a folder to be made
 unfoldable pub folder_line : List ℕ → List ℕ
-folder_line path = concat (codes "make before the load: " ∷ shown_path path ∷ codes "\n" ∷ [])
+folder_line path = concat (codes "create first: " ∷ shown_path path ∷ codes "\n" ∷ [])
 
 -- one line for each of the folders
 abbrev pub folder_lines : List (List ℕ) → List ℕ

@@ -8,7 +8,7 @@ use Rattle.dump_survey.specs.PrefixFindings.{PrefixTold}
 
 -- what such a line says behind the prefix
 abbrev pub prefix_line_words : PrefixFinding → List ℕ
-prefix_line_words NotShort = codes ": not in its short form, so no path of the loaded repository is at or below it\n"
+prefix_line_words NotShort = codes ": not in canonical form, so it matches no path of the loaded repository\n"
 prefix_line_words Idle = codes ": no node has a path at or below it, and none is copied from there or to a path above it\n"
 
 -- the line of a prefix, which is shown as it was given, with its own slashes alone

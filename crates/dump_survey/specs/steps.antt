@@ -4,6 +4,7 @@ pub mod Found
 pub mod IdlePrefixes
 pub mod KeptNumbers
 pub mod LeftOutCounts
+pub mod LineViews
 pub mod Losses
 pub mod Naming
 pub mod Needs

@@ -2,10 +2,12 @@
 ghost use Rattle.std.specs.Prelude.{◌≡◌, option_copied};
 ghost use Rattle.std.specs.List.{list_any};
 ghost use Rattle.dump_history.specs.Findings.{every_finding};
+ghost use Rattle.dump_survey.specs.Lines.{finding_fault};
 ghost use Rattle.dump_survey.specs.Meaning.{meaning};
 ghost use Rattle.dump_survey.specs.steps.Found.{found_prefix, has_found};
 
 use crate::refused::Refused;
+use dump_text::FaultKind;
 
 /// What can be found in a node.
 #[derive(Clone, Copy, Debug, PartialEq, Eq)]
@@ -60,6 +62,22 @@ pub const EVERY_FINDING: [NodeFinding; 15] = [
     NodeFinding::FolderBrings,
     NodeFinding::TextComesIn,
 ];
+
+impl NodeFinding {
+    /// The fault with which the filter stops at a node in which this is found, if it does.
+    pub(crate) fn fault(self) -> Option<FaultKind>
+        ensures { result ≡ finding_fault (meaning self) }
+    {
+        match self {
+            NodeFinding::NoWholeFile => Some(FaultKind::CopySource),
+            NodeFinding::MissingCopyRevision => Some(FaultKind::CopyRevision),
+            NodeFinding::UnreadMergeinfo => Some(FaultKind::MergeInfo),
+            NodeFinding::MissingMergeSource => Some(FaultKind::MergeSource),
+            NodeFinding::MissingMergeRevision => Some(FaultKind::MergeRange),
+            _ => None,
+        }
+    }
+}
 
 /// What keeps a node from making a change that can be told.
 #[derive(Clone, Copy, Debug, PartialEq, Eq)]

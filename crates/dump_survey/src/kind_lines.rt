@@ -1,96 +1,155 @@
 //! The lines that count what was found, kind by kind, each with what to do about it.
-ghost use Rattle.std.specs.Prelude.{◌≡◌, ◌++◌, OnOk, flat_map, map};
-ghost use Rattle.dump_survey.specs.DumpFindings.{listed_findings};
-ghost use Rattle.dump_survey.specs.Kinds.{dump_kind_line, ending_kind_line, finding_kind, kind_line, kind_lines, prefix_kind, times_in_prefixes};
+ghost use Rattle.std.specs.Prelude.{◌≡◌, ◌++◌, [], if◌then◌else◌, OnOk, flat_map, map};
+ghost use Rattle.dump_survey.specs.DumpFindings.{has_dump_finding, listed_findings};
+ghost use Rattle.dump_survey.specs.Kinds.{broken_kind, dump_kind_line, ending_kind_line, finding_advice, finding_kind, finding_what, kind_line, kind_lines, prefix_kind, times_in_prefixes};
 ghost use Rattle.dump_survey.specs.Meaning.{meaning};
 ghost use Rattle.dump_survey.specs.PrefixFindings.{prefix_view};
 ghost use Rattle.dump_survey.specs.SurveyEnds.{survey_ending};
 ghost use Rattle.dump_survey.specs.steps.Counts.{count_in};
+ghost use Rattle.dump_survey.specs.steps.LineViews.{kind_view, whole_meaning};
 
 use crate::counts::Counts;
 use crate::finding::{EVERY_FINDING, NodeFinding};
 use crate::prefix_findings::{PrefixFinding, ToldPrefix};
-use crate::survey_lines::{push_if, push_number};
+use crate::survey_lines::{push_fault_and_place, push_number};
 use crate::surveyor::{End, SurveyEnd};
 use crate::tally::DumpFindings;
+use crate::whole_finding::WholeFinding;
 use dump_rules::Memory;
+use dump_text::FaultKind;
 
-/// What the line of a kind says behind the number.
-#[tactic(auto, unfolding(crate::specs::Kinds::finding_kind))]
-fn finding_kind(finding: NodeFinding) -> &'static [u8]
-    ensures { result.now ≡ finding_kind (meaning finding) }
+/// What the line of a kind says.
+#[derive(Clone, Copy, Debug, PartialEq, Eq)]
+pub(crate) struct Kind {
+    /// What was found.
+    pub(crate) what: &'static [u8],
+    /// The fault that it is, if it is one.
+    pub(crate) fault: Option<FaultKind>,
+    /// What to do.
+    pub(crate) advice: &'static [u8],
+}
+
+/// What is found in nodes.
+#[tactic(auto, unfolding(crate::specs::Kinds::finding_what))]
+fn finding_what(finding: NodeFinding) -> &'static [u8]
+    ensures { result.now ≡ finding_what (meaning finding) }
 {
     match finding {
-        NodeFinding::UnreadBlock => b": properties that can't be read. Have the dump made again\n",
-        NodeFinding::Delta => {
-            b": deltas under format version 2. Dump with --deltas, which writes version 3\n"
-        }
-        NodeFinding::UnknownAction => b": no action, or an unknown one. Have the dump made again\n",
-        NodeFinding::OddText => {
-            b": texts that the load reads otherwise. Mend the dump: no prefix may match what the load makes of them\n"
-        }
-        NodeFinding::NoWholeFile => {
-            b": fault 12, copies of what is not kept. Include the source too, or leave the copy out too\n"
-        }
-        NodeFinding::MissingCopyRevision => {
-            b": fault 13, copies of revisions without a new number. Leave --renumber-revs out, or dump from an earlier revision on\n"
-        }
-        NodeFinding::UnreadMergeinfo => {
-            b": fault 14, mergeinfo that can't be read. Mend the property, and dump again; or leave the path out\n"
-        }
-        NodeFinding::MissingMergeSource => {
-            b": fault 15, mergeinfo of paths that are not kept. Give --skip-missing-merge-sources, or keep these paths too\n"
-        }
-        NodeFinding::MissingMergeRevision => {
-            b": fault 16, mergeinfo of revisions outside of the dump. Leave --renumber-revs out, or, if all are before the dump's first, give --skip-missing-merge-sources\n"
-        }
+        NodeFinding::UnreadBlock => b"properties that cannot be read",
+        NodeFinding::Delta => b"deltas in a dump of format version 2",
+        NodeFinding::UnknownAction => b"nodes with no action, or an unknown one",
+        NodeFinding::OddText => b"texts that svnadmin load reads differently",
+        NodeFinding::NoWholeFile => b"copies whose source is excluded",
+        NodeFinding::MissingCopyRevision => b"copies whose source's revision gets no new number",
+        NodeFinding::UnreadMergeinfo => b"invalid svn:mergeinfo",
+        NodeFinding::MissingMergeSource => b"svn:mergeinfo of excluded paths",
+        NodeFinding::MissingMergeRevision => b"svn:mergeinfo of revisions outside of the dump",
         NodeFinding::PropertiesLost => {
-            b": properties that may be lost with their source. Include the source too\n"
+            b"copies that may lack the properties of their excluded source"
         }
-        NodeFinding::CopyLoses => {
-            b": copies that may lose a part. Leave the same path out below the copy, or keep it below the source too\n"
-        }
-        NodeFinding::CopyLetsIn => {
-            b": copies that may let a part in. Leave the same path out below the source too\n"
-        }
-        NodeFinding::FolderTakes => {
-            b": folders above a prefix that are deleted. Include the folder, or delete what stays behind the load\n"
-        }
-        NodeFinding::FolderBrings => {
-            b": folders above a prefix that are copies. Include the folder and its source\n"
-        }
-        NodeFinding::TextComesIn => {
-            b": texts of files that are not kept. Leave the copy out too, if its text is to go\n"
-        }
+        NodeFinding::CopyLoses => b"copies that may lack paths that are excluded at their source",
+        NodeFinding::CopyLetsIn => b"copies that may bring back paths that are excluded",
+        NodeFinding::FolderTakes => b"excluded directories that are deleted",
+        NodeFinding::FolderBrings => b"excluded copies of directories",
+        NodeFinding::TextComesIn => b"copies with a text from their excluded source",
     }
 }
 
-/// What the line of a kind that is found in prefixes says behind the number.
-#[tactic(auto, unfolding(crate::specs::Kinds::prefix_kind))]
-fn prefix_kind(finding: PrefixFinding) -> &'static [u8]
-    ensures { result.now ≡ prefix_kind finding }
+/// What to do about it.
+#[tactic(auto, unfolding(crate::specs::Kinds::finding_advice))]
+fn finding_advice(finding: NodeFinding) -> &'static [u8]
+    ensures { result.now ≡ finding_advice (meaning finding) }
 {
     match finding {
-        PrefixFinding::NotShort => {
-            b": prefixes that are not in their short form. Write them without empty names and lone dots\n"
+        NodeFinding::UnreadBlock => b"dump the repository again",
+        NodeFinding::Delta => b"use svnadmin dump --deltas, which writes version 3",
+        NodeFinding::UnknownAction => b"dump the repository again",
+        NodeFinding::OddText => {
+            b"correct them in the dump, since a prefix may not match what is loaded"
         }
-        PrefixFinding::Idle => {
-            b": prefixes by which nothing is done. Look whether they are spelled as in the dump\n"
+        NodeFinding::NoWholeFile => b"include the source too, or exclude the copy",
+        NodeFinding::MissingCopyRevision => {
+            b"do not use --renumber-revs, or dump from an earlier revision on"
         }
+        NodeFinding::UnreadMergeinfo => {
+            b"correct the property and dump the repository again, or exclude the path"
+        }
+        NodeFinding::MissingMergeSource => {
+            b"use --skip-missing-merge-sources, or include these paths too"
+        }
+        NodeFinding::MissingMergeRevision => {
+            b"do not use --renumber-revs, or use --skip-missing-merge-sources if all of them are before the first one"
+        }
+        NodeFinding::PropertiesLost => b"include the source too",
+        NodeFinding::CopyLoses => {
+            b"exclude these paths below the copy too, or not below the source"
+        }
+        NodeFinding::CopyLetsIn => b"exclude these paths below the source too",
+        NodeFinding::FolderTakes => b"include the directory, or delete what stays after the load",
+        NodeFinding::FolderBrings => b"include the copy and its source",
+        NodeFinding::TextComesIn => b"exclude the copy too if its text has to go",
+    }
+}
+
+/// What the line of the kind says.
+#[tactic(auto, unfolding(crate::specs::Kinds::finding_kind, crate::specs::steps::LineViews::kind_view))]
+fn finding_kind(finding: NodeFinding) -> Kind
+    ensures { kind_view result ≡ finding_kind (meaning finding) }
+{
+    Kind {
+        what: finding_what(finding),
+        fault: finding.fault(),
+        advice: finding_advice(finding),
+    }
+}
+
+/// What the line of a kind that is found in prefixes says.
+#[tactic(auto, unfolding(crate::specs::Kinds::prefix_kind, crate::specs::steps::LineViews::kind_view))]
+fn prefix_kind(finding: PrefixFinding) -> Kind
+    ensures { kind_view result ≡ prefix_kind finding }
+{
+    match finding {
+        PrefixFinding::NotShort => Kind {
+            what: b"prefixes that are not in canonical form",
+            fault: None,
+            advice: b"write them without empty names and without single dots",
+        },
+        PrefixFinding::Idle => Kind {
+            what: b"prefixes that match nothing in the dump",
+            fault: None,
+            advice: b"check that they are spelled as in the dump",
+        },
+    }
+}
+
+/// What the line of a dump that cannot be read to its end says.
+#[tactic(auto, unfolding(crate::specs::Kinds::broken_kind, crate::specs::steps::LineViews::kind_view))]
+fn broken_kind() -> Kind
+    ensures { kind_view result ≡ broken_kind }
+{
+    Kind {
+        what: b"a dump that cannot be read to its end",
+        fault: None,
+        advice: b"dump the repository again",
     }
 }
 
 /// Adds the line of a kind that was found so often, if it was.
-#[tactic(auto, unfolding(crate::specs::Kinds::kind_line))]
-fn push_kind_line(lines: &mut Vec<u8>, times: u64, words: &[u8]) -> Result<(), Memory>
-    ensures { OnOk result (lines.new.items ≡ lines.old.items ++ kind_line times words.now) }
+#[tactic(auto, unfolding(crate::specs::Kinds::kind_line, crate::specs::steps::LineViews::kind_view))]
+fn push_kind_line(lines: &mut Vec<u8>, times: u64, kind: &Kind) -> Result<(), Memory>
+    ensures { OnOk result (lines.new.items ≡ lines.old.items ++ kind_line times (kind_view kind.now)) }
 {
     if times == 0 {
         return Ok(());
     }
-    lines.extend_from_slice(b"in all ")?;
+    lines.extend_from_slice(b"total ")?;
     push_number(lines, times)?;
-    Ok(lines.extend_from_slice(words)?)
+    lines.extend_from_slice(b": ")?;
+    lines.extend_from_slice(kind.what)?;
+    push_fault_and_place(lines, kind.fault, None)?;
+    lines.extend_from_slice(b": ")?;
+    lines.extend_from_slice(kind.advice)?;
+    Ok(lines.push(b'\n')?)
 }
 
 /// Adds the lines of these kinds, so far as they were told of nodes.
@@ -104,8 +163,23 @@ fn push_node_kinds(
 {
     let mut left = findings;
     while let [finding, others @ ..] = left {
-        push_kind_line(lines, counts.of(*finding), finding_kind(*finding))?;
+        push_kind_line(lines, counts.of(*finding), &finding_kind(*finding))?;
         left = others;
+    }
+    Ok(())
+}
+
+/// Adds the line of a kind that is found in the dump as a whole, if it is.
+fn push_dump_kind(
+    lines: &mut Vec<u8>,
+    found: &DumpFindings,
+    finding: WholeFinding,
+) -> Result<(), Memory>
+    ensures { OnOk result (lines.new.items ≡ lines.old.items
+        ++ (if has_dump_finding found.now (whole_meaning finding) then dump_kind_line (whole_meaning finding) else [])) }
+{
+    if found.has(finding) {
+        push_kind_line(lines, 1, &finding.kind())?;
     }
     Ok(())
 }
@@ -115,46 +189,14 @@ fn push_dump_kinds(lines: &mut Vec<u8>, found: &DumpFindings) -> Result<(), Memo
     ensures { OnOk result (lines.new.items ≡ lines.old.items
         ++ flat_map dump_kind_line (listed_findings found.now)) }
 {
-    push_if(
-        lines,
-        found.no_revision,
-        b"in all 1: a dump without a revision. There is nothing to load\n",
-    )?;
-    push_if(
-        lines,
-        found.other_numbers,
-        b"in all 1: numbers that do not rise by one. Renumber the dump first, by this survey's filter: include --renumber-revs /\n",
-    )?;
-    push_if(
-        lines,
-        found.number_falls,
-        b"in all 1: fault 8, revisions whose numbers do not rise. Have the dump made again\n",
-    )?;
-    push_if(
-        lines,
-        found.unread_revision,
-        b"in all 1: fault 9, properties of a revision that can't be read. Have the dump made again\n",
-    )?;
-    push_if(
-        lines,
-        found.node_in_first,
-        b"in all 1: a node in revision 0. Have the dump made again\n",
-    )?;
-    push_if(
-        lines,
-        found.source_before,
-        b"in all 1: copies from before the first revision. Dump from an earlier revision on\n",
-    )?;
-    push_if(
-        lines,
-        found.node_outside,
-        b"in all 1: fault 8, nodes in no revision. Have the dump made again\n",
-    )?;
-    push_if(
-        lines,
-        found.numbers_left,
-        b"in all 1: numbers with a gap. Give --renumber-revs\n",
-    )?;
+    push_dump_kind(lines, found, WholeFinding::NoRevision)?;
+    push_dump_kind(lines, found, WholeFinding::OtherNumbers)?;
+    push_dump_kind(lines, found, WholeFinding::NumberFalls)?;
+    push_dump_kind(lines, found, WholeFinding::UnreadRevision)?;
+    push_dump_kind(lines, found, WholeFinding::NodeInFirst)?;
+    push_dump_kind(lines, found, WholeFinding::SourceBefore)?;
+    push_dump_kind(lines, found, WholeFinding::NodeOutside)?;
+    push_dump_kind(lines, found, WholeFinding::NumbersLeft)?;
     Ok(())
 }
 
@@ -182,19 +224,16 @@ fn push_prefix_kind(
     ensures { OnOk result (lines.new.items ≡ lines.old.items
         ++ kind_line (times_in_prefixes (map prefix_view told.now) finding) (prefix_kind finding)) }
 {
-    push_kind_line(lines, times_in(told, finding), prefix_kind(finding))
+    push_kind_line(lines, times_in(told, finding), &prefix_kind(finding))
 }
 
 /// Adds the line of what ends the list of records before the dump's end, if something does.
-#[tactic(auto, unfolding(crate::specs::Kinds::ending_kind_line))]
 fn push_ending_kind(lines: &mut Vec<u8>, end: End) -> Result<(), Memory>
     ensures { OnOk result (lines.new.items ≡ lines.old.items ++ ending_kind_line (survey_ending end)) }
 {
     match end {
         End::Whole => Ok(()),
-        End::Broken { .. } => Ok(lines.extend_from_slice(
-            b"in all 1: a dump that breaks off. Have it made again\n",
-        )?),
+        End::Broken { .. } => push_kind_line(lines, 1, &broken_kind()),
     }
 }
 

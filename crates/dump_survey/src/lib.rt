@@ -9,7 +9,7 @@
 //! [`Surveyor::told_prefixes`] gives the prefixes that have no effect, each with its [`PrefixFinding`].
 //!
 //! [`survey_dump`] keeps all this in a [`Survey`]. [`write_survey`] writes a line for each finding as it is
-//! found, and keeps nothing. [`left_out_lines`] counts the lines of mergeinfo that the filter omits,
+//! found, and keeps nothing. [`left_out_lines`] counts the lines of mergeinfo that the filter drops,
 //! [`folders_to_make`] gives the parent directories to create, and [`keep_as_well`] the prefixes to add so that
 //! no copy stops the filter; [`write_behind`] writes the lines of all three. [`write_map`] writes the old and the
 //! new number of each kept revision.
@@ -33,7 +33,7 @@
 //! };
 //! let mut sink = MemorySink::new(rt.alloc(), 8, Trouble::Never);
 //! let written = write_behind(rt.alloc(), CHAIN, &options, true, &mut sink);
-//! let lines = b"make before the load: /x\nkeep as well: /b\nkeep as well: /a\n".as_slice();
+//! let lines = b"create first: /x\nalso include: /b\nalso include: /a\n".as_slice();
 //! assert!(rt; written.is_err() || sink.taken() == lines);
 //! ```
 //!
@@ -77,6 +77,7 @@ mod surveyor;
 mod tally;
 mod told;
 mod unread;
+mod whole_finding;
 
 pub use as_well::keep_as_well;
 pub use dump_rules::Memory;

@@ -1,8 +1,11 @@
 //! Where what is found in a dump as a whole comes up first.
 ghost use Rattle.std.specs.Prelude.{◌≡◌};
+ghost use Rattle.dump_survey.specs.DumpTold.{place_in};
 ghost use Rattle.dump_survey.specs.steps.Places.{AreNextPlaces, first_place, no_places};
+ghost use Rattle.dump_survey.specs.steps.LineViews.{whole_meaning};
 
 use crate::tally::DumpFindings;
+use crate::whole_finding::WholeFinding;
 
 /// Where a record is in a dump.
 #[derive(Clone, Copy, Debug, PartialEq, Eq)]
@@ -49,6 +52,22 @@ impl DumpPlaces {
             source_before: None,
             node_outside: None,
             numbers_left: None,
+        }
+    }
+
+    /// The place of the finding, if it has one.
+    pub(crate) fn of(&self, finding: WholeFinding) -> Option<Place>
+        ensures { result ≡ place_in self.now (whole_meaning finding) }
+    {
+        match finding {
+            WholeFinding::NoRevision => None,
+            WholeFinding::OtherNumbers => self.other_numbers,
+            WholeFinding::NumberFalls => self.number_falls,
+            WholeFinding::UnreadRevision => self.unread_revision,
+            WholeFinding::NodeInFirst => self.node_in_first,
+            WholeFinding::SourceBefore => self.source_before,
+            WholeFinding::NodeOutside => self.node_outside,
+            WholeFinding::NumbersLeft => self.numbers_left,
         }
     }
 

@@ -13,7 +13,7 @@ fn prefix_line_words(finding: PrefixFinding) -> &'static [u8]
 {
     match finding {
         PrefixFinding::NotShort => {
-            b": not in its short form, so no path of the loaded repository is at or below it\n"
+            b": not in canonical form, so it matches no path of the loaded repository\n"
         }
         PrefixFinding::Idle => {
             b": no node has a path at or below it, and none is copied from there or to a path above it\n"

@@ -3,12 +3,12 @@ ghost use Rattle.std.specs.Prelude.{◌≡◌, ◌++◌, ◌<◌, [], if◌then�
 ghost use Rattle.dump_records.specs.steps.RecordViews.{record_item};
 ghost use Rattle.dump_digest.specs.RecordParts.{is_node};
 ghost use Rattle.dump_survey.specs.AsWellLines.{as_well_line, as_well_lines, as_well_words};
-ghost use Rattle.dump_survey.specs.DumpFindings.{listed_findings};
-ghost use Rattle.dump_survey.specs.DumpTold.{told_at_end};
+ghost use Rattle.dump_survey.specs.DumpFindings.{has_dump_finding, listed_findings};
+ghost use Rattle.dump_survey.specs.DumpTold.{told_at_end, told_of_dump};
 ghost use Rattle.dump_survey.specs.Kinds.{kind_lines};
 ghost use Rattle.dump_survey.specs.LeftOutLine.{left_out_line, left_out_words};
 ghost use Rattle.dump_survey.specs.LinesBehind.{folder_line, folder_lines};
-ghost use Rattle.dump_survey.specs.Lines.{at_words, cut_words, dump_line, ending_line, finding_words, node_line, place_text, shown_byte, shown_path, small_digit, source_text, tells_source};
+ghost use Rattle.dump_survey.specs.Lines.{broken_line, cut_words, dump_line, ending_line, fault_and_place, finding_words, node_line, place_text, shown_byte, shown_path, small_digit, source_text, tells_source};
 ghost use Rattle.dump_survey.specs.Meaning.{meaning};
 ghost use Rattle.dump_survey.specs.PrefixFindings.{prefix_view};
 ghost use Rattle.dump_survey.specs.PrefixLines.{prefix_lines};
@@ -16,6 +16,7 @@ ghost use Rattle.dump_survey.specs.SurveyEnds.{survey_ending};
 ghost use Rattle.dump_survey.specs.Told.{told_view};
 ghost use Rattle.dump_survey.specs.steps.Counts.{count_in};
 ghost use Rattle.dump_survey.specs.steps.Surveyed.{told_of_node};
+ghost use Rattle.dump_survey.specs.steps.LineViews.{whole_meaning};
 
 use crate::counts::Counts;
 use crate::finding::{EVERY_FINDING, NodeFinding};
@@ -25,9 +26,10 @@ use crate::prefix_findings::ToldPrefix;
 use crate::prefix_lines::push_prefix_lines;
 use crate::surveyor::{End, SurveyEnd};
 use crate::told::{SurveyedNode, Told};
+use crate::whole_finding::WholeFinding;
 use dump_nodes::bare_path;
 use dump_rules::{Memory, Side};
-use dump_text::spell;
+use dump_text::{FaultKind, spell};
 use std::alloc::Global;
 
 /// A digit of base 16.
@@ -95,14 +97,45 @@ fn push_place(line: &mut Vec<u8>, number: u64, place: usize) -> Result<(), Memor
     push_number(line, place as u64)
 }
 
+/// Adds the fault of a line and its record, in parentheses, so far as it has them.
+#[tactic(auto, unfolding(crate::specs::Lines::fault_and_place))]
+pub(crate) fn push_fault_and_place(
+    line: &mut Vec<u8>,
+    fault: Option<FaultKind>,
+    at: Option<Place>,
+) -> Result<(), Memory>
+    ensures { OnOk result (line.new.items ≡ line.old.items ++ fault_and_place fault at) }
+{
+    match (fault, at) {
+        (None, None) => Ok(()),
+        (None, Some(at)) => {
+            line.extend_from_slice(b" (")?;
+            push_place(line, at.number, at.place)?;
+            Ok(line.push(b')')?)
+        }
+        (Some(kind), None) => {
+            line.extend_from_slice(b" (fault ")?;
+            push_number(line, u64::from(kind.code()))?;
+            Ok(line.push(b')')?)
+        }
+        (Some(kind), Some(at)) => {
+            line.extend_from_slice(b" (fault ")?;
+            push_number(line, u64::from(kind.code()))?;
+            line.extend_from_slice(b", ")?;
+            push_place(line, at.number, at.place)?;
+            Ok(line.push(b')')?)
+        }
+    }
+}
+
 /// Adds what a node is copied from.
 #[tactic(auto, unfolding(crate::specs::Lines::source_text))]
 fn push_source(line: &mut Vec<u8>, told: &Told<'_, '_>) -> Result<(), Memory>
     ensures { OnOk result (line.new.items ≡ line.old.items ++ source_text (told_view told.now)) }
 {
-    line.extend_from_slice(b" is copied from ")?;
+    line.extend_from_slice(b", copied from ")?;
     push_path(line, told.copy_path)?;
-    line.extend_from_slice(b" at r")?;
+    line.push(b'@')?;
     push_number(line, told.copy_revision)
 }
 
@@ -133,31 +166,39 @@ fn push_told_source(line: &mut Vec<u8>, told: &Told<'_, '_>) -> Result<(), Memor
     Ok(())
 }
 
-/// What the line of the finding says behind the paths.
+/// The sentence of the finding.
 #[tactic(auto, unfolding(crate::specs::Lines::finding_words))]
 fn words(finding: NodeFinding) -> &'static [u8]
     ensures { result.now ≡ finding_words (meaning finding) }
 {
     match finding {
-        NodeFinding::UnreadBlock => b" has properties that can't be read",
-        NodeFinding::Delta => b" tells of a delta, which format version 2 doesn't have",
-        NodeFinding::UnknownAction => b" has no action, or an unknown one",
+        NodeFinding::UnreadBlock => b"its properties cannot be read",
+        NodeFinding::Delta => b"a delta in a dump of format version 2",
+        NodeFinding::UnknownAction => b"no action, or an unknown one",
         NodeFinding::OddText => {
-            b" has a path, a copy source or another text that the load reads otherwise"
+            b"a path, a copy source or another text that svnadmin load reads differently"
         }
-        NodeFinding::NoWholeFile => b", which is not kept: fault 12",
-        NodeFinding::MissingCopyRevision => b", for which there is no new number: fault 13",
-        NodeFinding::UnreadMergeinfo => b" has mergeinfo that can't be read: fault 14",
-        NodeFinding::MissingMergeSource => b" has mergeinfo of a path that is not kept: fault 15",
+        NodeFinding::NoWholeFile => b"the source is excluded: svndumpfilter stops here",
+        NodeFinding::MissingCopyRevision => {
+            b"the source's revision gets no new number: svndumpfilter stops here"
+        }
+        NodeFinding::UnreadMergeinfo => b"invalid svn:mergeinfo: svndumpfilter stops here",
+        NodeFinding::MissingMergeSource => {
+            b"svn:mergeinfo of an excluded path: svndumpfilter stops here"
+        }
         NodeFinding::MissingMergeRevision => {
-            b" has mergeinfo of a revision outside of the dump: fault 16"
+            b"svn:mergeinfo of a revision outside of the dump: svndumpfilter stops here"
         }
-        NodeFinding::PropertiesLost => b", which is not kept, and may lose its properties",
-        NodeFinding::CopyLoses => b", and may lose what is left out there and not here",
-        NodeFinding::CopyLetsIn => b", and may let in what is left out here and not there",
-        NodeFinding::FolderTakes => b" is not kept, and is deleted: what is kept below it may stay",
-        NodeFinding::FolderBrings => b", and is not kept: what is kept below it may be missing",
-        NodeFinding::TextComesIn => b", which is not kept, and has a text from there",
+        NodeFinding::PropertiesLost => b"the source is excluded: the copy may lack its properties",
+        NodeFinding::CopyLoses => b"the copy may lack paths that are excluded at its source",
+        NodeFinding::CopyLetsIn => b"the copy may bring back paths that are excluded here",
+        NodeFinding::FolderTakes => {
+            b"this excluded directory is deleted: what is included below it may stay"
+        }
+        NodeFinding::FolderBrings => {
+            b"this copy of a directory is excluded: what is included below it may be missing"
+        }
+        NodeFinding::TextComesIn => b"the source is excluded, and the copy has a text from there",
     }
 }
 
@@ -178,117 +219,76 @@ fn push_cut(line: &mut Vec<u8>, prefix: Option<&[u8]>) -> Result<(), Memory>
 pub(crate) fn push_node_line(lines: &mut Vec<u8>, told: &Told<'_, '_>) -> Result<(), Memory>
     ensures { OnOk result (lines.new.items ≡ lines.old.items ++ node_line (told_view told.now)) }
 {
-    push_place(lines, told.number, told.place)?;
-    lines.extend_from_slice(b", r")?;
+    let at = Place {
+        number: told.number,
+        place: told.place,
+    };
+    lines.push(b'r')?;
     push_number(lines, told.revision)?;
     lines.extend_from_slice(b": ")?;
     push_path(lines, told.path)?;
     push_told_source(lines, told)?;
+    lines.extend_from_slice(b": ")?;
     lines.extend_from_slice(words(told.finding))?;
     push_cut(lines, told.prefix)?;
+    push_fault_and_place(lines, told.finding.fault(), Some(at))?;
     Ok(lines.push(b'\n')?)
 }
 
-/// Adds the line, if this is found.
-pub(crate) fn push_if(lines: &mut Vec<u8>, found: bool, line: &[u8]) -> Result<(), Memory>
-    ensures { OnOk result (lines.new.items ≡ lines.old.items ++ (if found then line.now else [])) }
-{
-    if found {
-        lines.extend_from_slice(line)?;
-    }
-    Ok(())
-}
-
 /// Adds the line of a finding in the dump as a whole, if it is found, with the record with which it comes up.
-#[tactic(auto, unfolding(crate::specs::Lines::at_words))]
-fn push_dump_line(
-    lines: &mut Vec<u8>,
-    found: bool,
-    at: Option<Place>,
-    words: &[u8],
-) -> Result<(), Memory>
-    ensures { OnOk result (lines.new.items ≡ lines.old.items ++ (if found then at_words at ++ words.now else [])) }
+#[tactic(auto, unfolding(crate::specs::Lines::dump_line))]
+fn push_dump_line(lines: &mut Vec<u8>, end: &SurveyEnd, finding: WholeFinding) -> Result<(), Memory>
+    ensures { OnOk result (lines.new.items ≡ lines.old.items
+        ++ (if has_dump_finding end.now.dump (whole_meaning finding) then dump_line (told_of_dump end.now (whole_meaning finding)) else [])) }
 {
-    if !found {
+    if !end.dump.has(finding) {
         return Ok(());
     }
-    if let Some(at) = at {
-        push_place(lines, at.number, at.place)?;
-        lines.extend_from_slice(b": ")?;
-    }
-    Ok(lines.extend_from_slice(words)?)
+    lines.extend_from_slice(finding.words())?;
+    push_fault_and_place(lines, finding.fault(), end.places.of(finding))?;
+    Ok(lines.push(b'\n')?)
 }
 
 /// Adds the lines of what is found in the dump as a whole.
 fn push_dump_lines(lines: &mut Vec<u8>, end: &SurveyEnd) -> Result<(), Memory>
     ensures { OnOk result (lines.new.items ≡ lines.old.items ++ flat_map dump_line (told_at_end end.now)) }
 {
-    let (found, at) = (end.dump, end.places);
-    push_dump_line(
-        lines,
-        found.no_revision,
-        None,
-        b"the dump has no revision\n",
-    )?;
-    push_dump_line(
-        lines,
-        found.other_numbers,
-        at.other_numbers,
-        b"the revisions of the dump are not numbered one by one\n",
-    )?;
-    push_dump_line(
-        lines,
-        found.number_falls,
-        at.number_falls,
-        b"the number of a revision is not above the one before: fault 8\n",
-    )?;
-    push_dump_line(
-        lines,
-        found.unread_revision,
-        at.unread_revision,
-        b"the properties of a revision can't be read: fault 9\n",
-    )?;
-    push_dump_line(
-        lines,
-        found.node_in_first,
-        at.node_in_first,
-        b"revision 0 of the dump has a node\n",
-    )?;
-    push_dump_line(
-        lines,
-        found.source_before,
-        at.source_before,
-        b"a node of the dump is copied from before its first revision\n",
-    )?;
-    push_dump_line(
-        lines,
-        found.node_outside,
-        at.node_outside,
-        b"a node of the dump stands in no revision: fault 8\n",
-    )?;
-    push_dump_line(
-        lines,
-        found.numbers_left,
-        at.numbers_left,
-        b"a revision is left out, and a copy or mergeinfo behind it names revisions by their old numbers: give --renumber-revs\n",
-    )?;
+    push_dump_line(lines, end, WholeFinding::NoRevision)?;
+    push_dump_line(lines, end, WholeFinding::OtherNumbers)?;
+    push_dump_line(lines, end, WholeFinding::NumberFalls)?;
+    push_dump_line(lines, end, WholeFinding::UnreadRevision)?;
+    push_dump_line(lines, end, WholeFinding::NodeInFirst)?;
+    push_dump_line(lines, end, WholeFinding::SourceBefore)?;
+    push_dump_line(lines, end, WholeFinding::NodeOutside)?;
+    push_dump_line(lines, end, WholeFinding::NumbersLeft)?;
     Ok(())
 }
 
+/// Adds the line of a fault for which there is no record at this place.
+#[tactic(auto, unfolding(crate::specs::Lines::broken_line))]
+fn push_broken_line(lines: &mut Vec<u8>, kind: FaultKind, at: Place) -> Result<(), Memory>
+    ensures { OnOk result (lines.new.items ≡ lines.old.items ++ broken_line kind at) }
+{
+    lines.extend_from_slice(b"the dump cannot be read from here on: ")?;
+    lines.extend_from_slice(kind.name().as_bytes())?;
+    push_fault_and_place(lines, Some(kind), Some(at))?;
+    Ok(lines.push(b'\n')?)
+}
+
 /// Adds the line of what ends the list of so many records before the dump's end, if something does.
-#[tactic(auto, unfolding(crate::specs::Lines::ending_line))]
 fn push_ending_line(lines: &mut Vec<u8>, count: u64, end: End) -> Result<(), Memory>
     ensures { OnOk result (lines.new.items ≡ lines.old.items ++ ending_line count (survey_ending end)) }
 {
-    let End::Broken { kind, place } = end else {
-        return Ok(());
-    };
-    push_place(lines, count, place)?;
-    lines.extend_from_slice(b": fault ")?;
-    push_number(lines, u64::from(kind.code()))?;
-    lines.push(b' ')?;
-    lines.extend_from_slice(kind.name().as_bytes())?;
-    Ok(lines.extend_from_slice(b", what follows is not read\n")?)
+    match end {
+        End::Whole => Ok(()),
+        End::Broken { kind, place } => {
+            let at = Place {
+                number: count,
+                place,
+            };
+            push_broken_line(lines, kind, at)
+        }
+    }
 }
 
 /// The lines of what is known where so many records end, and behind them one for each kind of what was found.
@@ -328,17 +328,17 @@ pub(crate) fn node_lines(alloc: Global, node: &SurveyedNode<'_, '_>) -> Result<V
     Ok(lines)
 }
 
-/// What the line of a path to be kept as well says before it.
+/// What the line of a path that is to be a prefix too says before it.
 fn as_well_words(side: Side) -> &'static [u8]
     ensures { result.now ≡ as_well_words side }
 {
     match side {
-        Side::Include => b"keep as well: ",
-        Side::Exclude => b"leave out as well: ",
+        Side::Include => b"also include: ",
+        Side::Exclude => b"also exclude: ",
     }
 }
 
-/// Adds the line of a path to be kept as well.
+/// Adds the line of a path that is to be a prefix too.
 #[tactic(auto, unfolding(crate::specs::AsWellLines::as_well_line))]
 fn push_as_well_line(lines: &mut Vec<u8>, side: Side, path: &[u8]) -> Result<(), Memory>
     ensures { OnOk result (lines.new.items ≡ lines.old.items ++ as_well_line side path.now) }
@@ -348,7 +348,7 @@ fn push_as_well_line(lines: &mut Vec<u8>, side: Side, path: &[u8]) -> Result<(),
     Ok(lines.push(b'\n')?)
 }
 
-/// The lines of what is to be kept as well.
+/// The lines of the prefixes to add.
 pub(crate) fn as_well_lines(alloc: Global, side: Side, paths: &[&[u8]]) -> Result<Vec<u8>, Memory>
     ensures { IfOk result (λ lines. lines.items ≡ as_well_lines side (map (λ path. path.now) paths.now)) }
 {
@@ -361,17 +361,17 @@ pub(crate) fn as_well_lines(alloc: Global, side: Side, paths: &[&[u8]]) -> Resul
     Ok(lines)
 }
 
-/// Adds the line of a folder to be made.
+/// Adds the line of a directory to be created.
 #[tactic(auto, unfolding(crate::specs::LinesBehind::folder_line))]
 fn push_folder_line(lines: &mut Vec<u8>, path: &[u8]) -> Result<(), Memory>
     ensures { OnOk result (lines.new.items ≡ lines.old.items ++ folder_line path.now) }
 {
-    lines.extend_from_slice(b"make before the load: ")?;
+    lines.extend_from_slice(b"create first: ")?;
     push_path(lines, path)?;
     Ok(lines.push(b'\n')?)
 }
 
-/// The lines of the folders to be made.
+/// The lines of the directories to be created.
 pub(crate) fn folder_lines(alloc: Global, folders: &[&[u8]]) -> Result<Vec<u8>, Memory>
     ensures { IfOk result (λ lines. lines.items ≡ folder_lines (map (λ path. path.now) folders.now)) }
 {
@@ -384,25 +384,25 @@ pub(crate) fn folder_lines(alloc: Global, folders: &[&[u8]]) -> Result<Vec<u8>, 
     Ok(lines)
 }
 
-/// What the line that tells how many lines of mergeinfo are left out says behind their number.
+/// What the line that tells how many lines of mergeinfo are dropped says behind their number.
 fn left_out_words(count: usize) -> &'static [u8]
     ensures { result.now ≡ left_out_words count }
 {
     if count == 1 {
-        b" line of a path that is not kept\n"
+        b" line of an excluded path\n"
     } else {
-        b" lines of paths that are not kept\n"
+        b" lines of excluded paths\n"
     }
 }
 
-/// The line that tells how many lines of mergeinfo are left out, where any are.
+/// The line that tells how many lines of mergeinfo are dropped, where any are.
 #[tactic(auto, unfolding(crate::specs::LeftOutLine::left_out_line))]
 pub(crate) fn left_out_line(alloc: Global, count: usize) -> Result<Vec<u8>, Memory>
     ensures { IfOk result (λ line. line.items ≡ left_out_line count) }
 {
     let mut line = Vec::new(alloc);
     if count > 0 {
-        line.extend_from_slice(b"left out of mergeinfo: ")?;
+        line.extend_from_slice(b"dropped from svn:mergeinfo: ")?;
         push_number(&mut line, count as u64)?;
         line.extend_from_slice(left_out_words(count))?;
     }

@@ -7,8 +7,10 @@ ghost use Rattle.dump_history.specs.Findings.{copies_from_before, every_dump_fin
 ghost use Rattle.dump_survey.specs.steps.Tally.{first_with, is_above_last, least_behind, lesser, no_tally, keeps_open, keeps_present, node_tally, next_tally, numbers_of, tally_findings};
 ghost use Rattle.dump_survey.specs.steps.Naming.{is_behind_dropped};
 ghost use Rattle.dump_survey.specs.DumpFindings.{has_dump_finding, listed_findings};
+ghost use Rattle.dump_survey.specs.steps.LineViews.{whole_meaning};
 
 use crate::revision_numbers::Numbers;
+use crate::whole_finding::WholeFinding;
 use dump_nodes::{copy_revision_of, makes_copy};
 use dump_records::Record;
 use dump_rules::{Empty, Options};
@@ -35,6 +37,22 @@ pub struct DumpFindings {
 }
 
 impl DumpFindings {
+    /// Whether this is among it.
+    pub(crate) fn has(&self, finding: WholeFinding) -> bool
+        ensures { result ≡ has_dump_finding self.now (whole_meaning finding) }
+    {
+        match finding {
+            WholeFinding::NoRevision => self.no_revision,
+            WholeFinding::OtherNumbers => self.other_numbers,
+            WholeFinding::NumberFalls => self.number_falls,
+            WholeFinding::UnreadRevision => self.unread_revision,
+            WholeFinding::NodeInFirst => self.node_in_first,
+            WholeFinding::SourceBefore => self.source_before,
+            WholeFinding::NodeOutside => self.node_outside,
+            WholeFinding::NumbersLeft => self.numbers_left,
+        }
+    }
+
     /// Whether anything is found.
     pub(crate) fn is_any(&self) -> bool
         ensures { result ≡ list_any (has_dump_finding self.now) every_dump_finding }

@@ -75,6 +75,6 @@ fn lines_behind_the_findings_or_no_memory(rt: HostRuntime) {
     };
     let mut sink = MemorySink::new(rt.alloc(), 8, Trouble::Never);
     let written = write_behind(rt.alloc(), CHAIN, &options, true, &mut sink);
-    let lines = b"make before the load: /x\nkeep as well: /b\nkeep as well: /a\n".as_slice();
+    let lines = b"create first: /x\nalso include: /b\nalso include: /a\n".as_slice();
     assert!(rt; written.is_err() || sink.taken() == lines);
 }

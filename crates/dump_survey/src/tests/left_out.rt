@@ -70,8 +70,7 @@ fn stand_behind(alloc: Global, options: &Options, lines: &[u8]) -> bool {
 #[test]
 fn the_number_stands_before_the_folders(rt: HostRuntime) -> Result<(), Fail> {
     let options = skipping(rt.alloc(), "a/b")?;
-    let lines =
-        b"left out of mergeinfo: 1 line of a path that is not kept\nmake before the load: /a\n";
+    let lines = b"dropped from svn:mergeinfo: 1 line of an excluded path\ncreate first: /a\n";
     assert!(rt; stand_behind(rt.alloc(), &options, lines.as_slice()));
     Ok(())
 }
@@ -79,6 +78,6 @@ fn the_number_stands_before_the_folders(rt: HostRuntime) -> Result<(), Fail> {
 #[test]
 fn without_the_option_nothing_is_left_out(rt: HostRuntime) -> Result<(), Fail> {
     let options = rules(rt.alloc(), Side::Include, "a/b")?;
-    assert!(rt; stand_behind(rt.alloc(), &options, b"make before the load: /a\n"));
+    assert!(rt; stand_behind(rt.alloc(), &options, b"create first: /a\n"));
     Ok(())
 }

@@ -8,10 +8,10 @@ use std::process::Abort;
 use std::test::Fail;
 
 const ODD: &[u8] =
-    b"record 3, byte 71, r7: /trunk//a has a path, a copy source or another text that the load reads otherwise\n\
-record 2, byte 51: the revisions of the dump are not numbered one by one\n\
-in all 1: texts that the load reads otherwise. Mend the dump: no prefix may match what the load makes of them\n\
-in all 1: numbers that do not rise by one. Renumber the dump first, by this survey's filter: include --renumber-revs /\n";
+    b"r7: /trunk//a: a path, a copy source or another text that svnadmin load reads differently (record 3, byte 71)\n\
+the revision numbers of the dump do not rise by one (record 2, byte 51)\n\
+total 1: texts that svnadmin load reads differently: correct them in the dump, since a prefix may not match what is loaded\n\
+total 1: revision numbers that do not rise by one: first renumber the dump with svndumpfilter include --renumber-revs /\n";
 
 /// Whether a sink with this trouble leaves this answer, and these bytes.
 fn is_text(
@@ -45,10 +45,10 @@ fn a_sink_that_fails_has_the_first_bytes(rt: HostRuntime) -> Result<(), Fail> {
 }
 
 const CUT_LINES: &[u8] =
-    b"record 3, byte 71, r1: /b is copied from /t at r0, and may lose what is left out there and not here: prefix t/f\n\
+    b"r1: /b, copied from /t@0: the copy may lack paths that are excluded at its source: prefix t/f (record 3, byte 71)\n\
 prefix t/f: no node has a path at or below it, and none is copied from there or to a path above it\n\
-in all 1: copies that may lose a part. Leave the same path out below the copy, or keep it below the source too\n\
-in all 1: prefixes by which nothing is done. Look whether they are spelled as in the dump\n";
+total 1: copies that may lack paths that are excluded at their source: exclude these paths below the copy too, or not below the source\n\
+total 1: prefixes that match nothing in the dump: check that they are spelled as in the dump\n";
 
 /// Run with each allocation refused in turn: all is written, or there is no memory.
 #[test]

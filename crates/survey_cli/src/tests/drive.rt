@@ -12,18 +12,18 @@ Revision-number: 1\n\n\
 Node-path: tags/one\nNode-kind: dir\nNode-action: add\nNode-copyfrom-rev: 0\nNode-copyfrom-path: trunk\n\n\n";
 
 const KEEP_LINES: &[u8] =
-    b"record 3, byte 71, r1: /tags/one is copied from /trunk at r0, which is not kept: fault 12\n\
-record 3, byte 71, r1: /tags/one is copied from /trunk at r0, which is not kept, and may lose its properties\n\
-in all 1: fault 12, copies of what is not kept. Include the source too, or leave the copy out too\n\
-in all 1: properties that may be lost with their source. Include the source too\n\
-keep as well: /trunk\n";
+    b"r1: /tags/one, copied from /trunk@0: the source is excluded: svndumpfilter stops here (fault 12, record 3, byte 71)\n\
+r1: /tags/one, copied from /trunk@0: the source is excluded: the copy may lack its properties (record 3, byte 71)\n\
+total 1: copies whose source is excluded (fault 12): include the source too, or exclude the copy\n\
+total 1: copies that may lack the properties of their excluded source: include the source too\n\
+also include: /trunk\n";
 
 const LEAVE_OUT_LINES: &[u8] =
-    b"record 3, byte 71, r1: /tags/one is copied from /trunk at r0, which is not kept: fault 12\n\
-record 3, byte 71, r1: /tags/one is copied from /trunk at r0, which is not kept, and may lose its properties\n\
-in all 1: fault 12, copies of what is not kept. Include the source too, or leave the copy out too\n\
-in all 1: properties that may be lost with their source. Include the source too\n\
-leave out as well: /tags/one\n";
+    b"r1: /tags/one, copied from /trunk@0: the source is excluded: svndumpfilter stops here (fault 12, record 3, byte 71)\n\
+r1: /tags/one, copied from /trunk@0: the source is excluded: the copy may lack its properties (record 3, byte 71)\n\
+total 1: copies whose source is excluded (fault 12): include the source too, or exclude the copy\n\
+total 1: copies that may lack the properties of their excluded source: include the source too\n\
+also exclude: /tags/one\n";
 
 /// Fails at once, in reading and in writing.
 #[derive(Drop)]

@@ -8,15 +8,15 @@ unfolding source_text
 returns c =
     let t = told_view c.args.told.now in
     map_ok c.push_number.result (λ is. all_added c.args.line.now.items c.push_number.new.line.items
-    (codes " is copied from " ∷ shown_path t.copy_path ∷ codes " at r" ∷ decimal t.copy_revision ∷ []) (
+    (codes ", copied from " ∷ shown_path t.copy_path ∷ codes "@" ∷ decimal t.copy_revision ∷ []) (
       c.extend_from_slice.new.self.items,
       c.in_ok-extend_from_slice.ensures.items,
       (
         c.push_path.new.line.items,
         c.in_ok-push_path.ensures,
         (
-          c.extend_from_slice-2.new.self.items,
-          c.in_ok-extend_from_slice-2.ensures.items,
+          c.push.new.self.items,
+          c.in_ok-push.ensures.items,
           (c.push_number.new.line.items, is, refl),
         ),
       ),
