@@ -311,8 +311,9 @@ def wrong_in_pages(pages, examples):
         unnamed = not any(it.page == name and called in "".join(it.commands) for it in examples)
         looks.append(unnamed and f"no example of {name} calls {called}")
     version = re.search(r"^## (\d[\d.]*) ", read("CHANGELOG.md"), re.MULTILINE)[1]
-    told = cases()["the_version"].of("cut", "stdout").decode()
-    looks.append(told != f"svndumpcut, version {version}\n" and f"the case the_version has {told!r}, CHANGELOG {version}")
+    for word, name in ("cut", "the_version"), ("survey", "the_version_of_the_survey"):
+        told = cases()[name].of(word, "stdout").decode()
+        looks.append(told != f"svndump{word}, version {version}\n" and f"the case {name} has {told!r}, CHANGELOG {version}")
     looks.append((unknown := unknown_cases()) and f"docs/ names these cases, which do not exist: {unknown}")
     looks.append("\n".join(wrong_on_crate_pages()))
     differences = wrong_differences()

@@ -1,5 +1,8 @@
 -- Worked values of the definitions, computed and proved by the kernel.
-use Rattle.survey_cli.proofs.Prelude.{◌≡◌, refl, true, false, List, [], ◌∷◌, length, Ok, Err, codes, Include, Pad, DropAll, flags, TellsCall, call_of_words, Words, BothDrops}
+use Rattle.survey_cli.proofs.Prelude.{◌≡◌, refl, true, false, List, [], ◌∷◌, length, None, Some, Ok, Err, inl, codes, Include, Pad, DropAll, flags, TellsCall, call_of_words, Words, BothDrops}
+use Rattle.cli_support.specs.declared.info.Info.TheVariants.{Version}
+use Rattle.survey_cli.specs.Drive.{AnswersWords}
+use Rattle.survey_cli.specs.declared.texts.TheConstants.{VERSION}
 use Rattle.survey_cli.specs.steps.LawfulLines.{is_survey_call}
 use Rattle.clap.specs.Words.{Text}
 use Rattle.clap.proofs.OnLiterals.{clap_on_literals}
@@ -73,3 +76,11 @@ refused_for_its_words = refl
 
 refused_for_others : ¬ TellsCall (Err BothDrops) (Err Words)
 refused_for_others e = cc
+
+-- Texts
+
+version : VERSION.now ≡ codes "svndumpsurvey, version 1.2.0\n"
+version = refl
+
+version_is_printed : AnswersWords (Some Version) (Err Words) None (Some []) (Some VERSION.now) 0
+version_is_printed = inl (refl, refl)

@@ -1,5 +1,5 @@
 -- What the program does with its words and its input.
-use Rattle.std.specs.Prelude.{◌≡◌, ℕ, Bool, true, false, ◌⊎◌, List, [], ◌++◌, Option, Result, Ok, Err, IfSome, MatchBool}
+use Rattle.std.specs.Prelude.{◌≡◌, ℕ, Bool, true, false, ◌⊎◌, List, [], ◌++◌, Option, Some, None, Result, Ok, Err, IfSome, MatchBool}
 use Rattle.std.specs.Io.KnownBytes.{Keeps, Appends}
 use Rattle.dump_rules.specs.Settings.{Settings}
 use Rattle.dump_writer.specs.SinkWords.{IsPrefixOf}
@@ -7,8 +7,12 @@ use Rattle.dump_survey.specs.LinesBehind.{AreLinesBehind}
 use Rattle.dump_survey.specs.RevisionMap.{IsRevisionMap}
 use Rattle.dump_survey.specs.SurveyText.{IsSurveyText}
 use Rattle.survey_cli.specs.Words.{TellsCall}
+use Rattle.survey_cli.specs.declared.texts.TheConstants.{HELP, VERSION}
 use Rattle.survey_cli.specs.declared.words.Call.{Call}
 use Rattle.cli_support.specs.Arguments.{refusal_status}
+use Rattle.cli_support.specs.Info.{Prints}
+use Rattle.cli_support.specs.declared.info.Info.{Info}
+use Rattle.cli_support.specs.declared.info.Info.TheVariants.{Help, Version}
 use Rattle.cli_support.specs.declared.usage.Usage.{Usage}
 
 -- the status of a whole survey: whether something is found
@@ -66,3 +70,10 @@ SurveysOrRefuses (Ok call) input old new status = SurveysInput call input old ne
 abbrev pub DrivesSurvey : Result Call Usage → Option (List ℕ) → Option (List ℕ) → Option (List ℕ) → ℕ → Type 0
 DrivesSurvey meaning input old new status = (answer : Result Call Usage) × TellsCall meaning answer
     × SurveysOrRefuses answer input old new status
+
+-- arguments that ask for a text in place of a survey get it, and the input isn't read; others are answered by their meaning
+abbrev pub AnswersWords : Option Info → Result Call Usage → Option (List ℕ) → Option (List ℕ) → Option (List ℕ)
+    → ℕ → Type 0
+AnswersWords (Some Help) meaning input old new status = Prints 3 HELP.now old new status
+AnswersWords (Some Version) meaning input old new status = Prints 3 VERSION.now old new status
+AnswersWords None meaning input old new status = DrivesSurvey meaning input old new status

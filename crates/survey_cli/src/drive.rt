@@ -2,12 +2,17 @@
 ghost use Rattle.std.specs.Prelude.{◌≡◌, [], List, ℕ, map, Ok, IfErr, IfOk, OnErr, OnOk};
 ghost use Rattle.std.specs.Io.KnownBytes.{Appends, GrowsBy, Keeps};
 ghost use Rattle.dump_writer.specs.steps.SinkStates.{lent_taken, loan_of};
+ghost use Rattle.cli_support.specs.Info.{info_of};
 ghost use Rattle.survey_cli.specs.Words.{call_of_words};
-ghost use Rattle.survey_cli.specs.Drive.{IsCallText, IsMapAskedFor, IsWholeText, SurveysInput, DrivesSurvey};
+ghost use Rattle.survey_cli.specs.Drive.{AnswersWords, IsCallText, IsMapAskedFor, IsWholeText, SurveysInput, DrivesSurvey};
 ghost use Rattle.survey_cli.specs.steps.Answered.{Arrives, FrontBreaksOff, MapBreaksOff, SurveyBreaksOff, told_status};
 
+use crate::texts::{HELP, VERSION};
 use crate::words::{Call, call_of};
-use cli_support::{Cause, Program, fail, fail_unread, finish, output_buffer, read_all, refuse};
+use cli_support::{
+    Cause, Info, Program, fail, fail_unread, finish, info_of, output_buffer, print_text, read_all,
+    refuse,
+};
 use dump_rules::Options;
 use dump_survey::{SurveyFailure, write_behind, write_map, write_survey};
 use dump_writer::OutMut;
@@ -31,6 +36,24 @@ struct BrokenOff {
 /// The whole program, with its exit status. The reader is thought to have so many bytes; the number spares growing and
 /// has no other meaning.
 pub fn drive<'a, R: Read, W: Write, E: Write>(
+    alloc: Global,
+    words: &'a [&'a str],
+    size: u64,
+    reader: &mut R,
+    writer: &mut W,
+    errors: &mut E,
+) -> u8
+    ensures { AnswersWords (info_of (map (λ word. word.now) words.now)) (call_of_words (map (λ word. word.now) words.now)) (R.remaining reader.old) (W.contents writer.old) (W.contents writer.new) result }
+{
+    match info_of(words) {
+        Some(Info::Help) => print_text(alloc, HELP, PROGRAM, writer, errors),
+        Some(Info::Version) => print_text(alloc, VERSION, PROGRAM, writer, errors),
+        None => drive_survey(alloc, words, size, reader, writer, errors),
+    }
+}
+
+/// The same of arguments that ask for no text.
+fn drive_survey<'a, R: Read, W: Write, E: Write>(
     alloc: Global,
     words: &'a [&'a str],
     size: u64,
@@ -103,8 +126,8 @@ fn write_text<W: Write>(
     Ok(found)
 }
 
-/// Writes the survey, and behind it how many lines of mergeinfo are left out, the folders to make and what to keep as
-/// well.
+/// Writes the survey, and behind it how many lines of mergeinfo are dropped, the directories to create and the prefixes
+/// to add.
 fn write_front<W: Write>(
     alloc: Global,
     dump: &[u8],

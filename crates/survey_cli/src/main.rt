@@ -5,6 +5,7 @@ mod command;
 mod drive;
 #[cfg(test)]
 mod tests;
+mod texts;
 mod words;
 
 use cli_support::{Usage, arguments, as_texts, input_size, refuse};
