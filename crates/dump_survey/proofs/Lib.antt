@@ -12,6 +12,7 @@ pub mod LeftLemmas
 pub mod LeftOutLemmas
 mod LeftOutValues
 pub mod LineLemmas
+mod LineValues
 pub mod LossLemmas
 pub mod MergeinfoLemmas
 pub mod NamedLemmas

@@ -1,0 +1,82 @@
+-- Worked lines, computed and proved by the kernel.
+use Rattle.dump_survey.proofs.Prelude.{◌≡◌, ℕ, List, [], Option, Some, None, refl, codes, Ending, Finding, DumpFinding, FaultKind, CopySource}
+use Rattle.std.specs.Fmt.{digits}
+use Rattle.dump_text.specs.declared.fault.FaultKind.TheVariants.{HeaderCut}
+use Rattle.dump_survey.specs.Kinds.{dump_advice, dump_kind, dump_kind_line, dump_what, finding_advice, finding_kind, finding_what, kind_line}
+use Rattle.dump_survey.specs.Lines.{broken_line, cut_words, dump_line, dump_words, ending_line, fault_and_place, finding_words, node_line, place_text, shown_byte, shown_path, source_text}
+use Rattle.dump_survey.specs.Told.{NodeTold}
+
+-- what stands in parentheses
+
+neither : fault_and_place None None ≡ []
+unfolding fault_and_place
+neither = refl
+
+fault_alone : fault_and_place (Some CopySource) None ≡ codes " (fault 12)"
+unfolding fault_and_place digits
+fault_alone = refl
+
+record_alone : fault_and_place None (Some (record { number = 41; place = 90110 })) ≡ codes " (record 41, byte 90110)"
+unfolding fault_and_place place_text digits
+record_alone = refl
+
+-- lines of nodes
+
+abbrev told : Finding → Option (List ℕ) → NodeTold
+told finding prefix = record {
+  finding = finding;
+  number = 38;
+  place = 66371;
+  revision = 12;
+  path = codes "tags/1.0";
+  copy_path = codes "/trunk";
+  copy_revision = 11;
+  prefix = prefix;
+}
+
+copy_without_its_source : node_line (told Finding.NoWholeFile None)
+    ≡ codes "r12: /tags/1.0, copied from /trunk@11: the source is excluded: svndumpfilter stops here (fault 12, record 38, byte 66371)\n"
+unfolding node_line shown_path shown_byte source_text finding_words cut_words fault_and_place place_text digits
+copy_without_its_source = refl
+
+copy_that_is_cut : node_line (told Finding.CopyLoses (Some (codes "/trunk/f/")))
+    ≡ codes "r12: /tags/1.0, copied from /trunk@11: the copy may lack paths that are excluded at its source: prefix /trunk/f/ (record 38, byte 66371)\n"
+unfolding node_line shown_path shown_byte source_text finding_words cut_words fault_and_place place_text digits
+copy_that_is_cut = refl
+
+-- a line that doesn't name the copy source
+deleted_directory : node_line (told Finding.FolderTakes None)
+    ≡ codes "r12: /tags/1.0: this excluded directory is deleted: what is included below it may stay (record 38, byte 66371)\n"
+unfolding node_line shown_path shown_byte finding_words cut_words fault_and_place place_text digits
+deleted_directory = refl
+
+-- lines of the whole dump and of its end
+
+number_that_falls : dump_line (record { finding = DumpFinding.NumberFalls; at = Some (record { number = 4; place = 90 }) })
+    ≡ codes "the number of a revision is not above the one before it (fault 8, record 4, byte 90)\n"
+unfolding dump_line dump_words fault_and_place place_text digits
+number_that_falls = refl
+
+no_revision : dump_line (record { finding = DumpFinding.NoRevision; at = None }) ≡ codes "the dump has no revision\n"
+unfolding dump_line dump_words fault_and_place
+no_revision = refl
+
+cut_header : ending_line 5 (Ending.Broken HeaderCut 123)
+    ≡ codes "the dump cannot be read from here on: HeaderCut (fault 1, record 5, byte 123)\n"
+unfolding broken_line fault_and_place place_text digits
+cut_header = refl
+
+-- lines of kinds
+
+three_copies : kind_line 3 (finding_kind Finding.NoWholeFile)
+    ≡ codes "total 3: copies whose source is excluded (fault 12): include the source too, or exclude the copy\n"
+unfolding kind_line finding_kind finding_what finding_advice fault_and_place digits
+three_copies = refl
+
+no_copies : kind_line 0 (finding_kind Finding.NoWholeFile) ≡ []
+unfolding kind_line
+no_copies = refl
+
+gaps : dump_kind_line DumpFinding.NumbersLeft ≡ codes "total 1: revision numbers with a gap: use --renumber-revs\n"
+unfolding kind_line dump_kind dump_what dump_advice fault_and_place digits
+gaps = refl
