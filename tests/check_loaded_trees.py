@@ -100,6 +100,8 @@ OWN_LIFE = re.compile(
     rb"content\n",
     re.MULTILINE,
 )
+# the number of a dump's first revision
+FIRST = re.compile(rb"^Revision-number: (\d+)$", re.MULTILINE)
 # the faults of a dump that svnadmin doesn't load
 UNLOADED = re.compile(rb"^svndumpcut: r\d+: .* \(fault (31|34), record \d+, byte \d+\)$", re.MULTILINE)
 MARKER = re.compile(rb"^only in text \d+\.$", re.MULTILINE)
@@ -755,8 +757,9 @@ class Cut(Trial):
             return f"no copy takes one of {added}"
         left = added
         while any(not found.keeps(it.source) for it in left):
-            found.paths.update(it.target for it in left if not found.keeps(it.source))
-            left = [it for it in left if found.keeps(it.source)]
+            reached = [it for it in left if not found.keeps(it.source)]
+            left = [it for it in left if it not in reached]
+            found.paths.update(it.target for it in reached)
         if left:
             return f"{left} are listed, and are no copies of excluded content"
         if any(map(meant.keeps, found.paths)) or any(map(found.keeps, meant.paths)):
@@ -848,7 +851,8 @@ class CutOther(Trial):
     def judge(self, built):
         it = ran(built["cut"], *self.words, given=self.dump)
         with tempfile.TemporaryDirectory(dir=MEMORY) as folder:
-            original, _ = load(folder, self.dump, [], options=["--ignore-uuid"])
+            first = int(FIRST.search(self.dump)[1])
+            original, _ = load(folder, self.dump, [], first, ["--ignore-uuid"])
             why = self.wrong(it, original, os.path.join(folder, "cut")) if original else self.wrong_refused(it)
         return self.fail(f"{why}: {it.stderr.decode()}") if why else self
 
