@@ -2,8 +2,9 @@
 use Rattle.cli_support.proofs.Prelude.{◌≡◌, refl, true, false, List, [], ◌∷◌, ℕ, length, lit<, lit≤, Some, None, Ok, Err, codes, Include, Exclude, Pad, DropEmptied, DropAll, Answers, AreFilled, IsNumber, empty_of, filter_command, flag_number, is_call_of, is_set, meaning_in, named_side, number, prefixes, refusal_status, settings_of, side_in, switch, Words, BothDrops, Memory}
 use Rattle.std.proofs.Common.{inl, inr}
 use Rattle.clap.specs.Words.{App, Row, with_rule}
-use Rattle.cli_support.specs.FilterCommand.{any_prefixes, repeated}
+use Rattle.cli_support.specs.FilterCommand.{any_prefixes, repeated, valued}
 use Rattle.cli_support.specs.Info.{Prints, TakesFront, info_in, info_of, named_info}
+use Rattle.cli_support.specs.NamedOutputs.{Replaces}
 use Rattle.cli_support.specs.Targets.{AreTextsOf, after_blanks, before_blanks, begun_by, is_blank, is_line_end, prefix_of_line, prefixes_of_text, prefixes_of_texts, lines_in_text}
 use Rattle.cli_support.specs.declared.info.Info.TheVariants.{Help, Version}
 use Rattle.clap.specs.declared.builder.value_parser.Reading.TheVariants as reading
@@ -22,6 +23,9 @@ optional = refl
 
 spelled_repeated : (repeated (codes "targets")).long ≡ Some (codes "targets")
 spelled_repeated = refl
+
+spelled_value : (valued (codes "map")).long ≡ Some (codes "map")
+spelled_value = refl
 
 wanted_prefixes : prefixes.required ≡ true
 wanted_prefixes = refl
@@ -167,6 +171,14 @@ printed = inl (refl, refl)
 
 printed_in_part : Prints 1 (codes "ab") (Some []) (Some (codes "a")) 1
 printed_in_part = inr (first_byte_alone, refl)
+
+-- NamedOutputs
+
+emptied : Replaces (Some (codes "a")) (Some []) []
+emptied = refl
+
+not_emptied : ¬ Replaces (Some (codes "a")) (Some (codes "a")) []
+not_emptied e = cc
 
 -- Targets
 

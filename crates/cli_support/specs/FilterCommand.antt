@@ -34,6 +34,10 @@ any_prefixes = record prefixes { required = false }
 abbrev pub repeated : Text → Rule
 repeated name = record (new_rule name) { long = Some name; action = Some Append }
 
+-- an option with a value, which may be given once
+abbrev pub valued : Text → Rule
+valued name = record (new_rule name) { long = Some name; action = Some Set }
+
 -- a command of this name without help
 abbrev pub bare_command : Text → App
 bare_command name = on_top (λ s. record s { disable_help_flag = true }) (new_app name)

@@ -1,5 +1,6 @@
 pub mod Arguments
 pub mod FilterCommand
 pub mod Info
+pub mod NamedOutputs
 pub mod Targets
 pub mod steps

@@ -1,7 +1,7 @@
 //! The options of the filter, those of how a run is spread over threads, and the prefixes, as clap reads them.
 ghost use Rattle.std.specs.Prelude.{◌≡◌, IfOk, false, codes};
 ghost use Rattle.clap.specs.Words.{app_of, rule_of};
-ghost use Rattle.cli_support.specs.FilterCommand.{any_prefixes, filter_command, number, prefixes, repeated, switch};
+ghost use Rattle.cli_support.specs.FilterCommand.{any_prefixes, filter_command, number, prefixes, repeated, switch, valued};
 
 use clap::{Arg, ArgAction, Command, value_parser};
 use std::alloc::{AllocError, Global};
@@ -60,6 +60,14 @@ pub fn repeated<'a>(alloc: Global, name: &'a str) -> Arg<'a>
     ensures local { result.global ≡ false }
 {
     Arg::new(alloc, name).long(name).action(ArgAction::Append)
+}
+
+/// An option with a value, which may be given once.
+pub fn valued<'a>(alloc: Global, name: &'a str) -> Arg<'a>
+    ensures rule { rule_of result ≡ valued name.entry.now }
+    ensures local { result.global ≡ false }
+{
+    Arg::new(alloc, name).long(name).action(ArgAction::Set)
 }
 
 /// A command with the options of the filter. A program adds its own options, and the prefixes; the side is no argument of

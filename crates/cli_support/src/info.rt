@@ -66,20 +66,42 @@ pub fn print_text<W: Write, E: Write>(
 ) -> u8
     ensures { Prints program.failed text.now (W.contents writer.old) (W.contents writer.new) result }
 {
-    let Ok(buffer) = output_buffer(alloc) else {
-        return fail(errors, program, Cause::Memory, 0);
-    };
-    let mut sink = OutMut::new(writer, buffer);
-    let sent = send(alloc, text.as_bytes(), &mut sink);
-    let written = sink.written();
-    let _ = sink.into_inner();
-    match sent {
+    match write_text(alloc, text.as_bytes(), writer) {
         Ok(()) => 0,
-        Err(cause) => fail(errors, program, cause, written),
+        Err(Unwritten { cause, written }) => fail(errors, program, cause, written),
     }
 }
 
+/// Why a text was not written whole.
+#[derive(Clone, Copy, Debug, PartialEq, Eq)]
+pub struct Unwritten {
+    pub cause: Cause,
+    /// How many of its bytes were written.
+    pub written: u64,
+}
+
 /// Writes a text, and hands on all of it.
+pub fn write_text<W: Write>(alloc: Global, text: &[u8], writer: &mut W) -> Result<(), Unwritten>
+    ensures whole { OnOk result (Appends (W.contents writer.old) (W.contents writer.new) text.now) }
+    ensures part { OnErr result (TakesFront (W.contents writer.old) (W.contents writer.new) text.now) }
+{
+    let Ok(buffer) = output_buffer(alloc) else {
+        return Err(Unwritten {
+            cause: Cause::Memory,
+            written: 0,
+        });
+    };
+    let mut sink = OutMut::new(writer, buffer);
+    let sent = send(alloc, text, &mut sink);
+    let written = sink.written();
+    let _ = sink.into_inner();
+    match sent {
+        Ok(()) => Ok(()),
+        Err(cause) => Err(Unwritten { cause, written }),
+    }
+}
+
+/// Sends a text, and hands on all of it.
 fn send<W: Write>(alloc: Global, text: &[u8], sink: &mut OutMut<'_, W>) -> Result<(), Cause>
     requires waiting { sink.old.waiting ≡ [] }
     requires start { sink.old.out.start ≡ sink.old.out.taken }

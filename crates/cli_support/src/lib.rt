@@ -29,6 +29,9 @@
 //! [`read_values`] finds, and [`with_texts`] adds the prefixes in their texts to others. The [`prefixes`] of such a program are
 //! [`any_prefixes`].
 //!
+//! A [`NamedOutput`] is written to a file that is created by its name, and a [`NewFile`] is one of the process. [`valued`]
+//! is an option with such a name, and [`read_value`] finds it. [`write_text`] writes a whole text.
+//!
 //! [`info_of`] says whether arguments ask for help or the version, and [`print_text`] prints a text.
 //!
 //! [`arguments`] are those of the process, and [`input_size`] is a guess at the size of its input. [`read_all`] reads the
@@ -41,18 +44,24 @@ mod flags;
 mod info;
 mod input;
 mod line;
+mod named_output;
 mod outcome;
 mod process;
 mod targets;
 mod usage;
 
 pub use buffered::{finish, output_buffer};
-pub use flags::{any_prefixes, filter_command, prefixes, repeated, switch, window, workers};
-pub use info::{Info, info_of, print_text};
+pub use flags::{
+    any_prefixes, filter_command, prefixes, repeated, switch, valued, window, workers,
+};
+pub use info::{Info, Unwritten, info_of, print_text, write_text};
 pub use input::{Unread, read_all};
-pub use line::{is_set, read_line, read_number, read_options, read_prefixes, read_values, side_in};
+pub use line::{
+    is_set, read_line, read_number, read_options, read_prefixes, read_value, read_values, side_in,
+};
+pub use named_output::NamedOutput;
 pub use outcome::{Cause, Program, fail, fail_unread, refuse};
-pub use process::{arguments, as_texts, input_size};
+pub use process::{NewFile, arguments, as_texts, input_size};
 pub use targets::{NamedFiles, UnreadFile, read_files, with_texts};
 pub use usage::{Usage, refusal};
 

@@ -1,7 +1,7 @@
 //! What a line of arguments gives: its side, what the command finds behind it, and the options of the filter.
-ghost use Rattle.std.specs.Prelude.{◌≡◌, ◌≢◌, ◌≤◌, ℕ, [], IfOk, Err, map, true, codes, unwrap_or};
+ghost use Rattle.std.specs.Prelude.{◌≡◌, ◌≢◌, ◌≤◌, ℕ, [], IfOk, Err, map, true, codes, option_map, unwrap_or};
 ghost use Rattle.clap.specs.Built.{IsParsedFrom};
-ghost use Rattle.clap.specs.Words.{all_of, app_of, found_of, is_simple_and_free, rows_of, takes};
+ghost use Rattle.clap.specs.Words.{all_of, app_of, first_of, found_of, is_simple_and_free, rows_of, takes};
 ghost use Rattle.cli_support.specs.Arguments.{Answers, empty_in, flag_number, is_set, named_side, settings_of, side_in};
 ghost use Rattle.cli_support.specs.steps.FilledFlags.{IsNumber};
 ghost use Rattle.cli_support.specs.steps.LineReading.{ReadsLine};
@@ -112,6 +112,13 @@ pub fn read_prefixes<'a>(alloc: Global, matches: &ArgMatches<'a>) -> Result<Vec<
         Some(prefixes) => as_bytes(alloc, prefixes),
         None => Ok(Vec::new(alloc)),
     }
+}
+
+/// The value of the option of this name, as it was given.
+pub fn read_value<'a>(matches: &ArgMatches<'a>, name: &str) -> Option<&'a str>
+    ensures { option_map (λ text. text.now) result ≡ first_of name.now (rows_of (found_of matches.now)) }
+{
+    matches.get_str(name)
 }
 
 /// The values of the option of this name, as they were given.

@@ -3,11 +3,12 @@ ghost use Rattle.std.specs.Prelude.{◌≡◌, IfOk, None, map};
 ghost use Rattle.std.specs.String.{string_bytes};
 
 use crate::input::{Unread, read_all};
+use crate::named_output::NamedOutput;
 use crate::targets::NamedFiles;
 use crate::usage::Usage;
 use std::alloc::Global;
 use std::fs::File;
-use std::io::ErrorKind;
+use std::io::{self, ErrorKind, Write};
 use std::{env, fs};
 
 /// The arguments of the process, where each is UTF-8. The first is the program's name.
@@ -50,5 +51,43 @@ impl NamedFiles for HostRuntime {
             Err(error) if error.kind() == ErrorKind::OutOfMemory => Err(Unread::Memory),
             Err(_) => Err(Unread::Source),
         }
+    }
+}
+
+/// A file of the process that is written, once it is created. What it has isn't known.
+#[derive(Drop)]
+pub struct NewFile<'r> {
+    rt: &'r HostRuntime,
+    file: Option<File>,
+}
+
+impl<'r> NewFile<'r> {
+    /// No file yet.
+    pub fn new(rt: &'r HostRuntime) -> NewFile<'r> {
+        NewFile { rt, file: None }
+    }
+}
+
+impl Write for NewFile<'_> {
+    fn write(&mut self, bytes: &[u8]) -> io::Result<usize> {
+        match &mut self.file {
+            Some(file) => file.write(bytes),
+            None => Err(ErrorKind::NotFound.into()),
+        }
+    }
+
+    fn flush(&mut self) -> io::Result<()> {
+        match &mut self.file {
+            Some(file) => file.flush(),
+            None => Ok(()),
+        }
+    }
+}
+
+impl NamedOutput for NewFile<'_> {
+    fn create(&mut self, name: &str) -> io::Result<()> {
+        let file = File::create(self.rt, name)?;
+        self.file = Some(file);
+        Ok(())
     }
 }

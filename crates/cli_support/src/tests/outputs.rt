@@ -1,8 +1,8 @@
 //! Outputs that are handed on, or not, and the lines of what ends a program.
 
 use crate::{
-    Cause, Program, Unread, Usage, arguments, as_texts, fail, fail_unread, finish, input_size,
-    output_buffer, refuse,
+    Cause, NewFile, Program, Unread, Unwritten, Usage, arguments, as_texts, fail, fail_unread,
+    finish, input_size, output_buffer, refuse, write_text,
 };
 use dump_writer::{OutMut, Sink};
 use std::alloc::{AllocError, Global};
@@ -61,6 +61,20 @@ fn nothing_is_tried_where_the_sink_is_down(rt: HostRuntime) -> Result<(), Fail> 
     assert!(rt; output.is_empty());
     assert!(rt; finished(rt.alloc(), &mut Gone, false)? == Err(0));
     Ok(())
+}
+
+/// Whether a writer takes nothing of a text.
+fn takes_nothing<W: Write>(alloc: Global, writer: &mut W) -> bool {
+    match write_text(alloc, b"some text", writer) {
+        Ok(()) => false,
+        Err(Unwritten { written, .. }) => written == 0,
+    }
+}
+
+#[test]
+fn a_file_that_is_not_created_takes_no_text(rt: HostRuntime) {
+    assert!(rt; takes_nothing(rt.alloc(), &mut Gone));
+    assert!(rt; takes_nothing(rt.alloc(), &mut NewFile::new(&rt)));
 }
 
 #[test]
