@@ -1,6 +1,7 @@
 pub mod CheckLemmas
 pub mod DeleteGroups
 pub mod ExcludedLemmas
+pub mod FateLemmas
 pub mod FollowedLemmas
 pub mod FoundDeletes
 pub mod GrowingLemmas

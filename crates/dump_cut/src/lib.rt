@@ -38,13 +38,21 @@
 //! let additions = follow(alloc, &index, &mut excluded, way)?;
 //! ```
 //!
-//! `tests::follows` runs this.
+//! `tests::follows` runs this. [`revision_fates`] are the revisions of a dump, and whether the filter keeps each of them:
+//!
+//! ```
+//! let options = excluded.filter_options(alloc, true)?;
+//! let fates = revision_fates(alloc, &dump, &options)?;
+//! ```
+//!
+//! `tests::drops` runs this.
 #![tactic(auto)]
 
 mod canonical;
 mod copies;
 mod deletes;
 mod excluded;
+mod fates;
 mod followed;
 mod joined_rests;
 mod kinds;
@@ -60,6 +68,7 @@ pub use canonical::canonical_prefix;
 pub use deletes::Deletes;
 pub use dump_rules::Memory;
 pub use excluded::Excluded;
+pub use fates::{RevisionFate, revision_fates};
 pub use followed::{Addition, follow};
 pub use kinds::Kinds;
 pub use load_check::{Refused, first_refused};

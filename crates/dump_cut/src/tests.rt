@@ -6,7 +6,7 @@ ghost use Rattle.dump_cut.specs.NamedPaths.{has_named_paths};
 
 use crate::{
     Addition, Deletes, Excluded, Memory, PlacedRest, Refusal, Refused, Way, all_followed,
-    canonical_prefix, first_not_taken, first_refused, follow,
+    canonical_prefix, first_not_taken, first_refused, follow, revision_fates,
 };
 use dump_changes::{End, read_changes};
 use dump_index::{ChangeIndex, are_in_order};
@@ -263,5 +263,30 @@ fn copies_are_followed_by_deletes(rt: HostRuntime) -> Result<(), Fail> {
 #[test]
 fn deletes_or_no_memory(rt: HostRuntime) {
     let answer = deletes(rt.alloc(), b"e/f", DELETE);
+    assert!(rt; matches!(answer, Ok(true) | Err(Memory)));
+}
+
+/// Whether revision 2, which copies `d` to `e`, is the one that is dropped where this prefix is excluded.
+fn drops(alloc: Global, prefix: &[u8]) -> Result<bool, Memory> {
+    let dump = dump_with(alloc, COPY)?;
+    let excluded = Excluded::of(alloc, &[prefix])?;
+    let options = excluded.filter_options(alloc, true)?;
+    let fates = revision_fates(alloc, &dump, &options)?;
+    match fates.as_slice() {
+        [_, first, second] => Ok(first.stays && second.number == 2 && !second.stays),
+        _ => Ok(false),
+    }
+}
+
+#[test]
+fn a_revision_without_its_nodes_is_dropped(rt: HostRuntime) -> Result<(), Fail> {
+    assert!(rt; drops(rt.alloc(), b"e")?);
+    assert!(rt; !drops(rt.alloc(), b"e/f")?);
+    Ok(())
+}
+
+#[test]
+fn fates_or_no_memory(rt: HostRuntime) {
+    let answer = drops(rt.alloc(), b"e");
     assert!(rt; matches!(answer, Ok(true) | Err(Memory)));
 }
