@@ -14,6 +14,8 @@ cases have one name. It has these files, where PROGRAM is what stands behind svn
     PROGRAM.args    its arguments, where they are not those of args
     FILE            a file that is an argument, or an argument's part after its first =. The program runs in the case's
                     directory
+    cut.map         what svndumpcut leaves in the FILE of --map FILE. Without it the program leaves FILE as it is, or does
+                    not create it. The program runs in a copy of the case's directory then
     PROGRAM.cuts    then stdin is cut to each of its lengths, and there is neither PROGRAM.stderr nor a use of
                     PROGRAM.status. A line has the first and the last of some lengths, how many bytes of PROGRAM.stdout are
                     written at these, the status, and the line on standard error
@@ -23,14 +25,16 @@ program prints. A case of the filter that gives neither --workers nor --window i
 change nothing. The last line is 'N passed, M failed', of programs on cases; the status is 1 if one failed or none was run.
 """
 import os
+import shutil
 import subprocess
 import sys
+import tempfile
 
 sys.path.insert(0, os.path.join(os.path.dirname(__file__), "..", "tools"))
 from repository import cases, ended, programs
 
 SECONDS = 120
-OWN = ("status", "stdout", "stderr", "args", "cuts")
+OWN = ("status", "stdout", "stderr", "args", "cuts", "map")
 # workers and window
 PLANS = [("1", "1"), ("4", "64"), ("64", "4096")]
 
@@ -43,11 +47,41 @@ def difference(what, got, wanted):
     return [f"{what}: {len(got)} bytes, wanted {len(wanted)}; they differ first at byte {at}: {near}"]
 
 
+def map_name(words):
+    """The FILE of --map FILE or --map=FILE, which is in the case's directory; None where there is none."""
+    options = words[: words.index("--")] if "--" in words else words
+    named = [it.partition("=")[2] for it in options if it.startswith("--map=")]
+    named += [after for it, after in zip(options, options[1:]) if it == "--map"]
+    return named[0] if named and named[0] and not os.path.isabs(named[0]) else None
+
+
+def content(folder, name):
+    """What is in a file of a directory; None where that is not there."""
+    try:
+        with open(os.path.join(folder, name), "rb") as it:
+            return it.read()
+    except OSError:
+        return None
+
+
 class Wanted:
     """An input, and what the program has to make of it."""
 
     def __init__(self, stdin, stdout, stderr, status):
         self.stdin, self.stdout, self.stderr, self.status = stdin, stdout, stderr, status
+
+    def wrong_with_map(self, command, folder, name, wanted):
+        """The same as wrong, and what is wrong with the file of the map."""
+        with tempfile.TemporaryDirectory() as copies:
+            copy = os.path.join(copies, "case")
+            shutil.copytree(folder, copy)
+            before = content(copy, name)
+            wrong = self.wrong(command, copy)
+            left = content(copy, name)
+        wanted = before if wanted is None else wanted
+        if left is None or wanted is None:
+            return wrong + ([] if left == wanted else [f"{name}: there is {'no' if left is None else 'a'} file"])
+        return wrong + difference(name, left, wanted)
 
     def wrong(self, command, folder):
         """What is wrong, a line for each part that differs."""
@@ -94,7 +128,11 @@ def run(case, program):
         return [f"there is no {os.path.relpath(built)}: make {program} builds it"]
     for wanted in inputs(case, program):
         for words in calls(case, program):
-            wrong = wanted.wrong([built, *words], case.folder())
+            name = map_name(words) if program == "cut" else None
+            if name:
+                wrong = wanted.wrong_with_map([built, *words], case.folder(), name, content(case.folder(), "cut.map"))
+            else:
+                wrong = wanted.wrong([built, *words], case.folder())
             if wrong:
                 return [f"with the arguments {words} and {len(wanted.stdin)} bytes"] + wrong
     return []

@@ -9,7 +9,6 @@ use Rattle.dump_records.specs.RecordText.{DumpRecord}
 use Rattle.dump_records.proofs.ListLaw.{each_dump_has_one_list}
 use Rattle.dump_rules.specs.Settings.{Settings}
 use Rattle.dump_rules.specs.declared.options.Empty.TheVariants.{Pad}
-use Rattle.dump_rules.specs.declared.options.Side.TheVariants.{Exclude}
 use Rattle.dump_filter.specs.FilterLaws.{LengthsFit}
 use Rattle.dump_filter.specs.WholeText.{IsCleanText}
 use Rattle.dump_trees.specs.Changes.{Change}
@@ -48,8 +47,8 @@ use Rattle.dump_cut.proofs.TakenLaw.{placed_named, revisions_named, taken_dump_l
 use Rattle.dump_cut.proofs.TakenLemmas.{taken_revisions_separate}
 use Rattle.dump_cut.proofs.TrimLaw.{trimmed_copies_load}
 use Rattle.cut_cli.specs.Cuts.{AreChangesOf, CutLoads, FiltersOrTrims, IsCutText, IsReadyFor, IsTrimmedIf}
-use Rattle.cut_cli.specs.Drive.{AnswersBy, AnswersCall, CleanTextsAreCuts, CutsDump, WritesCut, WritesIfAsked}
-use Rattle.cut_cli.specs.Words.{CutMeaning}
+use Rattle.cut_cli.specs.Drive.{CleanTextsAreCuts, CutsDump, CutsInput, WritesBoth, WritesIfAsked}
+use Rattle.cut_cli.specs.Words.{CutMeaning, asked_map}
 use Rattle.cut_cli.specs.steps.Examined.{AreDeletesIfAny}
 
 -- a dump has one list of records
@@ -255,19 +254,21 @@ clean_texts_are_cuts m dump settings deletes ready records filtered text clean n
     cases (inl (changes, makes, same)) =
         is_cut m dump settings records filtered text clean changes (read_named dump changes makes) deletes ready same trims makes
     cases (inr (changes, (others, whole, other, rise, listed), same)) = absurd (
-      let bad : true ≡ false = sym numbered
-      ∙ ap are_numbered (sym (one_list dump others records whole clean.whole)) ∙ other in
-      cc)
+        let bad : true ≡ false = sym numbered
+        ∙ ap are_numbered (sym (one_list dump others records whole clean.whole)) ∙ other in
+        cc)
 
-module _ (m : CutMeaning) (dump : List ℕ) (settings : Settings) (deletes : Option Deletes) (old new : Option (List ℕ))
-    (status : ℕ) (ready : IsReadyFor m dump settings deletes) where
+module _ (m : CutMeaning) (dump : List ℕ) (settings : Settings) (deletes : Option Deletes)
+    (old new map_old map_new : Option (List ℕ)) (status : ℕ) (ready : IsReadyFor m dump settings deletes) where
   -- so the dump is cut
-  cuts_ready : WritesIfAsked m settings deletes dump old new status → CutsDump m dump old new status
+  cuts_ready : WritesIfAsked m settings deletes dump old new map_old map_new status
+      → CutsDump m dump old new map_old map_new status
   cuts_ready writes = inl (settings, deletes, ready, clean_texts_are_cuts m dump settings deletes ready, writes)
 
   -- also in a trial, of which the writer keeps what it has
-  pub tries_cut : m.dry_run ≡ true → WritesCut settings deletes dump None None status
-      → CutsDump m dump old old status
+  pub tries_cut : m.dry_run ≡ true
+      → WritesBoth (asked_map m) settings deletes dump None None map_old map_new status
+      → CutsDump m dump old old map_old map_new status
   tries_cut dry writes = inl (
     settings,
     deletes,
@@ -276,28 +277,29 @@ module _ (m : CutMeaning) (dump : List ℕ) (settings : Settings) (deletes : Opt
     on m.dry_run dry,
   )
     where
-      on : (b : Bool) → b ≡ true
-          → MatchBool b (WritesCut settings deletes dump None None status × Keeps old old)
-          (WritesCut settings deletes dump old old status)
+      on : (b : Bool) → b ≡ true → MatchBool b
+          (WritesBoth (asked_map m) settings deletes dump None None map_old map_new status × Keeps old old)
+          (WritesBoth (asked_map m) settings deletes dump old old map_old map_new status)
       on true is = (writes, Keeps-refl old)
       on false is = absurd (let bad : false ≡ true = is in cc)
 
-  pub writes_cut : m.dry_run ≡ false → WritesCut settings deletes dump old new status → CutsDump m dump old new status
+  pub writes_cut : m.dry_run ≡ false → WritesBoth (asked_map m) settings deletes dump old new map_old map_new status
+      → CutsDump m dump old new map_old map_new status
   writes_cut wet writes = cuts_ready (on m.dry_run wet)
     where
-      on : (b : Bool) → b ≡ false
-          → MatchBool b (WritesCut settings deletes dump None None status × Keeps old new)
-          (WritesCut settings deletes dump old new status)
+      on : (b : Bool) → b ≡ false → MatchBool b
+          (WritesBoth (asked_map m) settings deletes dump None None map_old map_new status × Keeps old new)
+          (WritesBoth (asked_map m) settings deletes dump old new map_old map_new status)
       on true is = absurd (let bad : true ≡ false = is in cc)
       on false is = writes
 
--- a whole input that is cut answers a call that excludes
-pub input_cut : (m : CutMeaning) (input : Option (List ℕ)) (dump : List ℕ) (old new : Option (List ℕ)) (status : ℕ)
-    → m.side ≡ Exclude → IfSome input (λ left. dump ≡ left) → CutsDump m dump old new status
-    → AnswersCall m input old new status
-input_cut m input dump old new status is whole cuts =
-    subst (λ s. AnswersBy s m input old new status) (sym is) (inl (of_whole input whole))
+-- a whole input that is cut
+pub input_cut : (m : CutMeaning) (input : Option (List ℕ)) (dump : List ℕ) (old new map_old map_new : Option (List ℕ))
+    (status : ℕ) → IfSome input (λ left. dump ≡ left) → CutsDump m dump old new map_old map_new status
+    → CutsInput m input old new map_old map_new status
+input_cut m input dump old new map_old map_new status whole cuts = inl (of_whole input whole)
   where
-    of_whole : (i : Option (List ℕ)) → IfSome i (λ left. dump ≡ left) → IfSome i (λ left. CutsDump m left old new status)
+    of_whole : (i : Option (List ℕ)) → IfSome i (λ left. dump ≡ left)
+        → IfSome i (λ left. CutsDump m left old new map_old map_new status)
     of_whole None all = tt
-    of_whole (Some left) all = subst (λ text. CutsDump m text old new status) all cuts
+    of_whole (Some left) all = subst (λ text. CutsDump m text old new map_old map_new status) all cuts

@@ -2,4 +2,5 @@ pub mod CommandLemmas
 pub mod CutLemmas
 pub mod DriveLemmas
 pub mod FrontLemmas
+pub mod MapLemmas
 mod Values

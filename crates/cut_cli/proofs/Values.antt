@@ -1,24 +1,28 @@
 -- Worked values of the definitions, computed by the kernel.
-use Rattle.std.proofs.Common.{◌≡◌, List, [], ◌∷◌, length, None, Some, Ok, Err, inl, codes, refl, true, false}
+use Rattle.std.proofs.Common.{◌≡◌, ℕ, Bool, List, [], ◌∷◌, length, None, Some, Ok, Err, inl, codes, refl, true, false}
+use Rattle.std.specs.Fmt.{digits}
 use Rattle.clap.specs.Words.{Text}
 use Rattle.clap.proofs.OnLiterals.{clap_on_literals}
 use Rattle.cli_support.specs.declared.usage.Usage.TheVariants.{BothDrops, Words}
 use Rattle.dump_pipeline.specs.declared.answer.Answer.TheVariants.{Failed, Fault}
 use Rattle.dump_pipeline.specs.declared.answer.Failure.TheVariants.{Memory}
+use Rattle.dump_rules.specs.Settings.{Settings}
 use Rattle.dump_rules.specs.declared.options.Side.TheVariants.{Exclude, Include}
+use Rattle.dump_cut.specs.declared.fates.RevisionFate.{RevisionFate}
 use Rattle.dump_text.specs.declared.fault.FaultKind.TheVariants.{Md5}
 use Rattle.cut_cli.specs.CommandLine.{cut_command}
 use Rattle.cli_support.specs.declared.info.Info.TheVariants.{Version}
-use Rattle.cut_cli.specs.Drive.{AnswersArguments, AnswersWhole, ReadsTargets, obstacle_status, stop_line, stop_line_of}
+use Rattle.cut_cli.specs.Drive.{AnswersArguments, AnswersWhole, BeginsMap, EndsMap, FollowsCut, ReadsTargets, obstacle_status, stop_line, stop_line_of}
+use Rattle.cut_cli.specs.RevisionMap.{TakesPartOfMap, fate_lines, last_behind, loaded_number}
 use Rattle.cut_cli.specs.Texts.{info_text}
-use Rattle.cut_cli.specs.Words.{CutMeaning, TellsCut, cut_of_words, with_texts_of}
+use Rattle.cut_cli.specs.Words.{CutMeaning, TellsCut, asked_map, cut_of_words, with_texts_of}
 use Rattle.cut_cli.specs.declared.examine.Obstacle.TheVariants.{ComesBack, OddDelete}
 
 -- CommandLine
 
--- eight options, and the prefixes
-nine_rules : length cut_command.top.rules ≡ 9
-nine_rules = refl
+-- nine options, and the prefixes
+ten_rules : length cut_command.top.rules ≡ 10
+ten_rules = refl
 
 no_sides : cut_command.subs ≡ []
 no_sides = refl
@@ -34,6 +38,7 @@ around : cut_of_words (given (codes "a" ∷ codes "--follow-copies" ∷ codes "-
       side = Exclude;
       prefixes = codes "a" ∷ codes "--x" ∷ [];
       targets = [];
+      map_name = None;
       follow = true;
       drop = false;
       dry_run = false;
@@ -51,6 +56,7 @@ others : cut_of_words (codes "p" ∷ codes "include" ∷ codes "--verbose" ∷ c
       side = Include;
       prefixes = codes "/" ∷ [];
       targets = [];
+      map_name = None;
       follow = false;
       drop = true;
       dry_run = true;
@@ -67,6 +73,7 @@ plan : cut_of_words (given (codes "--workers" ∷ codes "2" ∷ codes "a" ∷ co
       side = Exclude;
       prefixes = codes "a" ∷ [];
       targets = [];
+      map_name = None;
       follow = false;
       drop = false;
       dry_run = false;
@@ -83,6 +90,7 @@ files : cut_of_words (given (codes "--targets" ∷ codes "f" ∷ codes "--target
       side = Exclude;
       prefixes = [];
       targets = codes "f" ∷ codes "g" ∷ [];
+      map_name = None;
       follow = false;
       drop = false;
       dry_run = false;
@@ -93,6 +101,27 @@ files : cut_of_words (given (codes "--targets" ∷ codes "f" ∷ codes "--target
     })
 unfolding clap_on_literals
 files = refl
+
+mapped : cut_of_words (given (codes "a" ∷ codes "--map" ∷ codes "m" ∷ codes "--dry-run" ∷ []))
+    ≡ Ok (record {
+      side = Exclude;
+      prefixes = codes "a" ∷ [];
+      targets = [];
+      map_name = Some (codes "m");
+      follow = false;
+      drop = false;
+      dry_run = true;
+      quiet = false;
+      verbose = false;
+      workers = 4;
+      window = 64;
+    })
+unfolding clap_on_literals
+mapped = refl
+
+two_maps : cut_of_words (given (codes "a" ∷ codes "--map" ∷ codes "m" ∷ codes "--map" ∷ codes "n" ∷ [])) ≡ Err Words
+unfolding clap_on_literals
+two_maps = refl
 
 no_worker : cut_of_words (given (codes "--workers" ∷ codes "0" ∷ codes "a" ∷ [])) ≡ Err Words
 unfolding clap_on_literals
@@ -121,6 +150,27 @@ options_of_the_filter = refl
 refused_for_others : ¬ TellsCut (Err BothDrops) (Err Words)
 refused_for_others e = cc
 
+abbrev meaning : List Text → CutMeaning
+meaning prefixes = record {
+  side = Include;
+  prefixes = prefixes;
+  targets = codes "f" ∷ [];
+  map_name = None;
+  follow = false;
+  drop = false;
+  dry_run = false;
+  quiet = false;
+  verbose = false;
+  workers = 4;
+  window = 64;
+}
+
+trial : asked_map (record (meaning []) { map_name = Some (codes "m"); dry_run = true }) ≡ None
+trial = refl
+
+asked : asked_map (record (meaning []) { map_name = Some (codes "m") }) ≡ Some (codes "m")
+asked = refl
+
 -- Texts
 
 version : info_text Version ≡ codes "svndumpcut, version 1.2.0\n"
@@ -140,28 +190,52 @@ returns_have_a_status = refl
 others_have_one : obstacle_status (OddDelete 3) ≡ 1
 others_have_one = refl
 
-version_is_printed : AnswersArguments (λ _. None) (Some Version) (Err Words) None (Some []) (Some (info_text Version)) 0
-version_is_printed = inl (refl, refl)
-
-abbrev meaning : List Text → CutMeaning
-meaning prefixes = record {
-  side = Include;
-  prefixes = prefixes;
-  targets = codes "f" ∷ [];
-  follow = false;
-  drop = false;
-  dry_run = false;
-  quiet = false;
-  verbose = false;
-  workers = 4;
-  window = 64;
-}
+version_is_printed : AnswersArguments (λ _. None) (Some Version) (Err Words) None (Some []) (Some (info_text Version))
+    (Some []) (Some []) 0
+version_is_printed = (inl (refl, refl), refl)
 
 in_the_file : (with_texts_of (meaning (codes "a" ∷ [])) (codes "b\n" ∷ [])).prefixes ≡ codes "a" ∷ codes "b" ∷ []
 in_the_file = refl
 
-no_prefix_at_all : AnswersWhole (meaning []) None (Some []) (Some []) 2
-no_prefix_at_all = (refl, refl)
+no_prefix_at_all : AnswersWhole (meaning []) None (Some []) (Some []) None None 2
+no_prefix_at_all = (refl, tt, refl)
 
-empty_file : ReadsTargets (λ _. Some []) (meaning []) None (Some []) (Some []) 2
-empty_file = inl ([] ∷ [], (refl, tt), (refl, refl))
+empty_file : ReadsTargets (λ _. Some []) (meaning []) None (Some []) (Some []) None None 2
+empty_file = inl ([] ∷ [], (refl, tt), (refl, tt, refl))
+
+-- a map that is asked for is begun in an empty file
+begun : BeginsMap (Some (codes "m")) (Some (codes "old")) (Some [])
+begun = refl
+
+-- a map that wasn't asked for can't fail
+unasked : (settings : Settings) → ¬ EndsMap None settings [] (Some []) (Some []) false
+unasked settings (kept, e) = cc
+
+-- behind a fault the file stays as it is
+no_map_behind_a_fault : (settings : Settings) → FollowsCut (Some (codes "m")) settings [] (Some []) (Some []) 1 1
+no_map_behind_a_fault settings = (refl, refl)
+
+-- RevisionMap
+
+abbrev fate : ℕ → Bool → RevisionFate
+fate number stays = record { number = number; stays = stays }
+
+-- 1 and 4 are dropped
+worked : fate_lines None (fate 0 true ∷ fate 1 false ∷ fate 2 true ∷ fate 3 true ∷ fate 4 false ∷ [])
+    ≡ codes "r0 becomes r0\nr1 is dropped; references to it become r0\nr2 becomes r1\nr3 becomes r2\nr4 is dropped; references to it become r2\n"
+unfolding digits
+worked = refl
+
+-- nothing is kept before it
+first_dropped : fate_lines None (fate 1 false ∷ fate 2 true ∷ []) ≡ codes "r1 is dropped\nr2 becomes r1\n"
+unfolding digits
+first_dropped = refl
+
+later_number : loaded_number (Some 6) 9 ≡ 7
+later_number = refl
+
+last_stays : last_behind (Some 6) (fate 9 false) ≡ Some 6
+last_stays = refl
+
+nothing_taken : (settings : Settings) → TakesPartOfMap settings [] (Some (codes "a")) (Some (codes "a"))
+nothing_taken settings = inl refl

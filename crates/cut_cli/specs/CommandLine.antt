@@ -1,7 +1,7 @@
 -- The command that clap reads the arguments after the side by.
 use Rattle.std.specs.Prelude.{codes}
 use Rattle.clap.specs.Words.{App, with_rule}
-use Rattle.cli_support.specs.FilterCommand.{any_prefixes, bare_command, number, repeated, switch}
+use Rattle.cli_support.specs.FilterCommand.{any_prefixes, bare_command, number, repeated, switch, valued}
 
 -- options in any order, before, between and after the prefixes
 abbrev pub cut_command : App
@@ -11,4 +11,4 @@ cut_command =
     let dry = with_rule drops (switch (codes "dry-run")) in
     let said = with_rule (with_rule dry (switch (codes "quiet"))) (switch (codes "verbose")) in
     let plan = with_rule (with_rule said (number (codes "workers") 64 (codes "4"))) (number (codes "window") 4096 (codes "64")) in
-    with_rule (with_rule plan (repeated (codes "targets"))) any_prefixes
+    with_rule (with_rule (with_rule plan (repeated (codes "targets"))) (valued (codes "map"))) any_prefixes

@@ -1,5 +1,5 @@
 -- What the program does with its arguments and its input.
-use Rattle.std.specs.Prelude.{◌≡◌, ◌⊎◌, ℕ, true, List, [], ◌∷◌, ◌++◌, Option, None, Some, Result, Ok, Err, IfSome, MatchBool, codes, decimal}
+use Rattle.std.specs.Prelude.{◌≡◌, ◌⊎◌, ℕ, List, [], ◌∷◌, ◌++◌, ◌==◌, Bool, true, false, is_some, Option, None, Some, Result, Ok, Err, IfSome, MatchBool, codes, decimal, if◌then◌else◌}
 use Rattle.std.specs.List.{concat}
 use Rattle.std.specs.Io.KnownBytes.{Appends, GrowsBy, Keeps}
 use Rattle.clap.specs.Walk.{is_empty}
@@ -18,14 +18,16 @@ use Rattle.dump_pipeline.specs.declared.answer.Answer.TheVariants.{Clean, Fault,
 use Rattle.dump_pipeline.specs.declared.answer.Failure.{Failure}
 use Rattle.cli_support.specs.Arguments.{refusal_status}
 use Rattle.cli_support.specs.Info.{Prints}
+use Rattle.cli_support.specs.NamedOutputs.{Replaces}
 use Rattle.cli_support.specs.Targets.{AreTextsOf}
 use Rattle.cli_support.specs.declared.info.Info.{Info}
 use Rattle.cli_support.specs.declared.usage.Usage.{Usage}
 use Rattle.dump_changes.specs.ListedDumps.{are_numbered}
 use Rattle.dump_cut.specs.TrimmedCopies.{IsTrimmedBy}
 use Rattle.cut_cli.specs.Cuts.{IsCutText, IsObstacleTo, IsReadyFor, IsTrimmedIf}
+use Rattle.cut_cli.specs.RevisionMap.{IsMapOfCut, TakesPartOfMap}
 use Rattle.cut_cli.specs.Texts.{info_text}
-use Rattle.cut_cli.specs.Words.{CutMeaning, TellsCut, cut_meaning, with_texts_of}
+use Rattle.cut_cli.specs.Words.{CutMeaning, TellsCut, asked_map, cut_meaning, with_texts_of}
 use Rattle.cut_cli.specs.declared.examine.Obstacle.{Obstacle}
 use Rattle.cut_cli.specs.declared.examine.Obstacle.TheVariants as obstacles
 use Rattle.cut_cli.specs.declared.words.Call.{Call}
@@ -91,12 +93,35 @@ WritesCut settings deletes dump old new status =
     ((told : Answer) × RanCut settings deletes dump old new told × (status ≡ cut_status told))
     ⊎ (Keeps old new × (status ≡ 1))
 
+-- a map is written whole, or a first part of it
+abbrev pub WritesMap : Settings → List ℕ → Option (List ℕ) → Option (List ℕ) → Bool → Type 0
+WritesMap settings dump old new true = (text : List ℕ) × IsMapOfCut settings dump text × Appends old new text
+WritesMap settings dump old new false = TakesPartOfMap settings dump old new
+
+-- the same of a map that is asked for; one that isn't can't fail
+abbrev pub EndsMap : Option Text → Settings → List ℕ → Option (List ℕ) → Option (List ℕ) → Bool → Type 0
+EndsMap None settings dump old new whole = Keeps old new × (whole ≡ true)
+EndsMap (Some name) settings dump old new whole = WritesMap settings dump old new whole
+
+-- behind a whole cut the map is written, and the status is 1 where that failed; behind any other none is, and the status
+-- stays
+abbrev pub FollowsCut : Option Text → Settings → List ℕ → Option (List ℕ) → Option (List ℕ) → (cut status : ℕ) → Type 0
+FollowsCut asked settings dump old new cut status = MatchBool (cut == 0)
+    ((whole : Bool) × EndsMap asked settings dump old new whole × (status ≡ (if whole then 0 else 1)))
+    (Keeps old new × (status ≡ cut))
+
+-- the dump is filtered, with a status, and the map follows
+abbrev pub WritesBoth : Option Text → Settings → Option (List (List (List ℕ))) → List ℕ
+    → (old new map_old map_new : Option (List ℕ)) → ℕ → Type 0
+WritesBoth asked settings deletes dump old new map_old map_new status = (cut : ℕ)
+    × WritesCut settings deletes dump old new cut × FollowsCut asked settings dump map_old map_new cut status
+
 -- the same where the call is for a trial: the writer receives nothing
-abbrev pub WritesIfAsked : CutMeaning → Settings → Option (List (List (List ℕ))) → List ℕ → Option (List ℕ)
-    → Option (List ℕ) → ℕ → Type 0
-WritesIfAsked m settings deletes dump old new status =
-    MatchBool m.dry_run (WritesCut settings deletes dump None None status × Keeps old new)
-    (WritesCut settings deletes dump old new status)
+abbrev pub WritesIfAsked : CutMeaning → Settings → Option (List (List (List ℕ))) → List ℕ
+    → (old new map_old map_new : Option (List ℕ)) → ℕ → Type 0
+WritesIfAsked m settings deletes dump old new map_old map_new status = MatchBool m.dry_run
+    (WritesBoth (asked_map m) settings deletes dump None None map_old map_new status × Keeps old new)
+    (WritesBoth (asked_map m) settings deletes dump old new map_old map_new status)
 
 -- if the revisions of the dump are numbered 0, 1, 2 and so on: what the filter writes of it, with these deletes, is its cut
 abbrev pub CleanTextsAreCuts : CutMeaning → Settings → Option (List (List (List ℕ))) → List ℕ → Type 0
@@ -105,49 +130,66 @@ CleanTextsAreCuts m settings deletes dump = (records : List DumpRecord) (filtere
     → IsCutText m settings deletes dump text
 
 -- a dump is cut; or nothing is written, for an obstacle or out of memory
-abbrev pub CutsDump : CutMeaning → List ℕ → Option (List ℕ) → Option (List ℕ) → ℕ → Type 0
-CutsDump m dump old new status =
+abbrev pub CutsDump : CutMeaning → List ℕ → (old new map_old map_new : Option (List ℕ)) → ℕ → Type 0
+CutsDump m dump old new map_old map_new status =
     ((settings : Settings) × (deletes : Option (List (List (List ℕ)))) × IsReadyFor m dump settings deletes
-    × CleanTextsAreCuts m settings deletes dump × WritesIfAsked m settings deletes dump old new status)
-    ⊎ ((obstacle : Obstacle) × IsObstacleTo m dump obstacle × Keeps old new × (status ≡ obstacle_status obstacle))
-    ⊎ (Keeps old new × (status ≡ 1))
+    × CleanTextsAreCuts m settings deletes dump × WritesIfAsked m settings deletes dump old new map_old map_new status)
+    ⊎ ((obstacle : Obstacle) × IsObstacleTo m dump obstacle × Keeps old new × Keeps map_old map_new
+    × (status ≡ obstacle_status obstacle))
+    ⊎ (Keeps old new × Keeps map_old map_new × (status ≡ 1))
 
--- the program can't include yet, and excludes in the whole input; or it wasn't read, and nothing is written
-abbrev pub AnswersBy : Side → CutMeaning → Option (List ℕ) → Option (List ℕ) → Option (List ℕ) → ℕ → Type 0
-AnswersBy Include m input old new status = Keeps old new × (status ≡ 2)
-AnswersBy Exclude m input old new status =
-    IfSome input (λ dump. CutsDump m dump old new status) ⊎ (Keeps old new × (status ≡ 1))
+-- the input is cut; or it wasn't read, and nothing is written
+abbrev pub CutsInput : CutMeaning → Option (List ℕ) → (old new map_old map_new : Option (List ℕ)) → ℕ → Type 0
+CutsInput m input old new map_old map_new status = IfSome input (λ dump. CutsDump m dump old new map_old map_new status)
+    ⊎ (Keeps old new × Keeps map_old map_new × (status ≡ 1))
 
-abbrev pub AnswersCall : CutMeaning → Option (List ℕ) → Option (List ℕ) → Option (List ℕ) → ℕ → Type 0
-AnswersCall m input old new status = AnswersBy m.side m input old new status
+-- the file of a map that is asked for is created, or emptied
+abbrev pub BeginsMap : Option Text → Option (List ℕ) → Option (List ℕ) → Type 0
+BeginsMap None old new = Keeps old new
+BeginsMap (Some name) old new = Replaces old new []
+
+-- the program can't include yet. Where it excludes, the file of the map is created, and then the input is cut; or a map is
+-- asked for whose file can't be created, and nothing is written
+abbrev pub AnswersBy : Side → CutMeaning → Option (List ℕ) → (old new map_old map_new : Option (List ℕ)) → ℕ → Type 0
+AnswersBy Include m input old new map_old map_new status = Keeps old new × Keeps map_old map_new × (status ≡ 2)
+AnswersBy Exclude m input old new map_old map_new status =
+    ((begun : Option (List ℕ)) × BeginsMap (asked_map m) map_old begun × CutsInput m input old new begun map_new status)
+    ⊎ ((is_some (asked_map m) ≡ true) × Keeps old new × Keeps map_old map_new × (status ≡ 1))
+
+abbrev pub AnswersCall : CutMeaning → Option (List ℕ) → (old new map_old map_new : Option (List ℕ)) → ℕ → Type 0
+AnswersCall m input old new map_old map_new status = AnswersBy m.side m input old new map_old map_new status
 
 -- a call without a prefix is refused, and others are answered
-abbrev pub AnswersWhole : CutMeaning → Option (List ℕ) → Option (List ℕ) → Option (List ℕ) → ℕ → Type 0
-AnswersWhole m input old new status =
-    MatchBool (is_empty m.prefixes) (Keeps old new × (status ≡ 2)) (AnswersCall m input old new status)
+abbrev pub AnswersWhole : CutMeaning → Option (List ℕ) → (old new map_old map_new : Option (List ℕ)) → ℕ → Type 0
+AnswersWhole m input old new map_old map_new status = MatchBool (is_empty m.prefixes)
+    (Keeps old new × Keeps map_old map_new × (status ≡ 2)) (AnswersCall m input old new map_old map_new status)
 
 -- the files of a call are read, and it is answered with the prefixes in them too; or one wasn't read, or no memory was left
-abbrev pub ReadsTargets : (Text → Option (List ℕ)) → CutMeaning → Option (List ℕ) → Option (List ℕ) → Option (List ℕ) → ℕ
-    → Type 0
-ReadsTargets text_of m input old new status =
+abbrev pub ReadsTargets : (Text → Option (List ℕ)) → CutMeaning → Option (List ℕ)
+    → (old new map_old map_new : Option (List ℕ)) → ℕ → Type 0
+ReadsTargets text_of m input old new map_old map_new status =
     ((texts : List (List ℕ)) × AreTextsOf text_of m.targets texts
-    × AnswersWhole (with_texts_of m texts) input old new status)
-    ⊎ (Keeps old new × (status ≡ 1))
+    × AnswersWhole (with_texts_of m texts) input old new map_old map_new status)
+    ⊎ (Keeps old new × Keeps map_old map_new × (status ≡ 1))
 
 -- arguments that ask for nothing are refused
-abbrev pub ObeysCut : (Text → Option (List ℕ)) → Result Call Usage → Option (List ℕ) → Option (List ℕ) → Option (List ℕ)
-    → ℕ → Type 0
-ObeysCut text_of (Err usage) input old new status = Keeps old new × (status ≡ refusal_status 1 usage)
-ObeysCut text_of (Ok call) input old new status = ReadsTargets text_of (cut_meaning call) input old new status
+abbrev pub ObeysCut : (Text → Option (List ℕ)) → Result Call Usage → Option (List ℕ)
+    → (old new map_old map_new : Option (List ℕ)) → ℕ → Type 0
+ObeysCut text_of (Err usage) input old new map_old map_new status =
+    Keeps old new × Keeps map_old map_new × (status ≡ refusal_status 1 usage)
+ObeysCut text_of (Ok call) input old new map_old map_new status =
+    ReadsTargets text_of (cut_meaning call) input old new map_old map_new status
 
 -- arguments of this meaning have an answer, and it is obeyed
-abbrev pub DrivesCut : (Text → Option (List ℕ)) → Result CutMeaning Usage → Option (List ℕ) → Option (List ℕ)
-    → Option (List ℕ) → ℕ → Type 0
-DrivesCut text_of meaning input old new status = (answer : Result Call Usage) × TellsCut meaning answer
-    × ObeysCut text_of answer input old new status
+abbrev pub DrivesCut : (Text → Option (List ℕ)) → Result CutMeaning Usage → Option (List ℕ)
+    → (old new map_old map_new : Option (List ℕ)) → ℕ → Type 0
+DrivesCut text_of meaning input old new map_old map_new status = (answer : Result Call Usage) × TellsCut meaning answer
+    × ObeysCut text_of answer input old new map_old map_new status
 
 -- arguments that ask for a text in place of a cut get it, and the input isn't read; others are answered by their meaning
 abbrev pub AnswersArguments : (Text → Option (List ℕ)) → Option Info → Result CutMeaning Usage → Option (List ℕ)
-    → Option (List ℕ) → Option (List ℕ) → ℕ → Type 0
-AnswersArguments text_of (Some info) meaning input old new status = Prints 1 (info_text info) old new status
-AnswersArguments text_of None meaning input old new status = DrivesCut text_of meaning input old new status
+    → (old new map_old map_new : Option (List ℕ)) → ℕ → Type 0
+AnswersArguments text_of (Some info) meaning input old new map_old map_new status =
+    Prints 1 (info_text info) old new status × Keeps map_old map_new
+AnswersArguments text_of None meaning input old new map_old map_new status =
+    DrivesCut text_of meaning input old new map_old map_new status

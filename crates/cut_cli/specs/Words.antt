@@ -1,8 +1,8 @@
 -- What the program's arguments mean, by the side and by what clap finds after it.
-use Rattle.std.specs.Prelude.{ℕ, Bool, ◌||◌, ◌&&◌, List, [], ◌++◌, Result, Ok, Err, codes, drop, map, unwrap_or, if◌then◌else◌}
+use Rattle.std.specs.Prelude.{ℕ, Bool, ◌||◌, ◌&&◌, List, [], ◌++◌, Result, Ok, Err, codes, drop, map, option_map, unwrap_or, Option, None, if◌then◌else◌}
 use Rattle.std.specs.List.{list_any}
 use Rattle.clap.specs.Walk.{is_empty}
-use Rattle.clap.specs.Words.{Row, Text, all_of}
+use Rattle.clap.specs.Words.{Row, Text, all_of, first_of}
 use Rattle.dump_rules.specs.declared.options.Side.{Side}
 use Rattle.dump_pipeline.specs.PlanViews.{worker_count, window_size}
 use Rattle.cli_support.specs.Targets.{prefixes_of_texts}
@@ -12,12 +12,14 @@ use Rattle.cli_support.specs.declared.usage.Usage.TheVariants.{Words}
 use Rattle.cut_cli.specs.CommandLine.{cut_command}
 use Rattle.cut_cli.specs.declared.words.Call.{Call}
 
--- what a call asks for: a side, prefixes, files with more of them, whether copies are followed, whether emptied revisions are dropped, whether
--- nothing is written, what is reported, how many workers there are, and how wide their window is
+-- what a call asks for: a side, prefixes, files with more of them, the file of a map of revisions, whether copies are
+-- followed, whether emptied revisions are dropped, whether nothing is written, what is reported, how many workers there
+-- are, and how wide their window is
 pub record CutMeaning : Type 0 where
   pub side : Side
   pub prefixes : List Text
   pub targets : List Text
+  pub map_name : Option Text
   pub follow : Bool
   pub drop : Bool
   pub dry_run : Bool
@@ -31,6 +33,7 @@ cut_meaning call = record {
   side = call.side;
   prefixes = map (λ prefix. prefix.now) call.prefixes.items;
   targets = map (λ name. name.now) call.targets.items;
+  map_name = option_map (λ name. name.now) call.map_name;
   follow = call.follow;
   drop = call.drop;
   dry_run = call.dry_run;
@@ -59,6 +62,7 @@ cut_of_side side rows = if are_refused rows then Err Words else Ok (record {
   side = side;
   prefixes = prefixes_in rows;
   targets = targets_in rows;
+  map_name = first_of (codes "map") rows;
   follow = is_set (codes "follow-copies") rows;
   drop = is_set (codes "drop-empty-revs") rows;
   dry_run = is_set (codes "dry-run") rows;
@@ -79,3 +83,7 @@ TellsCut meaning answer = Answers cut_meaning meaning answer
 -- the same with the prefixes in these texts too
 abbrev pub with_texts_of : CutMeaning → List (List ℕ) → CutMeaning
 with_texts_of m texts = record m { prefixes = m.prefixes ++ prefixes_of_texts texts }
+
+-- the file of the map that is written; a trial writes none
+abbrev pub asked_map : CutMeaning → Option Text
+asked_map m = if m.dry_run then None else m.map_name

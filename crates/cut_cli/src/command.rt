@@ -4,7 +4,7 @@ ghost use Rattle.clap.specs.Words.{app_of};
 ghost use Rattle.cut_cli.specs.CommandLine.{cut_command};
 
 use clap::Command;
-use cli_support::{any_prefixes, repeated, switch, window, workers};
+use cli_support::{any_prefixes, repeated, switch, valued, window, workers};
 use std::alloc::{AllocError, Global};
 
 /// The options and the prefixes. It has no subcommands: the side is no argument of it.
@@ -21,5 +21,6 @@ pub fn cut_command<'a>(alloc: Global) -> Result<Command<'a>, AllocError>
         .arg(workers(alloc))?
         .arg(window(alloc))?
         .arg(repeated(alloc, "targets"))?
+        .arg(valued(alloc, "map"))?
         .arg(any_prefixes(alloc))
 }

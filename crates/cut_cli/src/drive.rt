@@ -2,20 +2,22 @@
 ghost use Rattle.std.specs.Prelude.{◌≡◌, [], IfOk, OnErr, OnOk, map};
 ghost use Rattle.std.specs.Io.KnownBytes.{Appends, Keeps};
 ghost use Rattle.dump_writer.specs.steps.SinkStates.{lent_taken, loan_of};
-ghost use Rattle.cut_cli.specs.Drive.{AnswersArguments, AnswersCall, AnswersWhole, CutsDump, DrivesCut, RanCut, ReadsTargets, TakesPart, WritesCut, stop_line, stop_line_of, obstacle_status, cut_status};
+ghost use Rattle.cut_cli.specs.Drive.{AnswersArguments, AnswersCall, AnswersWhole, CutsDump, CutsInput, DrivesCut, RanCut, ReadsTargets, TakesPart, WritesBoth, WritesCut, stop_line, stop_line_of, obstacle_status, cut_status};
 ghost use Rattle.cli_support.specs.Info.{info_of};
-ghost use Rattle.cut_cli.specs.Words.{cut_of_words, cut_meaning};
+ghost use Rattle.cut_cli.specs.Words.{asked_map, cut_of_words, cut_meaning};
 ghost use Rattle.cut_cli.specs.steps.Ended.{TellsAfter};
 
 use crate::examine::{Obstacle, Ready, examine};
 use crate::faults::write_fault;
 use crate::lines::{write_no_include, write_report};
+use crate::map::{begin_map, end_map};
 use crate::mistakes::{Mistake, write_mistake, write_no_file};
+use crate::spot::first_revision;
 use crate::texts::info_text;
 use crate::trim::run_and_trim;
 use crate::words::{Call, call_of, with_targets};
 use cli_support::{
-    Cause, NamedFiles, Program, UnreadFile, Usage, fail, fail_unread, finish, info_of,
+    Cause, NamedFiles, NamedOutput, Program, UnreadFile, Usage, fail, fail_unread, finish, info_of,
     output_buffer, print_text, read_all, read_files, refuse,
 };
 use dump_changes::Memory;
@@ -37,7 +39,15 @@ pub const PROGRAM: Program = Program {
 
 /// The whole program, with its exit status. The reader is thought to have so many bytes; the number spares growing and has
 /// no other meaning.
-pub fn drive<'a, H: Threads + Wait + Sync, F: NamedFiles, R: Read, W: Write, E: Write>(
+pub fn drive<
+    'a,
+    H: Threads + Wait + Sync,
+    F: NamedFiles,
+    R: Read,
+    W: Write,
+    M: NamedOutput,
+    E: Write,
+>(
     rt: &H,
     alloc: Global,
     words: &'a [&'a str],
@@ -45,18 +55,29 @@ pub fn drive<'a, H: Threads + Wait + Sync, F: NamedFiles, R: Read, W: Write, E: 
     size: u64,
     reader: &mut R,
     writer: &mut W,
+    map_file: &mut M,
     errors: &mut E,
 ) -> u8
-    ensures { AnswersArguments (F.text_of files.now) (info_of (map (λ word. word.now) words.now)) (cut_of_words (map (λ word. word.now) words.now)) (R.remaining reader.old) (W.contents writer.old) (W.contents writer.new) result }
+    ensures { AnswersArguments (F.text_of files.now) (info_of (map (λ word. word.now) words.now)) (cut_of_words (map (λ word. word.now) words.now)) (R.remaining reader.old) (W.contents writer.old) (W.contents writer.new) (M.contents map_file.old) (M.contents map_file.new) result }
 {
     match info_of(words) {
         Some(info) => print_text(alloc, info_text(info), PROGRAM, writer, errors),
-        None => drive_cut(rt, alloc, words, files, size, reader, writer, errors),
+        None => drive_cut(
+            rt, alloc, words, files, size, reader, writer, map_file, errors,
+        ),
     }
 }
 
 /// The same of arguments that ask for no text.
-fn drive_cut<'a, H: Threads + Wait + Sync, F: NamedFiles, R: Read, W: Write, E: Write>(
+fn drive_cut<
+    'a,
+    H: Threads + Wait + Sync,
+    F: NamedFiles,
+    R: Read,
+    W: Write,
+    M: NamedOutput,
+    E: Write,
+>(
     rt: &H,
     alloc: Global,
     words: &'a [&'a str],
@@ -64,18 +85,28 @@ fn drive_cut<'a, H: Threads + Wait + Sync, F: NamedFiles, R: Read, W: Write, E: 
     size: u64,
     reader: &mut R,
     writer: &mut W,
+    map_file: &mut M,
     errors: &mut E,
 ) -> u8
-    ensures { DrivesCut (F.text_of files.now) (cut_of_words (map (λ word. word.now) words.now)) (R.remaining reader.old) (W.contents writer.old) (W.contents writer.new) result }
+    ensures { DrivesCut (F.text_of files.now) (cut_of_words (map (λ word. word.now) words.now)) (R.remaining reader.old) (W.contents writer.old) (W.contents writer.new) (M.contents map_file.old) (M.contents map_file.new) result }
 {
     match call_of(alloc, words, errors) {
-        Ok(call) => answer_files(rt, alloc, call, files, size, reader, writer, errors),
+        Ok(call) => answer_files(
+            rt, alloc, call, files, size, reader, writer, map_file, errors,
+        ),
         Err(usage) => refuse(errors, PROGRAM, usage),
     }
 }
 
 /// Cuts as the call asks for, with the prefixes in its files.
-fn answer_files<H: Threads + Wait + Sync, F: NamedFiles, R: Read, W: Write, E: Write>(
+fn answer_files<
+    H: Threads + Wait + Sync,
+    F: NamedFiles,
+    R: Read,
+    W: Write,
+    M: NamedOutput,
+    E: Write,
+>(
     rt: &H,
     alloc: Global,
     call: Call<'_>,
@@ -83,9 +114,10 @@ fn answer_files<H: Threads + Wait + Sync, F: NamedFiles, R: Read, W: Write, E: W
     size: u64,
     reader: &mut R,
     writer: &mut W,
+    map_file: &mut M,
     errors: &mut E,
 ) -> u8
-    ensures { ReadsTargets (F.text_of files.now) (cut_meaning call.entry) (R.remaining reader.old) (W.contents writer.old) (W.contents writer.new) result }
+    ensures { ReadsTargets (F.text_of files.now) (cut_meaning call.entry) (R.remaining reader.old) (W.contents writer.old) (W.contents writer.new) (M.contents map_file.old) (M.contents map_file.new) result }
 {
     let texts = match read_files(alloc, files, &call.targets) {
         Ok(texts) => texts,
@@ -95,70 +127,103 @@ fn answer_files<H: Threads + Wait + Sync, F: NamedFiles, R: Read, W: Write, E: W
         }
     };
     match with_targets(call, &texts) {
-        Ok(whole) => answer_whole(rt, alloc, &whole, size, reader, writer, errors),
+        Ok(whole) => answer_whole(rt, alloc, &whole, size, reader, writer, map_file, errors),
         Err(_) => fail(errors, PROGRAM, Cause::Memory, 0),
     }
 }
 
 /// The same, where the call has all prefixes.
-fn answer_whole<H: Threads + Wait + Sync, R: Read, W: Write, E: Write>(
+fn answer_whole<H: Threads + Wait + Sync, R: Read, W: Write, M: NamedOutput, E: Write>(
     rt: &H,
     alloc: Global,
     call: &Call<'_>,
     size: u64,
     reader: &mut R,
     writer: &mut W,
+    map_file: &mut M,
     errors: &mut E,
 ) -> u8
-    ensures { AnswersWhole (cut_meaning call.now) (R.remaining reader.old) (W.contents writer.old) (W.contents writer.new) result }
+    ensures { AnswersWhole (cut_meaning call.now) (R.remaining reader.old) (W.contents writer.old) (W.contents writer.new) (M.contents map_file.old) (M.contents map_file.new) result }
 {
     if call.prefixes.is_empty() {
         let _ = write_mistake(errors, Mistake::NoPrefixInFiles);
         return refuse(errors, PROGRAM, Usage::Words);
     }
-    answer_call(rt, alloc, call, size, reader, writer, errors)
+    answer_call(rt, alloc, call, size, reader, writer, map_file, errors)
 }
 
 /// Cuts the whole input, as the call asks for. It can't include yet.
-fn answer_call<H: Threads + Wait + Sync, R: Read, W: Write, E: Write>(
+fn answer_call<H: Threads + Wait + Sync, R: Read, W: Write, M: NamedOutput, E: Write>(
     rt: &H,
     alloc: Global,
     call: &Call<'_>,
     size: u64,
     reader: &mut R,
     writer: &mut W,
+    map_file: &mut M,
     errors: &mut E,
 ) -> u8
-    ensures { AnswersCall (cut_meaning call.now) (R.remaining reader.old) (W.contents writer.old) (W.contents writer.new) result }
+    ensures { AnswersCall (cut_meaning call.now) (R.remaining reader.old) (W.contents writer.old) (W.contents writer.new) (M.contents map_file.old) (M.contents map_file.new) result }
 {
     match call.side {
         Side::Include => {
             let _ = write_no_include(errors);
             2
         }
-        Side::Exclude => match read_all(alloc, reader, size) {
-            Ok(input) => cut(rt, alloc, input.as_slice(), call, writer, errors),
-            Err(unread) => fail_unread(errors, PROGRAM, unread),
-        },
+        Side::Exclude => {
+            if !begin_map(call, map_file, errors) {
+                return 1;
+            }
+            cut_input(rt, alloc, call, size, reader, writer, map_file, errors)
+        }
+    }
+}
+
+/// Cuts the whole input, where the file of the map is there.
+fn cut_input<H: Threads + Wait + Sync, R: Read, W: Write, M: NamedOutput, E: Write>(
+    rt: &H,
+    alloc: Global,
+    call: &Call<'_>,
+    size: u64,
+    reader: &mut R,
+    writer: &mut W,
+    map_file: &mut M,
+    errors: &mut E,
+) -> u8
+    ensures { CutsInput (cut_meaning call.now) (R.remaining reader.old) (W.contents writer.old) (W.contents writer.new) (M.contents map_file.old) (M.contents map_file.new) result }
+{
+    match read_all(alloc, reader, size) {
+        Ok(input) => cut(rt, alloc, input.as_slice(), call, writer, map_file, errors),
+        Err(unread) => fail_unread(errors, PROGRAM, unread),
     }
 }
 
 /// Cuts a dump.
-fn cut<H: Threads + Wait + Sync, W: Write, E: Write>(
+fn cut<H: Threads + Wait + Sync, W: Write, M: NamedOutput, E: Write>(
     rt: &H,
     alloc: Global,
     dump: &[u8],
     call: &Call<'_>,
     writer: &mut W,
+    map_file: &mut M,
     errors: &mut E,
 ) -> u8
-    ensures { CutsDump (cut_meaning call.now) dump.now (W.contents writer.old) (W.contents writer.new) result }
+    ensures { CutsDump (cut_meaning call.now) dump.now (W.contents writer.old) (W.contents writer.new) (M.contents map_file.old) (M.contents map_file.new) result }
 {
     match examine(alloc, dump, call, errors) {
         Ok(Ok(ready)) if call.dry_run => {
-            write_cut(rt, alloc, dump, call, &ready, &mut io::sink(), errors)
+            write_cut(
+                rt,
+                alloc,
+                dump,
+                call,
+                &ready,
+                &mut io::sink(),
+                map_file,
+                errors,
+            )
         }
-        Ok(Ok(ready)) => write_cut(rt, alloc, dump, call, &ready, writer, errors),
+        Ok(Ok(ready)) => write_cut(rt, alloc, dump, call, &ready, writer, map_file, errors),
         Ok(Err(obstacle)) => obstacle_status(obstacle),
         Err(Memory) => fail(errors, PROGRAM, Cause::Memory, 0),
     }
@@ -174,29 +239,54 @@ fn obstacle_status(obstacle: Obstacle) -> u8
     }
 }
 
-/// Filters a dump that is ready, and says how it ended.
-fn write_cut<H: Threads + Wait + Sync, W: Write, E: Write>(
+/// Filters a dump that is ready, writes the map behind it, and says how it ended.
+fn write_cut<H: Threads + Wait + Sync, W: Write, M: NamedOutput, E: Write>(
     rt: &H,
     alloc: Global,
     dump: &[u8],
     call: &Call<'_>,
     ready: &Ready,
     writer: &mut W,
+    map_file: &mut M,
     errors: &mut E,
 ) -> u8
-    ensures { WritesCut ready.now.options ready.now.deletes dump.now (W.contents writer.old) (W.contents writer.new) result }
+    ensures { WritesBoth (asked_map (cut_meaning call.now)) ready.now.options ready.now.deletes dump.now (W.contents writer.old) (W.contents writer.new) (M.contents map_file.old) (M.contents map_file.new) result }
+{
+    let answer = filter_cut(rt, alloc, dump, call.plan, ready, writer);
+    let Answer::Clean(_) = answer else {
+        return tell(errors, dump, answer, call.quiet, ready);
+    };
+    if !end_map(alloc, dump, &ready.options, call, map_file, errors) {
+        return 1;
+    }
+    tell(errors, dump, answer, call.quiet, ready)
+}
+
+/// Filters a dump that is ready.
+fn filter_cut<H: Threads + Wait + Sync, W: Write>(
+    rt: &H,
+    alloc: Global,
+    dump: &[u8],
+    plan: Plan,
+    ready: &Ready,
+    writer: &mut W,
+) -> Answer
+    ensures { WritesCut ready.now.options ready.now.deletes dump.now (W.contents writer.old) (W.contents writer.new) (cut_status result) }
 {
     let Ok(buffer) = output_buffer(alloc) else {
-        return fail(errors, PROGRAM, Cause::Memory, 0);
+        return Answer::Failed {
+            failure: Failure::Memory,
+            written: 0,
+        };
     };
     let mut sink = OutMut::new(writer, buffer);
     let options = &ready.options;
     let answer = match &ready.deletes {
-        None => run_and_flush(rt, alloc, dump, options, call.plan, &mut sink),
-        Some(deletes) => run_and_trim(rt, alloc, dump, options, deletes, call.plan, &mut sink),
+        None => run_and_flush(rt, alloc, dump, options, plan, &mut sink),
+        Some(deletes) => run_and_trim(rt, alloc, dump, options, deletes, plan, &mut sink),
     };
     let _ = sink.into_inner();
-    tell(errors, dump, answer, call.quiet, ready)
+    answer
 }
 
 /// Runs the filter, and hands on all that waits after the run.
@@ -301,7 +391,9 @@ fn tell<E: Write>(errors: &mut E, dump: &[u8], answer: Answer, quiet: bool, read
     match answer {
         Answer::Clean(report) => {
             if !quiet {
-                let _ = write_report(errors, report, ready.emptied, count_deletes(&ready.deletes));
+                let deleted = count_deletes(&ready.deletes);
+                let youngest = youngest(dump, report.revisions_kept);
+                let _ = write_report(errors, report, youngest, ready.emptied, deleted);
             }
             0
         }
@@ -310,6 +402,14 @@ fn tell<E: Write>(errors: &mut E, dump: &[u8], answer: Answer, quiet: bool, read
             1
         }
         Answer::Failed { failure, written } => fail(errors, PROGRAM, cause(failure), written),
+    }
+}
+
+/// The number that a load gives the last of the kept revisions of a dump, so many: it counts from 1 on, but for revision 0.
+fn youngest(dump: &[u8], kept: u64) -> u64 {
+    match first_revision(dump) {
+        Some(0) => kept.saturating_sub(1),
+        _ => kept,
     }
 }
 

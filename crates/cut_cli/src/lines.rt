@@ -315,10 +315,11 @@ pub fn write_no_include<E: Write>(errors: &mut E) -> io::Result<()> {
     )
 }
 
-/// Writes the counts of a run.
+/// Writes the counts of a run. A load gives the last revision the number of the youngest.
 pub fn write_report<E: Write>(
     errors: &mut E,
     report: Report,
+    youngest: u64,
     emptied: u64,
     deleted: usize,
 ) -> io::Result<()> {
@@ -335,7 +336,6 @@ pub fn write_report<E: Write>(
     }
     write!(errors, ", dropped {revisions_dropped}")?;
     if revisions_dropped > 0 {
-        let youngest = revisions_kept.saturating_sub(1);
         write!(errors, " (the youngest is now r{youngest})")?;
     }
     write!(errors, "; nodes kept {nodes_kept}, dropped {nodes_dropped}")?;

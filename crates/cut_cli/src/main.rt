@@ -6,6 +6,7 @@ mod drive;
 mod examine;
 mod faults;
 mod lines;
+mod map;
 mod mistakes;
 mod own_lives;
 mod prefixes;
@@ -16,7 +17,7 @@ mod texts;
 mod trim;
 mod words;
 
-use cli_support::{Usage, arguments, as_texts, input_size, refuse};
+use cli_support::{NewFile, Usage, arguments, as_texts, input_size, refuse};
 use drive::{PROGRAM, drive};
 use mistakes::{Mistake, write_mistake};
 use std::process::ExitCode;
@@ -52,6 +53,7 @@ fn run_words<H: Threads + Wait + Sync>(threads: &H, rt: &HostRuntime) -> Result<
         input_size(rt),
         &mut rt.reader(),
         &mut rt.stdout(),
+        &mut NewFile::new(rt),
         &mut rt.stderr(),
     ))
 }

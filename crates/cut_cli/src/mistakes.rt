@@ -122,3 +122,17 @@ pub fn write_no_file<E: Write>(errors: &mut E, names: &[&str], place: usize) -> 
     write_seen(errors, name.as_bytes())?;
     writeln!(errors, "'")
 }
+
+/// Says that the file of the map can't be created.
+pub fn write_no_map<E: Write>(errors: &mut E, name: &str) -> io::Result<()> {
+    write!(errors, "svndumpcut: cannot create '")?;
+    write_seen(errors, name.as_bytes())?;
+    writeln!(errors, "'")
+}
+
+/// Says that the map can't be written whole, where the new dump was.
+pub fn write_cut_map<E: Write>(errors: &mut E, name: &str) -> io::Result<()> {
+    write!(errors, "svndumpcut: cannot write '")?;
+    write_seen(errors, name.as_bytes())?;
+    writeln!(errors, "'; the new dump is whole")
+}

@@ -4,12 +4,13 @@ ghost use Rattle.std.specs.Prelude.{None};
 
 use crate::drive::drive;
 use crate::words::call_of;
-use cli_support::{NamedFiles, Unread, Usage};
+use cli_support::{NamedFiles, NamedOutput, NewFile, Unread, Usage};
 use dump_rules::Side;
-use std::alloc::Global;
+use std::alloc::{AllocError, Global};
 use std::io::{self, ErrorKind, Read, Write};
 use std::process::Abort;
 use std::sync::Wait;
+use std::test::Fail;
 use std::thread::Threads;
 
 /// Revision 1 adds `d` and `d/f`, and revision 2 copies `d` to `e`.
@@ -70,11 +71,78 @@ impl NamedFiles for NoFiles {
     }
 }
 
+/// What a file for a map has before.
+const OLD: &[u8] = b"old";
+
+/// A file for a map.
+#[derive(Drop)]
+struct MapFile {
+    text: Vec<u8>,
+    /// Whether it can be created.
+    can_be_created: bool,
+    /// Whether it is written to.
+    is_open: bool,
+    /// How many bytes it has room for.
+    room: usize,
+}
+
+impl MapFile {
+    /// One that can be created, with room for so many bytes. It has a text already.
+    fn with_room(alloc: Global, room: usize) -> Result<MapFile, AllocError> {
+        Ok(MapFile {
+            text: Vec::from_slice(alloc, OLD)?,
+            can_be_created: true,
+            is_open: false,
+            room,
+        })
+    }
+}
+
+impl Write for MapFile {
+    fn write(&mut self, bytes: &[u8]) -> io::Result<usize> {
+        if !self.is_open || self.room < bytes.len() {
+            return Err(ErrorKind::StorageFull.into());
+        }
+        self.text.extend_from_slice(bytes)?;
+        self.room -= bytes.len();
+        Ok(bytes.len())
+    }
+
+    fn flush(&mut self) -> io::Result<()> {
+        Ok(())
+    }
+}
+
+impl NamedOutput for MapFile {
+    fn create(&mut self, name: &str) -> io::Result<()> {
+        if !self.can_be_created || name != "m" {
+            return Err(ErrorKind::PermissionDenied.into());
+        }
+        self.text.clear();
+        self.is_open = true;
+        Ok(())
+    }
+}
+
 /// Whether a cut with these arguments has this status, and leaves these bytes and lines on the streams.
 fn is_cut<'a, H: Threads + Wait + Sync>(
     rt: &H,
     alloc: Global,
     words: &'a [&'a str],
+    wanted: (u8, &[u8], &[u8]),
+) -> bool {
+    let Ok(mut map) = MapFile::with_room(alloc, 0) else {
+        return false;
+    };
+    is_cut_with(rt, alloc, words, &mut map, wanted) && map.text.as_slice() == OLD
+}
+
+/// The same with this file for a map.
+fn is_cut_with<'a, H: Threads + Wait + Sync>(
+    rt: &H,
+    alloc: Global,
+    words: &'a [&'a str],
+    map: &mut MapFile,
     wanted: (u8, &[u8], &[u8]),
 ) -> bool {
     let mut reader = COPIED;
@@ -88,6 +156,7 @@ fn is_cut<'a, H: Threads + Wait + Sync>(
         0,
         &mut reader,
         &mut output,
+        map,
         &mut errors,
     );
     status == wanted.0 && output.as_slice() == wanted.1 && errors.as_slice() == wanted.2
@@ -140,7 +209,7 @@ usage: svndumpcut include|exclude [OPTIONS] PREFIX...\n"
 
 const FILE: [&str; 4] = ["svndumpcut", "exclude", "--follow-copies", "d/f"];
 
-fn is_unread<H: Threads + Wait + Sync>(rt: &H, alloc: Global) -> bool {
+fn is_unread<H: Threads + Wait + Sync>(rt: &H, files: &HostRuntime, alloc: Global) -> bool {
     let mut output = Vec::new(alloc);
     let mut errors = Vec::new(alloc);
     let status = drive(
@@ -151,13 +220,14 @@ fn is_unread<H: Threads + Wait + Sync>(rt: &H, alloc: Global) -> bool {
         0,
         &mut Broken,
         &mut output,
+        &mut NewFile::new(files),
         &mut errors,
     );
     let line = b"svndumpcut: failure 24 Source after 0 bytes\n".as_slice();
     status == 1 && errors.as_slice() == line && output.is_empty()
 }
 
-fn is_unwritten<H: Threads + Wait + Sync>(rt: &H, alloc: Global) -> bool {
+fn is_unwritten<H: Threads + Wait + Sync>(rt: &H, files: &HostRuntime, alloc: Global) -> bool {
     let mut reader = COPIED;
     let mut errors = Vec::new(alloc);
     let status = drive(
@@ -168,6 +238,7 @@ fn is_unwritten<H: Threads + Wait + Sync>(rt: &H, alloc: Global) -> bool {
         0,
         &mut reader,
         &mut Broken,
+        &mut NewFile::new(files),
         &mut errors,
     );
     status == 1
@@ -175,8 +246,8 @@ fn is_unwritten<H: Threads + Wait + Sync>(rt: &H, alloc: Global) -> bool {
 
 #[test]
 fn broken_streams_are_failures(rt: HostRuntime) {
-    assert!(rt; is_unread(&rt, rt.alloc()));
-    assert!(rt; is_unwritten(&rt, rt.alloc()));
+    assert!(rt; is_unread(&rt, &rt, rt.alloc()));
+    assert!(rt; is_unwritten(&rt, &rt, rt.alloc()));
 }
 
 #[test]
@@ -188,4 +259,59 @@ fn arguments_or_no_memory(rt: HostRuntime) {
         Err(usage) => usage == Usage::Memory,
     };
     assert!(rt; is_read);
+}
+
+const MAPPED: [&str; 6] = [
+    "svndumpcut",
+    "exclude",
+    "--follow-copies",
+    "--map",
+    "m",
+    "d/f",
+];
+
+const MAP: &[u8] = b"r0 becomes r0\nr1 becomes r1\nr2 becomes r2\n";
+
+/// How the lines of a cut end that follows copies, where its map can't be written.
+const UNMAPPED_LINES: &[u8] = b"also excluded, as copies of excluded content: 1 path\n  \
+/e/f (r2, copied from /d/f@1)\n\
+svndumpcut: cannot write 'm'; the new dump is whole\n";
+
+#[test]
+fn a_map_is_written_behind_the_cut(rt: HostRuntime) -> Result<(), Fail> {
+    let mut map = MapFile::with_room(rt.alloc(), 100)?;
+    assert!(rt; is_cut_with(&rt, rt.alloc(), &MAPPED, &mut map, (0, CUT, FOLLOW_LINES)));
+    assert!(rt; map.text.as_slice() == MAP);
+    Ok(())
+}
+
+#[test]
+fn a_map_that_is_not_written_is_a_failure(rt: HostRuntime) -> Result<(), Fail> {
+    let mut map = MapFile::with_room(rt.alloc(), 10)?;
+    assert!(rt; is_cut_with(&rt, rt.alloc(), &MAPPED, &mut map, (1, CUT, UNMAPPED_LINES)));
+    assert!(rt; map.text.is_empty());
+    Ok(())
+}
+
+#[test]
+fn nothing_is_written_without_a_file_for_the_map(rt: HostRuntime) -> Result<(), Fail> {
+    let mut map = MapFile::with_room(rt.alloc(), 100)?;
+    map.can_be_created = false;
+    let line = b"svndumpcut: cannot create 'm'\n".as_slice();
+    assert!(rt; is_cut_with(&rt, rt.alloc(), &MAPPED, &mut map, (1, b"", line)));
+    assert!(rt; map.text.as_slice() == OLD);
+    Ok(())
+}
+
+#[test]
+fn a_trial_opens_no_map(rt: HostRuntime) {
+    let words = [
+        "svndumpcut",
+        "exclude",
+        "--follow-copies",
+        "--dry-run",
+        "--map=m",
+        "d/f",
+    ];
+    assert!(rt; is_cut(&rt, rt.alloc(), &words, (0, b"", FOLLOW_LINES)));
 }

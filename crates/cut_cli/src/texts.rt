@@ -11,6 +11,7 @@ Reads the dump of a whole Subversion repository on standard input, and writes it
 without the nodes at and below each prefix on standard output.
 
   --targets FILE     more prefixes, one a line; may be given again
+  --map FILE         write the new number of each revision to this file
   --follow-copies    exclude also what is copied from excluded content
   --drop-empty-revs  drop revisions that lose all of their nodes, and renumber
   --dry-run          do everything but write the new dump

@@ -1,5 +1,5 @@
 //! The arguments of a call.
-ghost use Rattle.std.specs.Prelude.{◌≡◌, ◌≢◌, ◌≤◌, Err, IfOk, map, true, codes};
+ghost use Rattle.std.specs.Prelude.{◌≡◌, ◌≢◌, ◌≤◌, Err, IfOk, map, option_map, true, codes};
 ghost use Rattle.std.specs.List.{list_any};
 ghost use Rattle.clap.specs.Built.{IsParsedFrom};
 ghost use Rattle.clap.specs.Walk.{is_empty};
@@ -8,13 +8,14 @@ ghost use Rattle.cli_support.specs.steps.LineReading.{ReadsLine};
 ghost use Rattle.cli_support.specs.Arguments.{flag_number};
 ghost use Rattle.cli_support.specs.steps.FilledFlags.{AreFilled};
 ghost use Rattle.dump_pipeline.specs.PlanViews.{worker_count, window_size};
-ghost use Rattle.cut_cli.specs.Words.{TellsCut, cut_of_words, cut_of_side, cut_meaning, with_texts_of};
+ghost use Rattle.cut_cli.specs.Words.{TellsCut, asked_map, cut_of_words, cut_of_side, cut_meaning, with_texts_of};
 
 use crate::command::cut_command;
 use crate::mistakes::{Mistake, write_mistake, write_refused_line};
 use clap::{ArgMatches, Command};
 use cli_support::{
-    Usage, is_set, read_number, read_prefixes, read_values, refusal, side_in, with_texts,
+    Usage, is_set, read_number, read_prefixes, read_value, read_values, refusal, side_in,
+    with_texts,
 };
 use dump_pipeline::Plan;
 use dump_rules::Side;
@@ -29,6 +30,8 @@ pub struct Call<'a> {
     pub prefixes: Vec<&'a [u8]>,
     /// The names of files with more prefixes.
     pub targets: Vec<&'a str>,
+    /// The name of the file for a map of the revisions.
+    pub map_name: Option<&'a str>,
     /// Whether the copies of what is excluded are excluded too.
     pub follow: bool,
     /// Whether revisions are dropped that lose all of their nodes, and the others are renumbered.
@@ -148,6 +151,7 @@ fn read_call<'a, E: Write>(
         side,
         prefixes,
         targets,
+        map_name: read_value(matches, "map"),
         follow: is_set(matches, "follow-copies"),
         drop: is_set(matches, "drop-empty-revs"),
         dry_run: is_set(matches, "dry-run"),
@@ -181,4 +185,11 @@ pub fn with_targets<'a>(call: Call<'a>, texts: &'a [Vec<u8>]) -> Result<Call<'a>
         prefixes: with_texts(call.prefixes, texts)?,
         ..call
     })
+}
+
+/// The name of the file for the map that is written; a trial writes none.
+pub fn asked_map<'a>(call: &Call<'a>) -> Option<&'a str>
+    ensures { option_map (λ name. name.now) result ≡ asked_map (cut_meaning call.now) }
+{
+    if call.dry_run { None } else { call.map_name }
 }

@@ -16,5 +16,6 @@ returns c =
     let e6 = one_more _ _ _ _ _ c.in_ok-arg-6.ensures c.workers.ensures.local e5 c.workers.ensures.rule in
     let e7 = one_more _ _ _ _ _ c.in_ok-arg-7.ensures c.window.ensures.local e6 c.window.ensures.rule in
     let e8 = one_more _ _ _ _ _ c.in_ok-arg-8.ensures c.repeated.ensures.local e7 c.repeated.ensures.rule in
-    IfOk-weaker c.arg-9.result _ _
-    (λ r adds. one_more _ _ _ _ _ adds c.any_prefixes.ensures.local e8 c.any_prefixes.ensures.rule) c.arg-9.ensures
+    let e9 = one_more _ _ _ _ _ c.in_ok-arg-9.ensures c.valued.ensures.local e8 c.valued.ensures.rule in
+    IfOk-weaker c.arg-10.result _ _
+    (λ r adds. one_more _ _ _ _ _ adds c.any_prefixes.ensures.local e9 c.any_prefixes.ensures.rule) c.arg-10.ensures

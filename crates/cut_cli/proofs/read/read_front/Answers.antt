@@ -24,8 +24,7 @@ returns c =
     let reading = c.in_ok-reading.reading in
     let read = c.in_ok-reading.ensures in
     let known = rw c.in-Ok.is at c.in_ok-changes.ensures in
-    let stop = c.stop_at-stop.result in
-    (
+    let stop = c.stop_at-stop.result in (
       (
         subst (BeginsWithChanges dump) (sym c.in_ok-index.ensures) (front_begins dump reading read c.in-Ok.changes known),
         subst (λ listed. Rattle.std.specs.Prelude.MatchOption stop (AreChangesOf dump listed) (IsUnreadFor dump))

@@ -1,0 +1,131 @@
+//! The map of revisions: which number each one has in the new repository.
+ghost use Rattle.std.specs.Prelude.{◌≡◌, ◌+◌, ◌<◌, ◌^◌, ◌++◌, IfOk, None, OnOk, false, true, is_some, unwrap_or};
+ghost use Rattle.std.specs.Io.KnownBytes.{Keeps};
+ghost use Rattle.cut_cli.specs.Drive.{BeginsMap, EndsMap, WritesMap};
+ghost use Rattle.cut_cli.specs.RevisionMap.{IsMapOfCut, fate_line, fate_lines, last_behind, loaded_number};
+ghost use Rattle.cut_cli.specs.Words.{asked_map, cut_meaning};
+
+use crate::mistakes::{write_cut_map, write_no_map};
+use crate::words::{Call, asked_map};
+use cli_support::{NamedOutput, write_text};
+use dump_changes::Memory;
+use dump_cut::{RevisionFate, revision_fates};
+use dump_rules::Options;
+use std::alloc::Global;
+use std::io::{self, ErrorKind, Write};
+
+/// Creates the file of the map, if one is asked for. It reports a failure. Whether the cut goes on.
+pub fn begin_map<M: NamedOutput, E: Write>(
+    call: &Call<'_>,
+    map_file: &mut M,
+    errors: &mut E,
+) -> bool
+    ensures begun { result ≡ true → BeginsMap (asked_map (cut_meaning call.now)) (M.contents map_file.old) (M.contents map_file.new) }
+    ensures failed { result ≡ false → (is_some (asked_map (cut_meaning call.now)) ≡ true)
+        × Keeps (M.contents map_file.old) (M.contents map_file.new) }
+{
+    let Some(name) = asked_map(call) else {
+        return true;
+    };
+    if map_file.create(name).is_err() {
+        let _ = write_no_map(errors, name);
+        return false;
+    }
+    true
+}
+
+/// The number that a load gives a kept revision, where the last one that it gave is this.
+fn loaded_number(last: Option<u64>, number: u64) -> u64
+    requires { unwrap_or last 0 + 1 < 2 ^ 64 }
+    ensures { result ≡ loaded_number last number }
+{
+    if number == 0 {
+        return 0;
+    }
+    match last {
+        Some(last) => last + 1,
+        None => 1,
+    }
+}
+
+/// Adds the line of a revision, where the last number that a load gave is this. It gives the last number behind it.
+fn push_line(text: &mut Vec<u8>, last: Option<u64>, fate: RevisionFate) -> io::Result<Option<u64>>
+    requires { unwrap_or last 0 + 1 < 2 ^ 64 }
+    ensures line { OnOk result (text.new.items ≡ text.old.items ++ fate_line last fate) }
+    ensures last { IfOk result (λ behind. behind ≡ last_behind last fate) }
+{
+    let number = fate.number;
+    if fate.stays {
+        let new = loaded_number(last, number);
+        writeln!(text, "r{number} becomes r{new}")?;
+        return Ok(Some(new));
+    }
+    match last {
+        Some(kept) => writeln!(
+            text,
+            "r{number} is dropped; references to it become r{kept}"
+        )?,
+        None => writeln!(text, "r{number} is dropped")?,
+    }
+    Ok(last)
+}
+
+/// The lines of these revisions.
+fn lines_of(alloc: Global, fates: &[RevisionFate]) -> io::Result<Vec<u8>>
+    ensures { IfOk result (λ text. text.items ≡ fate_lines None fates.now) }
+{
+    let mut text = Vec::new(alloc);
+    let mut last = None;
+    let mut left = fates;
+    while let [fate, others @ ..] = left {
+        last = push_line(&mut text, last, *fate)?;
+        left = others;
+    }
+    Ok(text)
+}
+
+/// The map of the revisions of a dump that is cut with these options.
+fn map_text(alloc: Global, dump: &[u8], options: &Options) -> io::Result<Vec<u8>>
+    ensures { IfOk result (λ text. IsMapOfCut options.now dump.now text.items) }
+{
+    match revision_fates(alloc, dump, options) {
+        Ok(fates) => lines_of(alloc, &fates),
+        Err(Memory) => Err(ErrorKind::OutOfMemory.into()),
+    }
+}
+
+/// Writes the map behind a whole cut, if one is asked for. It reports a failure. Whether all of it was written.
+pub fn end_map<M: NamedOutput, E: Write>(
+    alloc: Global,
+    dump: &[u8],
+    options: &Options,
+    call: &Call<'_>,
+    map_file: &mut M,
+    errors: &mut E,
+) -> bool
+    ensures { EndsMap (asked_map (cut_meaning call.now)) options.now dump.now (M.contents map_file.old) (M.contents map_file.new) result }
+{
+    let Some(name) = asked_map(call) else {
+        return true;
+    };
+    let is_written = write_map(alloc, dump, options, map_file);
+    if !is_written {
+        let _ = write_cut_map(errors, name);
+    }
+    is_written
+}
+
+/// Writes the map of a dump. Whether all of it was written.
+fn write_map<M: NamedOutput>(
+    alloc: Global,
+    dump: &[u8],
+    options: &Options,
+    map_file: &mut M,
+) -> bool
+    ensures { WritesMap options.now dump.now (M.contents map_file.old) (M.contents map_file.new) result }
+{
+    match map_text(alloc, dump, options) {
+        Ok(text) => write_text(alloc, &text, map_file).is_ok(),
+        Err(_) => false,
+    }
+}
