@@ -35,7 +35,7 @@ INSTALL := PREFIX="$(PREFIX)" DESTDIR="$(DESTDIR)" NAME="$(NAME)" FORCE="$(FORCE
 SOURCES := $(shell tools/list_sources.sh)
 # the suites that take the longest come first
 SUITES := $(addprefix suite-,fault_injection check_loaded_trees hostile_input run_cases compare_with_subversion \
-	check_install check_examples check_scripts check_trusted check_names fit)
+	check_install check_merges check_examples check_scripts check_trusted check_names fit)
 MUTANTS := $(addprefix suite-,mutants check_the_checks)
 # each suite works in directories of its own, so they run in parallel; the output of one is printed whole
 PARALLEL := $(MAKE) --no-print-directory --jobs=$(shell nproc) --output-sync=target --keep-going
