@@ -37,6 +37,20 @@ COPIES = [
     ("a fan of 100,000 copies", ["--revisions", "0", "--fan", "100000"], ["include trunk", "exclude other"]),
 ]
 
+# dumps of which svndumpcut excludes a file with its copies
+CUTS = [
+    (
+        "100,000 revisions, 20,000 files, 500 tags",
+        ["--revisions", "100000", "--nodes", "0", "--tagged", "20000", "--tags", "500"],
+        ["--follow-copies trunk/dir7/file7", "--follow-copies trunk/dir7"],
+    ),
+    (
+        "a thousand renames, and fifty copies",
+        ["--revisions", "1", "--nodes", "0", "--renames", "1000"],
+        ["--follow-copies trunk/name0/file"],
+    ),
+]
+
 
 def ends_well(command, status):
     """Whether a command may end with this status: the survey ends with 1 where it finds something."""
@@ -162,6 +176,12 @@ def main():
             head(title, arguments, path)
             survey = programs()["survey"].built
             show_rows([(f"survey, {words}", [survey, *words.split()]) for words in calls], path)
+        for title, arguments, calls in CUTS:
+            make(arguments, path)
+            head(title, arguments, path)
+            rows = [("filter, include /", [program, "include", "/"])]
+            rows += [(f"cut, {words}", [programs()["cut"].built, "exclude", *words.split()]) for words in calls]
+            show_rows(rows, path)
     return 0 if same else 1
 
 

@@ -2,7 +2,7 @@
 """Writes a dump of format version 2 to standard output. The same arguments give the same bytes.
 
     bench/make_dump.py [--revisions N] [--nodes N] [--text BYTES] [--copies SHARE] [--mergeinfo SHARE] [--seed N]
-        [--chain N] [--fan N]
+        [--chain N] [--fan N] [--tagged N] [--tags N] [--renames N]
 
 Revision 1 adds the directories trunk and other, so that the dump loads. Each revision after revision 0 has --nodes nodes
 more, half of them under trunk and half under other. A node is a file with
@@ -10,6 +10,9 @@ a text of about --text bytes and its two digests, or, for a share of --copies, a
 earlier revision, or, for a share of --mergeinfo, a change of trunk's mergeinfo.
 After these come as many copies as --chain says, one a revision, each of what the one before it made; all but the last
 are under other, and that is trunk/last. And as many as --fan says, each of a directory of its own of other into trunk.
+With --tagged revision 1 also has so many files, in a hundred directories under trunk, and each later revision changes one of
+them, or, as often as --tags says, copies trunk to a tag. After all these come as many renames of a directory with a file as
+--renames says, one a revision, and then fifty copies of trunk.
 """
 import argparse
 import hashlib
@@ -90,6 +93,43 @@ def copies(first, chain, fan):
         yield revision(first + index) + copy(b"trunk/copy%d" % index, first + index - 1, b"other/source%d" % index)
 
 
+def tagged(number):
+    return b"trunk/dir%d/file%d" % (number % 100, number)
+
+
+def first_files(arguments):
+    """The directories and files of revision 1 beside trunk and other."""
+    if arguments.tagged or arguments.renames:
+        yield directory(b"tags")
+    if arguments.tagged:
+        yield from (directory(b"trunk/dir%d" % number) for number in range(100))
+    for number in range(arguments.tagged):
+        lines = [b"Node-path: " + tagged(number), b"Node-kind: file", b"Node-action: add"]
+        yield record(lines, [], b"file %d\n" % number)
+    if arguments.renames:
+        yield directory(b"trunk/name0")
+        yield record([b"Node-path: trunk/name0/file", b"Node-kind: file", b"Node-action: add"], [], b"file\n")
+
+
+def tagged_node(number, arguments):
+    """A tag, or a change of one of the tagged files."""
+    step = max(1, arguments.revisions // max(1, arguments.tags))
+    if number % step == 0 and number // step <= arguments.tags:
+        return copy(b"tags/tag%d" % (number // step), number - 1, b"trunk")
+    lines = [b"Node-path: " + tagged(number * 7919 % arguments.tagged), b"Node-kind: file", b"Node-action: change"]
+    return record(lines, None, b"changed in %d\n" % number)
+
+
+def renames(first, count):
+    """A revision for each rename of a directory, and then for each copy of trunk."""
+    for index in range(count):
+        old, new = b"trunk/name%d" % index, b"trunk/name%d" % (index + 1)
+        yield revision(first + index) + copy(new, first + index - 1, old) + record([b"Node-path: " + old, b"Node-action: delete"])
+    first += count
+    for index in range(50 if count else 0):
+        yield revision(first + index) + copy(b"tags/copy%d" % index, first + index - 1, b"trunk")
+
+
 def main():
     parser = argparse.ArgumentParser()
     parser.add_argument("--revisions", type=int, default=1000)
@@ -100,6 +140,9 @@ def main():
     parser.add_argument("--seed", type=int, default=1)
     parser.add_argument("--chain", type=int, default=0)
     parser.add_argument("--fan", type=int, default=0)
+    parser.add_argument("--tagged", type=int, default=0)
+    parser.add_argument("--tags", type=int, default=0)
+    parser.add_argument("--renames", type=int, default=0)
     arguments = parser.parse_args()
     chance = random.Random(arguments.seed)
     out = sys.stdout.buffer
@@ -110,9 +153,13 @@ def main():
         out.write(revision(number))
         if number == 1:
             out.write(directory(b"trunk") + directory(b"other"))
+            out.writelines(first_files(arguments))
+        if arguments.tagged and number > 1:
+            out.write(tagged_node(number, arguments))
         for index in range(arguments.nodes):
             out.write(node(chance, number, index, arguments))
     out.writelines(copies(arguments.revisions + 1, arguments.chain, arguments.fan))
+    out.writelines(renames(arguments.revisions + arguments.chain + arguments.fan + 1, arguments.renames))
 
 
 main()
