@@ -26,7 +26,7 @@ written but with status 0. What is written then is loaded into an empty reposito
 has to have each revision of the original with its number and its properties, and its tree without the excluded paths, and
 no text that only excluded files have. The same is done with parts of each history, and with dumps whose numbers have gaps,
 which svndumpfilter makes: there the original is what svnadmin loads of them, and nothing may be written of a dump that it
-rejects.
+rejects. If it rejects the mergeinfo alone, the cut is not judged.
 
 The files of a failed run are kept in build/loaded_trees. Where Subversion is not installed, the test is left out and says
 so. The last line is 'N passed, M failed'.
