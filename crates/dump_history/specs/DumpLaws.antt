@@ -1,5 +1,5 @@
--- The law of filtered dumps: what is written, loaded over the given folders, has the trees that the whole dump has,
--- restricted to the kept paths.
+-- The law of filtered dumps: loading commutes with filtering. What is written, loaded over the parent directories, has the
+-- trees that the whole dump has, restricted to the kept paths.
 use Rattle.std.specs.Prelude.{◌≡◌, ℕ, Bool, not, ◌||◌, List, [], ◌∷◌, ◌++◌, length, drop, take, filter, Some, IsTrue}
 use Rattle.std.specs.List.{AllZip, list_all, list_any}
 use Rattle.dump_text.specs.PropertyList.{Property}
@@ -24,8 +24,8 @@ use Rattle.dump_history.specs.RaisedMergeinfo.{IsRaised}
 use Rattle.dump_history.specs.DumpChanges.{counts_from, MakeRevisions, HaveRevisionProperties, LoadsAs}
 use Rattle.dump_history.specs.NumberGaps.{sets_mergeinfo, MakeRevisionsWithGaps, LoadsWithGapsAs, KeepsNamedNumbers}
 
--- whether the numbers of a dump numbered 0, 1, 2 and so on are so again where it is filtered: revisions are renumbered,
--- or none is dropped. Else what is written has gaps in its numbers
+-- whether what is written of a dump numbered 0, 1, 2 and so on is numbered so too: revisions are renumbered, or none is
+-- dropped. If not, what is written has gaps in its numbers
 abbrev pub keeps_numbering : Settings → List DumpRecord → Bool
 keeps_numbering settings records = settings.renumber || list_all (keeps_group settings) (groups records)
 
@@ -35,24 +35,24 @@ TreesRestrict settings records trees others =
     ImagesRestrict settings (IsNewProperty settings (kept_revisions settings records))
     (image (kept_revisions settings records)) trees others
 
--- the properties of a revision and of what is written of it: its own, or those of an empty revision where it is padded
+-- the properties of a revision and of what is written of it: its own, or those of an empty revision if it is padded
 abbrev pub KeepsProperties : Settings → Group → Group → Type 0
 KeepsProperties settings g h = (ps : List Property) × HasPropertyList g.revision ps
     × HasPropertyList h.revision (revision_properties (is_padded settings g) ps)
 
--- so for each kept revision, in order, revision 0 too. They are told as the property lists that stand in the two dumps;
--- a load takes the last of two entries of one name, and reads a name up to a zero byte
+-- the same for each kept revision, in order, revision 0 too. This compares the property lists of the two dumps; a load
+-- takes the last of two entries of one name, and reads a name up to a zero byte
 abbrev pub RevisionsKeepProperties : Settings → List DumpRecord → List DumpRecord → Type 0
 RevisionsKeepProperties settings records again =
     AllZip (KeepsProperties settings) (filter (keeps_group settings) (groups records)) (groups again)
 
--- the filtered dump has no gap in its numbers, which begin with this one, where the dump keeps its numbering
+-- the filtered dump has no gap in its numbers, which begin with this one, if the dump keeps its numbering
 abbrev pub HasNoGapIfKept : Settings → List DumpRecord → ℕ → List DumpRecord → Type 0
 HasNoGapIfKept settings records first again =
     IsTrue (keeps_numbering settings records) → IsTrue (counts_from first (revision_numbers again))
 
--- the text is a dump that loads into a repository whose revision 0 has the given folders: it makes a revision for each
--- kept one of these records, with its properties, and the trees are these trees, restricted
+-- the text is a dump that loads into a repository whose revision 0 has the parent directories: it makes a revision for
+-- each kept one of these records, with its properties, and the trees are these trees, restricted
 abbrev pub LoadsRestricted : Patching → Settings → List DumpRecord → List Tree → List ℕ → Type 0
 LoadsRestricted patched settings records trees text =
     (again : List DumpRecord) × (written : List (List Change)) × (others : List Tree)
@@ -63,8 +63,7 @@ LoadsRestricted patched settings records trees text =
     × TreesRestrict settings records trees others
     × RevisionsKeepProperties settings records again
 
--- a dump that loads, and whose changes the filter's cut separates: what the filter writes of it loads, and has the
--- restricted trees
+-- a dump that loads, and whose changes are separated: what the filter writes of it loads, and has the restricted trees
 abbrev pub FilteredDumpRestricts : Type 0
 FilteredDumpRestricts = (patched : Patching) (settings : Settings) (dump text : List ℕ) (records : List DumpRecord)
     (revisions : List (List Change)) (trees : List Tree) →
@@ -74,7 +73,7 @@ FilteredDumpRestricts = (patched : Patching) (settings : Settings) (dump text : 
     → AllRevisionsSeparate settings (root_alone ∷ []) root_alone revisions
     → LoadsRestricted patched settings records trees text
 
--- the same of a dump of which no change gives an alarm, and which makes no copy that loses its source over something
+-- the same of a dump whose changes are quiet, and which makes no copy that loses its source over an existing node
 abbrev pub QuietDumpRestricts : Type 0
 QuietDumpRestricts = (patched : Patching) (settings : Settings) (dump text : List ℕ) (records : List DumpRecord)
     (revisions : List (List Change)) (trees : List Tree) →
@@ -85,8 +84,8 @@ QuietDumpRestricts = (patched : Patching) (settings : Settings) (dump text : Lis
     → IsTrue (nowhere_is_over settings (root_alone ∷ []) root_alone revisions)
     → LoadsRestricted patched settings records trees text
 
--- what is written begins with what is written of the first revisions, those of these trees; this part loads over the
--- given folders, with a revision for each kept one of them, and the tree at the image of each of their numbers is the
+-- what is written begins with what is written of the first revisions, those of these trees. This part loads over the
+-- parent directories, with a revision for each kept one of them. The tree at the image of each of their numbers is the
 -- restricted tree
 abbrev pub FrontLoadsRestricted : Patching → Settings → List DumpRecord → List Tree → List ℕ → Type 0
 FrontLoadsRestricted patched settings records trees text =
@@ -99,8 +98,8 @@ FrontLoadsRestricted patched settings records trees text =
     × TreesRestrict settings records trees others
     × RevisionsKeepProperties settings records again
 
--- a dump whose first revisions load and are separated. Those behind them make changes too, of which no more is asked:
--- they needn't load, nor be separated
+-- a dump whose first revisions load and are separated. The later ones only have to make changes: they need neither load
+-- nor be separated
 abbrev pub FilteredDumpFrontRestricts : Type 0
 FilteredDumpFrontRestricts = (patched : Patching) (settings : Settings) (dump text : List ℕ) (records : List DumpRecord)
     (front rest : List (List Change)) (trees : List Tree) →
@@ -110,8 +109,8 @@ FilteredDumpFrontRestricts = (patched : Patching) (settings : Settings) (dump te
     → AllRevisionsSeparate settings (root_alone ∷ []) root_alone front
     → FrontLoadsRestricted patched settings records trees text
 
--- the same where no change of the first revisions gives an alarm, and none of their copies that lose their source is
--- made over something
+-- the same if the changes of the first revisions are quiet, and none of their copies that lose their source is made over
+-- an existing node
 abbrev pub QuietDumpFrontRestricts : Type 0
 QuietDumpFrontRestricts = (patched : Patching) (settings : Settings) (dump text : List ℕ) (records : List DumpRecord)
     (front rest : List (List Change)) (trees : List Tree) →
@@ -140,7 +139,7 @@ DumpLoadsOnce = (patched : Patching) (first : Tree) (dump : List ℕ) (records o
 abbrev pub sets_no_mergeinfo : List (List Change) → Bool
 sets_no_mergeinfo revisions = list_all (λ changes. not (list_any sets_mergeinfo changes)) revisions
 
--- behind older revisions, the last of which has the first tree, a dump that sets no mergeinfo makes the same trees; the
+-- after older revisions, the last of which has the first tree, a dump that sets no mergeinfo makes the same trees; the
 -- load raises the numbers of its copies by as many
 abbrev pub DumpLoadsTheSameBehindOthers : Type 0
 DumpLoadsTheSameBehindOthers = (patched : Patching) (older : List Tree) (first : Tree) (records : List DumpRecord)
@@ -148,12 +147,12 @@ DumpLoadsTheSameBehindOthers = (patched : Patching) (older : List Tree) (first :
     LoadsWithGapsAs patched first records revisions trees → IsTrue (sets_no_mergeinfo revisions)
     → loaded (older ++ first ∷ []) first (revisions_behind (length older) revisions) ≡ Some (older ++ trees)
 
--- revisions that set no mergeinfo stay as they are behind others, but for the numbers of their copies
+-- revisions that set no mergeinfo stay as they are after others, but for the numbers of their copies
 abbrev pub PlainRevisionsStay : Type 0
 PlainRevisionsStay = (count : ℕ) (revisions : List (List Change)) → IsTrue (sets_no_mergeinfo revisions)
     → AreRevisionsBehind (IsRaised count) count revisions (revisions_behind count revisions)
 
--- a property of the dump, and what becomes of it where the filtered dump is loaded behind this many revisions
+-- a property of the dump, and what becomes of it if the filtered dump is loaded after this many revisions
 abbrev pub IsPropertyBehind : ℕ → Settings → KeptRevisions → Property → Property → Type 0
 IsPropertyBehind count settings kept old new =
     (written : Property) × IsNewProperty settings kept old written × IsRaised count written new
@@ -164,25 +163,41 @@ TreesRestrictBehind count settings records trees others =
     ImagesRestrict settings (IsPropertyBehind count settings (kept_revisions settings records))
     (image (kept_revisions settings records)) trees others
 
--- an administrator has made the given folders in revision 1 of a new repository, and loads the text behind it. Where
--- the load raises each copy's number, and mergeinfo, by one, it makes a revision for each kept one of these records but
--- the first, whose properties are lost, and the trees behind revision 0 are these trees, restricted. So each image
--- stands at a number that is higher by one
+-- these changes load after these older revisions and one that has the parent directories, and give these trees from that
+-- one on
+abbrev pub LoadBehindGiven : Settings → List Tree → List (List Change) → List Tree → Type 0
+LoadBehindGiven settings older moved others =
+    loaded (older ++ given settings ∷ []) (given settings) moved ≡ Some (older ++ others)
+
+-- what is written makes these changes, and is loaded after revision 1, which has the parent directories. If the load
+-- raises each copy's number, and mergeinfo, by one, there is a tree for each kept revision, and the trees are these trees,
+-- restricted. They begin with that of revision 1, so each is at the image of its number, raised by one
+abbrev pub WrittenLoadsBehindFolders : Settings → List DumpRecord → List Tree → List (List Change) → Type 0
+WrittenLoadsBehindFolders settings records trees written =
+    (moved : List (List Change)) → AreRevisionsBehind (IsRaised 1) 1 written moved
+    → (others : List Tree)
+    × LoadBehindGiven settings (root_alone ∷ []) moved others
+    × (length others ≡ length (kept_revisions settings records).numbers)
+    × TreesRestrictBehind 1 settings records trees others
+
+-- each kept revision but the first has its properties, or those of an empty revision; those of the first are lost
+abbrev pub LaterRevisionsKeepProperties : Settings → List DumpRecord → List DumpRecord → Type 0
+LaterRevisionsKeepProperties settings records again =
+    AllZip (KeepsProperties settings) (drop 1 (filter (keeps_group settings) (groups records)))
+    (drop 1 (groups again))
+
+-- an administrator has created the parent directories in revision 1 of a new repository, and loads the text after it:
+-- the text is a dump that makes changes, which load and have the restricted trees
 abbrev pub LoadsBehindFolders : Patching → Settings → List DumpRecord → List Tree → List ℕ → Type 0
 LoadsBehindFolders patched settings records trees text =
     (again : List DumpRecord) × (written : List (List Change))
     × HasRecords text again Ending.Whole
     × MakeRevisionsWithGaps patched again written
     × HasNoGapIfKept settings records 0 again
-    × ((moved : List (List Change)) → AreRevisionsBehind (IsRaised 1) 1 written moved
-    → (others : List Tree)
-    × (loaded (root_alone ∷ given settings ∷ []) (given settings) moved ≡ Some (root_alone ∷ others))
-    × (length others ≡ length (kept_revisions settings records).numbers)
-    × TreesRestrictBehind 1 settings records trees others)
-    × AllZip (KeepsProperties settings) (drop 1 (filter (keeps_group settings) (groups records)))
-    (drop 1 (groups again))
+    × WrittenLoadsBehindFolders settings records trees written
+    × LaterRevisionsKeepProperties settings records again
 
--- so does what the filter writes of a dump that loads, and whose changes the filter's cut separates
+-- what the filter writes of a dump that loads, and whose changes are separated, loads so
 abbrev pub FilteredDumpRestrictsBehindFolders : Type 0
 FilteredDumpRestrictsBehindFolders = (patched : Patching) (settings : Settings) (dump text : List ℕ)
     (records : List DumpRecord) (revisions : List (List Change)) (trees : List Tree) →
@@ -192,7 +207,7 @@ FilteredDumpRestrictsBehindFolders = (patched : Patching) (settings : Settings) 
     → AllRevisionsSeparate settings (root_alone ∷ []) root_alone revisions
     → LoadsBehindFolders patched settings records trees text
 
--- and of a dump of which no change gives an alarm, and no copy that loses its source is made over something
+-- the same of a dump whose changes are quiet, and which makes no copy that loses its source over an existing node
 abbrev pub QuietDumpRestrictsBehindFolders : Type 0
 QuietDumpRestrictsBehindFolders = (patched : Patching) (settings : Settings) (dump text : List ℕ)
     (records : List DumpRecord) (revisions : List (List Change)) (trees : List Tree) →

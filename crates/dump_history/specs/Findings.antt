@@ -100,42 +100,42 @@ pub record NodeFaults : Type 0 where
   pub outside : Bool
 
 -- these are the node's faults, as the filter tells them of a record that these stand before
-pub record AreNodeFaultsOf (settings : Settings) (before : List DumpRecord) (r : DumpRecord) (m : NodeFaults)
-    : Type 0 where
-  pub copy_revision : IsTrue m.copy_revision ↔ HoldsOfRecord settings before r CopyRevision
-  pub unread : IsTrue m.unread ↔ HoldsOfRecord settings before r MergeInfo
-  pub missing : IsTrue m.missing ↔ HoldsOfRecord settings before r MergeSource
-  pub outside : IsTrue m.outside ↔ HoldsOfRecord settings before r MergeRange
+pub record AreNodeFaultsOf (settings : Settings) (before : List DumpRecord) (r : DumpRecord)
+    (faults : NodeFaults) : Type 0 where
+  pub copy_revision : IsTrue faults.copy_revision ↔ HoldsOfRecord settings before r CopyRevision
+  pub unread : IsTrue faults.unread ↔ HoldsOfRecord settings before r MergeInfo
+  pub missing : IsTrue faults.missing ↔ HoldsOfRecord settings before r MergeSource
+  pub outside : IsTrue faults.outside ↔ HoldsOfRecord settings before r MergeRange
 
 -- whether this is found in the node; the properties are those of its block, none where that can't be read, and the
 -- faults those of the node
 abbrev pub is_found : Settings → DumpRecord → Option (List Property) → NodeFaults → Finding → Bool
-is_found settings r ps m Finding.UnreadBlock = is_none ps
-is_found settings r ps m Finding.Delta = has_odd_delta r
-is_found settings r ps m Finding.UnknownAction = not (has_known_action r)
-is_found settings r ps m Finding.OddText = not (has_plain_texts r (unwrap_or ps []))
-is_found settings r ps m Finding.NoWholeFile = lacks_source settings r
-is_found settings r ps m Finding.MissingCopyRevision = m.copy_revision
-is_found settings r ps m Finding.UnreadMergeinfo = m.unread
-is_found settings r ps m Finding.MissingMergeSource = m.missing
-is_found settings r ps m Finding.MissingMergeRevision = m.outside
-is_found settings r ps m Finding.PropertiesLost =
+is_found settings r ps faults Finding.UnreadBlock = is_none ps
+is_found settings r ps faults Finding.Delta = has_odd_delta r
+is_found settings r ps faults Finding.UnknownAction = not (has_known_action r)
+is_found settings r ps faults Finding.OddText = not (has_plain_texts r (unwrap_or ps []))
+is_found settings r ps faults Finding.NoWholeFile = lacks_source settings r
+is_found settings r ps faults Finding.MissingCopyRevision = faults.copy_revision
+is_found settings r ps faults Finding.UnreadMergeinfo = faults.unread
+is_found settings r ps faults Finding.MissingMergeSource = faults.missing
+is_found settings r ps faults Finding.MissingMergeRevision = faults.outside
+is_found settings r ps faults Finding.PropertiesLost =
     has_kept_path settings r && makes_copy r && not (has_kept_source settings r)
     && not (has_header property_length_name r.headers)
-is_found settings r ps m Finding.CopyLoses =
+is_found settings r ps faults Finding.CopyLoses =
     has_kept_path settings r && makes_copy r && has_kept_source settings r && cuts settings (copy_path r) (node_path r)
-is_found settings r ps m Finding.CopyLetsIn =
+is_found settings r ps faults Finding.CopyLetsIn =
     has_kept_path settings r && makes_copy r && has_kept_source settings r && cuts settings (node_path r) (copy_path r)
-is_found settings r ps m Finding.FolderTakes =
+is_found settings r ps faults Finding.FolderTakes =
     not (has_kept_path settings r) && deletes r && is_above_prefix settings r
-is_found settings r ps m Finding.FolderBrings =
+is_found settings r ps faults Finding.FolderBrings =
     not (has_kept_path settings r) && makes_copy r && is_above_prefix settings r
-is_found settings r ps m Finding.TextComesIn =
+is_found settings r ps faults Finding.TextComesIn =
     is_exclude settings.side && has_kept_path settings r && makes r && becomes_plain settings r
 
 -- what is found in the node, in order
 abbrev pub findings_of : Settings → DumpRecord → Option (List Property) → NodeFaults → List Finding
-findings_of settings r ps m = filter (λ f. is_found settings r ps m f) every_finding
+findings_of settings r ps faults = filter (λ f. is_found settings r ps faults f) every_finding
 
 -- these are the node's properties; none is said where its block can't be read
 abbrev pub IsReadBlock : DumpRecord → Option (List Property) → Type 0
@@ -144,8 +144,8 @@ IsReadBlock r (Some ps) = HasPropertyList r ps
 
 -- this is what is found in the node that these records stand before
 abbrev pub AreFindingsOf : Settings → List DumpRecord → DumpRecord → List Finding → Type 0
-AreFindingsOf settings before r found = (ps : Option (List Property)) × (m : NodeFaults)
-    × IsReadBlock r ps × AreNodeFaultsOf settings before r m × (found ≡ findings_of settings r ps m)
+AreFindingsOf settings before r found = (ps : Option (List Property)) × (faults : NodeFaults)
+    × IsReadBlock r ps × AreNodeFaultsOf settings before r faults × (found ≡ findings_of settings r ps faults)
 
 -- whether a node with the finding makes no change that the definitions tell
 abbrev pub is_obstacle : Finding → Bool
@@ -219,27 +219,36 @@ copies_from_before first r = makes_copy r && nat_lt (copy_revision r) first
 abbrev pub has_source_before : ℕ → List Group → Bool
 has_source_before first gs = list_any (λ (g : Group). list_any (copies_from_before first) g.nodes) gs
 
--- whether this is found in the dump; named tells whether a kept node behind the first dropped revision names one, and
--- unread whether the properties of a revision can't be read
-abbrev pub is_found_in_dump : Settings → List DumpRecord → (named unread : Bool) → DumpFinding → Bool
-is_found_in_dump settings records named unread DumpFinding.NoRevision = length (groups records) == 0
-is_found_in_dump settings records named unread DumpFinding.OtherNumbers =
+-- what a dump has: whether a kept node after the first dropped revision names a revision, and whether the properties of
+-- a revision can't be read
+pub record DumpFacts : Type 0 where
+  pub named : Bool
+  pub unread : Bool
+
+-- these are the facts of the dump with these records
+pub record AreDumpFactsOf (settings : Settings) (records : List DumpRecord) (facts : DumpFacts) : Type 0 where
+  pub named : IsTrue facts.named ↔ NamesRevisionBehind settings records
+  pub unread : IsTrue facts.unread ↔ HasUnreadRevision records
+
+-- whether this is found in the dump with these records, which has these facts
+abbrev pub is_found_in_dump : Settings → List DumpRecord → DumpFacts → DumpFinding → Bool
+is_found_in_dump settings records facts DumpFinding.NoRevision = length (groups records) == 0
+is_found_in_dump settings records facts DumpFinding.OtherNumbers =
     not (counts_from (begins_at records) (revision_numbers records))
-is_found_in_dump settings records named unread DumpFinding.NumberFalls = not (rise (revision_numbers records))
-is_found_in_dump settings records named unread DumpFinding.UnreadRevision = unread
-is_found_in_dump settings records named unread DumpFinding.NodeInFirst =
+is_found_in_dump settings records facts DumpFinding.NumberFalls = not (rise (revision_numbers records))
+is_found_in_dump settings records facts DumpFinding.UnreadRevision = facts.unread
+is_found_in_dump settings records facts DumpFinding.NodeInFirst =
     begins_at records == 0 && first_has_node (groups records)
-is_found_in_dump settings records named unread DumpFinding.SourceBefore =
+is_found_in_dump settings records facts DumpFinding.SourceBefore =
     has_source_before (begins_at records) (groups records)
-is_found_in_dump settings records named unread DumpFinding.NodeOutside = not (has_ordered_nodes Bool.false records)
-is_found_in_dump settings records named unread DumpFinding.NumbersLeft = not settings.renumber && named
+is_found_in_dump settings records facts DumpFinding.NodeOutside = not (has_ordered_nodes Bool.false records)
+is_found_in_dump settings records facts DumpFinding.NumbersLeft = not settings.renumber && facts.named
 
 -- what is found in the dump, in order
-abbrev pub dump_findings : Settings → List DumpRecord → (named unread : Bool) → List DumpFinding
-dump_findings settings records named unread = filter (λ f. is_found_in_dump settings records named unread f) every_dump_finding
+abbrev pub dump_findings : Settings → List DumpRecord → DumpFacts → List DumpFinding
+dump_findings settings records facts = filter (λ f. is_found_in_dump settings records facts f) every_dump_finding
 
 -- this is what is found in the dump as a whole
 abbrev pub AreDumpFindingsOf : Settings → List DumpRecord → List DumpFinding → Type 0
-AreDumpFindingsOf settings records found = (named : Bool)
-    × (IsTrue named ↔ NamesRevisionBehind settings records) × (unread : Bool)
-    × (IsTrue unread ↔ HasUnreadRevision records) × (found ≡ dump_findings settings records named unread)
+AreDumpFindingsOf settings records found = (facts : DumpFacts) × AreDumpFactsOf settings records facts
+    × (found ≡ dump_findings settings records facts)

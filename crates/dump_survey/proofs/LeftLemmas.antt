@@ -154,12 +154,10 @@ pub tally_tells : (settings : Settings) (records : List DumpRecord) (left unread
     → AreDumpFindingsOf settings records (tally_findings (tally_behind settings no_tally records) left unread)
 tally_tells settings records left unread single tells unread_is =
     let named = groups_name_behind settings names_test (groups records) in (
-      named,
-      behind_told settings names_test test_tells (groups records),
-      unread,
-      unread_is,
+      record { named = named; unread = unread },
+      record { named = behind_told settings names_test test_tells (groups records); unread = unread_is },
       filter_same (λ f. is_tallied (tally_behind settings no_tally records) left unread f)
-          (λ f. is_found_in_dump settings records named unread f)
+          (λ f. is_found_in_dump settings records (record { named = named; unread = unread }) f)
           (each_tallied settings records single left named unread
           (tells names_test test_tells ∙ left_is settings names_test no_tally records single)) every_dump_finding,
     )

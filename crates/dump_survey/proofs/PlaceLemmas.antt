@@ -101,8 +101,8 @@ one_alone f there up =
         sides false is = is
 
 none_of_none : (settings : Settings) (f : DumpFinding) → comes_up f ≡ true → ¬ IsDumpFinding settings [] f
-none_of_none settings f up (fs, (named, told, unread, unread_told, same), there) =
-    by unread (λ some. none_there (unread_told.0 some)) named (λ some. told.0 some) settings.renumber same
+none_of_none settings f up (fs, (facts, are, same), there) =
+    by facts.unread (λ some. none_there (are.unread.0 some)) facts.named (λ some. are.named.0 some) settings.renumber same
   where
     none_there : HasUnreadRevision [] → ⊥
     none_there (r, (i, within, is), unread) = absurd (omega (arith, within))

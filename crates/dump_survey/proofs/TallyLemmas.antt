@@ -456,7 +456,7 @@ zero_more n = omega arith
 pub each_tallied : (settings : Settings) (records : List DumpRecord) → list_all is_single records ≡ true
     → (left named unread : Bool) → left ≡ (not settings.renumber && named) → (f : DumpFinding)
     → is_tallied (tally_behind settings no_tally records) left unread f
-    ≡ is_found_in_dump settings records named unread f
+    ≡ is_found_in_dump settings records (record { named = named; unread = unread }) f
 each_tallied settings records single left named unread left_is DumpFinding.NoRevision =
     ap (λ c. c == 0) (count_is settings no_tally records ∙ zero_more (length (groups records)))
 each_tallied settings records single left named unread left_is DumpFinding.OtherNumbers = ap not (numbered_is settings no_tally records

@@ -11,7 +11,7 @@ use Rattle.dump_filter.specs.RecordFaults.{HoldsOfRecord}
 use Rattle.dump_filter.specs.WholeText.{IsCleanText}
 use Rattle.dump_history.specs.RecordChanges.{Patching}
 use Rattle.dump_history.specs.Findings.{Finding, is_obstacle, is_alarm}
-use Rattle.dump_history.specs.SurveyLaws.{HaveFindings, DumpRestricts}
+use Rattle.dump_history.specs.SurveyLaws.{FindingsByGroup, HaveFindings, DumpRestricts}
 use Rattle.dump_survey.specs.declared.survey.Survey.{Survey}
 use Rattle.dump_survey.specs.DumpFindings.{listed_findings}
 use Rattle.dump_survey.specs.Told.{NodeTold, told_view, AreTold}
@@ -19,14 +19,14 @@ use Rattle.dump_survey.specs.Surveys.{IsSurveyOf}
 use Rattle.dump_survey.specs.SurveyText.{IsSurveyText}
 
 -- the findings of groups, node by node, as one list
-abbrev pub all_findings : List (List (List Finding)) → List Finding
+abbrev pub all_findings : FindingsByGroup → List Finding
 all_findings found = flat_map (λ fs. flat_map (λ node. node) fs) found
 
 -- the findings that are told of a dump's nodes are those of its groups' nodes, in order, and no others
 abbrev pub ToldAreFindings : Type 0
 ToldAreFindings = (settings : Settings) (dump : List ℕ) (records : List DumpRecord) (ending : Ending)
     (told : List NodeTold) → HasRecords dump records ending → AreTold settings [] None records told
-    → (found : List (List (List Finding))) × HaveFindings settings records found
+    → (found : FindingsByGroup) × HaveFindings settings records found
     × (map (λ (t : NodeTold). t.finding) told ≡ all_findings found)
 
 -- and a dump has one list of them

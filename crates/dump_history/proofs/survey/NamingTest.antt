@@ -1,5 +1,5 @@
 -- Whether a kept node names a revision can be told, node by node, and so whether one behind a dropped revision does.
-use Rattle.dump_history.proofs.Prelude.{◌≡◌, ◌↔◌, Bool, true, ◌&&◌, ◌||◌, if◌then◌else◌, IsTrue, MatchBool, refl, ap, ap₂, ◌∙◌, inl, inr, list_any, or_cases, or_left, or_right, and_parts, and_from, DumpRecord, Settings, found, finds, is_copy, is_kept_node, is_mergeinfo, property_list_once, block_or_not, Group, groups, keeps_group, makes, SetsMergeinfo, NamesRevision, HasNamingNode, HasNamingNodeBehind, dump_findings, TellsNaming, nodes_name, groups_name, groups_name_behind, DumpFindingsAreOnce}
+use Rattle.dump_history.proofs.Prelude.{◌≡◌, ◌↔◌, Bool, true, ◌&&◌, ◌||◌, if◌then◌else◌, IsTrue, MatchBool, refl, ap, ap₂, ◌∙◌, inl, inr, list_any, or_cases, or_left, or_right, and_parts, and_from, DumpRecord, Settings, found, finds, is_copy, is_kept_node, is_mergeinfo, property_list_once, block_or_not, Group, groups, keeps_group, makes, SetsMergeinfo, NamesRevision, HasNamingNode, HasNamingNodeBehind, DumpFacts, dump_findings, TellsNaming, nodes_name, groups_name, groups_name_behind, DumpFindingsAreOnce}
 use Rattle.std.proofs.Common.{false, List, [], ◌∷◌}
 use Rattle.dump_history.proofs.survey.FindingLemmas.{same_truth}
 use Rattle.dump_history.proofs.survey.UnreadTest.{unread_in}
@@ -71,10 +71,11 @@ pub dump_findings_once : DumpFindingsAreOnce
 dump_findings_once settings records =
     let named = groups_name_behind settings names_test (groups records) in
     let told = behind_told settings names_test test_tells (groups records) in
-    let (unread, unread_told) = unread_in records in (
-      dump_findings settings records named unread,
-      (named, told, unread, unread_told, refl),
-      λ others (other, other_told, bad, bad_told, same). same
-          ∙ ap₂ (λ b c. dump_findings settings records b c) (same_truth other named other_told told)
-          (same_truth bad unread bad_told unread_told),
+    let (unread, unread_told) = unread_in records in
+    let facts : DumpFacts = record { named = named; unread = unread } in (
+      dump_findings settings records facts,
+      (facts, record { named = told; unread = unread_told }, refl),
+      λ others (other, are, same). same
+          ∙ ap₂ (λ b c. dump_findings settings records (record { named = b; unread = c }))
+          (same_truth other.named named are.named told) (same_truth other.unread unread are.unread unread_told),
     )

@@ -157,12 +157,12 @@ module _ (settings : Settings) (all : List DumpRecord) (free : AreFaultFree sett
 -- nothing is found in the dump as a whole
 module _ (settings : Settings) (records : List DumpRecord) (nothing : AreDumpFindingsOf settings records []) where
   each_none : (length (groups records) == 0 || (not (counts_from (begins_at records) (revision_numbers records))
-      || (not (rise (revision_numbers records)) || (nothing.2
+      || (not (rise (revision_numbers records)) || (nothing.0.unread
       || ((begins_at records == 0 && first_has_node (groups records))
       || (has_source_before (begins_at records) (groups records) || (not (has_ordered_nodes false records)
-      || ((not settings.renumber && nothing.0) || false)))))))) ≡ false
-  each_none = none_passes (λ f. is_found_in_dump settings records nothing.0 nothing.2 f) every_dump_finding
-      (sym nothing.4)
+      || ((not settings.renumber && nothing.0.named) || false)))))))) ≡ false
+  each_none = none_passes (λ f. is_found_in_dump settings records nothing.0 f) every_dump_finding
+      (sym nothing.2)
 
   denied : (b : Bool) → not b ≡ false → b ≡ true
   denied true is = refl
@@ -183,14 +183,14 @@ module _ (settings : Settings) (records : List DumpRecord) (nothing : AreDumpFin
       (second_false (length (groups records) == 0) _ each_none)))
 
   pub all_read : ¬ HasUnreadRevision records
-  all_read some = both_ways nothing.2 (first_false nothing.2 _ (second_false (not (rise (revision_numbers records))) _
+  all_read some = both_ways nothing.0.unread (first_false nothing.0.unread _ (second_false (not (rise (revision_numbers records))) _
       (second_false (not (counts_from (begins_at records) (revision_numbers records))) _
-      (second_false (length (groups records) == 0) _ each_none)))) (nothing.3.1 some)
+      (second_false (length (groups records) == 0) _ each_none)))) (nothing.1.unread.1 some)
 
   behind_numbers : ((begins_at records == 0 && first_has_node (groups records))
       || (has_source_before (begins_at records) (groups records) || (not (has_ordered_nodes false records)
-      || ((not settings.renumber && nothing.0) || false)))) ≡ false
-  behind_numbers = second_false nothing.2 _ (second_false (not (rise (revision_numbers records))) _
+      || ((not settings.renumber && nothing.0.named) || false)))) ≡ false
+  behind_numbers = second_false nothing.0.unread _ (second_false (not (rise (revision_numbers records))) _
       (second_false (not (counts_from (begins_at records) (revision_numbers records))) _
       (second_false (length (groups records) == 0) _ each_none)))
 
@@ -199,7 +199,7 @@ module _ (settings : Settings) (records : List DumpRecord) (nothing : AreDumpFin
       ∙ first_false (begins_at records == 0 && first_has_node (groups records)) _ behind_numbers
 
   behind_first : (has_source_before (begins_at records) (groups records) || (not (has_ordered_nodes false records)
-      || ((not settings.renumber && nothing.0) || false))) ≡ false
+      || ((not settings.renumber && nothing.0.named) || false))) ≡ false
   behind_first = second_false (begins_at records == 0 && first_has_node (groups records)) _ behind_numbers
 
   no_source_before : has_source_before (begins_at records) (groups records) ≡ false
@@ -209,17 +209,17 @@ module _ (settings : Settings) (records : List DumpRecord) (nothing : AreDumpFin
   nodes_stand = denied (has_ordered_nodes false records) (first_false (not (has_ordered_nodes false records)) _
       (second_false (has_source_before (begins_at records) (groups records)) _ behind_first))
 
-  none_left : (not settings.renumber && nothing.0) ≡ false
-  none_left = first_false (not settings.renumber && nothing.0) false
+  none_left : (not settings.renumber && nothing.0.named) ≡ false
+  none_left = first_false (not settings.renumber && nothing.0.named) false
       (second_false (not (has_ordered_nodes false records)) _
       (second_false (has_source_before (begins_at records) (groups records)) _ behind_first))
 
   keeps_numbers : KeepsNamedNumbers settings records
   keeps_numbers = cases settings.renumber none_left
     where
-      cases : (b : Bool) → (not b && nothing.0) ≡ false → MatchBool b (Unit {0}) (¬ NamesRevisionBehind settings records)
+      cases : (b : Bool) → (not b && nothing.0.named) ≡ false → MatchBool b (Unit {0}) (¬ NamesRevisionBehind settings records)
       cases true none = tt
-      cases false none = λ names. both_ways nothing.0 none (nothing.1.1 names)
+      cases false none = λ names. both_ways nothing.0.named none (nothing.1.named.1 names)
 
 -- the changes of a group without nodes are none
 no_changes : (patched : Patching) (g : Group) (changes : List Change) → not (is_bare g) ≡ false

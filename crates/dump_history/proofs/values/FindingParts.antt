@@ -1,5 +1,5 @@
 -- Parts of the worked values of findings: options, nodes and their lines.
-use Rattle.dump_history.proofs.Prelude.{Header, DumpRecord, Side, Include, Exclude, Pad, Settings, Finding, findings_of, no_node_faults}
+use Rattle.dump_history.proofs.Prelude.{Bool, Header, DumpRecord, Side, Include, Exclude, Pad, Settings, Finding, DumpFacts, findings_of, no_node_faults}
 use Rattle.std.specs.Prelude.{ℕ, false, List, [], ◌∷◌, Some, codes}
 use Rattle.dump_history.proofs.values.WorkedDump.{line, record_at}
 
@@ -32,3 +32,7 @@ whole_from source =
 -- the findings of a node without properties
 abbrev pub in_node : Settings → DumpRecord → List Finding
 in_node settings r = findings_of settings r (Some []) no_node_faults
+
+-- the facts of a dump: whether a kept node names a revision after a dropped one, and whether a revision can't be read
+abbrev pub facts : (named unread : Bool) → DumpFacts
+facts named unread = record { named = named; unread = unread }

@@ -3,7 +3,7 @@ use Rattle.dump_history.proofs.Prelude.{true, ◌≡◌, ◌++◌, None, refl, H
 use Rattle.std.proofs.Common.{false, [], ◌∷◌, Some, codes}
 use Rattle.dump_history.proofs.values.WorkedDump.{line, record_at, records, version, zero, one, two, three, trunk}
 use Rattle.dump_history.proofs.values.WorkedDump.{settings as worked_settings}
-use Rattle.dump_history.proofs.values.FindingParts.{cut_by, include_a, exclude_a, node, from, whole_from, in_node}
+use Rattle.dump_history.proofs.values.FindingParts.{cut_by, include_a, exclude_a, node, from, whole_from, in_node, facts}
 
 -- a property length
 abbrev block : Header
@@ -186,43 +186,43 @@ padded = record worked_settings { empty = Pad; renumber = false }
 
 -- nothing is found in the worked dump, be it renumbered or padded
 
-nothing_renumbered : dump_findings worked_settings records true false ≡ []
+nothing_renumbered : dump_findings worked_settings records (facts true false) ≡ []
 nothing_renumbered = refl
 
-nothing_padded : dump_findings padded records false false ≡ []
+nothing_padded : dump_findings padded records (facts false false) ≡ []
 nothing_padded = refl
 
 -- a revision is dropped, and a kept node names one behind it
-dropped_not_renumbered : dump_findings (record worked_settings { renumber = false }) records true false
+dropped_not_renumbered : dump_findings (record worked_settings { renumber = false }) records (facts true false)
     ≡ DumpFinding.NumbersLeft ∷ []
 dropped_not_renumbered = refl
 
 -- where none is named, no number matters
-none_named : dump_findings (record worked_settings { renumber = false }) records false false ≡ []
+none_named : dump_findings (record worked_settings { renumber = false }) records (facts false false) ≡ []
 none_named = refl
 
 -- where none is dropped, none needs a new number
-none_dropped : dump_findings (record worked_settings { renumber = false }) (version ∷ zero ∷ one ∷ trunk ∷ []) false false ≡ []
+none_dropped : dump_findings (record worked_settings { renumber = false }) (version ∷ zero ∷ one ∷ trunk ∷ []) (facts false false) ≡ []
 none_dropped = refl
 
-no_revision : dump_findings padded (version ∷ []) false false ≡ DumpFinding.NoRevision ∷ []
+no_revision : dump_findings padded (version ∷ []) (facts false false) ≡ DumpFinding.NoRevision ∷ []
 no_revision = refl
 
 -- a part of a history begins at a higher number, and has a node in its first revision; but revision 0 has none
-numbers_from_two : dump_findings padded (version ∷ two ∷ trunk ∷ three ∷ []) false false ≡ []
+numbers_from_two : dump_findings padded (version ∷ two ∷ trunk ∷ three ∷ []) (facts false false) ≡ []
 numbers_from_two = refl
 
-number_left_out : dump_findings padded (version ∷ zero ∷ two ∷ []) false false ≡ DumpFinding.OtherNumbers ∷ []
+number_left_out : dump_findings padded (version ∷ zero ∷ two ∷ []) (facts false false) ≡ DumpFinding.OtherNumbers ∷ []
 number_left_out = refl
 
-node_in_first : dump_findings padded (version ∷ zero ∷ trunk ∷ []) false false ≡ DumpFinding.NodeInFirst ∷ []
+node_in_first : dump_findings padded (version ∷ zero ∷ trunk ∷ []) (facts false false) ≡ DumpFinding.NodeInFirst ∷ []
 node_in_first = refl
 
 -- a node before any revision, and one behind a record that is none
-node_outside : dump_findings padded (version ∷ trunk ∷ zero ∷ []) false false ≡ DumpFinding.NodeOutside ∷ []
+node_outside : dump_findings padded (version ∷ trunk ∷ zero ∷ []) (facts false false) ≡ DumpFinding.NodeOutside ∷ []
 node_outside = refl
 
-node_behind_another : dump_findings padded (zero ∷ one ∷ version ∷ trunk ∷ []) false false ≡ DumpFinding.NodeOutside ∷ []
+node_behind_another : dump_findings padded (zero ∷ one ∷ version ∷ trunk ∷ []) (facts false false) ≡ DumpFinding.NodeOutside ∷ []
 node_behind_another = refl
 
 -- where nodes may stand

@@ -201,19 +201,28 @@ copy_before names = let bad : false ≡ true =
 -- what is found
 
 numbers_found : AreDumpFindingsOf left_numbers records (DumpFinding.NumbersLeft ∷ [])
-numbers_found = (true, (λ so. copy_behind, λ names. refl), false, told_read records refl, refl)
+numbers_found = (
+  record { named = true; unread = false },
+  record { named = (λ so. copy_behind, λ names. refl); unread = told_read records refl },
+  refl,
+)
 
 none_found : AreDumpFindingsOf left_numbers (behind trunk) []
 none_found = (
-  false,
-  (λ bad. let worse : false ≡ true = bad in cc, λ names. absurd (folder_behind names)),
-  false,
-  told_read (behind trunk) refl,
+  record { named = false; unread = false },
+  record {
+    named = (λ bad. let worse : false ≡ true = bad in cc, λ names. absurd (folder_behind names));
+    unread = told_read (behind trunk) refl;
+  },
   refl,
 )
 
 renumbered : AreDumpFindingsOf settings records []
-renumbered = (true, (λ so. copy_behind, λ names. refl), false, told_read records refl, refl)
+renumbered = (
+  record { named = true; unread = false },
+  record { named = (λ so. copy_behind, λ names. refl); unread = told_read records refl },
+  refl,
+)
 
 -- and what the law asks
 kept_by_name : KeepsNamedNumbers left_numbers (behind trunk)

@@ -2,7 +2,7 @@
 use Rattle.dump_history.proofs.Prelude.{◌≡◌, true, None, refl, DumpRecord, Include, Exclude, DropAll, Settings, Finding, every_finding, findings_of, is_obstacle, is_alarm, DumpFinding, every_dump_finding, rise, dump_findings, none_is, no_node_faults}
 use Rattle.std.proofs.Common.{false, [], ◌∷◌, filter, codes}
 use Rattle.dump_history.proofs.values.WorkedDump.{line, record_at, version, zero, one, two, trunk, three, copy}
-use Rattle.dump_history.proofs.values.FindingParts.{cut_by, include_a, exclude_a, node, from, whole_from, in_node}
+use Rattle.dump_history.proofs.values.FindingParts.{cut_by, include_a, exclude_a, node, from, whole_from, in_node, facts}
 
 -- a folder and what lies below it, both included
 abbrev include_both : Settings
@@ -111,16 +111,16 @@ all_dump_findings : every_dump_finding ≡ DumpFinding.NoRevision ∷ DumpFindin
 all_dump_findings = refl
 
 -- a number that comes twice
-number_again : dump_findings include_a (version ∷ zero ∷ one ∷ one ∷ []) false false
+number_again : dump_findings include_a (version ∷ zero ∷ one ∷ one ∷ []) (facts false false)
     ≡ DumpFinding.OtherNumbers ∷ DumpFinding.NumberFalls ∷ []
 number_again = refl
 
 -- one below that of the revision before it, behind a node, and one below the first number
-number_falls : dump_findings include_a (version ∷ one ∷ two ∷ trunk ∷ one ∷ []) false false
+number_falls : dump_findings include_a (version ∷ one ∷ two ∷ trunk ∷ one ∷ []) (facts false false)
     ≡ DumpFinding.OtherNumbers ∷ DumpFinding.NumberFalls ∷ []
 number_falls = refl
 
-below_first : dump_findings include_a (version ∷ two ∷ one ∷ two ∷ []) false false
+below_first : dump_findings include_a (version ∷ two ∷ one ∷ two ∷ []) (facts false false)
     ≡ DumpFinding.OtherNumbers ∷ DumpFinding.NumberFalls ∷ []
 below_first = refl
 
@@ -137,37 +137,37 @@ last_stays : rise (3 ∷ 7 ∷ 7 ∷ []) ≡ false
 last_stays = refl
 
 -- nodes of later revisions don't count
-node_in_second : dump_findings include_a (version ∷ zero ∷ one ∷ trunk ∷ two ∷ []) false false ≡ []
+node_in_second : dump_findings include_a (version ∷ zero ∷ one ∷ trunk ∷ two ∷ []) (facts false false) ≡ []
 node_in_second = refl
 
 -- three of them in one dump: a node in revision 0, and behind it revision 2, which is dropped, and a kept copy
 three_in_dump : dump_findings (record (cut_by Include (codes "trunk" ∷ [])) { empty = DropAll })
-    (version ∷ zero ∷ trunk ∷ two ∷ three ∷ copy ∷ []) true false
+    (version ∷ zero ∷ trunk ∷ two ∷ three ∷ copy ∷ []) (facts true false)
     ≡ DumpFinding.OtherNumbers ∷ DumpFinding.NodeInFirst ∷ DumpFinding.NumbersLeft ∷ []
 three_in_dump = refl
 
 -- a copy of revision 2 is from before a dump that begins at revision 3, and isn't in one that begins at 2
 
-copied_from_before : dump_findings include_trunk (version ∷ three ∷ copy ∷ []) false false ≡ DumpFinding.SourceBefore ∷ []
+copied_from_before : dump_findings include_trunk (version ∷ three ∷ copy ∷ []) (facts false false) ≡ DumpFinding.SourceBefore ∷ []
 copied_from_before = refl
 
-copied_from_first : dump_findings include_trunk (version ∷ two ∷ three ∷ copy ∷ []) false false ≡ []
+copied_from_first : dump_findings include_trunk (version ∷ two ∷ three ∷ copy ∷ []) (facts false false) ≡ []
 copied_from_first = refl
 
 -- a copy that isn't kept is told too, and one behind the first revision; under a change a copy source doesn't count
 
-dropped_from_before : dump_findings include_a (version ∷ three ∷ copy ∷ []) false false ≡ DumpFinding.SourceBefore ∷ []
+dropped_from_before : dump_findings include_a (version ∷ three ∷ copy ∷ []) (facts false false) ≡ DumpFinding.SourceBefore ∷ []
 dropped_from_before = refl
 
-later_from_before : dump_findings include_trunk (version ∷ three ∷ trunk ∷ four ∷ copy ∷ []) false false
+later_from_before : dump_findings include_trunk (version ∷ three ∷ trunk ∷ four ∷ copy ∷ []) (facts false false)
     ≡ DumpFinding.SourceBefore ∷ []
 later_from_before = refl
 
-changed_from_before : dump_findings include_trunk (version ∷ three ∷ changed ∷ []) false false ≡ []
+changed_from_before : dump_findings include_trunk (version ∷ three ∷ changed ∷ []) (facts false false) ≡ []
 changed_from_before = refl
 
 -- a copy behind another node of its revision is told too
-second_from_before : dump_findings include_trunk (version ∷ three ∷ trunk ∷ copy ∷ []) false false ≡ DumpFinding.SourceBefore ∷ []
+second_from_before : dump_findings include_trunk (version ∷ three ∷ trunk ∷ copy ∷ []) (facts false false) ≡ DumpFinding.SourceBefore ∷ []
 second_from_before = refl
 
 -- none of the findings of a dump's nodes

@@ -42,10 +42,11 @@ with_unread = version ∷ zero ∷ unread_one ∷ two ∷ []
 
 unread_found : AreDumpFindingsOf settings with_unread (DumpFinding.UnreadRevision ∷ [])
 unread_found = (
-  named with_unread,
-  named_told with_unread,
-  true,
-  (λ so. (unread_one, (2, omega arith, refl), (refl, unreadable one)), λ has. refl),
+  record { named = named with_unread; unread = true },
+  record {
+    named = named_told with_unread;
+    unread = (λ so. (unread_one, (2, omega arith, refl), (refl, unreadable one)), λ has. refl);
+  },
   refl,
 )
 
@@ -56,10 +57,11 @@ unread_again = version ∷ zero ∷ one ∷ unread_one ∷ []
 both_found : AreDumpFindingsOf settings unread_again
     (DumpFinding.OtherNumbers ∷ DumpFinding.NumberFalls ∷ DumpFinding.UnreadRevision ∷ [])
 both_found = (
-  named unread_again,
-  named_told unread_again,
-  true,
-  (λ so. (unread_one, (3, omega arith, refl), (refl, unreadable one)), λ has. refl),
+  record { named = named unread_again; unread = true },
+  record {
+    named = named_told unread_again;
+    unread = (λ so. (unread_one, (3, omega arith, refl), (refl, unreadable one)), λ has. refl);
+  },
   refl,
 )
 
@@ -68,4 +70,8 @@ abbrev unread_node : List DumpRecord
 unread_node = version ∷ zero ∷ one ∷ with_props trunk (codes "x") ∷ []
 
 none_found : AreDumpFindingsOf settings unread_node []
-none_found = (named unread_node, named_told unread_node, false, told_read unread_node refl, refl)
+none_found = (
+  record { named = named unread_node; unread = false },
+  record { named = named_told unread_node; unread = told_read unread_node refl },
+  refl,
+)

@@ -70,10 +70,11 @@ none_found = (
 -- with renumbering nothing is found in the dump as a whole, whatever its nodes name
 pub none_in_dump : AreDumpFindingsOf settings records []
 none_in_dump = (
-  groups_name_behind settings names_test (groups records),
-  behind_told settings names_test test_tells (groups records),
-  false,
-  told_read records refl,
+  record { named = groups_name_behind settings names_test (groups records); unread = false },
+  record {
+    named = behind_told settings names_test test_tells (groups records);
+    unread = told_read records refl;
+  },
   refl,
 )
 
